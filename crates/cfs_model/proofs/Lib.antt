@@ -1,0 +1,17 @@
+pub mod BirthExample
+pub mod FloorsRise
+pub mod IdleExample
+pub mod KeptOrder
+pub mod MarksMove
+pub mod MigrationExample
+pub mod Moves
+pub mod OneNext
+pub mod Positive
+pub mod Prefix
+pub mod Range
+pub mod StartFrom
+pub mod StartOrder
+pub mod StepOrder
+pub mod SwitchExample
+pub mod WakeExample
+pub mod Worked

@@ -1,0 +1,127 @@
+-- At most one next machine: the least virtual runtime is one value, so the floor and with it the lifted machine are one;
+-- and each case's conditions say its result, where the claim keeps the cases of a wakeup and of a migration apart.
+use Rattle.std.proofs.Common.{◌≡◌, ℕ, ℤ, ◌+ℤ◌, ◌-ℤ◌, ◌≤ℤ◌, Option, Some, None, ◌⊎◌, inl, inr, List, [], ◌∷◌, refl, sym, ap, ap₂, ◌∙◌, subst, arith}
+use Rattle.std.proofs.lemmas.Int.{ints}
+use Rattle.std.specs.Int.{int_max}
+use Rattle.cfs_model.specs.Settings.{Settings}
+use Rattle.cfs_model.specs.Machine.{Machine, with_floor, with_move, with_runtime, with_nice, with_task}
+use Rattle.cfs_model.specs.Claimed.{Claimed, Says}
+use Rattle.cfs_model.specs.Touch.{touched}
+use Rattle.cfs_model.specs.Lifted.{charged, IsLeast, IsRaised, IsLiftedAt, IsLifted}
+use Rattle.cfs_model.specs.Step.{IsWakeQueued, IsWakeResting, IsMigration, MovesBy, Changes, IsStep}
+use Rattle.cfs_model.specs.Run.{AreSteps}
+use Rattle.cfs_model.specs.declared.act.Act.{Act}
+use Rattle.cfs_model.specs.declared.act.Act.TheVariants.{Switch, Wake, Born, Shift}
+use Rattle.cfs_model.specs.declared.claim.Claim.{Claim}
+use Rattle.cfs_model.specs.declared.claim.ClaimSort.{ClaimSort}
+use Rattle.cfs_model.specs.declared.claim.ClaimSort.TheVariants.{At, Pass}
+use Rattle.cfs_model.specs.declared.task.Place.{Place}
+use Rattle.cfs_model.specs.declared.task.Place.TheVariants.{Run, Wait, Rest}
+
+≤ℤ_antisymm : (v w : ℤ) → v ≤ℤ w → w ≤ℤ v → v ≡ w
+≤ℤ_antisymm v w p q = omega (arith, ints)
+
+-- there is one least virtual runtime
+one_least : (m : Machine) (cpu : ℕ) (v w : ℤ) → IsLeast m cpu v → IsLeast m cpu w → v ≡ w
+one_least m cpu v w p q = ≤ℤ_antisymm v w (p.least q.pid w q.queued q.runtime) (q.least p.pid v p.queued p.runtime)
+
+one_raised : (m : Machine) (cpu : ℕ) (f g : ℤ) → IsRaised m cpu f → IsRaised m cpu g → f ≡ g
+one_raised m cpu f g (inl a) (inl b) = a.1 ∙ sym b.1
+one_raised m cpu f g (inl a) (inr b) = absurd (a.0 b.1.pid b.1.queued)
+one_raised m cpu f g (inr a) (inl b) = absurd (b.0 a.1.pid a.1.queued)
+one_raised m cpu f g (inr a) (inr b) = a.2 ∙ ap (λ v. int_max (m.floor cpu) v) (one_least m cpu a.0 b.0 a.1 b.1) ∙ sym b.2
+
+one_lifted_at : (time cpu : ℕ) (before after other : Machine) → IsLiftedAt time cpu before after
+    → IsLiftedAt time cpu before other → after ≡ other
+one_lifted_at time cpu before after other a b =
+    a.result ∙ ap (λ f. with_floor (charged before cpu time) cpu f)
+    (one_raised (charged before cpu time) cpu a.floor b.floor a.raised b.raised) ∙ sym b.result
+
+-- there is one lifted machine
+pub one_lifted : (time : ℕ) (cpus : List ℕ) (before after other : Machine) → IsLifted time cpus before after
+    → IsLifted time cpus before other → after ≡ other
+one_lifted time [] before after other a b = a ∙ sym b
+one_lifted time (cpu ∷ cpus) before after other a b =
+    one_lifted time cpus b.0 after other
+    (subst (λ m. IsLifted time cpus m after) (one_lifted_at time cpu before a.0 b.0 a.1 b.1) a.2) b.2
+
+-- a claim says one value
+one_said : (claim : Option Claim) (sort other : ClaimSort) (pid : ℕ) (v w : ℤ) → Says claim sort pid v
+    → Says claim other pid w → (sort ≡ other) × (v ≡ w)
+one_said None sort other pid v w a b = absurd a
+one_said (Some claim) sort other pid v w a b = (sym a.0 ∙ b.0, sym a.2 ∙ b.2)
+
+none_said : (claim : Option Claim) (sort : ClaimSort) (pid : ℕ) (v : ℤ) → claim ≡ None → Says claim sort pid v → ⊥
+none_said None sort pid v e a = a
+none_said (Some claim) sort pid v e a = cc
+
+one_place : (place other : Place) (sort : ClaimSort) → MovesBy place sort → MovesBy other sort → place ≡ other
+one_place Wait Wait sort a b = refl
+one_place Rest Rest sort a b = refl
+one_place Wait Rest At a b = absurd b
+one_place Wait Rest Pass a b = absurd a
+one_place Rest Wait At a b = absurd a
+one_place Rest Wait Pass a b = absurd b
+one_place Run Run sort a b = refl
+one_place Run Wait At a b = absurd a
+one_place Run Wait Pass a b = absurd a
+one_place Run Rest At a b = absurd a
+one_place Run Rest Pass a b = absurd a
+one_place Wait Run At a b = absurd b
+one_place Wait Run Pass a b = absurd b
+one_place Rest Run At a b = absurd b
+one_place Rest Run Pass a b = absurd b
+
+one_some : (o : Option ℤ) (v w : ℤ) → o ≡ Some v → o ≡ Some w → v ≡ w
+one_some o v w p q = cc
+
+one_waken : (knobs : Settings) (m : Machine) (cpu pid : ℕ) (nice : ℤ) (claim : Option Claim) (after other : Machine)
+    → IsWakeQueued m cpu pid nice claim after ⊎ IsWakeResting knobs m cpu pid nice claim after
+    → IsWakeQueued m cpu pid nice claim other ⊎ IsWakeResting knobs m cpu pid nice claim other → after ≡ other
+one_waken knobs m cpu pid nice claim after other (inl a) (inl b) = a.result ∙ sym b.result
+one_waken knobs m cpu pid nice claim after other (inl a) (inr b) = absurd
+    (none_said claim At pid b.placed a.no_claim b.claimed)
+one_waken knobs m cpu pid nice claim after other (inr a) (inl b) = absurd
+    (none_said claim At pid a.placed b.no_claim a.claimed)
+one_waken knobs m cpu pid nice claim after other (inr a) (inr b) =
+    a.result ∙ ap (with_runtime (with_move m pid Rest cpu Wait cpu) pid)
+    (one_said claim At At pid a.placed b.placed a.claimed b.claimed).1 ∙ sym b.result
+
+one_move : (m : Machine) (orig dest pid : ℕ) (nice : ℤ) (claim : Option Claim) (after other : Machine)
+    → IsMigration m orig dest pid nice claim after → IsMigration m orig dest pid nice claim other → after ≡ other
+one_move m orig dest pid nice claim after other a b =
+    let said = one_said claim a.sort b.sort pid ((a.own -ℤ m.floor orig) +ℤ m.floor dest)
+    ((b.own -ℤ m.floor orig) +ℤ m.floor dest) a.claimed b.claimed in
+    a.result
+    ∙ ap₂ (λ place v. with_runtime (with_move m pid place orig place dest) pid v)
+    (one_place a.place b.place b.sort (subst (λ sort. MovesBy a.place sort) said.0 a.moves) b.moves) said.1
+    ∙ sym b.result
+
+-- an event changes a lifted machine in one way
+pub one_change : (knobs : Settings) (m : Machine) (act : Act) (claim : Option Claim) (after other : Machine)
+    → Changes knobs m act claim after → Changes knobs m act claim other → after ≡ other
+one_change knobs m (Switch cpu prev prev_nice way next next_nice) claim after other a b = a.result ∙ sym b.result
+one_change knobs m (Wake cpu pid nice) claim after other a b = one_waken knobs m cpu pid nice claim after other a b
+one_change knobs m (Born cpu pid nice) claim after other a b =
+    a.result ∙ ap (λ v. with_nice (with_runtime (with_task m Wait cpu pid) pid v) pid nice)
+    (one_said claim At At pid a.placed b.placed a.claimed b.claimed).1 ∙ sym b.result
+one_change knobs m (Shift orig dest pid nice) claim after other a b = one_move m orig dest pid nice claim after other a b
+
+pub one_next : (knobs : Settings) (before : Machine) (event : Claimed) (after other : Machine)
+    → IsStep knobs before event after → IsStep knobs before event other → after ≡ other
+one_next knobs before event after other a b =
+    one_change knobs b.lifted event.entry.act event.claim after other
+    (subst (λ m. Changes knobs m event.entry.act event.claim after)
+    (one_lifted event.entry.time (touched event.entry.act) before a.lifted b.lifted a.is_lifted b.is_lifted) a.changes)
+    b.changes
+
+pub one_list : (knobs : Settings) (first : Machine) (events : List Claimed) (states others : List Machine)
+    → AreSteps knobs first events states → AreSteps knobs first events others → states ≡ others
+one_list knobs first [] [] [] a b = refl
+one_list knobs first [] [] (m ∷ others) a b = absurd b
+one_list knobs first [] (m ∷ states) others a b = absurd a
+one_list knobs first (event ∷ events) [] others a b = absurd a
+one_list knobs first (event ∷ events) (m ∷ states) [] a b = absurd b
+one_list knobs first (event ∷ events) (m ∷ states) (n ∷ others) a b =
+    let e = one_next knobs first event m n a.0 b.0 in
+    ap₂ (λ x xs. x ∷ xs) e (one_list knobs n events states others (subst (λ x. AreSteps knobs x events states) e a.1) b.1)

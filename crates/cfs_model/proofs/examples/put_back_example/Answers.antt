@@ -1,0 +1,8 @@
+use Rattle.cfs_model.proofs.SwitchExample.{put_back_lem, nice_lem}
+use Rattle.cfs_model.proofs.examples.put_back_example.Goals as goal
+
+pub returns-clause-even : goal.returns-clause-even
+returns-clause-even c = put_back_lem
+
+pub returns-clause-light : goal.returns-clause-light
+returns-clause-light c = nice_lem

@@ -1,0 +1,143 @@
+-- Small recordings against the definitions of a step and of a run (this project's profile), each both ways: the value
+-- at which there is a step, and that there is none at any other.
+use Rattle.std.specs.Prelude.{◌≡◌, ℕ, ◌≤◌, ℤ, pos, ◌≤ℤ◌, ◌↔◌, Some, List, [], ◌∷◌}
+use Rattle.cfs_model.specs.Settings.{Settings}
+use Rattle.cfs_model.specs.Machine.{Machine}
+use Rattle.cfs_model.specs.Start.{start_machine}
+use Rattle.cfs_model.specs.Claimed.{Claimed, claimed}
+use Rattle.cfs_model.specs.Step.{IsStep}
+use Rattle.cfs_model.specs.Run.{IsRun}
+use Rattle.cfs_model.specs.declared.act.Act.TheVariants.{Switch, Wake, Born, Shift}
+use Rattle.cfs_model.specs.declared.act.Way.{Way}
+use Rattle.cfs_model.specs.declared.act.Way.TheVariants.{Stays, Ends}
+use Rattle.cfs_model.specs.declared.claim.Claim.{Claim}
+use Rattle.cfs_model.specs.declared.claim.ClaimSort.TheVariants.{At}
+use Rattle.cfs_model.specs.declared.task.Place.TheVariants.{Run, Wait, Rest}
+
+-- the default settings, but for the granularity
+abbrev pub standard_with : ℕ → Settings
+standard_with granularity = record { granularity = granularity; credit = 3000000; debit = 3000000; slack = 100000 }
+
+-- the default settings
+abbrev pub standard : Settings
+standard = standard_with 1000000
+
+-- a machine has a next one by an event
+abbrev pub HasStep : Settings → Machine → Claimed → Type 0
+HasStep knobs before event = (after : Machine) × IsStep knobs before event after
+
+-- a claim of an enqueue
+abbrev pub at_claim : ℕ → ℕ → ℤ → Claim
+at_claim line pid v = record { line = line; pid = pid; v = v; sort = At }
+
+-- the start of the recordings, 100 s
+abbrev pub start_time : ℕ
+start_time = 100000000000
+
+-- one processor, where 101 runs at 0 with a nice value, and 102 waits at u
+abbrev pub switch_start : ℤ → ℤ → Machine
+switch_start nice u = start_machine start_time (pos 0 ∷ []) (
+    record { pid = 101; nice = nice; cpu = 0; place = Run; v = pos 0 }
+    ∷ record { pid = 102; nice = pos 0; cpu = 0; place = Wait; v = u } ∷ [])
+
+-- 4 ms later it goes from 101, which stays, to 102; the claim puts 101 back at w
+abbrev pub switch_event : ℤ → ℤ → Claimed
+switch_event nice w = record {
+  entry = record { line = 1; time = 100004000000; act = Switch 0 101 nice Stays 102 (pos 0) };
+  claim = Some (at_claim 1 101 w);
+}
+
+-- 101 was charged 4 ms, and is put back at just that
+abbrev pub PutBackExample : Type 0
+PutBackExample = (w : ℤ) → HasStep standard (switch_start (pos 0) (pos 0)) (switch_event (pos 0) w) ↔ (w ≡ pos 4000000)
+
+-- at nice 5, whose weight is 335, the charge is 4 ms * 1024 / 335, rounded down
+abbrev pub NiceExample : Type 0
+NiceExample = (w : ℤ) → HasStep standard (switch_start (pos 5) (pos 0)) (switch_event (pos 5) w) ↔ (w ≡ pos 12226865)
+
+-- where 102 waits at 5 ms, the task that was put back is the least, and 102 is 1 ms above it
+abbrev pub PickExample : Type 0
+PickExample = (granularity : ℕ)
+    → HasStep (standard_with granularity) (switch_start (pos 0) (pos 5000000)) (switch_event (pos 0) (pos 4000000))
+    ↔ (1000000 ≤ granularity)
+
+-- two processors with floors 3 and 100, where 101 waits at 5 at the first and 102 runs there at 3
+abbrev pub migration_start : Machine
+migration_start = start_machine start_time (pos 3 ∷ pos 100 ∷ []) (
+    record { pid = 101; nice = pos 0; cpu = 0; place = Wait; v = pos 5 }
+    ∷ record { pid = 102; nice = pos 0; cpu = 0; place = Run; v = pos 3 } ∷ [])
+
+-- 101 moves to the second; the claim places it at w
+abbrev pub migration_event : ℕ → ℤ → Claimed
+migration_event time w = record {
+  entry = record { line = 1; time = time; act = Shift 0 1 101 (pos 0) };
+  claim = Some (at_claim 1 101 w);
+}
+
+-- at once: 5, less the first floor, and above the second
+abbrev pub MigrationExample : Type 0
+MigrationExample = (w : ℤ) → HasStep standard migration_start (migration_event start_time w) ↔ (w ≡ pos 102)
+
+-- a microsecond later, when 102 has passed 101 and the first floor is 5
+abbrev pub LaterMigrationExample : Type 0
+LaterMigrationExample = (w : ℤ) → HasStep standard migration_start (migration_event 100000001000 w) ↔ (w ≡ pos 100)
+
+-- one processor with floor 10 ms, where 101 rests at 0
+abbrev pub wake_start : Machine
+wake_start = start_machine start_time (pos 10000000 ∷ []) (
+    record { pid = 101; nice = pos 0; cpu = 0; place = Rest; v = pos 0 } ∷ [])
+
+-- 101 is woken; the claim places it at w
+abbrev pub wake_event : ℤ → Claimed
+wake_event w = record {
+  entry = record { line = 1; time = start_time; act = Wake 0 101 (pos 0) };
+  claim = Some (at_claim 1 101 w);
+}
+
+-- from 3 ms below the floor to the floor
+abbrev pub WakeExample : Type 0
+WakeExample = (w : ℤ) → HasStep standard wake_start (wake_event w) ↔ ((pos 7000000 ≤ℤ w) × (w ≤ℤ pos 10000000))
+
+-- one processor, where 102 rests at 0
+abbrev pub idle_start : Machine
+idle_start = start_machine start_time (pos 0 ∷ []) (
+    record { pid = 102; nice = pos 0; cpu = 0; place = Rest; v = pos 0 } ∷ [])
+
+-- 102 is woken 1 ms after the start and placed at 0, woken again 0.05 ms later, and picked at the time given
+abbrev pub idle_events : ℕ → List Claimed
+idle_events time = claimed (at_claim 1 102 (pos 0) ∷ []) (
+    record { line = 1; time = 100001000000; act = Wake 0 102 (pos 0) }
+    ∷ record { line = 2; time = 100001050000; act = Wake 0 102 (pos 0) }
+    ∷ record { line = 3; time = time; act = Switch 0 0 (pos 0) Stays 102 (pos 0) } ∷ [])
+
+-- the processor idles from the first wakeup on, and may do so for 0.1 ms
+abbrev pub IdleExample : Type 0
+IdleExample = (time : ℕ) → 100001050000 ≤ time
+    → IsRun standard start_time idle_start (idle_events time) ↔ (time ≤ 100001100000)
+
+-- two processors with floor 0, where 101 runs at the first
+abbrev pub birth_start : Machine
+birth_start = start_machine start_time (pos 0 ∷ pos 0 ∷ []) (
+    record { pid = 101; nice = pos 0; cpu = 0; place = Run; v = pos 0 } ∷ [])
+
+-- 101 leaves the first in a way, and 1 ms later a task of that pid is born at the second; the claim places it at w
+abbrev pub birth_events : Way → ℤ → List Claimed
+birth_events way w = claimed (at_claim 2 101 w ∷ []) (
+    record { line = 1; time = 100001000000; act = Switch 0 101 (pos 0) way 0 (pos 0) }
+    ∷ record { line = 2; time = 100002000000; act = Born 1 101 (pos 0) } ∷ [])
+
+-- the pid is free again only once its task has ended, and a new task is placed from the floor to 3 ms above it
+abbrev pub BirthExample : Type 0
+BirthExample = (way : Way) (w : ℤ)
+    → IsRun standard start_time birth_start (birth_events way w) ↔ ((way ≡ Ends) × (pos 0 ≤ℤ w) × (w ≤ℤ pos 3000000))
+
+-- at the first processor 101 is put back at w, and nobody runs next
+abbrev pub idle_switch : ℤ → Claimed
+idle_switch w = record {
+  entry = record { line = 1; time = 100001000000; act = Switch 0 101 (pos 0) Stays 0 (pos 0) };
+  claim = Some (at_claim 1 101 w);
+}
+
+-- a processor doesn't go idle beside the task that was just put back
+abbrev pub IdleSwitchExample : Type 0
+IdleSwitchExample = (w : ℤ) → ¬ HasStep standard birth_start (idle_switch w)

@@ -1,0 +1,53 @@
+-- The laws of steps and runs (this project's profile), as the contracts in src/laws.rt state them.
+use Rattle.std.specs.Prelude.{◌≡◌, ◌≢◌, ℕ, ◌++◌, ℤ, ◌≤ℤ◌, List}
+use Rattle.std.specs.List.{AllByRecursion}
+use Rattle.cfs_model.specs.Settings.{Settings}
+use Rattle.cfs_model.specs.Machine.{Machine}
+use Rattle.cfs_model.specs.Start.{start_machine}
+use Rattle.cfs_model.specs.Claimed.{Claimed}
+use Rattle.cfs_model.specs.Touch.{touched}
+use Rattle.cfs_model.specs.Step.{IsStep}
+use Rattle.cfs_model.specs.Run.{AreSteps, IsRun}
+use Rattle.cfs_model.specs.Order.{IsInOrder, IsStart}
+use Rattle.cfs_model.specs.declared.task.Task.{Task}
+
+-- from a machine, by one event, there is at most one next machine
+abbrev pub OneNext : Type 0
+OneNext = (knobs : Settings) (before : Machine) (event : Claimed) (after other : Machine)
+    → IsStep knobs before event after → IsStep knobs before event other → after ≡ other
+
+-- from a machine, by a list of events, there is at most one list of states
+abbrev pub OneList : Type 0
+OneList = (knobs : Settings) (first : Machine) (events : List Claimed) (states others : List Machine)
+    → AreSteps knobs first events states → AreSteps knobs first events others → states ≡ others
+
+-- every prefix of a run is a run
+abbrev pub RunPrefix : Type 0
+RunPrefix = (knobs : Settings) (start : ℕ) (first : Machine) (events rest : List Claimed)
+    → IsRun knobs start first (events ++ rest) → IsRun knobs start first events
+
+-- a step keeps the order of a machine
+abbrev pub StepKeepsOrder : Type 0
+StepKeepsOrder = (knobs : Settings) (before : Machine) (event : Claimed) (after : Machine)
+    → IsInOrder before → IsStep knobs before event after → IsInOrder after
+
+-- each state that a run reaches is in order, where the first is
+abbrev pub RunKeepsOrder : Type 0
+RunKeepsOrder = (knobs : Settings) (start : ℕ) (first : Machine) (events : List Claimed)
+    → IsInOrder first → (run : IsRun knobs start first events) → AllByRecursion IsInOrder run.states
+
+-- the start that a companion names is in order
+abbrev pub StartInOrder : Type 0
+StartInOrder = (start : ℕ) (floors : List ℤ) (tasks : List Task)
+    → IsStart floors tasks → IsInOrder (start_machine start floors tasks)
+
+-- a step lowers no floor
+abbrev pub FloorsRise : Type 0
+FloorsRise = (knobs : Settings) (before : Machine) (event : Claimed) (after : Machine)
+    → IsStep knobs before event after → (cpu : ℕ) → before.floor cpu ≤ℤ after.floor cpu
+
+-- after a step the mark of each touched processor is the event's time, and every other mark is as it was
+abbrev pub MarksMove : Type 0
+MarksMove = (knobs : Settings) (before : Machine) (event : Claimed) (after : Machine) → IsStep knobs before event after
+    → AllByRecursion (λ cpu. after.mark cpu ≡ event.entry.time) (touched event.entry.act)
+    × ((cpu : ℕ) → AllByRecursion (λ other. cpu ≢ other) (touched event.entry.act) → after.mark cpu ≡ before.mark cpu)

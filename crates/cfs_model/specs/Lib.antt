@@ -1,0 +1,18 @@
+-- In a reader's order: the numbers and settings, then what a run is, then the order that it keeps, then the kinds of
+-- fault.
+pub mod Nice
+pub mod Charge
+pub mod Settings
+pub mod Machine
+pub mod Start
+pub mod Claimed
+pub mod Touch
+pub mod Lifted
+pub mod Step
+pub mod Idle
+pub mod Run
+pub mod Order
+pub mod Laws
+pub mod Cut
+pub mod Kinds
+pub mod Examples

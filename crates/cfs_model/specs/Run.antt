@@ -1,0 +1,25 @@
+-- What a run of the scheduler is (this project's profile).
+use Rattle.std.specs.Prelude.{ℕ, List, [], ◌∷◌, map, ⊤}
+use Rattle.cfs_model.specs.Settings.{Settings}
+use Rattle.cfs_model.specs.Machine.{Machine}
+use Rattle.cfs_model.specs.Claimed.{Claimed}
+use Rattle.cfs_model.specs.Step.{IsStep}
+use Rattle.cfs_model.specs.Idle.{KeepsSlack}
+
+-- each event leads to the next of these states
+abbrev pub AreSteps : Settings → Machine → List Claimed → List Machine → Type 0
+AreSteps knobs before [] [] = ⊤
+AreSteps knobs before (event ∷ events) (after ∷ states) = IsStep knobs before event after
+    × AreSteps knobs after events states
+AreSteps knobs before _ _ = ⊥
+
+-- the start's time, and then the time of each event
+abbrev pub times_of : ℕ → List Claimed → List ℕ
+times_of start events = start ∷ map (λ event. event.entry.time) events
+
+-- the events are a run from a machine at the start: there are states, each by a step from the one before, and no
+-- processor idles beside a waiting task for longer than the slack
+pub record IsRun (knobs : Settings) (start : ℕ) (first : Machine) (events : List Claimed) : Type 0 where
+  pub states : List Machine
+  pub steps : AreSteps knobs first events states
+  pub slack : KeepsSlack knobs.slack (times_of start events) (first ∷ states)

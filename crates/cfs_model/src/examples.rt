@@ -1,0 +1,38 @@
+//! Small recordings against the definitions of a step and of a run. Each is the contract of a function that does
+//! nothing.
+ghost use Rattle.cfs_model.specs.Examples.{PutBackExample, NiceExample, PickExample, MigrationExample, LaterMigrationExample, WakeExample, IdleExample, BirthExample, IdleSwitchExample};
+
+/// A task that stays is put back at just what it was charged, by its weight and rounded down.
+pub fn put_back_example()
+    ensures even { PutBackExample }
+    ensures light { NiceExample }
+{}
+
+/// A picked task lies within the granularity of the least waiting one, which may be the one that was put back; and
+/// beside that one a processor doesn't go idle.
+pub fn pick_example()
+    ensures within { PickExample }
+    ensures idle { IdleSwitchExample }
+{}
+
+/// A task that moves keeps its distance from the floor, as it is after the lift.
+pub fn migration_example()
+    ensures at_once { MigrationExample }
+    ensures later { LaterMigrationExample }
+{}
+
+/// A woken task is placed from the credit below the floor to the floor.
+pub fn wake_example()
+    ensures { WakeExample }
+{}
+
+/// A processor idles beside a waiting task for at most the slack, counted from the event after which it did.
+pub fn idle_example()
+    ensures { IdleExample }
+{}
+
+/// A pid may be born again once its task has ended, at any processor, and is placed from the floor to the debit above
+/// it.
+pub fn birth_example()
+    ensures { BirthExample }
+{}

@@ -1,0 +1,32 @@
+//! The laws of steps and runs. Each is the contract of a function that does nothing.
+ghost use Rattle.cfs_model.specs.Laws.{OneNext, OneList, RunPrefix, StepKeepsOrder, RunKeepsOrder, StartInOrder, FloorsRise, MarksMove};
+
+/// From a machine an event leads to at most one machine, and events lead through at most one list of states.
+pub fn one_list()
+    ensures next { OneNext }
+    ensures list { OneList }
+{}
+
+/// Every prefix of a run is a run.
+pub fn prefixes()
+    ensures { RunPrefix }
+{}
+
+/// A step keeps the order of a machine, so each state that a run reaches has it where the first has it, and the
+/// start that a companion names has it: each pid stands once, at most one runs at a processor, just those that
+/// stand have values, and every value is in range.
+pub fn places()
+    ensures step { StepKeepsOrder }
+    ensures run { RunKeepsOrder }
+    ensures start { StartInOrder }
+{}
+
+/// The floor of a runqueue is never lowered.
+pub fn floors_rise()
+    ensures { FloorsRise }
+{}
+
+/// A step charges at the processors that its event touches, up to its time.
+pub fn marks_move()
+    ensures { MarksMove }
+{}

@@ -1,0 +1,53 @@
+ghost use Rattle.std.specs.Prelude.{◌≡◌, ℕ, pos, ◌+ℤ◌, nat_abs, ◌*◌, ◌/◌, ◌<◌, ◌≤◌, SomeIff};
+ghost use Rattle.cfs_model.specs.Charge.{charge_of, greatest};
+ghost use Rattle.cfs_model.specs.Nice.{weight_of};
+
+use crate::nice::Nice;
+
+// The rows of the table, each from the nice value that begins it.
+macro_rules! weight_at {
+    ($index:expr; $($nice:literal: $($weight:literal),+);+ $(;)?) => {
+        [$($($weight),+),+][$index]
+    };
+}
+
+// The place of a nice value among the forty.
+fn place_of(nice: Nice) -> usize
+    ensures place { result ≡ nat_abs (nice +ℤ pos 20) }
+    ensures within { result < 40 }
+{
+    (nice.get() + 20) as usize
+}
+
+/// The weight of a fair task of this nice value, after the scheduler's table of weights by nice. It is above 0.
+pub fn weight(nice: Nice) -> u32
+    ensures table { result ≡ weight_of nice }
+    ensures positive { 0 < result }
+{
+    weight_at!(place_of(nice);
+        -20: 88761, 71755, 56483, 46273, 36291;
+        -15: 29154, 23254, 18705, 14949, 11916;
+        -10: 9548, 7620, 6100, 4904, 3906;
+        -5: 3121, 2501, 1991, 1586, 1277;
+        0: 1024, 820, 655, 526, 423;
+        5: 335, 272, 215, 172, 137;
+        10: 110, 87, 70, 56, 45;
+        15: 36, 29, 23, 18, 15;
+    )
+}
+
+/// The greatest charge, in virtual nanoseconds.
+const GREATEST: u128 = 1 << 62;
+
+/// The virtual nanoseconds that `delta` nanoseconds of running time cost at this weight.
+pub fn charge(delta: u64, weight: u32) -> Option<i64>
+    requires { 0 < weight }
+    ensures { SomeIff result (charge_of delta weight ≤ greatest) (pos (charge_of delta weight)) }
+{
+    let cost = u128::from(delta) * 1024 / u128::from(weight);
+    if cost <= GREATEST {
+        Some(cost as i64)
+    } else {
+        None
+    }
+}

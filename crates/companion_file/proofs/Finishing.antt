@@ -1,0 +1,28 @@
+-- What good lines say, with a floor for each processor, is a companion in order.
+use Rattle.std.proofs.Common.{◌≡◌, ℕ, zero, suc, true, false, eqb, length, get_or, replicate, Some, refl}
+use Rattle.std.proofs.lemmas.Bool.{eqb-true}
+use Rattle.companion_file.specs.Earlier.{Said, has_all_floors}
+use Rattle.companion_file.specs.Reading.{IsInOrder}
+use Rattle.companion_file.specs.Draft.{KeepsOrder}
+
+pub in_order : (said : Said) (cpus start : ℕ) → KeepsOrder said → said.cpus ≡ Some cpus → said.start ≡ Some start → has_all_floors said ≡ true
+    → IsInOrder (record { cpus = cpus; start = start; floors = said.floors; tasks = said.tasks; claims = said.claims })
+in_order said cpus start order e f whole =
+    let count : eqb (length said.floors) cpus ≡ true = rw e at whole in
+    record {
+      cpus_in_limits = order.cpus_kept cpus e;
+      start_in_limits = order.start_kept start f;
+      floor_for_each_cpu = eqb-true (length said.floors) cpus count;
+      floors_in_limits = order.floors_kept;
+      tasks_in_limits = rw e at order.tasks_kept;
+      pids_rise = order.pids_rise;
+      one_runs_a_cpu = order.one_runs_a_cpu;
+      claims_in_limits = order.claims_kept;
+      lines_rise = order.lines_rise;
+    }
+
+-- at first nothing runs
+pub nothing_runs : (n cpu : ℕ) → get_or (replicate n false) cpu false ≡ false
+nothing_runs zero cpu = refl
+nothing_runs (suc n) zero = refl
+nothing_runs (suc n) (suc cpu) = nothing_runs n cpu

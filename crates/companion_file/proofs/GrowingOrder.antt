@@ -1,0 +1,146 @@
+-- One more good line keeps the order: a case for each shape.
+use Rattle.std.proofs.Common.{◌≡◌, ℕ, ◌+◌, ◌*◌, ◌<◌, ◌≤◌, Bool, true, false, not, ◌&&◌, eqb, leb, ltb, ℤ, get_or, Option, Some, None, refl, ap, arith}
+use Rattle.std.specs.Prelude.{unwrap_or, is_some}
+use Rattle.std.specs.Option.{is_none}
+use Rattle.std.proofs.lemmas.Bool.{and_parts, and_from, eq-eqb}
+use Rattle.std.proofs.lemmas.Bool.Decides.{nat_tests}
+use Rattle.std.proofs.lemmas.List.Elements.{All-push, All-weaker}
+use Rattle.std.proofs.lemmas.List.Quantifiers.{all_pairs_push}
+use Rattle.cfs_model.specs.declared.task.Task.{Task}
+use Rattle.cfs_model.specs.declared.claim.Claim.{Claim}
+use Rattle.cfs_model.specs.Charge.{IsInRange}
+use Rattle.companion_file.specs.Shape.{Shape, version_line, cpus_line, start_line, floor_line, task_line, claim_line}
+use Rattle.companion_file.specs.Earlier.{Said, has_all_floors, is_run, is_taken}
+use Rattle.companion_file.specs.Tests.{is_pid, is_value, is_nice}
+use Rattle.companion_file.specs.Reading.{IsTaskInLimits, RunApart, IsClaimInLimits}
+use Rattle.companion_file.specs.Draft.{KeepsOrder}
+use Rattle.companion_file.proofs.KeptOrder.{Passes, value_fact, nice_fact, pid_fact}
+use Rattle.companion_file.proofs.Rising.{rises_push, none_passes}
+use Rattle.companion_file.proofs.Summing.{told}
+
+-- the nanoseconds of a start are less than a second
+abbrev pub FitsSecond : Shape → Type 0
+FitsSecond (version_line n) = Unit {0}
+FitsSecond (cpus_line n) = Unit {0}
+FitsSecond (start_line seconds nanoseconds) = nanoseconds < 1000000000
+FitsSecond (floor_line cpu floor) = Unit {0}
+FitsSecond (task_line t) = Unit {0}
+FitsSecond (claim_line k) = Unit {0}
+
+none_is : (o : Option ℕ) → is_none o ≡ true → o ≡ None
+none_is None e = refl
+none_is (Some n) e = absurd cc
+
+order_cpus : (said : Said) (n : ℕ) → KeepsOrder said → Passes said (cpus_line n) → KeepsOrder (told said (cpus_line n))
+order_cpus said n order passes =
+    let none : said.cpus ≡ None = none_is said.cpus passes.turn in
+    let parts = and_parts (leb 1 n) (leb n 64) passes.limits in
+    let low : 1 ≤ n = grind (arith, nat_tests) in
+    let high : n ≤ 64 = grind (arith, nat_tests) in
+    record {
+      cpus_kept = λ m e. let same : n ≡ m = cc in (omega arith, omega arith);
+      start_kept = order.start_kept;
+      floors_after_start = order.floors_after_start;
+      floors_kept = order.floors_kept;
+      tasks_kept = All-weaker (IsTaskInLimits (unwrap_or said.cpus 0)) (IsTaskInLimits n)
+          (λ t h. let nowhere : t.cpu < 0 = rw none at h.cpu in absurd (omega arith)) said.tasks order.tasks_kept;
+      pids_rise = order.pids_rise;
+      one_runs_a_cpu = order.one_runs_a_cpu;
+      claims_kept = order.claims_kept;
+      lines_rise = order.lines_rise;
+    }
+
+order_start : (said : Said) (seconds nanoseconds : ℕ) → nanoseconds < 1000000000 → KeepsOrder said → Passes said (start_line seconds nanoseconds) → KeepsOrder (told said (start_line seconds nanoseconds))
+order_start said seconds nanoseconds below order passes =
+    let limits : leb seconds 4294967295 ≡ true = passes.limits in
+    let high : seconds ≤ 4294967295 = grind (arith, nat_tests) in
+    record {
+      cpus_kept = order.cpus_kept;
+      start_kept = λ m e. let same : seconds * 1000000000 + nanoseconds ≡ m = cc in omega arith;
+      floors_after_start = λ e. absurd cc;
+      floors_kept = order.floors_kept;
+      tasks_kept = order.tasks_kept;
+      pids_rise = order.pids_rise;
+      one_runs_a_cpu = order.one_runs_a_cpu;
+      claims_kept = order.claims_kept;
+      lines_rise = order.lines_rise;
+    }
+
+order_floor : (said : Said) (cpu : ℕ) (floor : ℤ) → KeepsOrder said → Passes said (floor_line cpu floor) → KeepsOrder (told said (floor_line cpu floor))
+order_floor said cpu floor order passes =
+    let turn = and_parts (is_some said.start) (not (has_all_floors said)) passes.turn in
+    let limits = and_parts (ltb cpu (unwrap_or said.cpus 0)) (is_value floor) passes.limits in
+    record {
+      cpus_kept = order.cpus_kept;
+      start_kept = order.start_kept;
+      floors_after_start = λ e. let wrong : false ≡ true = rw e at turn.0 in absurd cc;
+      floors_kept = All-push IsInRange said.floors floor order.floors_kept (value_fact floor limits.1);
+      tasks_kept = order.tasks_kept;
+      pids_rise = order.pids_rise;
+      one_runs_a_cpu = order.one_runs_a_cpu;
+      claims_kept = order.claims_kept;
+      lines_rise = order.lines_rise;
+    }
+
+-- a test of a conjunction that failed though its first part holds
+second_fails : (a b : Bool) → not (a && b) ≡ true → a ≡ true → b ≡ false
+second_fails true true e f = absurd cc
+second_fails true false e f = refl
+second_fails false b e f = absurd cc
+
+order_task : (said : Said) (t : Task) → KeepsOrder said → Passes said (task_line t) → KeepsOrder (told said (task_line t))
+order_task said t order passes =
+    let third = and_parts (is_pid t.pid && is_nice t.nice && ltb t.cpu (unwrap_or said.cpus 0)) (is_value t.v) passes.limits in
+    let second = and_parts (is_pid t.pid && is_nice t.nice) (ltb t.cpu (unwrap_or said.cpus 0)) third.0 in
+    let first = and_parts (is_pid t.pid) (is_nice t.nice) second.0 in
+    let inside : t.cpu < unwrap_or said.cpus 0 = grind (arith, nat_tests) in
+    record {
+      cpus_kept = order.cpus_kept;
+      start_kept = order.start_kept;
+      floors_after_start = order.floors_after_start;
+      floors_kept = order.floors_kept;
+      tasks_kept = All-push (IsTaskInLimits (unwrap_or said.cpus 0)) said.tasks t order.tasks_kept
+          (record { pid = pid_fact t.pid first.0; nice = nice_fact t.nice first.1; cpu = inside; v = value_fact t.v third.1 });
+      pids_rise = rises_push (λ (u : Task). u.pid) said.tasks t order.pids_rise
+          (λ l e.
+          let next : leb l.pid t.pid ≡ true = rw e at passes.next in
+          let new : not (eqb l.pid t.pid) ≡ true = rw e at passes.new in
+          grind (arith, nat_tests));
+      one_runs_a_cpu = all_pairs_push RunApart said.tasks t order.one_runs_a_cpu
+          (λ k d within runs this_runs same.
+          let free = second_fails (is_run t.place) (is_taken said.tasks t.cpu) passes.alone (ap is_run this_runs) in
+          let apart = none_passes (λ (u : Task). is_run u.place && eqb u.cpu t.cpu) said.tasks free k d within in
+          let both = and_from (is_run (get_or said.tasks k d).place) (eqb (get_or said.tasks k d).cpu t.cpu) (ap is_run runs) (eq-eqb (get_or said.tasks k d).cpu t.cpu same) in
+          absurd cc);
+      claims_kept = order.claims_kept;
+      lines_rise = order.lines_rise;
+    }
+
+order_claim : (said : Said) (claim : Claim) → KeepsOrder said → Passes said (claim_line claim) → KeepsOrder (told said (claim_line claim))
+order_claim said claim order passes =
+    let third = and_parts (leb 1 claim.line && leb claim.line 4294967295 && is_pid claim.pid) (is_value claim.v) passes.limits in
+    let second = and_parts (leb 1 claim.line && leb claim.line 4294967295) (is_pid claim.pid) third.0 in
+    let first = and_parts (leb 1 claim.line) (leb claim.line 4294967295) second.0 in
+    let low : 1 ≤ claim.line = grind (arith, nat_tests) in
+    let high : claim.line ≤ 4294967295 = grind (arith, nat_tests) in
+    record {
+      cpus_kept = order.cpus_kept;
+      start_kept = order.start_kept;
+      floors_after_start = order.floors_after_start;
+      floors_kept = order.floors_kept;
+      tasks_kept = order.tasks_kept;
+      pids_rise = order.pids_rise;
+      one_runs_a_cpu = order.one_runs_a_cpu;
+      claims_kept = All-push IsClaimInLimits said.claims claim order.claims_kept
+          (record { line = (low, high); pid = pid_fact claim.pid second.1; v = value_fact claim.v third.1 });
+      lines_rise = rises_push (λ (c : Claim). c.line) said.claims claim order.lines_rise
+          (λ l e. let above : ltb l.line claim.line ≡ true = rw e at passes.above in grind (arith, nat_tests));
+    }
+
+pub order_told : (said : Said) (x : Shape) → FitsSecond x → KeepsOrder said → Passes said x → KeepsOrder (told said x)
+order_told said (version_line n) fits order passes = let turn : false ≡ true = passes.turn in absurd cc
+order_told said (cpus_line n) fits order passes = order_cpus said n order passes
+order_told said (start_line seconds nanoseconds) fits order passes = order_start said seconds nanoseconds fits order passes
+order_told said (floor_line cpu floor) fits order passes = order_floor said cpu floor order passes
+order_told said (task_line t) fits order passes = order_task said t order passes
+order_told said (claim_line claim) fits order passes = order_claim said claim order passes

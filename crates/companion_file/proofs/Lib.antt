@@ -1,0 +1,17 @@
+pub mod Clip
+pub mod Faults
+pub mod Finishing
+pub mod GoodLines
+pub mod GrowingOrder
+pub mod KeptOrder
+pub mod KnownMarks
+pub mod Lasts
+pub mod OneAnswer
+pub mod OneMeaning
+pub mod Reaching
+pub mod ReadFields
+pub mod ReadShapes
+pub mod Rising
+pub mod Starts
+pub mod Summing
+pub mod Taking

@@ -1,0 +1,198 @@
+-- The shape of a line, both ways: what is spelled is read, and what is read is spelled, but for numbers far out of
+-- their limits. The first word decides which shape is tried.
+use Rattle.std.proofs.Common.{◌≡◌, ◌⊎◌, ℕ, cond, eqb, List, ◌++◌, length, min, ℤ, Option, Some, None, refl, sym, ap, subst, ◌∙◌, inl, inr}
+use Rattle.std.specs.Prelude.{codes}
+use Rattle.std.specs.Option.{option_map_or}
+use Rattle.std.proofs.lemmas.Bool.{cases_Bool}
+use Rattle.cfs_model.specs.declared.task.Place.{Place}
+use Rattle.cfs_model.specs.declared.claim.ClaimSort.{ClaimSort}
+use Rattle.cfs_model.specs.declared.claim.ClaimSort.TheVariants.{At, Pass}
+use Rattle.ftrace_line.specs.Numerals.{many}
+use Rattle.ftrace_line.specs.Reading.{◌>>=◌, after_text, time_at}
+use Rattle.ftrace_line.proofs.Runs.{bind_some, some_is, text_taken}
+use Rattle.ftrace_line.proofs.Words.{time_from_word}
+use Rattle.companion_file.specs.Shape.{Shape, version_line, cpus_line, start_line, floor_line, task_line, claim_line}
+use Rattle.companion_file.specs.VersionOne.{place_word, sort_word, IsSpelled}
+use Rattle.companion_file.specs.LineReading.{number_field, number_whole, integer_field, integer_whole, place_field, version_at, cpus_at, start_at, floor_at, task_at, claim_at, front_shape_at, shape_at}
+use Rattle.companion_file.proofs.Clip.{clip, clip_integer}
+use Rattle.companion_file.proofs.Starts.{start_again}
+use Rattle.companion_file.proofs.ReadFields.{spaced_from, number_field_again, number_whole_again, integer_field_again, integer_whole_again, place_field_again, number_field_taken, number_whole_taken, integer_field_taken, integer_whole_taken, place_field_taken}
+
+-- ---- what is spelled is read
+
+claim_tried : (sort : ClaimSort) (rest : List ℕ) → shape_at (spaced_from (sort_word sort) rest) ≡ claim_at sort rest
+unfolding shape_at after_text
+claim_tried At rest = refl
+claim_tried Pass rest = refl
+
+task_tried : (rest : List ℕ) → shape_at (spaced_from (codes "task") rest) ≡ task_at rest
+unfolding shape_at after_text
+task_tried rest = refl
+
+floor_tried : (rest : List ℕ) → shape_at (spaced_from (codes "floor") rest) ≡ floor_at rest
+unfolding shape_at after_text
+floor_tried rest = refl
+
+start_tried : (rest : List ℕ) → shape_at (spaced_from (codes "start") rest) ≡ start_at rest
+unfolding shape_at front_shape_at after_text
+start_tried rest = refl
+
+cpus_tried : (rest : List ℕ) → shape_at (spaced_from (codes "cpus") rest) ≡ cpus_at rest
+unfolding shape_at front_shape_at after_text
+cpus_tried rest = refl
+
+version_tried : (rest : List ℕ) → shape_at (spaced_from (codes "cfs-companion") rest) ≡ version_at rest
+unfolding shape_at front_shape_at after_text
+version_tried rest = refl
+
+pub shape_again : (line : List ℕ) (x : Shape) → IsSpelled line x → shape_at line ≡ Some (clip x)
+unfolding version_at cpus_at floor_at task_at claim_at
+shape_again line (version_line n) p =
+    ap shape_at p.2 ∙ version_tried p.0 ∙ rw (number_whole_again p.0 n p.1) refl
+shape_again line (cpus_line n) p =
+    ap shape_at p.2 ∙ cpus_tried p.0 ∙ rw (number_whole_again p.0 n p.1) refl
+shape_again line (start_line seconds nanoseconds) p =
+    ap shape_at p.2 ∙ start_tried p.0 ∙ start_again p.0 seconds nanoseconds p.1
+shape_again line (floor_line cpu floor) p =
+    ap shape_at p.4 ∙ floor_tried (spaced_from p.0 p.1)
+    ∙ rw (number_field_again p.0 p.1 cpu p.2, integer_whole_again p.1 floor p.3) refl
+shape_again line (task_line t) p =
+    let last = spaced_from (place_word t.place) p.3 in
+    ap shape_at p.8 ∙ task_tried (spaced_from p.0 (spaced_from p.1 (spaced_from p.2 last)))
+    ∙ rw (number_field_again p.0 (spaced_from p.1 (spaced_from p.2 last)) t.pid p.4, integer_field_again p.1 (spaced_from p.2 last) t.nice p.5, number_field_again p.2 last t.cpu p.6, place_field_again t.place p.3, integer_whole_again p.3 t.v p.7) refl
+shape_again line (claim_line k) p =
+    ap shape_at p.6 ∙ claim_tried k.sort (spaced_from p.0 (spaced_from p.1 p.2))
+    ∙ rw (number_field_again p.0 (spaced_from p.1 p.2) k.line p.3, number_field_again p.1 p.2 k.pid p.4, integer_whole_again p.2 k.v p.5) refl
+
+-- ---- what is read is spelled
+
+-- the line spells what was read
+abbrev pub IsFound : List ℕ → Shape → Type 0
+IsFound line y = (x : Shape) × IsSpelled line x × (y ≡ clip x)
+
+same_floor : (c d : ℕ) (v w : ℤ) → c ≡ d → v ≡ w → floor_line c v ≡ floor_line d w
+same_floor c d v w e f = rw (e, f) refl
+
+same_claim : (l m p q : ℕ) (v w : ℤ) (sort : ClaimSort) → l ≡ m → p ≡ q → v ≡ w
+    → claim_line (record { line = l; pid = p; v = v; sort = sort }) ≡ claim_line (record { line = m; pid = q; v = w; sort = sort })
+same_claim l m p q v w sort e f g = rw (e, f, g) refl
+
+same_task : (p q : ℕ) (n o : ℤ) (c d : ℕ) (v w : ℤ) (place : Place) → p ≡ q → n ≡ o → c ≡ d → v ≡ w
+    → task_line (record { pid = p; nice = n; cpu = c; place = place; v = v }) ≡ task_line (record { pid = q; nice = o; cpu = d; place = place; v = w })
+same_task p q n o c d v w place e f g h = rw (e, f, g, h) refl
+
+version_found : (rest : List ℕ) (y : Shape) → version_at rest ≡ Some y → IsFound (spaced_from (codes "cfs-companion") rest) y
+unfolding version_at
+version_found rest y e =
+    let a = bind_some (number_whole rest) (λ n. Some (version_line 0)) y e in
+    let t = number_whole_taken rest a.0 a.1 in
+    (version_line t.0, (rest, t.1, refl), sym (some_is (version_line 0) y a.2))
+
+cpus_found : (rest : List ℕ) (y : Shape) → cpus_at rest ≡ Some y → IsFound (spaced_from (codes "cpus") rest) y
+unfolding cpus_at
+cpus_found rest y e =
+    let a = bind_some (number_whole rest) (λ n. Some (cpus_line n)) y e in
+    let t = number_whole_taken rest a.0 a.1 in
+    (cpus_line t.0, (rest, t.1, refl), sym (some_is (cpus_line a.0) y a.2) ∙ ap cpus_line t.2)
+
+start_found : (rest : List ℕ) (y : Shape) → start_at rest ≡ Some y → IsFound (spaced_from (codes "start") rest) y
+unfolding start_at
+start_found rest y e =
+    let a = bind_some (time_at rest) (λ time. cond (eqb (length time.2) 0) (Some (start_line time.0 time.1)) None) y e in
+    elim (cases_Bool (eqb (length a.0.2) 0)) [
+      | inl end ↦
+          let t = time_from_word rest a.0.0 a.0.1 a.0.2 a.1 end in
+          let found : Some (start_line a.0.0 a.0.1) ≡ Some y = rw end at a.2 in
+          (start_line t.0 a.0.1, (rest, t.1, refl), sym (some_is (start_line a.0.0 a.0.1) y found) ∙ ap (λ (s : ℕ). start_line s a.0.1) t.2)
+      | inr more ↦ let none : None ≡ Some y = rw more at a.2 in absurd cc
+    ]
+
+floor_found : (rest : List ℕ) (y : Shape) → floor_at rest ≡ Some y → IsFound (spaced_from (codes "floor") rest) y
+unfolding floor_at
+floor_found rest y e =
+    let a = bind_some (number_field rest) (λ cpu. integer_whole cpu.1 >>= λ floor. Some (floor_line cpu.0 floor)) y e in
+    let b = bind_some (integer_whole a.0.1) (λ floor. Some (floor_line a.0.0 floor)) y a.2 in
+    let t0 = number_field_taken rest a.0.0 a.0.1 a.1 in
+    let t1 = integer_whole_taken a.0.1 b.0 b.1 in (
+      floor_line t0.exact t1.0,
+      (t0.word, a.0.1, t0.spelled, t1.1, ap (λ (s : List ℕ). spaced_from (codes "floor") s) t0.whole),
+      sym (some_is (floor_line a.0.0 b.0) y b.2) ∙ same_floor a.0.0 (min t0.exact many) b.0 (clip_integer t1.0) t0.value t1.2,
+    )
+
+claim_found : (sort : ClaimSort) (rest : List ℕ) (y : Shape) → claim_at sort rest ≡ Some y → IsFound (spaced_from (sort_word sort) rest) y
+unfolding claim_at
+claim_found sort rest y e =
+    let a = bind_some (number_field rest) (λ line. number_field line.1 >>= λ pid. integer_whole pid.1 >>= λ v. Some (claim_line (record { line = line.0; pid = pid.0; v = v; sort = sort }))) y e in
+    let b = bind_some (number_field a.0.1) (λ pid. integer_whole pid.1 >>= λ v. Some (claim_line (record { line = a.0.0; pid = pid.0; v = v; sort = sort }))) y a.2 in
+    let c = bind_some (integer_whole b.0.1) (λ v. Some (claim_line (record { line = a.0.0; pid = b.0.0; v = v; sort = sort }))) y b.2 in
+    let t0 = number_field_taken rest a.0.0 a.0.1 a.1 in
+    let t1 = number_field_taken a.0.1 b.0.0 b.0.1 b.1 in
+    let t2 = integer_whole_taken b.0.1 c.0 c.1 in (
+      claim_line (record { line = t0.exact; pid = t1.exact; v = t2.0; sort = sort }),
+      (t0.word, t1.word, b.0.1, t0.spelled, t1.spelled, t2.1, ap (λ (s : List ℕ). spaced_from (sort_word sort) s) (t0.whole ∙ ap (λ (s : List ℕ). spaced_from t0.word s) t1.whole)),
+      sym (some_is (claim_line (record { line = a.0.0; pid = b.0.0; v = c.0; sort = sort })) y c.2)
+          ∙ same_claim a.0.0 (min t0.exact many) b.0.0 (min t1.exact many) c.0 (clip_integer t2.0) sort t0.value t1.value t2.2,
+    )
+
+task_found : (rest : List ℕ) (y : Shape) → task_at rest ≡ Some y → IsFound (spaced_from (codes "task") rest) y
+unfolding task_at
+task_found rest y e =
+    let a = bind_some (number_field rest) (λ pid. integer_field pid.1 >>= λ nice. number_field nice.1 >>= λ cpu. place_field cpu.1 >>= λ place. integer_whole place.1 >>= λ v. Some (task_line (record { pid = pid.0; nice = nice.0; cpu = cpu.0; place = place.0; v = v }))) y e in
+    let b = bind_some (integer_field a.0.1) (λ nice. number_field nice.1 >>= λ cpu. place_field cpu.1 >>= λ place. integer_whole place.1 >>= λ v. Some (task_line (record { pid = a.0.0; nice = nice.0; cpu = cpu.0; place = place.0; v = v }))) y a.2 in
+    let c = bind_some (number_field b.0.1) (λ cpu. place_field cpu.1 >>= λ place. integer_whole place.1 >>= λ v. Some (task_line (record { pid = a.0.0; nice = b.0.0; cpu = cpu.0; place = place.0; v = v }))) y b.2 in
+    let d = bind_some (place_field c.0.1) (λ place. integer_whole place.1 >>= λ v. Some (task_line (record { pid = a.0.0; nice = b.0.0; cpu = c.0.0; place = place.0; v = v }))) y c.2 in
+    let f = bind_some (integer_whole d.0.1) (λ v. Some (task_line (record { pid = a.0.0; nice = b.0.0; cpu = c.0.0; place = d.0.0; v = v }))) y d.2 in
+    let t0 = number_field_taken rest a.0.0 a.0.1 a.1 in
+    let t1 = integer_field_taken a.0.1 b.0.0 b.0.1 b.1 in
+    let t2 = number_field_taken b.0.1 c.0.0 c.0.1 c.1 in
+    let t3 = place_field_taken c.0.1 d.0.0 d.0.1 d.1 in
+    let t4 = integer_whole_taken d.0.1 f.0 f.1 in
+    let whole : rest ≡ spaced_from t0.word (spaced_from t1.word (spaced_from t2.word (spaced_from (place_word d.0.0) d.0.1))) =
+    t0.whole ∙ ap (λ (s : List ℕ). spaced_from t0.word s) (t1.whole ∙ ap (λ (s : List ℕ). spaced_from t1.word s) (t2.whole ∙ ap (λ (s : List ℕ). spaced_from t2.word s) t3)) in (
+      task_line (record { pid = t0.exact; nice = t1.exact; cpu = t2.exact; place = d.0.0; v = t4.0 }),
+      (t0.word, t1.word, t2.word, d.0.1, t0.spelled, t1.spelled, t2.spelled, t4.1, ap (λ (s : List ℕ). spaced_from (codes "task") s) whole),
+      sym (some_is (task_line (record { pid = a.0.0; nice = b.0.0; cpu = c.0.0; place = d.0.0; v = f.0 })) y f.2)
+          ∙ same_task a.0.0 (min t0.exact many) b.0.0 (clip_integer t1.exact) c.0.0 (min t2.exact many) f.0 (clip_integer t4.0) d.0.0 t0.value t1.value t2.value t4.2,
+    )
+
+-- the shape that is tried gave the answer, or a later one did
+tried : (f : List ℕ → Option Shape) (behind : Option (List ℕ)) (later : Option Shape) (y : Shape) → option_map_or f behind later ≡ Some y
+    → ((rest : List ℕ) × (behind ≡ Some rest) × (f rest ≡ Some y)) ⊎ (later ≡ Some y)
+tried f (Some rest) later y e = inl (rest, refl, e)
+tried f None later y e = inr e
+
+-- what was found behind the first word is found in the line
+moved : (word line rest : List ℕ) (y : Shape) → after_text (word ++ codes " ") line ≡ Some rest → (word ++ codes " ") ++ rest ≡ spaced_from word rest → IsFound (spaced_from word rest) y → IsFound line y
+moved word line rest y e same found =
+    subst (λ (s : List ℕ). IsFound s y) (sym (text_taken (word ++ codes " ") line rest e ∙ same)) found
+
+front_found : (line : List ℕ) (y : Shape) → front_shape_at line ≡ Some y → IsFound line y
+unfolding front_shape_at
+front_found line y e =
+    elim (tried start_at (after_text (codes "start ") line) _ y e) [
+      | inl p ↦ moved (codes "start") line p.0 y p.1 refl (start_found p.0 y p.2)
+      | inr f ↦ elim (tried cpus_at (after_text (codes "cpus ") line) _ y f) [
+        | inl p ↦ moved (codes "cpus") line p.0 y p.1 refl (cpus_found p.0 y p.2)
+        | inr g ↦ elim (tried version_at (after_text (codes "cfs-companion ") line) None y g) [
+          | inl p ↦ moved (codes "cfs-companion") line p.0 y p.1 refl (version_found p.0 y p.2)
+          | inr h ↦ absurd cc
+        ]
+      ]
+    ]
+
+pub shape_taken : (line : List ℕ) (y : Shape) → shape_at line ≡ Some y → IsFound line y
+unfolding shape_at
+shape_taken line y e =
+    elim (tried (claim_at At) (after_text (codes "at ") line) _ y e) [
+      | inl p ↦ moved (codes "at") line p.0 y p.1 refl (claim_found At p.0 y p.2)
+      | inr f ↦ elim (tried (claim_at Pass) (after_text (codes "pass ") line) _ y f) [
+        | inl p ↦ moved (codes "pass") line p.0 y p.1 refl (claim_found Pass p.0 y p.2)
+        | inr g ↦ elim (tried task_at (after_text (codes "task ") line) _ y g) [
+          | inl p ↦ moved (codes "task") line p.0 y p.1 refl (task_found p.0 y p.2)
+          | inr h ↦ elim (tried floor_at (after_text (codes "floor ") line) (front_shape_at line) y h) [
+            | inl p ↦ moved (codes "floor") line p.0 y p.1 refl (floor_found p.0 y p.2)
+            | inr i ↦ front_found line y i
+          ]
+        ]
+      ]
+    ]

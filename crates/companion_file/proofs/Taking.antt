@@ -1,0 +1,63 @@
+-- What becomes of a line that was read: a comment, the first line, or a line with a shape whose numbers were read
+-- as `Clip` says.
+use Rattle.std.proofs.Common.{◌≡◌, ℕ, ◌≤◌, Bool, true, false, List, Option, Some, None, Result, Ok, Err, refl, sym, ap, subst, ◌∙◌, inl, inr, arith}
+use Rattle.std.specs.Prelude.{unwrap_or, MatchBool}
+use Rattle.std.specs.Option.{ForSome}
+use Rattle.companion_file.specs.declared.fault.CompanionCause.{CompanionCause}
+use Rattle.companion_file.specs.declared.fault.Refusal.{Refusal}
+use Rattle.companion_file.specs.declared.fault.Refusal.TheVariants as refusals
+use Rattle.companion_file.specs.Shape.{Shape, version_line, cpus_line, start_line, floor_line, task_line, claim_line}
+use Rattle.companion_file.specs.VersionOne.{IsComment, IsGroup, IsSpelled}
+use Rattle.companion_file.specs.LineReading.{shape_at}
+use Rattle.companion_file.specs.Earlier.{Said}
+use Rattle.companion_file.specs.Tests.{fault_of, tested, IsJudgedFirst, IsJudgedLater, IsJudged}
+use Rattle.companion_file.specs.Draft.{with_line, Follows, TakesFirst, Takes}
+use Rattle.companion_file.proofs.Clip.{fault_clip, same_without_fault}
+use Rattle.companion_file.proofs.ReadShapes.{shape_again, shape_taken}
+
+-- so few processors that no number far out of its limits is one of them
+pub few_cpus : (cpus : Option ℕ) → ForSome cpus (λ n. n ≤ 64) → unwrap_or cpus 0 ≤ 64
+few_cpus None few = omega arith
+few_cpus (Some n) few = few n refl
+
+pub no_shape : (line : List ℕ) → shape_at line ≡ None → (x : Shape) → ¬ IsSpelled line x
+no_shape line e x spelled = let again = shape_again line x spelled in absurd cc
+
+judged_at : (said : Said) (line : List ℕ) (r : Result Shape CompanionCause) (begun : Bool) → said.begun ≡ begun → MatchBool begun (IsJudgedLater said line r) (IsJudgedFirst line r) → IsJudged said line r
+judged_at said line r begun e judged = subst (λ (b : Bool). MatchBool b (IsJudgedLater said line r) (IsJudgedFirst line r)) (sym e) judged
+
+begun_still : (old : Said) (x : Shape) → (with_line old x).begun ≡ old.begun
+begun_still old (version_line n) = refl
+begun_still old (cpus_line n) = refl
+begun_still old (start_line seconds nanoseconds) = refl
+begun_still old (floor_line cpu floor) = refl
+begun_still old (task_line t) = refl
+begun_still old (claim_line k) = refl
+
+begun_with : (old new : Said) (x : Shape) → old.begun ≡ true → new ≡ with_line old x → new ≡ record (with_line old x) { begun = true }
+begun_with old new x e f = f ∙ ap (λ (b : Bool). record (with_line old x) { begun = b }) (begun_still old x ∙ e)
+
+pub later_refused : (old : Said) (line : List ℕ) (cause : CompanionCause) → old.begun ≡ true → IsJudgedLater old line (Err cause) → IsJudged old line (Err cause)
+later_refused old line cause begun judged = judged_at old line (Err cause) true begun judged
+
+pub first_taken : (old : Said) (line : List ℕ) (r : Result Unit Refusal) (new : Said) → ¬ IsComment line → old.begun ≡ false → TakesFirst old line r new → Takes old line r new
+first_taken old line (Ok u) new content begun taken =
+    inr (content, (version_line 1, judged_at old line (Ok (version_line 1)) false begun (inl (taken.0, refl)), taken.1))
+first_taken old line (Err (refusals.Bad cause)) new content begun taken =
+    (content, judged_at old line (Err cause) false begun (inr (taken.0, ap (λ (c : CompanionCause). Err c) taken.1)))
+first_taken old line (Err refusals.Memory) new content begun taken = tt
+
+pub later_taken : (old : Said) (line : List ℕ) (y : Shape) (r : Result Unit Refusal) (new : Said) → ¬ IsComment line → old.begun ≡ true → ¬ IsGroup line → unwrap_or old.cpus 0 ≤ 64
+    → shape_at line ≡ Some y → Follows old y r new → Takes old line r new
+later_taken old line y (Ok u) new content begun plain few e follows =
+    let found = shape_taken line y e in
+    let none : fault_of old found.0 ≡ None = sym (fault_clip old found.0 few) ∙ ap (fault_of old) (sym found.2) ∙ follows.0 in
+    let same : y ≡ found.0 = found.2 ∙ same_without_fault old found.0 few none in
+    let passed : Ok found.0 ≡ tested old found.0 = rw none refl in
+    inr (content, (found.0, judged_at old line (Ok found.0) true begun (inr (inr (plain, (found.0, found.1, passed)))), begun_with old new found.0 begun (follows.1 ∙ ap (with_line old) same)))
+later_taken old line y (Err (refusals.Bad cause)) new content begun plain few e follows =
+    let found = shape_taken line y e in
+    let fault : fault_of old found.0 ≡ Some cause = sym (fault_clip old found.0 few) ∙ ap (fault_of old) (sym found.2) ∙ follows in
+    let failed : Err cause ≡ tested old found.0 = rw fault refl in
+    (content, judged_at old line (Err cause) true begun (inr (inr (plain, (found.0, found.1, failed)))))
+later_taken old line y (Err refusals.Memory) new content begun plain few e follows = tt

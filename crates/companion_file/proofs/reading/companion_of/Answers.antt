@@ -1,0 +1,35 @@
+use Rattle.std.proofs.Common.{◌≡◌, ℕ, ◌<◌, Bool, false, eqb, List, length, sym, ◌∙◌, arith}
+use Rattle.std.proofs.lemmas.Bool.{eqb-true, eqb-false}
+use Rattle.companion_file.specs.Companion.{shown}
+use Rattle.companion_file.proofs.Reaching.{reached_more, reached_order, reached_whole, refused_answer, short_answer}
+use Rattle.companion_file.proofs.reading.companion_of.Goals as goal
+
+-- the test at the loop's head
+some_left : (rest : List ℕ) (empty : Bool) → empty ≡ eqb (length rest) 0 → empty ≡ false → 0 < length rest
+some_left rest empty is test = let no_end = eqb-false (length rest) 0 (sym is ∙ test) in omega arith
+
+pub loop-rest-preserved : goal.loop-rest-preserved
+loop-rest-preserved c =
+    let some = some_left c.loop-rest.rest.now c.is_empty.result c.is_empty.ensures c.loop-rest-test.true in
+    reached_more c.args.text.now c.loop-rest.rest.now c.next_line.result.0.now c.next_line.result.1.now c.loop-rest.number c.loop-rest.draft c.take.new.self
+    c.in_default.field-0 c.loop-rest.invariant (c.next_line.ensures.lines some) (c.next_line.ensures.shorter some) c.in_default.ensures
+
+pub returns-in-Err : goal.returns-in-Err
+returns-in-Err c =
+    let some = some_left c.loop-rest.rest.now c.is_empty.result c.is_empty.ensures c.loop-rest-test.true in
+    rw c.at.ensures
+    (refused_answer c.args.text.now c.loop-rest.rest.now c.next_line.result.0.now c.next_line.result.1.now c.loop-rest.number c.loop-rest.draft c.take.new.self
+    c.in-Err.refusal c.loop-rest.invariant (c.next_line.ensures.lines some) c.in-Err.ensures)
+
+pub finish-requires : goal.finish-requires
+finish-requires c = reached_order c.args.text.now c.loop-rest.rest.now c.loop-rest.number c.loop-rest.draft c.loop-rest.invariant
+
+pub returns-in-Some : goal.returns-in-Some
+returns-in-Some c =
+    reached_whole c.args.text.now c.loop-rest.rest.now c.loop-rest.number c.loop-rest.draft (shown c.in-Some.companion) c.loop-rest.invariant
+    (eqb-true (length c.loop-rest.rest.now) 0 (sym c.is_empty.ensures ∙ c.loop-rest-test.false)) c.in-Some.ensures
+
+pub returns-in-None : goal.returns-in-None
+returns-in-None c =
+    short_answer c.args.text.now c.loop-rest.rest.now c.loop-rest.number c.loop-rest.draft c.short_after.result c.loop-rest.invariant
+    (eqb-true (length c.loop-rest.rest.now) 0 (sym c.is_empty.ensures ∙ c.loop-rest-test.false)) c.in-None.ensures c.short_after.ensures

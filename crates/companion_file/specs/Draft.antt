@@ -1,0 +1,87 @@
+-- What the reader keeps of the lines so far, and what one more line makes of it. It is proved that this is what
+-- those lines say, taken together.
+use Rattle.std.specs.Prelude.{◌≡◌, ◌≢◌, ℕ, ◌+◌, ◌*◌, ◌^◌, ◌<◌, ◌≤◌, Bool, true, false, List, [], ◌∷◌, ◌++◌, length, unwrap_or, All, AllPairs, Option, Some, None, Result, Ok, Err, slice_index_or, ◌⊎◌}
+use Rattle.std.specs.Option.{ForSome}
+use Rattle.cfs_model.specs.declared.task.Task.{Task}
+use Rattle.companion_file.specs.declared.fault.Refusal.{Refusal}
+use Rattle.companion_file.specs.declared.fault.Refusal.TheVariants as refusals
+use Rattle.companion_file.specs.Shape.{Shape, version_line, cpus_line, start_line, floor_line, task_line, claim_line}
+use Rattle.companion_file.specs.declared.fault.CompanionCause.TheVariants.{Version, Short}
+use Rattle.companion_file.specs.declared.fault.CompanionFault.{CompanionFault}
+use Rattle.companion_file.specs.declared.fault.CompanionFault.TheVariants as faults
+use Rattle.companion_file.specs.VersionOne.{first_line, IsComment}
+use Rattle.companion_file.specs.Earlier.{Said, has_all_floors, is_taken}
+use Rattle.cfs_model.specs.Charge.{IsInRange}
+use Rattle.companion_file.specs.Reading.{CompanionReading, IsTaskInLimits, RunApart, IsClaimInLimits}
+use Rattle.companion_file.specs.Tests.{fault_of, IsJudged}
+
+-- the processors are few, and of each it is known whether a task runs there
+pub record KnowsRunning (cpus : Option ℕ) (tasks : List Task) (running : List Bool) : Type 0 where
+  pub few : ForSome cpus (λ n. n ≤ 64)
+  pub known : (cpu : ℕ) → cpu < 64 → slice_index_or running cpu false ≡ is_taken tasks cpu
+
+-- what is said with one more line
+abbrev pub with_line : Said → Shape → Said
+with_line said (version_line n) = said
+with_line said (cpus_line n) = record said { cpus = Some n }
+with_line said (start_line seconds nanoseconds) = record said { start = Some (seconds * 1000000000 + nanoseconds) }
+with_line said (floor_line cpu floor) = record said { floors = said.floors ++ floor ∷ [] }
+with_line said (task_line task) = record said { tasks = said.tasks ++ task ∷ [] }
+with_line said (claim_line claim) = record said { claims = said.claims ++ claim ∷ [] }
+
+-- the line with this shape was added, if memory sufficed
+abbrev pub Adds : Said → Shape → Result Unit Refusal → Said → Type 0
+Adds old x (Ok _) new = new ≡ with_line old x
+Adds old x (Err (refusals.Bad cause)) new = ⊥
+Adds old x (Err refusals.Memory) new = Unit {0}
+
+-- the line with this shape was added, or it fails a test
+abbrev pub Follows : Said → Shape → Result Unit Refusal → Said → Type 0
+Follows old x (Ok _) new = (fault_of old x ≡ None) × (new ≡ with_line old x)
+Follows old x (Err (refusals.Bad cause)) new = fault_of old x ≡ Some cause
+Follows old x (Err refusals.Memory) new = Unit {0}
+
+-- the first line was taken, or it is bad
+abbrev pub TakesFirst : Said → List ℕ → Result Unit Refusal → Said → Type 0
+TakesFirst old line (Ok _) new = (line ≡ first_line) × (new ≡ record old { begun = true })
+TakesFirst old line (Err (refusals.Bad cause)) new = (line ≢ first_line) × (cause ≡ Version)
+TakesFirst old line (Err refusals.Memory) new = Unit {0}
+
+-- the line was a comment, or it was taken, or it is bad
+abbrev pub Takes : Said → List ℕ → Result Unit Refusal → Said → Type 0
+Takes old line (Ok _) new =
+    (IsComment line × (new ≡ old))
+    ⊎ ((¬ IsComment line) × ((x : Shape) × IsJudged old line (Ok x) × (new ≡ record (with_line old x) { begun = true })))
+Takes old line (Err (refusals.Bad cause)) new = (¬ IsComment line) × IsJudged old line (Err cause)
+Takes old line (Err refusals.Memory) new = Unit {0}
+
+-- what lines say that are all good
+pub record KeepsOrder (said : Said) : Type 0 where
+  pub cpus_kept : ForSome said.cpus (λ n. (1 ≤ n) × (n ≤ 64))
+  pub start_kept : ForSome said.start (λ n. n < 4294967296 * 1000000000)
+  pub floors_after_start : said.start ≡ None → length said.floors ≡ 0
+  pub floors_kept : All IsInRange said.floors
+  pub tasks_kept : All (IsTaskInLimits (unwrap_or said.cpus 0)) said.tasks
+  pub pids_rise : AllPairs (λ t u. t.pid < u.pid) said.tasks
+  pub one_runs_a_cpu : AllPairs RunApart said.tasks
+  pub claims_kept : All IsClaimInLimits said.claims
+  pub lines_rise : AllPairs (λ a b. a.line < b.line) said.claims
+
+-- no floor is missing, and this is what was said
+pub record IsWhole (said : Said) (r : CompanionReading) : Type 0 where
+  pub whole : has_all_floors said ≡ true
+  pub cpus_is : said.cpus ≡ Some r.cpus
+  pub start_is : said.start ≡ Some r.start
+  pub floors_is : r.floors ≡ said.floors
+  pub tasks_is : r.tasks ≡ said.tasks
+  pub claims_is : r.claims ≡ said.claims
+
+-- the fault of a text whose line was refused
+abbrev pub fault_at : ℕ → Refusal → CompanionFault
+fault_at line (refusals.Bad cause) = faults.Text line cause
+fault_at line refusals.Memory = faults.Memory
+
+-- the fault of a text that ends too soon after so many lines, whose next line's number fits
+abbrev pub IsShortAfter : ℕ → CompanionFault → Type 0
+IsShortAfter lines (faults.Text line cause) = (line ≡ lines + 1) × (cause ≡ Short)
+IsShortAfter lines faults.Memory = 2 ^ 64 ≤ lines + 1

@@ -1,0 +1,87 @@
+-- What the lines of a companion up to a place say, taken together (this project's companion format).
+use Rattle.std.specs.Prelude.{ℕ, ◌+◌, ◌*◌, ℤ, Bool, true, false, ◌==◌, ◌&&◌, List, [], ◌∷◌, length, filter_map, Option, Some, None}
+use Rattle.std.specs.Option.{option_map_or}
+use Rattle.std.specs.List.{last_or, list_any}
+use Rattle.cfs_model.specs.declared.task.Task.{Task}
+use Rattle.cfs_model.specs.declared.task.Place.{Place}
+use Rattle.cfs_model.specs.declared.task.Place.TheVariants.{Run, Wait, Rest}
+use Rattle.cfs_model.specs.declared.claim.Claim.{Claim}
+use Rattle.companion_file.specs.Shape.{Shape, cpus_line, start_line, floor_line, task_line, claim_line}
+
+-- the number of processors that a line says, if it says one
+abbrev pub cpus_in : Shape → Option ℕ
+cpus_in (cpus_line n) = Some n
+cpus_in _ = None
+
+-- the start that a line says, in nanoseconds
+abbrev pub start_in : Shape → Option ℕ
+start_in (start_line seconds nanoseconds) = Some (seconds * 1000000000 + nanoseconds)
+start_in _ = None
+
+-- the floor that a line says
+abbrev pub floor_in : Shape → Option ℤ
+floor_in (floor_line cpu floor) = Some floor
+floor_in _ = None
+
+-- the task that a line names
+abbrev pub task_in : Shape → Option Task
+task_in (task_line task) = Some task
+task_in _ = None
+
+-- the claim that a line makes
+abbrev pub claim_in : Shape → Option Claim
+claim_in (claim_line claim) = Some claim
+claim_in _ = None
+
+-- what lines say, taken together
+pub record Said : Type 0 where
+  -- whether there is a line
+  pub begun : Bool
+  -- the number of processors, once a line has said it
+  pub cpus : Option ℕ
+  -- the start in nanoseconds, once a line has said it
+  pub start : Option ℕ
+  -- the floors so far, from processor 0 on
+  pub floors : List ℤ
+  -- the tasks so far
+  pub tasks : List Task
+  -- the claims so far
+  pub claims : List Claim
+
+-- there is a line
+abbrev pub is_begun : List Shape → Bool
+is_begun [] = false
+is_begun (x ∷ xs) = true
+
+-- what these lines say, taken together
+abbrev pub summed : List Shape → Said
+summed lines =
+    record {
+      begun = is_begun lines;
+      cpus = last_or None (filter_map cpus_in lines);
+      start = last_or None (filter_map start_in lines);
+      floors = filter_map floor_in lines;
+      tasks = filter_map task_in lines;
+      claims = filter_map claim_in lines;
+    }
+
+-- the last task and the last claim so far
+abbrev pub last_task : Said → Option Task
+last_task said = last_or None said.tasks
+
+abbrev pub last_claim : Said → Option Claim
+last_claim said = last_or None said.claims
+
+-- each processor has its floor
+abbrev pub has_all_floors : Said → Bool
+has_all_floors said = option_map_or (λ n. length said.floors == n) said.cpus false
+
+-- running is a place
+abbrev pub is_run : Place → Bool
+is_run Run = true
+is_run Wait = false
+is_run Rest = false
+
+-- a task so far runs at the processor
+abbrev pub is_taken : List Task → ℕ → Bool
+is_taken tasks cpu = list_any (λ task. is_run task.place && (task.cpu == cpu)) tasks

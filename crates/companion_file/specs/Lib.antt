@@ -1,0 +1,9 @@
+pub mod Companion
+pub mod Draft
+pub mod Earlier
+pub mod LineReading
+pub mod Reading
+pub mod Shape
+pub mod Statement
+pub mod Tests
+pub mod VersionOne

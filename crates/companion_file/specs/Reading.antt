@@ -1,0 +1,51 @@
+-- What a companion says, and the order that each companion keeps (this project's companion format).
+use Rattle.std.specs.Prelude.{◌≡◌, ◌≢◌, ℕ, ◌*◌, ◌<◌, ◌≤◌, ℤ, List, length, All, AllPairs}
+use Rattle.cfs_model.specs.declared.task.Task.{Task}
+use Rattle.cfs_model.specs.declared.task.Place.TheVariants.{Run}
+use Rattle.cfs_model.specs.declared.claim.Claim.{Claim}
+use Rattle.cfs_model.specs.Charge.{IsInRange}
+use Rattle.cfs_model.specs.Nice.{IsNice}
+
+-- the start state and the claims
+pub record CompanionReading : Type 0 where
+  -- the number of processors
+  pub cpus : ℕ
+  -- the start, in nanoseconds
+  pub start : ℕ
+  -- the floor of each processor, from processor 0 on
+  pub floors : List ℤ
+  pub tasks : List Task
+  pub claims : List Claim
+
+-- a pid is from 1 to the greatest
+abbrev pub IsPid : ℕ → Type 0
+IsPid n = (1 ≤ n) × (n ≤ 4194304)
+
+-- a task's numbers are within their limits
+pub record IsTaskInLimits (cpus : ℕ) (task : Task) : Type 0 where
+  pub pid : IsPid task.pid
+  pub nice : IsNice task.nice
+  pub cpu : task.cpu < cpus
+  pub v : IsInRange task.v
+
+-- a claim's numbers are within their limits
+pub record IsClaimInLimits (claim : Claim) : Type 0 where
+  pub line : (1 ≤ claim.line) × (claim.line ≤ 4294967295)
+  pub pid : IsPid claim.pid
+  pub v : IsInRange claim.v
+
+-- two tasks do not both run at one processor
+abbrev pub RunApart : Task → Task → Type 0
+RunApart t u = t.place ≡ Run → u.place ≡ Run → t.cpu ≢ u.cpu
+
+-- what every companion keeps
+pub record IsInOrder (r : CompanionReading) : Type 0 where
+  pub cpus_in_limits : (1 ≤ r.cpus) × (r.cpus ≤ 64)
+  pub start_in_limits : r.start < 4294967296 * 1000000000
+  pub floor_for_each_cpu : length r.floors ≡ r.cpus
+  pub floors_in_limits : All IsInRange r.floors
+  pub tasks_in_limits : All (IsTaskInLimits r.cpus) r.tasks
+  pub pids_rise : AllPairs (λ t u. t.pid < u.pid) r.tasks
+  pub one_runs_a_cpu : AllPairs RunApart r.tasks
+  pub claims_in_limits : All IsClaimInLimits r.claims
+  pub lines_rise : AllPairs (λ a b. a.line < b.line) r.claims

@@ -1,0 +1,19 @@
+-- What a line of a companion says (this project's companion format).
+use Rattle.std.specs.Prelude.{ℕ, ℤ}
+use Rattle.cfs_model.specs.declared.task.Task.{Task}
+use Rattle.cfs_model.specs.declared.claim.Claim.{Claim}
+
+-- what a line that is no comment says, its numbers as they are spelled, within their limits or not
+pub data Shape : Type 0 where
+  -- the format's version
+  version_line : ℕ → Shape
+  -- the number of processors
+  cpus_line : ℕ → Shape
+  -- the start in seconds, and the nanoseconds after them
+  start_line : ℕ → ℕ → Shape
+  -- a processor and its floor
+  floor_line : ℕ → ℤ → Shape
+  -- a task of the start state
+  task_line : Task → Shape
+  -- a virtual runtime claimed at a line of the trace
+  claim_line : Claim → Shape

@@ -1,0 +1,90 @@
+-- The tests of a line of a companion, after what the lines before it say (this project's companion format).
+use Rattle.std.specs.Prelude.{◌≡◌, ◌≢◌, ℕ, ℤ, pos, negsuc, neg_ℤ, int_le, Bool, true, false, not, ◌&&◌, nat_le, nat_lt, ◌==◌, if◌then◌else◌, List, length, Option, Some, None, Result, Ok, Err, unwrap_or, is_some, ◌⊎◌, MatchBool}
+use Rattle.std.specs.Option.{option_map_or, is_none}
+use Rattle.cfs_model.specs.Charge.{greatest}
+use Rattle.companion_file.specs.declared.fault.CompanionCause.{CompanionCause}
+use Rattle.companion_file.specs.declared.fault.CompanionCause.TheVariants.{Version, Group, BadLine, Order, NumberRange, TwiceNamed, TwiceRunning, LineOrder}
+use Rattle.companion_file.specs.Shape.{Shape, version_line, cpus_line, start_line, floor_line, task_line, claim_line}
+use Rattle.companion_file.specs.VersionOne.{first_line, IsGroup, IsSpelled}
+use Rattle.companion_file.specs.Earlier.{Said, last_task, last_claim, has_all_floors, is_run, is_taken}
+
+-- a line of this sort is allowed here: `cpus` once, then `start` once, then a `floor` for each processor, then tasks, then claims
+abbrev pub is_in_turn : Said → Shape → Bool
+is_in_turn said (version_line n) = false
+is_in_turn said (cpus_line n) = is_none (said.cpus)
+is_in_turn said (start_line seconds nanoseconds) = is_some (said.cpus) && is_none (said.start)
+is_in_turn said (floor_line cpu floor) = is_some (said.start) && not (has_all_floors said)
+is_in_turn said (task_line task) = has_all_floors said && (length (said.claims) == 0)
+is_in_turn said (claim_line claim) = has_all_floors said
+
+-- the limits of pids, of virtual runtimes and floors, and of nice values
+abbrev pub is_pid : ℕ → Bool
+is_pid n = nat_le 1 n && nat_le n 4194304
+
+abbrev pub is_value : ℤ → Bool
+is_value v = int_le (neg_ℤ (pos greatest)) v && int_le v (pos greatest)
+
+abbrev pub is_nice : ℤ → Bool
+is_nice z = int_le (negsuc 19) z && int_le z (pos 19)
+
+-- each number of the line is within its limits, at this many processors
+abbrev pub is_in_limits : ℕ → Shape → Bool
+is_in_limits cpus (version_line n) = true
+is_in_limits cpus (cpus_line n) = nat_le 1 n && nat_le n 64
+is_in_limits cpus (start_line seconds nanoseconds) = nat_le seconds 4294967295
+is_in_limits cpus (floor_line cpu floor) = nat_lt cpu cpus && is_value floor
+is_in_limits cpus (task_line task) = is_pid task.pid && is_nice task.nice && nat_lt task.cpu cpus && is_value task.v
+is_in_limits cpus (claim_line claim) = nat_le 1 claim.line && nat_le claim.line 4294967295 && is_pid claim.pid && is_value claim.v
+
+-- a floor's processor is the next one, and a task's pid is not less than the last task's
+abbrev pub is_next : Said → Shape → Bool
+is_next said (floor_line cpu floor) = cpu == length (said.floors)
+is_next said (task_line task) = option_map_or (λ last. nat_le last.pid task.pid) (last_task said) true
+is_next said _ = true
+
+-- a task's pid is not the last task's
+abbrev pub is_new : Said → Shape → Bool
+is_new said (task_line task) = option_map_or (λ last. not (last.pid == task.pid)) (last_task said) true
+is_new said _ = true
+
+-- a running task finds its processor free
+abbrev pub is_alone : Said → Shape → Bool
+is_alone said (task_line task) = not (is_run task.place && is_taken said.tasks task.cpu)
+is_alone said _ = true
+
+-- a claim's line is above the last claim's
+abbrev pub is_above : Said → Shape → Bool
+is_above said (claim_line claim) = option_map_or (λ last. nat_lt last.line claim.line) (last_claim said) true
+is_above said _ = true
+
+-- the cause of the first test that what the line says fails, if it fails one
+abbrev pub fault_of : Said → Shape → Option CompanionCause
+fault_of said x =
+    if not (is_in_turn said x) then Some Order
+    else if not (is_in_limits (unwrap_or (said.cpus) 0) x) then Some NumberRange
+    else if not (is_next said x) then Some Order
+    else if not (is_new said x) then Some TwiceNamed
+    else if not (is_alone said x) then Some TwiceRunning
+    else if not (is_above said x) then Some LineOrder
+    else None
+
+-- what a line with a shape comes to: what it says, or why it is bad
+abbrev pub tested : Said → Shape → Result Shape CompanionCause
+tested said x = option_map_or (λ cause. Err cause) (fault_of said x) (Ok x)
+
+-- what the first line comes to
+abbrev pub IsJudgedFirst : List ℕ → Result Shape CompanionCause → Type 0
+IsJudgedFirst line r =
+    ((line ≡ first_line) × (r ≡ Ok (version_line 1)))
+    ⊎ ((line ≢ first_line) × (r ≡ Err Version))
+
+-- what a later line comes to, after what was said
+abbrev pub IsJudgedLater : Said → List ℕ → Result Shape CompanionCause → Type 0
+IsJudgedLater said line r =
+    (IsGroup line × (r ≡ Err Group))
+    ⊎ ((¬ IsGroup line) × ((x : Shape) → ¬ IsSpelled line x) × (r ≡ Err BadLine))
+    ⊎ ((¬ IsGroup line) × ((x : Shape) × IsSpelled line x × (r ≡ tested said x)))
+
+-- what a line that is no comment comes to, after what was said: what it says, or why it is bad
+abbrev pub IsJudged : Said → List ℕ → Result Shape CompanionCause → Type 0
+IsJudged said line r = MatchBool said.begun (IsJudgedLater said line r) (IsJudgedFirst line r)

@@ -1,0 +1,66 @@
+-- How the lines of a companion are spelled (this project's companion format, version 1).
+use Rattle.std.specs.Prelude.{◌≡◌, ℕ, ℤ, pos, neg_ℤ, List, [], ◌∷◌, ◌++◌, codes, ◌⊎◌}
+use Rattle.std.specs.List.{join_with_byte}
+use Rattle.cfs_model.specs.declared.task.Place.{Place}
+use Rattle.cfs_model.specs.declared.task.Place.TheVariants.{Run, Wait, Rest}
+use Rattle.cfs_model.specs.declared.claim.ClaimSort.{ClaimSort}
+use Rattle.cfs_model.specs.declared.claim.ClaimSort.TheVariants.{At, Pass}
+use Rattle.ftrace_line.specs.Numerals.{IsNumeral, value_of}
+use Rattle.ftrace_line.specs.Time.{IsTime}
+use Rattle.companion_file.specs.Shape.{Shape, version_line, cpus_line, start_line, floor_line, task_line, claim_line}
+
+-- the first line of every companion of this version
+abbrev pub first_line : List ℕ
+first_line = codes "cfs-companion 1"
+
+-- a comment is empty or begins with `#`
+abbrev pub IsComment : List ℕ → Type 0
+IsComment [] = Unit {0}
+IsComment (b ∷ bs) = b ≡ 35
+
+-- a line about a control group
+abbrev pub IsGroup : List ℕ → Type 0
+IsGroup line = (line ≡ codes "cgroup") ⊎ ((rest : List ℕ) × (line ≡ codes "cgroup " ++ rest))
+
+-- words with exactly one space between each two
+abbrev pub spaced : List (List ℕ) → List ℕ
+spaced words = join_with_byte 32 words
+
+-- a number is one or more digits, leading zeros allowed
+pub record IsNumber (word : List ℕ) (n : ℕ) : Type 0 where
+  pub digits : IsNumeral word
+  pub value : n ≡ value_of word
+
+-- an integer is a number, or `-` and a number
+abbrev pub IsInteger : List ℕ → ℤ → Type 0
+IsInteger word z =
+    ((n : ℕ) × IsNumber word n × (z ≡ pos n))
+    ⊎ ((digits : List ℕ) × (n : ℕ) × IsNumber digits n × (word ≡ codes "-" ++ digits) × (z ≡ neg_ℤ (pos n)))
+
+-- the words for the places
+abbrev pub place_word : Place → List ℕ
+place_word Run = codes "run"
+place_word Wait = codes "wait"
+place_word Rest = codes "rest"
+
+-- the first words of claims
+abbrev pub sort_word : ClaimSort → List ℕ
+sort_word At = codes "at"
+sort_word Pass = codes "pass"
+
+-- the line has the shape, and says this
+abbrev pub IsSpelled : List ℕ → Shape → Type 0
+IsSpelled line (version_line n) =
+    (a : List ℕ) × IsNumber a n × (line ≡ spaced (codes "cfs-companion" ∷ a ∷ []))
+IsSpelled line (cpus_line n) =
+    (a : List ℕ) × IsNumber a n × (line ≡ spaced (codes "cpus" ∷ a ∷ []))
+IsSpelled line (start_line seconds nanoseconds) =
+    (a : List ℕ) × IsTime a seconds nanoseconds × (line ≡ spaced (codes "start" ∷ a ∷ []))
+IsSpelled line (floor_line cpu floor) =
+    (a b : List ℕ) × IsNumber a cpu × IsInteger b floor × (line ≡ spaced (codes "floor" ∷ a ∷ b ∷ []))
+IsSpelled line (task_line task) =
+    (a b c d : List ℕ) × IsNumber a task.pid × IsInteger b task.nice × IsNumber c task.cpu × IsInteger d task.v
+    × (line ≡ spaced (codes "task" ∷ a ∷ b ∷ c ∷ place_word task.place ∷ d ∷ []))
+IsSpelled line (claim_line claim) =
+    (a b c : List ℕ) × IsNumber a claim.line × IsNumber b claim.pid × IsInteger c claim.v
+    × (line ≡ spaced (sort_word claim.sort ∷ a ∷ b ∷ c ∷ []))

@@ -1,0 +1,78 @@
+ghost use Rattle.std.specs.Prelude.{◌≡◌};
+ghost use Rattle.companion_file.specs.Reading.{IsInOrder};
+
+use crate::claims::Claims;
+use crate::floors::Floors;
+use crate::tasks::Tasks;
+use cfs_model::{Claim, Task};
+
+/// The start state of a schedule, and the virtual runtimes that are claimed of it.
+#[derive(Debug, Drop)]
+pub struct Companion {
+    cpus: u32,
+    start: u64,
+    floors: Floors,
+    tasks: Tasks,
+    claims: Claims,
+    pub ghost in_order: { IsInOrder (record { cpus = cpus; start = start; floors = floors; tasks = tasks; claims = claims }) },
+}
+
+impl Companion {
+    pub(crate) fn new(
+        cpus: u32,
+        start: u64,
+        floors: Floors,
+        tasks: Tasks,
+        claims: Claims,
+    ) -> Companion
+        requires { IsInOrder (record { cpus = cpus; start = start; floors = floors; tasks = tasks; claims = claims }) }
+        ensures cpus { result.cpus ≡ cpus }
+        ensures start { result.start ≡ start }
+        ensures floors { result.floors ≡ floors }
+        ensures tasks { result.tasks ≡ tasks }
+        ensures claims { result.claims ≡ claims }
+    {
+        Companion {
+            cpus,
+            start,
+            floors,
+            tasks,
+            claims,
+        }
+    }
+
+    /// The number of processors, 1 to 64.
+    pub fn cpus(&self) -> u32
+        ensures { result ≡ self.now.cpus }
+    {
+        self.cpus
+    }
+
+    /// The start, in nanoseconds.
+    pub fn start(&self) -> u64
+        ensures { result ≡ self.now.start }
+    {
+        self.start
+    }
+
+    /// The floor of each processor, from processor 0 on, in virtual nanoseconds, signed.
+    pub fn floors(&self) -> &[i64]
+        ensures { result.now ≡ self.now.floors }
+    {
+        self.floors.as_slice()
+    }
+
+    /// The tasks of the start state, by rising pid.
+    pub fn tasks(&self) -> &[Task]
+        ensures { result.now ≡ self.now.tasks }
+    {
+        self.tasks.as_slice()
+    }
+
+    /// The claims, by rising line of the trace.
+    pub fn claims(&self) -> &[Claim]
+        ensures { result.now ≡ self.now.claims }
+    {
+        self.claims.as_slice()
+    }
+}

@@ -1,0 +1,188 @@
+ghost use Rattle.std.specs.Prelude.{◌≡◌, ◌≤◌, ◌<◌, ℕ, ◌&&◌, nat_le, nat_lt, not, true, false, ◌==◌, length, unwrap_or, Some, MatchOption, [], IsTrue, slice_set};
+ghost use Rattle.std.specs.Option.{option_map_or};
+ghost use Rattle.cfs_model.specs.declared.task.Task.{Task};
+ghost use Rattle.cfs_model.specs.declared.claim.Claim.{Claim};
+ghost use Rattle.companion_file.specs.Shape.{task_line};
+ghost use Rattle.companion_file.specs.Earlier.{summed, has_all_floors, last_task, last_claim, is_run, is_taken};
+ghost use Rattle.companion_file.specs.Tests.{is_in_limits};
+ghost use Rattle.companion_file.specs.Draft.{Adds, KeepsOrder, IsWhole};
+ghost use Rattle.companion_file.specs.Companion.{shown};
+
+mod saying;
+
+use crate::claims::Claims;
+use crate::companion::Companion;
+use crate::fault::Refusal;
+use crate::floors::Floors;
+use crate::limits::{MOST_CPUS, is_pid, is_running, is_value, nice_of};
+use crate::tasks::Tasks;
+use cfs_model::{Claim, Place, Task};
+use std::alloc::Global;
+use std::marker::Model;
+
+/// What the lines so far have said.
+#[derive(Drop)]
+pub(crate) struct Draft {
+    begun: bool,
+    cpus: Option<u32>,
+    start: Option<u64>,
+    floors: Vec<i64>,
+    tasks: Vec<Task>,
+    claims: Vec<Claim>,
+    // By processor, whether a task runs there.
+    running: [bool; MOST_CPUS],
+}
+
+impl Model for Draft {
+    ghost use Rattle.companion_file.specs.Earlier.{Said};
+    ghost use Rattle.companion_file.specs.Draft.{KnowsRunning};
+
+    ghost Value = { Said };
+
+    ghost view = { λ d. record { begun = d.begun; cpus = d.cpus; start = d.start; floors = d.floors.items; tasks = d.tasks.items; claims = d.claims.items } };
+
+    ghost invariant = { λ d. KnowsRunning d.cpus d.tasks.items d.running };
+}
+
+fn occupy(running: &mut [bool; MOST_CPUS], cpu: u32)
+    requires { cpu < 64 }
+    ensures { running.new ≡ slice_set running.old cpu true }
+{
+    running[cpu as usize] = true;
+}
+
+impl Draft {
+    pub(crate) fn new(alloc: Global) -> Draft
+        ensures { result ≡ summed [] }
+    {
+        Draft {
+            begun: false,
+            cpus: None,
+            start: None,
+            floors: Vec::new(alloc),
+            tasks: Vec::new(alloc),
+            claims: Vec::new(alloc),
+            running: [false; MOST_CPUS],
+        }
+    }
+
+    fn has_all_floors(&self) -> bool
+        ensures { result ≡ has_all_floors self.now }
+    {
+        match self.cpus {
+            None => false,
+            Some(cpus) => self.floors.len() == cpus as usize,
+        }
+    }
+
+    fn has_cpu(&self, cpu: u64) -> bool
+        ensures below { result ≡ nat_lt cpu (unwrap_or self.now.cpus 0) }
+        ensures few { IsTrue result → cpu < 64 }
+    {
+        cpu < u64::from(self.cpus.unwrap_or(0))
+    }
+
+    fn last_task(&self) -> Option<Task>
+        ensures { result ≡ last_task self.now }
+    {
+        self.tasks.last().copied()
+    }
+
+    fn last_claim(&self) -> Option<Claim>
+        ensures { result ≡ last_claim self.now }
+    {
+        self.claims.last().copied()
+    }
+
+    fn is_pid_next(&self, pid: u64) -> bool
+        ensures { result ≡ option_map_or (λ last. nat_le last.pid pid) (last_task self.now) true }
+    {
+        match self.last_task() {
+            None => true,
+            Some(last) => u64::from(last.pid) <= pid,
+        }
+    }
+
+    fn is_pid_new(&self, pid: u64) -> bool
+        ensures { result ≡ option_map_or (λ last. not (last.pid == pid)) (last_task self.now) true }
+    {
+        match self.last_task() {
+            None => true,
+            Some(last) => u64::from(last.pid) != pid,
+        }
+    }
+
+    fn is_line_above(&self, line: u64) -> bool
+        ensures { result ≡ option_map_or (λ last. nat_lt last.line line) (last_claim self.now) true }
+    {
+        match self.last_claim() {
+            None => true,
+            Some(last) => u64::from(last.line) < line,
+        }
+    }
+
+    fn task_within(&self, pid: u64, nice: i64, cpu: u64, place: Place, v: i64) -> Option<Task>
+        ensures { let task : Task = record { pid = pid; nice = nice; cpu = cpu; place = place; v = v } in
+            MatchOption result (is_in_limits (unwrap_or self.now.cpus 0) (task_line task) ≡ false)
+            (λ within. (within ≡ task) × (is_in_limits (unwrap_or self.now.cpus 0) (task_line task) ≡ true)) }
+    {
+        let nice = nice_of(nice)?;
+        if is_pid(pid) && self.has_cpu(cpu) && is_value(v) {
+            Some(Task {
+                pid: pid as u32,
+                nice,
+                cpu: cpu as u32,
+                place,
+                v,
+            })
+        } else {
+            None
+        }
+    }
+
+    fn is_free(&self, task: &Task) -> bool
+        requires { task.now.cpu < unwrap_or self.now.cpus 0 }
+        ensures { result ≡ not (is_run task.now.place && is_taken self.now.tasks task.now.cpu) }
+    {
+        !(is_running(task.place) && self.running[task.cpu as usize])
+    }
+
+    fn add_task(&mut self, task: Task) -> Result<(), Refusal>
+        requires { task.cpu < unwrap_or self.old.cpus 0 }
+        ensures { Adds self.old (task_line task) result self.new }
+    {
+        let cpu = task.cpu;
+        let runs = is_running(task.place);
+        self.tasks.push(task)?;
+        if runs {
+            occupy(&mut self.running, cpu);
+        }
+        Ok(())
+    }
+
+    /// What the lines said, once each processor has its floor.
+    pub(crate) fn finish(self) -> Option<Companion>
+        requires { KeepsOrder self }
+        ensures { MatchOption result (has_all_floors self ≡ false) (λ c. IsWhole self (shown c)) }
+    {
+        if !self.has_all_floors() {
+            return None;
+        }
+        let Draft {
+            begun: _,
+            cpus,
+            start,
+            floors,
+            tasks,
+            claims,
+            running: _,
+        } = self;
+        Some(Companion::new(
+            cpus?,
+            start?,
+            Floors::new(floors),
+            Tasks::new(tasks),
+            Claims::new(claims),
+        ))
+    }
+}

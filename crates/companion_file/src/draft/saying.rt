@@ -1,0 +1,150 @@
+ghost use Rattle.std.specs.Prelude.{◌≡◌};
+ghost use Rattle.companion_file.specs.Shape.{cpus_line, start_line, floor_line, task_line, claim_line};
+ghost use Rattle.companion_file.specs.Draft.{Follows, TakesFirst, Takes};
+ghost use Rattle.companion_file.specs.Statement.{stated};
+
+use crate::draft::Draft;
+use crate::fault::{CompanionCause, Refusal};
+use crate::limits::{LAST_SECOND, MOST_CPUS, claim_within, is_value};
+use crate::marks::{is_comment, is_first, is_group};
+use crate::statement::Statement;
+use crate::version_one::statement_of;
+use cfs_model::{ClaimSort, Place};
+use ftrace_line::time::Time;
+
+impl Draft {
+    fn say_cpus(&mut self, count: u64) -> Result<(), Refusal>
+        ensures { Follows self.old (cpus_line count) result self.new }
+    {
+        if self.cpus.is_some() {
+            return Err(Refusal::Bad(CompanionCause::Order));
+        }
+        if count < 1 || count > MOST_CPUS as u64 {
+            return Err(Refusal::Bad(CompanionCause::NumberRange));
+        }
+        self.cpus = Some(count as u32);
+        Ok(())
+    }
+
+    fn say_start(&mut self, time: Time) -> Result<(), Refusal>
+        ensures { Follows self.old (start_line time.seconds time.nanoseconds) result self.new }
+    {
+        if self.cpus.is_none() || self.start.is_some() {
+            return Err(Refusal::Bad(CompanionCause::Order));
+        }
+        if time.seconds > LAST_SECOND {
+            return Err(Refusal::Bad(CompanionCause::NumberRange));
+        }
+        self.start = Some(time.seconds * 1_000_000_000 + time.nanoseconds);
+        Ok(())
+    }
+
+    fn say_floor(&mut self, cpu: u64, floor: i64) -> Result<(), Refusal>
+        ensures { Follows self.old (floor_line cpu floor) result self.new }
+    {
+        if self.start.is_none() || self.has_all_floors() {
+            return Err(Refusal::Bad(CompanionCause::Order));
+        }
+        if !self.has_cpu(cpu) || !is_value(floor) {
+            return Err(Refusal::Bad(CompanionCause::NumberRange));
+        }
+        if cpu != self.floors.len() as u64 {
+            return Err(Refusal::Bad(CompanionCause::Order));
+        }
+        self.floors.push(floor)?;
+        Ok(())
+    }
+
+    fn say_task(
+        &mut self,
+        pid: u64,
+        nice: i64,
+        cpu: u64,
+        place: Place,
+        v: i64,
+    ) -> Result<(), Refusal>
+        ensures { Follows self.old (task_line (record { pid = pid; nice = nice; cpu = cpu; place = place; v = v })) result self.new }
+    {
+        if !self.has_all_floors() || !self.claims.is_empty() {
+            return Err(Refusal::Bad(CompanionCause::Order));
+        }
+        let Some(task) = self.task_within(pid, nice, cpu, place, v) else {
+            return Err(Refusal::Bad(CompanionCause::NumberRange));
+        };
+        if !self.is_pid_next(pid) {
+            return Err(Refusal::Bad(CompanionCause::Order));
+        }
+        if !self.is_pid_new(pid) {
+            return Err(Refusal::Bad(CompanionCause::TwiceNamed));
+        }
+        if !self.is_free(&task) {
+            return Err(Refusal::Bad(CompanionCause::TwiceRunning));
+        }
+        self.add_task(task)
+    }
+
+    #[inline(always)]
+    fn say_claim(&mut self, line: u64, pid: u64, v: i64, sort: ClaimSort) -> Result<(), Refusal>
+        ensures { Follows self.old (claim_line (record { line = line; pid = pid; v = v; sort = sort })) result self.new }
+    {
+        if !self.has_all_floors() {
+            return Err(Refusal::Bad(CompanionCause::Order));
+        }
+        let Some(claim) = claim_within(line, pid, v, sort) else {
+            return Err(Refusal::Bad(CompanionCause::NumberRange));
+        };
+        if !self.is_line_above(line) {
+            return Err(Refusal::Bad(CompanionCause::LineOrder));
+        }
+        self.claims.push(claim)?;
+        Ok(())
+    }
+
+    fn say(&mut self, statement: Statement) -> Result<(), Refusal>
+        ensures { Follows self.old (stated statement) result self.new }
+    {
+        match statement {
+            Statement::Version => Err(Refusal::Bad(CompanionCause::Order)),
+            Statement::Cpus(count) => self.say_cpus(count),
+            Statement::Start(time) => self.say_start(time),
+            Statement::Floor { cpu, floor } => self.say_floor(cpu, floor),
+            Statement::Task {
+                pid,
+                nice,
+                cpu,
+                place,
+                v,
+            } => self.say_task(pid, nice, cpu, place, v),
+            Statement::Claim { line, pid, v, sort } => self.say_claim(line, pid, v, sort),
+        }
+    }
+
+    fn take_first(&mut self, line: &[u8]) -> Result<(), Refusal>
+        ensures { TakesFirst self.old line.now result self.new }
+    {
+        if !is_first(line) {
+            return Err(Refusal::Bad(CompanionCause::Version));
+        }
+        self.begun = true;
+        Ok(())
+    }
+
+    /// Takes the next line, without its line feed.
+    pub(crate) fn take(&mut self, line: &[u8]) -> Result<(), Refusal>
+        ensures { Takes self.old line.now result self.new }
+    {
+        if is_comment(line) {
+            return Ok(());
+        }
+        if !self.begun {
+            return self.take_first(line);
+        }
+        if is_group(line) {
+            return Err(Refusal::Bad(CompanionCause::Group));
+        }
+        let Some(statement) = statement_of(line) else {
+            return Err(Refusal::Bad(CompanionCause::BadLine));
+        };
+        self.say(statement)
+    }
+}

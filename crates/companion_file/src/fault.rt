@@ -1,0 +1,87 @@
+ghost use Rattle.std.specs.Prelude.{◌≡◌};
+ghost use Rattle.companion_file.specs.declared.fault.CompanionFault.TheVariants.{Memory};
+ghost use Rattle.companion_file.specs.declared.fault.Refusal.TheVariants as refusals;
+
+use std::alloc::{AllocError, AllocFailed};
+
+/// What is wrong with the first bad line of a companion, in the order in which a line is tested.
+#[derive(Clone, Copy, Debug, PartialEq, Eq)]
+pub enum CompanionCause {
+    /// The first line names another format or another version of it.
+    Version,
+    /// The line speaks of a control group.
+    Group,
+    /// The line has none of the shapes.
+    BadLine,
+    /// The line may not stand here.
+    Order,
+    /// A number is out of its limits.
+    NumberRange,
+    /// The task was named by the line before.
+    TwiceNamed,
+    /// A task runs at this processor already.
+    TwiceRunning,
+    /// The claim's line is not above the last claim's.
+    LineOrder,
+    /// The text ends before the floor of the last processor.
+    Short,
+}
+
+/// Why a text gave no companion.
+#[derive(Clone, Copy, Debug, PartialEq, Eq)]
+pub enum CompanionFault {
+    Text {
+        /// The line of the companion, from 1, comments counted.
+        line: u64,
+        cause: CompanionCause,
+    },
+    /// A growth was refused.
+    Memory,
+}
+
+impl From<AllocError> for CompanionFault {
+    ghost from_gives = { λ _ e. e ≡ Memory };
+
+    fn from(_refused: AllocError) -> CompanionFault {
+        CompanionFault::Memory
+    }
+}
+
+impl<T: Drop> From<AllocFailed<T>> for CompanionFault {
+    ghost from_gives = { λ _ e. e ≡ Memory };
+
+    fn from(_refused: AllocFailed<T>) -> CompanionFault {
+        CompanionFault::Memory
+    }
+}
+
+/// Why a line was not taken.
+#[derive(Clone, Copy, Debug)]
+pub(crate) enum Refusal {
+    Bad(CompanionCause),
+    /// A growth was refused.
+    Memory,
+}
+
+impl<T: Drop> From<AllocFailed<T>> for Refusal {
+    ghost from_gives = { λ _ e. e ≡ refusals.Memory };
+
+    fn from(_refused: AllocFailed<T>) -> Refusal {
+        Refusal::Memory
+    }
+}
+
+impl Refusal {
+    ghost use Rattle.std.specs.Prelude.{◌≡◌};
+    ghost use Rattle.companion_file.specs.Draft.{fault_at};
+
+    /// The fault of a text whose line was refused.
+    pub(crate) fn at(self, line: u64) -> CompanionFault
+        ensures { result ≡ fault_at line self }
+    {
+        match self {
+            Refusal::Bad(cause) => CompanionFault::Text { line, cause },
+            Refusal::Memory => CompanionFault::Memory,
+        }
+    }
+}

@@ -1,0 +1,106 @@
+ghost use Rattle.std.specs.Prelude.{◌≡◌};
+ghost use Rattle.ftrace_line.specs.Reading.{Gives, after_text, numeral_at};
+ghost use Rattle.companion_file.specs.LineReading.{number_field, number_whole, integer_at, integer_field, integer_whole, place_field};
+
+use cfs_model::Place;
+use ftrace_line::numerals::number_at;
+
+/// A number above each virtual runtime. Larger ones are read as this one.
+const BEYOND: u64 = (1 << 62) + 1;
+
+/// What follows these bytes at the front.
+#[inline(always)]
+pub(crate) fn after<'a>(text: &'a [u8], front: &[u8]) -> Option<&'a [u8]>
+    ensures { Gives (λ x. x.now) result (after_text front.now text.now) }
+{
+    text.strip_prefix(front)
+}
+
+#[inline(always)]
+#[tactic(auto, unfolding(ftrace_line::specs::Reading::numeral_at))]
+fn numeral(text: &[u8]) -> Option<(u64, &[u8])>
+    ensures { Gives (λ x. (x.0, x.1.now)) result (numeral_at text.now) }
+{
+    let number = number_at(text);
+    if number.digits == 0 {
+        None
+    } else {
+        Some((number.value, number.rest))
+    }
+}
+
+/// A number and the space behind it.
+#[inline(always)]
+#[tactic(auto, unfolding(crate::specs::LineReading::number_field))]
+pub(crate) fn number_field(text: &[u8]) -> Option<(u64, &[u8])>
+    ensures { Gives (λ x. (x.0, x.1.now)) result (number_field text.now) }
+{
+    let (number, rest) = numeral(text)?;
+    let rest = after(rest, b" ")?;
+    Some((number, rest))
+}
+
+/// A number with nothing behind it.
+#[inline(always)]
+#[tactic(auto, unfolding(crate::specs::LineReading::number_whole))]
+pub(crate) fn number_whole(text: &[u8]) -> Option<u64>
+    ensures { Gives (λ n. n) result (number_whole text.now) }
+{
+    let (number, rest) = numeral(text)?;
+    if rest.is_empty() { Some(number) } else { None }
+}
+
+#[inline(always)]
+#[tactic(auto, unfolding(crate::specs::LineReading::integer_at))]
+fn integer(text: &[u8]) -> Option<(i64, &[u8])>
+    ensures { Gives (λ x. (x.0, x.1.now)) result (integer_at text.now) }
+{
+    match after(text, b"-") {
+        None => {
+            let (number, rest) = numeral(text)?;
+            Some((number.min(BEYOND) as i64, rest))
+        }
+        Some(digits) => {
+            let (number, rest) = numeral(digits)?;
+            Some((-(number.min(BEYOND) as i64), rest))
+        }
+    }
+}
+
+/// An integer and the space behind it.
+#[inline(always)]
+#[tactic(auto, unfolding(crate::specs::LineReading::integer_field))]
+pub(crate) fn integer_field(text: &[u8]) -> Option<(i64, &[u8])>
+    ensures { Gives (λ x. (x.0, x.1.now)) result (integer_field text.now) }
+{
+    let (integer, rest) = integer(text)?;
+    let rest = after(rest, b" ")?;
+    Some((integer, rest))
+}
+
+/// An integer with nothing behind it.
+#[inline(always)]
+#[tactic(auto, unfolding(crate::specs::LineReading::integer_whole))]
+pub(crate) fn integer_whole(text: &[u8]) -> Option<i64>
+    ensures { Gives (λ z. z) result (integer_whole text.now) }
+{
+    let (integer, rest) = integer(text)?;
+    if rest.is_empty() { Some(integer) } else { None }
+}
+
+/// A place and the space behind it.
+#[inline(always)]
+#[tactic(auto, unfolding(crate::specs::LineReading::place_field))]
+pub(crate) fn place_field(text: &[u8]) -> Option<(Place, &[u8])>
+    ensures { Gives (λ x. (x.0, x.1.now)) result (place_field text.now) }
+{
+    if let Some(rest) = after(text, b"run ") {
+        Some((Place::Run, rest))
+    } else if let Some(rest) = after(text, b"wait ") {
+        Some((Place::Wait, rest))
+    } else if let Some(rest) = after(text, b"rest ") {
+        Some((Place::Rest, rest))
+    } else {
+        None
+    }
+}

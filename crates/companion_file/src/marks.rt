@@ -1,0 +1,37 @@
+ghost use Rattle.std.specs.Prelude.{◌≡◌, ◌↔◌, IsTrue};
+ghost use Rattle.companion_file.specs.VersionOne.{first_line, IsComment, IsGroup};
+
+use crate::fields::after;
+
+/// An empty line is a comment, and so is one that begins with `#`.
+#[inline(always)]
+pub(crate) fn is_comment(line: &[u8]) -> bool
+    ensures { IsTrue result ↔ IsComment line.now }
+{
+    match line {
+        [] => true,
+        [first, ..] => *first == b'#',
+    }
+}
+
+/// The line that names the format and its version.
+pub(crate) fn is_first(line: &[u8]) -> bool
+    ensures { IsTrue result ↔ (line.now ≡ first_line) }
+{
+    match after(line, b"cfs-companion 1") {
+        None => false,
+        Some(rest) => rest.is_empty(),
+    }
+}
+
+/// A line about a control group.
+#[inline(always)]
+pub(crate) fn is_group(line: &[u8]) -> bool
+    ensures { IsTrue result ↔ IsGroup line.now }
+{
+    match after(line, b"cgroup") {
+        None => false,
+        Some([]) => true,
+        Some([next, ..]) => *next == b' ',
+    }
+}

@@ -1,0 +1,60 @@
+ghost use Rattle.std.specs.Prelude.{◌≡◌, ℕ, List, Result, IsErrOf, IfOk};
+ghost use Rattle.ftrace_line.specs.Lines.{lines_of};
+ghost use Rattle.companion_file.specs.declared.fault.CompanionCause.{CompanionCause};
+ghost use Rattle.companion_file.specs.Companion.{CompanionReading, CompanionAnswer, IsRefused, IsRead, IsAnswered, Gives, shown};
+ghost use Rattle.companion_file.specs.Draft.{IsShortAfter};
+
+use crate::companion::Companion;
+use crate::draft::Draft;
+use crate::fault::{CompanionCause, CompanionFault};
+use ftrace_line::lines::next_line;
+use std::alloc::Global;
+
+/// Reads the text of a companion: what it says, or its first bad line.
+pub fn read_companion(alloc: Global, text: &[u8]) -> Result<Companion, CompanionFault>
+    // What is answered is what the text means.
+    ensures answered { IsAnswered text.now result }
+    // A refusal is of the first bad line, or the text ends too soon.
+    ensures refused { (line : ℕ) (cause : CompanionCause) → IsErrOf result (CompanionFault.Text line cause) → IsRefused (lines_of text.now) line cause }
+    // What is read is what all lines say.
+    ensures read { IfOk result (λ c. IsRead (lines_of text.now) (shown c)) }
+    // What the text means is answered, unless a growth was refused.
+    ensures only { (answer : Result CompanionReading (ℕ × CompanionCause)) → CompanionAnswer text.now answer → Gives result answer }
+{
+    companion_of(alloc, text)
+}
+
+/// The companion that the lines make, one line after another.
+fn companion_of(alloc: Global, text: &[u8]) -> Result<Companion, CompanionFault>
+    ensures { IsAnswered text.now result }
+{
+    let mut draft = Draft::new(alloc);
+    let mut rest = text;
+    let mut number = 0;
+    while !rest.is_empty() {
+        let (line, after) = next_line(rest);
+        number += 1;
+        rest = after;
+        if let Err(refusal) = draft.take(line) {
+            return Err(refusal.at(number));
+        }
+    }
+    match draft.finish() {
+        Some(companion) => Ok(companion),
+        None => Err(short_after(number)),
+    }
+}
+
+/// The fault of a text that ends too soon, after so many lines.
+fn short_after(lines: u64) -> CompanionFault
+    ensures { IsShortAfter lines result }
+{
+    match lines.checked_add(1) {
+        Some(line) => CompanionFault::Text {
+            line,
+            cause: CompanionCause::Short,
+        },
+        // No text has so many lines: a slice's bytes are fewer.
+        None => CompanionFault::Memory,
+    }
+}

@@ -1,0 +1,12 @@
+pub mod TextLines
+pub mod Digits
+pub mod Runs
+pub mod Times
+pub mod Words
+pub mod HeadParts
+pub mod Clocks
+pub mod Heads
+pub mod Losses
+pub mod Marks
+pub mod OneReading
+pub mod Answered

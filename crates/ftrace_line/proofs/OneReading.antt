@@ -1,0 +1,108 @@
+-- A line's meaning, both ways. The kinds of line differ in their first byte, so at most one kind fits; a head is read
+-- in one way; and a bounded number is in range where the number itself is.
+use Rattle.std.proofs.Common.{◌≡◌, ℕ, ◌<◌, ◌≤◌, ◌&&◌, ◌⊎◌, true, false, leb, List, [], ◌∷◌, min, None, Result, Ok, Err, refl, sym, ap, ◌∙◌, inl, inr, arith}
+use Rattle.std.proofs.lemmas.Bool.{and_left, and_right, eqb-true, le-leb, lt-leb, false_from_ne_true}
+use Rattle.ftrace_line.specs.declared.kinds.Which.{Which}
+use Rattle.ftrace_line.specs.declared.fault.LineFault.{LineFault}
+use Rattle.ftrace_line.specs.declared.fault.LineFault.TheVariants.{BadHead, NumberRange}
+use Rattle.ftrace_line.specs.Numerals.{many}
+use Rattle.ftrace_line.specs.Head.{IsHead}
+use Rattle.ftrace_line.specs.Line.{LineReading, comment, lost, other, sched, IsComment, IsLost, IsEvent, IsSched, IsOther, IsBeyond, IsHeadless, LineAnswer}
+use Rattle.ftrace_line.specs.Reading.{after_text}
+use Rattle.ftrace_line.specs.Meaning.{after_loss, is_comment, is_end, event_at, event_meaning, head_at, head_meaning, meaning_of}
+use Rattle.ftrace_line.proofs.Runs.{none_from}
+use Rattle.ftrace_line.proofs.Heads.{head_again, head_taken, TakesHead, parts_found}
+use Rattle.ftrace_line.proofs.Losses.{lost_again, lost_taken, end_is}
+use Rattle.ftrace_line.proofs.Marks.{mark_again, unmarked_again}
+
+-- ---- the first byte tells the kinds apart
+
+pub comment_again : (line : List ℕ) → IsComment line → is_comment line ≡ true
+unfolding is_comment
+comment_again line (inl none) = rw none refl
+comment_again line (inr (words, whole)) = rw whole refl
+
+pub comment_taken : (line : List ℕ) → is_comment line ≡ true → IsComment line
+unfolding is_comment
+comment_taken [] e = inl refl
+comment_taken (b ∷ line) e = inr (line, ap (λ c. c ∷ line) (eqb-true b 35 e))
+
+lost_is_no_comment : (line : List ℕ) → IsLost line → is_comment line ≡ false
+unfolding is_comment
+lost_is_no_comment line l = rw l.whole refl
+
+head_is_no_comment : (line : List ℕ) (cpu seconds nanoseconds : ℕ) (text : List ℕ) →
+    IsHead line cpu seconds nanoseconds text → is_comment line ≡ false
+unfolding is_comment
+head_is_no_comment line cpu seconds nanoseconds text h = rw h.whole refl
+
+head_is_no_loss : (line : List ℕ) (cpu seconds nanoseconds : ℕ) (text : List ℕ) →
+    IsHead line cpu seconds nanoseconds text → is_end (after_loss line) ≡ false
+unfolding after_loss after_text
+head_is_no_loss line cpu seconds nanoseconds text h = rw h.whole refl
+
+-- a line with a head means what its head means
+head_decides : (line : List ℕ) (cpu seconds nanoseconds : ℕ) (text : List ℕ) →
+    IsHead line cpu seconds nanoseconds text →
+    meaning_of line ≡ head_meaning (parts_found (min cpu many) (min seconds many) nanoseconds text)
+unfolding meaning_of
+head_decides line cpu seconds nanoseconds text h =
+    rw (head_is_no_comment line cpu seconds nanoseconds text h, head_is_no_loss line cpu seconds nanoseconds text h, head_again line cpu seconds nanoseconds text h) refl
+
+-- ---- what is so is answered
+
+event_only : (line : List ℕ) (cpu time : ℕ) (text : List ℕ) (e : IsEvent line cpu time text) →
+    meaning_of line ≡ Ok (event_meaning (record { cpu = cpu; seconds = e.seconds; nanoseconds = e.nanoseconds; text = text }) (event_at text))
+event_only line cpu time text e =
+    let low_cpu : cpu ≤ 65535 = e.cpu_in_range in
+    let low_seconds : e.seconds ≤ 4294967295 = e.seconds_in_range in
+    let cpu_same : min cpu many ≡ cpu = omega arith in
+    let seconds_same : min e.seconds many ≡ e.seconds = omega arith in
+    head_decides line cpu e.seconds e.nanoseconds text e.head ∙ rw (cpu_same, seconds_same, le-leb cpu 65535 low_cpu, le-leb e.seconds 4294967295 low_seconds) refl
+
+sched_only : (line : List ℕ) (cpu time : ℕ) (which : Which) (rest : List ℕ) → IsSched line cpu time which rest →
+    meaning_of line ≡ Ok (sched cpu time which rest)
+sched_only line cpu time which rest s =
+    event_only line cpu time s.text s.event ∙ rw (s.marked, mark_again which rest, s.event.time_is) refl
+
+other_only : (line : List ℕ) → IsOther line → meaning_of line ≡ Ok other
+other_only line o = event_only line o.cpu o.time o.text o.event ∙ rw (unmarked_again o.text o.unmarked) refl
+
+beyond_test : (cpu seconds : ℕ) → (65535 < cpu) ⊎ (4294967295 < seconds) →
+    (leb (min cpu many) 65535 && leb (min seconds many) 4294967295) ≡ false
+beyond_test cpu seconds (inl high) = and_left (leb (min cpu many) 65535) (leb (min seconds many) 4294967295) (lt-leb (min cpu many) 65535 (omega arith))
+beyond_test cpu seconds (inr high) = and_right (leb (min cpu many) 65535) (leb (min seconds many) 4294967295) (lt-leb (min seconds many) 4294967295 (omega arith))
+
+beyond_only : (line : List ℕ) → IsBeyond line → meaning_of line ≡ Err NumberRange
+beyond_only line b = head_decides line b.cpu b.seconds b.nanoseconds b.text b.head ∙ rw (beyond_test b.cpu b.seconds b.beyond) refl
+
+headless_only : (line : List ℕ) → IsHeadless line → meaning_of line ≡ Err BadHead
+unfolding meaning_of
+headless_only line h =
+    let plain : is_comment line ≡ false = false_from_ne_true (is_comment line) (λ e. h.no_comment (comment_taken line e)) in
+    let present : is_end (after_loss line) ≡ false =
+    false_from_ne_true (is_end (after_loss line)) (λ e. h.no_loss (lost_taken line (end_is (after_loss line) e))) in
+    let none : head_at line ≡ None =
+    none_from (head_at line) (λ parts e. let t : TakesHead line parts = head_taken line parts e in h.no_head t.cpu t.seconds parts.nanoseconds parts.text t.head) in
+    rw (plain, present, none) refl
+
+comment_only : (line : List ℕ) → IsComment line → meaning_of line ≡ Ok comment
+unfolding meaning_of
+comment_only line c = rw (comment_again line c) refl
+
+lost_only : (line : List ℕ) → IsLost line → meaning_of line ≡ Ok lost
+unfolding meaning_of
+lost_only line l = rw (lost_is_no_comment line l, lost_again line l) refl
+
+-- what a line means is what is read
+pub answer_only : (line : List ℕ) (a : Result LineReading LineFault) → LineAnswer line a → meaning_of line ≡ a
+answer_only line (Ok comment) c = comment_only line c
+answer_only line (Ok lost) l = lost_only line l
+answer_only line (Ok other) o = other_only line o
+answer_only line (Ok (sched cpu time which rest)) s = sched_only line cpu time which rest s
+answer_only line (Err BadHead) h = headless_only line h
+answer_only line (Err NumberRange) b = beyond_only line b
+
+-- a line has one meaning at most
+pub answers_agree : (line : List ℕ) (a b : Result LineReading LineFault) → LineAnswer line a → LineAnswer line b → a ≡ b
+answers_agree line a b p q = sym (answer_only line a p) ∙ answer_only line b q

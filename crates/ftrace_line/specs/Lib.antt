@@ -1,0 +1,7 @@
+pub mod Numerals
+pub mod Lines
+pub mod Time
+pub mod Head
+pub mod Line
+pub mod Reading
+pub mod Meaning

@@ -1,0 +1,111 @@
+-- Lines of a trace in ftrace's plain format (ftrace.rst, and the print formats of the scheduler's trace events): a
+-- comment, a count of lost events, or an event behind its head.
+use Rattle.std.specs.Prelude.{◌≡◌, ℕ, ◌+◌, ◌*◌, ◌<◌, ◌≤◌, ◌⊎◌, List, [], ◌∷◌, ◌++◌, codes, Result, Ok, Err}
+use Rattle.ftrace_line.specs.declared.kinds.Which.{Which}
+use Rattle.ftrace_line.specs.declared.kinds.Which.TheVariants.{Switch, Wakeup, WakeupNew, MigrateTask}
+use Rattle.ftrace_line.specs.declared.kinds.Line.{Line}
+use Rattle.ftrace_line.specs.declared.kinds.Line.TheVariants as shown
+use Rattle.ftrace_line.specs.declared.fault.LineFault.{LineFault}
+use Rattle.ftrace_line.specs.declared.fault.LineFault.TheVariants.{BadHead, NumberRange}
+use Rattle.ftrace_line.specs.Numerals.{IsNumeral, joined}
+use Rattle.ftrace_line.specs.Head.{IsHead}
+
+-- what a line means: an event of the scheduler has its head's processor, its time in nanoseconds, its kind, and the
+-- text of its fields
+pub data LineReading : Type 0 where
+  comment : LineReading
+  lost : LineReading
+  other : LineReading
+  sched : (cpu time : ℕ) (which : Which) (rest : List ℕ) → LineReading
+
+-- what a line as the program has it means
+abbrev pub line_shown : Line → LineReading
+line_shown shown.Comment = comment
+line_shown shown.Lost = lost
+line_shown shown.Other = other
+line_shown (shown.Sched event) = sched event.cpu event.time event.which event.rest.now
+
+-- what an answer of the program means
+abbrev pub line_seen : Result Line LineFault → Result LineReading LineFault
+line_seen (Ok line) = Ok (line_shown line)
+line_seen (Err fault) = Err fault
+
+-- a comment: nothing, or `#` and anything
+abbrev pub IsComment : List ℕ → Type 0
+IsComment line = (line ≡ []) ⊎ ((words : List ℕ) × (line ≡ 35 ∷ words))
+
+-- what is said of lost events: their number, or only that there were some
+abbrev pub IsLoss : List ℕ → Type 0
+IsLoss text =
+    (text ≡ codes " [LOST EVENTS]")
+    ⊎ ((number : List ℕ) × IsNumeral number × (text ≡ joined (codes " [LOST " ∷ number ∷ codes " EVENTS]" ∷ [])))
+
+-- a processor's line of lost events
+pub record IsLost (line : List ℕ) : Type 0 where
+  pub processor : List ℕ
+  pub processor_form : IsNumeral processor
+  pub loss : List ℕ
+  pub loss_form : IsLoss loss
+  pub whole : line ≡ joined (codes "CPU:" ∷ processor ∷ loss ∷ [])
+
+-- what the text of each of the four events begins with
+abbrev pub mark_of : Which → List ℕ
+mark_of Switch = codes "sched_switch: "
+mark_of Wakeup = codes "sched_wakeup: "
+mark_of WakeupNew = codes "sched_wakeup_new: "
+mark_of MigrateTask = codes "sched_migrate_task: "
+
+-- the greatest number of a processor
+abbrev pub greatest_cpu : ℕ
+greatest_cpu = 65535
+
+-- the greatest whole seconds of a time
+abbrev pub greatest_seconds : ℕ
+greatest_seconds = 4294967295
+
+-- an event's head in range: its line is the head and then this text, and its time is in nanoseconds
+pub record IsEvent (line : List ℕ) (cpu time : ℕ) (text : List ℕ) : Type 0 where
+  pub seconds : ℕ
+  pub nanoseconds : ℕ
+  pub head : IsHead line cpu seconds nanoseconds text
+  pub cpu_in_range : cpu ≤ greatest_cpu
+  pub seconds_in_range : seconds ≤ greatest_seconds
+  pub time_is : time ≡ seconds * 1000000000 + nanoseconds
+
+-- one of the four events
+pub record IsSched (line : List ℕ) (cpu time : ℕ) (which : Which) (rest : List ℕ) : Type 0 where
+  pub text : List ℕ
+  pub event : IsEvent line cpu time text
+  pub marked : text ≡ mark_of which ++ rest
+
+-- any other event
+pub record IsOther (line : List ℕ) : Type 0 where
+  pub cpu : ℕ
+  pub time : ℕ
+  pub text : List ℕ
+  pub event : IsEvent line cpu time text
+  pub unmarked : (which : Which) (rest : List ℕ) → text ≡ mark_of which ++ rest → ⊥
+
+-- an event whose head has a processor or seconds out of range
+pub record IsBeyond (line : List ℕ) : Type 0 where
+  pub cpu : ℕ
+  pub seconds : ℕ
+  pub nanoseconds : ℕ
+  pub text : List ℕ
+  pub head : IsHead line cpu seconds nanoseconds text
+  pub beyond : (greatest_cpu < cpu) ⊎ (greatest_seconds < seconds)
+
+-- no comment, no line of lost events, and no event behind its head
+pub record IsHeadless (line : List ℕ) : Type 0 where
+  pub no_comment : IsComment line → ⊥
+  pub no_loss : IsLost line → ⊥
+  pub no_head : (cpu seconds nanoseconds : ℕ) (text : List ℕ) → IsHead line cpu seconds nanoseconds text → ⊥
+
+-- what a line means, or why it can't be read
+abbrev pub LineAnswer : List ℕ → Result LineReading LineFault → Type 0
+LineAnswer line (Ok comment) = IsComment line
+LineAnswer line (Ok lost) = IsLost line
+LineAnswer line (Ok other) = IsOther line
+LineAnswer line (Ok (sched cpu time which rest)) = IsSched line cpu time which rest
+LineAnswer line (Err BadHead) = IsHeadless line
+LineAnswer line (Err NumberRange) = IsBeyond line

@@ -1,0 +1,17 @@
+-- The lines of a text (ftrace.rst: the file `trace` has one event a line). A line ends at a line feed, and a last
+-- line without one counts if it isn't empty.
+use Rattle.std.specs.Prelude.{ℕ, Bool, List, [], ◌∷◌, ◌==◌, if◌then◌else◌}
+
+-- the byte that ends a line
+abbrev pub is_line_feed : ℕ → Bool
+is_line_feed byte = byte == 10
+
+-- a byte that stands in the first of these lines
+abbrev pub with_front : ℕ → List (List ℕ) → List (List ℕ)
+with_front byte [] = (byte ∷ []) ∷ []
+with_front byte (line ∷ lines) = (byte ∷ line) ∷ lines
+
+-- the lines of a text, each without its line feed
+unfoldable pub lines_of : List ℕ → List (List ℕ)
+lines_of [] = []
+lines_of (byte ∷ text) = if is_line_feed byte then [] ∷ lines_of text else with_front byte (lines_of text)

@@ -1,0 +1,123 @@
+-- How a line is read from left to right: its head, the words on lost events, the event's mark. Nothing here is to be
+-- believed: it is proved to give the one reading that `Line` states.
+use Rattle.std.specs.Prelude.{ℕ, ◌+◌, ◌*◌, ◌&&◌, ◌==◌, Bool, true, false, List, [], ◌∷◌, codes, length, drop, nat_le, nat_lt, Option, None, Some, Result, Ok, Err, slice_index, if◌then◌else◌}
+use Rattle.std.specs.List.{prefix_len}
+use Rattle.ftrace_line.specs.declared.kinds.Which.{Which}
+use Rattle.ftrace_line.specs.declared.kinds.Which.TheVariants.{Switch, Wakeup, WakeupNew, MigrateTask}
+use Rattle.ftrace_line.specs.declared.fault.LineFault.{LineFault}
+use Rattle.ftrace_line.specs.declared.fault.LineFault.TheVariants.{BadHead, NumberRange}
+use Rattle.ftrace_line.specs.Numerals.{is_digit}
+use Rattle.ftrace_line.specs.Head.{is_space, is_group_byte, is_flag}
+use Rattle.ftrace_line.specs.Line.{LineReading, comment, lost, other, sched, mark_of, greatest_cpu, greatest_seconds}
+use Rattle.ftrace_line.specs.Reading.{◌>>=◌, or_else, after_text, after_run, front_value, time_at}
+
+-- what follows the space, the name and the `-`
+unfoldable pub after_name : List ℕ → Option (List ℕ)
+after_name line =
+    if nat_lt 16 (length line) && (slice_index line 0 == 32 && slice_index line 16 == 45) then Some (drop 17 line) else None
+
+-- what follows a thread group in its brackets
+unfoldable pub after_brackets : List ℕ → Option (List ℕ)
+after_brackets text = do
+  group ← after_text (codes "(") text
+  bracket ← after_run is_group_byte group
+  gap ← after_text (codes ")") bracket
+  after_run is_space gap
+
+-- what follows the column of thread groups, where it is there
+unfoldable pub after_group : List ℕ → Option (List ℕ)
+after_group text = or_else (after_brackets text) (Some text)
+
+-- the processor, and what follows its bracket
+unfoldable pub processor_at : List ℕ → Option (ℕ × List ℕ)
+processor_at text = do
+  digits ← after_text (codes "[") text
+  rest ←
+      if nat_lt (prefix_len is_digit digits) 3 then None else
+      after_text (codes "]") (drop (prefix_len is_digit digits) digits)
+  Some (front_value digits, rest)
+
+-- seconds, nanoseconds, and what follows the time and its colon
+unfoldable pub stamp_at : List ℕ → Option (ℕ × ℕ × List ℕ)
+stamp_at text = do
+  time ← time_at text
+  rest ← after_text (codes ": ") time.2
+  Some (time.0, time.1, rest)
+
+-- the same behind a word of flags
+unfoldable pub flagged_stamp_at : List ℕ → Option (ℕ × ℕ × List ℕ)
+flagged_stamp_at text = do
+  gap ← after_run is_flag text
+  stamp ← after_run is_space gap
+  stamp_at stamp
+
+-- the parts of a head that are looked at, and the event's text
+pub record HeadParts : Type 0 where
+  pub cpu : ℕ
+  pub seconds : ℕ
+  pub nanoseconds : ℕ
+  pub text : List ℕ
+
+unfoldable pub head_at : List ℕ → Option HeadParts
+head_at line = do
+  pid ← after_name line
+  pid_gap ← after_run is_digit pid
+  group ← after_run is_space pid_gap
+  bracket ← after_group group
+  processor ← processor_at bracket
+  clock ← after_run is_space processor.1
+  stamp ← or_else (stamp_at clock) (flagged_stamp_at clock)
+  Some (record { cpu = processor.0; seconds = stamp.0; nanoseconds = stamp.1; text = stamp.2 })
+
+-- what follows the words on a number of lost events
+unfoldable pub after_count : List ℕ → Option (List ℕ)
+after_count text = do
+  digits ← after_text (codes " [LOST ") text
+  words ← after_run is_digit digits
+  after_text (codes " EVENTS]") words
+
+-- what follows the words on lost events
+unfoldable pub after_loss : List ℕ → Option (List ℕ)
+after_loss line = do
+  processor ← after_text (codes "CPU:") line
+  loss ← after_run is_digit processor
+  or_else (after_text (codes " [LOST EVENTS]") loss) (after_count loss)
+
+-- which of the four events a text is, and its fields
+abbrev pub with_mark : Which → Option (List ℕ) → Option (Which × List ℕ)
+with_mark which (Some rest) = Some (which, rest)
+with_mark which None = None
+
+abbrev pub marked_as : Which → List ℕ → Option (Which × List ℕ)
+marked_as which text = with_mark which (after_text (mark_of which) text)
+
+unfoldable pub event_at : List ℕ → Option (Which × List ℕ)
+event_at text =
+    or_else (marked_as Switch text)
+    (or_else (marked_as Wakeup text) (or_else (marked_as WakeupNew text) (marked_as MigrateTask text)))
+
+-- the meaning of a line of this kind
+abbrev pub event_meaning : HeadParts → Option (Which × List ℕ) → LineReading
+event_meaning head None = other
+event_meaning head (Some event) = sched head.cpu (head.seconds * 1000000000 + head.nanoseconds) event.0 event.1
+
+abbrev pub head_meaning : Option HeadParts → Result LineReading LineFault
+head_meaning None = Err BadHead
+head_meaning (Some head) =
+    if nat_le head.cpu greatest_cpu && nat_le head.seconds greatest_seconds
+    then Ok (event_meaning head (event_at head.text)) else Err NumberRange
+
+-- the first byte says which kind of line it is
+unfoldable pub is_comment : List ℕ → Bool
+is_comment [] = true
+is_comment (byte ∷ line) = byte == 35
+
+abbrev pub is_end : Option (List ℕ) → Bool
+is_end None = false
+is_end (Some []) = true
+is_end (Some (byte ∷ text)) = false
+
+unfoldable pub meaning_of : List ℕ → Result LineReading LineFault
+meaning_of line =
+    if is_comment line then Ok comment else
+    (if is_end (after_loss line) then Ok lost else head_meaning (head_at line))

@@ -1,0 +1,68 @@
+ghost use Rattle.std.specs.Prelude.{◌≡◌, ◌≤◌, ◌==◌, ◌∷◌, [], length, drop, if◌then◌else◌, Some, None};
+ghost use Rattle.std.specs.List.{prefix_len};
+ghost use Rattle.ftrace_line.specs.Numerals.{is_digit};
+ghost use Rattle.ftrace_line.specs.Head.{is_space, is_group_byte, is_flag};
+ghost use Rattle.ftrace_line.specs.Reading.{Gives, after_text, after_run};
+
+use crate::numerals::digit_count;
+
+/// What follows this byte at the front.
+#[inline(always)]
+#[tactic(auto, unfolding(crate::specs::Reading::after_text))]
+pub(crate) fn after_byte(text: &[u8], byte: u8) -> Option<&[u8]>
+    ensures { Gives (λ x. x.now) result (after_text (byte ∷ []) text.now) }
+{
+    match text {
+        [first, rest @ ..] if *first == byte => Some(rest),
+        _ => None,
+    }
+}
+
+/// What follows one or more digits.
+#[inline(always)]
+#[tactic(auto, unfolding(crate::specs::Reading::after_run))]
+pub(crate) fn after_digits(text: &[u8]) -> Option<&[u8]>
+    ensures { Gives (λ x. x.now) result (after_run is_digit text.now) }
+{
+    beyond(text, digit_count(text))
+}
+
+/// What follows one or more spaces.
+#[inline(always)]
+#[tactic(auto, unfolding(crate::specs::Reading::after_run))]
+pub(crate) fn after_gap(text: &[u8]) -> Option<&[u8]>
+    ensures { Gives (λ x. x.now) result (after_run is_space text.now) }
+{
+    beyond(text, gap_width(text))
+}
+
+/// What follows so many bytes, where there are some.
+#[inline(always)]
+pub(crate) fn beyond(text: &[u8], count: usize) -> Option<&[u8]>
+    requires { count ≤ length text.now }
+    ensures { Gives (λ x. x.now) result (if count == 0 then None else Some (drop count text.now)) }
+{
+    if count == 0 {
+        None
+    } else {
+        Some(&text[count..])
+    }
+}
+
+/// How many spaces a text begins with.
+#[inline(always)]
+#[tactic(auto, using(crate::proofs::Runs::prefix_within))]
+fn gap_width(text: &[u8]) -> usize
+    ensures count { result ≡ prefix_len is_space text.now }
+    ensures within { result ≤ length text.now }
+{
+    text.iter().take_while(|byte| **byte == b' ').count()
+}
+
+/// What follows these bytes at the front.
+#[inline(always)]
+pub(crate) fn after_front<'a>(text: &'a [u8], front: &[u8]) -> Option<&'a [u8]>
+    ensures { Gives (λ x. x.now) result (after_text front.now text.now) }
+{
+    text.strip_prefix(front)
+}

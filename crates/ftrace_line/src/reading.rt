@@ -1,0 +1,130 @@
+ghost use Rattle.std.specs.Prelude.{◌≡◌, ◌∷◌, [], List, ℕ, ◌↔◌, IsErrOf, codes, Result};
+ghost use Rattle.ftrace_line.specs.declared.kinds.Which.TheVariants.{Switch};
+ghost use Rattle.ftrace_line.specs.declared.fault.LineFault.{LineFault as TheFault};
+ghost use Rattle.ftrace_line.specs.Line.{LineReading, LineAnswer, IsHeadless, IsBeyond, line_seen};
+ghost use Rattle.ftrace_line.specs.Reading.{Gives, after_text};
+ghost use Rattle.ftrace_line.specs.Meaning.{after_count, after_loss, event_at, event_meaning, is_comment, is_end, meaning_of, marked_as};
+
+use crate::fault::LineFault;
+use crate::head::{HeadParts, head_at};
+use crate::kinds::{Line, Sched, Which};
+use crate::pieces::{after_digits, after_front};
+
+/// The greatest number of a processor.
+const GREATEST_CPU: u64 = 65_535;
+
+/// The greatest whole seconds of a time.
+const GREATEST_SECONDS: u64 = 4_294_967_295;
+
+/// Nanoseconds in a second.
+const NANOSECONDS_A_SECOND: u64 = 1_000_000_000;
+
+/// What a line of a trace means. The line is given without its line feed.
+///
+/// The format is ftrace's plain one: a comment is empty or begins with `#`; a line of lost events is `CPU:0 [LOST EVENTS]`
+/// or `CPU:0 [LOST 12 EVENTS]`; an event stands behind a head.
+pub fn read_line<'a>(line: &'a [u8]) -> Result<Line<'a>, LineFault>
+    ensures answers { LineAnswer line.now (line_seen result) }
+    ensures bad { IsErrOf result LineFault.BadHead ↔ IsHeadless line.now }
+    ensures range { IsErrOf result LineFault.NumberRange ↔ IsBeyond line.now }
+{
+    meaning_of(line)
+}
+
+/// A line has at most one meaning, and that or one fault.
+pub fn one_reading()
+    ensures { (line : List ℕ) (a b : Result LineReading TheFault) → LineAnswer line a → LineAnswer line b → a ≡ b }
+{}
+
+/// What a line means, read from left to right.
+#[inline(always)]
+#[tactic(auto, unfolding(crate::specs::Meaning::meaning_of))]
+fn meaning_of(line: &[u8]) -> Result<Line<'_>, LineFault>
+    ensures { line_seen result ≡ meaning_of line.now }
+{
+    if is_comment(line) {
+        return Ok(Line::Comment);
+    }
+    if is_lost(line) {
+        return Ok(Line::Lost);
+    }
+    let head = head_at(line).ok_or(LineFault::BadHead)?;
+    if head.cpu > GREATEST_CPU || head.time.seconds > GREATEST_SECONDS {
+        return Err(LineFault::NumberRange);
+    }
+    Ok(match event_at(head.text) {
+        Some((which, rest)) => Line::Sched(Sched {
+            cpu: head.cpu as u32,
+            time: head.time.seconds * NANOSECONDS_A_SECOND + head.time.nanoseconds,
+            which,
+            rest,
+        }),
+        None => Line::Other,
+    })
+}
+
+/// Whether a line is a comment.
+#[inline(always)]
+#[tactic(auto, unfolding(crate::specs::Meaning::is_comment))]
+fn is_comment(line: &[u8]) -> bool
+    ensures { result ≡ is_comment line.now }
+{
+    match line {
+        [] => true,
+        [first, ..] => *first == b'#',
+    }
+}
+
+/// Whether a line says that a processor lost events.
+#[inline(always)]
+fn is_lost(line: &[u8]) -> bool
+    ensures { result ≡ is_end (after_loss line.now) }
+{
+    match after_loss(line) {
+        Some([]) => true,
+        _ => false,
+    }
+}
+
+/// What follows the words on lost events.
+#[inline(always)]
+#[tactic(auto, unfolding(crate::specs::Meaning::after_loss))]
+fn after_loss(line: &[u8]) -> Option<&[u8]>
+    ensures { Gives (λ x. x.now) result (after_loss line.now) }
+{
+    let loss = after_digits(after_front(line, b"CPU:")?)?;
+    match after_front(loss, b" [LOST EVENTS]") {
+        Some(rest) => Some(rest),
+        None => after_count(loss),
+    }
+}
+
+/// What follows the words on a number of lost events.
+#[tactic(auto, unfolding(crate::specs::Meaning::after_count))]
+fn after_count(text: &[u8]) -> Option<&[u8]>
+    ensures { Gives (λ x. x.now) result (after_count text.now) }
+{
+    let words = after_digits(after_front(text, b" [LOST ")?)?;
+    after_front(words, b" EVENTS]")
+}
+
+/// Which of the four events a text is, and its fields.
+#[inline(always)]
+#[tactic(auto, unfolding(crate::specs::Meaning::event_at))]
+fn event_at(text: &[u8]) -> Option<(Which, &[u8])>
+    ensures { Gives (λ x. (x.0, x.1.now)) result (event_at text.now) }
+{
+    match after_front(text, b"sched_switch: ") {
+        Some(rest) => Some((Which::Switch, rest)),
+        None => match after_front(text, b"sched_wakeup: ") {
+            Some(rest) => Some((Which::Wakeup, rest)),
+            None => match after_front(text, b"sched_wakeup_new: ") {
+                Some(rest) => Some((Which::WakeupNew, rest)),
+                None => match after_front(text, b"sched_migrate_task: ") {
+                    Some(rest) => Some((Which::MigrateTask, rest)),
+                    None => None,
+                },
+            },
+        },
+    }
+}

@@ -1,0 +1,21 @@
+use Rattle.std.proofs.Common.{◌∙◌, ap, ◌++◌, take, drop, subst, sym}
+use Rattle.std.proofs.Math.Seq.{take-add}
+use Rattle.std.proofs.KnownBytes.{Consumes-trans}
+use Rattle.std.specs.Io.KnownBytes.{Consumes}
+use Rattle.sched_audit.proofs.Counting.{one_more-below}
+use Rattle.sched_audit.proofs.reading.read_all.Goals as goal
+
+pub loop-preserved : goal.loop-preserved
+loop-preserved g c =
+    let before = c.loop.invariant in
+    let read = c.in_ok-count.ensures in
+    let filled = c.loop.filled in
+    let count = c.in_ok-count.count in
+    let items = c.read_chunk.new.bytes.items in
+    record {
+      within = read.fits;
+      counted = read.counted ∙ one_more-below _ _ before.counted c.loop-test.true;
+      heard = read.heard ∙ before.heard;
+      read = subst (Consumes _ _) (sym (take-add filled count items ∙ ap (λ front. front ++ take count (drop filled items)) read.front))
+          (Consumes-trans _ _ _ _ _ before.read read.read);
+    }

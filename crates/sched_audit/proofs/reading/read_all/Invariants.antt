@@ -1,0 +1,14 @@
+-- What is filled was consumed, a call a turn, and none has failed.
+use Rattle.std.proofs.Common.{◌≡◌, ◌≤◌, take, vec_len}
+use Rattle.std.specs.Io.KnownBytes.{Consumes}
+use Rattle.sched_audit.proofs.reading.read_all.Given as goal
+
+abbrev pub invariant-loop : goal.invariant-loop
+invariant-loop g l =
+    let feed = g.F.Feed in
+    record {
+      within : l.filled ≤ vec_len l.bytes;
+      counted : feed.calls l.feed ≡ l.counter;
+      heard : feed.has_failed l.feed ≡ feed.has_failed l.initial.feed;
+      read : Consumes (feed.left l.initial.feed) (feed.left l.feed) (take l.filled l.bytes.items);
+    }

@@ -1,0 +1,29 @@
+-- What is known of the bytes of readers and writers, and how their calls are counted (this project's profile).
+use Rattle.std.specs.Prelude.{◌≡◌, ℕ, ◌+◌, ◌-◌, ◌^◌, ◌⊎◌, min, List, ◌++◌, length, nat_lt, ◌==◌, ◌&&◌, ⊤, Option, None, Some, Result, Ok, Err, Bool, true}
+use Rattle.std.specs.Io.KnownBytes.{Appends}
+
+-- where bytes are known, they are these
+abbrev pub Agrees : Option (List ℕ) → List ℕ → Type 0
+Agrees None bytes = ⊤
+Agrees (Some known) bytes = known ≡ bytes
+
+-- one call more, in a count of 64 bits that stays at its greatest value
+abbrev pub one_more : ℕ → ℕ
+one_more calls = min (calls + 1) (2 ^ 64 - 1)
+
+-- the most reads that are made on one input
+abbrev pub most_reads : ℕ
+most_reads = 2 ^ 32
+
+-- a read failed, or the most reads were made
+abbrev pub IsCutShort : Bool → ℕ → Type 0
+IsCutShort has_failed calls = (has_failed ≡ true) ⊎ (calls ≡ most_reads)
+
+-- the write failed, or took no byte of some
+abbrev pub takes_nothing : {E : Type 0} → Result ℕ E → List ℕ → Bool
+takes_nothing (Ok count) bytes = (count == 0) && nat_lt 0 (length bytes)
+takes_nothing (Err failed) bytes = true
+
+-- known bytes grow by a front of these
+abbrev pub AppendsFront : Option (List ℕ) → Option (List ℕ) → List ℕ → Type 0
+AppendsFront old new bytes = (front : List ℕ) × (rest : List ℕ) × (bytes ≡ front ++ rest) × Appends old new front

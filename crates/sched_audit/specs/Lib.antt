@@ -1,0 +1,10 @@
+pub mod Texts
+pub mod Causes
+pub mod Answer
+pub mod Codes
+pub mod Report
+pub mod Known
+pub mod Run
+pub mod WalkInput
+pub mod Standing
+pub mod Shows

@@ -1,0 +1,27 @@
+ghost use Rattle.std.specs.Prelude.{◌≡◌, ◌≤◌, ℕ, List, Option, Bool, false, length, is_err, ◌||◌, IfOk};
+ghost use Rattle.std.specs.Io.KnownBytes.{ReadConsumes};
+ghost use Rattle.sched_audit.specs.Known.{one_more};
+
+use crate::Failed;
+
+/// An end that gives bytes.
+pub trait Feed {
+    /// The bytes that its reads will give from here on, where they are known.
+    ghost left: { Self → Option (List ℕ) };
+
+    /// How many reads were made, in a count that stays at 2^64 - 1.
+    ghost calls: { Self → ℕ };
+
+    /// Whether a read failed.
+    ghost has_failed: { Self → Bool };
+
+    /// Gives bytes to the front of the buffer, and says how many. None, into a buffer with room, is the end.
+    fn read(&mut self, buf: &mut [u8]) -> Result<usize, Failed>
+        ensures within { IfOk result (λ count. count ≤ length buf.new) }
+        ensures bytes { ReadConsumes (left self.old) (left self.new) result buf.new }
+        ensures counted { calls self.new ≡ one_more (calls self.old) }
+        ensures failed { has_failed self.new ≡ (has_failed self.old || is_err result) };
+
+    /// Where no read was made none failed.
+    ghost untouched: { (feed : Self) → calls feed ≡ 0 → has_failed feed ≡ false };
+}

@@ -1,0 +1,52 @@
+//! Judges a recorded schedule: a trace and its companion in, a verdict and its report out.
+#![tactic(auto)]
+
+mod audit;
+mod broken;
+mod cause;
+mod claims;
+mod failed;
+mod fault;
+mod feed;
+mod feed_of;
+mod judging;
+mod outcome;
+mod page;
+mod picking;
+mod reading;
+mod refused;
+mod reporting;
+mod runqueue;
+mod sink;
+mod sink_of;
+mod source;
+mod standing;
+mod status;
+mod summary;
+mod switch;
+mod taken;
+mod texts;
+mod verdict;
+mod walk;
+#[cfg(test)]
+mod walk_tests;
+mod writing;
+
+pub use cause::Cause;
+pub use failed::Failed;
+pub use fault::Fault;
+pub use feed::Feed;
+pub use feed_of::FeedOf;
+pub use outcome::Outcome;
+pub use page::{audit_texts, run};
+pub use refused::Refused;
+pub use reporting::report;
+pub use sink::Sink;
+pub use sink_of::SinkOf;
+pub use source::Source;
+pub use status::Status;
+pub use summary::Summary;
+pub use verdict::Verdict;
+
+#[cfg(test)]
+mod tests;

@@ -1,0 +1,79 @@
+//! The theorems: what the audit of two texts answers, and what a run over two inputs writes.
+
+ghost use Rattle.std.specs.Prelude.{◌≡◌, ◌≢◌, ◌≤◌, true, false, IfOk, IfErr, OnOk, IsErrOf};
+ghost use Rattle.std.specs.Io.KnownBytes.{Keeps};
+ghost use Rattle.sched_audit.specs.Answer.{IsAnswer};
+ghost use Rattle.sched_audit.specs.Known.{IsCutShort, most_reads};
+ghost use Rattle.sched_audit.specs.Run.{WritesReport, WritesFront};
+
+use crate::audit::audit;
+use crate::reading::read_all;
+use crate::writing::write_all;
+use crate::{Fault, Feed, Outcome, Refused, Sink, Status, Verdict, report};
+use cfs_model::Knobs;
+use std::alloc::Global;
+
+/// Judges a trace by its companion: the trace is read first, then the companion, then both are joined, and the
+/// events are audited.
+pub fn audit_texts(
+    alloc: Global,
+    trace: &[u8],
+    companion: &[u8],
+    knobs: Knobs,
+) -> Result<Verdict, Refused>
+    // A verdict or a refusal is the outcome of the two texts.
+    ensures answer { IsAnswer trace.now companion.now knobs result }
+{
+    audit(alloc, trace, companion, knobs)
+}
+
+/// Reads the trace to its end, then the companion, judges them, and writes the report.
+pub fn run<T: Feed, C: Feed, S: Sink>(
+    alloc: Global,
+    trace: &mut T,
+    companion: &mut C,
+    knobs: Knobs,
+    out: &mut S,
+) -> Result<Status, Fault>
+    // No read was made yet, and no write failed.
+    requires trace { T.calls trace.old ≡ 0 }
+    requires companion { C.calls companion.old ≡ 0 }
+    requires out { S.has_failed out.old ≡ false }
+
+    // Where a status is answered, the report of the two inputs' outcome was written and nothing else, and the
+    // status is that outcome's.
+    ensures answered { IfOk result (λ status.
+        WritesReport (T.left trace.old) (C.left companion.old) knobs status
+        (S.taken out.old) (S.taken out.new)) }
+
+    // And no read or write failed.
+    ensures heard { OnOk result ((T.has_failed trace.new ≡ false)
+        × (C.has_failed companion.new ≡ false) × (S.has_failed out.new ≡ false)) }
+
+    // An input's fault comes only where a read of it failed, or the most reads of it were made.
+    ensures read_trace { IsErrOf result Fault.ReadTrace
+        → IsCutShort (T.has_failed trace.new) (T.calls trace.new) }
+    ensures read_companion { IsErrOf result Fault.ReadCompanion
+        → IsCutShort (C.has_failed companion.new) (C.calls companion.new) }
+
+    // A write fault comes only where a write failed or took no byte, and a front of the report was written.
+    ensures write { IsErrOf result Fault.Write → S.has_failed out.new ≡ true }
+    ensures front { IsErrOf result Fault.Write
+        → WritesFront (T.left trace.old) (C.left companion.old) knobs
+        (S.taken out.old) (S.taken out.new) }
+
+    // At any other fault nothing was written.
+    ensures unwritten { IfErr result (λ fault. fault ≢ Fault.Write
+        → Keeps (S.taken out.old) (S.taken out.new)) }
+
+    // Each input is read by at most the most reads, and the companion only after the trace.
+    ensures bounded { (T.calls trace.new ≤ most_reads) × (C.calls companion.new ≤ most_reads) }
+    ensures order { IsErrOf result Fault.ReadTrace → C.calls companion.new ≡ 0 }
+{
+    let trace = read_all(alloc, trace, Fault::ReadTrace)?;
+    let companion = read_all(alloc, companion, Fault::ReadCompanion)?;
+    let outcome = Outcome::of(audit_texts(alloc, &trace, &companion, knobs))?;
+    let report = report(alloc, &outcome)?;
+    write_all(out, &report)?;
+    Ok(outcome.status())
+}

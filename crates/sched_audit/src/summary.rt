@@ -1,0 +1,6 @@
+/// What a run did.
+#[derive(Debug, PartialEq, Eq, Drop)]
+pub struct Summary {
+    /// The number of its events.
+    pub events: u64,
+}

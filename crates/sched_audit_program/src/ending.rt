@@ -1,0 +1,28 @@
+ghost use Rattle.std.specs.Prelude.{◌≡◌};
+ghost use Rattle.sched_audit_program.specs.Codes.{code_of_ending};
+
+use sched_audit::{Fault, Status};
+
+/// How the program ends.
+#[derive(Clone, Copy, Debug, PartialEq, Eq)]
+pub enum Ending {
+    /// The report was written.
+    Answered(Status),
+    /// An input or the output failed, or memory ran out.
+    Failed(Fault),
+    /// The command line isn't two words.
+    Misused,
+}
+
+impl Ending {
+    /// The exit status.
+    pub fn code(self) -> u8
+        ensures { result ≡ code_of_ending self }
+    {
+        match self {
+            Ending::Answered(status) => status.code(),
+            Ending::Failed(fault) => fault.code(),
+            Ending::Misused => 5,
+        }
+    }
+}

@@ -1,0 +1,10 @@
+pub mod Places
+pub mod Runs
+pub mod Alone
+pub mod Keyed
+pub mod Switches
+pub mod Migrations
+pub mod Wakeups
+pub mod Verdicts
+pub mod Judgements
+pub mod Answering

@@ -1,0 +1,56 @@
+-- The last place at which a key stands: one step of the search, and what it finds.
+use Rattle.std.proofs.Common.{◌≡◌, ◌≢◌, ℕ, zero, suc, ◌-◌, ◌≤◌, ◌<◌, ◌⊎◌, Bool, true, false, cond, List, drop, Some, None, refl, sym, ap, ◌∙◌, arith, inl, inr}
+use Rattle.std.proofs.lemmas.Bool.{cases_lt}
+use Rattle.sched_event.specs.Reading.{begins_with, last_place}
+
+-- the key stands at the limit
+pub place_found : (limit : ℕ) (key text : List ℕ) → begins_with key (drop limit text) ≡ true → last_place limit key text ≡ Some limit
+unfolding last_place
+place_found zero key text e = rw e refl
+place_found (suc limit) key text e = rw e refl
+
+-- it doesn't stand at the limit
+pub place_below : (limit : ℕ) (key text : List ℕ) → begins_with key (drop limit text) ≡ false → limit ≢ 0 → last_place limit key text ≡ last_place (limit - 1) key text
+unfolding last_place
+place_below zero key text e ne = absurd (ne refl)
+place_below (suc limit) key text e ne = let down : suc limit - 1 ≡ limit = omega arith in rw (e, down) refl
+
+-- it stands nowhere up to the front
+pub place_none : (limit : ℕ) (key text : List ℕ) → begins_with key (drop limit text) ≡ false → limit ≡ 0 → last_place limit key text ≡ None
+unfolding last_place
+place_none zero key text e z = rw e refl
+place_none (suc limit) key text e z = absurd (omega arith)
+
+-- what was found is a place up to the limit at which the key stands
+pub record StandsAt (limit : ℕ) (key text : List ℕ) (place : ℕ) : Type 0 where
+  pub within : place ≤ limit
+  pub stands : begins_with key (drop place text) ≡ true
+
+-- which way a choice went
+pub chosen : {A : Type 0} (b : Bool) (x y z : A) → cond b x y ≡ z → ((b ≡ true) × (x ≡ z)) ⊎ ((b ≡ false) × (y ≡ z))
+chosen true x y z e = inl (refl, e)
+chosen false x y z e = inr (refl, e)
+
+pub place_stands : (limit : ℕ) (key text : List ℕ) (place : ℕ) → last_place limit key text ≡ Some place → StandsAt limit key text place
+unfolding last_place
+place_stands zero key text place e =
+    elim (chosen (begins_with key text) (Some 0) None (Some place) e) [
+      | inl found ↦ let z : 0 ≡ place = cc in record { within = omega arith; stands = rw (← z) found.0 }
+      | inr none ↦ absurd cc
+    ]
+place_stands (suc limit) key text place e =
+    elim (chosen (begins_with key (drop (suc limit) text)) (Some (suc limit)) (last_place limit key text) (Some place) e) [
+      | inl found ↦ let z : suc limit ≡ place = cc in record { within = omega arith; stands = rw (← z) found.0 }
+      | inr on ↦ let below = place_stands limit key text place on.1 in record { within = omega (arith, below.within); stands = below.stands }
+    ]
+
+-- a key that stands at a place, and at no later one up to the limit, was found there
+pub place_is_last : (limit : ℕ) (key text : List ℕ) (place : ℕ) → place ≤ limit → begins_with key (drop place text) ≡ true
+    → ((later : ℕ) → place < later → later ≤ limit → begins_with key (drop later text) ≡ false) → last_place limit key text ≡ Some place
+unfolding last_place
+place_is_last zero key text place le stands none = let z : place ≡ 0 = omega arith in place_found 0 key text (rw z at stands) ∙ ap Some (sym z)
+place_is_last (suc limit) key text place le stands none =
+    elim (cases_lt place (suc limit)) [
+      | inl lt ↦ rw (none (suc limit) lt (omega arith)) (place_is_last limit key text place (omega arith) stands (λ later above below. none later above (omega arith)))
+      | inr ge ↦ let z : place ≡ suc limit = omega arith in place_found (suc limit) key text (rw z at stands) ∙ ap Some (sym z)
+    ]

@@ -1,0 +1,56 @@
+-- What is seen of a text's parts in memory: slices are the bytes that they point to.
+use Rattle.std.specs.Prelude.{ℕ, List, Option, option_map}
+use denote.Ref.{Bor}
+use Rattle.sched_event.specs.declared.fields.PrioFields.{PrioFields}
+use Rattle.sched_event.specs.declared.switch.SwitchFields.{SwitchFields}
+use Rattle.sched_event.specs.declared.wakeup.WakeupFields.{WakeupFields}
+use Rattle.sched_event.specs.declared.migration.MigrationFields.{MigrationFields}
+use Rattle.sched_event.specs.Texts.{Prio, SwitchText, WakeupText, MigrationText}
+
+-- a slice and what follows it
+abbrev pub pair : Bor (List ℕ) × Bor (List ℕ) → List ℕ × List ℕ
+pair found = (found.0.now, found.1.now)
+
+-- a prio
+abbrev pub prio_seen : PrioFields → Prio
+prio_seen prio = record { minus = prio.minus; digits = prio.digits.now }
+
+-- a prio and what follows it
+abbrev pub prio_pair : PrioFields × Bor (List ℕ) → Prio × List ℕ
+prio_pair found = (prio_seen found.0, found.1.now)
+
+-- digits, where they were found, and what follows them
+abbrev pub optional_pair : Option (Bor (List ℕ)) × Bor (List ℕ) → Option (List ℕ) × List ℕ
+optional_pair found = (option_map (λ digits. digits.now) found.0, found.1.now)
+
+-- the parts of a switch
+abbrev pub switch_seen : SwitchFields → SwitchText
+switch_seen fields = record {
+  prev_name = fields.prev_name.now;
+  prev = fields.prev.now;
+  prev_prio = prio_seen fields.prev_prio;
+  prev_state = fields.prev_state.now;
+  next_name = fields.next_name.now;
+  next = fields.next.now;
+  next_prio = prio_seen fields.next_prio;
+}
+
+-- the parts of a wakeup
+abbrev pub wakeup_seen : WakeupFields → WakeupText
+wakeup_seen fields = record {
+  name = fields.name.now;
+  pid = fields.pid.now;
+  prio = prio_seen fields.prio;
+  success = option_map (λ digits. digits.now) fields.success;
+  target = fields.target.now;
+}
+
+-- the parts of a migration
+abbrev pub migration_seen : MigrationFields → MigrationText
+migration_seen fields = record {
+  name = fields.name.now;
+  pid = fields.pid.now;
+  prio = prio_seen fields.prio;
+  orig = fields.orig.now;
+  dest = fields.dest.now;
+}

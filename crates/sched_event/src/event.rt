@@ -1,0 +1,143 @@
+ghost use Rattle.std.specs.Prelude.{◌≡◌};
+ghost use Rattle.sched_event.specs.Readings.{reading_seen};
+ghost use Rattle.sched_event.specs.Act.{act_of, nice_in_switch, is_put_back, is_gone, is_runnable, way_of};
+
+use cfs_model::{Act, Nice, Way};
+
+/// `sched_switch`: a processor goes from one task to another. Pid 0 is the processor's idle task.
+#[derive(Clone, Copy, Debug, PartialEq, Eq)]
+pub struct Switch<'a> {
+    /// The processor that the line's head names.
+    pub cpu: u32,
+    pub prev_name: &'a [u8],
+    pub prev: u32,
+    /// Of pid 0 it is 0.
+    pub prev_nice: Nice,
+    /// The letters of the state in which the task leaves.
+    pub prev_state: &'a [u8],
+    pub next_name: &'a [u8],
+    pub next: u32,
+    /// Of pid 0 it is 0.
+    pub next_nice: Nice,
+}
+
+/// `sched_wakeup` or `sched_wakeup_new`: a task enters a processor's runqueue.
+#[derive(Clone, Copy, Debug, PartialEq, Eq)]
+pub struct Wakeup<'a> {
+    pub name: &'a [u8],
+    pub pid: u32,
+    pub nice: Nice,
+    /// The processor whose runqueue the task enters.
+    pub target: u32,
+}
+
+/// `sched_migrate_task`: a task goes from one processor to another.
+#[derive(Clone, Copy, Debug, PartialEq, Eq)]
+pub struct Migration<'a> {
+    pub name: &'a [u8],
+    pub pid: u32,
+    pub nice: Nice,
+    pub orig: u32,
+    pub dest: u32,
+}
+
+/// An event of the scheduler. Its names and its state are slices of the trace's line.
+#[derive(Clone, Copy, Debug, PartialEq, Eq)]
+pub enum Event<'a> {
+    Switch(Switch<'a>),
+    /// A task that slept wakes up.
+    Wakeup(Wakeup<'a>),
+    /// A task wakes up for the first time.
+    WakeupNew(Wakeup<'a>),
+    Migration(Migration<'a>),
+}
+
+/// The pid of each processor's idle task.
+pub const IDLE: u32 = 0;
+
+/// The nice value of a switch's task: 0 for the idle task.
+fn nice_in_switch(pid: u32, nice: Nice) -> Nice
+    ensures { result ≡ nice_in_switch pid nice }
+{
+    if pid == IDLE {
+        Nice::new(0).unwrap()
+    } else {
+        nice
+    }
+}
+
+/// The task was put back into the runqueue.
+fn is_put_back(state: &[u8]) -> bool
+    ensures { result ≡ is_put_back state.now }
+{
+    state.iter().any(|letter| *letter == b'+')
+}
+
+/// The task is a zombie or dead.
+fn is_gone(state: &[u8]) -> bool
+    ensures { result ≡ is_gone state.now }
+{
+    state
+        .iter()
+        .any(|letter| matches!(*letter, b'X' | b'Z' | b'x'))
+}
+
+/// The task can go on running.
+fn is_runnable(state: &[u8]) -> bool
+    ensures { result ≡ is_runnable state.now }
+{
+    matches!(state, [b'R', ..])
+}
+
+/// How a task in this state leaves its processor.
+fn way_of(state: &[u8]) -> Way
+    ensures { result ≡ way_of state.now }
+{
+    if is_put_back(state) {
+        Way::Stays
+    } else if is_gone(state) {
+        Way::Ends
+    } else if is_runnable(state) {
+        Way::Stays
+    } else {
+        Way::Sleeps
+    }
+}
+
+impl<'a> Event<'a> {
+    /// What the event does.
+    pub fn act(&self) -> Act
+        ensures { result ≡ act_of (reading_seen self.now) }
+    {
+        match self {
+            Event::Switch(switch) => Act::Switch {
+                cpu: switch.cpu,
+                prev: switch.prev,
+                prev_nice: nice_in_switch(switch.prev, switch.prev_nice),
+                way: if switch.prev == IDLE {
+                    Way::Stays
+                } else {
+                    way_of(switch.prev_state)
+                },
+                next: switch.next,
+                next_nice: nice_in_switch(switch.next, switch.next_nice),
+            },
+            Event::Wakeup(wakeup) => Act::Wake {
+                cpu: wakeup.target,
+                pid: wakeup.pid,
+                nice: wakeup.nice,
+            },
+            Event::WakeupNew(wakeup) => Act::Born {
+                cpu: wakeup.target,
+                pid: wakeup.pid,
+                nice: wakeup.nice,
+            },
+            Event::Migration(migration) => Act::Shift {
+                orig: migration.orig,
+                dest: migration.dest,
+                pid: migration.pid,
+                nice: migration.nice,
+            },
+        }
+    }
+}

@@ -1,0 +1,205 @@
+ghost use Rattle.std.specs.Prelude.{◌≡◌, ◌<◌, ◌≤◌, length, drop, min, IfSome};
+ghost use Rattle.std.specs.List.{prefix_len};
+ghost use Rattle.sched_event.specs.Texts.{is_dark};
+ghost use Rattle.sched_event.specs.Reading.{Gives, begins_with, key_at, run_at, sign_at, last_place, numeral_at, state_at, prio_at, name_at, optional_at};
+ghost use Rattle.sched_event.specs.Seen.{pair, prio_seen, prio_pair, optional_pair};
+ghost use Rattle.ftrace_line.specs.Numerals.{is_digit};
+
+use ftrace_line::numerals::digit_count;
+
+/// A printed prio.
+#[derive(Clone, Copy)]
+pub(crate) struct PrioFields<'a> {
+    pub(crate) minus: bool,
+    pub(crate) digits: &'a [u8],
+}
+
+/// The most bytes that a name has.
+const NAME_MAX: usize = 15;
+
+/// Whether the text begins with a key. All its bytes are compared, so that a key that is a literal costs a few
+/// instructions.
+#[inline(always)]
+fn begins_with(text: &[u8], key: &[u8]) -> bool
+    ensures { result ≡ begins_with key.now text.now }
+{
+    if text.len() < key.len() {
+        return false;
+    }
+    let mut same = true;
+    for (place, byte) in key.iter().enumerate() {
+        same &= text[place] == *byte;
+    }
+    same
+}
+
+/// What follows the key that the text begins with.
+#[inline(always)]
+#[tactic(auto, unfolding(crate::specs::Reading::key_at))]
+fn after<'a>(text: &'a [u8], key: &[u8]) -> Option<&'a [u8]>
+    ensures { Gives (λ x. x.now) result (key_at key.now text.now) }
+{
+    if begins_with(text, key) {
+        Some(&text[key.len()..])
+    } else {
+        None
+    }
+}
+
+/// The digits that the text begins with, and what follows them.
+#[inline(always)]
+#[tactic(auto, unfolding(crate::specs::Reading::run_at))]
+fn digits<'a>(text: &'a [u8]) -> Option<(&'a [u8], &'a [u8])>
+    ensures { Gives pair result (run_at is_digit text.now) }
+{
+    let count = digit_count(text);
+    if count == 0 {
+        return None;
+    }
+    Some(text.split_at(count))
+}
+
+/// How many bytes stand before the first space.
+#[inline(always)]
+fn letter_count(text: &[u8]) -> usize
+    ensures { result ≡ prefix_len is_dark text.now }
+{
+    text.iter().take_while(|byte| is_letter(**byte)).count()
+}
+
+#[inline(always)]
+fn is_letter(byte: u8) -> bool
+    ensures { result ≡ is_dark byte }
+{
+    byte != b' '
+}
+
+/// The bytes up to the first space, and what follows them.
+#[inline(always)]
+#[tactic(auto, unfolding(crate::specs::Reading::run_at))]
+fn letters<'a>(text: &'a [u8]) -> Option<(&'a [u8], &'a [u8])>
+    ensures { Gives pair result (run_at is_dark text.now) }
+{
+    let count = letter_count(text);
+    if count == 0 {
+        return None;
+    }
+    Some(text.split_at(count))
+}
+
+/// Whether the text begins with a minus sign, and what follows it.
+#[inline(always)]
+#[tactic(auto, unfolding(crate::specs::Reading::sign_at))]
+fn sign<'a>(text: &'a [u8]) -> (bool, &'a [u8])
+    ensures { (result.0, result.1.now) ≡ sign_at text.now }
+{
+    match text {
+        [b'-', rest @ ..] => (true, rest),
+        _ => (false, text),
+    }
+}
+
+/// Whether the key stands at a place of the text. Its first byte is compared first.
+#[inline(always)]
+fn stands_at(text: &[u8], key: &[u8], place: usize) -> bool
+    requires some { 0 < length key.now }
+    ensures { result ≡ begins_with key.now (drop place text.now) }
+{
+    place < text.len() && text[place] == key[0] && begins_with(&text[place..], key)
+}
+
+/// The last place within a name's length at which the key stands.
+#[inline(always)]
+#[tactic(auto, using(crate::proofs::Places::place_found, crate::proofs::Places::place_below, crate::proofs::Places::place_none))]
+fn last_place(text: &[u8], key: &[u8]) -> Option<usize>
+    requires { 0 < length key.now }
+    ensures place { result ≡ last_place (min 15 (length text.now)) key.now text.now }
+    ensures within { IfSome result (λ place. place ≤ length text.now) }
+{
+    let mut place = text.len().min(NAME_MAX);
+    loop {
+        if stands_at(text, key, place) {
+            return Some(place);
+        }
+        if place == 0 {
+            return None;
+        }
+        place -= 1;
+    }
+}
+
+/// The digits behind a key, and what follows them.
+#[inline(always)]
+#[tactic(auto, unfolding(crate::specs::Reading::numeral_at))]
+pub(crate) fn numeral<'a>(text: &'a [u8], key: &[u8]) -> Option<(&'a [u8], &'a [u8])>
+    ensures { Gives pair result (numeral_at key.now text.now) }
+{
+    let after = after(text, key)?;
+    digits(after)
+}
+
+/// The letters of a state behind a key, and what follows them.
+#[inline(always)]
+#[tactic(auto, unfolding(crate::specs::Reading::state_at))]
+pub(crate) fn state<'a>(text: &'a [u8], key: &[u8]) -> Option<(&'a [u8], &'a [u8])>
+    ensures { Gives pair result (state_at key.now text.now) }
+{
+    let after = after(text, key)?;
+    letters(after)
+}
+
+/// The prio behind a key, and what follows it.
+#[inline(always)]
+#[tactic(auto, unfolding(crate::specs::Reading::prio_at))]
+pub(crate) fn prio<'a>(text: &'a [u8], key: &[u8]) -> Option<(PrioFields<'a>, &'a [u8])>
+    ensures { Gives prio_pair result (prio_at key.now text.now) }
+{
+    let after = after(text, key)?;
+    let (minus, unsigned) = sign(after);
+    let (digits, rest) = digits(unsigned)?;
+    Some((PrioFields { minus, digits }, rest))
+}
+
+/// The name behind a key, up to the next key, and the text from that key on.
+#[inline(always)]
+#[tactic(auto, unfolding(crate::specs::Reading::name_at))]
+pub(crate) fn name<'a>(text: &'a [u8], key: &[u8], next: &[u8]) -> Option<(&'a [u8], &'a [u8])>
+    requires { 0 < length next.now }
+    ensures { Gives pair result (name_at key.now next.now text.now) }
+{
+    let after = after(text, key)?;
+    let place = last_place(after, next)?;
+    Some(after.split_at(place))
+}
+
+/// The digits behind a key where they stand there, and what follows them.
+#[inline(always)]
+#[tactic(auto, unfolding(crate::specs::Reading::optional_at))]
+pub(crate) fn optional_numeral<'a>(text: &'a [u8], key: &[u8]) -> (Option<&'a [u8]>, &'a [u8])
+    ensures { optional_pair result ≡ optional_at key.now text.now }
+{
+    match numeral(text, key) {
+        Some((digits, rest)) => (Some(digits), rest),
+        None => (None, text),
+    }
+}
+
+/// Reads the keyed fields of a text one behind the other, each by the reader that is named, and leaves `$rest` at
+/// what follows them. A name is read up to the key behind it.
+macro_rules! fields {
+    ($rest:ident;) => {};
+    ($rest:ident; $key:literal => $field:ident: name, $next:literal => $($more:tt)*) => {
+        let ($field, $rest) = name($rest, $key, $next)?;
+        fields!($rest; $next => $($more)*);
+    };
+    ($rest:ident; $key:literal => $field:ident: optional_numeral, $($more:tt)*) => {
+        let ($field, $rest) = optional_numeral($rest, $key);
+        fields!($rest; $($more)*);
+    };
+    ($rest:ident; $key:literal => $field:ident: $reader:ident, $($more:tt)*) => {
+        let ($field, $rest) = $reader($rest, $key)?;
+        fields!($rest; $($more)*);
+    };
+}
+
+pub(crate) use fields;

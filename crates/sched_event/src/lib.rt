@@ -1,0 +1,18 @@
+//! The four events of the scheduler: reading the text behind an event's name, and what the event does.
+#![tactic(auto)]
+
+mod event;
+mod fault;
+mod fields;
+mod limits;
+mod migration;
+mod read;
+mod switch;
+mod wakeup;
+
+pub use event::{Event, IDLE, Migration, Switch, Wakeup};
+pub use fault::EventFault;
+pub use read::{one_answer, one_reading, read_event};
+
+#[cfg(test)]
+mod tests;

@@ -1,0 +1,73 @@
+ghost use Rattle.std.specs.Prelude.{◌≡◌, ◌<◌, ◌^◌};
+ghost use Rattle.sched_event.specs.Ranges.{most_pid, most_cpu};
+ghost use Rattle.sched_event.specs.Judging.{Judges, number_within, nice_at};
+ghost use Rattle.sched_event.specs.Seen.{prio_seen};
+
+use crate::event::IDLE;
+use crate::fault::EventFault;
+use crate::fields::PrioFields;
+use cfs_model::{Nice, PrioFault};
+use ftrace_line::numerals::number_of;
+
+/// The largest pid of a task.
+const PID_MAX: u64 = 4194304;
+
+/// The largest number of a processor in a trace.
+const CPU_MAX: u64 = 65535;
+
+/// The prio of nice 0.
+const PRIO_MIDDLE: i64 = 120;
+
+/// No fair task has this prio or a larger one.
+const PRIO_BEYOND: u64 = 140;
+
+/// The number that the digits stand for.
+#[inline(always)]
+#[tactic(auto, unfolding(crate::specs::Judging::number_within))]
+fn number_within(digits: &[u8], most: u64) -> Result<u32, EventFault>
+    requires { most < 2 ^ 32 }
+    ensures { result ≡ number_within most digits.now }
+{
+    let number = number_of(digits);
+    if number > most {
+        return Err(EventFault::NumberRange);
+    }
+    Ok(number as u32)
+}
+
+/// The pid that the digits stand for.
+#[inline(always)]
+pub(crate) fn pid_of(digits: &[u8]) -> Result<u32, EventFault>
+    ensures { result ≡ number_within most_pid digits.now }
+{
+    number_within(digits, PID_MAX)
+}
+
+/// The processor that the digits stand for.
+#[inline(always)]
+pub(crate) fn cpu_of(digits: &[u8]) -> Result<u32, EventFault>
+    ensures { result ≡ number_within most_cpu digits.now }
+{
+    number_within(digits, CPU_MAX)
+}
+
+/// The nice value of a printed prio. That of the idle task isn't looked at: its nice value is 0.
+#[inline(always)]
+#[tactic(auto, unfolding(crate::specs::Judging::nice_at))]
+pub(crate) fn nice_of(pid: u32, prio: &PrioFields) -> Result<Nice, EventFault>
+    ensures { result ≡ nice_at pid (prio_seen prio.now) }
+{
+    let number = number_of(prio.digits).min(PRIO_BEYOND) as i64;
+    let printed = if pid == IDLE {
+        PRIO_MIDDLE
+    } else if prio.minus {
+        -number
+    } else {
+        number
+    };
+    match Nice::of_prio(printed) {
+        Ok(nice) => Ok(nice),
+        Err(PrioFault::RealTime) => Err(EventFault::RealTime),
+        Err(PrioFault::PrioRange) => Err(EventFault::PrioRange),
+    }
+}

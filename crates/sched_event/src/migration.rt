@@ -1,0 +1,66 @@
+ghost use Rattle.sched_event.specs.Reading.{Gives, migration_at};
+ghost use Rattle.sched_event.specs.Judging.{Judges, migration_judged};
+ghost use Rattle.sched_event.specs.Event.{migrated_seen};
+ghost use Rattle.sched_event.specs.Seen.{migration_seen};
+
+use crate::event::{IDLE, Migration};
+use crate::fault::EventFault;
+use crate::fields::{PrioFields, fields, name, numeral, prio};
+use crate::limits::{cpu_of, nice_of, pid_of};
+
+/// The parts of a migration's text.
+#[derive(Clone, Copy)]
+pub(crate) struct MigrationFields<'a> {
+    pub(crate) name: &'a [u8],
+    pub(crate) pid: &'a [u8],
+    pub(crate) prio: PrioFields<'a>,
+    pub(crate) orig: &'a [u8],
+    pub(crate) dest: &'a [u8],
+}
+
+/// The parts of a migration's text, where the whole text has them.
+#[tactic(auto, unfolding(crate::specs::Reading::migration_at))]
+pub(crate) fn migration_fields(text: &[u8]) -> Option<MigrationFields<'_>>
+    ensures { Gives migration_seen result (migration_at text.now) }
+{
+    let rest = text;
+    fields!(rest;
+        b"comm=" => task: name,
+        b" pid=" => pid: numeral,
+        b" prio=" => task_prio: prio,
+        b" orig_cpu=" => orig: numeral,
+        b" dest_cpu=" => dest: numeral,
+    );
+    if !rest.is_empty() {
+        return None;
+    }
+    Some(MigrationFields {
+        name: task,
+        pid,
+        prio: task_prio,
+        orig,
+        dest,
+    })
+}
+
+/// The migration of these parts.
+#[inline(always)]
+#[tactic(auto, unfolding(crate::specs::Judging::migration_judged))]
+pub(crate) fn migration_of<'a>(text: &MigrationFields<'a>) -> Result<Migration<'a>, EventFault>
+    ensures { Judges migrated_seen result (migration_judged (migration_seen text.now)) }
+{
+    let pid = pid_of(text.pid)?;
+    let orig = cpu_of(text.orig)?;
+    let dest = cpu_of(text.dest)?;
+    let nice = nice_of(pid, &text.prio)?;
+    if pid == IDLE {
+        return Err(EventFault::IdleNamed);
+    }
+    Ok(Migration {
+        name: text.name,
+        pid,
+        nice,
+        orig,
+        dest,
+    })
+}

@@ -1,0 +1,72 @@
+ghost use Rattle.sched_event.specs.Reading.{Gives, switch_at};
+ghost use Rattle.sched_event.specs.Judging.{Judges, switch_judged};
+ghost use Rattle.sched_event.specs.Event.{switched_seen};
+ghost use Rattle.sched_event.specs.Seen.{switch_seen};
+
+use crate::event::Switch;
+use crate::fault::EventFault;
+use crate::fields::{PrioFields, fields, name, numeral, prio, state};
+use crate::limits::{nice_of, pid_of};
+
+/// The parts of a switch's text.
+#[derive(Clone, Copy)]
+pub(crate) struct SwitchFields<'a> {
+    pub(crate) prev_name: &'a [u8],
+    pub(crate) prev: &'a [u8],
+    pub(crate) prev_prio: PrioFields<'a>,
+    pub(crate) prev_state: &'a [u8],
+    pub(crate) next_name: &'a [u8],
+    pub(crate) next: &'a [u8],
+    pub(crate) next_prio: PrioFields<'a>,
+}
+
+/// The parts of a switch's text, where the whole text has them.
+#[tactic(auto, unfolding(crate::specs::Reading::switch_at))]
+pub(crate) fn switch_fields(text: &[u8]) -> Option<SwitchFields<'_>>
+    ensures { Gives switch_seen result (switch_at text.now) }
+{
+    let rest = text;
+    fields!(rest;
+        b"prev_comm=" => prev_name: name,
+        b" prev_pid=" => prev: numeral,
+        b" prev_prio=" => prev_prio: prio,
+        b" prev_state=" => prev_state: state,
+        b" ==> next_comm=" => next_name: name,
+        b" next_pid=" => next: numeral,
+        b" next_prio=" => next_prio: prio,
+    );
+    if !rest.is_empty() {
+        return None;
+    }
+    Some(SwitchFields {
+        prev_name,
+        prev,
+        prev_prio,
+        prev_state,
+        next_name,
+        next,
+        next_prio,
+    })
+}
+
+/// The switch of these parts, on a line whose head has this processor.
+#[inline(always)]
+#[tactic(auto, unfolding(crate::specs::Judging::switch_judged))]
+pub(crate) fn switch_of<'a>(cpu: u32, text: &SwitchFields<'a>) -> Result<Switch<'a>, EventFault>
+    ensures { Judges switched_seen result (switch_judged cpu (switch_seen text.now)) }
+{
+    let prev = pid_of(text.prev)?;
+    let next = pid_of(text.next)?;
+    let prev_nice = nice_of(prev, &text.prev_prio)?;
+    let next_nice = nice_of(next, &text.next_prio)?;
+    Ok(Switch {
+        cpu,
+        prev_name: text.prev_name,
+        prev,
+        prev_nice,
+        prev_state: text.prev_state,
+        next_name: text.next_name,
+        next,
+        next_nice,
+    })
+}

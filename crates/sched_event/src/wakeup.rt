@@ -1,0 +1,64 @@
+ghost use Rattle.sched_event.specs.Reading.{Gives, wakeup_at};
+ghost use Rattle.sched_event.specs.Judging.{Judges, wakeup_judged};
+ghost use Rattle.sched_event.specs.Event.{entering_seen};
+ghost use Rattle.sched_event.specs.Seen.{wakeup_seen};
+
+use crate::event::{IDLE, Wakeup};
+use crate::fault::EventFault;
+use crate::fields::{PrioFields, fields, name, numeral, optional_numeral, prio};
+use crate::limits::{cpu_of, nice_of, pid_of};
+
+/// The parts of a wakeup's text.
+#[derive(Clone, Copy)]
+pub(crate) struct WakeupFields<'a> {
+    pub(crate) name: &'a [u8],
+    pub(crate) pid: &'a [u8],
+    pub(crate) prio: PrioFields<'a>,
+    pub(crate) success: Option<&'a [u8]>,
+    pub(crate) target: &'a [u8],
+}
+
+/// The parts of a wakeup's text, where the whole text has them.
+#[tactic(auto, unfolding(crate::specs::Reading::wakeup_at))]
+pub(crate) fn wakeup_fields(text: &[u8]) -> Option<WakeupFields<'_>>
+    ensures { Gives wakeup_seen result (wakeup_at text.now) }
+{
+    let rest = text;
+    fields!(rest;
+        b"comm=" => task: name,
+        b" pid=" => pid: numeral,
+        b" prio=" => task_prio: prio,
+        b" success=" => success: optional_numeral,
+        b" target_cpu=" => target: numeral,
+    );
+    if !rest.is_empty() {
+        return None;
+    }
+    Some(WakeupFields {
+        name: task,
+        pid,
+        prio: task_prio,
+        success,
+        target,
+    })
+}
+
+/// The wakeup of these parts.
+#[inline(always)]
+#[tactic(auto, unfolding(crate::specs::Judging::wakeup_judged))]
+pub(crate) fn wakeup_of<'a>(text: &WakeupFields<'a>) -> Result<Wakeup<'a>, EventFault>
+    ensures { Judges entering_seen result (wakeup_judged (wakeup_seen text.now)) }
+{
+    let pid = pid_of(text.pid)?;
+    let target = cpu_of(text.target)?;
+    let nice = nice_of(pid, &text.prio)?;
+    if pid == IDLE {
+        return Err(EventFault::IdleNamed);
+    }
+    Ok(Wakeup {
+        name: text.name,
+        pid,
+        nice,
+        target,
+    })
+}

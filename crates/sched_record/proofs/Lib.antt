@@ -1,0 +1,12 @@
+pub mod Pairs
+pub mod Shares
+pub mod Dealt
+pub mod Lines
+pub mod Named
+pub mod OneRecord
+pub mod OneSaying
+pub mod OneTrace
+pub mod Order
+pub mod Rising
+pub mod Splits
+pub mod Walk

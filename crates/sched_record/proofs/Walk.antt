@@ -1,0 +1,107 @@
+-- Claims and events walked side by side: the place in the events never goes back, since every event before it stands
+-- on a line above that of the claim in hand, and so above those of all later claims.
+use Rattle.std.proofs.Common.{◌≡◌, ℕ, ◌+◌, ◌<◌, ◌≤◌, ◌≢◌, List, length, get_or, take, drop, eqb, IsTrue, inl, inr, ◌⊎◌, ap, arith, subst}
+use Rattle.std.specs.Prelude.{All}
+use Rattle.std.specs.List.{AllPairs}
+use Rattle.std.proofs.lemmas.Bool.{both_ways, ne_eqb, eq-eqb, cases_lt, cases_order}
+use Rattle.std.proofs.lemmas.List.{get_or_default}
+use Rattle.std.proofs.lemmas.List.Folds.{list_any_none, list_any_at}
+use Rattle.cfs_model.specs.declared.act.Entry.{Entry}
+use Rattle.cfs_model.specs.declared.claim.Claim.{Claim}
+use Rattle.sched_record.specs.Join.{IsFirstStray}
+use Rattle.sched_record.specs.Kept.{is_event_line}
+use Rattle.sched_record.proofs.Rising.{split_at}
+
+-- everything before the place lies above this line
+abbrev pub AllAbove : {X : Type 0} → (X → ℕ) → List X → ℕ → ℕ → Type 0
+AllAbove {X} f xs place line = (k : ℕ) (d : X) → k < place → f (get_or xs k d) < line
+
+-- what is at the place, if there is something, lies below this line
+abbrev pub IsBelowAt : {X : Type 0} → (X → ℕ) → List X → ℕ → ℕ → Type 0
+IsBelowAt {X} f xs place line = (d : X) → place < length xs → line < f (get_or xs place d)
+
+-- so nothing lies on the line
+pub apart_from : {X : Type 0} (f : X → ℕ) (xs : List X) (line place : ℕ) → AllPairs (λ a b. f a < f b) xs
+    → AllAbove f xs place line → IsBelowAt f xs place line → (k : ℕ) (d : X) → k < length xs → f (get_or xs k d) ≡ line → ⊥
+apart_from {X} f xs line place rising above below k d h same = apart (cases_order k place)
+  where
+    apart : (k ≡ place) ⊎ ((k < place) ⊎ (place < k)) → ⊥
+    apart (inl here) =
+        let at : line < f (get_or xs place d) = below d (omega arith) in
+        let moved = ap (λ n. f (get_or xs n d)) here in
+        absurd (omega (arith, at, moved, same))
+    apart (inr (inl before)) = let at = above k d before in absurd (omega (arith, at, same))
+    apart (inr (inr behind)) =
+        let at : line < f (get_or xs place d) = below d (omega arith) in
+        let later = rising place k d behind h in
+        absurd (omega (arith, at, later, same))
+
+-- no event stands on the line
+pub no_event_line : (events : List Entry) (line place : ℕ) → AllPairs (λ a b. a.line < b.line) events
+    → AllAbove (λ event. event.line) events place line → IsBelowAt (λ event. event.line) events place line
+    → IsTrue (is_event_line events line) → ⊥
+no_event_line events line place rising above below is_line =
+    let apart = apart_from (λ (event : Entry). event.line) events line place rising above below in
+    both_ways _ (list_any_none _ events (λ k d h. ne_eqb _ _ (apart k d h))) is_line
+
+-- where the place is behind the last
+pub below_end : {X : Type 0} (f : X → ℕ) (xs : List X) (line place : ℕ) → length xs ≤ place → IsBelowAt f xs place line
+below_end f xs line place end d h = absurd (omega arith)
+
+-- where what is at the place isn't above the line, and not on it
+pub below_other : {X : Type 0} (f : X → ℕ) (xs : List X) (line place : ℕ) (d' : X)
+    → ((d : X) → place < length xs → line ≤ f (get_or xs place d))
+    → (f (get_or xs place d') ≡ line → ⊥) → IsBelowAt f xs place line
+below_other f xs line place d' reached other d h =
+    let low = reached d h in
+    let same = ap f (get_or_default xs place d d' h) in
+    let ne : f (get_or xs place d) ≢ line = λ e. other (omega (arith, e, same)) in
+    omega (arith, low, ne)
+
+-- of two lists that are walked side by side, what is passed in the first lies above all that is left of the second
+abbrev pub HasPassed : {X Y : Type 0} → (X → ℕ) → (Y → ℕ) → List X → List Y → ℕ → ℕ → Type 0
+HasPassed {X} {Y} f g xs ys place index = (k j : ℕ) (d : X) (e : Y) → k < place → index ≤ j → j < length ys → f (get_or xs k d) < g (get_or ys j e)
+
+-- so everything before the new place lies above what is in hand
+pub above_here : {X Y : Type 0} (f : X → ℕ) (g : Y → ℕ) (xs : List X) (ys : List Y) (from place index line : ℕ) (e' : Y)
+    → line ≡ g (get_or ys index e') → index < length ys → HasPassed f g xs ys from index
+    → ((k : ℕ) (d : X) → from ≤ k → k < place → f (get_or xs k d) < line) → (k : ℕ) (d : X) → k < place → f (get_or xs k d) < line
+above_here f g xs ys from place index line e' is_line has passed below k d h =
+    elim (cases_lt k from) [
+      | inl lt ↦ (let before = passed k index d e' lt (omega arith) has in omega (arith, before, is_line))
+      | inr ge ↦ below k d ge h
+    ]
+
+-- and above what comes later
+pub passed_more : {X Y : Type 0} (f : X → ℕ) (g : Y → ℕ) (xs : List X) (ys : List Y) (from place index line : ℕ) (e' : Y)
+    → AllPairs (λ a b. g a < g b) ys → line ≡ g (get_or ys index e') → index < length ys → HasPassed f g xs ys from index
+    → ((k : ℕ) (d : X) → from ≤ k → k < place → f (get_or xs k d) < line) → HasPassed f g xs ys place (index + 1)
+passed_more f g xs ys from place index line e' rising is_line has passed below k j d e h later h' =
+    elim (cases_lt k from) [
+      | inl lt ↦ passed k j d e lt (omega arith) h'
+      | inr ge ↦ (
+          let here = below k d ge h in
+          let more = rising index j e (omega arith) h' in
+          let same = ap g (get_or_default ys index e e' has) in
+          omega (arith, here, more, same, is_line))
+    ]
+
+-- an event stands on the line, where the one at the place does
+pub event_line_at : (events : List Entry) (line place : ℕ) (d : Entry) → place < length events → (get_or events place d).line ≡ line
+    → IsTrue (is_event_line events line)
+event_line_at events line place d h same = list_any_at (λ (event : Entry). eqb event.line line) events place d h (eq-eqb _ _ same)
+
+-- the first claim on no event's line
+pub first_stray : (events : List Entry) (claims : List Claim) (index line : ℕ) (e : Claim) → index < length claims
+    → line ≡ (get_or claims index e).line
+    → All (λ claim. IsTrue (is_event_line events claim.line)) (take index claims) → ¬ IsTrue (is_event_line events line)
+    → IsFirstStray events claims line
+first_stray events claims index line e h is_line claimed stray = record {
+  before = take index claims;
+  claim = get_or claims index e;
+  after = drop (index + 1) claims;
+  parts = split_at claims index (get_or claims index e) h (get_or_default claims index e (get_or claims index e) h);
+  claimed = claimed;
+  stray = subst (λ n. ¬ IsTrue (is_event_line events n)) is_line stray;
+  placed = is_line;
+}

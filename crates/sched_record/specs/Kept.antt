@@ -1,0 +1,69 @@
+-- What a trace that was read, and a record, keep (this project's profile: the facts on which a run's definitions rest).
+use Rattle.std.specs.Prelude.{ℕ, ℤ, ◌<◌, ◌≤◌, ◌==◌, Bool, IsTrue, List, [], ◌∷◌, All}
+use Rattle.std.specs.List.{list_any, AllPairs}
+use Rattle.cfs_model.specs.declared.act.Act.{Act}
+use Rattle.cfs_model.specs.declared.act.Act.TheVariants.{Switch, Wake, Born, Shift}
+use Rattle.cfs_model.specs.declared.act.Entry.{Entry}
+use Rattle.cfs_model.specs.declared.claim.Claim.{Claim}
+use Rattle.cfs_model.specs.declared.task.Task.{Task}
+use Rattle.cfs_model.specs.Touch.{touched}
+use Rattle.companion_file.specs.Companion.{CompanionReading, IsInOrder as CompanionIsInOrder}
+
+-- the greatest pid
+abbrev pub greatest_pid : ℕ
+greatest_pid = 4194304
+
+-- the pids that an event prints
+abbrev pub pids_of : Act → List ℕ
+pids_of (Switch cpu prev prev_nice way next next_nice) = prev ∷ next ∷ []
+pids_of (Wake cpu pid nice) = pid ∷ []
+pids_of (Born cpu pid nice) = pid ∷ []
+pids_of (Shift orig dest pid nice) = pid ∷ []
+
+-- those of them that can't be the idle task's: of a wakeup, a birth and a migration
+abbrev pub tasks_of : Act → List ℕ
+tasks_of (Switch cpu prev prev_nice way next next_nice) = []
+tasks_of (Wake cpu pid nice) = pid ∷ []
+tasks_of (Born cpu pid nice) = pid ∷ []
+tasks_of (Shift orig dest pid nice) = pid ∷ []
+
+-- an event's pids are in range, and the idle task is neither woken nor born nor migrated
+pub record IsNamed (act : Act) : Type 0 where
+  pub in_range : All (λ pid. pid ≤ greatest_pid) (pids_of act)
+  pub no_idle : All (λ pid. 0 < pid) (tasks_of act)
+
+-- events as a trace lists them
+pub record AreInOrder (events : List Entry) : Type 0 where
+  pub from_one : All (λ event. 0 < event.line) events
+  pub lines_rise : AllPairs (λ a b. a.line < b.line) events
+  pub never_falls : AllPairs (λ a b. a.time ≤ b.time) events
+  pub named : All (λ event. IsNamed event.act) events
+
+-- an event touches only processors below the count
+abbrev pub IsInside : ℕ → Entry → Type 0
+IsInside cpus event = All (λ cpu. cpu < cpus) (touched event.act)
+
+-- whether one of these events stands on this line
+abbrev pub is_event_line : List Entry → ℕ → Bool
+is_event_line events line = list_any (λ event. event.line == line) events
+
+-- a trace and a companion, joined
+pub record RecordReading : Type 0 where
+  pub cpus : ℕ
+  pub start : ℕ
+  pub floors : List ℤ
+  pub tasks : List Task
+  pub events : List Entry
+  pub claims : List Claim
+
+-- the companion's part of a record
+abbrev pub companion_part : RecordReading → CompanionReading
+companion_part r = record { cpus = r.cpus; start = r.start; floors = r.floors; tasks = r.tasks; claims = r.claims }
+
+-- both parts are in order, and they go together
+pub record IsInOrder (r : RecordReading) : Type 0 where
+  pub companion : CompanionIsInOrder (companion_part r)
+  pub events : AreInOrder r.events
+  pub inside : All (IsInside r.cpus) r.events
+  pub started : All (λ event. r.start ≤ event.time) r.events
+  pub claimed : All (λ claim. IsTrue (is_event_line r.events claim.line)) r.claims

@@ -1,0 +1,16 @@
+-- A stream, as contracts see it (this project's profile).
+use Rattle.sched_record.specs.declared.stream.Stream.{Stream}
+pub use Rattle.cfs_model.specs.Cut.{StreamReading}
+pub use Rattle.sched_record.specs.Share.{IsShare, cut_of}
+
+-- the stream, without where it lies in memory
+abbrev pub stream_shown : Stream → StreamReading
+stream_shown s = record {
+  cpu = s.cpu;
+  tasks = s.tasks;
+  floor = s.floor;
+  start = s.start;
+  steps = s.steps;
+  last_time = s.last_time;
+  last_line = s.last_line;
+}

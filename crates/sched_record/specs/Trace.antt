@@ -1,0 +1,63 @@
+-- What a trace says as a whole (ftrace.rst: one event a line, in the order of time; that the first bad line decides
+-- is this project's profile).
+use Rattle.std.specs.Prelude.{◌≡◌, ℕ, ◌+◌, ◌<◌, ◌≤◌, List, [], ◌∷◌, ◌++◌, length, Option, Some, Result, Ok, Err}
+use Rattle.std.specs.List.{AllPairs, AllZip, enumerate_from, filter_map}
+use Rattle.cfs_model.specs.declared.act.Entry.{Entry}
+use Rattle.ftrace_line.specs.Lines.{lines_of}
+use Rattle.sched_record.specs.declared.cause.TraceCause.{TraceCause}
+use Rattle.sched_record.specs.declared.cause.TraceCause.TheVariants.{TooManyLines, Line, LostEvents, Event, TimeBack}
+use Rattle.sched_record.specs.declared.cause.TraceFault.{TraceFault}
+use Rattle.sched_record.specs.declared.cause.TraceFault.TheVariants.{Text, Memory}
+use Rattle.sched_record.specs.declared.trace.Trace.{Trace}
+use Rattle.sched_record.specs.Said.{LineSays}
+
+-- No line of these is bad, and these are their events: each line, numbered from 1, says an event or nothing, the
+-- events stand in the order of their lines, and from one to the next the time never falls.
+pub record AreEventsOf (lines : List (List ℕ)) (events : List Entry) : Type 0 where
+  pub said : List (Option Entry)
+  pub each : AllZip (λ line say. LineSays line.0 line.1 (Ok say)) (enumerate_from 1 lines) said
+  pub kept : events ≡ filter_map (λ say. say) said
+  pub in_time : AllPairs (λ a b. a.time ≤ b.time) events
+
+-- the line says an event that is earlier than the last of these
+pub record IsTimeBack (events : List Entry) (number : ℕ) (line : List ℕ) : Type 0 where
+  pub before : List Entry
+  pub last : Entry
+  pub event : Entry
+  pub parts : events ≡ before ++ last ∷ []
+  pub says : LineSays number line (Ok (Some event))
+  pub falls : event.time < last.time
+
+-- behind lines with these events the line of this number is bad, for this cause
+abbrev pub IsBadAfter : List Entry → ℕ → List ℕ → TraceCause → Type 0
+IsBadAfter events number line TooManyLines = LineSays number line (Err TooManyLines)
+IsBadAfter events number line (Line fault) = LineSays number line (Err (Line fault))
+IsBadAfter events number line LostEvents = LineSays number line (Err LostEvents)
+IsBadAfter events number line (Event fault) = LineSays number line (Err (Event fault))
+IsBadAfter events number line TimeBack = IsTimeBack events number line
+
+-- the first bad line of all, with its number and its cause
+pub record IsFirstBad (lines : List (List ℕ)) (number : ℕ) (cause : TraceCause) : Type 0 where
+  pub front : List (List ℕ)
+  pub line : List ℕ
+  pub rest : List (List ℕ)
+  pub events : List Entry
+  pub parts : lines ≡ front ++ line ∷ rest
+  pub good : AreEventsOf front events
+  pub placed : number ≡ length front + 1
+  pub bad : IsBadAfter events number line cause
+
+-- a trace means its events, or its first bad line and why it is bad
+abbrev pub TraceAnswer : List ℕ → Result (List Entry) (ℕ × TraceCause) → Type 0
+TraceAnswer text (Ok events) = AreEventsOf (lines_of text) events
+TraceAnswer text (Err fault) = IsFirstBad (lines_of text) fault.0 fault.1
+
+-- the events of a trace that was read
+abbrev pub events_of : Trace → List Entry
+events_of trace = trace.events
+
+-- what a reading says of the trace meets the fact; want of memory says nothing of it
+abbrev pub Tells : Result Trace TraceFault → (Result (List Entry) (ℕ × TraceCause) → Type 0) → Type 0
+Tells (Ok trace) Fact = Fact (Ok (events_of trace))
+Tells (Err (Text line cause)) Fact = Fact (Err (line, cause))
+Tells (Err Memory) Fact = Unit {0}

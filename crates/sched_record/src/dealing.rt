@@ -1,0 +1,171 @@
+ghost use Rattle.std.specs.Prelude.{◌≡◌, ◌==◌, ℕ, ◌<◌, ◌≤◌, length, pos, IfOk, slice_index_or};
+ghost use Rattle.std.specs.List.{AllPairs, list_any};
+ghost use Rattle.cfs_model.specs.Claimed.{claim_at, claimed};
+ghost use Rattle.cfs_model.specs.Cut.{claim_for, deed_at as deed_here, steps_at, tasks_at};
+ghost use Rattle.cfs_model.specs.Touch.{touched};
+ghost use Rattle.cfs_model.specs.declared.claim.Claim.{Claim};
+
+use crate::record::Record;
+use crate::steps::Steps;
+use crate::stream::Stream;
+use cfs_model::{Act, Claim, Deed, Entry, Memory, Step, Task};
+use companion_file::Tasks;
+use std::alloc::Global;
+
+impl Record {
+    ghost use Rattle.sched_record.specs.Record.{shown};
+    ghost use Rattle.sched_record.specs.Stream.{cut_of, stream_shown};
+
+    /// What one processor sees of the record: its tasks and floor, and the steps of the events that touch it.
+    pub fn deal(&self, cpu: u32) -> Result<Stream, Memory>
+        requires { cpu < (shown self.now).cpus }
+        ensures { IfOk result (λ stream. stream_shown stream ≡ cut_of (shown self.now) cpu) }
+    {
+        let alloc = self.allocator();
+        let tasks = tasks_of(alloc, self.tasks(), cpu)?;
+        let steps = steps_of(alloc, self.events(), self.claims(), cpu)?;
+        Ok(Stream {
+            cpu,
+            tasks,
+            floor: floor_of(self.floors(), cpu),
+            start: self.start(),
+            steps,
+            last_time: self.last_time(),
+            last_line: self.last_line(),
+        })
+    }
+}
+
+/// A processor's floor.
+fn floor_of(floors: &[i64], cpu: u32) -> i64
+    requires { cpu < length floors.now }
+    ensures { result ≡ slice_index_or floors.now cpu (pos 0) }
+{
+    floors[cpu as usize]
+}
+
+/// The tasks that stand at a processor.
+fn tasks_of(alloc: Global, tasks: &[Task], cpu: u32) -> Result<Tasks, Memory>
+    ensures { IfOk result (λ list. list ≡ tasks_at cpu tasks.now) }
+{
+    let mut here = Vec::new(alloc);
+    for task in tasks {
+        if task.cpu == cpu {
+            here.push(*task)?;
+        }
+    }
+    Ok(Tasks::new(here))
+}
+
+/// The steps of the events that touch a processor. Events and claims are walked side by side.
+fn steps_of(alloc: Global, events: &[Entry], claims: &[Claim], cpu: u32) -> Result<Steps, Memory>
+    requires events_rise { AllPairs (λ a b. a.line < b.line) events.now }
+    requires claims_rise { AllPairs (λ a b. a.line < b.line) claims.now }
+    ensures { IfOk result (λ list. list ≡ steps_at cpu (claimed claims.now events.now)) }
+{
+    let mut steps = Vec::new(alloc);
+    let mut place = 0;
+    for event in events {
+        place = claim_from(claims, place, event.line);
+        if touches(event.act, cpu) {
+            let deed = deed_at(event.act, cpu);
+            let claim = claim_for(&deed, claim_on(claims, place, event.line));
+            steps.push(Step {
+                line: event.line,
+                time: event.time,
+                deed,
+                claim,
+            })?;
+        }
+    }
+    Ok(Steps::from_vec(steps))
+}
+
+/// Whether an event touches a processor.
+fn touches(act: Act, cpu: u32) -> bool
+    ensures { result ≡ list_any (λ other. other == cpu) (touched act) }
+{
+    match act {
+        Act::Switch { cpu: here, .. } => here == cpu,
+        Act::Wake { cpu: here, .. } => here == cpu,
+        Act::Born { cpu: here, .. } => here == cpu,
+        Act::Shift { orig, dest, .. } => orig == cpu || dest == cpu,
+    }
+}
+
+/// What an event does at a processor that it touches.
+fn deed_at(act: Act, cpu: u32) -> Deed
+    ensures { result ≡ deed_here cpu act }
+{
+    match act {
+        Act::Switch {
+            prev,
+            prev_nice,
+            way,
+            next,
+            next_nice,
+            ..
+        } => Deed::Switch {
+            prev,
+            prev_nice,
+            way,
+            next,
+            next_nice,
+        },
+        Act::Wake { pid, nice, .. } => Deed::Wake { pid, nice },
+        Act::Born { pid, nice, .. } => Deed::Born { pid, nice },
+        Act::Shift {
+            orig,
+            dest,
+            pid,
+            nice,
+        } => {
+            if orig == cpu {
+                Deed::Leave { pid, nice, dest }
+            } else {
+                Deed::Arrive { pid, nice, orig }
+            }
+        }
+    }
+}
+
+/// The claim of a step: a task that leaves has none.
+fn claim_for(deed: &Deed, claim: Option<Claim>) -> Option<Claim>
+    ensures { result ≡ claim_for deed.now claim }
+{
+    match *deed {
+        Deed::Leave { .. } => None,
+        Deed::Switch { .. } => claim,
+        Deed::Wake { .. } => claim,
+        Deed::Born { .. } => claim,
+        Deed::Arrive { .. } => claim,
+    }
+}
+
+/// The claim at a place, if it stands on the line.
+fn claim_on(claims: &[Claim], place: usize, line: u32) -> Option<Claim>
+    requires rise { AllPairs (λ a b. a.line < b.line) claims.now }
+    requires above { (k : ℕ) (d : Claim) → k < place → (slice_index_or claims.now k d).line < line }
+    requires reached { (d : Claim) → place < length claims.now → line ≤ (slice_index_or claims.now place d).line }
+    ensures { result ≡ claim_at claims.now line }
+{
+    if place < claims.len() && claims[place].line == line {
+        Some(claims[place])
+    } else {
+        None
+    }
+}
+
+/// The place of the first claim, from a place on, that stands on this line or below it.
+fn claim_from(claims: &[Claim], from: usize, line: u32) -> usize
+    requires { from ≤ length claims.now }
+    ensures within { (from ≤ result) × (result ≤ length claims.now) }
+    ensures below { (k : ℕ) (d : Claim) → from ≤ k → k < result → (slice_index_or claims.now k d).line < line }
+    ensures reached { (d : Claim) → result < length claims.now → line ≤ (slice_index_or claims.now result d).line }
+{
+    let mut place = from;
+    while place < claims.len() && claims[place].line < line {
+        place += 1;
+    }
+    place
+}

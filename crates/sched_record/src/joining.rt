@@ -1,0 +1,157 @@
+ghost use Rattle.std.specs.Prelude.{◌≡◌, ◌↔◌, ℕ, ◌<◌, ◌≤◌, Result, length, All, Any, IfErr, IfNone, IfSome, IsTrue, slice_index_or};
+ghost use Rattle.std.specs.Bool.{OnFalse, OnTrue};
+ghost use Rattle.std.specs.List.{AllPairs};
+ghost use Rattle.cfs_model.specs.Touch.{touched};
+ghost use Rattle.cfs_model.specs.declared.act.Entry.{Entry};
+ghost use Rattle.companion_file.specs.Companion.{shown as companion_shown};
+ghost use Rattle.sched_record.specs.Join.{BeginsInTime, GoTogether, IsBeforeStart, IsFirstOutside, IsFirstStray, Refuses};
+ghost use Rattle.sched_record.specs.Kept.{AreInOrder, IsInside, is_event_line};
+ghost use Rattle.sched_record.specs.Record.{RecordAnswer, RecordReading, join_seen};
+ghost use Rattle.sched_record.specs.Trace.{events_of};
+
+use crate::record::Record;
+use crate::trace::Trace;
+use cfs_model::{Act, Claim, Entry};
+use companion_file::Companion;
+
+/// Why a trace and a companion don't go together, in the order of the tests, each over the whole.
+#[derive(Clone, Copy, Debug, PartialEq, Eq)]
+pub enum JoinCause {
+    /// An event touches a processor that the companion doesn't have: the first such event.
+    CpuOutside,
+    /// The first event comes before the start.
+    StartLate,
+    /// A claim stands on a line that is no event's: the first such claim.
+    ClaimNoEvent,
+}
+
+/// The first reason why a trace and a companion don't go together.
+#[derive(Clone, Copy, Debug, PartialEq, Eq)]
+pub struct JoinFault {
+    /// The line in the trace, from 1, comments counted.
+    pub line: u64,
+    pub cause: JoinCause,
+}
+
+/// The record of a trace and its companion. A refusal hands both back as they were.
+pub fn join(trace: Trace, companion: Companion) -> Result<Record, (Trace, Companion, JoinFault)>
+    // What is answered is what joining them gives.
+    ensures answered { RecordAnswer (events_of trace) (companion_shown companion) (join_seen result) }
+    // What joining them gives is answered.
+    ensures only { (answer : Result RecordReading (ℕ × JoinCause)) →
+        RecordAnswer (events_of trace) (companion_shown companion) answer → join_seen result ≡ answer }
+    // Each refusal, with its line, exactly where it is due.
+    ensures cpu_outside { (line : ℕ) → (join_seen result ≡ Err (line, JoinCause.CpuOutside))
+        ↔ Refuses (events_of trace) (companion_shown companion) line JoinCause.CpuOutside }
+    ensures start_late { (line : ℕ) → (join_seen result ≡ Err (line, JoinCause.StartLate))
+        ↔ Refuses (events_of trace) (companion_shown companion) line JoinCause.StartLate }
+    ensures claim_no_event { (line : ℕ) → (join_seen result ≡ Err (line, JoinCause.ClaimNoEvent))
+        ↔ Refuses (events_of trace) (companion_shown companion) line JoinCause.ClaimNoEvent }
+    // A refusal gives both back.
+    ensures back { IfErr result (λ back. (back.0 ≡ trace) × (back.1 ≡ companion)) }
+{
+    record_of(trace, companion)
+}
+
+/// The record, or the first reason to refuse.
+fn record_of(trace: Trace, companion: Companion) -> Result<Record, (Trace, Companion, JoinFault)>
+    ensures answered { RecordAnswer (events_of trace) (companion_shown companion) (join_seen result) }
+    ensures back { IfErr result (λ back. (back.0 ≡ trace) × (back.1 ≡ companion)) }
+{
+    match refusal_of(trace.events(), &companion) {
+        Some(fault) => Err((trace, companion, fault)),
+        None => Ok(Record::new(trace, companion)),
+    }
+}
+
+/// The first reason to refuse, if there is one.
+fn refusal_of(events: &[Entry], companion: &Companion) -> Option<JoinFault>
+    requires { AreInOrder events.now }
+    ensures none { IfNone result (GoTogether events.now (companion_shown companion.now)) }
+    ensures found { IfSome result (λ fault. Refuses events.now (companion_shown companion.now) fault.line fault.cause) }
+{
+    if let Some(line) = outside_line(events, companion.cpus()) {
+        return Some(refusal(line, JoinCause::CpuOutside));
+    }
+    if let Some(line) = early_line(events, companion.start()) {
+        return Some(refusal(line, JoinCause::StartLate));
+    }
+    stray_line(events, companion.claims()).map(|line| refusal(line, JoinCause::ClaimNoEvent))
+}
+
+fn refusal(line: u32, cause: JoinCause) -> JoinFault
+    ensures { result ≡ record { line = line; cause = cause } }
+{
+    JoinFault {
+        line: u64::from(line),
+        cause,
+    }
+}
+
+/// Whether an event touches only processors below the count.
+fn is_inside(act: Act, cpus: u32) -> bool
+    ensures inside { OnTrue result (All (λ cpu. cpu < cpus) (touched act)) }
+    ensures outside { OnFalse result (Any (λ cpu. cpus ≤ cpu) (touched act)) }
+{
+    match act {
+        Act::Switch { cpu, .. } => cpu < cpus,
+        Act::Wake { cpu, .. } => cpu < cpus,
+        Act::Born { cpu, .. } => cpu < cpus,
+        Act::Shift { orig, dest, .. } => orig < cpus && dest < cpus,
+    }
+}
+
+/// The line of the first event that touches a processor from the count on.
+fn outside_line(events: &[Entry], cpus: u32) -> Option<u32>
+    ensures none { IfNone result (All (IsInside cpus) events.now) }
+    ensures found { IfSome result (λ line. IsFirstOutside cpus events.now line) }
+{
+    for event in events {
+        if !is_inside(event.act, cpus) {
+            return Some(event.line);
+        }
+    }
+    None
+}
+
+/// The line of the first event, where it comes before the start.
+fn early_line(events: &[Entry], start: u64) -> Option<u32>
+    ensures none { IfNone result (BeginsInTime start events.now) }
+    ensures found { IfSome result (λ line. IsBeforeStart start events.now line) }
+{
+    match events {
+        [event, ..] if event.time < start => Some(event.line),
+        _ => None,
+    }
+}
+
+/// The line of the first claim that stands on no event's line. Claims and events are walked side by side.
+fn stray_line(events: &[Entry], claims: &[Claim]) -> Option<u32>
+    requires events_rise { AllPairs (λ a b. a.line < b.line) events.now }
+    requires claims_rise { AllPairs (λ a b. a.line < b.line) claims.now }
+    ensures none { IfNone result (All (λ claim. IsTrue (is_event_line events.now claim.line)) claims.now) }
+    ensures found { IfSome result (λ line. IsFirstStray events.now claims.now line) }
+{
+    let mut place = 0;
+    for claim in claims {
+        place = place_from(events, place, claim.line);
+        if place == events.len() || events[place].line != claim.line {
+            return Some(claim.line);
+        }
+    }
+    None
+}
+
+/// The place of the first event, from a place on, whose line isn't above this one's front.
+fn place_from(events: &[Entry], from: usize, line: u32) -> usize
+    requires { from ≤ length events.now }
+    ensures within { (from ≤ result) × (result ≤ length events.now) }
+    ensures below { (k : ℕ) (d : Entry) → from ≤ k → k < result → (slice_index_or events.now k d).line < line }
+    ensures reached { (d : Entry) → result < length events.now → line ≤ (slice_index_or events.now result d).line }
+{
+    let mut place = from;
+    while place < events.len() && events[place].line < line {
+        place += 1;
+    }
+    place
+}

@@ -1,0 +1,92 @@
+ghost use Rattle.std.specs.Prelude.{◌≡◌};
+ghost use Rattle.companion_file.specs.Companion.{shown as companion_shown};
+ghost use Rattle.sched_record.specs.Join.{joined};
+ghost use Rattle.sched_record.specs.Kept.{IsInOrder};
+
+use crate::trace::Trace;
+use cfs_model::{Claim, Entry, Task};
+use companion_file::Companion;
+use std::alloc::Global;
+
+/// A trace and its companion, joined.
+#[derive(Debug, Drop)]
+pub struct Record {
+    trace: Trace,
+    companion: Companion,
+    pub ghost in_order: { IsInOrder (joined trace.events (companion_shown companion)) },
+}
+
+impl Record {
+    ghost use Rattle.sched_record.specs.Join.{GoTogether};
+    ghost use Rattle.sched_record.specs.Record.{shown, last_time_of, last_line_of};
+    ghost use Rattle.sched_record.specs.Trace.{events_of};
+
+    pub(crate) fn new(trace: Trace, companion: Companion) -> Record
+        requires { GoTogether (events_of trace) (companion_shown companion) }
+        ensures { shown result ≡ joined (events_of trace) (companion_shown companion) }
+    {
+        Record { trace, companion }
+    }
+
+    /// The number of processors, 1 to 64.
+    pub fn cpus(&self) -> u32
+        ensures { result ≡ (shown self.now).cpus }
+    {
+        self.companion.cpus()
+    }
+
+    /// The start time, in nanoseconds.
+    pub fn start(&self) -> u64
+        ensures { result ≡ (shown self.now).start }
+    {
+        self.companion.start()
+    }
+
+    /// The events, in the order of their lines.
+    pub fn events(&self) -> &[Entry]
+        ensures { result.now ≡ (shown self.now).events }
+    {
+        self.trace.events()
+    }
+
+    /// The claims, in the order of their lines.
+    pub fn claims(&self) -> &[Claim]
+        ensures { result.now ≡ (shown self.now).claims }
+    {
+        self.companion.claims()
+    }
+
+    /// The tasks of the start state, by rising pid.
+    pub fn tasks(&self) -> &[Task]
+        ensures { result.now ≡ (shown self.now).tasks }
+    {
+        self.companion.tasks()
+    }
+
+    /// Each processor's floor at the start, in virtual nanoseconds, signed.
+    pub fn floors(&self) -> &[i64]
+        ensures { result.now ≡ (shown self.now).floors }
+    {
+        self.companion.floors()
+    }
+
+    /// The time of the last event, in nanoseconds; the start where there is none.
+    pub fn last_time(&self) -> u64
+        ensures { result ≡ last_time_of (shown self.now) }
+    {
+        self.events()
+            .last()
+            .map_or(self.start(), |event| event.time)
+    }
+
+    /// The line of the last event in the trace, from 1, comments counted; 0 where there is none.
+    pub fn last_line(&self) -> u32
+        ensures { result ≡ last_line_of (shown self.now) }
+    {
+        self.events().last().map_or(0, |event| event.line)
+    }
+
+    pub(crate) fn allocator(&self) -> Global {
+        self.trace.allocator()
+    }
+}

@@ -1,0 +1,36 @@
+ghost use Rattle.std.specs.Prelude.{◌≡◌};
+ghost use Rattle.sched_record.specs.Kept.{AreInOrder};
+
+use crate::events::Events;
+use cfs_model::Entry;
+use std::alloc::Global;
+
+/// A trace that was read: its events.
+#[derive(Debug, Drop)]
+pub struct Trace {
+    events: Events,
+    pub ghost in_order: { AreInOrder events },
+}
+
+impl Trace {
+    ghost use Rattle.sched_record.specs.Trace.{events_of};
+
+    /// A trace of these events.
+    pub fn new(events: Events) -> Trace
+        requires { AreInOrder events }
+        ensures { events_of result ≡ events }
+    {
+        Trace { events }
+    }
+
+    /// The events, in the order of their lines.
+    pub fn events(&self) -> &[Entry]
+        ensures { result.now ≡ events_of self.now }
+    {
+        self.events.as_slice()
+    }
+
+    pub(crate) fn allocator(&self) -> Global {
+        self.events.allocator()
+    }
+}

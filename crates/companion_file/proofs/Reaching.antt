@@ -13,7 +13,7 @@ use Rattle.companion_file.specs.Earlier.{Said, summed, has_all_floors}
 use Rattle.companion_file.specs.Reading.{CompanionReading}
 use Rattle.companion_file.specs.declared.fault.CompanionFault.{CompanionFault}
 use Rattle.companion_file.specs.declared.fault.CompanionFault.TheVariants as faults
-use Rattle.companion_file.specs.Draft.{Takes, KeepsOrder, IsWhole, fault_at, IsShortAfter}
+use Rattle.companion_file.specs.Draft.{Takes, KeepsOrder, IsWhole, fault_at}
 use Rattle.companion_file.specs.Companion.{AreGood, IsFirstBad, IsShort, IsRead, IsAnswered}
 use Rattle.companion_file.proofs.Summing.{told, summed-push}
 use Rattle.companion_file.proofs.GoodLines.{order_of_good, comment_after, line_after}
@@ -110,6 +110,5 @@ pub refused_answer : (text rest line after : List ℕ) (number : ℕ) (old new :
 refused_answer text rest line after number old new (refusals.Bad cause) at cut refused = inl (reached_bad text rest line after number old new cause at cut refused)
 refused_answer text rest line after number old new refusals.Memory at cut refused = tt
 
-pub short_answer : (text rest : List ℕ) (number : ℕ) (kept : Said) (fault : CompanionFault) → IsReached text rest number kept → length rest ≡ 0 → has_all_floors kept ≡ false → IsShortAfter number fault → IsAnswered text (Err fault)
-short_answer text rest number kept (faults.Text line cause) at empty missing short = inr (rw (short.0, short.1) (reached_short text rest number kept at empty missing))
-short_answer text rest number kept faults.Memory at empty missing short = tt
+pub short_answer : (text rest : List ℕ) (number : ℕ) (kept : Said) → IsReached text rest number kept → length rest ≡ 0 → has_all_floors kept ≡ false → IsAnswered text (Err (faults.Text (number + 1) Short))
+short_answer text rest number kept at empty missing = inr (reached_short text rest number kept at empty missing)

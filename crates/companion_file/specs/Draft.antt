@@ -80,8 +80,3 @@ pub record IsWhole (said : Said) (r : CompanionReading) : Type 0 where
 abbrev pub fault_at : ℕ → Refusal → CompanionFault
 fault_at line (refusals.Bad cause) = faults.Text line cause
 fault_at line refusals.Memory = faults.Memory
-
--- the fault of a text that ends too soon after so many lines, whose next line's number fits
-abbrev pub IsShortAfter : ℕ → CompanionFault → Type 0
-IsShortAfter lines (faults.Text line cause) = (line ≡ lines + 1) × (cause ≡ Short)
-IsShortAfter lines faults.Memory = 2 ^ 64 ≤ lines + 1

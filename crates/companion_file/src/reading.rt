@@ -1,8 +1,7 @@
-ghost use Rattle.std.specs.Prelude.{◌≡◌, ℕ, List, Result, IsErrOf, IfOk};
+ghost use Rattle.std.specs.Prelude.{◌≡◌, ℕ, ◌+◌, ◌<◌, ◌^◌, List, Result, IsErrOf, IfOk};
 ghost use Rattle.ftrace_line.specs.Lines.{lines_of};
 ghost use Rattle.companion_file.specs.declared.fault.CompanionCause.{CompanionCause};
 ghost use Rattle.companion_file.specs.Companion.{CompanionReading, CompanionAnswer, IsRefused, IsRead, IsAnswered, Gives, shown};
-ghost use Rattle.companion_file.specs.Draft.{IsShortAfter};
 
 use crate::companion::Companion;
 use crate::draft::Draft;
@@ -47,14 +46,11 @@ fn companion_of(alloc: Global, text: &[u8]) -> Result<Companion, CompanionFault>
 
 /// The fault of a text that ends too soon, after so many lines.
 fn short_after(lines: u64) -> CompanionFault
-    ensures { IsShortAfter lines result }
+    requires { lines + 1 < 2 ^ 64 }
+    ensures { result ≡ CompanionFault.Text (lines + 1) CompanionCause.Short }
 {
-    match lines.checked_add(1) {
-        Some(line) => CompanionFault::Text {
-            line,
-            cause: CompanionCause::Short,
-        },
-        // No text has so many lines: a slice's bytes are fewer.
-        None => CompanionFault::Memory,
+    CompanionFault::Text {
+        line: lines + 1,
+        cause: CompanionCause::Short,
     }
 }

@@ -13,19 +13,19 @@ use std::alloc::Global;
 const CPU: u32 = 0;
 
 /// The verdict on a record, all of which is audited.
-pub(crate) fn judge(alloc: Global, record: &Record, knobs: Knobs) -> Result<Verdict, Memory>
-    requires { IsAllTaken (shown record.now) }
-    ensures { IfOk result (IsVerdict knobs (shown record.now)) }
+pub(crate) fn judge(alloc: Global, joined: &Record, knobs: Knobs) -> Result<Verdict, Memory>
+    requires { IsAllTaken (shown joined.now) }
+    ensures { IfOk result (IsVerdict knobs (shown joined.now)) }
 {
-    let events = record.events();
-    let floor = record.floors()[0];
+    let events = joined.events();
+    let floor = joined.floors()[0];
     match walk(
         alloc,
-        record.start(),
+        joined.start(),
         floor,
-        record.tasks(),
+        joined.tasks(),
         events,
-        record.claims(),
+        joined.claims(),
         knobs,
     )? {
         Walked::Run => Ok(Verdict::Run(Summary {

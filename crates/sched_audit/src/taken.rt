@@ -9,12 +9,12 @@ use sched_record::Record;
 const NO_LINE: u64 = 0;
 
 /// Where a record has what isn't audited yet, if anywhere.
-pub(crate) fn untaken(record: &Record) -> Option<u64>
-    ensures later { IfSome result (IsLater (shown record.now)) }
-    ensures taken { IfNone result (IsAllTaken (shown record.now)) }
+pub(crate) fn untaken(joined: &Record) -> Option<u64>
+    ensures later { IfSome result (IsLater (shown joined.now)) }
+    ensures taken { IfNone result (IsAllTaken (shown joined.now)) }
 {
-    if record.cpus() == 1 {
-        first_untaken(record.events()).map(|line| u64::from(line))
+    if joined.cpus() == 1 {
+        first_untaken(joined.events()).map(|line| u64::from(line))
     } else {
         Some(NO_LINE)
     }

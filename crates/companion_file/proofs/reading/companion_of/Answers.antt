@@ -29,7 +29,11 @@ returns-in-Some c =
     reached_whole c.args.text.now c.loop-rest.rest.now c.loop-rest.number c.loop-rest.draft (shown c.in-Some.companion) c.loop-rest.invariant
     (eqb-true (length c.loop-rest.rest.now) 0 (sym c.is_empty.ensures ∙ c.loop-rest-test.false)) c.in-Some.ensures
 
+pub short_after-requires : goal.short_after-requires
+short_after-requires c = omega (arith, c.loop-rest.invariant.fits)
+
 pub returns-in-None : goal.returns-in-None
 returns-in-None c =
-    short_answer c.args.text.now c.loop-rest.rest.now c.loop-rest.number c.loop-rest.draft c.short_after.result c.loop-rest.invariant
-    (eqb-true (length c.loop-rest.rest.now) 0 (sym c.is_empty.ensures ∙ c.loop-rest-test.false)) c.in-None.ensures c.short_after.ensures
+    rw c.short_after.ensures
+    (short_answer c.args.text.now c.loop-rest.rest.now c.loop-rest.number c.loop-rest.draft c.loop-rest.invariant
+    (eqb-true (length c.loop-rest.rest.now) 0 (sym c.is_empty.ensures ∙ c.loop-rest-test.false)) c.in-None.ensures)

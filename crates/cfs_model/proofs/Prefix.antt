@@ -25,7 +25,7 @@ steps_length knobs first [] (m ∷ states) steps = absurd steps
 steps_length knobs first (event ∷ events) [] steps = absurd steps
 steps_length knobs first (event ∷ events) (m ∷ states) steps = ap suc (steps_length knobs m events states steps.1)
 
-slice_get-append_left : (xs ys : List Machine) (n : ℕ) → n < length xs → slice_get (xs ++ ys) n ≡ slice_get xs n
+pub slice_get-append_left : (xs ys : List Machine) (n : ℕ) → n < length xs → slice_get (xs ++ ys) n ≡ slice_get xs n
 slice_get-append_left [] ys n h = absurd (omega arith)
 slice_get-append_left (x ∷ xs) ys zero h = refl
 slice_get-append_left (x ∷ xs) ys (suc n) h = slice_get-append_left xs ys n (le_of_suc-le-suc h)
@@ -38,12 +38,12 @@ time_at [] rest n h = absurd (omega arith)
 time_at (e ∷ events) rest zero h = refl
 time_at (e ∷ events) rest (suc n) h = time_at events rest n (le_of_suc-le-suc h)
 
-start_time_at : (start : ℕ) (events rest : List Claimed) (n : ℕ) → n < suc (length events)
+pub start_time_at : (start : ℕ) (events rest : List Claimed) (n : ℕ) → n < suc (length events)
     → get_or (times_of start (events ++ rest)) n 0 ≡ get_or (times_of start events) n 0
 start_time_at start events rest zero h = refl
 start_time_at start events rest (suc n) h = time_at events rest n (le_of_suc-le-suc h)
 
-front_slack : (slack start : ℕ) (first : Machine) (events rest : List Claimed) (front back : List Machine)
+pub front_slack : (slack start : ℕ) (first : Machine) (events rest : List Claimed) (front back : List Machine)
     → length front ≡ length events → KeepsSlack slack (times_of start (events ++ rest)) (first ∷ (front ++ back))
     → KeepsSlack slack (times_of start events) (first ∷ front)
 front_slack slack start first events rest front back same keeps cpu i j below within idles =

@@ -1,7 +1,6 @@
 -- What a start keeps, from the same facts by index, as a list's readers state them.
-use Rattle.std.proofs.Common.{◌≡◌, ◌≢◌, ℕ, suc, ◌<◌, List, [], ◌∷◌, All, AllPairs, ℤ, suc-le-suc, arith}
-use Rattle.std.proofs.lemmas.List.Elements.{recursion_from_All, All-tail}
-use Rattle.std.specs.List.{AllByRecursion}
+use Rattle.std.proofs.Common.{◌≡◌, ◌≢◌, suc, ◌<◌, List, [], ◌∷◌, All, AllPairs, ℤ, suc-le-suc, arith}
+use Rattle.std.proofs.lemmas.List.Elements.{recursion_from_All}
 use Rattle.cfs_model.specs.Charge.{IsInRange}
 use Rattle.cfs_model.specs.Order.{RunTogether, PidsRise, OneRuns, IsStart}
 use Rattle.cfs_model.specs.declared.task.Place.TheVariants.{Run}

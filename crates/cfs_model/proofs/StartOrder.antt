@@ -57,7 +57,7 @@ named_above n (t ∷ tasks) place cpu pid above h =
     ]
 
 -- who stands somewhere is the task found by its pid
-named_task : (tasks : List Task) → PidsRise tasks → (place : Place) (cpu pid : ℕ) → named_in tasks place cpu pid ≡ true
+pub named_task : (tasks : List Task) → PidsRise tasks → (place : Place) (cpu pid : ℕ) → named_in tasks place cpu pid ≡ true
     → (t : Task) × (task_of tasks pid ≡ Some t) × (t.cpu ≡ cpu) × (t.place ≡ place)
 named_task [] rise place cpu pid h = absurd (true≢false (sym h))
 named_task (t ∷ tasks) rise place cpu pid h =
@@ -73,7 +73,7 @@ named_task (t ∷ tasks) rise place cpu pid h =
     ]
 
 -- the task found by a pid stands there
-task_named : (tasks : List Task) (pid : ℕ) (t : Task) → task_of tasks pid ≡ Some t → named_in tasks t.place t.cpu pid ≡ true
+pub task_named : (tasks : List Task) (pid : ℕ) (t : Task) → task_of tasks pid ≡ Some t → named_in tasks t.place t.cpu pid ≡ true
 task_named [] pid t e = cc
 task_named (u ∷ tasks) pid t e = go (nat_eq u.pid pid) refl e (task_named tasks pid t)
   where

@@ -38,7 +38,7 @@ gone_same m between after pid e p = record {
 }
 
 -- where a pid stands, it stands alone
-alone : (m : Machine) → IsApart m → (place : Place) (cpu pid : ℕ) → Stands m place cpu pid → (r : Place) (d : ℕ)
+pub alone : (m : Machine) → IsApart m → (place : Place) (cpu pid : ℕ) → Stands m place cpu pid → (r : Place) (d : ℕ)
     → Stands m r d pid → (r ≡ place) × (d ≡ cpu)
 alone m a place cpu pid h r d k = a.one_place pid r place d cpu k h
 
@@ -53,7 +53,7 @@ paused_apart m cpu pid to after a runs pauses p e f = (
   (λ q h. elim (p.cases Run cpu q h) [ inl x ↦ pauses (sym x.1) | inr x ↦ x.0 (a.one_runs cpu q pid x.1 runs) ]),
 )
 
-prev_apart : (m : Machine) (cpu prev : ℕ) (way : Way) → IsApart m → IsCurrent m cpu prev
+pub prev_apart : (m : Machine) (cpu prev : ℕ) (way : Way) → IsApart m → IsCurrent m cpu prev
     → IsApart (after_prev m cpu prev way) × NobodyStands (after_prev m cpu prev way) Run cpu
 prev_apart m cpu zero way a current = (a, current)
 prev_apart m cpu (suc n) Stays a current =
@@ -155,7 +155,7 @@ change_apart knobs m (Born cpu pid nice) claim after a s = subst IsApart (sym s.
     (born_apart m cpu pid nice s.placed a s.nowhere)
 change_apart knobs m (Shift orig dest pid nice) claim after a s = moved_apart m orig dest pid nice claim after a s
 
-apart_of : (m : Machine) → IsInOrder m → IsApart m
+pub apart_of : (m : Machine) → IsInOrder m → IsApart m
 apart_of m o = record { one_place = o.one_place; one_runs = o.one_runs; runtimes = o.runtimes; nices = o.nices }
 
 pub step_in_order : (knobs : Settings) (before : Machine) (event : Claimed) (after : Machine) → IsInOrder before

@@ -1,5 +1,5 @@
--- In a reader's order: the numbers and settings, then what a run is, then the order that it keeps, then the kinds of
--- fault.
+-- In a reader's order: the numbers and settings, then what a run is, then the order that it keeps; then the replay of
+-- one processor, and the laws that tie it to a run; then the kinds of fault.
 pub mod Nice
 pub mod Charge
 pub mod Settings
@@ -13,6 +13,21 @@ pub mod Idle
 pub mod Run
 pub mod Order
 pub mod Laws
+pub mod Part
+pub mod Deeds
+pub mod Standing
+pub mod Placing
+pub mod Tests
 pub mod Cut
+pub mod Noted
+pub mod Page
+pub mod OnePage
+pub mod PartStep
+pub mod Migration
+pub mod Following
+pub mod OneProcessor
+pub mod Faults
+pub mod Composition
+pub mod Endings
 pub mod Kinds
 pub mod Examples

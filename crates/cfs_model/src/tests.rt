@@ -1,7 +1,8 @@
 use crate::{
-    Kind, Knobs, Memory, Nice, PrioFault, birth_example, charge, floors_rise, idle_example,
-    marks_move, migration_example, one_list, pick_example, places, prefixes, put_back_example,
-    wake_example, weight,
+    Kind, Knobs, Memory, Nice, PrioFault, birth_example, charge, composition, endings,
+    faults_end_runs, floors_rise, idle_example, marks_move, migration_example, migrations,
+    one_list, one_processor, pages, part_steps, pick_example, places, prefixes, put_back_example,
+    replays, wake_example, weight,
 };
 use std::test::Fail;
 
@@ -152,6 +153,14 @@ fn laws_and_examples() {
     places();
     floors_rise();
     marks_move();
+    pages();
+    part_steps();
+    migrations();
+    replays();
+    faults_end_runs();
+    composition();
+    endings();
+    one_processor();
     put_back_example();
     pick_example();
     migration_example();

@@ -1,8 +1,9 @@
 -- Lists whose elements stand in an order from each to every later one.
-use Rattle.std.proofs.Common.{◌≡◌, ℕ, zero, suc, ◌+◌, ◌<◌, ◌≤◌, List, [], ◌∷◌, ◌++◌, length, get_or, take, drop, sym, ap, ◌∙◌, arith}
+use Rattle.std.proofs.Common.{◌≡◌, ℕ, zero, suc, ◌+◌, ◌<◌, ◌≤◌, List, [], ◌∷◌, ◌++◌, length, get_or, map, take, drop, sym, ap, ◌∙◌, arith}
 use Rattle.std.specs.Prelude.{All}
 use Rattle.std.specs.List.{AllPairs}
-use Rattle.std.proofs.lemmas.List.{drop_more, take-append-drop}
+use Rattle.std.specs.List.Sorted.{IsStrictlyIncreasing}
+use Rattle.std.proofs.lemmas.List.{drop_more, get_or-map, length-map, take-append-drop}
 use Rattle.cfs_model.specs.declared.act.Entry.{Entry}
 use Rattle.sched_record.specs.Join.{BeginsInTime}
 
@@ -26,3 +27,14 @@ started_from (event ∷ after) start first in_order (suc k) d h =
 pub split_at : {X : Type 0} (xs : List X) (i : ℕ) (x : X) → i < length xs → x ≡ get_or xs i x → xs ≡ take i xs ++ x ∷ drop (i + 1) xs
 split_at xs i x h e =
     sym (take-append-drop i xs) ∙ ap (λ rest. take i xs ++ rest) (drop_more xs i x h ∙ ap (λ y. y ∷ drop (i + 1) xs) (sym e))
+
+-- numbers that rise from each to every later one rise from each to the next
+pub increasing_from_pairs : {X : Type 0} (f : X → ℕ) (xs : List X) → AllPairs (λ a b. f a < f b) xs → IsStrictlyIncreasing (map f xs)
+increasing_from_pairs f [] pairs k h = absurd (omega arith)
+increasing_from_pairs f (x ∷ xs) pairs k h =
+    let size = length-map (x ∷ xs) f in
+    let has : k + 1 < length (x ∷ xs) = omega (arith, size, h) in
+    let first = get_or-map f (x ∷ xs) k x 0 (omega arith) in
+    let second = get_or-map f (x ∷ xs) (k + 1) x 0 has in
+    let rise = pairs k (k + 1) x (omega arith) has in
+    omega (arith, first, second, rise)

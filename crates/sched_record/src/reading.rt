@@ -32,6 +32,7 @@ fn trace_of(alloc: Global, text: &[u8]) -> Result<Trace, TraceFault>
     let mut entries = Vec::new(alloc);
     let mut rest = text;
     let mut number = 0;
+    // The time of the last event, and 0 before the first.
     let mut last = 0;
     while !rest.is_empty() {
         let (line, after) = next_line(rest);

@@ -65,10 +65,11 @@ summed lines =
       claims = filter_map claim_in lines;
     }
 
--- the last task and the last claim so far
+-- the last task so far
 abbrev pub last_task : Said → Option Task
 last_task said = last_or None said.tasks
 
+-- the last claim so far
 abbrev pub last_claim : Said → Option Claim
 last_claim said = last_or None said.claims
 
@@ -76,7 +77,7 @@ last_claim said = last_or None said.claims
 abbrev pub has_all_floors : Said → Bool
 has_all_floors said = option_map_or (λ n. length said.floors == n) said.cpus false
 
--- running is a place
+-- the place is that of a running task
 abbrev pub is_run : Place → Bool
 is_run Run = true
 is_run Wait = false

@@ -8,22 +8,25 @@ use Rattle.companion_file.specs.Shape.{Shape, version_line, cpus_line, start_lin
 use Rattle.companion_file.specs.VersionOne.{first_line, IsGroup, IsSpelled}
 use Rattle.companion_file.specs.Earlier.{Said, last_task, last_claim, has_all_floors, is_run, is_taken}
 
--- a line of this sort is allowed here: `cpus` once, then `start` once, then a `floor` for each processor, then tasks, then claims
+-- a line of this sort is allowed here: after the first line `cpus` once, then `start` once, then a `floor` for each
+-- processor, then tasks, then claims
 abbrev pub is_in_turn : Said → Shape → Bool
 is_in_turn said (version_line n) = false
-is_in_turn said (cpus_line n) = is_none (said.cpus)
-is_in_turn said (start_line seconds nanoseconds) = is_some (said.cpus) && is_none (said.start)
-is_in_turn said (floor_line cpu floor) = is_some (said.start) && not (has_all_floors said)
-is_in_turn said (task_line task) = has_all_floors said && (length (said.claims) == 0)
+is_in_turn said (cpus_line n) = is_none said.cpus
+is_in_turn said (start_line seconds nanoseconds) = is_some said.cpus && is_none said.start
+is_in_turn said (floor_line cpu floor) = is_some said.start && not (has_all_floors said)
+is_in_turn said (task_line task) = has_all_floors said && (length said.claims == 0)
 is_in_turn said (claim_line claim) = has_all_floors said
 
--- the limits of pids, of virtual runtimes and floors, and of nice values
+-- a task's pid is from 1 to 4194304
 abbrev pub is_pid : ℕ → Bool
 is_pid n = nat_le 1 n && nat_le n 4194304
 
+-- a virtual runtime or a floor is within its limits
 abbrev pub is_value : ℤ → Bool
 is_value v = int_le (neg_ℤ (pos greatest)) v && int_le v (pos greatest)
 
+-- a nice value is from -20 to 19
 abbrev pub is_nice : ℤ → Bool
 is_nice z = int_le (negsuc 19) z && int_le z (pos 19)
 
@@ -38,7 +41,7 @@ is_in_limits cpus (claim_line claim) = nat_le 1 claim.line && nat_le claim.line 
 
 -- a floor's processor is the next one, and a task's pid is not less than the last task's
 abbrev pub is_next : Said → Shape → Bool
-is_next said (floor_line cpu floor) = cpu == length (said.floors)
+is_next said (floor_line cpu floor) = cpu == length said.floors
 is_next said (task_line task) = option_map_or (λ last. nat_le last.pid task.pid) (last_task said) true
 is_next said _ = true
 
@@ -61,7 +64,7 @@ is_above said _ = true
 abbrev pub fault_of : Said → Shape → Option CompanionCause
 fault_of said x =
     if not (is_in_turn said x) then Some Order
-    else if not (is_in_limits (unwrap_or (said.cpus) 0) x) then Some NumberRange
+    else if not (is_in_limits (unwrap_or said.cpus 0) x) then Some NumberRange
     else if not (is_next said x) then Some Order
     else if not (is_new said x) then Some TwiceNamed
     else if not (is_alone said x) then Some TwiceRunning

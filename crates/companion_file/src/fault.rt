@@ -1,8 +1,7 @@
 ghost use Rattle.std.specs.Prelude.{◌≡◌};
-ghost use Rattle.companion_file.specs.declared.fault.CompanionFault.TheVariants.{Memory};
-ghost use Rattle.companion_file.specs.declared.fault.Refusal.TheVariants as refusals;
+ghost use Rattle.companion_file.specs.declared.fault.Refusal.TheVariants.{Memory};
 
-use std::alloc::{AllocError, AllocFailed};
+use std::alloc::AllocFailed;
 
 /// What is wrong with the first bad line of a companion, in the order in which a line is tested.
 #[derive(Clone, Copy, Debug, PartialEq, Eq)]
@@ -17,7 +16,7 @@ pub enum CompanionCause {
     Order,
     /// A number is out of its limits.
     NumberRange,
-    /// The task was named by the line before.
+    /// The task has the pid of the last one.
     TwiceNamed,
     /// A task runs at this processor already.
     TwiceRunning,
@@ -30,6 +29,7 @@ pub enum CompanionCause {
 /// Why a text gave no companion.
 #[derive(Clone, Copy, Debug, PartialEq, Eq)]
 pub enum CompanionFault {
+    /// The first bad line, or the one that is missing.
     Text {
         /// The line of the companion, from 1, comments counted.
         line: u64,
@@ -37,22 +37,6 @@ pub enum CompanionFault {
     },
     /// A growth was refused.
     Memory,
-}
-
-impl From<AllocError> for CompanionFault {
-    ghost from_gives = { λ _ e. e ≡ Memory };
-
-    fn from(_refused: AllocError) -> CompanionFault {
-        CompanionFault::Memory
-    }
-}
-
-impl<T: Drop> From<AllocFailed<T>> for CompanionFault {
-    ghost from_gives = { λ _ e. e ≡ Memory };
-
-    fn from(_refused: AllocFailed<T>) -> CompanionFault {
-        CompanionFault::Memory
-    }
 }
 
 /// Why a line was not taken.
@@ -64,7 +48,7 @@ pub(crate) enum Refusal {
 }
 
 impl<T: Drop> From<AllocFailed<T>> for Refusal {
-    ghost from_gives = { λ _ e. e ≡ refusals.Memory };
+    ghost from_gives = { λ _ e. e ≡ Memory };
 
     fn from(_refused: AllocFailed<T>) -> Refusal {
         Refusal::Memory

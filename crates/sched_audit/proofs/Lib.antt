@@ -1,15 +1,5 @@
 mod Counting
 mod Outcomes
 mod Firsts
-mod Finds
-mod Charging
-mod TaskOf
-mod Moved
-mod Shown
-mod Lifting
-mod Raising
-mod Switching
-mod Stepping
-mod Starting
-mod Walking
-mod Switches
+mod OneProcessor
+mod Judged

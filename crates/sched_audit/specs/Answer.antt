@@ -2,6 +2,7 @@
 -- what a run of the scheduler is by cfs_model.
 use Rattle.std.specs.Prelude.{◌≡◌, ℕ, List, length, Option, None, Some, IfSome, Result, Ok, Err}
 use Rattle.cfs_model.specs.Claimed.{claimed}
+use Rattle.cfs_model.specs.Faults.{IsFirstBad}
 use Rattle.cfs_model.specs.Run.{IsRun}
 use Rattle.cfs_model.specs.Settings.{Settings}
 use Rattle.cfs_model.specs.Start.{start_machine}
@@ -18,11 +19,16 @@ use Rattle.sched_audit.specs.declared.verdict.Verdict.TheVariants as verdicts
 abbrev pub IsScheduled : Settings → RecordReading → Type 0
 IsScheduled settings r = IsRun settings r.start (start_machine r.start r.floors r.tasks) (claimed r.claims r.events)
 
--- a verdict on a record: yes means that it is a run, with all its events; that a fault's line is the first one isn't
--- said yet
+-- the events before this line are a run from the record's start state, and those up to it and including it are none
+abbrev pub IsFaulty : Settings → RecordReading → ℕ → Type 0
+IsFaulty settings r line =
+    IsFirstBad settings r.start (start_machine r.start r.floors r.tasks) (claimed r.claims r.events) line
+
+-- a verdict on a record: yes means that it is a run, with all its events; a fault, that its line is the first up to
+-- which the events are none
 abbrev pub IsVerdict : Settings → RecordReading → Verdict → Type 0
 IsVerdict settings r (verdicts.Run summary) = IsScheduled settings r × (summary.events ≡ length r.events)
-IsVerdict settings r (verdicts.Fault line cpu pid kind) = Unit {0}
+IsVerdict settings r (verdicts.Fault line cpu pid kind) = IsFaulty settings r line
 
 -- the outcome of the audit of a trace and its companion: a verdict on their record, or why one of them is refused
 unfoldable pub OutcomeAnswer : List ℕ → List ℕ → Settings → Outcome → Type 0

@@ -5,6 +5,3 @@ pub mod Codes
 pub mod Report
 pub mod Known
 pub mod Run
-pub mod WalkInput
-pub mod Standing
-pub mod Shows

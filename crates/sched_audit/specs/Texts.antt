@@ -31,11 +31,11 @@ pub record IsRecordOf (trace companion : List ℕ) (r : RecordReading) : Type 0 
   pub are_read : AreRead trace companion events start
   pub joined : RecordAnswer events start (Ok r)
 
--- an act that is audited: a switch
+-- an act that is audited: any but a migration
 abbrev pub IsTaken : Act → Type 0
 IsTaken (acts.Switch cpu prev prev_nice way next next_nice) = Unit {0}
-IsTaken (acts.Wake cpu pid nice) = ⊥
-IsTaken (acts.Born cpu pid nice) = ⊥
+IsTaken (acts.Wake cpu pid nice) = Unit {0}
+IsTaken (acts.Born cpu pid nice) = Unit {0}
 IsTaken (acts.Shift orig dest pid nice) = ⊥
 
 -- the first event whose act isn't audited yet, by its line

@@ -1,11 +1,14 @@
-ghost use Rattle.std.specs.Prelude.{IfOk};
+ghost use Rattle.std.specs.Prelude.{◌≡◌, None, length, IfOk};
+ghost use Rattle.cfs_model.specs.Page.{IsPageOf};
+ghost use Rattle.queue_replay.specs.Page.{page_shown};
 ghost use Rattle.sched_record.specs.Record.{shown};
+ghost use Rattle.sched_record.specs.Share.{cut_of};
 ghost use Rattle.sched_audit.specs.Answer.{IsVerdict};
 ghost use Rattle.sched_audit.specs.Texts.{IsAllTaken};
 
-use crate::walk::{Walked, walk};
 use crate::{Summary, Verdict};
-use cfs_model::{Knobs, Memory};
+use cfs_model::{Knobs, Memory, one_processor};
+use queue_replay::{Page, Replay};
 use sched_record::Record;
 use std::alloc::Global;
 
@@ -17,25 +20,32 @@ pub(crate) fn judge(alloc: Global, joined: &Record, knobs: Knobs) -> Result<Verd
     requires { IsAllTaken (shown joined.now) }
     ensures { IfOk result (IsVerdict knobs (shown joined.now)) }
 {
-    let events = joined.events();
-    let floor = joined.floors()[0];
-    match walk(
-        alloc,
-        joined.start(),
-        floor,
-        joined.tasks(),
-        events,
-        joined.claims(),
-        knobs,
-    )? {
-        Walked::Run => Ok(Verdict::Run(Summary {
-            events: events.len() as u64,
+    one_processor();
+    let page = page_of(alloc, joined, knobs)?;
+    match page.fault() {
+        None => Ok(Verdict::Run(Summary {
+            events: joined.events().len() as u64,
         })),
-        Walked::Fault { line, pid, kind } => Ok(Verdict::Fault {
-            line,
+        Some(fault) => Ok(Verdict::Fault {
+            line: fault.line,
             cpu: CPU,
-            pid,
-            kind,
+            pid: fault.pid,
+            kind: fault.kind,
         }),
     }
+}
+
+/// The page of the only processor by all its steps, or up to the first that fails.
+fn page_of(alloc: Global, joined: &Record, knobs: Knobs) -> Result<Page, Memory>
+    requires { (shown joined.now).cpus ≡ 1 }
+    ensures page { IfOk result (λ page. IsPageOf (cut_of (shown joined.now) 0) knobs page.made (page_shown page)) }
+    ensures whole { IfOk result (λ page. (page_shown page).fault ≡ None → page.made ≡ length (cut_of (shown joined.now) 0).steps) }
+{
+    let stream = joined.deal(CPU)?;
+    let mut replay = match Replay::new(alloc, stream, knobs) {
+        Ok(replay) => replay,
+        Err((_stream, memory)) => return Err(memory),
+    };
+    let _state = replay.go_on(u64::MAX)?;
+    Ok(replay.page())
 }

@@ -2,9 +2,7 @@
 #![tactic(auto)]
 
 mod audit;
-mod broken;
 mod cause;
-mod claims;
 mod failed;
 mod fault;
 mod feed;
@@ -12,24 +10,17 @@ mod feed_of;
 mod judging;
 mod outcome;
 mod page;
-mod picking;
 mod reading;
 mod refused;
 mod reporting;
-mod runqueue;
 mod sink;
 mod sink_of;
 mod source;
-mod standing;
 mod status;
 mod summary;
-mod switch;
 mod taken;
 mod texts;
 mod verdict;
-mod walk;
-#[cfg(test)]
-mod walk_tests;
 mod writing;
 
 pub use cause::Cause;

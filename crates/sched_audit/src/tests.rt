@@ -19,6 +19,22 @@ const COMPANION: &[u8] =
 
 const REPORT: &[u8] = b"run\n";
 
+/// The same, but task 102 waits at 5 ms, 1 ms above what task 101 is put back at.
+const BEHIND: &[u8] =
+    b"cfs-companion 1\ncpus 1\nstart 100.000000\nfloor 0 0\ntask 101 0 0 run 0\ntask 102 0 0 wait 5000000\nat 1 101 4000000\n";
+
+/// One processor that idles from the start on, while task 102 waits.
+const WAITING: &[u8] =
+    b"cfs-companion 1\ncpus 1\nstart 100.000000\nfloor 0 0\ntask 102 0 0 wait 0\n";
+
+/// Task 102 runs after 0.1 ms of that.
+const AT_SLACK: &[u8] =
+    b"          <idle>-0       [000] d..2.   100.000100: sched_switch: prev_comm=swapper/0 prev_pid=0 prev_prio=120 prev_state=R ==> next_comm=t102 next_pid=102 next_prio=120\n";
+
+/// Task 102 runs after a microsecond more.
+const ABOVE_SLACK: &[u8] =
+    b"          <idle>-0       [000] d..2.   100.000101: sched_switch: prev_comm=swapper/0 prev_pid=0 prev_prio=120 prev_state=R ==> next_comm=t102 next_pid=102 next_prio=120\n";
+
 #[test]
 fn exit_statuses_are_0_to_4(rt: HostRuntime) {
     for (status, code) in [(Status::Yes, 0), (Status::No, 1), (Status::Refused, 2)] {
@@ -208,4 +224,49 @@ fn a_call_is_one_call_of_the_end_below(rt: HostRuntime) {
     assert_eq!(rt; feed.read(&mut buf[..3]), Ok(3));
     assert_eq!(rt; feed.read(&mut buf), Ok(1));
     assert_eq!(rt; feed.read(&mut buf), Ok(0));
+}
+
+fn ran(events: u64) -> Result<Verdict, Refused> {
+    Ok(Verdict::Run(Summary { events }))
+}
+
+fn faulty(line: u32, pid: u32, kind: Kind) -> Result<Verdict, Refused> {
+    Ok(Verdict::Fault {
+        line,
+        cpu: 0,
+        pid,
+        kind,
+    })
+}
+
+fn with_granularity(granularity: u64) -> Knobs {
+    Knobs::new(granularity, 3_000_000, 3_000_000, 100_000).unwrap_or(Knobs::standard())
+}
+
+#[test]
+fn a_pick_within_the_granularity_of_the_put_back_task_passes(rt: HostRuntime) {
+    for (granularity, verdict) in [
+        (1_000_000, ran(1)),
+        (999_999, faulty(1, 102, Kind::NotLeast)),
+    ] {
+        let knobs = with_granularity(granularity);
+        assert_eq!(rt;
+            audit_texts(rt.alloc(), TRACE, BEHIND, knobs),
+            verdict,
+            "{granularity} ns"
+        );
+    }
+}
+
+#[test]
+fn idling_beside_a_waiting_task_ends_with_the_slack(rt: HostRuntime) {
+    for (trace, verdict) in [
+        (AT_SLACK, ran(1)),
+        (ABOVE_SLACK, faulty(1, 0, Kind::IdleTooLong)),
+    ] {
+        assert_eq!(rt;
+            audit_texts(rt.alloc(), trace, WAITING, Knobs::standard()),
+            verdict
+        );
+    }
 }

@@ -34,7 +34,8 @@ abbrev steps_of_one : ℕ → Claimed → List Step
 steps_of_one cpu event = map (step_at cpu) (filter (touches cpu) (event ∷ []))
 
 steps_push : (cpu : ℕ) (claims : List Claim) (events : List Entry) (event : Entry)
-    → steps_at cpu (claimed claims (events ++ event ∷ [])) ≡ steps_at cpu (claimed claims events) ++ steps_of_one cpu (record { entry = event; claim = claim_at claims event.line })
+    → steps_at cpu (claimed claims (events ++ event ∷ [])) ≡
+    steps_at cpu (claimed claims events) ++ steps_of_one cpu (record { entry = event; claim = claim_at claims event.line })
 steps_push cpu claims events event =
     let one : Claimed = record { entry = event; claim = claim_at claims event.line } in
     ap (steps_at cpu) (map_push (λ (e : Entry). record { entry = e; claim = claim_at claims e.line }) events event)
@@ -74,7 +75,8 @@ pub dealt_step : (cpu : ℕ) (claims : List Claim) (events : List Entry) (i : �
     → deed ≡ deed_at cpu event.act → found ≡ claim_at claims event.line → claim ≡ claim_for deed found
     → steps ++ record { line = event.line; time = event.time; deed = deed; claim = claim } ∷ [] ≡ steps_at cpu (claimed claims (take (i + 1) events))
 dealt_step cpu claims events i event steps deed found claim h is_event dealt touched is_deed is_found is_claim =
-    ap (λ step. steps ++ step ∷ []) (step_is cpu claims event deed found claim is_deed is_found is_claim) ∙ dealt_more cpu claims events i event steps h is_event dealt true touched
+    ap (λ step. steps ++ step ∷ []) (step_is cpu claims event deed found claim is_deed is_found is_claim)
+    ∙ dealt_more cpu claims events i event steps h is_event dealt true touched
 
 -- one more event that doesn't touch it
 pub dealt_none : (cpu : ℕ) (claims : List Claim) (events : List Entry) (i : ℕ) (event : Entry) (steps : List Step) → i < length events

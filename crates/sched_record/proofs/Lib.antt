@@ -8,5 +8,6 @@ pub mod OneSaying
 pub mod OneTrace
 pub mod Order
 pub mod Rising
+pub mod Same
 pub mod Splits
 pub mod Walk

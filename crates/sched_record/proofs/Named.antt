@@ -23,7 +23,8 @@ not_idle : (pid : ℕ) → eqb pid 0 ≡ false → All (λ pid. 0 < pid) (pid �
 not_idle pid e = let ne = eqb-false pid 0 e in All-cons (λ pid. 0 < pid) pid [] (omega (arith, ne)) (All-nil (λ pid. 0 < pid))
 
 in_range : (text : EventText) → IsFalse (is_out_of_range text) → All (λ pid. pid ≤ greatest_pid) (printed_pids text)
-in_range text inside = none_above greatest_pid (printed_pids text) (or_parts (list_any (nat_lt 4194304) (printed_pids text)) (list_any (nat_lt 65535) (cpus_of text)) inside).0
+in_range text inside =
+    none_above greatest_pid (printed_pids text) (or_parts (list_any (nat_lt 4194304) (printed_pids text)) (list_any (nat_lt 65535) (cpus_of text)) inside).0
 
 text_named : (cpu : ℕ) (text : EventText) → IsFalse (is_out_of_range text) → IsFalse (names_idle text)
     → IsNamed (act_of (event_of cpu text))

@@ -20,7 +20,8 @@ none_outside cpus events line all x = not_inside cpus x.event x.outside (all_at_
 
 one_outside : (cpus : ℕ) (events : List Entry) (m n : ℕ) → IsFirstOutside cpus events m → IsFirstOutside cpus events n → m ≡ n
 one_outside cpus events m n x y =
-    let same = one_first (IsInside cpus) events x.before y.before x.event y.event x.after y.after x.parts y.parts x.inside y.inside (not_inside cpus x.event x.outside) (not_inside cpus y.event y.outside) in
+    let same = one_first (IsInside cpus) events x.before y.before x.event y.event x.after y.after x.parts y.parts x.inside y.inside
+    (not_inside cpus x.event x.outside) (not_inside cpus y.event y.outside) in
     x.placed ∙ ap (λ (e : Entry). e.line) same ∙ sym y.placed
 
 none_early : (start : ℕ) (events : List Entry) (line : ℕ) → BeginsInTime start events → IsBeforeStart start events line → ⊥
@@ -41,7 +42,8 @@ none_stray events claims line all x = x.stray (all_at_cut (λ claim. IsTrue (is_
 
 one_stray : (events : List Entry) (claims : List Claim) (m n : ℕ) → IsFirstStray events claims m → IsFirstStray events claims n → m ≡ n
 one_stray events claims m n x y =
-    let same = one_first (λ claim. IsTrue (is_event_line events claim.line)) claims x.before y.before x.claim y.claim x.after y.after x.parts y.parts x.claimed y.claimed x.stray y.stray in
+    let same = one_first (λ claim. IsTrue (is_event_line events claim.line)) claims x.before y.before x.claim y.claim x.after y.after
+    x.parts y.parts x.claimed y.claimed x.stray y.stray in
     x.placed ∙ ap (λ (c : Claim). c.line) same ∙ sym y.placed
 
 not_mixed : (events : List Entry) (companion : CompanionReading) (line : ℕ) (cause : JoinCause) → GoTogether events companion

@@ -123,7 +123,8 @@ never_bad once lines front rest line all events cause good parts front_good bad 
     refuted cut TimeBack bad =
         let same : Ok cut.say ≡ Ok (Some bad.event) = one_saying once (length front + 1) line (Ok cut.say) (Ok (Some bad.event)) cut.line_says bad.says in
         let say_is : cut.say ≡ Some bad.event = cc in
-        let front_is : events_said cut.before ≡ events = ap events_said (one_said once 1 front cut.before front_good.said cut.front_says front_good.each) ∙ sym front_good.kept in
+        let front_is : events_said cut.before ≡ events =
+        ap events_said (one_said once 1 front cut.before front_good.said cut.front_says front_good.each) ∙ sym front_good.kept in
         let whole : all ≡ (bad.before ++ bad.last ∷ []) ++ bad.event ∷ events_said cut.after =
         good.kept ∙ ap events_said cut.parts ∙ filter_map-append (λ say. say) cut.before (cut.say ∷ cut.after)
         ∙ ap (λ es. es ++ events_said (cut.say ∷ cut.after)) (front_is ∙ bad.parts)
@@ -157,7 +158,8 @@ one_first_bad once lines m n c d x y =
 not_mixed : ReadOnce → (lines : List (List ℕ)) (events : List Entry) (number : ℕ) (cause : TraceCause) → AreEventsOf lines events
     → IsFirstBad lines number cause → ⊥
 not_mixed once lines events number cause good bad =
-    never_bad once lines bad.front bad.rest bad.line events bad.events cause good bad.parts bad.good (subst (λ k. IsBadAfter bad.events k bad.line cause) bad.placed bad.bad)
+    never_bad once lines bad.front bad.rest bad.line events bad.events cause good bad.parts bad.good
+    (subst (λ k. IsBadAfter bad.events k bad.line cause) bad.placed bad.bad)
 
 pub one_trace : ReadOnce → (text : List ℕ) (a b : Result (List Entry) (ℕ × TraceCause)) → TraceAnswer text a → TraceAnswer text b → a ≡ b
 one_trace once text (Ok events) (Ok events') p q = ap (λ es. Ok es) (one_list once (lines_of text) events events' p q)

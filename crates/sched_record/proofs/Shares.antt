@@ -75,7 +75,9 @@ last_line_is line claims event (next ∷ events) =
 
 -- the tasks that stand at a processor
 tasks_here : (cpu : ℕ) (tasks : List Task) → All (λ task. task.cpu ≡ cpu) (tasks_at cpu tasks)
-tasks_here cpu tasks = All-weaker (λ task. eqb task.cpu cpu ≡ true) (λ task. task.cpu ≡ cpu) (λ task e. eqb-true task.cpu cpu e) (tasks_at cpu tasks) (filter_passes (λ task. eqb task.cpu cpu) tasks)
+tasks_here cpu tasks =
+    All-weaker (λ task. eqb task.cpu cpu ≡ true) (λ task. task.cpu ≡ cpu) (λ task e. eqb-true task.cpu cpu e)
+    (tasks_at cpu tasks) (filter_passes (λ task. eqb task.cpu cpu) tasks)
 
 one_runs : (cpu : ℕ) (tasks : List Task) → AllPairs RunApart tasks
     → AllPairs (λ t u. t.place ≡ Run → u.place ≡ Run → ⊥) (tasks_at cpu tasks)
@@ -89,7 +91,9 @@ deed_named : (cpu : ℕ) (act : Act) → All (λ pid. 0 < pid) (tasks_of act) �
 deed_named cpu (act.Switch here prev prev_nice way next next_nice) named = named
 deed_named cpu (act.Wake here pid nice) named = named
 deed_named cpu (act.Born here pid nice) named = named
-deed_named cpu (act.Shift orig dest pid nice) named = cond_both (eqb orig cpu) (Leave pid nice dest) (Arrive pid nice orig) (λ deed. All (λ pid. 0 < pid) (tasks_of_deed deed)) (λ _. named) (λ _. named)
+deed_named cpu (act.Shift orig dest pid nice) named =
+    cond_both (eqb orig cpu) (Leave pid nice dest) (Arrive pid nice orig)
+    (λ deed. All (λ pid. 0 < pid) (tasks_of_deed deed)) (λ _. named) (λ _. named)
 
 -- a step's claim is the one on its line
 claim_is : (deed : Deed) (found : Option Claim) (claim : Claim) → claim_for deed found ≡ Some claim → found ≡ Some claim
@@ -102,7 +106,8 @@ claim_is (Arrive pid nice orig) found claim e = e
 owned : (cpu : ℕ) (claims : List Claim) (event : Entry) → All IsClaimInLimits claims → (claim : Claim)
     → (step_at cpu (with_claim claims event)).claim ≡ Some claim → OwnsClaim (step_at cpu (with_claim claims event)) claim
 owned cpu claims event limits claim e =
-    let found = found_in IsClaimInLimits (λ (c : Claim). eqb c.line event.line) claims claim limits (claim_is (deed_at cpu event.act) (claim_at claims event.line) claim e) in
+    let found = found_in IsClaimInLimits (λ (c : Claim). eqb c.line event.line) claims claim limits
+    (claim_is (deed_at cpu event.act) (claim_at claims event.line) claim e) in
     record { line = eqb-true claim.line event.line found.0; in_range = found.1.v }
 
 -- no event is behind the last
@@ -126,18 +131,22 @@ share_of r cpu order below =
     let named = order.events.named in
     record {
       here = tasks_here cpu r.tasks;
-      runtimes = All-filter (λ task. eqb task.cpu cpu) (λ task. IsInRange task.v) r.tasks (All-weaker (IsTaskInLimits r.cpus) (λ task. IsInRange task.v) (λ task ok. ok.v) r.tasks limits.tasks_in_limits);
+      runtimes = All-filter (λ task. eqb task.cpu cpu) (λ task. IsInRange task.v) r.tasks
+          (All-weaker (IsTaskInLimits r.cpus) (λ task. IsInRange task.v) (λ task ok. ok.v) r.tasks limits.tasks_in_limits);
       pids_rise = pairs_filter (λ t u. t.pid < u.pid) (λ (task : Task). eqb task.cpu cpu) r.tasks limits.pids_rise;
       one_runs = one_runs cpu r.tasks limits.one_runs_a_cpu;
       floor = limits.floors_in_limits cpu (pos 0) has_floor;
       lines_rise = pairs_steps (λ a b. a.line < b.line) cpu r.claims r.events order.events.lines_rise;
-      lines_within = all_steps (λ step. step.line ≤ last_line_after 0 (claimed r.claims r.events)) cpu r.claims r.events (within_line r.claims r.events order.events.lines_rise);
+      lines_within = all_steps (λ step. step.line ≤ last_line_after 0 (claimed r.claims r.events)) cpu r.claims r.events
+          (within_line r.claims r.events order.events.lines_rise);
       never_falls = pairs_steps (λ a b. a.time ≤ b.time) cpu r.claims r.events order.events.never_falls;
       times_within = all_steps (λ step. (r.start ≤ step.time) × (step.time ≤ last_time_of r.start (claimed r.claims r.events))) cpu r.claims r.events
           (λ k d h. (order.started k d h, within_time r.start r.claims r.events order.events.never_falls k d h));
       no_idle = all_steps (λ step. All (λ pid. 0 < pid) (tasks_of_deed step.deed)) cpu r.claims r.events
-          (All-weaker (λ event. IsNamed event.act) (λ event. All (λ pid. 0 < pid) (tasks_of_deed (deed_at cpu event.act))) (λ event ok. deed_named cpu event.act ok.no_idle) r.events named);
-      claims = all_steps (λ step. (claim : Claim) → step.claim ≡ Some claim → OwnsClaim step claim) cpu r.claims r.events (λ k d h. owned cpu r.claims (get_or r.events k d) limits.claims_in_limits);
+          (All-weaker (λ event. IsNamed event.act) (λ event. All (λ pid. 0 < pid) (tasks_of_deed (deed_at cpu event.act)))
+          (λ event ok. deed_named cpu event.act ok.no_idle) r.events named);
+      claims = all_steps (λ step. (claim : Claim) → step.claim ≡ Some claim → OwnsClaim step claim) cpu r.claims r.events
+          (λ k d h. owned cpu r.claims (get_or r.events k d) limits.claims_in_limits);
     }
 
 -- the reader's words for the last event
@@ -156,7 +165,8 @@ same_last_line claims (event ∷ events) =
     ∙ ap (λ n. (get_or (event ∷ events) n event).line) (omega arith) ∙ sym (last_line_is 0 claims event events)
 
 -- a cut, part by part, each from a part of the record that was read
-pub cut_is : (r : RecordReading) (cpu : ℕ) (tasks all_tasks : List Task) (floor : ℤ) (floors : List ℤ) (start : ℕ) (steps : List Step) (claims : List Claim) (events : List Entry) (last_time last_line : ℕ)
+pub cut_is : (r : RecordReading) (cpu : ℕ) (tasks all_tasks : List Task) (floor : ℤ) (floors : List ℤ) (start : ℕ)
+    (steps : List Step) (claims : List Claim) (events : List Entry) (last_time last_line : ℕ)
     → all_tasks ≡ r.tasks → tasks ≡ tasks_at cpu all_tasks → floors ≡ r.floors → floor ≡ slice_index_or floors cpu (pos 0) → start ≡ r.start
     → claims ≡ r.claims → events ≡ r.events → steps ≡ steps_at cpu (claimed claims events)
     → last_time ≡ option_map_or (λ event. event.time) (slice_get r.events (length r.events - 1)) r.start

@@ -11,6 +11,7 @@ mod reading;
 mod record;
 mod steps;
 mod stream;
+mod stream_eq;
 mod trace;
 
 pub use cause::{TraceCause, TraceFault};

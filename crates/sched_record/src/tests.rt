@@ -204,6 +204,18 @@ fn a_migration_is_dealt_to_both_ends(rt: HostRuntime) -> Result<(), Fail> {
 }
 
 #[test]
+fn streams_are_equal_where_they_hold_the_same(rt: HostRuntime) -> Result<(), Fail> {
+    let record = joined(rt.alloc(), MOVE, MOVED)?.ok().ok_or("a record")?;
+    assert_eq!(rt; record.cpus(), 2);
+    let orig = record.deal(0)?;
+    let again = record.deal(0)?;
+    let dest = record.deal(1)?;
+    assert!(rt; orig == again);
+    assert!(rt; orig != dest);
+    Ok(())
+}
+
+#[test]
 fn a_list_gives_its_items_back(rt: HostRuntime) -> Result<(), Fail> {
     let events = Events::from_vec(Vec::new(rt.alloc()));
     assert!(rt; events.as_slice().is_empty());

@@ -1,12 +1,22 @@
-use Rattle.std.proofs.Common.{sym, subst}
+use Rattle.std.proofs.Common.{length, sym, ap, ◌∙◌}
+use Rattle.queue_replay.specs.Page.{page_shown}
 use Rattle.sched_record.specs.Record.{shown}
-use Rattle.sched_audit.specs.WalkInput.{AreSwitches}
-use Rattle.sched_audit.proofs.Switches.{are_switches}
+use Rattle.sched_audit.proofs.Judged.{no_fault, a_fault}
 use Rattle.sched_audit.proofs.judging.judge.Goals as goal
 
-pub walk-requires-clause-events : goal.walk-requires-clause-events
-walk-requires-clause-events c =
+pub returns-in-None : goal.returns-in-None
+returns-in-None c =
     let r = c.args.joined.now in
-    let whole = are_switches (shown r) r.in_order c.requires in
-    subst (λ claims. AreSwitches c.events-events.result.now claims) (sym c.claims.ensures)
-    (subst (λ events. AreSwitches events (shown r).claims) (sym c.events-events.ensures) whole)
+    let page = c.in_ok-page.page in
+    let none = sym c.fault.ensures ∙ c.in-None.is in (
+      no_fault c.one_processor.ensures.runs c.one_processor.ensures.faults (shown r) r.in_order c.requires c.args.knobs page.made (page_shown page)
+          c.in_ok-page.ensures.page (c.in_ok-page.ensures.whole none) none,
+      ap length c.events.ensures,
+    )
+
+pub returns : goal.returns
+returns c =
+    let r = c.args.joined.now in
+    let page = c.in_ok-page.page in
+    a_fault c.one_processor.ensures.runs c.one_processor.ensures.faults (shown r) r.in_order c.requires c.args.knobs page.made (page_shown page)
+    c.in_ok-page.ensures.page c.in-Some.fault (sym c.fault.ensures ∙ c.in-Some.is)

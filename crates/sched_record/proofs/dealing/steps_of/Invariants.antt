@@ -8,6 +8,7 @@ use Rattle.sched_record.proofs.dealing.steps_of.Given as goal
 abbrev pub invariant-loop-event : goal.invariant-loop-event
 invariant-loop-event l = record {
   within : l.place ≤ length l.claims;
-  passed : (k j : ℕ) (d : Claim) (e : Entry) → k < l.place → l.event-index ≤ j → j < length l.events → (slice_index_or l.claims k d).line < (slice_index_or l.events j e).line;
+  passed : (k j : ℕ) (d : Claim) (e : Entry) → k < l.place → l.event-index ≤ j → j < length l.events →
+      (slice_index_or l.claims k d).line < (slice_index_or l.events j e).line;
   dealt : l.steps.items ≡ steps_at l.cpu (claimed l.claims (take l.event-index l.events));
 }

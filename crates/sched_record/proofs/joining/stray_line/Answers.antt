@@ -20,7 +20,8 @@ returns-then-place-events-clause-found c =
     let place = c.place_from-place.result in
     first_stray _ _ c.loop-claim.claim-index _ _ c.loop-claim-test.true refl c.loop-claim.invariant.claimed
     (no_event_line _ _ place c.requires.events_rise
-    (above_here line_of_event line_of_claim _ _ c.loop-claim.place place c.loop-claim.claim-index _ _ refl c.loop-claim-test.true c.loop-claim.invariant.passed c.place_from-place.ensures.below)
+    (above_here line_of_event line_of_claim _ _ c.loop-claim.place place c.loop-claim.claim-index _ _ refl c.loop-claim-test.true
+    c.loop-claim.invariant.passed c.place_from-place.ensures.below)
     (elim c.then-place-events.branch [
       | then-place-events-via-then-place-events w ↦ below_end line_of_event _ _ place (omega (arith, w.if-place-events.true))
       | then-place-events-via-else-place-events+then-events-place w ↦ below_other line_of_event _ _ place _ c.place_from-place.ensures.reached w.if-events-place.true
@@ -29,7 +30,8 @@ returns-then-place-events-clause-found c =
 pub loop-claim-preserved : goal.loop-claim-preserved
 loop-claim-preserved c = record {
   within = c.place_from-place.ensures.within.1;
-  passed = passed_more line_of_event line_of_claim _ _ c.loop-claim.place _ c.loop-claim.claim-index _ _ c.requires.claims_rise refl c.loop-claim-test.true c.loop-claim.invariant.passed c.place_from-place.ensures.below;
+  passed = passed_more line_of_event line_of_claim _ _ c.loop-claim.place _ c.loop-claim.claim-index _ _ c.requires.claims_rise refl
+      c.loop-claim-test.true c.loop-claim.invariant.passed c.place_from-place.ensures.below;
   claimed =
       All-more (λ claim. IsTrue (is_event_line c.args.events.now claim.line)) c.args.claims.now c.loop-claim.claim-index _ c.loop-claim-test.true
       c.loop-claim.invariant.claimed (event_line_at _ _ c.place_from-place.result _ (omega arith) c.if-events-place.false);

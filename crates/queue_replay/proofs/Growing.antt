@@ -1,0 +1,112 @@
+-- How far the tallies have grown after a step, and that the lift keeps who runs.
+use Rattle.std.proofs.Common.{◌≡◌, ℕ, zero, suc, ◌+◌, ◌*◌, ◌^◌, ◌-◌, ◌<◌, ◌≤◌, Bool, true, false, cond, eqb, List, [], ◌∷◌, ◌++◌, All, Option, Some, None, option_map, IfSome, ℤ, refl, sym, ◌∙◌, subst, arith, inl, inr}
+use Rattle.std.specs.List.{list_any, find}
+use Rattle.std.proofs.lemmas.Bool.{cases_lt}
+use Rattle.std.proofs.lemmas.List.Elements.{All-map, All-weaker, All-push}
+use Rattle.cfs_model.specs.Charge.{greatest}
+use Rattle.cfs_model.specs.Noted.{with_tally, new_tally, tallied}
+use Rattle.cfs_model.specs.Part.{Part, Stander, start_part, charged_in, IsIn, IsLiftedPart}
+use Rattle.cfs_model.specs.Standing.{IsOutOfRange}
+use Rattle.cfs_model.specs.declared.page.Tally.{Tally}
+use Rattle.cfs_model.specs.declared.step.Deed.{Deed}
+use Rattle.cfs_model.specs.declared.step.Deed.TheVariants.{Switch, Wake, Born, Leave, Arrive}
+use Rattle.cfs_model.specs.declared.task.Place.TheVariants.{Run}
+use Rattle.cfs_model.specs.declared.task.Task.{Task}
+use Rattle.queue_replay.specs.Counting.{ran_tally, picked_tally, stretched, IsWithin}
+use Rattle.queue_replay.specs.Queue.{OneRuns}
+use Rattle.queue_replay.specs.Rows.{runs, cost_of, standing, EachOnce}
+use Rattle.queue_replay.proofs.Answered.{place_eq-true}
+use Rattle.queue_replay.proofs.Counts.{find_some}
+use Rattle.queue_replay.proofs.Parts.{stands_each}
+
+-- a tally with its last stretch, before a pick
+abbrev pub IsRan : ℕ → Tally → Type 0
+IsRan steps tally = (tally.ran ≤ (steps + 1) * 2 ^ 64) × (tally.charged ≤ (steps + 1) * 2 ^ 64) × (tally.picks ≤ steps)
+
+kept_ran : (steps : ℕ) (tally : Tally) → IsWithin steps tally → IsRan steps tally
+kept_ran steps tally w = (let h = w.0 in omega arith, let h = w.1 in omega arith, w.2)
+
+ran_ran : (steps pid time cost : ℕ) (tally : Tally) → time ≤ 2 ^ 64 → cost ≤ 2 ^ 64 → IsWithin steps tally → IsRan steps (ran_tally pid time cost tally)
+ran_ran steps pid time cost tally short cheap w = go (eqb tally.pid pid)
+  where
+    go : (b : Bool) → IsRan steps (cond b (record tally { ran = tally.ran + time; charged = tally.charged + cost }) tally)
+    go true = (let h = w.0 in omega arith, let h = w.1 in omega arith, w.2)
+    go false = kept_ran steps tally w
+
+pub stretched_ran : (steps time : ℕ) (runner : Option Task) (tallies : List Tally) → time ≤ 2 ^ 64 → IfSome runner (λ t. cost_of time t ≤ greatest)
+    → All (IsWithin steps) tallies → All (IsRan steps) (stretched runner time tallies)
+stretched_ran steps time None tallies short fits w = All-weaker (IsWithin steps) (IsRan steps) (kept_ran steps) tallies w
+stretched_ran steps time (Some t) tallies short fits w =
+    All-map (IsRan steps) (ran_tally t.pid time (cost_of time t)) tallies
+    (All-weaker (IsWithin steps) (λ tally. IsRan steps (ran_tally t.pid time (cost_of time t) tally))
+    (λ tally h. ran_ran steps t.pid time (cost_of time t) tally short (let k : cost_of time t ≤ greatest = fits in omega arith) h) tallies w)
+
+pub ran_picks : (steps : ℕ) (tallies : List Tally) → All (IsRan steps) tallies → All (λ tally. tally.picks ≤ steps) tallies
+ran_picks steps tallies w = All-weaker (IsRan steps) (λ tally. tally.picks ≤ steps) (λ tally h. h.2) tallies w
+
+ran_within : (steps : ℕ) (tally : Tally) → IsRan steps tally → IsWithin (steps + 1) tally
+ran_within steps tally w = (w.0, w.1, let h = w.2 in omega arith)
+
+pick_within : (steps pid : ℕ) (tally : Tally) → IsRan steps tally → IsWithin (steps + 1) (picked_tally pid tally)
+pick_within steps pid tally w = go (eqb tally.pid pid)
+  where
+    go : (b : Bool) → IsWithin (steps + 1) (cond b (record tally { picks = tally.picks + 1 }) tally)
+    go true = (w.0, w.1, let h = w.2 in omega arith)
+    go false = ran_within steps tally w
+
+all_within : (steps : ℕ) (tallies : List Tally) → All (IsRan steps) tallies → All (IsWithin (steps + 1)) tallies
+all_within steps tallies w = All-weaker (IsRan steps) (IsWithin (steps + 1)) (ran_within steps) tallies w
+
+with_within : (steps pid : ℕ) (tallies : List Tally) → All (IsRan steps) tallies → All (IsWithin (steps + 1)) (with_tally pid tallies)
+with_within steps pid tallies w = go (list_any (λ tally. eqb tally.pid pid) tallies)
+  where
+    go : (b : Bool) → All (IsWithin (steps + 1)) (cond b tallies (tallies ++ new_tally pid ∷ []))
+    go true = all_within steps tallies w
+    go false = All-push (IsWithin (steps + 1)) tallies (new_tally pid) (all_within steps tallies w) (omega arith, omega arith, omega arith)
+
+pub tallied_within : (steps : ℕ) (deed : Deed) (tallies : List Tally) → All (IsRan steps) tallies → All (IsWithin (steps + 1)) (tallied deed tallies)
+tallied_within steps (Switch prev prev_nice way zero next_nice) tallies w = all_within steps tallies w
+tallied_within steps (Switch prev prev_nice way (suc n) next_nice) tallies w =
+    All-map (IsWithin (steps + 1)) (picked_tally (suc n)) tallies
+    (All-weaker (IsRan steps) (λ tally. IsWithin (steps + 1) (picked_tally (suc n) tally)) (pick_within steps (suc n)) tallies w)
+tallied_within steps (Wake pid nice) tallies w = all_within steps tallies w
+tallied_within steps (Born pid nice) tallies w = with_within steps pid tallies w
+tallied_within steps (Leave pid nice dest) tallies w = all_within steps tallies w
+tallied_within steps (Arrive pid nice orig) tallies w = with_within steps pid tallies w
+
+-- where nobody is out of range, the runner's charge fits
+pub runner_fits : (tasks : List Task) (floor : ℤ) (mark time : ℕ) → EachOnce tasks → ((pid : ℕ) → ¬ IsOutOfRange (start_part tasks floor mark) time pid)
+    → (runner : Option Task) → runner ≡ find runs tasks → IfSome runner (λ t. cost_of (time - mark) t ≤ greatest)
+runner_fits tasks floor mark time once in_range None e = tt
+runner_fits tasks floor mark time once in_range (Some t) e =
+    let f = find_some runs tasks t (sym e) in
+    elim (cases_lt greatest (cost_of (time - mark) t)) [
+      | inl far ↦ absurd (in_range t.pid (record {
+        task = standing t;
+        stands = stands_each tasks once t f.0;
+        runs = place_eq-true t.place Run f.1;
+        above = inl far;
+      }))
+      | inr near ↦ near
+    ]
+
+-- the lift lets the same task run
+pub lifted_one : (time : ℕ) (part lifted : Part) → IsLiftedPart time part lifted → OneRuns part → OneRuns lifted
+lifted_one time part lifted l one p q h k = one p q (was p h) (was q k)
+  where
+    back : (o : Option Stander) → option_map (λ (s : Stander). s.place) (option_map (charged_in part time) o) ≡ option_map (λ (s : Stander). s.place) o
+    back None = refl
+    back (Some s) = refl
+
+    was : (r : ℕ) → IsIn lifted Run r → IsIn part Run r
+    was r i = sym (back (part.tasks r)) ∙ subst (λ (x : Part). IsIn x Run r) l.result i
+
+-- the runner's stretch, and what is picked and noted after it
+pub noted_ran : (tasks : List Task) (floor : ℤ) (mark time ran steps : ℕ) → EachOnce tasks
+    → ((pid : ℕ) → ¬ IsOutOfRange (start_part tasks floor mark) time pid) → ran ≡ time - mark → ran < 2 ^ 64
+    → (runner : Option Task) → runner ≡ find runs tasks → (tallies : List Tally) → All (IsWithin steps) tallies
+    → IfSome runner (λ t. cost_of ran t ≤ greatest) × All (IsRan steps) (stretched runner ran tallies)
+noted_ran tasks floor mark time ran steps once in_range is short runner e tallies w =
+    let P : ℕ → Type 0 = λ n. IfSome runner (λ t. cost_of n t ≤ greatest) in
+    let fits : P ran = subst P (sym is) (runner_fits tasks floor mark time once in_range runner e) in
+    (fits, stretched_ran steps ran runner tallies (omega arith) fits w)

@@ -1,0 +1,14 @@
+pub mod Charging
+pub mod TaskOf
+pub mod Outcomes
+pub mod Parts
+pub mod Lifts
+pub mod Answered
+pub mod Moves
+pub mod Counts
+pub mod OneRunner
+pub mod Growing
+pub mod Noting
+pub mod Faults
+pub mod Starts
+pub mod Replays

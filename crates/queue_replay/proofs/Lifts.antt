@@ -1,0 +1,167 @@
+-- Charging the rows and raising the floor is the charge and the lift of the part.
+use Rattle.std.proofs.Common.{◌≡◌, ◌≢◌, ℕ, zero, suc, ◌-◌, ◌<◌, ◌≤◌, Bool, true, false, not, cond, List, [], ◌∷◌, map, All, Contains, Option, Some, None, option_map, ℤ, pos, ◌+ℤ◌, ◌≤ℤ◌, ◌<ℤ◌, ◌⊎◌, inl, inr, refl, sym, ap, ◌∙◌, subst, arith}
+use Rattle.std.specs.List.{filter}
+use Rattle.std.proofs.lemmas.Bool.{cond-true, cond-false, cases_Bool, cases_lt}
+use Rattle.std.proofs.lemmas.Int.{ints}
+use Rattle.std.proofs.lemmas.List.Elements.{All-nil, All-cons, All-head, All-tail, All-same}
+use Rattle.cfs_model.specs.Charge.{greatest}
+use Rattle.cfs_model.specs.Part.{Part, Stander, start_part, charged_part, charged_in, cost_in, IsQueuedHere, IsLeastHere, IsRaisedHere, IsLiftedPart}
+use Rattle.cfs_model.specs.Standing.{IsOutOfRange}
+use Rattle.cfs_model.specs.Start.{place_eq, task_of}
+use Rattle.cfs_model.specs.declared.task.Place.{Place}
+use Rattle.cfs_model.specs.declared.task.Place.TheVariants.{Run, Wait, Rest}
+use Rattle.cfs_model.specs.declared.task.Task.{Task}
+use Rattle.queue_replay.specs.Rows.{runs, is_queued, queued_runtimes, cost_of, charged_task, CanBeCharged, IsRaisedBy, standing, EachOnce}
+use Rattle.queue_replay.proofs.Parts.{stands, row_of, same_tasks, stands_each}
+use Rattle.queue_replay.proofs.TaskOf.{task_of-map, task_of-each, EachOnce-map}
+
+queued-first : (t : Task) (tasks : List Task) → is_queued t ≡ true → queued_runtimes (t ∷ tasks) ≡ t.v ∷ queued_runtimes tasks
+queued-first t tasks e = ap (map (λ (u : Task). u.v)) (cond-true (is_queued t) (t ∷ filter is_queued tasks) (filter is_queued tasks) e)
+
+queued-later : (t : Task) (tasks : List Task) → is_queued t ≡ false → queued_runtimes (t ∷ tasks) ≡ queued_runtimes tasks
+queued-later t tasks e = ap (map (λ (u : Task). u.v)) (cond-false (is_queued t) (t ∷ filter is_queued tasks) (filter is_queued tasks) e)
+
+-- what holds of each virtual runtime of those queued, by the tasks
+each_queued : (P : ℤ → Type 0) (tasks : List Task) → All P (queued_runtimes tasks) → All (λ t. is_queued t ≡ true → P t.v) tasks
+each_queued P [] each = All-nil (λ (t : Task). is_queued t ≡ true → P t.v)
+each_queued P (x ∷ xs) each =
+    elim (cases_Bool (is_queued x)) [
+      | inl yes' ↦ let all : All P (x.v ∷ queued_runtimes xs) = subst (λ (l : List ℤ). All P l) (queued-first x xs yes') each in
+          All-cons (λ t. is_queued t ≡ true → P t.v) x xs (λ _. All-head P x.v (queued_runtimes xs) all)
+          (each_queued P xs (All-tail P x.v (queued_runtimes xs) all))
+      | inr no' ↦ All-cons (λ t. is_queued t ≡ true → P t.v) x xs (λ e. absurd cc)
+          (each_queued P xs (subst (λ (l : List ℤ). All P l) (queued-later x xs no') each))
+    ]
+
+-- the first of a list is the one sought, or it is among the rest
+first_or_later : {A : Type 0} (x v : A) (xs : List A) → Contains (x ∷ xs) v → (x ≡ v) ⊎ Contains xs v
+first_or_later x v xs (zero, within, is) = inl is
+first_or_later x v xs (suc k, within, is) = inr (k, omega arith, is)
+
+-- a task with a virtual runtime of those queued, and what holds of each task
+found : (Q : Task → Type 0) (tasks : List Task) (v : ℤ) → All Q tasks → Contains (queued_runtimes tasks) v
+    → (t : Task) × (is_queued t ≡ true) × (t.v ≡ v) × Q t
+found Q [] v each has = absurd (omega (arith, has.1))
+found Q (x ∷ xs) v each has =
+    elim (cases_Bool (is_queued x)) [
+      | inl yes' ↦ elim (first_or_later x.v v (queued_runtimes xs) (subst (λ (l : List ℤ). Contains l v) (queued-first x xs yes') has)) [
+        | inl is ↦ (x, yes', is, All-head Q x xs each)
+        | inr later ↦ found Q xs v (All-tail Q x xs each) later
+      ]
+      | inr no' ↦ found Q xs v (All-tail Q x xs each) (subst (λ (l : List ℤ). Contains l v) (queued-later x xs no') has)
+    ]
+
+-- a row is queued where its place isn't rest
+queued_place : (p : Place) → p ≢ Rest → not (place_eq p Rest) ≡ true
+queued_place Run e = refl
+queued_place Wait e = refl
+queued_place Rest e = absurd (e refl)
+
+place_queued : (p : Place) → not (place_eq p Rest) ≡ true → p ≢ Rest
+place_queued Run e = λ f. cc
+place_queued Wait e = λ f. cc
+place_queued Rest e = absurd cc
+
+-- one row, charged
+charged_row : (part : Part) (time : ℕ) (t : Task) (p : Place)
+    → standing (charged_task (time - part.mark) (record t { place = p })) ≡ charged_in part time (standing (record t { place = p }))
+charged_row part time t Run = refl
+charged_row part time t Wait = refl
+charged_row part time t Rest = refl
+
+pub charged-pid : (delta : ℕ) (t : Task) → (charged_task delta t).pid ≡ t.pid
+charged-pid delta t = go (runs t)
+  where
+    go : (b : Bool) → (cond b (record t { v = t.v +ℤ pos (cost_of delta t) }) t).pid ≡ t.pid
+    go true = refl
+    go false = refl
+
+module _ (tasks : List Task) (floor : ℤ) (mark time : ℕ) (once : EachOnce tasks) where
+  part : Part
+  part = start_part tasks floor mark
+
+  abbrev rows : List Task
+  rows = map (charged_task (time - mark)) tasks
+
+  pub charged_once : EachOnce rows
+  charged_once = EachOnce-map (charged_task (time - mark)) (charged-pid (time - mark)) tasks once
+
+  -- the rows stand as the charged part has them
+  pub charged_stands : (pid : ℕ) → stands rows pid ≡ (charged_part (start_part tasks floor mark) time).tasks pid
+  charged_stands pid =
+      ap (option_map standing) (task_of-map (charged_task (time - mark)) (charged-pid (time - mark)) tasks pid)
+      ∙ go (task_of tasks pid)
+    where
+      go : (o : Option Task) → option_map standing (option_map (charged_task (time - mark)) o)
+          ≡ option_map (charged_in (start_part tasks floor mark) time) (option_map standing o)
+      go None = refl
+      go (Some t) = ap Some (charged_row (start_part tasks floor mark) time t t.place)
+
+  by_queued : (P : ℤ → Type 0) → All P (queued_runtimes rows) → (pid : ℕ) (s : Stander)
+      → (charged_part (start_part tasks floor mark) time).tasks pid ≡ Some s → IsQueuedHere s → P s.runtime
+  by_queued P each pid s e queued =
+      let r = row_of rows pid s (charged_stands pid ∙ e) in
+      let q : is_queued r.0 ≡ true = queued_place r.0.place (λ f. queued (ap (λ x. x.place) (sym r.2) ∙ f)) in
+      subst (λ (x : Stander). P x.runtime) r.2 (task_of-each (λ t. is_queued t ≡ true → P t.v) rows pid r.0 (each_queued P rows each) r.1 q)
+
+  is_least : (v : ℤ) → Contains (queued_runtimes rows) v → All (λ w. v ≤ℤ w) (queued_runtimes rows)
+      → IsLeastHere (charged_part (start_part tasks floor mark) time) v
+  is_least v has each =
+      let f = found (λ t. task_of rows t.pid ≡ Some t) rows v charged_once has in
+      let t = f.0 in
+      record {
+        pid = t.pid;
+        task = standing t;
+        stands = sym (charged_stands t.pid) ∙ ap (option_map standing) f.3;
+        queued = place_queued t.place f.1;
+        runtime = f.2;
+        least = by_queued (λ w. v ≤ℤ w) each;
+      }
+
+  raised : (new : ℤ) → IsRaisedBy (queued_runtimes rows) floor new → IsRaisedHere (charged_part (start_part tasks floor mark) time) new
+  raised new (inl none) =
+      let P : ℤ → Type 0 = λ _. ⊥ in
+      inl ((λ pid s e queued. by_queued P (All-same P (queued_runtimes rows) [] none.0 (All-nil P)) pid s e queued), none.1)
+  raised new (inr least) = inr (least.0, is_least least.0 least.1.0 least.1.1, least.2)
+
+  -- the whole lift
+  pub lifted : (new : ℤ) → IsRaisedBy (queued_runtimes rows) floor new
+      → IsLiftedPart time (start_part tasks floor mark) (start_part (map (charged_task (time - mark)) tasks) new time)
+  lifted new by = record {
+    floor = new;
+    raised = raised new by;
+    result = same_tasks (stands rows) (charged_part (start_part tasks floor mark) time).tasks new time charged_stands;
+  }
+
+  runs_row : (t : Task) (s : Stander) → standing t ≡ s → s.place ≡ Run → runs t ≡ true
+  runs_row t s e r = ap (λ (x : Stander). place_eq x.place Run) e ∙ ap (λ p. place_eq p Run) r
+
+  -- where each row can be charged, none is out of range
+  pub none_above : All (CanBeCharged (time - mark)) tasks → (pid : ℕ) → ¬ IsOutOfRange (start_part tasks floor mark) time pid
+  none_above can pid o =
+      let r = row_of tasks pid o.task o.stands in
+      let fits = task_of-each (CanBeCharged (time - mark)) tasks pid r.0 can r.1 (runs_row r.0 o.task r.2 o.runs) in
+      let above : (greatest < cost_of (time - mark) r.0) ⊎ (pos greatest <ℤ (r.0.v +ℤ pos (cost_of (time - mark) r.0)))
+      = subst (λ (s : Stander). (greatest < cost_in (start_part tasks floor mark) time s) ⊎ (pos greatest <ℤ (s.runtime +ℤ pos (cost_in (start_part tasks floor mark) time s)))) (sym r.2) o.above in
+      elim above [ inl far ↦ absurd (omega (arith, fits.0)) | inr far ↦ absurd (omega (arith, ints, fits.1)) ]
+
+  -- a row that can't be charged is out of range
+  pub above : (pid : ℕ) (t : Task) → Contains tasks t → t.pid ≡ pid → (CanBeCharged (time - mark) t → ⊥)
+      → IsOutOfRange (start_part tasks floor mark) time pid
+  above pid t has is cannot =
+      subst (λ x. IsOutOfRange (start_part tasks floor mark) time x) is (record {
+        task = standing t;
+        stands = stands_each tasks once t has;
+        runs = running t.place refl;
+        above = far (cases_lt greatest (cost_of (time - mark) t));
+      })
+    where
+      running : (p : Place) → t.place ≡ p → t.place ≡ Run
+      running Run e = e
+      running Wait e = absurd (cannot (λ r. let f : place_eq t.place Run ≡ false = ap (λ q. place_eq q Run) e in absurd cc))
+      running Rest e = absurd (cannot (λ r. let f : place_eq t.place Run ≡ false = ap (λ q. place_eq q Run) e in absurd cc))
+
+      far : ((greatest < cost_of (time - mark) t) ⊎ (cost_of (time - mark) t ≤ greatest))
+          → (greatest < cost_of (time - mark) t) ⊎ (pos greatest <ℤ (t.v +ℤ pos (cost_of (time - mark) t)))
+      far (inl h) = inl h
+      far (inr h) = inr (let c : ((t.v +ℤ pos (cost_of (time - mark) t)) ≤ℤ pos greatest) → ⊥ = λ n. cannot (λ _. (h, n)) in grind (arith, ints, c))

@@ -1,0 +1,6 @@
+use Rattle.std.proofs.Common.{take}
+use Rattle.queue_replay.specs.Rows.{queued_runtimes, IsLeastOf}
+use Rattle.queue_replay.proofs.rows.least_queued.Given as goal
+
+abbrev pub invariant-loop-task : goal.invariant-loop-task
+invariant-loop-task l = IsLeastOf (queued_runtimes (take l.task-index l.tasks)) l.least

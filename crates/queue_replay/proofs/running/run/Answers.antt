@@ -1,0 +1,11 @@
+use Rattle.queue_replay.specs.Counting.{notes_shown}
+use Rattle.queue_replay.proofs.Replays.{running_more}
+use Rattle.queue_replay.proofs.running.run.Goals as goal
+use Rattle.sched_record.specs.Stream.{stream_shown}
+
+pub loop-left-preserved : goal.loop-left-preserved
+loop-left-preserved c =
+    let old = c.args.course.now in
+    let l = c.loop-left in
+    running_more (stream_shown c.args.stream.now) c.args.knobs old.made (notes_shown old.notes) c.args.steps l.left l.course c.advance.new.course
+    l.invariant c.loop-left-test.true (c.is_going.ensures.going c.if-not-is_going.false).0 c.in_ok-advance.ensures.at c.in_ok-advance.ensures.made

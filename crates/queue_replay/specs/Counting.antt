@@ -1,0 +1,71 @@
+-- The tallies of a processor, task by task, and how far they can have grown (this project's profile).
+use Rattle.std.specs.Prelude.{ℕ, ◌<◌, ⊤, vec_len, vec_capacity, option_to_list, Option, Some, None, [], ◌+◌, ◌*◌, ◌^◌, ◌≤◌, ◌==◌, if◌then◌else◌, List, map}
+use Rattle.cfs_model.specs.Deeds.{left_ticket, came_ticket}
+use Rattle.cfs_model.specs.Part.{Part}
+use Rattle.cfs_model.specs.declared.page.StepFault.{StepFault}
+use Rattle.cfs_model.specs.declared.page.Tally.{Tally}
+use Rattle.cfs_model.specs.declared.page.Ticket.{Ticket}
+use Rattle.cfs_model.specs.declared.step.Deed.{Deed}
+use Rattle.cfs_model.specs.declared.step.Deed.TheVariants.{Switch, Wake, Born, Leave, Arrive}
+use Rattle.cfs_model.specs.declared.step.Step.{Step}
+use Rattle.cfs_model.specs.Noted.{PageReading}
+use Rattle.cfs_model.specs.declared.task.Task.{Task}
+use Rattle.queue_replay.specs.Rows.{cost_of}
+use Rattle.queue_replay.specs.declared.notes.Notes.{Notes}
+
+-- a tally after the task of this pid ran for so long and was charged so much
+abbrev pub ran_tally : ℕ → ℕ → ℕ → Tally → Tally
+ran_tally pid time cost tally =
+    if tally.pid == pid then record tally { ran = tally.ran + time; charged = tally.charged + cost } else tally
+
+-- a tally after a switch to the task of this pid
+abbrev pub picked_tally : ℕ → Tally → Tally
+picked_tally pid tally = if tally.pid == pid then record tally { picks = tally.picks + 1 } else tally
+
+-- what so many steps can have made of a tally at most
+abbrev pub IsWithin : ℕ → Tally → Type 0
+IsWithin steps tally = (tally.ran ≤ steps * 2 ^ 64) × (tally.charged ≤ steps * 2 ^ 64) × (tally.picks ≤ steps)
+
+-- the notes as a page shows them
+abbrev pub notes_shown : Notes → PageReading
+notes_shown n = record {
+  line = n.line;
+  fault = n.fault;
+  left = n.left.items;
+  came = n.came.items;
+  births = n.births.items;
+  deaths = n.deaths.items;
+  tallies = n.tallies.items;
+}
+
+-- the ticket of a step, if it has one
+abbrev pub ticket_by : Part → Step → Deed → Option Ticket
+ticket_by lifted step (Leave pid nice dest) = left_ticket lifted step.line pid
+ticket_by lifted step (Arrive pid nice orig) = came_ticket lifted step.line pid nice step.claim
+ticket_by lifted step _ = None
+
+-- a ticket, if the task leaves, and if it comes
+abbrev pub if_left : Deed → Option Ticket → List Ticket
+if_left (Leave pid nice dest) ticket = option_to_list ticket
+if_left _ ticket = []
+
+abbrev pub if_came : Deed → Option Ticket → List Ticket
+if_came (Arrive pid nice orig) ticket = option_to_list ticket
+if_came _ ticket = []
+
+-- the lists of the notes have room for what a deed adds
+abbrev pub HasNoteRoom : Deed → Notes → Type 0
+HasNoteRoom (Switch prev prev_nice way next next_nice) n = vec_len n.deaths < vec_capacity n.deaths
+HasNoteRoom (Wake pid nice) n = ⊤
+HasNoteRoom (Born pid nice) n = (vec_len n.births < vec_capacity n.births) × (vec_len n.tallies < vec_capacity n.tallies)
+HasNoteRoom (Leave pid nice dest) n = vec_len n.left < vec_capacity n.left
+HasNoteRoom (Arrive pid nice orig) n = (vec_len n.came < vec_capacity n.came) × (vec_len n.tallies < vec_capacity n.tallies)
+
+-- the tallies after the runner, if there is one, ran for so long
+abbrev pub stretched : Option Task → ℕ → List Tally → List Tally
+stretched None time tallies = tallies
+stretched (Some t) time tallies = map (ran_tally t.pid time (cost_of time t)) tallies
+
+-- a page with a fault
+abbrev pub with_note : PageReading → StepFault → PageReading
+with_note page fault = record page { fault = Some fault }

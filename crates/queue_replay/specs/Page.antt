@@ -1,0 +1,15 @@
+-- A page, as contracts see it (this project's profile).
+use Rattle.cfs_model.specs.Noted.{PageReading}
+use Rattle.queue_replay.specs.declared.page.Page.{Page}
+
+-- what the page tells of the steps replayed
+abbrev pub page_shown : Page → PageReading
+page_shown p = record {
+  line = p.line;
+  fault = p.fault;
+  left = p.left;
+  came = p.came;
+  births = p.births;
+  deaths = p.deaths;
+  tallies = p.tallies;
+}

@@ -1,0 +1,127 @@
+ghost use Rattle.std.specs.Prelude.{◌≡◌, length};
+ghost use Rattle.cfs_model.specs.Page.{IsPageOf};
+ghost use Rattle.queue_replay.specs.Made.{reached_of};
+ghost use Rattle.sched_record.specs.Stream.{stream_shown};
+
+use crate::roll::Roll;
+use crate::tag::{Reached, Tag};
+use crate::tallies::Tallies;
+use crate::tickets::Tickets;
+use cfs_model::{Knobs, RollEntry, StepFault, Tally, Ticket};
+use sched_record::Stream;
+
+/// What the replay of one processor found, by its first steps.
+#[derive(Debug, Drop)]
+pub struct Page {
+    pub(crate) stream: Stream,
+    pub(crate) knobs: Knobs,
+    pub(crate) made: usize,
+    pub(crate) line: u32,
+    pub(crate) fault: Option<StepFault>,
+    pub(crate) left: Tickets,
+    pub(crate) came: Tickets,
+    pub(crate) births: Roll,
+    pub(crate) deaths: Roll,
+    pub(crate) tallies: Tallies,
+    pub ghost is_page: { ∥ IsPageOf (stream_shown stream) knobs made (record { line = line; fault = fault; left = left; came = came; births = births; deaths = deaths; tallies = tallies }) ∥₁ },
+}
+
+impl Page {
+    ghost use Rattle.queue_replay.specs.Page.{page_shown};
+
+    /// The stream that was replayed.
+    pub fn stream(&self) -> &Stream
+        ensures { result.now ≡ self.now.stream }
+    {
+        &self.stream
+    }
+
+    /// The settings that it was replayed by.
+    pub fn knobs(&self) -> Knobs
+        ensures { result ≡ self.now.knobs }
+    {
+        self.knobs
+    }
+
+    /// The number of steps made, one that failed counted.
+    pub fn made(&self) -> usize
+        ensures { result ≡ self.now.made }
+    {
+        self.made
+    }
+
+    /// The line of the last step that passed, from 1, comments counted; 0 if none did.
+    pub fn line(&self) -> u32
+        ensures { result ≡ (page_shown self.now).line }
+    {
+        self.line
+    }
+
+    /// The first fault, of a step or of the end test.
+    pub fn fault(&self) -> Option<StepFault>
+        ensures { result ≡ (page_shown self.now).fault }
+    {
+        self.fault
+    }
+
+    /// The tickets of the tasks that left, in the order of their lines.
+    pub fn left(&self) -> &[Ticket]
+        ensures { result.now ≡ (page_shown self.now).left }
+    {
+        self.left.as_slice()
+    }
+
+    /// The tickets of the tasks that came, in the order of their lines.
+    pub fn came(&self) -> &[Ticket]
+        ensures { result.now ≡ (page_shown self.now).came }
+    {
+        self.came.as_slice()
+    }
+
+    /// The births, in the order of their lines.
+    pub fn births(&self) -> &[RollEntry]
+        ensures { result.now ≡ (page_shown self.now).births }
+    {
+        self.births.as_slice()
+    }
+
+    /// The deaths, in the order of their lines.
+    pub fn deaths(&self) -> &[RollEntry]
+        ensures { result.now ≡ (page_shown self.now).deaths }
+    {
+        self.deaths.as_slice()
+    }
+
+    /// One for each pid that stood here, in the order in which they first did.
+    pub fn tallies(&self) -> &[Tally]
+        ensures { result.now ≡ (page_shown self.now).tallies }
+    {
+        self.tallies.as_slice()
+    }
+
+    /// The processor, and how far the replay went.
+    pub fn tag(&self) -> Tag
+        ensures cpu { result.cpu ≡ (stream_shown self.now.stream).cpu }
+        ensures reached { result.reached ≡ reached_of (page_shown self.now) self.now.made (length (stream_shown self.now.stream).steps) }
+    {
+        Tag {
+            cpu: self.stream.cpu(),
+            reached: self.reached(),
+        }
+    }
+
+    fn reached(&self) -> Reached
+        ensures { result ≡ reached_of (page_shown self.now) self.now.made (length (stream_shown self.now.stream).steps) }
+    {
+        match self.fault {
+            Some(fault) => Reached::Faulted(fault.line),
+            None => {
+                if self.made < self.stream.steps().len() {
+                    Reached::Stopped(self.line)
+                } else {
+                    Reached::Done
+                }
+            }
+        }
+    }
+}

@@ -1,0 +1,144 @@
+ghost use Rattle.std.specs.Prelude.{◌≡◌, ℕ, ◌-◌, ◌<◌, None, Some, vec_len, vec_capacity, All, Contains, map, OnOk, IfErr};
+ghost use Rattle.cfs_model.specs.Deeds.{goes, part_after_next, part_after_prev, wakes, with_stander};
+ghost use Rattle.cfs_model.specs.Part.{IsLiftedPart};
+ghost use Rattle.cfs_model.specs.Standing.{IsOutOfRange};
+ghost use Rattle.cfs_model.specs.declared.task.Task.{Task as TaskOf};
+ghost use Rattle.queue_replay.specs.Rows.{CanBeCharged, charged_task, queued_runtimes, IsRaisedBy, placed, roused, without, standing, EachOnce};
+ghost use Rattle.queue_replay.specs.Queue.{part_of};
+
+use crate::rows::{charge_running, least_queued, put_in, rouse};
+use cfs_model::{Claim, Place, Task, Way};
+
+/// Those who stand at the processor, and what the processor keeps.
+#[derive(Drop)]
+pub(crate) struct Runqueue {
+    /// Each pid once.
+    pub tasks: Vec<Task>,
+    /// In virtual nanoseconds.
+    pub floor: i64,
+    /// The time of the last charge, in nanoseconds.
+    pub mark: u64,
+}
+
+impl Runqueue {
+    /// Charges who runs, up to this time, and raises the floor. Else the pid of one whom that takes out of range.
+    pub fn lift(&mut self, time: u64) -> Result<(), u32>
+        requires { EachOnce self.old.tasks.items }
+        ensures in_range { OnOk result ((pid : ℕ) → IsOutOfRange (part_of self.old) time pid → ⊥) }
+        ensures lifted { OnOk result (IsLiftedPart time (part_of self.old) (part_of self.new)) }
+        ensures once { OnOk result (EachOnce self.new.tasks.items) }
+        ensures room { (vec_len self.new.tasks ≡ vec_len self.old.tasks) × (vec_capacity self.new.tasks ≡ vec_capacity self.old.tasks) }
+        ensures above { IfErr result (IsOutOfRange (part_of self.old) time) }
+    {
+        self.charge(time)
+    }
+
+    /// The same, row by row.
+    fn charge(&mut self, time: u64) -> Result<(), u32>
+        ensures in_range { OnOk result (All (CanBeCharged (time - self.old.mark)) self.old.tasks.items) }
+        ensures charged { OnOk result (self.new.tasks.items ≡ map (charged_task (time - self.old.mark)) self.old.tasks.items) }
+        ensures mark { OnOk result (self.new.mark ≡ time) }
+        ensures floor { OnOk result (IsRaisedBy (queued_runtimes self.new.tasks.items) self.old.floor self.new.floor) }
+        ensures room { (vec_len self.new.tasks ≡ vec_len self.old.tasks) × (vec_capacity self.new.tasks ≡ vec_capacity self.old.tasks) }
+        ensures above { IfErr result (λ pid. (t : TaskOf) × Contains self.old.tasks.items t × (t.pid ≡ pid) × (CanBeCharged (time - self.old.mark) t → ⊥)) }
+    {
+        charge_running(self.tasks.as_mut_slice(), time.saturating_sub(self.mark))?;
+        self.mark = time;
+        if let Some(least) = least_queued(self.tasks.as_slice()) {
+            self.floor = self.floor.max(least);
+        }
+        Ok(())
+    }
+
+    /// The previous task of a switch waits, rests or is gone.
+    pub fn take_off(&mut self, prev: u32, way: Way)
+        requires { EachOnce self.old.tasks.items }
+        ensures part { part_of self.new ≡ part_after_prev (part_of self.old) prev way }
+        ensures once { EachOnce self.new.tasks.items }
+    {
+        if prev == 0 {
+            return;
+        }
+        match way {
+            Way::Stays => self.put_in(prev, Place::Wait),
+            Way::Sleeps => self.put_in(prev, Place::Rest),
+            Way::Ends => self.remove(prev),
+        }
+    }
+
+    /// The next task of a switch runs.
+    pub fn put_on(&mut self, next: u32)
+        requires { EachOnce self.old.tasks.items }
+        ensures part { part_of self.new ≡ part_after_next (part_of self.old) next }
+        ensures once { EachOnce self.new.tasks.items }
+    {
+        if next == 0 {
+            return;
+        }
+        self.put_in(next, Place::Run);
+    }
+
+    /// The task of this pid goes to another place.
+    pub fn put_in(&mut self, pid: u32, place: Place)
+        requires { EachOnce self.old.tasks.items }
+        ensures part { part_of self.new ≡ goes (part_of self.old) pid place }
+        ensures once { EachOnce self.new.tasks.items }
+    {
+        self.change_place(pid, place);
+    }
+
+    /// The task of this pid stands here no more.
+    pub fn remove(&mut self, pid: u32)
+        requires { EachOnce self.old.tasks.items }
+        ensures part { part_of self.new ≡ with_stander (part_of self.old) pid None }
+        ensures once { EachOnce self.new.tasks.items }
+    {
+        self.drop_row(pid);
+    }
+
+    /// The task of this pid waits at the claimed virtual runtime, if it rests.
+    pub fn wake(&mut self, pid: u32, claim: Claim)
+        requires { EachOnce self.old.tasks.items }
+        ensures part { part_of self.new ≡ wakes (part_of self.old) pid (Some claim) }
+        ensures once { EachOnce self.new.tasks.items }
+    {
+        self.rouse_row(pid, claim);
+    }
+
+    /// One more task stands here. Takes no memory.
+    pub fn add(&mut self, task: Task)
+        requires once { EachOnce self.old.tasks.items }
+        requires room { vec_len self.old.tasks < vec_capacity self.old.tasks }
+        requires apart { (part_of self.old).tasks task.pid ≡ None }
+        ensures part { part_of self.new ≡ with_stander (part_of self.old) task.pid (Some (standing task)) }
+        ensures once { EachOnce self.new.tasks.items }
+    {
+        if self.tasks.push(task).is_err() {
+            unreachable!();
+        }
+    }
+
+    fn change_place(&mut self, pid: u32, place: Place)
+        ensures tasks { self.new.tasks.items ≡ map (placed pid place) self.old.tasks.items }
+        ensures floor { self.new.floor ≡ self.old.floor }
+        ensures mark { self.new.mark ≡ self.old.mark }
+    {
+        put_in(self.tasks.as_mut_slice(), pid, place);
+    }
+
+    fn drop_row(&mut self, pid: u32)
+        ensures tasks { self.new.tasks.items ≡ without pid self.old.tasks.items }
+        ensures floor { self.new.floor ≡ self.old.floor }
+        ensures mark { self.new.mark ≡ self.old.mark }
+    {
+        self.tasks.retain(|t| t.pid != pid);
+    }
+
+    fn rouse_row(&mut self, pid: u32, claim: Claim)
+        ensures tasks { self.new.tasks.items ≡ map (roused pid claim.v) self.old.tasks.items }
+        ensures floor { self.new.floor ≡ self.old.floor }
+        ensures mark { self.new.mark ≡ self.old.mark }
+    {
+        rouse(self.tasks.as_mut_slice(), pid, claim);
+    }
+}

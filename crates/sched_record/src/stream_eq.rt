@@ -1,0 +1,34 @@
+use crate::stream::Stream;
+
+impl PartialEq for Stream {
+    ghost use Rattle.std.specs.Prelude.{◌≡◌, ◌↔◌, IsTrue};
+    ghost use Rattle.std.specs.Cmp.{on_per, partial_equiv_from_equiv};
+    ghost use Rattle.sched_record.specs.Same.{is_same, is_same_equiv};
+    ghost use Rattle.sched_record.specs.Stream.{stream_shown};
+
+    ghost eq = { λ a b. is_same (stream_shown a) (stream_shown b) };
+
+    ghost laws = { on_per stream_shown (partial_equiv_from_equiv is_same_equiv) };
+
+    /// Whether two streams hold the same. It takes no memory.
+    fn eq(&self, other: &Stream) -> bool
+        ensures each { result ≡ is_same (stream_shown self.now) (stream_shown other.now) }
+        ensures exact { IsTrue result ↔ (stream_shown self.now ≡ stream_shown other.now) }
+    {
+        self.cpu == other.cpu
+            && self.tasks() == other.tasks()
+            && self.floor == other.floor
+            && self.start == other.start
+            && self.steps() == other.steps()
+            && self.last_time == other.last_time
+            && self.last_line == other.last_line
+    }
+}
+
+impl Eq for Stream {
+    ghost use Rattle.std.specs.Cmp.{on_equiv};
+    ghost use Rattle.sched_record.specs.Same.{is_same_equiv};
+    ghost use Rattle.sched_record.specs.Stream.{stream_shown};
+
+    ghost laws = { on_equiv stream_shown is_same_equiv };
+}

@@ -11,7 +11,6 @@ use Rattle.companion_file.specs.declared.fault.Refusal.TheVariants as refusals
 use Rattle.companion_file.specs.Shape.{Shape}
 use Rattle.companion_file.specs.Earlier.{Said, summed, has_all_floors}
 use Rattle.companion_file.specs.Reading.{CompanionReading}
-use Rattle.companion_file.specs.declared.fault.CompanionFault.{CompanionFault}
 use Rattle.companion_file.specs.declared.fault.CompanionFault.TheVariants as faults
 use Rattle.companion_file.specs.Draft.{Takes, KeepsOrder, IsWhole, fault_at}
 use Rattle.companion_file.specs.Companion.{AreGood, IsFirstBad, IsShort, IsRead, IsAnswered}

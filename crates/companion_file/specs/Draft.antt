@@ -1,12 +1,12 @@
 -- What the reader keeps of the lines so far, and what one more line makes of it. It is proved that this is what
 -- those lines say, taken together.
-use Rattle.std.specs.Prelude.{◌≡◌, ◌≢◌, ℕ, ◌+◌, ◌*◌, ◌^◌, ◌<◌, ◌≤◌, Bool, true, false, List, [], ◌∷◌, ◌++◌, length, unwrap_or, All, AllPairs, Option, Some, None, Result, Ok, Err, slice_index_or, ◌⊎◌}
+use Rattle.std.specs.Prelude.{◌≡◌, ◌≢◌, ℕ, ◌+◌, ◌*◌, ◌<◌, ◌≤◌, Bool, true, false, List, [], ◌∷◌, ◌++◌, length, unwrap_or, All, AllPairs, Option, Some, None, Result, Ok, Err, slice_index_or, ◌⊎◌}
 use Rattle.std.specs.Option.{ForSome}
 use Rattle.cfs_model.specs.declared.task.Task.{Task}
 use Rattle.companion_file.specs.declared.fault.Refusal.{Refusal}
 use Rattle.companion_file.specs.declared.fault.Refusal.TheVariants as refusals
 use Rattle.companion_file.specs.Shape.{Shape, version_line, cpus_line, start_line, floor_line, task_line, claim_line}
-use Rattle.companion_file.specs.declared.fault.CompanionCause.TheVariants.{Version, Short}
+use Rattle.companion_file.specs.declared.fault.CompanionCause.TheVariants.{Version}
 use Rattle.companion_file.specs.declared.fault.CompanionFault.{CompanionFault}
 use Rattle.companion_file.specs.declared.fault.CompanionFault.TheVariants as faults
 use Rattle.companion_file.specs.VersionOne.{first_line, IsComment}

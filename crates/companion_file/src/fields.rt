@@ -4,17 +4,10 @@ ghost use Rattle.companion_file.specs.LineReading.{number_field, number_whole, i
 
 use cfs_model::Place;
 use ftrace_line::numerals::number_at;
+use ftrace_line::pieces::after_front;
 
 /// A number above each virtual runtime. Larger ones are read as this one.
 const BEYOND: u64 = (1 << 62) + 1;
-
-/// What follows these bytes at the front.
-#[inline(always)]
-pub(crate) fn after<'a>(text: &'a [u8], front: &[u8]) -> Option<&'a [u8]>
-    ensures { Gives (λ x. x.now) result (after_text front.now text.now) }
-{
-    text.strip_prefix(front)
-}
 
 #[inline(always)]
 #[tactic(auto, unfolding(ftrace_line::specs::Reading::numeral_at))]
@@ -36,7 +29,7 @@ pub(crate) fn number_field(text: &[u8]) -> Option<(u64, &[u8])>
     ensures { Gives (λ x. (x.0, x.1.now)) result (number_field text.now) }
 {
     let (number, rest) = numeral(text)?;
-    let rest = after(rest, b" ")?;
+    let rest = after_front(rest, b" ")?;
     Some((number, rest))
 }
 
@@ -55,7 +48,7 @@ pub(crate) fn number_whole(text: &[u8]) -> Option<u64>
 fn integer(text: &[u8]) -> Option<(i64, &[u8])>
     ensures { Gives (λ x. (x.0, x.1.now)) result (integer_at text.now) }
 {
-    match after(text, b"-") {
+    match after_front(text, b"-") {
         None => {
             let (number, rest) = numeral(text)?;
             Some((number.min(BEYOND) as i64, rest))
@@ -74,7 +67,7 @@ pub(crate) fn integer_field(text: &[u8]) -> Option<(i64, &[u8])>
     ensures { Gives (λ x. (x.0, x.1.now)) result (integer_field text.now) }
 {
     let (integer, rest) = integer(text)?;
-    let rest = after(rest, b" ")?;
+    let rest = after_front(rest, b" ")?;
     Some((integer, rest))
 }
 
@@ -94,11 +87,11 @@ pub(crate) fn integer_whole(text: &[u8]) -> Option<i64>
 pub(crate) fn place_field(text: &[u8]) -> Option<(Place, &[u8])>
     ensures { Gives (λ x. (x.0, x.1.now)) result (place_field text.now) }
 {
-    if let Some(rest) = after(text, b"run ") {
+    if let Some(rest) = after_front(text, b"run ") {
         Some((Place::Run, rest))
-    } else if let Some(rest) = after(text, b"wait ") {
+    } else if let Some(rest) = after_front(text, b"wait ") {
         Some((Place::Wait, rest))
-    } else if let Some(rest) = after(text, b"rest ") {
+    } else if let Some(rest) = after_front(text, b"rest ") {
         Some((Place::Rest, rest))
     } else {
         None

@@ -1,7 +1,7 @@
 ghost use Rattle.std.specs.Prelude.{◌≡◌, ◌↔◌, IsTrue};
 ghost use Rattle.companion_file.specs.VersionOne.{first_line, IsComment, IsGroup};
 
-use crate::fields::after;
+use ftrace_line::pieces::after_front;
 
 /// An empty line is a comment, and so is one that begins with `#`.
 #[inline(always)]
@@ -18,7 +18,7 @@ pub(crate) fn is_comment(line: &[u8]) -> bool
 pub(crate) fn is_first(line: &[u8]) -> bool
     ensures { IsTrue result ↔ (line.now ≡ first_line) }
 {
-    match after(line, b"cfs-companion 1") {
+    match after_front(line, b"cfs-companion 1") {
         None => false,
         Some(rest) => rest.is_empty(),
     }
@@ -29,7 +29,7 @@ pub(crate) fn is_first(line: &[u8]) -> bool
 pub(crate) fn is_group(line: &[u8]) -> bool
     ensures { IsTrue result ↔ IsGroup line.now }
 {
-    match after(line, b"cgroup") {
+    match after_front(line, b"cgroup") {
         None => false,
         Some([]) => true,
         Some([next, ..]) => *next == b' ',

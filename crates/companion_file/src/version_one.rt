@@ -3,9 +3,10 @@ ghost use Rattle.ftrace_line.specs.Reading.{Gives};
 ghost use Rattle.companion_file.specs.LineReading.{version_at, cpus_at, start_at, floor_at, task_at, claim_at, front_shape_at, shape_at};
 ghost use Rattle.companion_file.specs.Statement.{stated};
 
-use crate::fields::{after, integer_field, integer_whole, number_field, number_whole, place_field};
+use crate::fields::{integer_field, integer_whole, number_field, number_whole, place_field};
 use crate::statement::Statement;
 use cfs_model::ClaimSort;
+use ftrace_line::pieces::after_front;
 use ftrace_line::time::read_time;
 
 /// What a line says that has one of the shapes of version 1.
@@ -13,13 +14,13 @@ use ftrace_line::time::read_time;
 pub(crate) fn statement_of(line: &[u8]) -> Option<Statement>
     ensures { Gives stated result (shape_at line.now) }
 {
-    if let Some(text) = after(line, b"at ") {
+    if let Some(text) = after_front(line, b"at ") {
         claim_of(text, ClaimSort::At)
-    } else if let Some(text) = after(line, b"pass ") {
+    } else if let Some(text) = after_front(line, b"pass ") {
         claim_of(text, ClaimSort::Pass)
-    } else if let Some(text) = after(line, b"task ") {
+    } else if let Some(text) = after_front(line, b"task ") {
         task_of(text)
-    } else if let Some(text) = after(line, b"floor ") {
+    } else if let Some(text) = after_front(line, b"floor ") {
         floor_of(text)
     } else {
         front_statement_of(line)
@@ -31,11 +32,11 @@ pub(crate) fn statement_of(line: &[u8]) -> Option<Statement>
 fn front_statement_of(line: &[u8]) -> Option<Statement>
     ensures { Gives stated result (front_shape_at line.now) }
 {
-    if let Some(text) = after(line, b"start ") {
+    if let Some(text) = after_front(line, b"start ") {
         start_of(text)
-    } else if let Some(text) = after(line, b"cpus ") {
+    } else if let Some(text) = after_front(line, b"cpus ") {
         cpus_of(text)
-    } else if let Some(text) = after(line, b"cfs-companion ") {
+    } else if let Some(text) = after_front(line, b"cfs-companion ") {
         version_of(text)
     } else {
         None

@@ -3,7 +3,7 @@ use Rattle.std.proofs.Common.{◌≡◌, ℕ, ◌+◌, ◌*◌, ◌<◌, ◌≤�
 use Rattle.std.proofs.lemmas.Bool.{cases_Bool, leb-true, leb-false, false≢true}
 use Rattle.ftrace_line.specs.declared.kinds.Which.{Which}
 use Rattle.ftrace_line.specs.Line.{IsEvent, IsBeyond, LineAnswer}
-use Rattle.ftrace_line.specs.Meaning.{after_loss, is_comment, is_end, event_at, event_meaning, head_at, head_meaning, HeadParts, meaning_of}
+use Rattle.ftrace_line.specs.Meaning.{after_loss, is_comment, is_end, kind_at, event_meaning, head_at, head_meaning, HeadParts, meaning_of}
 use Rattle.ftrace_line.proofs.Heads.{head_again, head_taken, TakesHead}
 use Rattle.ftrace_line.proofs.Losses.{lost_again, lost_taken, end_is}
 use Rattle.ftrace_line.proofs.Marks.{mark_taken, unmarked_taken}
@@ -24,11 +24,11 @@ in_range line parts t low_cpu low_seconds =
       time_is = refl;
     }
 
-event_answered : (line : List ℕ) (parts : HeadParts) (r : Option (Which × List ℕ)) → event_at parts.text ≡ r →
+event_answered : (line : List ℕ) (parts : HeadParts) (r : Option Which) → kind_at parts.text ≡ r →
     IsEvent line parts.cpu (parts.seconds * 1000000000 + parts.nanoseconds) parts.text →
     LineAnswer line (Ok (event_meaning parts r))
 event_answered line parts None e event = record { cpu = parts.cpu; time = parts.seconds * 1000000000 + parts.nanoseconds; text = parts.text; event = event; unmarked = unmarked_taken parts.text e }
-event_answered line parts (Some x) e event = record { text = parts.text; event = event; marked = mark_taken parts.text x e }
+event_answered line parts (Some which) e event = record { text = parts.text; event = event; marked = mark_taken parts.text which e }
 
 above : (line : List ℕ) (parts : HeadParts) → TakesHead line parts →
     (65535 < parts.cpu) ⊎ (4294967295 < parts.seconds) → IsBeyond line
@@ -41,7 +41,7 @@ head_answered line parts t =
       | inl low_cpu ↦
           elim (cases_Bool (leb parts.seconds 4294967295)) [
             | inl low_seconds ↦
-                rw (low_cpu, low_seconds) (event_answered line parts (event_at parts.text) refl (in_range line parts t (leb-true parts.cpu 65535 low_cpu) (leb-true parts.seconds 4294967295 low_seconds)))
+                rw (low_cpu, low_seconds) (event_answered line parts (kind_at parts.text) refl (in_range line parts t (leb-true parts.cpu 65535 low_cpu) (leb-true parts.seconds 4294967295 low_seconds)))
             | inr high ↦ rw (low_cpu, high) (above line parts t (inr (leb-false parts.seconds 4294967295 high)))
           ]
       | inr high ↦ rw high (above line parts t (inl (leb-false parts.cpu 65535 high)))

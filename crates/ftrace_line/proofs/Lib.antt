@@ -1,6 +1,8 @@
 pub mod TextLines
+pub mod WholeLines
 pub mod Digits
 pub mod Runs
+pub mod Fronts
 pub mod Times
 pub mod Words
 pub mod HeadParts

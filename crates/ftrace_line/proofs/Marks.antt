@@ -1,54 +1,58 @@
 -- The four marks, both ways: no mark stands in front of another.
-use Rattle.std.proofs.Common.{◌≡◌, ℕ, List, ◌++◌, Option, Some, None, ◌⊎◌, refl, ap, ◌∙◌, inl, inr}
+use Rattle.std.proofs.Common.{◌≡◌, ◌≤◌, ℕ, Bool, true, false, cond, List, ◌++◌, length, Option, Some, None, refl, ap, arith, length-append}
 use Rattle.ftrace_line.specs.declared.kinds.Which.{Which}
 use Rattle.ftrace_line.specs.declared.kinds.Which.TheVariants.{Switch, Wakeup, WakeupNew, MigrateTask}
+use Rattle.ftrace_line.specs.Front.{begins_with}
 use Rattle.ftrace_line.specs.Line.{mark_of}
-use Rattle.ftrace_line.specs.Reading.{or_else, after_text}
-use Rattle.ftrace_line.specs.Meaning.{with_mark, marked_as, event_at}
-use Rattle.ftrace_line.proofs.Runs.{text_taken, some_is, none_from}
+use Rattle.ftrace_line.specs.Meaning.{kind_at, fields_of}
+use Rattle.ftrace_line.proofs.Runs.{none_from, some_is}
+use Rattle.ftrace_line.proofs.Fronts.{front_then_rest}
 
 -- a text behind a mark is read as that event
-pub mark_again : (which : Which) (rest : List ℕ) → event_at (mark_of which ++ rest) ≡ Some (which, rest)
-unfolding event_at after_text
+pub mark_again : (which : Which) (rest : List ℕ) → kind_at (mark_of which ++ rest) ≡ Some which
+unfolding kind_at
 mark_again Switch rest = refl
 mark_again Wakeup rest = refl
 mark_again WakeupNew rest = refl
 mark_again MigrateTask rest = refl
 
-or_else_is : {A : Type 0} (r s : Option A) (x : A) → or_else r s ≡ Some x → (r ≡ Some x) ⊎ (s ≡ Some x)
-or_else_is (Some y) s x e = inl e
-or_else_is None s x e = inr e
+-- and its fields are what follows the mark
+pub fields_again : (which : Which) (rest : List ℕ) → fields_of which (mark_of which ++ rest) ≡ rest
+fields_again Switch rest = refl
+fields_again Wakeup rest = refl
+fields_again WakeupNew rest = refl
+fields_again MigrateTask rest = refl
 
-with_mark_is : (which : Which) (r : Option (List ℕ)) (x : Which × List ℕ) → with_mark which r ≡ Some x →
-    (r ≡ Some x.1) × (which ≡ x.0)
-with_mark_is which None x e = absurd cc
-with_mark_is which (Some rest) x e =
-    let both : (which, rest) ≡ x = some_is (which, rest) x e in
-    (ap (λ (y : Which × List ℕ). Some y.1) both, ap (λ (y : Which × List ℕ). y.0) both)
+-- a choice that gave this kind was made by its mark, or later
+by_mark : (text : List ℕ) (which found : Which) (later : Option Which) → (later ≡ Some found → begins_with (mark_of found) text ≡ true) →
+    (b : Bool) → begins_with (mark_of which) text ≡ b → cond b (Some which) later ≡ Some found → begins_with (mark_of found) text ≡ true
+by_mark text which found later on true there e = rw (← some_is which found e) there
+by_mark text which found later on false there e = on e
 
-marked_is : (which : Which) (text : List ℕ) (x : Which × List ℕ) → marked_as which text ≡ Some x → text ≡ mark_of x.0 ++ x.1
-marked_is which text x e =
-    let m = with_mark_is which (after_text (mark_of which) text) x e in
-    text_taken (mark_of which) text x.1 m.0 ∙ ap (λ w. mark_of w ++ x.1) m.1
+-- what was read as an event begins with its mark
+pub mark_there : (text : List ℕ) (which : Which) → kind_at text ≡ Some which → begins_with (mark_of which) text ≡ true
+unfolding kind_at
+mark_there text which e =
+    by_mark text Switch which _ (λ e.
+    by_mark text Wakeup which _ (λ e.
+    by_mark text WakeupNew which _ (λ e.
+    by_mark text MigrateTask which None (λ e. absurd cc)
+    (begins_with (mark_of MigrateTask) text) refl e)
+    (begins_with (mark_of WakeupNew) text) refl e)
+    (begins_with (mark_of Wakeup) text) refl e)
+    (begins_with (mark_of Switch) text) refl e
 
--- what was read as an event stands behind its mark
-pub mark_taken : (text : List ℕ) (x : Which × List ℕ) → event_at text ≡ Some x → text ≡ mark_of x.0 ++ x.1
-unfolding event_at
-mark_taken text x e =
-    elim (or_else_is (marked_as Switch text) _ x e) [
-      | inl e ↦ marked_is Switch text x e
-      | inr e ↦ elim (or_else_is (marked_as Wakeup text) _ x e) [
-        | inl e ↦ marked_is Wakeup text x e
-        | inr e ↦ elim (or_else_is (marked_as WakeupNew text) _ x e) [
-          | inl e ↦ marked_is WakeupNew text x e
-          | inr e ↦ marked_is MigrateTask text x e
-        ]
-      ]
-    ]
+-- it stands behind its mark
+pub mark_taken : (text : List ℕ) (which : Which) → kind_at text ≡ Some which → text ≡ mark_of which ++ fields_of which text
+mark_taken text which e = front_then_rest (mark_of which) text (mark_there text which e)
+
+-- and is as long as its mark, or longer
+pub mark_within : (text : List ℕ) (which : Which) → kind_at text ≡ Some which → length (mark_of which) ≤ length text
+mark_within text which e = omega (arith, ap length (mark_taken text which e), length-append (mark_of which) (fields_of which text))
 
 -- a text without a mark is another event's
-pub unmarked_again : (text : List ℕ) → ((which : Which) (rest : List ℕ) → text ≡ mark_of which ++ rest → ⊥) → event_at text ≡ None
-unmarked_again text none = none_from (event_at text) (λ x e. none x.0 x.1 (mark_taken text x e))
+pub unmarked_again : (text : List ℕ) → ((which : Which) (rest : List ℕ) → text ≡ mark_of which ++ rest → ⊥) → kind_at text ≡ None
+unmarked_again text none = none_from (kind_at text) (λ which e. none which (fields_of which text) (mark_taken text which e))
 
-pub unmarked_taken : (text : List ℕ) → event_at text ≡ None → (which : Which) (rest : List ℕ) → text ≡ mark_of which ++ rest → ⊥
+pub unmarked_taken : (text : List ℕ) → kind_at text ≡ None → (which : Which) (rest : List ℕ) → text ≡ mark_of which ++ rest → ⊥
 unmarked_taken text e which rest whole = let found = mark_again which rest in cc

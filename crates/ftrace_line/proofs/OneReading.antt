@@ -9,11 +9,11 @@ use Rattle.ftrace_line.specs.Numerals.{many}
 use Rattle.ftrace_line.specs.Head.{IsHead}
 use Rattle.ftrace_line.specs.Line.{LineReading, comment, lost, other, sched, IsComment, IsLost, IsEvent, IsSched, IsOther, IsBeyond, IsHeadless, LineAnswer}
 use Rattle.ftrace_line.specs.Reading.{after_text}
-use Rattle.ftrace_line.specs.Meaning.{after_loss, is_comment, is_end, event_at, event_meaning, head_at, head_meaning, meaning_of}
+use Rattle.ftrace_line.specs.Meaning.{after_loss, is_comment, is_end, kind_at, event_meaning, head_at, head_meaning, meaning_of}
 use Rattle.ftrace_line.proofs.Runs.{none_from}
 use Rattle.ftrace_line.proofs.Heads.{head_again, head_taken, TakesHead, parts_found}
 use Rattle.ftrace_line.proofs.Losses.{lost_again, lost_taken, end_is}
-use Rattle.ftrace_line.proofs.Marks.{mark_again, unmarked_again}
+use Rattle.ftrace_line.proofs.Marks.{mark_again, fields_again, unmarked_again}
 
 -- ---- the first byte tells the kinds apart
 
@@ -52,7 +52,7 @@ head_decides line cpu seconds nanoseconds text h =
 -- ---- what is so is answered
 
 event_only : (line : List ℕ) (cpu time : ℕ) (text : List ℕ) (e : IsEvent line cpu time text) →
-    meaning_of line ≡ Ok (event_meaning (record { cpu = cpu; seconds = e.seconds; nanoseconds = e.nanoseconds; text = text }) (event_at text))
+    meaning_of line ≡ Ok (event_meaning (record { cpu = cpu; seconds = e.seconds; nanoseconds = e.nanoseconds; text = text }) (kind_at text))
 event_only line cpu time text e =
     let low_cpu : cpu ≤ 65535 = e.cpu_in_range in
     let low_seconds : e.seconds ≤ 4294967295 = e.seconds_in_range in
@@ -63,7 +63,7 @@ event_only line cpu time text e =
 sched_only : (line : List ℕ) (cpu time : ℕ) (which : Which) (rest : List ℕ) → IsSched line cpu time which rest →
     meaning_of line ≡ Ok (sched cpu time which rest)
 sched_only line cpu time which rest s =
-    event_only line cpu time s.text s.event ∙ rw (s.marked, mark_again which rest, s.event.time_is) refl
+    event_only line cpu time s.text s.event ∙ rw (s.marked, mark_again which rest, fields_again which rest, s.event.time_is) refl
 
 other_only : (line : List ℕ) → IsOther line → meaning_of line ≡ Ok other
 other_only line o = event_only line o.cpu o.time o.text o.event ∙ rw (unmarked_again o.text o.unmarked) refl

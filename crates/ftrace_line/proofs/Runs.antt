@@ -1,14 +1,13 @@
 -- The primitives of reading, both ways: what was taken is so, and what is so is taken. A run ends where a byte that
 -- doesn't pass follows it, so it is the longest front that passes.
-use Rattle.std.proofs.Common.{◌≡◌, ℕ, ◌<◌, ◌≤◌, ◌==◌, Bool, true, false, cond, eqb, List, [], ◌∷◌, ◌++◌, length, drop, min, Option, Some, None, refl, sym, ap, ◌∙◌, inl, inr, arith, one-add}
-use Rattle.std.specs.Prelude.{IsTrue, ◌≢◌, MatchOption}
-use denote.Ref.{Bor}
+use Rattle.std.proofs.Common.{◌≡◌, ℕ, ◌<◌, ◌≤◌, ◌==◌, Bool, true, false, cond, eqb, List, [], ◌∷◌, ◌++◌, length, drop, min, Option, Some, None, refl, sym, ap, inl, inr, arith, one-add}
+use Rattle.std.specs.Prelude.{IsTrue, ◌≢◌}
 use Rattle.std.specs.List.{prefix_len, list_all, take_while}
 use Rattle.std.proofs.lemmas.Bool.{cases_Bool, and_parts, and_from, eqb-true, eqb-false, eq-eqb, ne_eqb}
 use Rattle.std.proofs.lemmas.List.{take_at, drop_at, take-append-drop, length-take-le}
 use Rattle.std.proofs.lemmas.List.Sums.{prefix_len-le-length}
 use Rattle.ftrace_line.specs.Numerals.{is_digit, value_of, many, IsRunOf, IsNumeral}
-use Rattle.ftrace_line.specs.Reading.{◌>>=◌, after_text, after_run, numeral_at, front_value, Gives}
+use Rattle.ftrace_line.specs.Reading.{◌>>=◌, after_text, after_run, numeral_at, front_value}
 
 pub prefix_within : (test : ℕ → Bool) (s : List ℕ) → prefix_len test s ≤ length s
 prefix_within test s = prefix_len-le-length test s
@@ -120,13 +119,6 @@ pub text_again : (front rest : List ℕ) → after_text front (front ++ rest) �
 unfolding after_text
 text_again [] rest = refl
 text_again (c ∷ front) rest = rw (eq-eqb c c refl) (text_again front rest)
-
--- a reading that finds these bytes exactly where they stand in front
-pub text_from_strip : (front s : List ℕ) (r : Option (Bor (List ℕ))) →
-    MatchOption r ((rest : List ℕ) → s ≢ front ++ rest) (λ x. s ≡ front ++ x.now) →
-    Gives (λ x. x.now) r (after_text front s)
-text_from_strip front s None none = no_text front s none
-text_from_strip front s (Some x) whole = ap (after_text front) whole ∙ text_again front x.now
 
 -- ---- numbers
 

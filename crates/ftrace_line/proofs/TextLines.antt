@@ -23,11 +23,11 @@ pub lines_of_nil : lines_of [] ≡ []
 unfolding lines_of
 lines_of_nil = refl
 
-lines_of_end : (b : ℕ) (s : List ℕ) → is_line_feed b ≡ true → lines_of (b ∷ s) ≡ [] ∷ lines_of s
+pub lines_of_end : (b : ℕ) (s : List ℕ) → is_line_feed b ≡ true → lines_of (b ∷ s) ≡ [] ∷ lines_of s
 unfolding lines_of
 lines_of_end b s e = rw e refl
 
-lines_of_more : (b : ℕ) (s : List ℕ) → is_line_feed b ≡ false → lines_of (b ∷ s) ≡ with_front b (lines_of s)
+pub lines_of_more : (b : ℕ) (s : List ℕ) → is_line_feed b ≡ false → lines_of (b ∷ s) ≡ with_front b (lines_of s)
 unfolding lines_of
 lines_of_more b s e = rw e refl
 

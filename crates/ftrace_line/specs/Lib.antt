@@ -1,3 +1,4 @@
+pub mod Front
 pub mod Numerals
 pub mod Lines
 pub mod Time

@@ -1,6 +1,6 @@
 -- The lines of a text (ftrace.rst: the file `trace` has one event a line). A line ends at a line feed, and a last
 -- line without one counts if it isn't empty.
-use Rattle.std.specs.Prelude.{ℕ, Bool, List, [], ◌∷◌, ◌==◌, if◌then◌else◌}
+use Rattle.std.specs.Prelude.{◌≡◌, ℕ, Bool, List, [], ◌∷◌, ◌++◌, ◌==◌, ◌⊎◌, if◌then◌else◌}
 
 -- the byte that ends a line
 abbrev pub is_line_feed : ℕ → Bool
@@ -15,3 +15,7 @@ with_front byte (line ∷ lines) = (byte ∷ line) ∷ lines
 unfoldable pub lines_of : List ℕ → List (List ℕ)
 lines_of [] = []
 lines_of (byte ∷ text) = if is_line_feed byte then [] ∷ lines_of text else with_front byte (lines_of text)
+
+-- a text of whole lines: it is empty, or its last byte ends a line
+abbrev pub IsWhole : List ℕ → Type 0
+IsWhole text = (text ≡ []) ⊎ ((front : List ℕ) × (text ≡ front ++ 10 ∷ []))

@@ -9,6 +9,7 @@ use Rattle.ftrace_line.specs.declared.fault.LineFault.TheVariants.{BadHead, Numb
 use Rattle.ftrace_line.specs.Numerals.{is_digit}
 use Rattle.ftrace_line.specs.Head.{is_space, is_group_byte, is_flag}
 use Rattle.ftrace_line.specs.Line.{LineReading, comment, lost, other, sched, mark_of, greatest_cpu, greatest_seconds}
+use Rattle.ftrace_line.specs.Front.{begins_with}
 use Rattle.ftrace_line.specs.Reading.{◌>>=◌, or_else, after_text, after_run, front_value, time_at}
 
 -- what follows the space, the name and the `-`
@@ -83,29 +84,28 @@ after_loss line = do
   loss ← after_run is_digit processor
   or_else (after_text (codes " [LOST EVENTS]") loss) (after_count loss)
 
--- which of the four events a text is, and its fields
-abbrev pub with_mark : Which → Option (List ℕ) → Option (Which × List ℕ)
-with_mark which (Some rest) = Some (which, rest)
-with_mark which None = None
+-- which of the four events a text is
+unfoldable pub kind_at : List ℕ → Option Which
+kind_at text =
+    if begins_with (mark_of Switch) text then Some Switch else
+    (if begins_with (mark_of Wakeup) text then Some Wakeup else
+    (if begins_with (mark_of WakeupNew) text then Some WakeupNew else
+    (if begins_with (mark_of MigrateTask) text then Some MigrateTask else None)))
 
-abbrev pub marked_as : Which → List ℕ → Option (Which × List ℕ)
-marked_as which text = with_mark which (after_text (mark_of which) text)
-
-unfoldable pub event_at : List ℕ → Option (Which × List ℕ)
-event_at text =
-    or_else (marked_as Switch text)
-    (or_else (marked_as Wakeup text) (or_else (marked_as WakeupNew text) (marked_as MigrateTask text)))
+-- what stands behind the mark
+abbrev pub fields_of : Which → List ℕ → List ℕ
+fields_of which text = drop (length (mark_of which)) text
 
 -- the meaning of a line of this kind
-abbrev pub event_meaning : HeadParts → Option (Which × List ℕ) → LineReading
+abbrev pub event_meaning : HeadParts → Option Which → LineReading
 event_meaning head None = other
-event_meaning head (Some event) = sched head.cpu (head.seconds * 1000000000 + head.nanoseconds) event.0 event.1
+event_meaning head (Some which) = sched head.cpu (head.seconds * 1000000000 + head.nanoseconds) which (fields_of which head.text)
 
 abbrev pub head_meaning : Option HeadParts → Result LineReading LineFault
 head_meaning None = Err BadHead
 head_meaning (Some head) =
     if nat_le head.cpu greatest_cpu && nat_le head.seconds greatest_seconds
-    then Ok (event_meaning head (event_at head.text)) else Err NumberRange
+    then Ok (event_meaning head (kind_at head.text)) else Err NumberRange
 
 -- the first byte says which kind of line it is
 unfoldable pub is_comment : List ℕ → Bool

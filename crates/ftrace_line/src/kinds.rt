@@ -12,9 +12,9 @@ pub enum Which {
 pub struct Sched<'a> {
     /// The processor that the line's head names.
     pub cpu: u32,
+    pub which: Which,
     /// In nanoseconds.
     pub time: u64,
-    pub which: Which,
     /// The event's fields: the line's bytes behind the event's name.
     pub rest: &'a [u8],
 }

@@ -6,7 +6,7 @@ mod head;
 mod kinds;
 pub mod lines;
 pub mod numerals;
-mod pieces;
+pub mod pieces;
 mod reading;
 #[cfg(test)]
 mod tests;

@@ -1,6 +1,6 @@
-ghost use Rattle.std.specs.Prelude.{◌≡◌, ◌<◌, ◌∷◌, length};
-ghost use Rattle.std.specs.List.{before_first, after_first};
-ghost use Rattle.ftrace_line.specs.Lines.{is_line_feed, lines_of};
+ghost use Rattle.std.specs.Prelude.{◌≡◌, ◌<◌, ◌≤◌, ◌∷◌, ◌++◌, ℕ, List, false, length, take, drop};
+ghost use Rattle.std.specs.List.{before_first, after_first, list_any};
+ghost use Rattle.ftrace_line.specs.Lines.{is_line_feed, lines_of, IsWhole};
 
 use bstr::ByteSlice;
 
@@ -20,3 +20,21 @@ pub fn next_line(text: &[u8]) -> (&[u8], &[u8])
         None => (text, &text[text.len()..]),
     }
 }
+
+/// How many bytes of a text its whole lines take: up to its last line feed, and with it.
+#[inline(always)]
+pub fn whole_lines(text: &[u8]) -> usize
+    ensures within { result ≤ length text.now }
+    ensures whole { IsWhole (take result text.now) }
+    ensures rest { list_any is_line_feed (drop result text.now) ≡ false }
+{
+    match text.rfind_byte(b'\n') {
+        Some(last) => last + 1,
+        None => 0,
+    }
+}
+
+/// A law: the lines of a text that begins with whole lines are theirs, and then those of what follows.
+pub fn lines_after_whole()
+    ensures { (text more : List ℕ) → IsWhole text → lines_of (text ++ more) ≡ lines_of text ++ lines_of more }
+{}

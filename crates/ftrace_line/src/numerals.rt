@@ -9,6 +9,10 @@ pub const MANY: u64 = 10 * LIMIT;
 /// Behind a value below this one there is room for another digit.
 const LIMIT: u64 = 1 << 60;
 
+/// So many digits stand for less than `MANY`: where there are no more, what was added up is their value, with no bound
+/// looked at on the way.
+const PLAIN_DIGITS: usize = 18;
+
 /// The digits at the front of a text.
 #[derive(Clone, Copy, Debug, Drop)]
 pub struct Number<'a> {
@@ -38,22 +42,47 @@ pub fn number_at(text: &[u8]) -> Number<'_>
     ensures rest { result.rest.now ≡ drop (prefix_len is_digit text.now) text.now }
     ensures below { result.value < 10 ^ result.digits }
 {
-    let mut value = 0;
-    for (digits, byte) in text.iter().enumerate() {
-        if !is_digit_byte(*byte) {
-            return Number {
-                digits,
-                value,
-                rest: &text[digits..],
-            };
-        }
-        value = with_digit(value, *byte);
+    let mut value = 0u64;
+    let mut digits = 0;
+    while digits < text.len() && is_digit_byte(text[digits]) {
+        let digit = u64::from(text[digits].saturating_sub(b'0'));
+        value = value.wrapping_mul(10).wrapping_add(digit);
+        digits += 1;
+    }
+    if digits > PLAIN_DIGITS {
+        return long_number_at(text);
     }
     Number {
-        digits: text.len(),
+        digits,
         value,
-        rest: &text[text.len()..],
+        rest: &text[digits..],
     }
+}
+
+/// The same where there are many digits.
+#[inline(always)]
+fn long_number_at(text: &[u8]) -> Number<'_>
+    ensures digits { result.digits ≡ prefix_len is_digit text.now }
+    ensures value { result.value ≡ min (value_of (take_while is_digit text.now)) MANY }
+    ensures rest { result.rest.now ≡ drop (prefix_len is_digit text.now) text.now }
+    ensures below { result.value < 10 ^ result.digits }
+{
+    let digits = long_digit_count(text);
+    Number {
+        digits,
+        value: number_of(&text[..digits]),
+        rest: &text[digits..],
+    }
+}
+
+/// How many digits a text begins with, away from the readers of short numbers.
+#[cold]
+#[inline(never)]
+fn long_digit_count(text: &[u8]) -> usize
+    ensures count { result ≡ prefix_len is_digit text.now }
+    ensures within { result ≤ length text.now }
+{
+    digit_count(text)
 }
 
 /// The value of one or more digits that a text begins with, or `MANY` where it is larger, and what follows them.
@@ -80,6 +109,7 @@ pub fn read_number(word: &[u8]) -> Option<u64>
 }
 
 /// The value of digits, or `MANY` where it is larger.
+#[inline(never)]
 pub fn number_of(digits: &[u8]) -> u64
     ensures { result ≡ min (value_of digits.now) MANY }
 {
@@ -101,8 +131,7 @@ pub(crate) fn is_digit_byte(byte: u8) -> bool
 /// A value with one more digit behind it.
 #[inline(always)]
 fn with_digit(value: u64, byte: u8) -> u64
-    ensures value { min result MANY ≡ min (value * 10 + (byte - 48)) MANY }
-    ensures most { byte < 58 → result < MANY + 1 }
+    ensures { min result MANY ≡ min (value * 10 + (byte - 48)) MANY }
 {
     if value < LIMIT {
         value * 10 + u64::from(byte.saturating_sub(b'0'))

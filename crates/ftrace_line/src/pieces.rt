@@ -2,6 +2,7 @@ ghost use Rattle.std.specs.Prelude.{◌≡◌, ◌≤◌, ◌==◌, ◌∷◌, [
 ghost use Rattle.std.specs.List.{prefix_len};
 ghost use Rattle.ftrace_line.specs.Numerals.{is_digit};
 ghost use Rattle.ftrace_line.specs.Head.{is_space, is_group_byte, is_flag};
+ghost use Rattle.ftrace_line.specs.Front.{begins_with};
 ghost use Rattle.ftrace_line.specs.Reading.{Gives, after_text, after_run};
 
 use crate::numerals::digit_count;
@@ -59,10 +60,34 @@ fn gap_width(text: &[u8]) -> usize
     text.iter().take_while(|byte| **byte == b' ').count()
 }
 
+/// Whether a text begins with these bytes. The first decides alone for most texts, and the others are compared eight at
+/// a time, so that a front that is a literal costs a few instructions.
+#[inline(always)]
+pub fn begins_with(text: &[u8], front: &[u8]) -> bool
+    ensures { result ≡ begins_with front.now text.now }
+{
+    if text.len() < front.len() {
+        return false;
+    }
+    let mut same = true;
+    for (place, byte) in front.iter().enumerate() {
+        if place % 8 == 1 && !same {
+            return false;
+        }
+        same &= text[place] == *byte;
+    }
+    same
+}
+
 /// What follows these bytes at the front.
 #[inline(always)]
-pub(crate) fn after_front<'a>(text: &'a [u8], front: &[u8]) -> Option<&'a [u8]>
+#[tactic(auto, using(crate::proofs::Fronts::front_missing))]
+pub fn after_front<'a>(text: &'a [u8], front: &[u8]) -> Option<&'a [u8]>
     ensures { Gives (λ x. x.now) result (after_text front.now text.now) }
 {
-    text.strip_prefix(front)
+    if begins_with(text, front) {
+        Some(&text[front.len()..])
+    } else {
+        None
+    }
 }

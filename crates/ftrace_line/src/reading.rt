@@ -1,14 +1,14 @@
-ghost use Rattle.std.specs.Prelude.{◌≡◌, ◌∷◌, [], List, ℕ, ◌↔◌, IsErrOf, codes, Result};
+ghost use Rattle.std.specs.Prelude.{◌≡◌, ◌≤◌, length, ◌∷◌, [], List, ℕ, ◌↔◌, IsErrOf, codes, Result};
 ghost use Rattle.ftrace_line.specs.declared.kinds.Which.TheVariants.{Switch};
 ghost use Rattle.ftrace_line.specs.declared.fault.LineFault.{LineFault as TheFault};
-ghost use Rattle.ftrace_line.specs.Line.{LineReading, LineAnswer, IsHeadless, IsBeyond, line_seen};
+ghost use Rattle.ftrace_line.specs.Line.{LineReading, LineAnswer, IsHeadless, IsBeyond, line_seen, mark_of};
 ghost use Rattle.ftrace_line.specs.Reading.{Gives, after_text};
-ghost use Rattle.ftrace_line.specs.Meaning.{after_count, after_loss, event_at, event_meaning, is_comment, is_end, meaning_of, marked_as};
+ghost use Rattle.ftrace_line.specs.Meaning.{after_count, after_loss, kind_at, fields_of, is_comment, is_end, meaning_of};
 
 use crate::fault::LineFault;
 use crate::head::{HeadParts, head_at};
 use crate::kinds::{Line, Sched, Which};
-use crate::pieces::{after_digits, after_front};
+use crate::pieces::{after_digits, after_front, begins_with};
 
 /// The greatest number of a processor.
 const GREATEST_CPU: u64 = 65_535;
@@ -28,40 +28,33 @@ pub fn read_line<'a>(line: &'a [u8]) -> Result<Line<'a>, LineFault>
     ensures bad { IsErrOf result LineFault.BadHead ↔ IsHeadless line.now }
     ensures range { IsErrOf result LineFault.NumberRange ↔ IsBeyond line.now }
 {
-    meaning_of(line)
-}
-
-/// A line has at most one meaning, and that or one fault.
-pub fn one_reading()
-    ensures { (line : List ℕ) (a b : Result LineReading TheFault) → LineAnswer line a → LineAnswer line b → a ≡ b }
-{}
-
-/// What a line means, read from left to right.
-#[inline(always)]
-#[tactic(auto, unfolding(crate::specs::Meaning::meaning_of))]
-fn meaning_of(line: &[u8]) -> Result<Line<'_>, LineFault>
-    ensures { line_seen result ≡ meaning_of line.now }
-{
     if is_comment(line) {
         return Ok(Line::Comment);
     }
     if is_lost(line) {
         return Ok(Line::Lost);
     }
-    let head = head_at(line).ok_or(LineFault::BadHead)?;
+    let Some(head) = head_at(line) else {
+        return Err(LineFault::BadHead);
+    };
     if head.cpu > GREATEST_CPU || head.time.seconds > GREATEST_SECONDS {
         return Err(LineFault::NumberRange);
     }
-    Ok(match event_at(head.text) {
-        Some((which, rest)) => Line::Sched(Sched {
-            cpu: head.cpu as u32,
-            time: head.time.seconds * NANOSECONDS_A_SECOND + head.time.nanoseconds,
-            which,
-            rest,
-        }),
-        None => Line::Other,
-    })
+    let Some(which) = kind_of(head.text) else {
+        return Ok(Line::Other);
+    };
+    Ok(Line::Sched(Sched {
+        cpu: head.cpu as u32,
+        time: head.time.seconds * NANOSECONDS_A_SECOND + head.time.nanoseconds,
+        which,
+        rest: fields_of(which, head.text),
+    }))
 }
+
+/// A line has at most one meaning, and that or one fault.
+pub fn one_reading()
+    ensures { (line : List ℕ) (a b : Result LineReading TheFault) → LineAnswer line a → LineAnswer line b → a ≡ b }
+{}
 
 /// Whether a line is a comment.
 #[inline(always)]
@@ -77,9 +70,13 @@ fn is_comment(line: &[u8]) -> bool
 
 /// Whether a line says that a processor lost events.
 #[inline(always)]
+#[tactic(auto, using(crate::proofs::Fronts::front_missing), unfolding(crate::specs::Meaning::after_loss))]
 fn is_lost(line: &[u8]) -> bool
     ensures { result ≡ is_end (after_loss line.now) }
 {
+    if !begins_with(line, b"CPU:") {
+        return false;
+    }
     match after_loss(line) {
         Some([]) => true,
         _ => false,
@@ -87,7 +84,8 @@ fn is_lost(line: &[u8]) -> bool
 }
 
 /// What follows the words on lost events.
-#[inline(always)]
+#[cold]
+#[inline(never)]
 #[tactic(auto, unfolding(crate::specs::Meaning::after_loss))]
 fn after_loss(line: &[u8]) -> Option<&[u8]>
     ensures { Gives (λ x. x.now) result (after_loss line.now) }
@@ -108,23 +106,37 @@ fn after_count(text: &[u8]) -> Option<&[u8]>
     after_front(words, b" EVENTS]")
 }
 
-/// Which of the four events a text is, and its fields.
+/// Which of the four events a text is.
 #[inline(always)]
-#[tactic(auto, unfolding(crate::specs::Meaning::event_at))]
-fn event_at(text: &[u8]) -> Option<(Which, &[u8])>
-    ensures { Gives (λ x. (x.0, x.1.now)) result (event_at text.now) }
+#[tactic(auto, unfolding(crate::specs::Meaning::kind_at))]
+fn kind_of(text: &[u8]) -> Option<Which>
+    ensures { result ≡ kind_at text.now }
 {
-    match after_front(text, b"sched_switch: ") {
-        Some(rest) => Some((Which::Switch, rest)),
-        None => match after_front(text, b"sched_wakeup: ") {
-            Some(rest) => Some((Which::Wakeup, rest)),
-            None => match after_front(text, b"sched_wakeup_new: ") {
-                Some(rest) => Some((Which::WakeupNew, rest)),
-                None => match after_front(text, b"sched_migrate_task: ") {
-                    Some(rest) => Some((Which::MigrateTask, rest)),
-                    None => None,
-                },
-            },
-        },
+    if begins_with(text, b"sched_switch: ") {
+        return Some(Which::Switch);
+    }
+    if begins_with(text, b"sched_wakeup: ") {
+        return Some(Which::Wakeup);
+    }
+    if begins_with(text, b"sched_wakeup_new: ") {
+        return Some(Which::WakeupNew);
+    }
+    if begins_with(text, b"sched_migrate_task: ") {
+        return Some(Which::MigrateTask);
+    }
+    None
+}
+
+/// The fields of an event: what stands behind its mark.
+#[inline(always)]
+fn fields_of(which: Which, text: &[u8]) -> &[u8]
+    requires { length (mark_of which) ≤ length text.now }
+    ensures { result.now ≡ fields_of which text.now }
+{
+    match which {
+        Which::Switch => &text[b"sched_switch: ".len()..],
+        Which::Wakeup => &text[b"sched_wakeup: ".len()..],
+        Which::WakeupNew => &text[b"sched_wakeup_new: ".len()..],
+        Which::MigrateTask => &text[b"sched_migrate_task: ".len()..],
     }
 }

@@ -1,6 +1,7 @@
 -- The last place at which a key stands: one step of the search, and what it finds.
-use Rattle.std.proofs.Common.{◌≡◌, ◌≢◌, ℕ, zero, suc, ◌-◌, ◌≤◌, ◌<◌, ◌⊎◌, Bool, true, false, cond, List, drop, Some, None, refl, sym, ap, ◌∙◌, arith, inl, inr}
-use Rattle.std.proofs.lemmas.Bool.{cases_lt}
+use Rattle.std.proofs.Common.{◌≡◌, ◌≢◌, ℕ, zero, suc, ◌+◌, ◌-◌, ◌≤◌, ◌<◌, ◌⊎◌, Bool, true, false, cond, eqb, min, List, [], ◌∷◌, length, get_or, drop, Some, None, refl, sym, ap, ◌∙◌, arith, inl, inr}
+use Rattle.std.proofs.lemmas.Bool.{cases_lt, ne_eqb}
+use Rattle.std.proofs.lemmas.List.{drop_more, drop_all}
 use Rattle.sched_event.specs.Reading.{begins_with, last_place}
 
 -- the key stands at the limit
@@ -53,4 +54,44 @@ place_is_last (suc limit) key text place le stands none =
     elim (cases_lt place (suc limit)) [
       | inl lt ↦ rw (none (suc limit) lt (omega arith)) (place_is_last limit key text place (omega arith) stands (λ later above below. none later above (omega arith)))
       | inr ge ↦ let z : place ≡ suc limit = omega arith in place_found (suc limit) key text (rw z at stands) ∙ ap Some (sym z)
+    ]
+
+-- ---- a key stands only where its first byte does
+
+-- it doesn't stand where another byte does
+pub first_differs : (key text : List ℕ) (place : ℕ) → 0 < length key → place < length text → get_or text place 0 ≢ get_or key 0 0 → begins_with key (drop place text) ≡ false
+first_differs [] text place some within differs = absurd (omega arith)
+first_differs (byte ∷ key) text place some within differs =
+    let here : drop place text ≡ get_or text place 0 ∷ drop (place + 1) text = drop_more text place 0 within in
+    let other : eqb (get_or text place 0) byte ≡ false = ne_eqb (get_or text place 0) byte differs in
+    rw (here, other) refl
+
+-- nor in an empty text
+pub none_in_empty : (key : List ℕ) → 0 < length key → begins_with key [] ≡ false
+none_in_empty [] some = absurd (omega arith)
+none_in_empty (byte ∷ key) some = refl
+
+-- places with another byte are passed over
+pub passed_over : (limit place : ℕ) (key text : List ℕ) → place ≤ limit → limit < length text → 0 < length key
+    → ((later : ℕ) → place < later → later ≤ limit → get_or text later 0 ≢ get_or key 0 0) → last_place limit key text ≡ last_place place key text
+passed_over zero place key text le within some other = let z : 0 ≡ place = omega arith in rw z refl
+passed_over (suc limit) place key text le within some other =
+    elim (cases_lt place (suc limit)) [
+      | inl lt ↦
+          let down : suc limit - 1 ≡ limit = omega arith in
+          place_below (suc limit) key text (first_differs key text (suc limit) some within (other (suc limit) lt (omega arith))) (λ z. absurd (omega arith))
+          ∙ rw down (passed_over limit place key text (omega arith) (omega arith) some (λ later above below. other later above (omega arith)))
+      | inr ge ↦ let z : suc limit ≡ place = omega arith in rw z refl
+    ]
+
+-- the key doesn't stand behind the last byte
+pub from_last : (key text : List ℕ) → 0 < length key → 0 < length text → last_place (min 15 (length text)) key text ≡ last_place (min 15 (length text - 1)) key text
+from_last key text some long =
+    elim (cases_lt 15 (length text)) [
+      | inl lt ↦ let same : min 15 (length text) ≡ min 15 (length text - 1) = omega arith in rw same refl
+      | inr ge ↦
+          let all : min 15 (length text) ≡ length text = omega arith in
+          let but_one : min 15 (length text - 1) ≡ length text - 1 = omega arith in
+          let nothing : begins_with key (drop (length text) text) ≡ false = rw (drop_all (length text) text (omega arith)) (none_in_empty key some) in
+          rw (all, but_one) (place_below (length text) key text nothing (λ z. absurd (omega arith)))
     ]

@@ -1,6 +1,6 @@
 -- A key and a run of bytes: what was taken from the front of a text is so, and what is so is taken.
-use Rattle.std.proofs.Common.{◌≡◌, ℕ, zero, suc, ◌+◌, ◌<◌, Bool, true, false, cond, eqb, List, [], ◌∷◌, ◌++◌, length, take, drop, get_or, Some, None, refl, sym, ap, ◌∙◌, arith, inl, inr}
-use Rattle.std.specs.Prelude.{bytes_eq, ◌&&◌, ⊤}
+use Rattle.std.proofs.Common.{◌≡◌, ℕ, suc, ◌+◌, ◌<◌, Bool, true, false, cond, eqb, List, [], ◌∷◌, ◌++◌, length, take, drop, Some, None, refl, sym, ap, ◌∙◌, arith, inl, inr}
+use Rattle.std.specs.Prelude.{◌&&◌, ⊤}
 use Rattle.std.specs.List.{list_all, prefix_len}
 use Rattle.std.proofs.lemmas.Bool.{eqb-false, ne_eqb}
 use Rattle.std.proofs.lemmas.Option.{some_pair_parts}
@@ -8,13 +8,11 @@ use Rattle.std.proofs.lemmas.List.Folds.{length-prefix_len}
 use Rattle.std.proofs.lemmas.List.{take_at, drop_at, take-append-drop}
 use Rattle.std.proofs.lemmas.Slice.Eq.{bytes_eq-Decides}
 use Rattle.ftrace_line.specs.Numerals.{IsRunOf}
+pub use Rattle.ftrace_line.proofs.Fronts.{begins_own}
 use Rattle.sched_event.specs.Reading.{begins_with, key_at, run_at}
 use Rattle.sched_event.proofs.Places.{chosen}
 
 -- ---- keys
-
-pub begins_own : (key rest : List ℕ) → begins_with key (key ++ rest) ≡ true
-begins_own key rest = rw (take_at key rest (length key) refl) ((bytes_eq-Decides key key).1 refl)
 
 pub key_again : (key rest : List ℕ) → key_at key (key ++ rest) ≡ Some rest
 unfolding key_at
@@ -83,23 +81,3 @@ run_again test front rest run stops =
     let count : prefix_len test (front ++ rest) ≡ length front = prefix_is_front test front rest run.all stops in
     let some : eqb (length front) 0 ≡ false = ne_eqb (length front) 0 (λ z. absurd (omega (arith, run.some))) in
     rw (count, some, take_at front rest (length front) refl, drop_at front rest (length front) refl) refl
-
--- ---- comparing byte by byte
-
--- one more byte
-pub same_more : (xs ys : List ℕ) (place : ℕ) → place < length xs → place < length ys
-    → bytes_eq (take (place + 1) xs) (take (place + 1) ys) ≡ (bytes_eq (take place xs) (take place ys) && eqb (get_or xs place 0) (get_or ys place 0))
-same_more [] ys place lt lu = absurd (omega arith)
-same_more (x ∷ xs) [] place lt lu = absurd (omega arith)
-same_more (x ∷ xs) (y ∷ ys) zero lt lu = by_test (eqb x y)
-  where
-    by_test : (b : Bool) → (b && true) ≡ (true && b)
-    by_test true = refl
-    by_test false = refl
-same_more (x ∷ xs) (y ∷ ys) (suc place) lt lu =
-    let up : suc place + 1 ≡ suc (place + 1) = omega arith in
-    rw (up, same_more xs ys place (omega arith) (omega arith)) (by_test (eqb x y) (bytes_eq (take place xs) (take place ys)) (eqb (get_or xs place 0) (get_or ys place 0)))
-  where
-    by_test : (a b c : Bool) → (a && (b && c)) ≡ ((a && b) && c)
-    by_test true b c = refl
-    by_test false b c = refl

@@ -1,10 +1,11 @@
 -- Reading the four events' texts from left to right, as lists of bytes (the print formats of the scheduler's trace
 -- events). What is read so is the relation of Texts.
-use Rattle.std.specs.Prelude.{◌≡◌, ℕ, zero, suc, ◌==◌, Bool, true, false, if◌then◌else◌, List, [], ◌∷◌, codes, length, min, take, drop, bytes_eq, Option, Some, None, option_and_then, option_map}
+use Rattle.std.specs.Prelude.{◌≡◌, ℕ, zero, suc, ◌==◌, Bool, true, false, if◌then◌else◌, List, [], ◌∷◌, codes, length, min, take, drop, Option, Some, None, option_and_then, option_map}
 use Rattle.std.specs.List.{prefix_len}
 use Rattle.ftrace_line.specs.declared.kinds.Which.{Which}
 use Rattle.ftrace_line.specs.declared.kinds.Which.TheVariants as kinds
 use Rattle.ftrace_line.specs.Numerals.{is_digit}
+pub use Rattle.ftrace_line.specs.Front.{begins_with}
 use Rattle.sched_event.specs.Texts.{Prio, SwitchText, WakeupText, MigrationText, EventText, switch, wakeup, wakeup_new, migration, is_dark}
 
 -- a reader, and another at what it found
@@ -16,10 +17,6 @@ o >>= f = option_and_then f o
 abbrev pub Gives : {X Y : Type 0} → (X → Y) → Option X → Option Y → Type 0
 Gives view None read = read ≡ None
 Gives view (Some x) read = read ≡ Some (view x)
-
--- whether a text begins with a key
-abbrev pub begins_with : List ℕ → List ℕ → Bool
-begins_with key text = bytes_eq (take (length key) text) key
 
 -- what follows the key that a text begins with
 unfoldable pub key_at : List ℕ → List ℕ → Option (List ℕ)

@@ -1,37 +1,23 @@
-ghost use Rattle.std.specs.Prelude.{◌≡◌, ◌<◌, ◌≤◌, length, drop, min, IfSome};
+ghost use Rattle.std.specs.Prelude.{◌≡◌, ◌≢◌, ℕ, ◌+◌, ◌<◌, ◌≤◌, slice_index, length, min, IfSome};
 ghost use Rattle.std.specs.List.{prefix_len};
 ghost use Rattle.sched_event.specs.Texts.{is_dark};
-ghost use Rattle.sched_event.specs.Reading.{Gives, begins_with, key_at, run_at, sign_at, last_place, numeral_at, state_at, prio_at, name_at, optional_at};
-ghost use Rattle.sched_event.specs.Seen.{pair, prio_seen, prio_pair, optional_pair};
+ghost use Rattle.sched_event.specs.Reading.{Gives, key_at, run_at, sign_at, last_place, numeral_at, state_at, prio_at, name_at, optional_at};
+ghost use Rattle.sched_event.specs.Seen.{pair, numeral_pair, prio_seen, prio_pair, optional_pair};
 ghost use Rattle.ftrace_line.specs.Numerals.{is_digit};
 
-use ftrace_line::numerals::digit_count;
+use crate::numeral::Numeral;
+use ftrace_line::numerals::number_at;
+use ftrace_line::pieces::begins_with;
 
 /// A printed prio.
 #[derive(Clone, Copy)]
 pub(crate) struct PrioFields<'a> {
     pub(crate) minus: bool,
-    pub(crate) digits: &'a [u8],
+    pub(crate) numeral: Numeral<'a>,
 }
 
 /// The most bytes that a name has.
 const NAME_MAX: usize = 15;
-
-/// Whether the text begins with a key. All its bytes are compared, so that a key that is a literal costs a few
-/// instructions.
-#[inline(always)]
-fn begins_with(text: &[u8], key: &[u8]) -> bool
-    ensures { result ≡ begins_with key.now text.now }
-{
-    if text.len() < key.len() {
-        return false;
-    }
-    let mut same = true;
-    for (place, byte) in key.iter().enumerate() {
-        same &= text[place] == *byte;
-    }
-    same
-}
 
 /// What follows the key that the text begins with.
 #[inline(always)]
@@ -49,14 +35,21 @@ fn after<'a>(text: &'a [u8], key: &[u8]) -> Option<&'a [u8]>
 /// The digits that the text begins with, and what follows them.
 #[inline(always)]
 #[tactic(auto, unfolding(crate::specs::Reading::run_at))]
-fn digits<'a>(text: &'a [u8]) -> Option<(&'a [u8], &'a [u8])>
-    ensures { Gives pair result (run_at is_digit text.now) }
+fn digits<'a>(text: &'a [u8]) -> Option<(Numeral<'a>, &'a [u8])>
+    ensures { Gives numeral_pair result (run_at is_digit text.now) }
 {
-    let count = digit_count(text);
-    if count == 0 {
+    let number = number_at(text);
+    if number.digits == 0 {
         return None;
     }
-    Some(text.split_at(count))
+    let digits = &text[..number.digits];
+    Some((
+        Numeral {
+            digits,
+            value: number.value,
+        },
+        number.rest,
+    ))
 }
 
 /// How many bytes stand before the first space.
@@ -99,40 +92,86 @@ fn sign<'a>(text: &'a [u8]) -> (bool, &'a [u8])
     }
 }
 
-/// Whether the key stands at a place of the text. Its first byte is compared first.
+/// The last place up to a limit at which this byte stands, or 0.
 #[inline(always)]
-fn stands_at(text: &[u8], key: &[u8], place: usize) -> bool
-    requires some { 0 < length key.now }
-    ensures { result ≡ begins_with key.now (drop place text.now) }
+fn last_byte(text: &[u8], byte: u8, limit: usize) -> usize
+    requires { limit < length text.now }
+    ensures within { result ≤ limit }
+    ensures none { (place : ℕ) → result < place → place ≤ limit → slice_index text.now place ≢ byte }
 {
-    place < text.len() && text[place] == key[0] && begins_with(&text[place..], key)
+    if limit == NAME_MAX {
+        return usize::from(last_byte_of_sixteen(text, byte));
+    }
+    let mut place = limit;
+    while place > 0 && text[place] != byte {
+        place -= 1;
+    }
+    place
+}
+
+/// The last of the first sixteen places at which this byte stands, or 0. Names have all lengths, so all places are looked
+/// at with no branch to guess.
+#[inline(always)]
+fn last_byte_of_sixteen(text: &[u8], byte: u8) -> u8
+    requires { 15 < length text.now }
+    ensures within { result ≤ 15 }
+    ensures none { (place : ℕ) → result < place → place ≤ 15 → slice_index text.now place ≢ byte }
+{
+    let mut last = 0;
+    for place in 0..16u8 {
+        last = last.max(place_if_same(place, text[usize::from(place)], byte));
+    }
+    last
+}
+
+/// The place where its byte is the one sought, or 0. There is no test: sixteen times the distance of two other bytes is
+/// above every place, so that sixteen places are looked at by a few instructions.
+#[inline(always)]
+fn place_if_same(place: u8, found: u8, byte: u8) -> u8
+    requires { place < 16 }
+    ensures same { found ≡ byte → result ≡ place }
+    ensures other { found ≢ byte → result ≡ 0 }
+{
+    let twice = doubled(found.abs_diff(byte));
+    place.saturating_sub(doubled(doubled(doubled(twice))))
+}
+
+/// Twice a number, or the greatest.
+#[inline(always)]
+fn doubled(number: u8) -> u8
+    ensures { result ≡ min (number + number) 255 }
+{
+    number.saturating_add(number)
 }
 
 /// The last place within a name's length at which the key stands.
 #[inline(always)]
-#[tactic(auto, using(crate::proofs::Places::place_found, crate::proofs::Places::place_below, crate::proofs::Places::place_none))]
 fn last_place(text: &[u8], key: &[u8]) -> Option<usize>
     requires { 0 < length key.now }
     ensures place { result ≡ last_place (min 15 (length text.now)) key.now text.now }
     ensures within { IfSome result (λ place. place ≤ length text.now) }
 {
-    let mut place = text.len().min(NAME_MAX);
+    if text.is_empty() {
+        return None;
+    }
+    let mut limit = NAME_MAX.min(text.len() - 1);
     loop {
-        if stands_at(text, key, place) {
+        let place = last_byte(text, key[0], limit);
+        if begins_with(&text[place..], key) {
             return Some(place);
         }
         if place == 0 {
             return None;
         }
-        place -= 1;
+        limit = place - 1;
     }
 }
 
 /// The digits behind a key, and what follows them.
 #[inline(always)]
 #[tactic(auto, unfolding(crate::specs::Reading::numeral_at))]
-pub(crate) fn numeral<'a>(text: &'a [u8], key: &[u8]) -> Option<(&'a [u8], &'a [u8])>
-    ensures { Gives pair result (numeral_at key.now text.now) }
+pub(crate) fn numeral<'a>(text: &'a [u8], key: &[u8]) -> Option<(Numeral<'a>, &'a [u8])>
+    ensures { Gives numeral_pair result (numeral_at key.now text.now) }
 {
     let after = after(text, key)?;
     digits(after)
@@ -156,8 +195,8 @@ pub(crate) fn prio<'a>(text: &'a [u8], key: &[u8]) -> Option<(PrioFields<'a>, &'
 {
     let after = after(text, key)?;
     let (minus, unsigned) = sign(after);
-    let (digits, rest) = digits(unsigned)?;
-    Some((PrioFields { minus, digits }, rest))
+    let (numeral, rest) = digits(unsigned)?;
+    Some((PrioFields { minus, numeral }, rest))
 }
 
 /// The name behind a key, up to the next key, and the text from that key on.
@@ -175,7 +214,7 @@ pub(crate) fn name<'a>(text: &'a [u8], key: &[u8], next: &[u8]) -> Option<(&'a [
 /// The digits behind a key where they stand there, and what follows them.
 #[inline(always)]
 #[tactic(auto, unfolding(crate::specs::Reading::optional_at))]
-pub(crate) fn optional_numeral<'a>(text: &'a [u8], key: &[u8]) -> (Option<&'a [u8]>, &'a [u8])
+pub(crate) fn optional_numeral<'a>(text: &'a [u8], key: &[u8]) -> (Option<Numeral<'a>>, &'a [u8])
     ensures { optional_pair result ≡ optional_at key.now text.now }
 {
     match numeral(text, key) {

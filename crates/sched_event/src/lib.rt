@@ -6,6 +6,7 @@ mod fault;
 mod fields;
 mod limits;
 mod migration;
+mod numeral;
 mod read;
 mod switch;
 mod wakeup;

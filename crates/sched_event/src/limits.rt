@@ -6,8 +6,8 @@ ghost use Rattle.sched_event.specs.Seen.{prio_seen};
 use crate::event::IDLE;
 use crate::fault::EventFault;
 use crate::fields::PrioFields;
+use crate::numeral::Numeral;
 use cfs_model::{Nice, PrioFault};
-use ftrace_line::numerals::number_of;
 
 /// The largest pid of a task.
 const PID_MAX: u64 = 4194304;
@@ -21,34 +21,33 @@ const PRIO_MIDDLE: i64 = 120;
 /// No fair task has this prio or a larger one.
 const PRIO_BEYOND: u64 = 140;
 
-/// The number that the digits stand for.
+/// The number of a numeral that isn't above the most.
 #[inline(always)]
 #[tactic(auto, unfolding(crate::specs::Judging::number_within))]
-fn number_within(digits: &[u8], most: u64) -> Result<u32, EventFault>
+fn number_within(numeral: &Numeral, most: u64) -> Result<u32, EventFault>
     requires { most < 2 ^ 32 }
-    ensures { result ≡ number_within most digits.now }
+    ensures { result ≡ number_within most numeral.now.digits.now }
 {
-    let number = number_of(digits);
-    if number > most {
+    if numeral.value > most {
         return Err(EventFault::NumberRange);
     }
-    Ok(number as u32)
+    Ok(numeral.value as u32)
 }
 
-/// The pid that the digits stand for.
+/// The pid that a numeral stands for.
 #[inline(always)]
-pub(crate) fn pid_of(digits: &[u8]) -> Result<u32, EventFault>
-    ensures { result ≡ number_within most_pid digits.now }
+pub(crate) fn pid_of(numeral: &Numeral) -> Result<u32, EventFault>
+    ensures { result ≡ number_within most_pid numeral.now.digits.now }
 {
-    number_within(digits, PID_MAX)
+    number_within(numeral, PID_MAX)
 }
 
-/// The processor that the digits stand for.
+/// The processor that a numeral stands for.
 #[inline(always)]
-pub(crate) fn cpu_of(digits: &[u8]) -> Result<u32, EventFault>
-    ensures { result ≡ number_within most_cpu digits.now }
+pub(crate) fn cpu_of(numeral: &Numeral) -> Result<u32, EventFault>
+    ensures { result ≡ number_within most_cpu numeral.now.digits.now }
 {
-    number_within(digits, CPU_MAX)
+    number_within(numeral, CPU_MAX)
 }
 
 /// The nice value of a printed prio. That of the idle task isn't looked at: its nice value is 0.
@@ -57,7 +56,7 @@ pub(crate) fn cpu_of(digits: &[u8]) -> Result<u32, EventFault>
 pub(crate) fn nice_of(pid: u32, prio: &PrioFields) -> Result<Nice, EventFault>
     ensures { result ≡ nice_at pid (prio_seen prio.now) }
 {
-    let number = number_of(prio.digits).min(PRIO_BEYOND) as i64;
+    let number = prio.numeral.value.min(PRIO_BEYOND) as i64;
     let printed = if pid == IDLE {
         PRIO_MIDDLE
     } else if prio.minus {

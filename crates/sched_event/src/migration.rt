@@ -7,18 +7,20 @@ use crate::event::{IDLE, Migration};
 use crate::fault::EventFault;
 use crate::fields::{PrioFields, fields, name, numeral, prio};
 use crate::limits::{cpu_of, nice_of, pid_of};
+use crate::numeral::Numeral;
 
 /// The parts of a migration's text.
 #[derive(Clone, Copy)]
 pub(crate) struct MigrationFields<'a> {
     pub(crate) name: &'a [u8],
-    pub(crate) pid: &'a [u8],
+    pub(crate) pid: Numeral<'a>,
     pub(crate) prio: PrioFields<'a>,
-    pub(crate) orig: &'a [u8],
-    pub(crate) dest: &'a [u8],
+    pub(crate) orig: Numeral<'a>,
+    pub(crate) dest: Numeral<'a>,
 }
 
 /// The parts of a migration's text, where the whole text has them.
+#[inline(always)]
 #[tactic(auto, unfolding(crate::specs::Reading::migration_at))]
 pub(crate) fn migration_fields(text: &[u8]) -> Option<MigrationFields<'_>>
     ensures { Gives migration_seen result (migration_at text.now) }
@@ -49,9 +51,9 @@ pub(crate) fn migration_fields(text: &[u8]) -> Option<MigrationFields<'_>>
 pub(crate) fn migration_of<'a>(text: &MigrationFields<'a>) -> Result<Migration<'a>, EventFault>
     ensures { Judges migrated_seen result (migration_judged (migration_seen text.now)) }
 {
-    let pid = pid_of(text.pid)?;
-    let orig = cpu_of(text.orig)?;
-    let dest = cpu_of(text.dest)?;
+    let pid = pid_of(&text.pid)?;
+    let orig = cpu_of(&text.orig)?;
+    let dest = cpu_of(&text.dest)?;
     let nice = nice_of(pid, &text.prio)?;
     if pid == IDLE {
         return Err(EventFault::IdleNamed);

@@ -1,9 +1,7 @@
 ghost use Rattle.std.specs.Prelude.{◌≡◌, ℕ, List, Result, ◌↔◌, IsErrOf};
 ghost use Rattle.ftrace_line.specs.declared.kinds.Which.{Which};
-ghost use Rattle.ftrace_line.specs.declared.kinds.Which.TheVariants as kinds;
 ghost use Rattle.sched_event.specs.Texts.{EventText, Reads};
-ghost use Rattle.sched_event.specs.Event.{EventReading, reading_seen, event_seen, EventAnswer, HasNoReading, HasNumberOutOfRange, HasRealTimePrio, HasPrioAboveRange, NamesIdle};
-ghost use Rattle.sched_event.specs.Judging.{Judges, answer_at};
+ghost use Rattle.sched_event.specs.Event.{EventReading, event_seen, EventAnswer, HasNoReading, HasNumberOutOfRange, HasRealTimePrio, HasPrioAboveRange, NamesIdle};
 ghost use Rattle.sched_event.specs.declared.fault.EventFault.{EventFault};
 
 use crate::event::Event;
@@ -23,74 +21,45 @@ pub fn read_event<'a>(line: Sched<'a>) -> Result<Event<'a>, EventFault>
     ensures prio_range { IsErrOf result EventFault.PrioRange ↔ HasPrioAboveRange line.entry.which line.entry.rest.now }
     ensures idle_named { IsErrOf result EventFault.IdleNamed ↔ NamesIdle line.entry.which line.entry.rest.now }
 {
-    event_in(line)
-}
-
-/// The event that a text says, or the first cause to refuse it.
-fn event_in<'a>(line: Sched<'a>) -> Result<Event<'a>, EventFault>
-    ensures { Judges reading_seen result (answer_at line.entry.cpu line.entry.which line.entry.rest.now) }
-{
+    // Each end returns by itself: an answer that passed through one place for all would be copied there, and each
+    // refusal would hold up the reading with the empty fields of its answer.
     match line.which {
-        Which::Switch => read_switch(line.cpu, line.rest),
-        Which::Wakeup => read_wakeup(line.cpu, line.rest),
-        Which::WakeupNew => read_wakeup_new(line.cpu, line.rest),
-        Which::MigrateTask => read_migration(line.cpu, line.rest),
-    }
-}
-
-/// A switch, or the first cause to refuse the text.
-#[tactic(auto, unfolding(crate::specs::Judging::answer_at, crate::specs::Judging::judged, crate::specs::Reading::text_at))]
-fn read_switch<'a>(cpu: u32, rest: &'a [u8]) -> Result<Event<'a>, EventFault>
-    ensures { Judges reading_seen result (answer_at cpu kinds.Switch rest.now) }
-{
-    let Some(text) = switch_fields(rest) else {
-        return Err(EventFault::BadFields);
-    };
-    match switch_of(cpu, &text) {
-        Ok(switch) => Ok(Event::Switch(switch)),
-        Err(fault) => Err(fault),
-    }
-}
-
-/// A wakeup of a task that slept, or the first cause to refuse the text.
-#[tactic(auto, unfolding(crate::specs::Judging::answer_at, crate::specs::Judging::judged, crate::specs::Reading::text_at))]
-fn read_wakeup<'a>(cpu: u32, rest: &'a [u8]) -> Result<Event<'a>, EventFault>
-    ensures { Judges reading_seen result (answer_at cpu kinds.Wakeup rest.now) }
-{
-    let Some(text) = wakeup_fields(rest) else {
-        return Err(EventFault::BadFields);
-    };
-    match wakeup_of(&text) {
-        Ok(wakeup) => Ok(Event::Wakeup(wakeup)),
-        Err(fault) => Err(fault),
-    }
-}
-
-/// A wakeup of a new task, or the first cause to refuse the text.
-#[tactic(auto, unfolding(crate::specs::Judging::answer_at, crate::specs::Judging::judged, crate::specs::Reading::text_at))]
-fn read_wakeup_new<'a>(cpu: u32, rest: &'a [u8]) -> Result<Event<'a>, EventFault>
-    ensures { Judges reading_seen result (answer_at cpu kinds.WakeupNew rest.now) }
-{
-    let Some(text) = wakeup_fields(rest) else {
-        return Err(EventFault::BadFields);
-    };
-    match wakeup_of(&text) {
-        Ok(wakeup) => Ok(Event::WakeupNew(wakeup)),
-        Err(fault) => Err(fault),
-    }
-}
-
-/// A migration, or the first cause to refuse the text.
-#[tactic(auto, unfolding(crate::specs::Judging::answer_at, crate::specs::Judging::judged, crate::specs::Reading::text_at))]
-fn read_migration<'a>(cpu: u32, rest: &'a [u8]) -> Result<Event<'a>, EventFault>
-    ensures { Judges reading_seen result (answer_at cpu kinds.MigrateTask rest.now) }
-{
-    let Some(text) = migration_fields(rest) else {
-        return Err(EventFault::BadFields);
-    };
-    match migration_of(&text) {
-        Ok(migration) => Ok(Event::Migration(migration)),
-        Err(fault) => Err(fault),
+        Which::Switch => {
+            let Some(text) = switch_fields(line.rest) else {
+                return Err(EventFault::BadFields);
+            };
+            match switch_of(line.cpu, &text) {
+                Ok(switch) => return Ok(Event::Switch(switch)),
+                Err(fault) => return Err(fault),
+            }
+        }
+        Which::Wakeup => {
+            let Some(text) = wakeup_fields(line.rest) else {
+                return Err(EventFault::BadFields);
+            };
+            match wakeup_of(&text) {
+                Ok(wakeup) => return Ok(Event::Wakeup(wakeup)),
+                Err(fault) => return Err(fault),
+            }
+        }
+        Which::WakeupNew => {
+            let Some(text) = wakeup_fields(line.rest) else {
+                return Err(EventFault::BadFields);
+            };
+            match wakeup_of(&text) {
+                Ok(wakeup) => return Ok(Event::WakeupNew(wakeup)),
+                Err(fault) => return Err(fault),
+            }
+        }
+        Which::MigrateTask => {
+            let Some(text) = migration_fields(line.rest) else {
+                return Err(EventFault::BadFields);
+            };
+            match migration_of(&text) {
+                Ok(migration) => return Ok(Event::Migration(migration)),
+                Err(fault) => return Err(fault),
+            }
+        }
     }
 }
 

@@ -7,20 +7,22 @@ use crate::event::Switch;
 use crate::fault::EventFault;
 use crate::fields::{PrioFields, fields, name, numeral, prio, state};
 use crate::limits::{nice_of, pid_of};
+use crate::numeral::Numeral;
 
 /// The parts of a switch's text.
 #[derive(Clone, Copy)]
 pub(crate) struct SwitchFields<'a> {
     pub(crate) prev_name: &'a [u8],
-    pub(crate) prev: &'a [u8],
+    pub(crate) prev: Numeral<'a>,
     pub(crate) prev_prio: PrioFields<'a>,
     pub(crate) prev_state: &'a [u8],
     pub(crate) next_name: &'a [u8],
-    pub(crate) next: &'a [u8],
+    pub(crate) next: Numeral<'a>,
     pub(crate) next_prio: PrioFields<'a>,
 }
 
 /// The parts of a switch's text, where the whole text has them.
+#[inline(always)]
 #[tactic(auto, unfolding(crate::specs::Reading::switch_at))]
 pub(crate) fn switch_fields(text: &[u8]) -> Option<SwitchFields<'_>>
     ensures { Gives switch_seen result (switch_at text.now) }
@@ -55,8 +57,8 @@ pub(crate) fn switch_fields(text: &[u8]) -> Option<SwitchFields<'_>>
 pub(crate) fn switch_of<'a>(cpu: u32, text: &SwitchFields<'a>) -> Result<Switch<'a>, EventFault>
     ensures { Judges switched_seen result (switch_judged cpu (switch_seen text.now)) }
 {
-    let prev = pid_of(text.prev)?;
-    let next = pid_of(text.next)?;
+    let prev = pid_of(&text.prev)?;
+    let next = pid_of(&text.next)?;
     let prev_nice = nice_of(prev, &text.prev_prio)?;
     let next_nice = nice_of(next, &text.next_prio)?;
     Ok(Switch {

@@ -7,18 +7,20 @@ use crate::event::{IDLE, Wakeup};
 use crate::fault::EventFault;
 use crate::fields::{PrioFields, fields, name, numeral, optional_numeral, prio};
 use crate::limits::{cpu_of, nice_of, pid_of};
+use crate::numeral::Numeral;
 
 /// The parts of a wakeup's text.
 #[derive(Clone, Copy)]
 pub(crate) struct WakeupFields<'a> {
     pub(crate) name: &'a [u8],
-    pub(crate) pid: &'a [u8],
+    pub(crate) pid: Numeral<'a>,
     pub(crate) prio: PrioFields<'a>,
-    pub(crate) success: Option<&'a [u8]>,
-    pub(crate) target: &'a [u8],
+    pub(crate) success: Option<Numeral<'a>>,
+    pub(crate) target: Numeral<'a>,
 }
 
 /// The parts of a wakeup's text, where the whole text has them.
+#[inline(always)]
 #[tactic(auto, unfolding(crate::specs::Reading::wakeup_at))]
 pub(crate) fn wakeup_fields(text: &[u8]) -> Option<WakeupFields<'_>>
     ensures { Gives wakeup_seen result (wakeup_at text.now) }
@@ -49,8 +51,8 @@ pub(crate) fn wakeup_fields(text: &[u8]) -> Option<WakeupFields<'_>>
 pub(crate) fn wakeup_of<'a>(text: &WakeupFields<'a>) -> Result<Wakeup<'a>, EventFault>
     ensures { Judges entering_seen result (wakeup_judged (wakeup_seen text.now)) }
 {
-    let pid = pid_of(text.pid)?;
-    let target = cpu_of(text.target)?;
+    let pid = pid_of(&text.pid)?;
+    let target = cpu_of(&text.target)?;
     let nice = nice_of(pid, &text.prio)?;
     if pid == IDLE {
         return Err(EventFault::IdleNamed);

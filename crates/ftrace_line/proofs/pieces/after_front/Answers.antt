@@ -1,8 +1,11 @@
--- What `strip_prefix` says, in the words of reading: both say which bytes stand in front.
-use Rattle.std.proofs.lemmas.Bool.Decides.{Decides-eqb}
-use Rattle.std.proofs.lemmas.Slice.Eq.{strip_prefix_is}
-use Rattle.ftrace_line.proofs.Runs.{text_from_strip}
+-- Where the bytes stand in front, what follows them is left.
+use Rattle.std.proofs.Common.{Some, length, sym, ap, ◌∙◌}
+use Rattle.std.proofs.lemmas.List.{take_rest}
+use Rattle.ftrace_line.proofs.Fronts.{front_there}
 use Rattle.ftrace_line.proofs.pieces.after_front.Goals as goal
 
-pub returns : goal.returns
-returns c = text_from_strip c.args.front.now c.args.text.now c.strip_prefix.result (strip_prefix_is Decides-eqb c.args.text.now c.args.front.now c.strip_prefix.result c.strip_prefix.ensures.cases)
+pub returns-then-begins_with : goal.returns-then-begins_with
+returns-then-begins_with c =
+    let front = c.args.front.now in
+    let text = c.args.text.now in
+    front_there front text (sym c.begins_with.ensures ∙ c.if-begins_with.true) ∙ ap Some (sym (take_rest text (length front)))

@@ -1,30 +1,79 @@
 -- What was read is the line's one meaning, so a fault is answered exactly where it is what the line means.
-use Rattle.std.proofs.Common.{◌≡◌, Result, Ok, Err, sym, ap, subst, ◌∙◌}
+use Rattle.std.proofs.Common.{◌≡◌, ◌+◌, ◌*◌, List, ℕ, Result, Ok, Err, sym, ap, subst, ◌∙◌, rules}
+use Rattle.std.specs.Prelude.{◌↔◌, IsErrOf}
+use Rattle.ftrace_line.specs.declared.kinds.Sched.{Sched}
 use Rattle.ftrace_line.specs.declared.kinds.Line.{Line}
+use Rattle.ftrace_line.specs.declared.kinds.Line.TheVariants as shown
 use Rattle.ftrace_line.specs.declared.fault.LineFault.{LineFault}
 use Rattle.ftrace_line.specs.declared.fault.LineFault.TheVariants.{BadHead, NumberRange}
-use Rattle.ftrace_line.specs.Line.{LineAnswer, line_seen}
+use Rattle.ftrace_line.specs.Line.{LineAnswer, IsHeadless, IsBeyond, line_seen}
+use Rattle.ftrace_line.specs.Meaning.{meaning_of}
 use Rattle.ftrace_line.proofs.OneReading.{answer_only}
 use Rattle.ftrace_line.proofs.Answered.{answer_so}
+use Rattle.ftrace_line.proofs.Marks.{mark_within}
 use Rattle.ftrace_line.proofs.reading.read_line.Goals as goal
 
-fault_seen : (r : Result Line LineFault) (fault : LineFault) → line_seen r ≡ Err fault → r ≡ Err fault
+-- what the contract says of an answer
+record Told (line : List ℕ) (answer : Result Line LineFault) : Type 0 where
+  answers : LineAnswer line (line_seen answer)
+  bad : IsErrOf answer BadHead ↔ IsHeadless line
+  range : IsErrOf answer NumberRange ↔ IsBeyond line
+
+fault_seen : (answer : Result Line LineFault) (fault : LineFault) → line_seen answer ≡ Err fault → answer ≡ Err fault
 fault_seen (Ok line) fault e = absurd cc
 fault_seen (Err found) fault e = cc
 
-pub returns-clause-answers : goal.returns-clause-answers
-returns-clause-answers c = subst (LineAnswer c.args.line.now) (sym c.meaning_of.ensures) (answer_so c.args.line.now)
+-- it is so where the answer is what is read
+told : (line : List ℕ) (answer : Result Line LineFault) → line_seen answer ≡ meaning_of line → Told line answer
+told line answer e = record {
+  answers = subst (LineAnswer line) (sym e) (answer_so line);
+  bad = (
+    (λ is. subst (LineAnswer line) (sym e ∙ ap line_seen is) (answer_so line)),
+    (λ headless. fault_seen answer BadHead (e ∙ answer_only line (Err BadHead) headless)),
+  );
+  range = (
+    (λ is. subst (LineAnswer line) (sym e ∙ ap line_seen is) (answer_so line)),
+    (λ beyond. fault_seen answer NumberRange (e ∙ answer_only line (Err NumberRange) beyond)),
+  );
+}
 
-pub returns-clause-bad : goal.returns-clause-bad
-returns-clause-bad c =
-    let line = c.args.line.now in (
-      (λ e. subst (LineAnswer line) (sym c.meaning_of.ensures ∙ ap line_seen e) (answer_so line)),
-      (λ headless. fault_seen c.meaning_of.result BadHead (c.meaning_of.ensures ∙ answer_only line (Err BadHead) headless)),
-    )
+pub fields_of-requires : goal.fields_of-requires
+fields_of-requires c = mark_within c.in-Some.head.text.now c.in-Some-kind_of.which (sym c.in-Some-kind_of.ensures)
 
-pub returns-clause-range : goal.returns-clause-range
-returns-clause-range c =
-    let line = c.args.line.now in (
-      (λ e. subst (LineAnswer line) (sym c.meaning_of.ensures ∙ ap line_seen e) (answer_so line)),
-      (λ beyond. fault_seen c.meaning_of.result NumberRange (c.meaning_of.ensures ∙ answer_only line (Err NumberRange) beyond)),
-    )
+pub returns-then-is_comment : goal.returns-then-is_comment
+unfolding meaning_of
+returns-then-is_comment c =
+    let t = told c.args.line.now (Ok shown.Comment) (search rules) in
+    record { answers = t.answers; bad = t.bad; range = t.range }
+
+pub returns-then-is_lost : goal.returns-then-is_lost
+unfolding meaning_of
+returns-then-is_lost c =
+    let t = told c.args.line.now (Ok shown.Lost) (search rules) in
+    record { answers = t.answers; bad = t.bad; range = t.range }
+
+pub returns-in_default : goal.returns-in_default
+unfolding meaning_of
+returns-in_default c =
+    let t = told c.args.line.now (Err BadHead) (search rules) in
+    record { answers = t.answers; bad = t.bad; range = t.range }
+
+pub returns-then-head-gt-GREATEST_CPU : goal.returns-then-head-gt-GREATEST_CPU
+unfolding meaning_of
+returns-then-head-gt-GREATEST_CPU c =
+    let t = told c.args.line.now (Err NumberRange) (search rules) in
+    record { answers = t.answers; bad = t.bad; range = t.range }
+
+pub returns-in_default-kind_of : goal.returns-in_default-kind_of
+unfolding meaning_of
+returns-in_default-kind_of c =
+    let t = told c.args.line.now (Ok shown.Other) (search rules) in
+    record { answers = t.answers; bad = t.bad; range = t.range }
+
+pub returns : goal.returns
+unfolding meaning_of
+returns c =
+    let head = c.in-Some.head in
+    let event : Sched = record { cpu = head.cpu; which = c.in-Some-kind_of.which; time = head.time.seconds * 1000000000 + head.time.nanoseconds; rest = c.fields_of.result } in
+    let t = told c.args.line.now (Ok (shown.Sched event)) (search rules) in
+    record { answers = t.answers; bad = t.bad; range = t.range }

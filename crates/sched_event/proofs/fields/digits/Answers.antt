@@ -1,7 +1,10 @@
-use Rattle.std.proofs.Common.{arith}
+use Rattle.std.proofs.Common.{sym, arith}
+use Rattle.std.proofs.lemmas.List.{length-take-le}
 use Rattle.std.proofs.lemmas.List.Sums.{prefix_len-le-length}
 use Rattle.ftrace_line.specs.Numerals.{is_digit}
 use Rattle.sched_event.proofs.fields.digits.Goals as goal
 
-pub split_at-requires : goal.split_at-requires
-split_at-requires c = omega (arith, prefix_len-le-length is_digit c.args.text.now)
+pub slice_bounds-digits-end : goal.slice_bounds-digits-end
+slice_bounds-digits-end c =
+    let text = c.args.text.now in
+    sym (length-take-le c.number_at-number.result.digits text (omega (arith, prefix_len-le-length is_digit text)))

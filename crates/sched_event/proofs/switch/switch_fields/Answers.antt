@@ -1,9 +1,9 @@
 -- Seven fields in a row are more than the search takes at once: the steps are handed over one by one.
-use Rattle.std.proofs.Common.{rules}
+use Rattle.std.proofs.Common.{◌≡◌, false, eqb, length, refl, rules}
 use Rattle.std.specs.Prelude.{codes}
 use Rattle.sched_event.specs.Texts.{SwitchText}
 use Rattle.sched_event.specs.Seen.{prio_seen}
-use Rattle.sched_event.specs.Reading.{prio_at}
+use Rattle.sched_event.specs.Reading.{prio_at, switch_at}
 use Rattle.sched_event.proofs.Keyed.{nothing_left}
 use Rattle.sched_event.proofs.Switches.{SwitchSteps, switch_from}
 use Rattle.sched_event.proofs.switch.switch_fields.Goals as goal
@@ -12,11 +12,11 @@ pub returns : goal.returns
 returns c =
     let read : SwitchText = record {
       prev_name = c.in_ok-prev_name.prev_name.now;
-      prev = c.in_ok-prev.prev.now;
+      prev = c.in_ok-prev.prev.digits.now;
       prev_prio = prio_seen c.in_ok-prev_prio.prev_prio;
       prev_state = c.in_ok-prev_state.prev_state.now;
       next_name = c.in_ok-next_name.next_name.now;
-      next = c.in_ok-next.next.now;
+      next = c.in_ok-next.next.digits.now;
       next_prio = prio_seen c.in_ok-next_prio.next_prio;
     } in
     let steps : SwitchSteps c.args.text.now read = record {
@@ -35,3 +35,10 @@ returns c =
       next_prio = nothing_left (prio_at (codes " next_prio=") c.in_ok-next.rest.now) (prio_seen c.in_ok-next_prio.next_prio) c.in_ok-next_prio.rest.now c.in_ok-next_prio.ensures (search rules);
     } in
     switch_from c.args.text.now read steps
+
+pub returns-then-not-is_empty : goal.returns-then-not-is_empty
+unfolding switch_at
+returns-then-not-is_empty c =
+    let after = c.in_ok-next_prio.rest.now in
+    let more : eqb (length after) 0 ≡ false = search rules in
+    rw (c.in_ok-prev_name.ensures, c.in_ok-prev.ensures, c.in_ok-prev_prio.ensures, c.in_ok-prev_state.ensures, c.in_ok-next_name.ensures, c.in_ok-next.ensures, c.in_ok-next_prio.ensures, more) refl

@@ -6,7 +6,7 @@ use std::marker::Model;
 /// A task's nice value, from -20 (the heaviest) to 19 (the lightest).
 #[derive(Clone, Copy, Debug, PartialEq, Eq)]
 pub struct Nice {
-    value: i32,
+    value: i8,
 }
 
 impl Model for Nice {
@@ -35,7 +35,7 @@ impl Nice {
         ensures same { IfSome result (λ n. n ≡ value) }
     {
         if -20 <= value && value <= 19 {
-            Some(Nice { value })
+            Some(Nice { value: value as i8 })
         } else {
             None
         }
@@ -46,7 +46,7 @@ impl Nice {
         ensures same { result ≡ self }
         ensures in_range { IsNice result }
     {
-        self.value
+        i32::from(self.value)
     }
 
     /// The nice value that a printed prio stands for: a fair task prints 120 plus its nice.
@@ -61,7 +61,7 @@ impl Nice {
             Err(PrioFault::PrioRange)
         } else {
             Ok(Nice {
-                value: (prio - 120) as i32,
+                value: (prio - 120) as i8,
             })
         }
     }

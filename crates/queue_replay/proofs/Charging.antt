@@ -1,10 +1,10 @@
 -- Charging the tasks that stand at a processor, in a loop, and the least of their virtual runtimes.
-use Rattle.std.proofs.Common.{◌≡◌, ℕ, ◌+◌, ◌<◌, ◌≤◌, Bool, true, false, cond, List, [], ◌∷◌, ◌++◌, length, map, take, drop, get_or, Contains, int_lt, Option, Some, None, IfSome, ℤ, pos, ◌+ℤ◌, ◌-ℤ◌, ◌≤ℤ◌, ◌<ℤ◌, refl, sym, ap, ◌∙◌, subst, ⊎_elim, arith}
+use Rattle.std.proofs.Common.{◌≡◌, ℕ, ◌+◌, ◌-◌, ◌^◌, ◌<◌, ◌≤◌, Bool, true, false, ◌||◌, cond, List, [], ◌∷◌, ◌++◌, length, map, take, drop, get_or, Contains, int_lt, Option, Some, None, IfSome, ℤ, pos, ◌+ℤ◌, ◌-ℤ◌, ◌≤ℤ◌, ◌<ℤ◌, refl, sym, ap, ◌∙◌, subst, ⊎_elim, arith}
 use Rattle.std.specs.Int.{int_min}
 use Rattle.std.specs.List.{filter}
 use Rattle.std.proofs.lemmas.Bool.{cond-true, cases_cond}
 use Rattle.std.proofs.lemmas.Int.{ints, clamps}
-use Rattle.std.proofs.lemmas.List.{map-append, append-nil, drop_more, get_or_at, length-map, length-take-le}
+use Rattle.std.proofs.lemmas.List.{map-append, append-nil, drop_more, get_or_at, length-map, length-take-le, take_all}
 use Rattle.std.proofs.lemmas.List.Elements.{All-nil, All-same, All-push, All-weaker, filter_more, Contains-append_left, Contains-push}
 use Rattle.cfs_model.specs.Charge.{greatest, charge_of}
 use Rattle.cfs_model.specs.Nice.{weight_of}
@@ -103,3 +103,29 @@ least_kept tasks i t old within read rests was =
     let e = queued_more tasks i t within read ∙ ap (λ b. queued_runtimes (take i tasks) ++ cond b (t.v ∷ []) []) rests
     ∙ append-nil (queued_runtimes (take i tasks)) in
     subst (λ (vs : List ℤ). IsLeastOf vs old) (sym e) was
+
+-- the same with a flag in place of an option: while nobody was queued, the least so far is above all
+pub least_step : (tasks : List Task) (i : ℕ) (t : Task) (any queued : Bool) (least new : ℤ)
+    → i < length tasks → t ≡ get_or tasks i t → queued ≡ is_queued t
+    → (queued ≡ true → least ≡ pos (2 ^ 63 - 1) → new ≡ t.v) → (queued ≡ true → new ≡ int_min least t.v) → (queued ≡ false → new ≡ least)
+    → IsLeastOf (queued_runtimes (take i tasks)) (cond any (Some least) None) → (any ≡ false → least ≡ pos (2 ^ 63 - 1))
+    → IsLeastOf (queued_runtimes (take (i + 1) tasks)) (cond (any || queued) (Some new) None)
+    × ((any || queued) ≡ false → new ≡ pos (2 ^ 63 - 1))
+least_step tasks i t true true least new within read is first more same was top =
+    (least_more tasks i t (Some least) (Some new) within read (sym is) was (λ e. absurd cc) (ap Some (more refl)), λ e. absurd cc)
+least_step tasks i t false true least new within read is first more same was top =
+    (least_more tasks i t None (Some new) within read (sym is) was (λ _. ap Some (first refl (top refl))) tt, λ e. absurd cc)
+least_step tasks i t true false least new within read is first more same was top = (
+  subst (λ (v : ℤ). IsLeastOf (queued_runtimes (take (i + 1) tasks)) (Some v)) (sym (same refl))
+      (least_kept tasks i t (Some least) within read (sym is) was),
+  λ e. absurd cc,
+)
+least_step tasks i t false false least new within read is first more same was top =
+    (least_kept tasks i t None within read (sym is) was, λ _. same refl ∙ top refl)
+
+pub least_end : (tasks : List Task) (i : ℕ) (any flag : Bool) (least : ℤ) → length tasks ≤ i → any ≡ flag
+    → IsLeastOf (queued_runtimes (take i tasks)) (cond any (Some least) None) → IsLeastOf (queued_runtimes tasks) (cond flag (Some least) None)
+least_end tasks i any flag least past is was =
+    let all = take_all i tasks past in
+    subst (λ (l : List Task). IsLeastOf (queued_runtimes l) (cond flag (Some least) None)) all
+    (subst (λ (b : Bool). IsLeastOf (queued_runtimes (take i tasks)) (cond b (Some least) None)) is was)

@@ -1,9 +1,11 @@
 -- A runqueue, as the part of a machine at its processor (this project's profile).
-use Rattle.std.specs.Prelude.{◌≡◌, ℕ, zero, suc, ◌<◌, ⊤, vec_len, vec_capacity, Option, Some, pos, ◌+ℤ◌, ◌<ℤ◌}
+use Rattle.std.specs.Prelude.{◌≡◌, ℕ, zero, suc, ◌<◌, ⊤, vec_len, vec_capacity, Option, Some, List, pos, ◌+ℤ◌, ◌<ℤ◌}
 use Rattle.cfs_model.specs.Part.{Part, Stander, IsIn, start_part}
 use Rattle.cfs_model.specs.declared.step.Deed.{Deed}
-use Rattle.cfs_model.specs.declared.step.Deed.TheVariants.{Born, Arrive}
+use Rattle.cfs_model.specs.declared.step.Deed.TheVariants.{Switch, Wake, Born, Leave, Arrive}
 use Rattle.cfs_model.specs.declared.task.Place.TheVariants.{Run, Wait}
+use Rattle.cfs_model.specs.Start.{task_of}
+use Rattle.cfs_model.specs.declared.task.Task.{Task}
 use Rattle.queue_replay.specs.Rows.{EachOnce}
 use Rattle.queue_replay.specs.declared.runqueue.Runqueue.{Runqueue}
 
@@ -37,3 +39,16 @@ abbrev pub HasRoom : Deed → Runqueue → Type 0
 HasRoom (Born pid nice) q = vec_len q.tasks < vec_capacity q.tasks
 HasRoom (Arrive pid nice orig) q = vec_len q.tasks < vec_capacity q.tasks
 HasRoom _ q = ⊤
+
+-- the row of the task that a deed is of, if it stands here; of a switch's two that is the previous one
+abbrev pub IsSubject : List Task → Deed → Option Task → Type 0
+IsSubject tasks (Switch prev prev_nice way next next_nice) row = row ≡ task_of tasks prev
+IsSubject tasks (Wake pid nice) row = row ≡ task_of tasks pid
+IsSubject tasks (Born pid nice) row = row ≡ task_of tasks pid
+IsSubject tasks (Leave pid nice dest) row = row ≡ task_of tasks pid
+IsSubject tasks (Arrive pid nice orig) row = row ≡ task_of tasks pid
+
+-- the row of a switch's next task, if it stands here
+abbrev pub IsNext : List Task → Deed → Option Task → Type 0
+IsNext tasks (Switch prev prev_nice way next next_nice) row = row ≡ task_of tasks next
+IsNext tasks _ row = ⊤

@@ -18,7 +18,7 @@ pub(crate) fn add_stretch(tallies: &mut [Tally], task: Task, time: u64, steps: u
     let pid = task.pid;
     let cost = cost_of(task, time);
     for tally in tallies.iter_mut() {
-        *tally = ran(*tally, pid, time, cost);
+        add_run(tally, pid, time, cost);
     }
 }
 
@@ -33,20 +33,16 @@ fn cost_of(task: Task, time: u64) -> u64
     }
 }
 
-/// The tally, after the stretch if it is the pid's.
-fn ran(tally: Tally, pid: u32, time: u64, cost: u64) -> Tally
-    requires time { tally.ran + time < 2 ^ 128 }
-    requires cost { tally.charged + cost < 2 ^ 128 }
-    ensures { result ≡ ran_tally pid time cost tally }
+/// Adds the stretch to the tally, if it is the pid's.
+#[inline(always)]
+fn add_run(tally: &mut Tally, pid: u32, time: u64, cost: u64)
+    requires time { tally.old.ran + time < 2 ^ 128 }
+    requires cost { tally.old.charged + cost < 2 ^ 128 }
+    ensures { tally.new ≡ ran_tally pid time cost tally.old }
 {
     if tally.pid == pid {
-        Tally {
-            ran: tally.ran + u128::from(time),
-            charged: tally.charged + u128::from(cost),
-            ..tally
-        }
-    } else {
-        tally
+        tally.ran += u128::from(time);
+        tally.charged += u128::from(cost);
     }
 }
 
@@ -57,22 +53,18 @@ pub(crate) fn add_pick(tallies: &mut [Tally], pid: u32, steps: usize)
     ensures { tallies.new ≡ map (picked_tally pid) tallies.old }
 {
     for tally in tallies.iter_mut() {
-        *tally = picked(*tally, pid);
+        pick(tally, pid);
     }
 }
 
-/// The tally, after the switch if it is the pid's.
-fn picked(tally: Tally, pid: u32) -> Tally
-    requires { tally.picks + 1 < 2 ^ 64 }
-    ensures { result ≡ picked_tally pid tally }
+/// Adds the switch to the tally, if it is the pid's.
+#[inline(always)]
+fn pick(tally: &mut Tally, pid: u32)
+    requires { tally.old.picks + 1 < 2 ^ 64 }
+    ensures { tally.new ≡ picked_tally pid tally.old }
 {
     if tally.pid == pid {
-        Tally {
-            picks: tally.picks + 1,
-            ..tally
-        }
-    } else {
-        tally
+        tally.picks += 1;
     }
 }
 

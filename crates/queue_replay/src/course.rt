@@ -4,13 +4,13 @@ ghost use Rattle.cfs_model.specs.Page.{IsSince, deadline_of};
 ghost use Rattle.cfs_model.specs.Standing.{IsIdleTooLong};
 ghost use Rattle.cfs_model.specs.declared.kind.Kind.TheVariants.{IdleTooLong};
 ghost use Rattle.queue_replay.specs.Counting.{HasNoteRoom, notes_shown, ticket_by};
-ghost use Rattle.queue_replay.specs.Queue.{part_of, HasRoom};
+ghost use Rattle.queue_replay.specs.Queue.{part_of, HasRoom, IsSubject};
 ghost use Rattle.queue_replay.specs.Rows.{EachOnce};
 
 use crate::notes::Notes;
-use crate::rows::{somebody_runs, somebody_waits, task_at};
+use crate::rows::{somebody_runs, somebody_waits};
 use crate::runqueue::Runqueue;
-use cfs_model::{Claim, ClaimSort, Deed, Memory, Place, Step, Ticket};
+use cfs_model::{Claim, ClaimSort, Deed, Memory, Place, Step, Task, Ticket};
 
 /// A replay under way.
 #[derive(Drop)]
@@ -99,13 +99,15 @@ pub(crate) fn since_after(before: Option<u64>, time: u64, queue: &Runqueue) -> O
 }
 
 /// The ticket of a step by which a task leaves or comes.
-pub(crate) fn ticket_of(queue: &Runqueue, step: &Step) -> Option<Ticket>
+pub(crate) fn ticket_of(queue: &Runqueue, step: &Step, subject: &Option<Task>) -> Option<Ticket>
+    requires { IsSubject queue.now.tasks.items step.now.deed subject.now }
     ensures { result ≡ ticket_by (part_of queue.now) step.now step.now.deed }
 {
+    let row = *subject;
     let deed = step.deed;
     match deed {
         Deed::Switch { .. } | Deed::Wake { .. } | Deed::Born { .. } => None,
-        Deed::Leave { pid, .. } => match task_at(queue.tasks.as_slice(), pid) {
+        Deed::Leave { pid, .. } => match row {
             Some(task) => Some(Ticket {
                 line: step.line,
                 pid,

@@ -1,18 +1,20 @@
 ghost use Rattle.std.specs.Prelude.{◌≡◌, ◌≢◌, IsTrue, ◌↔◌, Some, option_map, pos, ◌-ℤ◌, ◌≤ℤ◌};
 ghost use Rattle.cfs_model.specs.Placing.{claimant, HasClaim, IsClaimMissing, IsClaimExtra, IsClaimPid, IsWrongPutBack, IsInWakeBounds, IsWakeOutside, IsInForkBounds, IsForkOutside, IsNextNotWaiting};
 ghost use Rattle.cfs_model.specs.Part.{Stander, IsIn};
+ghost use Rattle.cfs_model.specs.Start.{task_of};
 ghost use Rattle.cfs_model.specs.declared.task.Place.TheVariants.{Rest};
-ghost use Rattle.queue_replay.specs.Queue.{part_of, IdlesBeside, IsBeyond};
+ghost use Rattle.queue_replay.specs.Queue.{part_of, IdlesBeside, IsBeyond, IsSubject, IsNext};
 ghost use Rattle.queue_replay.specs.Rows.{standing, EachOnce};
 ghost use Rattle.queue_replay.specs.Sifting.{Decides};
 
-use crate::rows::{somebody_below, somebody_waits, task_at};
+use crate::rows::{somebody_below, somebody_waits};
 use crate::runqueue::Runqueue;
 use crate::standing::waits_here;
 use cfs_model::{Claim, ClaimSort, Deed, Place, Step, Task, Way};
 
 /// The pid of which the deed needs a claim, if it needs one.
-fn claimant(queue: &Runqueue, step: &Step) -> Option<u32>
+fn claimant(queue: &Runqueue, step: &Step, subject: &Option<Task>) -> Option<u32>
+    requires { IsSubject queue.now.tasks.items step.now.deed subject.now }
     ensures { result ≡ claimant (part_of queue.now) step.now.deed }
 {
     let deed = step.deed;
@@ -22,7 +24,7 @@ fn claimant(queue: &Runqueue, step: &Step) -> Option<u32>
             Way::Sleeps | Way::Ends => None,
         },
         Deed::Wake { pid, .. } => {
-            if rests_here(queue, pid) {
+            if rests_here(queue, pid, *subject) {
                 Some(pid)
             } else {
                 None
@@ -58,24 +60,26 @@ fn has_claim(step: &Step) -> bool
 }
 
 /// A claim is needed, and the line has none that serves.
-pub(crate) fn claim_missing(queue: &Runqueue, step: &Step) -> Option<u32>
+pub(crate) fn claim_missing(queue: &Runqueue, step: &Step, subject: &Option<Task>) -> Option<u32>
+    requires { IsSubject queue.now.tasks.items step.now.deed subject.now }
     ensures { Decides result (IsClaimMissing (part_of queue.now) step.now.deed step.now.claim) }
 {
     let served = has_claim(step);
-    match claimant(queue, step) {
+    match claimant(queue, step, subject) {
         Some(pid) => { if served { None } else { Some(pid) } }
         None => None,
     }
 }
 
 /// No claim is needed, and the line has one.
-pub(crate) fn claim_extra(queue: &Runqueue, step: &Step) -> Option<u32>
+pub(crate) fn claim_extra(queue: &Runqueue, step: &Step, subject: &Option<Task>) -> Option<u32>
+    requires { IsSubject queue.now.tasks.items step.now.deed subject.now }
     ensures { Decides result (IsClaimExtra (part_of queue.now) step.now.deed step.now.claim) }
 {
     let deed = step.deed;
     let claim = step.claim;
     match claim {
-        Some(claim) => match claimant(queue, step) {
+        Some(claim) => match claimant(queue, step, subject) {
             Some(_) => None,
             None => match deed {
                 Deed::Leave { .. } => None,
@@ -88,12 +92,13 @@ pub(crate) fn claim_extra(queue: &Runqueue, step: &Step) -> Option<u32>
 }
 
 /// A claim is needed, and the line's names another task.
-pub(crate) fn claim_pid(queue: &Runqueue, step: &Step) -> Option<u32>
+pub(crate) fn claim_pid(queue: &Runqueue, step: &Step, subject: &Option<Task>) -> Option<u32>
+    requires { IsSubject queue.now.tasks.items step.now.deed subject.now }
     ensures { Decides result (IsClaimPid (part_of queue.now) step.now.deed step.now.claim) }
 {
     let claim = step.claim;
     match claim {
-        Some(claim) => match claimant(queue, step) {
+        Some(claim) => match claimant(queue, step, subject) {
             Some(pid) => {
                 if claim.pid != pid {
                     Some(claim.pid)
@@ -108,7 +113,8 @@ pub(crate) fn claim_pid(queue: &Runqueue, step: &Step) -> Option<u32>
 }
 
 /// A previous task that stays is claimed at another virtual runtime than its own.
-pub(crate) fn wrong_put_back(queue: &Runqueue, step: &Step) -> Option<u32>
+pub(crate) fn wrong_put_back(queue: &Runqueue, step: &Step, subject: &Option<Task>) -> Option<u32>
+    requires { IsSubject queue.now.tasks.items step.now.deed subject.now }
     ensures { Decides result (IsWrongPutBack (part_of queue.now) step.now.deed step.now.claim) }
 {
     let deed = step.deed;
@@ -116,7 +122,7 @@ pub(crate) fn wrong_put_back(queue: &Runqueue, step: &Step) -> Option<u32>
         Deed::Switch { prev, way, .. } => match way {
             Way::Stays => match step.claim {
                 Some(claim) => {
-                    if prev != 0 && stands_at_other(queue, prev, claim) {
+                    if prev != 0 && stands_at_other(queue, prev, claim, *subject) {
                         Some(prev)
                     } else {
                         None
@@ -131,14 +137,20 @@ pub(crate) fn wrong_put_back(queue: &Runqueue, step: &Step) -> Option<u32>
 }
 
 /// A woken task that rests is claimed outside its bounds; the credit is in nanoseconds.
-pub(crate) fn wake_outside(queue: &Runqueue, step: &Step, credit: u64) -> Option<u32>
+pub(crate) fn wake_outside(
+    queue: &Runqueue,
+    step: &Step,
+    subject: &Option<Task>,
+    credit: u64,
+) -> Option<u32>
+    requires { IsSubject queue.now.tasks.items step.now.deed subject.now }
     ensures { Decides result (IsWakeOutside credit (part_of queue.now) step.now.deed step.now.claim) }
 {
     let deed = step.deed;
     match deed {
         Deed::Wake { pid, .. } => match step.claim {
             Some(claim) => {
-                if rests_outside(queue, pid, claim, credit) {
+                if rests_outside(queue, pid, claim, credit, *subject) {
                     Some(pid)
                 } else {
                     None
@@ -171,16 +183,17 @@ pub(crate) fn fork_outside(queue: &Runqueue, step: &Step, debit: u64) -> Option<
 }
 
 /// The next task of a switch doesn't wait here.
-pub(crate) fn next_not_waiting(queue: &Runqueue, step: &Step) -> Option<u32>
+pub(crate) fn next_not_waiting(queue: &Runqueue, step: &Step, next: &Option<Task>) -> Option<u32>
+    requires { IsNext queue.now.tasks.items step.now.deed next.now }
     ensures { Decides result (IsNextNotWaiting (part_of queue.now) step.now.deed) }
 {
     let deed = step.deed;
     match deed {
-        Deed::Switch { next, .. } => {
-            if next == 0 || waits_here(queue, next) {
+        Deed::Switch { next: pid, .. } => {
+            if pid == 0 || waits_here(queue, pid, *next) {
                 None
             } else {
-                Some(next)
+                Some(pid)
             }
         }
         Deed::Wake { .. } | Deed::Born { .. } | Deed::Leave { .. } | Deed::Arrive { .. } => None,
@@ -228,10 +241,11 @@ pub(crate) fn not_least(
     }
 }
 
-fn rests_here(queue: &Runqueue, pid: u32) -> bool
+fn rests_here(queue: &Runqueue, pid: u32, row: Option<Task>) -> bool
+    requires { row ≡ task_of queue.now.tasks.items pid }
     ensures { IsTrue result ↔ IsIn (part_of queue.now) Rest pid }
 {
-    match task_at(queue.tasks.as_slice(), pid) {
+    match row {
         Some(task) => {
             let place = task.place;
             match place {
@@ -244,10 +258,11 @@ fn rests_here(queue: &Runqueue, pid: u32) -> bool
 }
 
 /// The pid stands here at another virtual runtime than the claimed one.
-fn stands_at_other(queue: &Runqueue, pid: u32, claim: Claim) -> bool
+fn stands_at_other(queue: &Runqueue, pid: u32, claim: Claim, row: Option<Task>) -> bool
+    requires { row ≡ task_of queue.now.tasks.items pid }
     ensures { IsTrue result ↔ ((s : Stander) × ((part_of queue.now).tasks pid ≡ Some s) × (claim.v ≢ s.runtime)) }
 {
-    match task_at(queue.tasks.as_slice(), pid) {
+    match row {
         Some(task) => is_at_other(task, claim),
         None => false,
     }
@@ -260,10 +275,11 @@ fn is_at_other(task: Task, claim: Claim) -> bool
 }
 
 /// The pid rests here, and is claimed outside the bounds of its wakeup.
-fn rests_outside(queue: &Runqueue, pid: u32, claim: Claim, credit: u64) -> bool
+fn rests_outside(queue: &Runqueue, pid: u32, claim: Claim, credit: u64, row: Option<Task>) -> bool
+    requires { row ≡ task_of queue.now.tasks.items pid }
     ensures { IsTrue result ↔ ((s : Stander) × ((part_of queue.now).tasks pid ≡ Some s) × (s.place ≡ Rest) × (¬ IsInWakeBounds credit queue.now.floor s.runtime claim.v)) }
 {
-    match task_at(queue.tasks.as_slice(), pid) {
+    match row {
         Some(task) => {
             let place = task.place;
             match place {

@@ -1,7 +1,8 @@
-ghost use Rattle.std.specs.Prelude.{◌≡◌, ◌≢◌, ℕ, ℤ, ◌≤ℤ◌, pos, ◌+ℤ◌, [], None, Some, IfSome, IsTrue, map, filter, not, ◌==◌, All, Any, Contains, IfOk, IfErr, SomeIff, OnOk, ◌↔◌};
+ghost use Rattle.std.specs.Prelude.{◌≡◌, ◌≢◌, ℕ, ℤ, ◌≤ℤ◌, ◌<ℤ◌, ◌-◌, ◌^◌, pos, ◌+ℤ◌, [], None, Some, IfSome, IsTrue, map, filter, not, ◌==◌, All, Any, Contains, IfOk, IfErr, true, false, OnOk, ◌↔◌};
 ghost use Rattle.std.specs.Int.{int_min};
 ghost use Rattle.std.specs.List.{list_any, find};
 ghost use Rattle.cfs_model.specs.Start.{place_eq, task_of};
+ghost use Rattle.cfs_model.specs.declared.task.Place.TheVariants.{Run};
 ghost use Rattle.cfs_model.specs.declared.task.Task.{Task as TaskOf};
 ghost use Rattle.queue_replay.specs.Rows.{waits, runs, is_queued, queued_runtimes, IsLeastOf, CanBeCharged, charged_task, placed, roused, IsBelow};
 
@@ -50,13 +51,14 @@ pub(crate) fn somebody_waits(tasks: &[Task]) -> bool
 pub(crate) fn least_queued(tasks: &[Task]) -> Option<i64>
     ensures { IsLeastOf (queued_runtimes tasks.now) result }
 {
-    let mut least = None;
+    let mut least = i64::MAX;
+    let mut any = false;
     for task in tasks {
-        if is_queued(*task) {
-            least = least_with(least, *task);
-        }
+        let queued = is_queued(*task);
+        least = least_with(least, *task, queued);
+        any |= queued;
     }
-    least
+    if any { Some(least) } else { None }
 }
 
 /// The task runs or waits.
@@ -69,36 +71,46 @@ fn is_queued(task: Task) -> bool
     }
 }
 
-/// The least so far and the task's virtual runtime, whichever is less.
-fn least_with(least: Option<i64>, task: Task) -> Option<i64>
-    ensures none { least ≡ None → result ≡ Some task.v }
-    ensures some { IfSome least (λ v. result ≡ Some (int_min v task.v)) }
+// Without a branch, since who is queued can't be foreseen.
+/// The least so far and the task's virtual runtime, if it is queued, whichever is less.
+fn least_with(least: i64, task: Task, queued: bool) -> i64
+    ensures first { queued ≡ true → least ≡ pos (2 ^ 63 - 1) → result ≡ task.v }
+    ensures more { queued ≡ true → result ≡ int_min least task.v }
+    ensures same { queued ≡ false → result ≡ least }
 {
-    match least {
-        Some(v) => Some(v.min(task.v)),
-        None => Some(task.v),
-    }
+    let v = task.v;
+    if queued { least.min(v) } else { least }
 }
 
-/// The task after it ran, or not, for `delta` nanoseconds. None where the charge or the virtual runtime after it is
-/// above the greatest.
-fn charged(task: Task, delta: u64) -> Option<Task>
-    ensures { SomeIff result (CanBeCharged delta task) (charged_task delta task) }
+/// Charges the task for `delta` nanoseconds, if it runs. False where the charge or the virtual runtime after it is
+/// above the greatest; the task then stays as it is.
+#[inline(always)]
+fn charge_task(task: &mut Task, delta: u64) -> bool
+    ensures charged { result ≡ true → CanBeCharged delta task.old × (task.new ≡ charged_task delta task.old) }
+    ensures above { result ≡ false → (CanBeCharged delta task.old → ⊥) × (task.new ≡ task.old) }
 {
     let place = task.place;
     match place {
-        Place::Run => {
-            let cost = charge(delta, weight(task.nice))?;
+        Place::Run => run_for(task, delta),
+        Place::Wait | Place::Rest => true,
+    }
+}
+
+/// The same for a task that runs.
+fn run_for(task: &mut Task, delta: u64) -> bool
+    requires { task.old.place ≡ Run }
+    ensures charged { result ≡ true → CanBeCharged delta task.old × (task.new ≡ charged_task delta task.old) }
+    ensures above { result ≡ false → (CanBeCharged delta task.old → ⊥) × (task.new ≡ task.old) }
+{
+    match charge(delta, weight(task.nice)) {
+        Some(cost) => {
             if task.v > GREATEST - cost {
-                None
-            } else {
-                Some(Task {
-                    v: task.v + cost,
-                    ..task
-                })
+                return false;
             }
+            task.v += cost;
+            true
         }
-        Place::Wait | Place::Rest => Some(task),
+        None => false,
     }
 }
 
@@ -109,9 +121,8 @@ pub(crate) fn charge_running(tasks: &mut [Task], delta: u64) -> Result<(), u32>
     ensures above { IfErr result (λ pid. (t : TaskOf) × Contains tasks.old t × (t.pid ≡ pid) × (CanBeCharged delta t → ⊥)) }
 {
     for task in tasks.iter_mut() {
-        match charged(*task, delta) {
-            Some(after) => *task = after,
-            None => return Err(task.pid),
+        if !charge_task(task, delta) {
+            return Err(task.pid);
         }
     }
     Ok(())
@@ -122,18 +133,17 @@ pub(crate) fn put_in(tasks: &mut [Task], pid: u32, place: Place)
     ensures { tasks.new ≡ map (placed pid place) tasks.old }
 {
     for task in tasks.iter_mut() {
-        *task = placed(*task, pid, place);
+        go_to(task, pid, place);
     }
 }
 
-/// The task, in another place if it is of this pid.
-fn placed(task: Task, pid: u32, place: Place) -> Task
-    ensures { result ≡ placed pid place task }
+/// Puts the task into another place, if it is of this pid.
+#[inline(always)]
+fn go_to(task: &mut Task, pid: u32, place: Place)
+    ensures { task.new ≡ placed pid place task.old }
 {
     if task.pid == pid {
-        Task { place, ..task }
-    } else {
-        task
+        task.place = place;
     }
 }
 
@@ -142,22 +152,18 @@ pub(crate) fn rouse(tasks: &mut [Task], pid: u32, claim: Claim)
     ensures { tasks.new ≡ map (roused pid claim.v) tasks.old }
 {
     for task in tasks.iter_mut() {
-        *task = roused(*task, pid, claim);
+        get_up(task, pid, claim);
     }
 }
 
-/// The task, waiting at the claimed virtual runtime if it is of this pid and rests.
-fn roused(task: Task, pid: u32, claim: Claim) -> Task
-    ensures { result ≡ roused pid claim.v task }
+/// Lets the task wait at the claimed virtual runtime, if it is of this pid and rests.
+#[inline(always)]
+fn get_up(task: &mut Task, pid: u32, claim: Claim)
+    ensures { task.new ≡ roused pid claim.v task.old }
 {
     if task.pid == pid && matches!(task.place, Place::Rest) {
-        Task {
-            place: Place::Wait,
-            v: claim.v,
-            ..task
-        }
-    } else {
-        task
+        task.place = Place::Wait;
+        task.v = claim.v;
     }
 }
 
@@ -168,13 +174,26 @@ pub(crate) fn somebody_below(tasks: &[Task], task: Task, granularity: u64) -> bo
     tasks.iter().any(|t| is_below(t, task, granularity))
 }
 
+// Both are looked at, since who waits can't be foreseen and few are that far below.
 /// The other task waits, and is below the task by more than the granularity.
 fn is_below(other: &Task, task: Task, granularity: u64) -> bool
     ensures { IsTrue result ↔ IsBelow granularity task.v other.now }
 {
-    let place = other.place;
+    waits(other) & is_lower(*other, task, granularity)
+}
+
+fn is_lower(other: Task, task: Task, granularity: u64) -> bool
+    ensures { IsTrue result ↔ ((other.v +ℤ pos granularity) <ℤ task.v) }
+{
+    i128::from(other.v) + i128::from(granularity) < i128::from(task.v)
+}
+
+fn waits(task: &Task) -> bool
+    ensures { result ≡ waits task.now }
+{
+    let place = task.place;
     match place {
-        Place::Wait => i128::from(other.v) + i128::from(granularity) < i128::from(task.v),
+        Place::Wait => true,
         Place::Run | Place::Rest => false,
     }
 }

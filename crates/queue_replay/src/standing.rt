@@ -1,14 +1,40 @@
-ghost use Rattle.std.specs.Prelude.{◌≢◌, IsTrue, ◌↔◌};
+ghost use Rattle.std.specs.Prelude.{◌≡◌, ◌≢◌, IsTrue, ◌↔◌};
 ghost use Rattle.cfs_model.specs.Part.{IsIn};
 ghost use Rattle.cfs_model.specs.Standing.{IsMoveHome, IsSelfSwitch, IsRunner, IsPrevNotRunning, IsStrange, IsAlready, IsMoveRunning, HasOtherNice, HasOtherPrio, IsWrongPrio};
+ghost use Rattle.cfs_model.specs.Start.{task_of};
 ghost use Rattle.cfs_model.specs.declared.task.Place.TheVariants.{Run, Wait};
-ghost use Rattle.queue_replay.specs.Queue.{part_of};
+ghost use Rattle.queue_replay.specs.Queue.{part_of, IsSubject, IsNext};
 ghost use Rattle.queue_replay.specs.Rows.{EachOnce};
 ghost use Rattle.queue_replay.specs.Sifting.{Decides};
 
 use crate::rows::{somebody_runs, task_at};
 use crate::runqueue::Runqueue;
-use cfs_model::{Deed, Nice, Place, Step};
+use cfs_model::{Deed, Nice, Place, Step, Task};
+
+/// The task that the step is of, if it stands here; of a switch's two the previous one.
+pub(crate) fn subject_of(queue: &Runqueue, step: &Step) -> Option<Task>
+    ensures { IsSubject queue.now.tasks.items step.now.deed result }
+{
+    let deed = step.deed;
+    match deed {
+        Deed::Switch { prev, .. } => task_at(queue.tasks.as_slice(), prev),
+        Deed::Wake { pid, .. }
+        | Deed::Born { pid, .. }
+        | Deed::Leave { pid, .. }
+        | Deed::Arrive { pid, .. } => task_at(queue.tasks.as_slice(), pid),
+    }
+}
+
+/// The next task of a switch, if it stands here.
+pub(crate) fn next_of(queue: &Runqueue, step: &Step) -> Option<Task>
+    ensures { IsNext queue.now.tasks.items step.now.deed result }
+{
+    let deed = step.deed;
+    match deed {
+        Deed::Switch { next, .. } => task_at(queue.tasks.as_slice(), next),
+        Deed::Wake { .. } | Deed::Born { .. } | Deed::Leave { .. } | Deed::Arrive { .. } => None,
+    }
+}
 
 /// A task goes to the processor where it is.
 pub(crate) fn move_home(cpu: u32, step: &Step) -> Option<u32>
@@ -33,14 +59,15 @@ pub(crate) fn self_switch(step: &Step) -> Option<u32>
 }
 
 /// The previous task of a switch isn't what runs here.
-pub(crate) fn prev_not_running(queue: &Runqueue, step: &Step) -> Option<u32>
-    requires { EachOnce queue.now.tasks.items }
+pub(crate) fn prev_not_running(queue: &Runqueue, step: &Step, subject: &Option<Task>) -> Option<u32>
+    requires once { EachOnce queue.now.tasks.items }
+    requires subject { IsSubject queue.now.tasks.items step.now.deed subject.now }
     ensures { Decides result (IsPrevNotRunning (part_of queue.now) step.now.deed) }
 {
     let deed = step.deed;
     match deed {
         Deed::Switch { prev, .. } => {
-            if is_runner(queue, prev) {
+            if is_runner(queue, prev, *subject) {
                 None
             } else {
                 Some(prev)
@@ -51,47 +78,42 @@ pub(crate) fn prev_not_running(queue: &Runqueue, step: &Step) -> Option<u32>
 }
 
 /// A wakeup or a leave names a pid that doesn't stand here.
-pub(crate) fn strange(queue: &Runqueue, step: &Step) -> Option<u32>
+pub(crate) fn strange(queue: &Runqueue, step: &Step, subject: &Option<Task>) -> Option<u32>
+    requires { IsSubject queue.now.tasks.items step.now.deed subject.now }
     ensures { Decides result (IsStrange (part_of queue.now) step.now.deed) }
 {
     let deed = step.deed;
     match deed {
         Deed::Wake { pid, .. } | Deed::Leave { pid, .. } => {
-            if task_at(queue.tasks.as_slice(), pid).is_none() {
-                Some(pid)
-            } else {
-                None
-            }
+            if subject.is_none() { Some(pid) } else { None }
         }
         Deed::Switch { .. } | Deed::Born { .. } | Deed::Arrive { .. } => None,
     }
 }
 
 /// A birth or an arrival names a pid that stands here.
-pub(crate) fn already(queue: &Runqueue, step: &Step) -> Option<u32>
+pub(crate) fn already(queue: &Runqueue, step: &Step, subject: &Option<Task>) -> Option<u32>
+    requires { IsSubject queue.now.tasks.items step.now.deed subject.now }
     ensures { Decides result (IsAlready (part_of queue.now) step.now.deed) }
 {
     let deed = step.deed;
     match deed {
         Deed::Born { pid, .. } | Deed::Arrive { pid, .. } => {
-            if task_at(queue.tasks.as_slice(), pid).is_some() {
-                Some(pid)
-            } else {
-                None
-            }
+            if subject.is_some() { Some(pid) } else { None }
         }
         Deed::Switch { .. } | Deed::Wake { .. } | Deed::Leave { .. } => None,
     }
 }
 
 /// The task that runs here leaves.
-pub(crate) fn move_running(queue: &Runqueue, step: &Step) -> Option<u32>
+pub(crate) fn move_running(queue: &Runqueue, step: &Step, subject: &Option<Task>) -> Option<u32>
+    requires { IsSubject queue.now.tasks.items step.now.deed subject.now }
     ensures { Decides result (IsMoveRunning (part_of queue.now) step.now.deed) }
 {
     let deed = step.deed;
     match deed {
         Deed::Leave { pid, .. } => {
-            if runs_here(queue, pid) {
+            if runs_here(queue, pid, *subject) {
                 Some(pid)
             } else {
                 None
@@ -102,7 +124,14 @@ pub(crate) fn move_running(queue: &Runqueue, step: &Step) -> Option<u32>
 }
 
 /// A task that the step names stands here with another nice value; of a switch's two the previous one first.
-pub(crate) fn wrong_prio(queue: &Runqueue, step: &Step) -> Option<u32>
+pub(crate) fn wrong_prio(
+    queue: &Runqueue,
+    step: &Step,
+    subject: &Option<Task>,
+    next: &Option<Task>,
+) -> Option<u32>
+    requires subject { IsSubject queue.now.tasks.items step.now.deed subject.now }
+    requires next { IsNext queue.now.tasks.items step.now.deed next.now }
     ensures { Decides result (IsWrongPrio (part_of queue.now) step.now.deed) }
 {
     let deed = step.deed;
@@ -110,20 +139,20 @@ pub(crate) fn wrong_prio(queue: &Runqueue, step: &Step) -> Option<u32>
         Deed::Switch {
             prev,
             prev_nice,
-            next,
+            next: pid,
             next_nice,
             ..
         } => {
-            if has_other_prio(queue, prev, prev_nice) {
+            if has_other_prio(queue, prev, prev_nice, *subject) {
                 Some(prev)
-            } else if has_other_prio(queue, next, next_nice) {
-                Some(next)
+            } else if has_other_prio(queue, pid, next_nice, *next) {
+                Some(pid)
             } else {
                 None
             }
         }
         Deed::Wake { pid, nice } | Deed::Leave { pid, nice, .. } => {
-            if has_other_nice(queue, pid, nice) {
+            if has_other_nice(queue, pid, nice, *subject) {
                 Some(pid)
             } else {
                 None
@@ -134,21 +163,23 @@ pub(crate) fn wrong_prio(queue: &Runqueue, step: &Step) -> Option<u32>
 }
 
 /// The pid is what runs here; pid 0 where nobody does.
-fn is_runner(queue: &Runqueue, pid: u32) -> bool
-    requires { EachOnce queue.now.tasks.items }
+fn is_runner(queue: &Runqueue, pid: u32, row: Option<Task>) -> bool
+    requires once { EachOnce queue.now.tasks.items }
+    requires row { row ≡ task_of queue.now.tasks.items pid }
     ensures { IsTrue result ↔ IsRunner (part_of queue.now) pid }
 {
     if pid == 0 {
         !somebody_runs(queue.tasks.as_slice())
     } else {
-        runs_here(queue, pid)
+        runs_here(queue, pid, row)
     }
 }
 
-fn runs_here(queue: &Runqueue, pid: u32) -> bool
+fn runs_here(queue: &Runqueue, pid: u32, row: Option<Task>) -> bool
+    requires { row ≡ task_of queue.now.tasks.items pid }
     ensures { IsTrue result ↔ IsIn (part_of queue.now) Run pid }
 {
-    match task_at(queue.tasks.as_slice(), pid) {
+    match row {
         Some(task) => {
             let place = task.place;
             match place {
@@ -161,10 +192,11 @@ fn runs_here(queue: &Runqueue, pid: u32) -> bool
 }
 
 /// The pid waits here.
-pub(crate) fn waits_here(queue: &Runqueue, pid: u32) -> bool
+pub(crate) fn waits_here(queue: &Runqueue, pid: u32, row: Option<Task>) -> bool
+    requires { row ≡ task_of queue.now.tasks.items pid }
     ensures { IsTrue result ↔ IsIn (part_of queue.now) Wait pid }
 {
-    match task_at(queue.tasks.as_slice(), pid) {
+    match row {
         Some(task) => {
             let place = task.place;
             match place {
@@ -177,23 +209,25 @@ pub(crate) fn waits_here(queue: &Runqueue, pid: u32) -> bool
 }
 
 /// The pid stands here with another nice value than the printed one.
-fn has_other_nice(queue: &Runqueue, pid: u32, nice: Nice) -> bool
+fn has_other_nice(queue: &Runqueue, pid: u32, nice: Nice, row: Option<Task>) -> bool
+    requires { row ≡ task_of queue.now.tasks.items pid }
     ensures { IsTrue result ↔ HasOtherNice (part_of queue.now) pid nice }
 {
-    match task_at(queue.tasks.as_slice(), pid) {
+    match row {
         Some(task) => differ(task.nice, nice),
         None => false,
     }
 }
 
 /// The same at a switch, where that of pid 0 isn't looked at.
-fn has_other_prio(queue: &Runqueue, pid: u32, nice: Nice) -> bool
+fn has_other_prio(queue: &Runqueue, pid: u32, nice: Nice, row: Option<Task>) -> bool
+    requires { row ≡ task_of queue.now.tasks.items pid }
     ensures { IsTrue result ↔ HasOtherPrio (part_of queue.now) pid nice }
 {
     if pid == 0 {
         false
     } else {
-        has_other_nice(queue, pid, nice)
+        has_other_nice(queue, pid, nice, row)
     }
 }
 

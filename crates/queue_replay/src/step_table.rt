@@ -7,7 +7,7 @@ ghost use Rattle.cfs_model.specs.Tests.{late_tests};
 ghost use Rattle.cfs_model.specs.declared.kind.Kind.TheVariants.{IdleTooLong};
 ghost use Rattle.queue_replay.specs.Counting.{HasNoteRoom, notes_shown, with_note};
 ghost use Rattle.queue_replay.specs.Course.{IsGoing, IsPassed, IsStepped, progress_of};
-ghost use Rattle.queue_replay.specs.Queue.{part_of, HasRoom};
+ghost use Rattle.queue_replay.specs.Queue.{part_of, HasRoom, IsSubject, IsNext};
 ghost use Rattle.queue_replay.specs.Rows.{EachOnce, standing};
 ghost use Rattle.queue_replay.specs.Sifting.{Sifts, pick_tests, placing_tests, IsFirst, IsCleared};
 
@@ -17,10 +17,11 @@ use crate::placing::{
     claim_extra, claim_missing, claim_pid, fork_outside, idle_beside_waiting, next_not_waiting,
     not_least, wake_outside, wrong_put_back,
 };
-use crate::rows::{runner_of, task_at};
+use crate::rows::runner_of;
 use crate::runqueue::Runqueue;
 use crate::standing::{
-    already, move_home, move_running, prev_not_running, self_switch, strange, wrong_prio,
+    already, move_home, move_running, next_of, prev_not_running, self_switch, strange, subject_of,
+    wrong_prio,
 };
 use cfs_model::{Claim, Deed, Kind, Knobs, Memory, Nice, Place, Step, StepFault, Task};
 
@@ -68,8 +69,17 @@ macro_rules! moves {
 }
 
 /// Who stands where: the first test that the step fails before its claim is looked at.
-fn first_of_standing(queue: &Runqueue, cpu: u32, step: &Step, knobs: Knobs) -> Option<Broken>
-    requires { EachOnce queue.now.tasks.items }
+fn first_of_standing(
+    queue: &Runqueue,
+    cpu: u32,
+    step: &Step,
+    subject: &Option<Task>,
+    next: &Option<Task>,
+    knobs: Knobs,
+) -> Option<Broken>
+    requires once { EachOnce queue.now.tasks.items }
+    requires subject { IsSubject queue.now.tasks.items step.now.deed subject.now }
+    requires next { IsNext queue.now.tasks.items step.now.deed next.now }
     ensures later { IfSome result (λ broken. broken.kind ≢ IdleTooLong) }
     ensures runner { result ≡ None → (pid : ℕ) → IsPrevNotRunning (part_of queue.now) step.now.deed pid → ⊥ }
     ensures apart { result ≡ None → (pid : ℕ) → IsAlready (part_of queue.now) step.now.deed pid → ⊥ }
@@ -78,36 +88,51 @@ fn first_of_standing(queue: &Runqueue, cpu: u32, step: &Step, knobs: Knobs) -> O
     guard!(
         MoveHome: move_home(cpu, step),
         SelfSwitch: self_switch(step),
-        PrevNotRunning: prev_not_running(queue, step),
-        Strange: strange(queue, step),
-        Already: already(queue, step),
-        MoveRunning: move_running(queue, step),
-        WrongPrio: wrong_prio(queue, step),
+        PrevNotRunning: prev_not_running(queue, step, subject),
+        Strange: strange(queue, step, subject),
+        Already: already(queue, step, subject),
+        MoveRunning: move_running(queue, step, subject),
+        WrongPrio: wrong_prio(queue, step, subject, next),
     );
     None
 }
 
 /// The claim, and where it places a task: the first test that the step fails before its pick is looked at.
-fn first_of_placing(queue: &Runqueue, step: &Step, knobs: Knobs) -> Option<Broken>
+fn first_of_placing(
+    queue: &Runqueue,
+    step: &Step,
+    subject: &Option<Task>,
+    next: &Option<Task>,
+    knobs: Knobs,
+) -> Option<Broken>
+    requires subject { IsSubject queue.now.tasks.items step.now.deed subject.now }
+    requires next { IsNext queue.now.tasks.items step.now.deed next.now }
     ensures later { IfSome result (λ broken. broken.kind ≢ IdleTooLong) }
     ensures claimed { result ≡ None → (pid : ℕ) → IsClaimMissing (part_of queue.now) step.now.deed step.now.claim pid → ⊥ }
     ensures first { Sifts result (pick_tests knobs (part_of queue.now) step.now) (placing_tests knobs (part_of queue.now) step.now) }
 {
     guard!(
-        ClaimMissing: claim_missing(queue, step),
-        ClaimExtra: claim_extra(queue, step),
-        ClaimPid: claim_pid(queue, step),
-        WrongPutBack: wrong_put_back(queue, step),
-        WakeBounds: wake_outside(queue, step, knobs.credit()),
+        ClaimMissing: claim_missing(queue, step, subject),
+        ClaimExtra: claim_extra(queue, step, subject),
+        ClaimPid: claim_pid(queue, step, subject),
+        WrongPutBack: wrong_put_back(queue, step, subject),
+        WakeBounds: wake_outside(queue, step, subject, knobs.credit()),
         ForkBounds: fork_outside(queue, step, knobs.debit()),
-        NextNotWaiting: next_not_waiting(queue, step),
+        NextNotWaiting: next_not_waiting(queue, step, next),
     );
     None
 }
 
 /// A switch's pick, after the previous task has gone its way: the first test that it fails. If none, the next task
 /// runs. Any other deed that has passed its tests is made.
-fn make(queue: &mut Runqueue, cpu: u32, step: &Step, knobs: Knobs) -> Option<Broken>
+fn make(
+    queue: &mut Runqueue,
+    cpu: u32,
+    step: &Step,
+    own: Option<Task>,
+    knobs: Knobs,
+) -> Option<Broken>
+    requires own { IsNext queue.old.tasks.items step.now.deed own }
     requires once { EachOnce queue.old.tasks.items }
     requires room { HasRoom step.now.deed queue.old }
     requires cleared { IsCleared (part_of queue.old) step.now }
@@ -125,7 +150,6 @@ fn make(queue: &mut Runqueue, cpu: u32, step: &Step, knobs: Knobs) -> Option<Bro
             next,
             ..
         } => {
-            let own = task_at(queue.tasks.as_slice(), next);
             moves!(queue: prev leaves by way);
             guard!(
                 IdleBesideWaiting: idle_beside_waiting(queue, next),
@@ -244,14 +268,16 @@ impl Course {
         let runner = runner_of(self.queue.tasks.as_slice());
         let time = step.time.saturating_sub(self.queue.mark);
         lift!(self.queue, step.time);
-        if let Some(broken) = first_of_standing(&self.queue, cpu, step, knobs) {
+        let subject = subject_of(&self.queue, step);
+        let next = next_of(&self.queue, step);
+        if let Some(broken) = first_of_standing(&self.queue, cpu, step, &subject, &next, knobs) {
             return Some(broken);
         }
-        if let Some(broken) = first_of_placing(&self.queue, step, knobs) {
+        if let Some(broken) = first_of_placing(&self.queue, step, &subject, &next, knobs) {
             return Some(broken);
         }
-        let ticket = ticket_of(&self.queue, step);
-        if let Some(broken) = make(&mut self.queue, cpu, step, knobs) {
+        let ticket = ticket_of(&self.queue, step, &subject);
+        if let Some(broken) = make(&mut self.queue, cpu, step, next, knobs) {
             return Some(broken);
         }
         self.notes.note_stretch(runner, time, self.made);

@@ -11,8 +11,8 @@ loop-task-preserved c =
     let xs = c.args.tasks.now in
     let i = c.loop-task.task-index in
     let t = c.task-item.result in (
-      ap (set c.loop-task.tasks i) (c.in-Some.ensures.1 ∙ ap (charged_task c.args.delta) (sym c.task-item.is))
+      ap (set c.loop-task.tasks i) ((c.charge_task.ensures.charged c.if-not-charge_task.false).1 ∙ ap (charged_task c.args.delta) (sym c.task-item.is))
           ∙ map_over_more (charged_task c.args.delta) xs c.loop-task.tasks i t c.loop-task-test.true c.loop-task.invariant.0 c.task-item.is,
       All-more (CanBeCharged c.args.delta) xs i t c.loop-task-test.true c.loop-task.invariant.1
-          (subst (λ (u : Task). CanBeCharged c.args.delta u) (at_rest (charged_task c.args.delta) xs c.loop-task.tasks i t c.loop-task-test.true c.loop-task.invariant.0) c.in-Some.ensures.0),
+          (subst (λ (u : Task). CanBeCharged c.args.delta u) (at_rest (charged_task c.args.delta) xs c.loop-task.tasks i t c.loop-task-test.true c.loop-task.invariant.0) (c.charge_task.ensures.charged c.if-not-charge_task.false).0),
     )

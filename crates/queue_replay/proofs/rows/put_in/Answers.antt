@@ -5,5 +5,5 @@ use Rattle.queue_replay.proofs.rows.put_in.Goals as goal
 
 pub loop-task-preserved : goal.loop-task-preserved
 loop-task-preserved c =
-    ap (set c.loop-task.tasks c.loop-task.task-index) (c.placed.ensures ∙ ap (placed c.args.pid c.args.place) (sym c.task-item.is))
+    ap (set c.loop-task.tasks c.loop-task.task-index) (c.go_to.ensures ∙ ap (placed c.args.pid c.args.place) (sym c.task-item.is))
     ∙ map_over_more (placed c.args.pid c.args.place) c.args.tasks.now c.loop-task.tasks c.loop-task.task-index c.task-item.result c.loop-task-test.true c.loop-task.invariant c.task-item.is

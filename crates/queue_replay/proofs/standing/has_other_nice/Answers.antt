@@ -1,5 +1,4 @@
-use Rattle.std.proofs.Common.{sym, ap, ◌∙◌}
-use Rattle.cfs_model.specs.Start.{task_of}
+use Rattle.std.proofs.Common.{sym, ◌∙◌}
 use Rattle.queue_replay.proofs.Answered.{other_nice}
 use Rattle.queue_replay.proofs.standing.has_other_nice.Goals as goal
 
@@ -7,5 +6,5 @@ pub returns-in-Some : goal.returns-in-Some
 returns-in-Some c =
     let q = c.args.queue.now in
     other_nice q.tasks.items q.floor q.mark c.args.pid c.in-Some.task c.args.nice c.differ.result
-    (sym (c.task_at.ensures ∙ ap (λ l. task_of l c.args.pid) c.as_slice.ensures.value) ∙ c.in-Some.is)
+    (sym c.requires ∙ c.in-Some.is)
     c.differ.ensures

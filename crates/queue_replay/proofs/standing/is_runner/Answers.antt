@@ -7,4 +7,4 @@ use Rattle.queue_replay.proofs.standing.is_runner.Goals as goal
 pub returns-then-pid-eq0 : goal.returns-then-pid-eq0
 returns-then-pid-eq0 c =
     let q = c.args.queue.now in
-    is_runner q.tasks.items q.floor q.mark c.args.pid c.somebody_runs.result c.requires c.if-pid-eq0.true (c.somebody_runs.ensures ∙ ap (list_any runs) c.as_slice.ensures.value)
+    is_runner q.tasks.items q.floor q.mark c.args.pid c.somebody_runs.result c.requires.once c.if-pid-eq0.true (c.somebody_runs.ensures ∙ ap (list_any runs) c.as_slice.ensures.value)

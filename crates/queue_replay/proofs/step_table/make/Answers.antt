@@ -3,8 +3,7 @@ use Rattle.cfs_model.specs.Deeds.{after_deed}
 use Rattle.cfs_model.specs.declared.claim.Claim.{Claim}
 use Rattle.cfs_model.specs.declared.step.Deed.{Deed}
 use Rattle.cfs_model.specs.declared.step.Deed.TheVariants.{Wake}
-use Rattle.cfs_model.specs.Start.{task_of}
-use Rattle.queue_replay.specs.Queue.{part_of, IsBeyond}
+use Rattle.queue_replay.specs.Queue.{part_of, IsBeyond, IsNext}
 use Rattle.queue_replay.specs.Rows.{standing}
 use Rattle.queue_replay.proofs.Moves.{unwoken, apart_born, apart_arrive, claim_born, claim_arrive, idles_pass, beyond_holds, beyond_pass}
 use Rattle.queue_replay.proofs.step_table.make.Goals as goal
@@ -45,8 +44,8 @@ returns-in-Some-not_least-clause-first c =
       idles_pass part (part_of q) c.args.step.now.deed s.prev s.prev_nice s.way s.next s.next_nice s.is c.take_off.ensures.part c.in_default.ensures,
       inl (
         beyond_holds c.args.knobs.granularity part (part_of q) c.args.step.now.deed s.prev s.prev_nice s.way s.next s.next_nice s.is c.take_off.ensures.part
-            (option_map standing c.task_at-own.result) (ap (option_map standing) (c.task_at-own.ensures ∙ ap (λ l. task_of l s.next) c.as_slice.ensures.value))
-            c.in-Some-not_least.pid (subst (λ (g : ℕ). IsBeyond g (option_map standing c.task_at-own.result) (part_of q) s.next c.in-Some-not_least.pid) c.granularity.ensures.same c.in-Some-not_least.ensures),
+            (option_map standing c.args.own) (ap (option_map standing) (subst (λ d. IsNext c.args.queue.now.tasks.items d c.args.own) s.is c.requires.own))
+            c.in-Some-not_least.pid (subst (λ (g : ℕ). IsBeyond g (option_map standing c.args.own) (part_of q) s.next c.in-Some-not_least.pid) c.granularity.ensures.same c.in-Some-not_least.ensures),
         refl,
       ),
     )
@@ -59,8 +58,8 @@ returns-in_default-not_least-clause-first c =
       idles_pass part (part_of q) c.args.step.now.deed s.prev s.prev_nice s.way s.next s.next_nice s.is c.take_off.ensures.part c.in_default.ensures,
       (
         beyond_pass c.args.knobs.granularity part (part_of q) c.args.step.now.deed s.prev s.prev_nice s.way s.next s.next_nice s.is c.take_off.ensures.part
-            (option_map standing c.task_at-own.result) (ap (option_map standing) (c.task_at-own.ensures ∙ ap (λ l. task_of l s.next) c.as_slice.ensures.value))
-            (subst (λ (g : ℕ). (pid : ℕ) → ¬ IsBeyond g (option_map standing c.task_at-own.result) (part_of q) s.next pid) c.granularity.ensures.same c.in_default-not_least.ensures),
+            (option_map standing c.args.own) (ap (option_map standing) (subst (λ d. IsNext c.args.queue.now.tasks.items d c.args.own) s.is c.requires.own))
+            (subst (λ (g : ℕ). (pid : ℕ) → ¬ IsBeyond g (option_map standing c.args.own) (part_of q) s.next pid) c.granularity.ensures.same c.in_default-not_least.ensures),
         tt,
       ),
     )

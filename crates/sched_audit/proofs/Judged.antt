@@ -1,5 +1,5 @@
 -- What the page of a record's only processor says of the record.
-use Rattle.std.proofs.Common.{◌≡◌, ℕ, ◌≤◌, Some, None, length, sym, subst, ◌∙◌, arith}
+use Rattle.std.proofs.Common.{◌≡◌, ℕ, ◌≤◌, Some, None, length, arith}
 use Rattle.cfs_model.specs.Claimed.{claimed}
 use Rattle.cfs_model.specs.Faults.{OneProcessorFaults}
 use Rattle.cfs_model.specs.Noted.{PageReading}

@@ -1,5 +1,6 @@
 mod Counting
 mod Outcomes
+mod Passing
 mod Firsts
 mod OneProcessor
 mod Judged

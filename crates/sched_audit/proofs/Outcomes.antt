@@ -1,10 +1,18 @@
 -- The outcome of the bytes that two inputs gave, from what the calls on the way said.
-use Rattle.std.proofs.Common.{◌≡◌, subst, ℕ, List, Option, Some, IfSome, Result}
+use Rattle.std.proofs.Common.{◌≡◌, refl, ap, subst, inr, ℕ, List, Option, Some, IfSome, Result, Ok, Err}
+use Rattle.std.specs.Result.{IsErrAnd}
 use Rattle.cfs_model.specs.Settings.{Settings}
-use Rattle.sched_audit.specs.declared.verdict.Verdict.{Verdict}
-use Rattle.sched_audit.specs.declared.refused.Refused.{Refused}
+use Rattle.sched_record.specs.Record.{shown}
+use Rattle.sched_record.specs.declared.record.Record.{Record}
+use Rattle.sched_audit.specs.declared.cause.Cause.TheVariants.{Later}
 use Rattle.sched_audit.specs.declared.outcome.Outcome.{Outcome}
-use Rattle.sched_audit.specs.Answer.{OutcomeAnswer, outcome_told, IsAnswer}
+use Rattle.sched_audit.specs.declared.outcome.Outcome.TheVariants as outcomes
+use Rattle.sched_audit.specs.declared.refused.Refused.{Refused}
+use Rattle.sched_audit.specs.declared.refused.Refused.TheVariants as refusals
+use Rattle.sched_audit.specs.declared.source.Source.TheVariants.{Join}
+use Rattle.sched_audit.specs.declared.verdict.Verdict.{Verdict}
+use Rattle.sched_audit.specs.Answer.{OutcomeAnswer, outcome_told, IsAnswer, IsVerdict}
+use Rattle.sched_audit.specs.Texts.{IsTexts, IsLater}
 use Rattle.sched_audit.specs.Known.{Agrees}
 use Rattle.sched_audit.specs.Run.{IsOutcomeOf}
 
@@ -23,3 +31,32 @@ outcome_of_inputs trace companion settings outcome answer trace_bytes companion_
       answer = subst (λ (x : List ℕ). OutcomeAnswer trace_bytes x settings outcome) same_companion
           (subst (λ (x : List ℕ). OutcomeAnswer x c settings outcome) same_trace there);
     }
+
+-- an answer that is this error
+pub error_is : (answer : Result Verdict Refused) (refused : Refused) → IsErrAnd answer (λ e. e ≡ refused) → answer ≡ Err refused
+error_is (Ok verdict) refused is = absurd is
+error_is (Err e) refused is = ap Err is
+
+-- the answer where the texts were refused
+pub refused_answer : (trace companion : List ℕ) (settings : Settings) (refused : Refused) → IsTexts trace companion (Err refused)
+    → IsAnswer trace companion settings (Err refused)
+unfolding OutcomeAnswer
+refused_answer trace companion settings (refusals.Text source line cause) texts = texts
+refused_answer trace companion settings refusals.Memory texts = tt
+
+-- the answer where the record has what isn't audited yet
+pub later_answer : (trace companion : List ℕ) (settings : Settings) (joined : Record) (line : ℕ) → IsTexts trace companion (Ok joined)
+    → IsLater (shown joined) line → OutcomeAnswer trace companion settings (outcomes.Text Join line Later)
+unfolding OutcomeAnswer
+later_answer trace companion settings joined line texts later = record {
+  events = texts.events;
+  start = texts.start;
+  are_read = texts.are_read;
+  why = inr (shown joined, texts.joined, later, refl);
+}
+
+-- the answer where the record was judged
+pub judged_answer : (trace companion : List ℕ) (settings : Settings) (joined : Record) (verdict : Verdict) → IsTexts trace companion (Ok joined)
+    → IsVerdict settings (shown joined) verdict → OutcomeAnswer trace companion settings (outcomes.Judged verdict)
+unfolding OutcomeAnswer
+judged_answer trace companion settings joined verdict texts is = (shown joined, texts, is)

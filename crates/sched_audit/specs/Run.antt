@@ -1,13 +1,26 @@
 -- A run over two inputs and one output: what it writes, and what it answers (this project's profile).
-use Rattle.std.specs.Prelude.{◌≡◌, ℕ, List, Option}
+use Rattle.std.specs.Prelude.{◌≡◌, ℕ, List, ◌++◌, Option}
 use Rattle.std.specs.Io.KnownBytes.{Appends}
 use Rattle.cfs_model.specs.Settings.{Settings}
+use Rattle.ftrace_line.specs.Lines.{lines_of, IsWhole}
+use Rattle.sched_record.specs.Reader.{HasRead}
+use Rattle.sched_record.specs.declared.trace_reader.TraceReader.{TraceReader}
 use Rattle.sched_audit.specs.declared.status.Status.{Status}
 use Rattle.sched_audit.specs.declared.outcome.Outcome.{Outcome}
 use Rattle.sched_audit.specs.Answer.{OutcomeAnswer}
 use Rattle.sched_audit.specs.Codes.{status_of}
 use Rattle.sched_audit.specs.Known.{Agrees, AppendsFront}
 use Rattle.sched_audit.specs.Report.{report_of}
+
+-- the reader has read the lines of the bytes that the input still gave
+abbrev pub IsReadFrom : TraceReader → Option (List ℕ) → Type 0
+IsReadFrom reader left = (bytes : List ℕ) × Agrees left bytes × HasRead reader (lines_of bytes)
+
+-- of these bytes the reader has read whole lines, and the others are left
+abbrev pub PassesWhole : TraceReader → TraceReader → List ℕ → List ℕ → Type 0
+PassesWhole old new bytes left =
+    (whole : List ℕ) × (bytes ≡ whole ++ left) × IsWhole whole
+    × ((lines : List (List ℕ)) → HasRead old lines → HasRead new (lines ++ lines_of whole))
 
 -- the outcome is that of the bytes that the two inputs still gave
 pub record IsOutcomeOf (trace companion : Option (List ℕ)) (settings : Settings) (outcome : Outcome) : Type 0 where

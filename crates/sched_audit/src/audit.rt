@@ -1,3 +1,5 @@
+ghost use Rattle.std.specs.Prelude.{ℕ, List};
+ghost use Rattle.sched_record.specs.Trace.{TraceAnswer, Tells};
 ghost use Rattle.sched_audit.specs.Answer.{IsAnswer, OutcomeAnswer};
 
 use crate::judging::judge;
@@ -5,17 +7,18 @@ use crate::taken::untaken;
 use crate::texts::record_of;
 use crate::{Cause, Refused, Source, Verdict};
 use cfs_model::Knobs;
+use sched_record::{Trace, TraceFault};
 use std::alloc::Global;
 
-/// The audit of two texts.
+/// The audit of a trace, as far as it could be read, by the text of its companion.
 #[tactic(auto, unfolding(crate::specs::Answer::OutcomeAnswer))]
 pub(crate) fn audit(
     alloc: Global,
-    trace: &[u8],
+    trace: Result<Trace, TraceFault>,
     companion: &[u8],
     knobs: Knobs,
 ) -> Result<Verdict, Refused>
-    ensures { IsAnswer trace.now companion.now knobs result }
+    ensures { (text : List ℕ) → Tells trace (TraceAnswer text) → IsAnswer text companion.now knobs result }
 {
     let record = record_of(alloc, trace, companion)?;
     if let Some(line) = untaken(&record) {

@@ -8,6 +8,7 @@ mod fault;
 mod feed;
 mod feed_of;
 mod judging;
+mod lines;
 mod outcome;
 mod page;
 mod reading;

@@ -7,10 +7,12 @@ ghost use Rattle.sched_audit.specs.Known.{IsCutShort, most_reads};
 ghost use Rattle.sched_audit.specs.Run.{WritesReport, WritesFront};
 
 use crate::audit::audit;
+use crate::lines::read_lines;
 use crate::reading::read_all;
 use crate::writing::write_all;
 use crate::{Fault, Feed, Outcome, Refused, Sink, Status, Verdict, report};
 use cfs_model::Knobs;
+use sched_record::read_trace;
 use std::alloc::Global;
 
 /// Judges a trace by its companion: the trace is read first, then the companion, then both are joined, and the
@@ -24,7 +26,7 @@ pub fn audit_texts(
     // A verdict or a refusal is the outcome of the two texts.
     ensures answer { IsAnswer trace.now companion.now knobs result }
 {
-    audit(alloc, trace, companion, knobs)
+    audit(alloc, read_trace(alloc, trace), companion, knobs)
 }
 
 /// Reads the trace to its end, then the companion, judges them, and writes the report.
@@ -70,9 +72,9 @@ pub fn run<T: Feed, C: Feed, S: Sink>(
     ensures bounded { (T.calls trace.new ≤ most_reads) × (C.calls companion.new ≤ most_reads) }
     ensures order { IsErrOf result Fault.ReadTrace → C.calls companion.new ≡ 0 }
 {
-    let trace = read_all(alloc, trace, Fault::ReadTrace)?;
+    let trace = read_lines(alloc, trace)?;
     let companion = read_all(alloc, companion, Fault::ReadCompanion)?;
-    let outcome = Outcome::of(audit_texts(alloc, &trace, &companion, knobs))?;
+    let outcome = Outcome::of(audit(alloc, trace.finish(), &companion, knobs))?;
     let report = report(alloc, &outcome)?;
     write_all(out, &report)?;
     Ok(outcome.status())

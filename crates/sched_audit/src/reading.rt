@@ -9,7 +9,7 @@ use std::alloc::{AllocError, Global};
 const CHUNK: usize = 64 * 1024;
 
 /// How many reads are made on one input, at most.
-const MOST_READS: u64 = 1 << 32;
+pub(crate) const MOST_READS: u64 = 1 << 32;
 
 /// All that an input still gives. Where a read fails, or the most reads don't reach the end, this fault.
 pub(crate) fn read_all<F: Feed>(alloc: Global, feed: &mut F, fault: Fault) -> Result<Vec<u8>, Fault>
@@ -34,7 +34,7 @@ pub(crate) fn read_all<F: Feed>(alloc: Global, feed: &mut F, fault: Fault) -> Re
 }
 
 /// Reads once, behind what is filled, and says how many bytes came. None is the end.
-fn read_chunk<F: Feed>(
+pub(crate) fn read_chunk<F: Feed>(
     feed: &mut F,
     bytes: &mut Vec<u8>,
     filled: usize,

@@ -35,6 +35,14 @@ const AT_SLACK: &[u8] =
 const ABOVE_SLACK: &[u8] =
     b"          <idle>-0       [000] d..2.   100.000101: sched_switch: prev_comm=swapper/0 prev_pid=0 prev_prio=120 prev_state=R ==> next_comm=t102 next_pid=102 next_prio=120\n";
 
+/// A comment, an empty line, and the recording at the slack, without its line feed.
+const COMMENTED: &[u8] =
+    b"# tracer: nop\n\n          <idle>-0       [000] d..2.   100.000100: sched_switch: prev_comm=swapper/0 prev_pid=0 prev_prio=120 prev_state=R ==> next_comm=t102 next_pid=102 next_prio=120";
+
+/// A bad line before a good one.
+const HELLO: &[u8] =
+    b"hello\n          <idle>-0       [000] d..2.   100.000100: sched_switch: prev_comm=swapper/0 prev_pid=0 prev_prio=120 prev_state=R ==> next_comm=t102 next_pid=102 next_prio=120\n";
+
 #[test]
 fn exit_statuses_are_0_to_4(rt: HostRuntime) {
     for (status, code) in [(Status::Yes, 0), (Status::No, 1), (Status::Refused, 2)] {
@@ -149,6 +157,69 @@ fn inputs_may_come_byte_by_byte(rt: HostRuntime) -> Result<(), Fail> {
     assert_eq!(rt; status, Ok(Status::Yes));
     assert_eq!(rt; out.taken.as_slice(), REPORT);
     Ok(())
+}
+
+#[test]
+fn lines_may_be_cut_anywhere(rt: HostRuntime) -> Result<(), Fail> {
+    for piece in 1..COMMENTED.len() + 1 {
+        for (trace, status, text) in [
+            (COMMENTED, Status::Yes, "run\n"),
+            (HELLO, Status::Refused, "refused trace line 1 BadHead\n"),
+        ] {
+            let mut out = Narrow::new(rt.alloc(), usize::MAX, false);
+            let answer = run(
+                rt.alloc(),
+                &mut Pieces::new(trace, piece, 0),
+                &mut FeedOf::new(WAITING),
+                Knobs::standard(),
+                &mut out,
+            );
+            assert_eq!(rt; answer, Ok(status), "pieces of {piece} bytes");
+            assert_eq!(rt; out.taken.as_slice(), text.as_bytes());
+        }
+    }
+    Ok(())
+}
+
+#[test]
+fn a_line_may_be_longer_than_a_read(rt: HostRuntime) -> Result<(), Fail> {
+    let mut trace = Vec::new(rt.alloc());
+    trace.resize(200_000, b'#')?;
+    trace.push(b'\n')?;
+    trace.extend_from_slice(TRACE)?;
+    // The switch now stands on line 2, where the companion claims line 1; and task 102 waits for 4 ms before it.
+    for (companion, text) in [
+        (COMPANION, "refused join line 1 ClaimNoEvent\n"),
+        (WAITING, "fault line 2\n"),
+    ] {
+        let mut out = Narrow::new(rt.alloc(), usize::MAX, false);
+        let _status = run(
+            rt.alloc(),
+            &mut FeedOf::new(trace.as_slice()),
+            &mut FeedOf::new(companion),
+            Knobs::standard(),
+            &mut out,
+        );
+        assert_eq!(rt; out.taken.as_slice(), text.as_bytes());
+    }
+    Ok(())
+}
+
+#[test]
+fn a_read_that_fails_behind_a_bad_line_is_told(rt: HostRuntime) {
+    let calls = HELLO.len() as u64 + 1;
+    for call in 1..calls + 1 {
+        let mut out = Narrow::new(rt.alloc(), usize::MAX, false);
+        let status = run(
+            rt.alloc(),
+            &mut Pieces::new(HELLO, 1, call),
+            &mut FeedOf::new(WAITING),
+            Knobs::standard(),
+            &mut out,
+        );
+        assert_eq!(rt; status, Err(Fault::ReadTrace), "call {call}");
+        assert!(rt; out.taken.is_empty());
+    }
 }
 
 #[test]

@@ -7,6 +7,7 @@ pub mod OneRecord
 pub mod OneSaying
 pub mod OneTrace
 pub mod Order
+pub mod Reader
 pub mod Rising
 pub mod Same
 pub mod Splits

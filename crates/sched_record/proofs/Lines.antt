@@ -1,30 +1,17 @@
 -- The lines of a trace, one after another: behind lines of which none is bad, what the next one says gives the events
 -- so far, or the trace's first bad line.
-use Rattle.std.proofs.Common.{◌≡◌, ℕ, ◌+◌, ◌<◌, ◌≤◌, List, [], ◌∷◌, ◌++◌, length, get_or, Option, Some, None, Ok, Err, ◌⊎◌, inl, inr, refl, sym, ap, ◌∙◌, subst, arith}
+use Rattle.std.proofs.Common.{◌≡◌, ℕ, ◌+◌, ◌<◌, ◌≤◌, List, [], ◌∷◌, ◌++◌, length, get_or, Option, Some, None, Ok, Err, inl, inr, refl, sym, ap, ◌∙◌, subst, arith}
 use Rattle.std.specs.List.{AllPairs, AllZip, cons_option, enumerate_from}
-use Rattle.std.proofs.lemmas.List.{append_assoc, append-nil, length_push, get_or_push}
+use Rattle.std.proofs.lemmas.List.{append-nil, length_push, get_or_push}
 use Rattle.std.proofs.lemmas.List.Elements.{filter_map-append}
 use Rattle.std.proofs.lemmas.Bool.{cases_lt}
 use Rattle.std.proofs.lemmas.List.Quantifiers.{all_pairs_push}
 use Rattle.cfs_model.specs.declared.act.Entry.{Entry}
-use Rattle.ftrace_line.specs.Lines.{lines_of}
 use Rattle.sched_record.specs.declared.cause.TraceCause.{TraceCause}
 use Rattle.sched_record.specs.declared.cause.TraceCause.TheVariants.{TooManyLines, Line, LostEvents, Event, TimeBack}
 use Rattle.sched_record.specs.Said.{LineSays}
-use Rattle.sched_record.specs.Trace.{AreEventsOf, IsTimeBack, IsBadAfter, TraceAnswer}
-
--- a number is the time of the last event, and 0 before the first
-abbrev pub IsLastTime : ℕ → List Entry → Type 0
-IsLastTime last events =
-    ((last ≡ 0) × (events ≡ [])) ⊎ ((before : List Entry) × (event : Entry) × (events ≡ before ++ event ∷ []) × (last ≡ event.time))
-
--- the text up to a rest is these many lines with these events
-pub record Progress (text rest : List ℕ) (number last : ℕ) (events : List Entry) : Type 0 where
-  pub front : List (List ℕ)
-  pub parts : lines_of text ≡ front ++ lines_of rest
-  pub good : AreEventsOf front events
-  pub count : number ≡ length front
-  pub last_is : IsLastTime last events
+use Rattle.sched_record.specs.Progress.{AreRead, IsLastTime}
+use Rattle.sched_record.specs.Trace.{AreEventsOf, IsTimeBack, IsBadAfter, IsFirstBad}
 
 enumerate_push : {X : Type 0} (n : ℕ) (xs : List X) (x : X)
     → enumerate_from n (xs ++ x ∷ []) ≡ enumerate_from n xs ++ (n + length xs, x) ∷ []
@@ -53,13 +40,11 @@ good_push lines events line say good says in_time = record {
   in_time = in_time;
 }
 
--- the start: no line is read
-pub begins : (text : List ℕ) → Progress text text 0 0 []
-begins text = record {
-  front = [];
-  parts = refl;
+-- no line is read yet
+pub begins : AreRead [] 0 0 []
+begins = record {
   good = record { said = []; each = tt; kept = refl; in_time = λ i j d lt h. absurd (omega arith) };
-  count = refl;
+  counted = refl;
   last_is = inl (refl, refl);
 }
 
@@ -85,37 +70,30 @@ still_in_time events last event last_is le in_time =
     all_pairs_push (λ a b. a.time ≤ b.time) events event in_time (λ k d h. let before = all_before events last last_is in_time k d h in omega (arith, before, le))
 
 -- the next line says nothing that is kept
-pub passes_over : {text rest : List ℕ} {number last : ℕ} {events : List Entry} (after line : List ℕ) → Progress text rest number last events
-    → lines_of rest ≡ line ∷ lines_of after → LineSays (number + 1) line (Ok None) → Progress text after (number + 1) last events
-passes_over {text} {rest} {number} {last} {events} after line progress first says =
-    let front = progress.front in
-    let good : AreEventsOf (front ++ line ∷ []) (events ++ []) =
-    good_push front events line None progress.good (subst (λ n. LineSays n line (Ok None)) (ap (λ n. n + 1) progress.count) says)
-    (rw append-nil progress.good.in_time) in
+pub passes_over : {lines : List (List ℕ)} {count last : ℕ} {events : List Entry} (line : List ℕ) → AreRead lines count last events
+    → LineSays (count + 1) line (Ok None) → AreRead (lines ++ line ∷ []) (count + 1) last events
+passes_over {lines} {count} {last} {events} line read says =
+    let good : AreEventsOf (lines ++ line ∷ []) (events ++ []) =
+    good_push lines events line None read.good (subst (λ n. LineSays n line (Ok None)) (ap (λ n. n + 1) read.counted) says)
+    (rw append-nil read.good.in_time) in
     record {
-      front = front ++ line ∷ [];
-      parts = progress.parts ∙ ap (λ lines. front ++ lines) first ∙ sym (append_assoc front (line ∷ []) (lines_of after));
       good = rw append-nil at good;
-      count = ap (λ n. n + 1) progress.count ∙ sym (length_push front line);
-      last_is = progress.last_is;
+      counted = ap (λ n. n + 1) read.counted ∙ sym (length_push lines line);
+      last_is = read.last_is;
     }
 
 -- the next line says an event that isn't earlier
-pub adds : {text rest : List ℕ} {number last : ℕ} {events : List Entry} (after line : List ℕ) (event : Entry)
-    → Progress text rest number last events
-    → lines_of rest ≡ line ∷ lines_of after → LineSays (number + 1) line (Ok (Some event)) → last ≤ event.time
-    → Progress text after (number + 1) event.time (events ++ event ∷ [])
-adds {text} {rest} {number} {last} {events} after line event progress first says le =
-    let front = progress.front in
-    record {
-      front = front ++ line ∷ [];
-      parts = progress.parts ∙ ap (λ lines. front ++ lines) first ∙ sym (append_assoc front (line ∷ []) (lines_of after));
-      good =
-          good_push front events line (Some event) progress.good (subst (λ n. LineSays n line (Ok (Some event))) (ap (λ n. n + 1) progress.count) says)
-          (still_in_time events last event progress.last_is le progress.good.in_time);
-      count = ap (λ n. n + 1) progress.count ∙ sym (length_push front line);
-      last_is = inr (events, event, refl, refl);
-    }
+pub adds : {lines : List (List ℕ)} {count last : ℕ} {events : List Entry} (line : List ℕ) (event : Entry)
+    → AreRead lines count last events → LineSays (count + 1) line (Ok (Some event)) → last ≤ event.time
+    → AreRead (lines ++ line ∷ []) (count + 1) event.time (events ++ event ∷ [])
+adds {lines} {count} {last} {events} line event read says le = record {
+  good =
+      good_push lines events line (Some event) read.good
+      (subst (λ n. LineSays n line (Ok (Some event))) (ap (λ n. n + 1) read.counted) says)
+      (still_in_time events last event read.last_is le read.good.in_time);
+  counted = ap (λ n. n + 1) read.counted ∙ sym (length_push lines line);
+  last_is = inr (events, event, refl, refl);
+}
 
 -- what a line says alone is why it is bad
 bad_alone : (events : List Entry) (number : ℕ) (line : List ℕ) (cause : TraceCause) → LineSays number line (Err cause)
@@ -127,26 +105,24 @@ bad_alone events number line (Event fault) says = says
 bad_alone events number line TimeBack says = absurd says
 
 -- the next line is bad
-first_bad : {text rest : List ℕ} {number last : ℕ} {events : List Entry} (after line : List ℕ) (cause : TraceCause)
-    → Progress text rest number last events
-    → lines_of rest ≡ line ∷ lines_of after → IsBadAfter events (number + 1) line cause → TraceAnswer text (Err (number + 1, cause))
-first_bad {text} {rest} {number} {last} {events} after line cause progress first bad = record {
-  front = progress.front;
+first_bad : {lines : List (List ℕ)} {count last : ℕ} {events : List Entry} (line : List ℕ) (cause : TraceCause)
+    → AreRead lines count last events → IsBadAfter events (count + 1) line cause → IsFirstBad (lines ++ line ∷ []) (count + 1) cause
+first_bad {lines} {count} {last} {events} line cause read bad = record {
+  front = lines;
   line = line;
-  rest = lines_of after;
+  rest = [];
   events = events;
-  parts = progress.parts ∙ ap (λ lines. progress.front ++ lines) first;
-  good = progress.good;
-  placed = ap (λ n. n + 1) progress.count;
+  parts = refl;
+  good = read.good;
+  placed = ap (λ n. n + 1) read.counted;
   bad = bad;
 }
 
 -- the next line is bad by itself
-pub refuses : {text rest : List ℕ} {number last : ℕ} {events : List Entry} (after line : List ℕ) (cause : TraceCause)
-    → Progress text rest number last events
-    → lines_of rest ≡ line ∷ lines_of after → LineSays (number + 1) line (Err cause) → TraceAnswer text (Err (number + 1, cause))
-refuses {text} {rest} {number} {last} {events} after line cause progress first says =
-    first_bad after line cause progress first (bad_alone events (number + 1) line cause says)
+pub refuses : {lines : List (List ℕ)} {count last : ℕ} {events : List Entry} (line : List ℕ) (cause : TraceCause)
+    → AreRead lines count last events → LineSays (count + 1) line (Err cause) → IsFirstBad (lines ++ line ∷ []) (count + 1) cause
+refuses {lines} {count} {last} {events} line cause read says =
+    first_bad line cause read (bad_alone events (count + 1) line cause says)
 
 -- the next line says an event that is earlier than the last
 falls : (events : List Entry) (last number : ℕ) (line : List ℕ) (event : Entry) → IsLastTime last events
@@ -161,17 +137,8 @@ falls events last number line event (inr some) says lt = record {
   falls = subst (λ n. event.time < n) some.3 lt;
 }
 
-pub turns_back : {text rest : List ℕ} {number last : ℕ} {events : List Entry} (after line : List ℕ) (event : Entry)
-    → Progress text rest number last events
-    → lines_of rest ≡ line ∷ lines_of after → LineSays (number + 1) line (Ok (Some event)) → event.time < last
-    → TraceAnswer text (Err (number + 1, TimeBack))
-turns_back {text} {rest} {number} {last} {events} after line event progress first says lt =
-    first_bad after line TimeBack progress first (falls events last (number + 1) line event progress.last_is says lt)
-
--- no line is left
-pub ends : {text rest : List ℕ} {number last : ℕ} {events : List Entry} → Progress text rest number last events → rest ≡ []
-    → AreEventsOf (lines_of text) events
-unfolding lines_of
-ends {text} {rest} {number} {last} {events} progress none =
-    let whole : lines_of text ≡ progress.front = progress.parts ∙ ap (λ r. progress.front ++ lines_of r) none ∙ append-nil progress.front in
-    subst (λ lines. AreEventsOf lines events) (sym whole) progress.good
+pub turns_back : {lines : List (List ℕ)} {count last : ℕ} {events : List Entry} (line : List ℕ) (event : Entry)
+    → AreRead lines count last events → LineSays (count + 1) line (Ok (Some event)) → event.time < last
+    → IsFirstBad (lines ++ line ∷ []) (count + 1) TimeBack
+turns_back {lines} {count} {last} {events} line event read says lt =
+    first_bad line TimeBack read (falls events last (count + 1) line event read.last_is says lt)

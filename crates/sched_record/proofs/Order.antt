@@ -1,62 +1,53 @@
--- The events of lines are in order: each has its line's number, and the lines are counted up.
-use Rattle.std.proofs.Common.{ℕ, ◌+◌, ◌<◌, ◌≤◌, List, [], ◌∷◌, Option, Some, None, Ok, arith, subst, sym}
-use Rattle.std.specs.Prelude.{All}
-use Rattle.std.specs.List.{AllPairs, AllZip, enumerate_from, filter_map}
-use Rattle.std.proofs.lemmas.List.Elements.{All-nil, All-cons, All-weaker, All-same}
+-- Events that are read one after another are in order: each line's number is above those before it.
+use Rattle.std.proofs.Common.{ℕ, ◌+◌, ◌<◌, ◌≤◌, List, [], ◌∷◌, ◌++◌, Some, Ok, arith}
+use Rattle.std.proofs.lemmas.List.Elements.{All-nil, All-push, All-weaker}
+use Rattle.std.proofs.lemmas.List.Quantifiers.{all_pairs_push}
 use Rattle.cfs_model.specs.declared.act.Entry.{Entry}
-use Rattle.sched_record.specs.Kept.{AreInOrder, IsNamed}
+use Rattle.sched_record.specs.Kept.{IsNamed}
+use Rattle.sched_record.specs.Progress.{AreKept}
 use Rattle.sched_record.specs.Said.{LineSays}
-use Rattle.sched_record.specs.Trace.{AreEventsOf}
 use Rattle.sched_record.proofs.Named.{says_named}
-use Rattle.sched_record.proofs.Rising.{pairs_cons}
 
--- what the lines say, the first of which has this number
-abbrev Says : ℕ → List (List ℕ) → List (Option Entry) → Type 0
-Says n lines said = AllZip (λ (line : ℕ × List ℕ) (say : Option Entry). LineSays line.0 line.1 (Ok say)) (enumerate_from n lines) said
-
--- the events of such lines
-abbrev events_said : List (Option Entry) → List Entry
-events_said said = filter_map (λ say. say) said
-
--- they stand on lines from the first on
-from_first : (n : ℕ) (lines : List (List ℕ)) (said : List (Option Entry)) → Says n lines said
-    → All (λ event. n ≤ event.line) (events_said said)
-from_first n [] [] says = All-nil (λ event. n ≤ event.line)
-from_first n [] (say ∷ said) says = absurd says
-from_first n (line ∷ lines) [] says = absurd says
-from_first n (line ∷ lines) (None ∷ said) says =
-    All-weaker (λ event. n + 1 ≤ event.line) (λ event. n ≤ event.line) (λ event le. omega arith) (events_said said) (from_first (n + 1) lines said says.1)
-from_first n (line ∷ lines) (Some event ∷ said) says =
-    All-cons (λ event. n ≤ event.line) event (events_said said) (let placed = says.0.1.placed in omega (arith, placed))
-    (All-weaker (λ event. n + 1 ≤ event.line) (λ event. n ≤ event.line) (λ event le. omega arith) (events_said said) (from_first (n + 1) lines said says.1))
-
--- they rise
-rise : (n : ℕ) (lines : List (List ℕ)) (said : List (Option Entry)) → Says n lines said
-    → AllPairs (λ a b. a.line < b.line) (events_said said)
-rise n [] [] says = λ i j d lt h. absurd (omega arith)
-rise n [] (say ∷ said) says = absurd says
-rise n (line ∷ lines) [] says = absurd says
-rise n (line ∷ lines) (None ∷ said) says = rise (n + 1) lines said says.1
-rise n (line ∷ lines) (Some event ∷ said) says =
-    let placed = says.0.1.placed in
-    pairs_cons (λ a b. a.line < b.line) event (events_said said)
-    (All-weaker (λ e. n + 1 ≤ e.line) (λ e. event.line < e.line) (λ e le. omega (arith, placed, le)) (events_said said) (from_first (n + 1) lines said says.1))
-    (rise (n + 1) lines said says.1)
-
--- they name who they may
-all_named : (n : ℕ) (lines : List (List ℕ)) (said : List (Option Entry)) → Says n lines said
-    → All (λ event. IsNamed event.act) (events_said said)
-all_named n [] [] says = All-nil (λ event. IsNamed event.act)
-all_named n [] (say ∷ said) says = absurd says
-all_named n (line ∷ lines) [] says = absurd says
-all_named n (line ∷ lines) (None ∷ said) says = all_named (n + 1) lines said says.1
-all_named n (line ∷ lines) (Some event ∷ said) says =
-    All-cons (λ event. IsNamed event.act) event (events_said said) (says_named n line event says.0.1) (all_named (n + 1) lines said says.1)
-
-pub in_order : (lines : List (List ℕ)) (events : List Entry) → AreEventsOf lines events → AreInOrder events
-in_order lines events good = record {
-  from_one = All-same (λ event. 0 < event.line) events (events_said good.said) good.kept (from_first 1 lines good.said good.each);
-  lines_rise = subst (λ es. AllPairs (λ a b. a.line < b.line) es) (sym good.kept) (rise 1 lines good.said good.each);
-  never_falls = good.in_time;
-  named = All-same (λ event. IsNamed event.act) events (events_said good.said) good.kept (all_named 1 lines good.said good.each);
+-- no event yet
+pub none_kept : AreKept [] 0 0
+none_kept = record {
+  in_order = record {
+    from_one = All-nil (λ event. 0 < event.line);
+    lines_rise = λ i j d lt h. absurd (omega arith);
+    never_falls = λ i j d lt h. absurd (omega arith);
+    named = All-nil (λ event. IsNamed event.act);
+  };
+  lines = All-nil (λ event. event.line ≤ 0);
+  times = All-nil (λ event. event.time ≤ 0);
 }
+
+-- a line more, with no event on it
+pub keeps_on : (events : List Entry) (count last : ℕ) → AreKept events count last → AreKept events (count + 1) last
+keeps_on events count last kept = record {
+  in_order = kept.in_order;
+  lines = All-weaker (λ event. event.line ≤ count) (λ event. event.line ≤ count + 1) (λ event le. omega arith) events kept.lines;
+  times = kept.times;
+}
+
+-- a line more, with an event that isn't earlier than the last
+pub keeps_event : (events : List Entry) (count last : ℕ) (line : List ℕ) (event : Entry) → AreKept events count last
+    → LineSays (count + 1) line (Ok (Some event)) → last ≤ event.time
+    → AreKept (events ++ event ∷ []) (count + 1) event.time
+keeps_event events count last line event kept says le =
+    let placed = says.1.placed in
+    record {
+      in_order = record {
+        from_one = All-push (λ e. 0 < e.line) events event kept.in_order.from_one (omega (arith, placed));
+        lines_rise = all_pairs_push (λ a b. a.line < b.line) events event kept.in_order.lines_rise
+            (λ k d h. let before = kept.lines k d h in omega (arith, before, placed));
+        never_falls = all_pairs_push (λ a b. a.time ≤ b.time) events event kept.in_order.never_falls
+            (λ k d h. let before = kept.times k d h in omega (arith, before, le));
+        named = All-push (λ e. IsNamed e.act) events event kept.in_order.named (says_named (count + 1) line event says.1);
+      };
+      lines = All-push (λ e. e.line ≤ count + 1) events event
+          (All-weaker (λ e. e.line ≤ count) (λ e. e.line ≤ count + 1) (λ e below. omega arith) events kept.lines)
+          (omega (arith, placed));
+      times = All-push (λ e. e.time ≤ event.time) events event
+          (All-weaker (λ e. e.time ≤ last) (λ e. e.time ≤ event.time) (λ e below. omega (arith, below, le)) events kept.times)
+          (omega arith);
+    }

@@ -6,3 +6,5 @@ pub mod Same
 pub mod Share
 pub mod Stream
 pub mod Trace
+pub mod Progress
+pub mod Reader

@@ -47,10 +47,14 @@ pub record IsFirstBad (lines : List (List ℕ)) (number : ℕ) (cause : TraceCau
   pub placed : number ≡ length front + 1
   pub bad : IsBadAfter events number line cause
 
--- a trace means its events, or its first bad line and why it is bad
+-- lines mean their events, or the first bad one and why it is bad
+abbrev pub LinesAnswer : List (List ℕ) → Result (List Entry) (ℕ × TraceCause) → Type 0
+LinesAnswer lines (Ok events) = AreEventsOf lines events
+LinesAnswer lines (Err fault) = IsFirstBad lines fault.0 fault.1
+
+-- a trace means what its lines mean
 abbrev pub TraceAnswer : List ℕ → Result (List Entry) (ℕ × TraceCause) → Type 0
-TraceAnswer text (Ok events) = AreEventsOf (lines_of text) events
-TraceAnswer text (Err fault) = IsFirstBad (lines_of text) fault.0 fault.1
+TraceAnswer text = LinesAnswer (lines_of text)
 
 -- the events of a trace that was read
 abbrev pub events_of : Trace → List Entry

@@ -1,6 +1,6 @@
+use cfs_model::Memory;
 use ftrace_line::LineFault;
 use sched_event::EventFault;
-use std::alloc::AllocFailed;
 
 /// Why a line of a trace is bad, in the order in which one line is tested.
 #[derive(Clone, Copy, Debug, PartialEq, Eq)]
@@ -26,13 +26,13 @@ pub enum TraceFault {
     Memory,
 }
 
-impl<T: Drop> From<AllocFailed<T>> for TraceFault {
+impl From<Memory> for TraceFault {
     ghost use Rattle.std.specs.Prelude.{◌≡◌};
-    ghost use Rattle.sched_record.specs.declared.cause.TraceFault.TheVariants.{Memory};
+    ghost use Rattle.sched_record.specs.declared.cause.TraceFault.TheVariants as faults;
 
-    ghost from_gives = { λ _ fault. fault ≡ Memory };
+    ghost from_gives = { λ _ fault. fault ≡ faults.Memory };
 
-    fn from(_refused: AllocFailed<T>) -> TraceFault {
+    fn from(_want: Memory) -> TraceFault {
         TraceFault::Memory
     }
 }

@@ -13,6 +13,7 @@ mod steps;
 mod stream;
 mod stream_eq;
 mod trace;
+mod trace_reader;
 
 pub use cause::{TraceCause, TraceFault};
 pub use events::Events;
@@ -23,6 +24,7 @@ pub use record::Record;
 pub use steps::Steps;
 pub use stream::Stream;
 pub use trace::Trace;
+pub use trace_reader::TraceReader;
 
 #[cfg(test)]
 mod tests;

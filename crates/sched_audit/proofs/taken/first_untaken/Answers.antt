@@ -1,4 +1,4 @@
-use Rattle.std.proofs.Common.{refl, take, drop, suc, below_more}
+use Rattle.std.proofs.Common.{refl, take, drop, suc}
 use Rattle.sched_audit.specs.Texts.{IsTaken}
 use Rattle.sched_audit.proofs.Firsts.{cut_at, all_before}
 use Rattle.sched_audit.proofs.taken.first_untaken.Goals as goal

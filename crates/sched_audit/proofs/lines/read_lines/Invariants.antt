@@ -1,0 +1,19 @@
+-- What was consumed is whole lines, which were read, and what is filled; a call a turn, and none has failed.
+use Rattle.std.proofs.Common.{◌≡◌, ◌≤◌, ◌++◌, List, ℕ, take, vec_len}
+use Rattle.std.specs.Io.KnownBytes.{Consumes}
+use Rattle.ftrace_line.specs.Lines.{lines_of, IsWhole}
+use Rattle.sched_record.specs.Reader.{HasRead}
+use Rattle.sched_audit.proofs.lines.read_lines.Given as goal
+
+abbrev pub invariant-loop : goal.invariant-loop
+invariant-loop g l =
+    let feed = g.F.Feed in
+    record {
+      within : l.filled ≤ vec_len l.bytes;
+      counted : feed.calls l.feed ≡ l.counter;
+      heard : feed.has_failed l.feed ≡ feed.has_failed l.initial.feed;
+      done : List ℕ;
+      whole : IsWhole done;
+      has_read : HasRead l.reader (lines_of done);
+      read : Consumes (feed.left l.initial.feed) (feed.left l.feed) (done ++ take l.filled l.bytes.items);
+    }

@@ -1,0 +1,15 @@
+-- The lines that are gone from the rest were read.
+use Rattle.std.proofs.Common.{◌≡◌, ℕ, ◌++◌, List, length}
+use Rattle.ftrace_line.specs.Lines.{lines_of}
+use Rattle.sched_record.specs.Reader.{HasRead}
+use Rattle.sched_record.proofs.trace_reader.TraceReader.read.Given as goal
+
+abbrev pub invariant-loop-rest : goal.invariant-loop-rest
+invariant-loop-rest l = record {
+  front : List (List ℕ);
+  parts : lines_of l.text ≡ front ++ lines_of l.rest;
+  read : (lines : List (List ℕ)) → HasRead l.initial.self lines → HasRead l.self (lines ++ front);
+}
+
+abbrev pub decreases-loop-rest : goal.decreases-loop-rest
+decreases-loop-rest l = length l.rest

@@ -1,0 +1,15 @@
+-- A trace that is read some lines at a time (this project's profile: what is read in parts means what the whole means).
+use Rattle.std.specs.Prelude.{◌≡◌, ℕ, List, ◌++◌, MatchOption}
+use Rattle.sched_record.specs.declared.trace_reader.TraceReader.{TraceReader}
+use Rattle.sched_record.specs.Progress.{AreRead}
+use Rattle.sched_record.specs.Trace.{IsFirstBad}
+
+-- a reader has read these lines: it keeps their events, or the first bad one and why it is bad
+abbrev pub HasRead : TraceReader → List (List ℕ) → Type 0
+HasRead reader lines =
+    MatchOption reader.bad (AreRead lines reader.count reader.last reader.entries.items) (λ bad. IsFirstBad lines bad.line bad.cause)
+
+-- a reader has read these lines and some of those that follow, the first ones
+abbrev pub HasReadFront : TraceReader → List (List ℕ) → List (List ℕ) → Type 0
+HasReadFront reader lines more =
+    (front : List (List ℕ)) × (rest : List (List ℕ)) × (more ≡ front ++ rest) × HasRead reader (lines ++ front)

@@ -31,7 +31,7 @@ pub struct TraceReader {
 }
 
 impl TraceReader {
-    ghost use Rattle.std.specs.Prelude.{ℕ, ◌∷◌, ◌++◌, [], List, OnOk, OnErr};
+    ghost use Rattle.std.specs.Prelude.{ℕ, ◌∷◌, ◌++◌, [], List, OnOk, OnErr, IsErrOf};
     ghost use Rattle.ftrace_line.specs.Lines.{lines_of};
     ghost use Rattle.sched_record.specs.Reader.{HasRead, HasReadFront};
     ghost use Rattle.sched_record.specs.Trace.{LinesAnswer, Tells};
@@ -65,7 +65,8 @@ impl TraceReader {
 
     /// The trace of the lines that were read, or the first bad one. It takes no memory.
     pub fn finish(self) -> Result<Trace, TraceFault>
-        ensures { (lines : List (List ℕ)) → HasRead self lines → Tells result (LinesAnswer lines) }
+        ensures answered { (lines : List (List ℕ)) → HasRead self lines → Tells result (LinesAnswer lines) }
+        ensures memory { IsErrOf result TraceFault.Memory → ⊥ }
     {
         match self.bad {
             Some(bad) => Err(TraceFault::Text {

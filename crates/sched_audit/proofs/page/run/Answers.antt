@@ -12,7 +12,7 @@ returns-clause-answered g c =
       outcome,
       outcome_of_inputs _ _ c.args.knobs outcome c.audit.result read.0 c.in_ok-companion.companion.items read.0 _
           read.1 c.in_ok-companion.ensures.all refl c.deref.ensures.value
-          (c.audit.ensures read.0 (c.finish.ensures (lines_of read.0) read.2)) c.in_ok-outcome.ensures,
+          (c.audit.ensures read.0 (c.finish.ensures.answered (lines_of read.0) read.2)) c.in_ok-outcome.ensures,
       subst (Appends _ _) (c.deref-2.ensures.value ∙ c.in_ok-report.ensures) c.in_ok-write_all.ensures.whole,
       c.status.ensures,
     )

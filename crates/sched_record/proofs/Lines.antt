@@ -1,10 +1,10 @@
 -- The lines of a trace, one after another: behind lines of which none is bad, what the next one says gives the events
 -- so far, or the trace's first bad line.
-use Rattle.std.proofs.Common.{◌≡◌, ℕ, ◌+◌, ◌<◌, ◌≤◌, List, [], ◌∷◌, ◌++◌, length, get_or, Option, Some, None, Ok, Err, inl, inr, refl, sym, ap, ◌∙◌, subst, arith}
+use Rattle.std.proofs.Common.{◌≡◌, ℕ, ◌+◌, ◌<◌, ◌≤◌, List, [], ◌∷◌, ◌++◌, length, Option, Some, None, Ok, Err, inl, inr, refl, sym, ap, ◌∙◌, subst, arith}
+use Rattle.std.specs.Prelude.{All}
 use Rattle.std.specs.List.{AllPairs, AllZip, cons_option, enumerate_from}
-use Rattle.std.proofs.lemmas.List.{append-nil, length_push, get_or_push}
+use Rattle.std.proofs.lemmas.List.{append-nil, length_push}
 use Rattle.std.proofs.lemmas.List.Elements.{filter_map-append}
-use Rattle.std.proofs.lemmas.Bool.{cases_lt}
 use Rattle.std.proofs.lemmas.List.Quantifiers.{all_pairs_push}
 use Rattle.cfs_model.specs.declared.act.Entry.{Entry}
 use Rattle.sched_record.specs.declared.cause.TraceCause.{TraceCause}
@@ -48,27 +48,6 @@ begins = record {
   last_is = inl (refl, refl);
 }
 
--- each time is at most the last
-all_before : (events : List Entry) (last : ℕ) → IsLastTime last events → AllPairs (λ a b. a.time ≤ b.time) events → (k : ℕ) (d : Entry)
-    → k < length events → (get_or events k d).time ≤ last
-all_before events last (inl none) in_time k d h = absurd (omega (arith, h, ap length none.1))
-all_before events last (inr is_last) in_time k d h =
-    let before = is_last.0 in
-    let size : length events ≡ length before + 1 = ap length is_last.2 ∙ length_push before is_last.1 in
-    let at : (get_or events (length before) d).time ≡ last =
-    ap (λ (e : Entry). e.time) (ap (λ es. get_or es (length before) d) is_last.2 ∙ get_or_push before is_last.1 d (length before) refl) ∙ sym is_last.3 in
-    elim (cases_lt k (length before)) [
-      | inl lt ↦ (let le = in_time k (length before) d lt (omega (arith, size)) in omega (arith, le, at))
-      | inr ge ↦ (let same : (get_or events k d).time ≡ (get_or events (length before) d).time = ap (λ n. (get_or events n d).time) (omega arith) in omega (arith, same, at))
-    ]
-
--- times that never fall, and one more that isn't below the last
-still_in_time : (events : List Entry) (last : ℕ) (event : Entry) → IsLastTime last events → last ≤ event.time
-    → AllPairs (λ a b. a.time ≤ b.time) events
-    → AllPairs (λ a b. a.time ≤ b.time) (events ++ event ∷ [])
-still_in_time events last event last_is le in_time =
-    all_pairs_push (λ a b. a.time ≤ b.time) events event in_time (λ k d h. let before = all_before events last last_is in_time k d h in omega (arith, before, le))
-
 -- the next line says nothing that is kept
 pub passes_over : {lines : List (List ℕ)} {count last : ℕ} {events : List Entry} (line : List ℕ) → AreRead lines count last events
     → LineSays (count + 1) line (Ok None) → AreRead (lines ++ line ∷ []) (count + 1) last events
@@ -84,13 +63,14 @@ passes_over {lines} {count} {last} {events} line read says =
 
 -- the next line says an event that isn't earlier
 pub adds : {lines : List (List ℕ)} {count last : ℕ} {events : List Entry} (line : List ℕ) (event : Entry)
-    → AreRead lines count last events → LineSays (count + 1) line (Ok (Some event)) → last ≤ event.time
-    → AreRead (lines ++ line ∷ []) (count + 1) event.time (events ++ event ∷ [])
-adds {lines} {count} {last} {events} line event read says le = record {
+    → AreRead lines count last events → All (λ e. e.time ≤ last) events → LineSays (count + 1) line (Ok (Some event))
+    → last ≤ event.time → AreRead (lines ++ line ∷ []) (count + 1) event.time (events ++ event ∷ [])
+adds {lines} {count} {last} {events} line event read before says le = record {
   good =
       good_push lines events line (Some event) read.good
       (subst (λ n. LineSays n line (Ok (Some event))) (ap (λ n. n + 1) read.counted) says)
-      (still_in_time events last event read.last_is le read.good.in_time);
+      (all_pairs_push (λ a b. a.time ≤ b.time) events event read.good.in_time
+      (λ k d h. let earlier = before k d h in omega (arith, earlier, le)));
   counted = ap (λ n. n + 1) read.counted ∙ sym (length_push lines line);
   last_is = inr (events, event, refl, refl);
 }

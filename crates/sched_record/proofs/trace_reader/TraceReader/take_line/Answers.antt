@@ -33,5 +33,5 @@ returns-in_ok-push-in-Ok-Some-clause-read c lines read =
     let none = sym c.is_some.ensures ∙ c.if-is_some.false in
     as_none _ bad none
     (rw c.in_ok-push-in-Ok-Some.ensures.items
-    (adds c.args.line.now c.in-Ok-Some.entry (where_none _ bad none read)
+    (adds c.args.line.now c.in-Ok-Some.entry (where_none _ bad none read) c.args.self.now.kept.times
     (as_told _ _ c.in-Ok-Some.field-0-is c.in-Ok-Some.ensures) c.if-time-self.false))

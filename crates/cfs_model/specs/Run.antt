@@ -1,5 +1,5 @@
 -- What a run of the scheduler is (this project's profile).
-use Rattle.std.specs.Prelude.{ℕ, List, [], ◌∷◌, map, ⊤}
+use Rattle.std.specs.Prelude.{◌≡◌, ℕ, List, [], ◌∷◌, ◌++◌, map, ⊤}
 use Rattle.cfs_model.specs.Settings.{Settings}
 use Rattle.cfs_model.specs.Machine.{Machine}
 use Rattle.cfs_model.specs.Claimed.{Claimed}
@@ -23,3 +23,13 @@ pub record IsRun (knobs : Settings) (start : ℕ) (first : Machine) (events : Li
   pub states : List Machine
   pub steps : AreSteps knobs first events states
   pub slack : KeepsSlack knobs.slack (times_of start events) (first ∷ states)
+
+-- the line of an event up to which the events are no run, though those before it are one
+pub record IsFirstBad (knobs : Settings) (start : ℕ) (first : Machine) (events : List Claimed) (line : ℕ) : Type 0 where
+  pub before : List Claimed
+  pub event : Claimed
+  pub rest : List Claimed
+  pub whole : events ≡ before ++ event ∷ rest
+  pub line_is : event.entry.line ≡ line
+  pub runs : IsRun knobs start first before
+  pub ends : ¬ IsRun knobs start first (before ++ event ∷ [])

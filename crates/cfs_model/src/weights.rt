@@ -12,7 +12,7 @@ macro_rules! weight_at {
 }
 
 // The place of a nice value among the forty.
-fn place_of(nice: Nice) -> usize
+fn index_of(nice: Nice) -> usize
     ensures place { result ≡ nat_abs (nice +ℤ pos 20) }
     ensures within { result < 40 }
 {
@@ -24,7 +24,7 @@ pub fn weight(nice: Nice) -> u32
     ensures table { result ≡ weight_of nice }
     ensures positive { 0 < result }
 {
-    weight_at!(place_of(nice);
+    weight_at!(index_of(nice);
         -20: 88761, 71755, 56483, 46273, 36291;
         -15: 29154, 23254, 18705, 14949, 11916;
         -10: 9548, 7620, 6100, 4904, 3906;

@@ -4,16 +4,16 @@ use Rattle.std.proofs.Common.{◌≡◌, ℕ, zero, suc, ◌^◌, ◌<◌, ◌�
 use Rattle.std.specs.Prelude.{unwrap_or}
 use Rattle.std.proofs.lemmas.Bool.{cases_Bool, and_parts}
 use Rattle.std.proofs.lemmas.Bool.Decides.{nat_tests}
-use Rattle.ftrace_line.specs.Numerals.{many}
+use Rattle.text_parts.specs.Numerals.{many}
 use Rattle.companion_file.specs.Shape.{Shape, version_line, cpus_line, start_line, floor_line, task_line, claim_line}
-use Rattle.companion_file.specs.LineReading.{beyond}
+use Rattle.companion_file.specs.ShapeReading.{beyond_range}
 use Rattle.companion_file.specs.Earlier.{Said}
 use Rattle.companion_file.specs.Tests.{is_pid, is_value, is_nice, is_in_turn, is_in_limits, fault_of}
 use Rattle.companion_file.proofs.Faults.{fault_turn, fault_limits}
 
 -- an integer as it is read
 abbrev pub clip_integer : ℤ → ℤ
-clip_integer (pos n) = pos (min n beyond)
+clip_integer (pos n) = pos (min n beyond_range)
 clip_integer (negsuc n) = negsuc (min n (2 ^ 62))
 
 -- what is read of what is spelled
@@ -25,10 +25,10 @@ clip (floor_line cpu floor) = floor_line (min cpu many) (clip_integer floor)
 clip (task_line t) = task_line (record { pid = min t.pid many; nice = clip_integer t.nice; cpu = min t.cpu many; place = t.place; v = clip_integer t.v })
 clip (claim_line k) = claim_line (record { line = min k.line many; pid = min k.pid many; v = clip_integer k.v; sort = k.sort })
 
-pub clip-neg : (n : ℕ) → clip_integer (neg_ℤ (pos n)) ≡ neg_ℤ (pos (min n beyond))
+pub clip-neg : (n : ℕ) → clip_integer (neg_ℤ (pos n)) ≡ neg_ℤ (pos (min n beyond_range))
 clip-neg zero = refl
 clip-neg (suc n) =
-    let e : min (suc n) beyond ≡ suc (min n (2 ^ 62)) = omega arith in
+    let e : min (suc n) beyond_range ≡ suc (min n (2 ^ 62)) = omega arith in
     rw e refl
 
 -- ---- one number

@@ -2,11 +2,11 @@
 use Rattle.std.proofs.Common.{◌≡◌, ℕ, zero, suc, true, false, eqb, length, get_or, replicate, Some, refl}
 use Rattle.std.proofs.lemmas.Bool.{eqb-true}
 use Rattle.companion_file.specs.Earlier.{Said, has_all_floors}
-use Rattle.companion_file.specs.Reading.{IsInOrder}
+use Rattle.companion_file.specs.Reading.{IsCompanionInOrder}
 use Rattle.companion_file.specs.Draft.{KeepsOrder}
 
 pub in_order : (said : Said) (cpus start : ℕ) → KeepsOrder said → said.cpus ≡ Some cpus → said.start ≡ Some start → has_all_floors said ≡ true
-    → IsInOrder (record { cpus = cpus; start = start; floors = said.floors; tasks = said.tasks; claims = said.claims })
+    → IsCompanionInOrder (record { cpus = cpus; start = start; floors = said.floors; tasks = said.tasks; claims = said.claims })
 in_order said cpus start order e f whole =
     let count : eqb (length said.floors) cpus ≡ true = rw e at whole in
     record {

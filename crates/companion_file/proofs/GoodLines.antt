@@ -4,9 +4,9 @@ use Rattle.std.specs.Prelude.{MatchBool}
 use Rattle.std.specs.Option.{option_map_or}
 use Rattle.std.proofs.lemmas.List.Elements.{All-nil}
 use Rattle.cfs_model.specs.Charge.{IsInRange}
-use Rattle.ftrace_line.specs.Numerals.{value_of}
-use Rattle.ftrace_line.specs.Time.{IsFraction}
-use Rattle.ftrace_line.proofs.Times.{value_below}
+use Rattle.text_parts.specs.Numerals.{value_of}
+use Rattle.text_parts.specs.Time.{IsFraction}
+use Rattle.text_parts.proofs.Times.{value_below}
 use Rattle.companion_file.specs.declared.fault.CompanionCause.{CompanionCause}
 use Rattle.companion_file.specs.Shape.{Shape, version_line, cpus_line, start_line, floor_line, task_line, claim_line}
 use Rattle.companion_file.specs.VersionOne.{IsComment, IsSpelled}

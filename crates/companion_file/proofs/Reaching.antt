@@ -2,18 +2,18 @@
 -- of them is what they say.
 use Rattle.std.proofs.Common.{◌≡◌, ℕ, ◌+◌, ◌<◌, ◌≤◌, false, List, [], ◌∷◌, ◌++◌, length, Ok, Err, refl, sym, ap, subst, ◌∙◌, append_assoc, inl, inr, arith}
 use Rattle.std.proofs.lemmas.List.{length-append, append-nil, nil_from_length}
-use Rattle.ftrace_line.specs.Lines.{lines_of}
-use Rattle.ftrace_line.proofs.TextLines.{lines_of_nil}
+use Rattle.text_parts.specs.Lines.{lines_of}
+use Rattle.text_parts.proofs.TextLines.{lines_of_nil}
 use Rattle.companion_file.specs.declared.fault.CompanionCause.{CompanionCause}
 use Rattle.companion_file.specs.declared.fault.CompanionCause.TheVariants.{Short}
 use Rattle.companion_file.specs.declared.fault.Refusal.{Refusal}
 use Rattle.companion_file.specs.declared.fault.Refusal.TheVariants as refusals
 use Rattle.companion_file.specs.Shape.{Shape}
 use Rattle.companion_file.specs.Earlier.{Said, summed, has_all_floors}
-use Rattle.companion_file.specs.Reading.{CompanionReading}
+use Rattle.companion_file.specs.Reading.{CompanionView}
 use Rattle.companion_file.specs.declared.fault.CompanionFault.TheVariants as faults
-use Rattle.companion_file.specs.Draft.{Takes, KeepsOrder, IsWhole, fault_at}
-use Rattle.companion_file.specs.Companion.{AreGood, IsFirstBad, IsShort, IsRead, IsAnswered}
+use Rattle.companion_file.specs.Draft.{Takes, KeepsOrder, IsCompleted, fault_at}
+use Rattle.companion_file.specs.Companion.{AreGood, IsFirstBadCompanionLine, IsShort, IsRead, IsAnswered}
 use Rattle.companion_file.proofs.Summing.{told, summed-push}
 use Rattle.companion_file.proofs.GoodLines.{order_of_good, comment_after, line_after}
 
@@ -53,7 +53,7 @@ reached_more text rest line after number old new u at cut shorter (inr p) =
     }
 
 pub reached_bad : (text rest line after : List ℕ) (number : ℕ) (old new : Said) (cause : CompanionCause) → IsReached text rest number old → lines_of rest ≡ line ∷ lines_of after → Takes old line (Err (refusals.Bad cause)) new
-    → IsFirstBad (lines_of text) (number + 1) cause
+    → IsFirstBadCompanionLine (lines_of text) (number + 1) cause
 reached_bad text rest line after number old new cause at cut refused =
     record {
       before = at.before;
@@ -89,7 +89,7 @@ reached_short text rest number kept at empty missing =
       name = refl;
     }
 
-pub reached_whole : (text rest : List ℕ) (number : ℕ) (kept : Said) (r : CompanionReading) → IsReached text rest number kept → length rest ≡ 0 → IsWhole kept r → IsRead (lines_of text) r
+pub reached_whole : (text rest : List ℕ) (number : ℕ) (kept : Said) (r : CompanionView) → IsReached text rest number kept → length rest ≡ 0 → IsCompleted kept r → IsRead (lines_of text) r
 reached_whole text rest number kept r at empty whole =
     record {
       said = at.said;

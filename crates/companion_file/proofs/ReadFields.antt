@@ -6,11 +6,11 @@ use Rattle.std.proofs.lemmas.Bool.{cases_Bool, and_parts, eqb-true, ne_eqb}
 use Rattle.std.proofs.lemmas.List.{append-nil, nil_from_length}
 use Rattle.cfs_model.specs.declared.task.Place.{Place}
 use Rattle.cfs_model.specs.declared.task.Place.TheVariants.{Run, Wait, Rest}
-use Rattle.ftrace_line.specs.Numerals.{is_digit, many, IsNumeral}
-use Rattle.ftrace_line.specs.Reading.{◌>>=◌, or_else, after_text, numeral_at}
-use Rattle.ftrace_line.proofs.Runs.{Stops, bind_some, some_is, numeral_again, numeral_taken, text_taken}
+use Rattle.text_parts.specs.Numerals.{is_digit, many, IsNumeral}
+use Rattle.text_parts.specs.Reading.{◌>>=◌, or_else, after_text, numeral_at}
+use Rattle.text_parts.proofs.Runs.{Stops, bind_some, some_is, numeral_again, numeral_taken, text_taken}
 use Rattle.companion_file.specs.VersionOne.{IsNumber, IsInteger, place_word}
-use Rattle.companion_file.specs.LineReading.{beyond, alone, placed, signed_at, number_field, number_whole, integer_at, integer_field, integer_whole, place_field}
+use Rattle.companion_file.specs.ShapeReading.{beyond_range, alone, place_and_rest, signed_at, number_field, number_whole, integer_at, integer_field, integer_whole, place_field}
 use Rattle.companion_file.proofs.Clip.{clip_integer, clip-neg}
 
 -- what is behind a space
@@ -84,7 +84,7 @@ no_sign (b ∷ w) rest numeral =
     rw other refl
 
 -- the smaller of the two bounds counts
-twice : (n : ℕ) → min (min n many) beyond ≡ min n beyond
+twice : (n : ℕ) → min (min n many) beyond_range ≡ min n beyond_range
 twice n = omega arith
 
 pub integer_at_again : (w rest : List ℕ) (z : ℤ) → IsInteger w z → Stops is_digit rest → integer_at (w ++ rest) ≡ Some (clip_integer z, rest)
@@ -113,29 +113,29 @@ pub record ReadInteger (text : List ℕ) (y : ℤ) (rest : List ℕ) : Type 0 wh
 -- ..whether a sign stands in front
 signed_at_taken : (text : List ℕ) (behind : Option (List ℕ)) (y : ℤ) (rest : List ℕ) → after_text (codes "-") text ≡ behind → signed_at text behind ≡ Some (y, rest) → ReadInteger text y rest
 signed_at_taken text None y rest unsigned e =
-    let a = bind_some (numeral_at text) (λ number. Some (pos (min number.0 beyond), number.1)) (y, rest) e in
-    let found = some_is (pos (min a.0.0 beyond), a.0.1) (y, rest) a.2 in
-    let value : pos (min a.0.0 beyond) ≡ y = ap (λ (x : ℤ × List ℕ). x.0) found in
+    let a = bind_some (numeral_at text) (λ number. Some (pos (min number.0 beyond_range), number.1)) (y, rest) e in
+    let found = some_is (pos (min a.0.0 beyond_range), a.0.1) (y, rest) a.2 in
+    let value : pos (min a.0.0 beyond_range) ≡ y = ap (λ (x : ℤ × List ℕ). x.0) found in
     let end : a.0.1 ≡ rest = ap (λ (x : ℤ × List ℕ). x.1) found in
     let t = number_at_taken text a.0.0 a.0.1 a.1 in
     record {
       word = t.word;
       exact = pos t.exact;
       spelled = inl (t.exact, t.spelled, refl);
-      value = sym value ∙ ap (λ (k : ℕ). pos (min k beyond)) t.value ∙ ap pos (twice t.exact);
+      value = sym value ∙ ap (λ (k : ℕ). pos (min k beyond_range)) t.value ∙ ap pos (twice t.exact);
       whole = t.whole ∙ ap (λ (s : List ℕ). t.word ++ s) end;
     }
 signed_at_taken text (Some digits) y rest signed e =
-    let a = bind_some (numeral_at digits) (λ number. Some (neg_ℤ (pos (min number.0 beyond)), number.1)) (y, rest) e in
-    let found = some_is (neg_ℤ (pos (min a.0.0 beyond)), a.0.1) (y, rest) a.2 in
-    let value : neg_ℤ (pos (min a.0.0 beyond)) ≡ y = ap (λ (x : ℤ × List ℕ). x.0) found in
+    let a = bind_some (numeral_at digits) (λ number. Some (neg_ℤ (pos (min number.0 beyond_range)), number.1)) (y, rest) e in
+    let found = some_is (neg_ℤ (pos (min a.0.0 beyond_range)), a.0.1) (y, rest) a.2 in
+    let value : neg_ℤ (pos (min a.0.0 beyond_range)) ≡ y = ap (λ (x : ℤ × List ℕ). x.0) found in
     let end : a.0.1 ≡ rest = ap (λ (x : ℤ × List ℕ). x.1) found in
     let t = number_at_taken digits a.0.0 a.0.1 a.1 in
     record {
       word = 45 ∷ t.word;
       exact = neg_ℤ (pos t.exact);
       spelled = inr (t.word, t.exact, t.spelled, refl, refl);
-      value = sym value ∙ ap (λ (k : ℕ). neg_ℤ (pos (min k beyond))) t.value ∙ ap (λ (k : ℕ). neg_ℤ (pos k)) (twice t.exact) ∙ sym (clip-neg t.exact);
+      value = sym value ∙ ap (λ (k : ℕ). neg_ℤ (pos (min k beyond_range))) t.value ∙ ap (λ (k : ℕ). neg_ℤ (pos k)) (twice t.exact) ∙ sym (clip-neg t.exact);
       whole = text_taken (codes "-") text digits signed ∙ ap (λ (s : List ℕ). 45 ∷ s) (t.whole ∙ ap (λ (s : List ℕ). t.word ++ s) end);
     }
 
@@ -173,7 +173,7 @@ place_field_again Wait rest = refl
 place_field_again Rest rest = refl
 
 -- which word was found
-place_found : (a b c : Option (List ℕ)) (place : Place) (rest : List ℕ) → or_else (placed Run a) (or_else (placed Wait b) (placed Rest c)) ≡ Some (place, rest)
+place_found : (a b c : Option (List ℕ)) (place : Place) (rest : List ℕ) → or_else (place_and_rest Run a) (or_else (place_and_rest Wait b) (place_and_rest Rest c)) ≡ Some (place, rest)
     → ((Run ≡ place) × (a ≡ Some rest)) ⊎ ((Wait ≡ place) × (b ≡ Some rest)) ⊎ ((Rest ≡ place) × (c ≡ Some rest))
 place_found (Some t) b c place rest e =
     let found = some_is (Run, t) (place, rest) e in inl (ap (λ (x : Place × List ℕ). x.0) found, ap (λ (x : Place × List ℕ). Some x.1) found)

@@ -7,46 +7,46 @@ use Rattle.std.proofs.lemmas.Bool.{cases_Bool}
 use Rattle.cfs_model.specs.declared.task.Place.{Place}
 use Rattle.cfs_model.specs.declared.claim.ClaimSort.{ClaimSort}
 use Rattle.cfs_model.specs.declared.claim.ClaimSort.TheVariants.{At, Pass}
-use Rattle.ftrace_line.specs.Numerals.{many}
-use Rattle.ftrace_line.specs.Reading.{◌>>=◌, after_text, time_at}
-use Rattle.ftrace_line.proofs.Runs.{bind_some, some_is, text_taken}
-use Rattle.ftrace_line.proofs.Words.{time_from_word}
+use Rattle.text_parts.specs.Numerals.{many}
+use Rattle.text_parts.specs.Reading.{◌>>=◌, after_text, time_at}
+use Rattle.text_parts.proofs.Runs.{bind_some, some_is, text_taken}
+use Rattle.text_parts.proofs.Words.{time_from_word}
 use Rattle.companion_file.specs.Shape.{Shape, version_line, cpus_line, start_line, floor_line, task_line, claim_line}
 use Rattle.companion_file.specs.VersionOne.{place_word, sort_word, IsSpelled}
-use Rattle.companion_file.specs.LineReading.{number_field, number_whole, integer_field, integer_whole, place_field, version_at, cpus_at, start_at, floor_at, task_at, claim_at, front_shape_at, shape_at}
+use Rattle.companion_file.specs.ShapeReading.{number_field, number_whole, integer_field, integer_whole, place_field, version_shape_at, cpus_shape_at, start_shape_at, floor_shape_at, task_shape_at, claim_shape_at, front_shape_at, shape_at}
 use Rattle.companion_file.proofs.Clip.{clip, clip_integer}
 use Rattle.companion_file.proofs.Starts.{start_again}
 use Rattle.companion_file.proofs.ReadFields.{spaced_from, number_field_again, number_whole_again, integer_field_again, integer_whole_again, place_field_again, number_field_taken, number_whole_taken, integer_field_taken, integer_whole_taken, place_field_taken}
 
 -- ---- what is spelled is read
 
-claim_tried : (sort : ClaimSort) (rest : List ℕ) → shape_at (spaced_from (sort_word sort) rest) ≡ claim_at sort rest
+claim_tried : (sort : ClaimSort) (rest : List ℕ) → shape_at (spaced_from (sort_word sort) rest) ≡ claim_shape_at sort rest
 unfolding shape_at after_text
 claim_tried At rest = refl
 claim_tried Pass rest = refl
 
-task_tried : (rest : List ℕ) → shape_at (spaced_from (codes "task") rest) ≡ task_at rest
+task_tried : (rest : List ℕ) → shape_at (spaced_from (codes "task") rest) ≡ task_shape_at rest
 unfolding shape_at after_text
 task_tried rest = refl
 
-floor_tried : (rest : List ℕ) → shape_at (spaced_from (codes "floor") rest) ≡ floor_at rest
+floor_tried : (rest : List ℕ) → shape_at (spaced_from (codes "floor") rest) ≡ floor_shape_at rest
 unfolding shape_at after_text
 floor_tried rest = refl
 
-start_tried : (rest : List ℕ) → shape_at (spaced_from (codes "start") rest) ≡ start_at rest
+start_tried : (rest : List ℕ) → shape_at (spaced_from (codes "start") rest) ≡ start_shape_at rest
 unfolding shape_at front_shape_at after_text
 start_tried rest = refl
 
-cpus_tried : (rest : List ℕ) → shape_at (spaced_from (codes "cpus") rest) ≡ cpus_at rest
+cpus_tried : (rest : List ℕ) → shape_at (spaced_from (codes "cpus") rest) ≡ cpus_shape_at rest
 unfolding shape_at front_shape_at after_text
 cpus_tried rest = refl
 
-version_tried : (rest : List ℕ) → shape_at (spaced_from (codes "cfs-companion") rest) ≡ version_at rest
+version_tried : (rest : List ℕ) → shape_at (spaced_from (codes "cfs-companion") rest) ≡ version_shape_at rest
 unfolding shape_at front_shape_at after_text
 version_tried rest = refl
 
 pub shape_again : (line : List ℕ) (x : Shape) → IsSpelled line x → shape_at line ≡ Some (clip x)
-unfolding version_at cpus_at floor_at task_at claim_at
+unfolding version_shape_at cpus_shape_at floor_shape_at task_shape_at claim_shape_at
 shape_again line (version_line n) p =
     ap shape_at p.2 ∙ version_tried p.0 ∙ rw (number_whole_again p.0 n p.1) refl
 shape_again line (cpus_line n) p =
@@ -81,22 +81,22 @@ same_task : (p q : ℕ) (n o : ℤ) (c d : ℕ) (v w : ℤ) (place : Place) → 
     → task_line (record { pid = p; nice = n; cpu = c; place = place; v = v }) ≡ task_line (record { pid = q; nice = o; cpu = d; place = place; v = w })
 same_task p q n o c d v w place e f g h = rw (e, f, g, h) refl
 
-version_found : (rest : List ℕ) (y : Shape) → version_at rest ≡ Some y → IsFound (spaced_from (codes "cfs-companion") rest) y
-unfolding version_at
+version_found : (rest : List ℕ) (y : Shape) → version_shape_at rest ≡ Some y → IsFound (spaced_from (codes "cfs-companion") rest) y
+unfolding version_shape_at
 version_found rest y e =
     let a = bind_some (number_whole rest) (λ n. Some (version_line 0)) y e in
     let t = number_whole_taken rest a.0 a.1 in
     (version_line t.0, (rest, t.1, refl), sym (some_is (version_line 0) y a.2))
 
-cpus_found : (rest : List ℕ) (y : Shape) → cpus_at rest ≡ Some y → IsFound (spaced_from (codes "cpus") rest) y
-unfolding cpus_at
+cpus_found : (rest : List ℕ) (y : Shape) → cpus_shape_at rest ≡ Some y → IsFound (spaced_from (codes "cpus") rest) y
+unfolding cpus_shape_at
 cpus_found rest y e =
     let a = bind_some (number_whole rest) (λ n. Some (cpus_line n)) y e in
     let t = number_whole_taken rest a.0 a.1 in
     (cpus_line t.0, (rest, t.1, refl), sym (some_is (cpus_line a.0) y a.2) ∙ ap cpus_line t.2)
 
-start_found : (rest : List ℕ) (y : Shape) → start_at rest ≡ Some y → IsFound (spaced_from (codes "start") rest) y
-unfolding start_at
+start_found : (rest : List ℕ) (y : Shape) → start_shape_at rest ≡ Some y → IsFound (spaced_from (codes "start") rest) y
+unfolding start_shape_at
 start_found rest y e =
     let a = bind_some (time_at rest) (λ time. cond (eqb (length time.2) 0) (Some (start_line time.0 time.1)) None) y e in
     elim (cases_Bool (eqb (length a.0.2) 0)) [
@@ -107,8 +107,8 @@ start_found rest y e =
       | inr more ↦ let none : None ≡ Some y = rw more at a.2 in absurd cc
     ]
 
-floor_found : (rest : List ℕ) (y : Shape) → floor_at rest ≡ Some y → IsFound (spaced_from (codes "floor") rest) y
-unfolding floor_at
+floor_found : (rest : List ℕ) (y : Shape) → floor_shape_at rest ≡ Some y → IsFound (spaced_from (codes "floor") rest) y
+unfolding floor_shape_at
 floor_found rest y e =
     let a = bind_some (number_field rest) (λ cpu. integer_whole cpu.1 >>= λ floor. Some (floor_line cpu.0 floor)) y e in
     let b = bind_some (integer_whole a.0.1) (λ floor. Some (floor_line a.0.0 floor)) y a.2 in
@@ -119,8 +119,8 @@ floor_found rest y e =
       sym (some_is (floor_line a.0.0 b.0) y b.2) ∙ same_floor a.0.0 (min t0.exact many) b.0 (clip_integer t1.0) t0.value t1.2,
     )
 
-claim_found : (sort : ClaimSort) (rest : List ℕ) (y : Shape) → claim_at sort rest ≡ Some y → IsFound (spaced_from (sort_word sort) rest) y
-unfolding claim_at
+claim_found : (sort : ClaimSort) (rest : List ℕ) (y : Shape) → claim_shape_at sort rest ≡ Some y → IsFound (spaced_from (sort_word sort) rest) y
+unfolding claim_shape_at
 claim_found sort rest y e =
     let a = bind_some (number_field rest) (λ line. number_field line.1 >>= λ pid. integer_whole pid.1 >>= λ v. Some (claim_line (record { line = line.0; pid = pid.0; v = v; sort = sort }))) y e in
     let b = bind_some (number_field a.0.1) (λ pid. integer_whole pid.1 >>= λ v. Some (claim_line (record { line = a.0.0; pid = pid.0; v = v; sort = sort }))) y a.2 in
@@ -134,8 +134,8 @@ claim_found sort rest y e =
           ∙ same_claim a.0.0 (min t0.exact many) b.0.0 (min t1.exact many) c.0 (clip_integer t2.0) sort t0.value t1.value t2.2,
     )
 
-task_found : (rest : List ℕ) (y : Shape) → task_at rest ≡ Some y → IsFound (spaced_from (codes "task") rest) y
-unfolding task_at
+task_found : (rest : List ℕ) (y : Shape) → task_shape_at rest ≡ Some y → IsFound (spaced_from (codes "task") rest) y
+unfolding task_shape_at
 task_found rest y e =
     let a = bind_some (number_field rest) (λ pid. integer_field pid.1 >>= λ nice. number_field nice.1 >>= λ cpu. place_field cpu.1 >>= λ place. integer_whole place.1 >>= λ v. Some (task_line (record { pid = pid.0; nice = nice.0; cpu = cpu.0; place = place.0; v = v }))) y e in
     let b = bind_some (integer_field a.0.1) (λ nice. number_field nice.1 >>= λ cpu. place_field cpu.1 >>= λ place. integer_whole place.1 >>= λ v. Some (task_line (record { pid = a.0.0; nice = nice.0; cpu = cpu.0; place = place.0; v = v }))) y a.2 in
@@ -169,11 +169,11 @@ moved word line rest y e same found =
 front_found : (line : List ℕ) (y : Shape) → front_shape_at line ≡ Some y → IsFound line y
 unfolding front_shape_at
 front_found line y e =
-    elim (tried start_at (after_text (codes "start ") line) _ y e) [
+    elim (tried start_shape_at (after_text (codes "start ") line) _ y e) [
       | inl p ↦ moved (codes "start") line p.0 y p.1 refl (start_found p.0 y p.2)
-      | inr f ↦ elim (tried cpus_at (after_text (codes "cpus ") line) _ y f) [
+      | inr f ↦ elim (tried cpus_shape_at (after_text (codes "cpus ") line) _ y f) [
         | inl p ↦ moved (codes "cpus") line p.0 y p.1 refl (cpus_found p.0 y p.2)
-        | inr g ↦ elim (tried version_at (after_text (codes "cfs-companion ") line) None y g) [
+        | inr g ↦ elim (tried version_shape_at (after_text (codes "cfs-companion ") line) None y g) [
           | inl p ↦ moved (codes "cfs-companion") line p.0 y p.1 refl (version_found p.0 y p.2)
           | inr h ↦ absurd cc
         ]
@@ -183,13 +183,13 @@ front_found line y e =
 pub shape_taken : (line : List ℕ) (y : Shape) → shape_at line ≡ Some y → IsFound line y
 unfolding shape_at
 shape_taken line y e =
-    elim (tried (claim_at At) (after_text (codes "at ") line) _ y e) [
+    elim (tried (claim_shape_at At) (after_text (codes "at ") line) _ y e) [
       | inl p ↦ moved (codes "at") line p.0 y p.1 refl (claim_found At p.0 y p.2)
-      | inr f ↦ elim (tried (claim_at Pass) (after_text (codes "pass ") line) _ y f) [
+      | inr f ↦ elim (tried (claim_shape_at Pass) (after_text (codes "pass ") line) _ y f) [
         | inl p ↦ moved (codes "pass") line p.0 y p.1 refl (claim_found Pass p.0 y p.2)
-        | inr g ↦ elim (tried task_at (after_text (codes "task ") line) _ y g) [
+        | inr g ↦ elim (tried task_shape_at (after_text (codes "task ") line) _ y g) [
           | inl p ↦ moved (codes "task") line p.0 y p.1 refl (task_found p.0 y p.2)
-          | inr h ↦ elim (tried floor_at (after_text (codes "floor ") line) (front_shape_at line) y h) [
+          | inr h ↦ elim (tried floor_shape_at (after_text (codes "floor ") line) (front_shape_at line) y h) [
             | inl p ↦ moved (codes "floor") line p.0 y p.1 refl (floor_found p.0 y p.2)
             | inr i ↦ front_found line y i
           ]

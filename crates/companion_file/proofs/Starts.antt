@@ -1,15 +1,15 @@
 -- The start is read just where the text is a time.
 use Rattle.std.proofs.Common.{◌≡◌, ℕ, cond, eqb, List, length, min, Option, Some, None, refl, inl, inr}
 use Rattle.std.proofs.lemmas.Bool.{cases_Bool}
-use Rattle.ftrace_line.specs.Time.{IsTime}
-use Rattle.ftrace_line.specs.Numerals.{many}
-use Rattle.ftrace_line.specs.Reading.{◌>>=◌, time_at}
-use Rattle.ftrace_line.proofs.Words.{time_word, time_from_word}
+use Rattle.text_parts.specs.Time.{IsTime}
+use Rattle.text_parts.specs.Numerals.{many}
+use Rattle.text_parts.specs.Reading.{◌>>=◌, time_at}
+use Rattle.text_parts.proofs.Words.{time_word, time_from_word}
 use Rattle.companion_file.specs.Shape.{start_line}
-use Rattle.companion_file.specs.LineReading.{start_at}
+use Rattle.companion_file.specs.ShapeReading.{start_shape_at}
 
-pub start_again : (text : List ℕ) (seconds nanoseconds : ℕ) → IsTime text seconds nanoseconds → start_at text ≡ Some (start_line (min seconds many) nanoseconds)
-unfolding start_at
+pub start_again : (text : List ℕ) (seconds nanoseconds : ℕ) → IsTime text seconds nanoseconds → start_shape_at text ≡ Some (start_line (min seconds many) nanoseconds)
+unfolding start_shape_at
 start_again text seconds nanoseconds time = rw (time_word text seconds nanoseconds time) refl
 
 none_where_none : (text : List ℕ) (read : Option (ℕ × ℕ × List ℕ)) → time_at text ≡ read → ((seconds nanoseconds : ℕ) → IsTime text seconds nanoseconds → ⊥) → (read >>= λ time. cond (eqb (length time.2) 0) (Some (start_line time.0 time.1)) None) ≡ None
@@ -20,6 +20,6 @@ none_where_none text (Some time) e none =
       | inr more ↦ rw more refl
     ]
 
-pub no_start : (text : List ℕ) → ((seconds nanoseconds : ℕ) → IsTime text seconds nanoseconds → ⊥) → start_at text ≡ None
-unfolding start_at
+pub no_start : (text : List ℕ) → ((seconds nanoseconds : ℕ) → IsTime text seconds nanoseconds → ⊥) → start_shape_at text ≡ None
+unfolding start_shape_at
 no_start text none = none_where_none text (time_at text) refl none

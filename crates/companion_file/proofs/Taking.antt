@@ -7,8 +7,8 @@ use Rattle.companion_file.specs.declared.fault.CompanionCause.{CompanionCause}
 use Rattle.companion_file.specs.declared.fault.Refusal.{Refusal}
 use Rattle.companion_file.specs.declared.fault.Refusal.TheVariants as refusals
 use Rattle.companion_file.specs.Shape.{Shape, version_line, cpus_line, start_line, floor_line, task_line, claim_line}
-use Rattle.companion_file.specs.VersionOne.{IsComment, IsGroup, IsSpelled}
-use Rattle.companion_file.specs.LineReading.{shape_at}
+use Rattle.companion_file.specs.VersionOne.{IsComment, IsControlGroup, IsSpelled}
+use Rattle.companion_file.specs.ShapeReading.{shape_at}
 use Rattle.companion_file.specs.Earlier.{Said}
 use Rattle.companion_file.specs.Tests.{fault_of, tested, IsJudgedFirst, IsJudgedLater, IsJudged}
 use Rattle.companion_file.specs.Draft.{with_line, Follows, TakesFirst, Takes}
@@ -47,7 +47,7 @@ first_taken old line (Err (refusals.Bad cause)) new content begun taken =
     (content, judged_at old line (Err cause) false begun (inr (taken.0, ap (λ (c : CompanionCause). Err c) taken.1)))
 first_taken old line (Err refusals.Memory) new content begun taken = tt
 
-pub later_taken : (old : Said) (line : List ℕ) (y : Shape) (r : Result Unit Refusal) (new : Said) → ¬ IsComment line → old.begun ≡ true → ¬ IsGroup line → unwrap_or old.cpus 0 ≤ 64
+pub later_taken : (old : Said) (line : List ℕ) (y : Shape) (r : Result Unit Refusal) (new : Said) → ¬ IsComment line → old.begun ≡ true → ¬ IsControlGroup line → unwrap_or old.cpus 0 ≤ 64
     → shape_at line ≡ Some y → Follows old y r new → Takes old line r new
 later_taken old line y (Ok u) new content begun plain few e follows =
     let found = shape_taken line y e in

@@ -5,12 +5,12 @@ use Rattle.companion_file.specs.declared.fault.CompanionCause.TheVariants.{Short
 use Rattle.companion_file.specs.declared.fault.CompanionFault.{CompanionFault}
 use Rattle.companion_file.specs.declared.fault.CompanionFault.TheVariants as faults
 use Rattle.companion_file.specs.declared.companion.Companion.{Companion}
-use Rattle.ftrace_line.specs.Lines.{lines_of}
+use Rattle.text_parts.specs.Lines.{lines_of}
 use Rattle.companion_file.specs.Shape.{Shape}
 use Rattle.companion_file.specs.VersionOne.{IsComment}
 use Rattle.companion_file.specs.Earlier.{summed, has_all_floors}
 use Rattle.companion_file.specs.Tests.{IsJudged}
-pub use Rattle.companion_file.specs.Reading.{CompanionReading, IsInOrder}
+pub use Rattle.companion_file.specs.Reading.{CompanionView, IsCompanionInOrder}
 
 -- after lines that said `earlier` each of these lines is a comment or good, and with them `said` is said
 abbrev pub AreGood : List Shape → List (List ℕ) → List Shape → Type 0
@@ -20,7 +20,7 @@ AreGood earlier (line ∷ lines) said =
     ⊎ ((¬ IsComment line) × ((x : Shape) × IsJudged (summed earlier) line (Ok x) × AreGood (earlier ++ x ∷ []) lines said))
 
 -- the first bad line, and why it is bad: the lines before it are good
-pub record IsFirstBad (lines : List (List ℕ)) (number : ℕ) (cause : CompanionCause) : Type 0 where
+pub record IsFirstBadCompanionLine (lines : List (List ℕ)) (number : ℕ) (cause : CompanionCause) : Type 0 where
   pub before : List (List ℕ)
   pub line : List ℕ
   pub after : List (List ℕ)
@@ -40,7 +40,7 @@ pub record IsShort (lines : List (List ℕ)) (number : ℕ) (cause : CompanionCa
   pub name : cause ≡ Short
 
 -- no line is bad and no floor is missing, and together they say r
-pub record IsRead (lines : List (List ℕ)) (r : CompanionReading) : Type 0 where
+pub record IsRead (lines : List (List ℕ)) (r : CompanionView) : Type 0 where
   pub said : List Shape
   pub good : AreGood [] lines said
   pub whole : has_all_floors (summed said) ≡ true
@@ -51,26 +51,26 @@ pub record IsRead (lines : List (List ℕ)) (r : CompanionReading) : Type 0 wher
   pub claims_is : r.claims ≡ (summed said).claims
 
 -- the lines are refused at a line for a cause
-abbrev pub IsRefused : List (List ℕ) → ℕ → CompanionCause → Type 0
-IsRefused lines number cause = IsFirstBad lines number cause ⊎ IsShort lines number cause
+abbrev pub IsRefusedCompanion : List (List ℕ) → ℕ → CompanionCause → Type 0
+IsRefusedCompanion lines number cause = IsFirstBadCompanionLine lines number cause ⊎ IsShort lines number cause
 
 -- a text means a companion, or it is refused at a line for a cause
-abbrev pub CompanionAnswer : List ℕ → Result CompanionReading (ℕ × CompanionCause) → Type 0
+abbrev pub CompanionAnswer : List ℕ → Result CompanionView (ℕ × CompanionCause) → Type 0
 CompanionAnswer text (Ok r) = IsRead (lines_of text) r
-CompanionAnswer text (Err fault) = IsRefused (lines_of text) fault.0 fault.1
+CompanionAnswer text (Err fault) = IsRefusedCompanion (lines_of text) fault.0 fault.1
 
 -- a companion without where it lies in memory
-abbrev pub shown : Companion → CompanionReading
-shown c = record { cpus = c.cpus; start = c.start; floors = c.floors; tasks = c.tasks; claims = c.claims }
+abbrev pub companion_view : Companion → CompanionView
+companion_view c = record { cpus = c.cpus; start = c.start; floors = c.floors; tasks = c.tasks; claims = c.claims }
 
 -- what was returned is this answer; of want of memory nothing is said
-abbrev pub Gives : Result Companion CompanionFault → Result CompanionReading (ℕ × CompanionCause) → Type 0
-Gives (Ok c) answer = answer ≡ Ok (shown c)
+abbrev pub Gives : Result Companion CompanionFault → Result CompanionView (ℕ × CompanionCause) → Type 0
+Gives (Ok c) answer = answer ≡ Ok (companion_view c)
 Gives (Err (faults.Text line cause)) answer = answer ≡ Err (line, cause)
 Gives (Err faults.Memory) answer = Unit {0}
 
 -- what was returned is what the text means; of want of memory nothing is said
 abbrev pub IsAnswered : List ℕ → Result Companion CompanionFault → Type 0
-IsAnswered text (Ok c) = CompanionAnswer text (Ok (shown c))
+IsAnswered text (Ok c) = CompanionAnswer text (Ok (companion_view c))
 IsAnswered text (Err (faults.Text line cause)) = CompanionAnswer text (Err (line, cause))
 IsAnswered text (Err faults.Memory) = Unit {0}

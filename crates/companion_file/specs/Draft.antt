@@ -12,7 +12,7 @@ use Rattle.companion_file.specs.declared.fault.CompanionFault.TheVariants as fau
 use Rattle.companion_file.specs.VersionOne.{first_line, IsComment}
 use Rattle.companion_file.specs.Earlier.{Said, has_all_floors, is_taken}
 use Rattle.cfs_model.specs.Charge.{IsInRange}
-use Rattle.companion_file.specs.Reading.{CompanionReading, IsTaskInLimits, RunApart, IsClaimInLimits}
+use Rattle.companion_file.specs.Reading.{CompanionView, IsTaskInLimits, RunApart, IsClaimInLimits}
 use Rattle.companion_file.specs.Tests.{fault_of, IsJudged}
 
 -- the processors are few, and of each it is known whether a task runs there
@@ -68,7 +68,7 @@ pub record KeepsOrder (said : Said) : Type 0 where
   pub lines_rise : AllPairs (λ a b. a.line < b.line) said.claims
 
 -- no floor is missing, and this is what was said
-pub record IsWhole (said : Said) (r : CompanionReading) : Type 0 where
+pub record IsCompleted (said : Said) (r : CompanionView) : Type 0 where
   pub whole : has_all_floors said ≡ true
   pub cpus_is : said.cpus ≡ Some r.cpus
   pub start_is : said.start ≡ Some r.start

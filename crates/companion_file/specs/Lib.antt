@@ -1,7 +1,7 @@
 pub mod Companion
 pub mod Draft
 pub mod Earlier
-pub mod LineReading
+pub mod ShapeReading
 pub mod Reading
 pub mod Shape
 pub mod Statement

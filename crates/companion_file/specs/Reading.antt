@@ -7,7 +7,7 @@ use Rattle.cfs_model.specs.Charge.{IsInRange}
 use Rattle.cfs_model.specs.Nice.{IsNice}
 
 -- the start state and the claims
-pub record CompanionReading : Type 0 where
+pub record CompanionView : Type 0 where
   -- the number of processors
   pub cpus : ℕ
   -- the start, in nanoseconds
@@ -39,7 +39,7 @@ abbrev pub RunApart : Task → Task → Type 0
 RunApart t u = t.place ≡ Run → u.place ≡ Run → t.cpu ≢ u.cpu
 
 -- what every companion keeps
-pub record IsInOrder (r : CompanionReading) : Type 0 where
+pub record IsCompanionInOrder (r : CompanionView) : Type 0 where
   pub cpus_in_limits : (1 ≤ r.cpus) × (r.cpus ≤ 64)
   pub start_in_limits : r.start < 4294967296 * 1000000000
   pub floor_for_each_cpu : length r.floors ≡ r.cpus

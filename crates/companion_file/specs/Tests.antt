@@ -5,7 +5,7 @@ use Rattle.cfs_model.specs.Charge.{greatest}
 use Rattle.companion_file.specs.declared.fault.CompanionCause.{CompanionCause}
 use Rattle.companion_file.specs.declared.fault.CompanionCause.TheVariants.{Version, Group, BadLine, Order, NumberRange, TwiceNamed, TwiceRunning, LineOrder}
 use Rattle.companion_file.specs.Shape.{Shape, version_line, cpus_line, start_line, floor_line, task_line, claim_line}
-use Rattle.companion_file.specs.VersionOne.{first_line, IsGroup, IsSpelled}
+use Rattle.companion_file.specs.VersionOne.{first_line, IsControlGroup, IsSpelled}
 use Rattle.companion_file.specs.Earlier.{Said, last_task, last_claim, has_all_floors, is_run, is_taken}
 
 -- a line of this sort is allowed here: after the first line `cpus` once, then `start` once, then a `floor` for each
@@ -84,9 +84,9 @@ IsJudgedFirst line r =
 -- what a later line comes to, after what was said
 abbrev pub IsJudgedLater : Said → List ℕ → Result Shape CompanionCause → Type 0
 IsJudgedLater said line r =
-    (IsGroup line × (r ≡ Err Group))
-    ⊎ ((¬ IsGroup line) × ((x : Shape) → ¬ IsSpelled line x) × (r ≡ Err BadLine))
-    ⊎ ((¬ IsGroup line) × ((x : Shape) × IsSpelled line x × (r ≡ tested said x)))
+    (IsControlGroup line × (r ≡ Err Group))
+    ⊎ ((¬ IsControlGroup line) × ((x : Shape) → ¬ IsSpelled line x) × (r ≡ Err BadLine))
+    ⊎ ((¬ IsControlGroup line) × ((x : Shape) × IsSpelled line x × (r ≡ tested said x)))
 
 -- what a line that is no comment comes to, after what was said: what it says, or why it is bad
 abbrev pub IsJudged : Said → List ℕ → Result Shape CompanionCause → Type 0

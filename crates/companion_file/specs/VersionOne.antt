@@ -5,8 +5,8 @@ use Rattle.cfs_model.specs.declared.task.Place.{Place}
 use Rattle.cfs_model.specs.declared.task.Place.TheVariants.{Run, Wait, Rest}
 use Rattle.cfs_model.specs.declared.claim.ClaimSort.{ClaimSort}
 use Rattle.cfs_model.specs.declared.claim.ClaimSort.TheVariants.{At, Pass}
-use Rattle.ftrace_line.specs.Numerals.{IsNumeral, value_of}
-use Rattle.ftrace_line.specs.Time.{IsTime}
+use Rattle.text_parts.specs.Numerals.{IsNumeral, value_of}
+use Rattle.text_parts.specs.Time.{IsTime}
 use Rattle.companion_file.specs.Shape.{Shape, version_line, cpus_line, start_line, floor_line, task_line, claim_line}
 
 -- the first line of every companion of this version
@@ -19,8 +19,8 @@ IsComment [] = Unit {0}
 IsComment (b ∷ bs) = b ≡ 35
 
 -- a line about a control group
-abbrev pub IsGroup : List ℕ → Type 0
-IsGroup line = (line ≡ codes "cgroup") ⊎ ((rest : List ℕ) × (line ≡ codes "cgroup " ++ rest))
+abbrev pub IsControlGroup : List ℕ → Type 0
+IsControlGroup line = (line ≡ codes "cgroup") ⊎ ((rest : List ℕ) × (line ≡ codes "cgroup " ++ rest))
 
 -- words with exactly one space between each two
 abbrev pub spaced : List (List ℕ) → List ℕ

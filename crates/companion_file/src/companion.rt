@@ -1,5 +1,5 @@
 ghost use Rattle.std.specs.Prelude.{◌≡◌};
-ghost use Rattle.companion_file.specs.Reading.{IsInOrder};
+ghost use Rattle.companion_file.specs.Reading.{IsCompanionInOrder};
 
 use crate::claims::Claims;
 use crate::floors::Floors;
@@ -14,7 +14,7 @@ pub struct Companion {
     floors: Floors,
     tasks: Tasks,
     claims: Claims,
-    pub ghost in_order: { IsInOrder (record { cpus = cpus; start = start; floors = floors; tasks = tasks; claims = claims }) },
+    pub ghost in_order: { IsCompanionInOrder (record { cpus = cpus; start = start; floors = floors; tasks = tasks; claims = claims }) },
 }
 
 impl Companion {
@@ -25,7 +25,7 @@ impl Companion {
         tasks: Tasks,
         claims: Claims,
     ) -> Companion
-        requires { IsInOrder (record { cpus = cpus; start = start; floors = floors; tasks = tasks; claims = claims }) }
+        requires { IsCompanionInOrder (record { cpus = cpus; start = start; floors = floors; tasks = tasks; claims = claims }) }
         ensures cpus { result.cpus ≡ cpus }
         ensures start { result.start ≡ start }
         ensures floors { result.floors ≡ floors }

@@ -5,8 +5,8 @@ ghost use Rattle.cfs_model.specs.declared.claim.Claim.{Claim};
 ghost use Rattle.companion_file.specs.Shape.{task_line};
 ghost use Rattle.companion_file.specs.Earlier.{summed, has_all_floors, last_task, last_claim, is_run, is_taken};
 ghost use Rattle.companion_file.specs.Tests.{is_in_limits};
-ghost use Rattle.companion_file.specs.Draft.{Adds, KeepsOrder, IsWhole};
-ghost use Rattle.companion_file.specs.Companion.{shown};
+ghost use Rattle.companion_file.specs.Draft.{Adds, KeepsOrder, IsCompleted};
+ghost use Rattle.companion_file.specs.Companion.{companion_view};
 
 mod saying;
 
@@ -163,7 +163,7 @@ impl Draft {
     /// What the lines said, once each processor has its floor.
     pub(crate) fn finish(self) -> Option<Companion>
         requires { KeepsOrder self }
-        ensures { MatchOption result (has_all_floors self ≡ false) (λ c. IsWhole self (shown c)) }
+        ensures { MatchOption result (has_all_floors self ≡ false) (λ c. IsCompleted self (companion_view c)) }
     {
         if !self.has_all_floors() {
             return None;

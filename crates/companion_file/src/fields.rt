@@ -1,16 +1,16 @@
 ghost use Rattle.std.specs.Prelude.{◌≡◌};
-ghost use Rattle.ftrace_line.specs.Reading.{Gives, after_text, numeral_at};
-ghost use Rattle.companion_file.specs.LineReading.{number_field, number_whole, integer_at, integer_field, integer_whole, place_field};
+ghost use Rattle.text_parts.specs.Reading.{Gives, after_text, numeral_at};
+ghost use Rattle.companion_file.specs.ShapeReading.{number_field, number_whole, integer_at, integer_field, integer_whole, place_field};
 
 use cfs_model::Place;
-use ftrace_line::numerals::number_at;
-use ftrace_line::pieces::after_front;
+use text_parts::numerals::number_at;
+use text_parts::pieces::after_front;
 
 /// A number above each virtual runtime. Larger ones are read as this one.
 const BEYOND: u64 = (1 << 62) + 1;
 
 #[inline(always)]
-#[tactic(auto, unfolding(ftrace_line::specs::Reading::numeral_at))]
+#[tactic(auto, unfolding(text_parts::specs::Reading::numeral_at))]
 fn numeral(text: &[u8]) -> Option<(u64, &[u8])>
     ensures { Gives (λ x. (x.0, x.1.now)) result (numeral_at text.now) }
 {
@@ -24,7 +24,7 @@ fn numeral(text: &[u8]) -> Option<(u64, &[u8])>
 
 /// A number and the space behind it.
 #[inline(always)]
-#[tactic(auto, unfolding(crate::specs::LineReading::number_field))]
+#[tactic(auto, unfolding(crate::specs::ShapeReading::number_field))]
 pub(crate) fn number_field(text: &[u8]) -> Option<(u64, &[u8])>
     ensures { Gives (λ x. (x.0, x.1.now)) result (number_field text.now) }
 {
@@ -35,7 +35,7 @@ pub(crate) fn number_field(text: &[u8]) -> Option<(u64, &[u8])>
 
 /// A number with nothing behind it.
 #[inline(always)]
-#[tactic(auto, unfolding(crate::specs::LineReading::number_whole))]
+#[tactic(auto, unfolding(crate::specs::ShapeReading::number_whole))]
 pub(crate) fn number_whole(text: &[u8]) -> Option<u64>
     ensures { Gives (λ n. n) result (number_whole text.now) }
 {
@@ -44,7 +44,7 @@ pub(crate) fn number_whole(text: &[u8]) -> Option<u64>
 }
 
 #[inline(always)]
-#[tactic(auto, unfolding(crate::specs::LineReading::integer_at))]
+#[tactic(auto, unfolding(crate::specs::ShapeReading::integer_at))]
 fn integer(text: &[u8]) -> Option<(i64, &[u8])>
     ensures { Gives (λ x. (x.0, x.1.now)) result (integer_at text.now) }
 {
@@ -62,7 +62,7 @@ fn integer(text: &[u8]) -> Option<(i64, &[u8])>
 
 /// An integer and the space behind it.
 #[inline(always)]
-#[tactic(auto, unfolding(crate::specs::LineReading::integer_field))]
+#[tactic(auto, unfolding(crate::specs::ShapeReading::integer_field))]
 pub(crate) fn integer_field(text: &[u8]) -> Option<(i64, &[u8])>
     ensures { Gives (λ x. (x.0, x.1.now)) result (integer_field text.now) }
 {
@@ -73,7 +73,7 @@ pub(crate) fn integer_field(text: &[u8]) -> Option<(i64, &[u8])>
 
 /// An integer with nothing behind it.
 #[inline(always)]
-#[tactic(auto, unfolding(crate::specs::LineReading::integer_whole))]
+#[tactic(auto, unfolding(crate::specs::ShapeReading::integer_whole))]
 pub(crate) fn integer_whole(text: &[u8]) -> Option<i64>
     ensures { Gives (λ z. z) result (integer_whole text.now) }
 {
@@ -83,7 +83,7 @@ pub(crate) fn integer_whole(text: &[u8]) -> Option<i64>
 
 /// A place and the space behind it.
 #[inline(always)]
-#[tactic(auto, unfolding(crate::specs::LineReading::place_field))]
+#[tactic(auto, unfolding(crate::specs::ShapeReading::place_field))]
 pub(crate) fn place_field(text: &[u8]) -> Option<(Place, &[u8])>
     ensures { Gives (λ x. (x.0, x.1.now)) result (place_field text.now) }
 {

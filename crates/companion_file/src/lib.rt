@@ -13,8 +13,6 @@ mod marks;
 mod reading;
 mod statement;
 mod tasks;
-#[cfg(test)]
-mod tests;
 mod version_one;
 
 pub use claims::Claims;

@@ -1,7 +1,7 @@
 ghost use Rattle.std.specs.Prelude.{◌≡◌, ◌↔◌, IsTrue};
-ghost use Rattle.companion_file.specs.VersionOne.{first_line, IsComment, IsGroup};
+ghost use Rattle.companion_file.specs.VersionOne.{first_line, IsComment, IsControlGroup};
 
-use ftrace_line::pieces::after_front;
+use text_parts::pieces::after_front;
 
 /// An empty line is a comment, and so is one that begins with `#`.
 #[inline(always)]
@@ -27,7 +27,7 @@ pub(crate) fn is_first(line: &[u8]) -> bool
 /// A line about a control group.
 #[inline(always)]
 pub(crate) fn is_group(line: &[u8]) -> bool
-    ensures { IsTrue result ↔ IsGroup line.now }
+    ensures { IsTrue result ↔ IsControlGroup line.now }
 {
     match after_front(line, b"cgroup") {
         None => false,

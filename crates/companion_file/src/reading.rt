@@ -1,24 +1,24 @@
 ghost use Rattle.std.specs.Prelude.{◌≡◌, ℕ, ◌+◌, ◌<◌, ◌^◌, List, Result, IsErrOf, IfOk};
-ghost use Rattle.ftrace_line.specs.Lines.{lines_of};
+ghost use Rattle.text_parts.specs.Lines.{lines_of};
 ghost use Rattle.companion_file.specs.declared.fault.CompanionCause.{CompanionCause};
-ghost use Rattle.companion_file.specs.Companion.{CompanionReading, CompanionAnswer, IsRefused, IsRead, IsAnswered, Gives, shown};
+ghost use Rattle.companion_file.specs.Companion.{CompanionView, CompanionAnswer, IsRefusedCompanion, IsRead, IsAnswered, Gives, companion_view};
 
 use crate::companion::Companion;
 use crate::draft::Draft;
 use crate::fault::{CompanionCause, CompanionFault};
-use ftrace_line::lines::next_line;
 use std::alloc::Global;
+use text_parts::lines::next_line;
 
 /// Reads the text of a companion: what it says, or its first bad line.
 pub fn read_companion(alloc: Global, text: &[u8]) -> Result<Companion, CompanionFault>
     // What is answered is what the text means.
     ensures answered { IsAnswered text.now result }
     // A refusal is of the first bad line, or the text ends too soon.
-    ensures refused { (line : ℕ) (cause : CompanionCause) → IsErrOf result (CompanionFault.Text line cause) → IsRefused (lines_of text.now) line cause }
+    ensures refused { (line : ℕ) (cause : CompanionCause) → IsErrOf result (CompanionFault.Text line cause) → IsRefusedCompanion (lines_of text.now) line cause }
     // What is read is what all lines say.
-    ensures read { IfOk result (λ c. IsRead (lines_of text.now) (shown c)) }
+    ensures read { IfOk result (λ c. IsRead (lines_of text.now) (companion_view c)) }
     // What the text means is answered, unless a growth was refused.
-    ensures only { (answer : Result CompanionReading (ℕ × CompanionCause)) → CompanionAnswer text.now answer → Gives result answer }
+    ensures only { (answer : Result CompanionView (ℕ × CompanionCause)) → CompanionAnswer text.now answer → Gives result answer }
 {
     companion_of(alloc, text)
 }

@@ -1,5 +1,5 @@
 use cfs_model::{ClaimSort, Place};
-use ftrace_line::time::Time;
+use text_parts::time::Time;
 
 /// What a line says, its numbers within their limits or not. A number far out of its limits is read as another one.
 #[derive(Clone, Copy)]

@@ -1,81 +1,81 @@
 ghost use Rattle.std.specs.Prelude.{◌≡◌};
-ghost use Rattle.ftrace_line.specs.Reading.{Gives};
-ghost use Rattle.companion_file.specs.LineReading.{version_at, cpus_at, start_at, floor_at, task_at, claim_at, front_shape_at, shape_at};
+ghost use Rattle.text_parts.specs.Reading.{Gives};
+ghost use Rattle.companion_file.specs.ShapeReading.{version_shape_at, cpus_shape_at, start_shape_at, floor_shape_at, task_shape_at, claim_shape_at, front_shape_at, shape_at};
 ghost use Rattle.companion_file.specs.Statement.{stated};
 
 use crate::fields::{integer_field, integer_whole, number_field, number_whole, place_field};
 use crate::statement::Statement;
 use cfs_model::ClaimSort;
-use ftrace_line::pieces::after_front;
-use ftrace_line::time::read_time;
+use text_parts::pieces::after_front;
+use text_parts::time::read_time;
 
 /// What a line says that has one of the shapes of version 1.
-#[tactic(auto, unfolding(crate::specs::LineReading::shape_at))]
+#[tactic(auto, unfolding(crate::specs::ShapeReading::shape_at))]
 pub(crate) fn statement_of(line: &[u8]) -> Option<Statement>
     ensures { Gives stated result (shape_at line.now) }
 {
     if let Some(text) = after_front(line, b"at ") {
-        claim_of(text, ClaimSort::At)
+        claim_shape(text, ClaimSort::At)
     } else if let Some(text) = after_front(line, b"pass ") {
-        claim_of(text, ClaimSort::Pass)
+        claim_shape(text, ClaimSort::Pass)
     } else if let Some(text) = after_front(line, b"task ") {
-        task_of(text)
+        task_shape(text)
     } else if let Some(text) = after_front(line, b"floor ") {
-        floor_of(text)
+        floor_shape(text)
     } else {
         front_statement_of(line)
     }
 }
 
 /// The same of the shapes that stand before the floors.
-#[tactic(auto, unfolding(crate::specs::LineReading::front_shape_at))]
+#[tactic(auto, unfolding(crate::specs::ShapeReading::front_shape_at))]
 fn front_statement_of(line: &[u8]) -> Option<Statement>
     ensures { Gives stated result (front_shape_at line.now) }
 {
     if let Some(text) = after_front(line, b"start ") {
-        start_of(text)
+        start_shape(text)
     } else if let Some(text) = after_front(line, b"cpus ") {
-        cpus_of(text)
+        cpus_shape(text)
     } else if let Some(text) = after_front(line, b"cfs-companion ") {
-        version_of(text)
+        version_shape(text)
     } else {
         None
     }
 }
 
-#[tactic(auto, unfolding(crate::specs::LineReading::version_at))]
-fn version_of(text: &[u8]) -> Option<Statement>
-    ensures { Gives stated result (version_at text.now) }
+#[tactic(auto, unfolding(crate::specs::ShapeReading::version_shape_at))]
+fn version_shape(text: &[u8]) -> Option<Statement>
+    ensures { Gives stated result (version_shape_at text.now) }
 {
     let _version = number_whole(text)?;
     Some(Statement::Version)
 }
 
-#[tactic(auto, unfolding(crate::specs::LineReading::cpus_at))]
-fn cpus_of(text: &[u8]) -> Option<Statement>
-    ensures { Gives stated result (cpus_at text.now) }
+#[tactic(auto, unfolding(crate::specs::ShapeReading::cpus_shape_at))]
+fn cpus_shape(text: &[u8]) -> Option<Statement>
+    ensures { Gives stated result (cpus_shape_at text.now) }
 {
     Some(Statement::Cpus(number_whole(text)?))
 }
 
-fn start_of(text: &[u8]) -> Option<Statement>
-    ensures { Gives stated result (start_at text.now) }
+fn start_shape(text: &[u8]) -> Option<Statement>
+    ensures { Gives stated result (start_shape_at text.now) }
 {
     Some(Statement::Start(read_time(text)?))
 }
 
-#[tactic(auto, unfolding(crate::specs::LineReading::floor_at))]
-fn floor_of(text: &[u8]) -> Option<Statement>
-    ensures { Gives stated result (floor_at text.now) }
+#[tactic(auto, unfolding(crate::specs::ShapeReading::floor_shape_at))]
+fn floor_shape(text: &[u8]) -> Option<Statement>
+    ensures { Gives stated result (floor_shape_at text.now) }
 {
     let (cpu, text) = number_field(text)?;
     let floor = integer_whole(text)?;
     Some(Statement::Floor { cpu, floor })
 }
 
-#[tactic(auto, unfolding(crate::specs::LineReading::task_at))]
-fn task_of(text: &[u8]) -> Option<Statement>
-    ensures { Gives stated result (task_at text.now) }
+#[tactic(auto, unfolding(crate::specs::ShapeReading::task_shape_at))]
+fn task_shape(text: &[u8]) -> Option<Statement>
+    ensures { Gives stated result (task_shape_at text.now) }
 {
     let (pid, text) = number_field(text)?;
     let (nice, text) = integer_field(text)?;
@@ -92,9 +92,9 @@ fn task_of(text: &[u8]) -> Option<Statement>
 }
 
 #[inline(always)]
-#[tactic(auto, unfolding(crate::specs::LineReading::claim_at))]
-fn claim_of(text: &[u8], sort: ClaimSort) -> Option<Statement>
-    ensures { Gives stated result (claim_at sort text.now) }
+#[tactic(auto, unfolding(crate::specs::ShapeReading::claim_shape_at))]
+fn claim_shape(text: &[u8], sort: ClaimSort) -> Option<Statement>
+    ensures { Gives stated result (claim_shape_at sort text.now) }
 {
     let (line, text) = number_field(text)?;
     let (pid, text) = number_field(text)?;

@@ -2,7 +2,7 @@
 use Rattle.std.proofs.Common.{◌≡◌, ℕ, ◌+◌, ◌*◌, ◌<◌, ◌≤◌, ◌⊎◌, false, leb, List, Option, Some, None, Ok, refl, sym, ◌∙◌, inl, inr, arith}
 use Rattle.std.proofs.lemmas.Bool.{cases_Bool, leb-true, leb-false, false≢true}
 use Rattle.ftrace_line.specs.declared.kinds.Which.{Which}
-use Rattle.ftrace_line.specs.Line.{IsEvent, IsBeyond, LineAnswer}
+use Rattle.ftrace_line.specs.Line.{IsEventLine, IsHeadOutOfRange, LineAnswer}
 use Rattle.ftrace_line.specs.Meaning.{after_loss, is_comment, is_end, kind_at, event_meaning, head_at, head_meaning, HeadParts, meaning_of}
 use Rattle.ftrace_line.proofs.Heads.{head_again, head_taken, TakesHead}
 use Rattle.ftrace_line.proofs.Losses.{lost_again, lost_taken, end_is}
@@ -11,7 +11,7 @@ use Rattle.ftrace_line.proofs.OneReading.{comment_again, comment_taken}
 
 -- a head in range, with the values that were read
 in_range : (line : List ℕ) (parts : HeadParts) → TakesHead line parts → parts.cpu ≤ 65535 →
-    parts.seconds ≤ 4294967295 → IsEvent line parts.cpu (parts.seconds * 1000000000 + parts.nanoseconds) parts.text
+    parts.seconds ≤ 4294967295 → IsEventLine line parts.cpu (parts.seconds * 1000000000 + parts.nanoseconds) parts.text
 in_range line parts t low_cpu low_seconds =
     let cpu_same : parts.cpu ≡ t.cpu = omega (arith, t.cpu_is) in
     let seconds_same : parts.seconds ≡ t.seconds = omega (arith, t.seconds_are) in
@@ -25,13 +25,13 @@ in_range line parts t low_cpu low_seconds =
     }
 
 event_answered : (line : List ℕ) (parts : HeadParts) (r : Option Which) → kind_at parts.text ≡ r →
-    IsEvent line parts.cpu (parts.seconds * 1000000000 + parts.nanoseconds) parts.text →
+    IsEventLine line parts.cpu (parts.seconds * 1000000000 + parts.nanoseconds) parts.text →
     LineAnswer line (Ok (event_meaning parts r))
 event_answered line parts None e event = record { cpu = parts.cpu; time = parts.seconds * 1000000000 + parts.nanoseconds; text = parts.text; event = event; unmarked = unmarked_taken parts.text e }
 event_answered line parts (Some which) e event = record { text = parts.text; event = event; marked = mark_taken parts.text which e }
 
 above : (line : List ℕ) (parts : HeadParts) → TakesHead line parts →
-    (65535 < parts.cpu) ⊎ (4294967295 < parts.seconds) → IsBeyond line
+    (65535 < parts.cpu) ⊎ (4294967295 < parts.seconds) → IsHeadOutOfRange line
 above line parts t (inl high) = record { cpu = t.cpu; seconds = t.seconds; nanoseconds = parts.nanoseconds; text = parts.text; head = t.head; beyond = inl (omega (arith, t.cpu_is)) }
 above line parts t (inr high) = record { cpu = t.cpu; seconds = t.seconds; nanoseconds = parts.nanoseconds; text = parts.text; head = t.head; beyond = inr (omega (arith, t.seconds_are)) }
 

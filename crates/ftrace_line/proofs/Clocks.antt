@@ -5,13 +5,14 @@ use Rattle.std.specs.Prelude.{IsTrue}
 use Rattle.std.specs.List.{list_all}
 use Rattle.std.proofs.lemmas.Bool.{and_parts, and_from, leb-true, eqb-true, ne_eqb}
 use Rattle.std.proofs.lemmas.List.{length-append}
-use Rattle.ftrace_line.specs.Numerals.{is_digit, many, IsRunOf}
-use Rattle.ftrace_line.specs.Time.{IsTime}
-use Rattle.ftrace_line.specs.Head.{is_space, IsGap, is_flag, IsFlags}
-use Rattle.ftrace_line.specs.Reading.{or_else, after_text, after_run, time_at}
+use Rattle.text_parts.specs.Numerals.{is_digit, many}
+use Rattle.text_parts.specs.Pieces.{IsRunOf, is_space, IsGap}
+use Rattle.text_parts.specs.Time.{IsTime}
+use Rattle.ftrace_line.specs.Head.{is_flag, IsFlags}
+use Rattle.text_parts.specs.Reading.{or_else, after_text, after_run, time_at}
 use Rattle.ftrace_line.specs.Meaning.{stamp_at, flagged_stamp_at}
-use Rattle.ftrace_line.proofs.Runs.{Stops, stops_at_run, run_again, run_taken, text_taken, text_again, bind_elim, some_is, none_from}
-use Rattle.ftrace_line.proofs.Times.{time_again, time_taken, TakesTime}
+use Rattle.text_parts.proofs.Runs.{Stops, stops_at_run, run_again, run_taken, text_taken, text_again, bind_elim, some_is, none_from}
+use Rattle.text_parts.proofs.Times.{time_again, time_taken, TakesTime}
 use Rattle.ftrace_line.proofs.HeadParts.{digit_is_no_space, flag_is_no_space}
 
 -- ---- a time and its colon

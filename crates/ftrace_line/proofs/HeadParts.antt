@@ -3,11 +3,12 @@ use Rattle.std.proofs.Common.{◌≡◌, ℕ, suc, ◌<◌, ◌≤◌, ◌==◌,
 use Rattle.std.specs.List.{prefix_len, take_while}
 use Rattle.std.proofs.lemmas.Bool.{cases_Bool, and_parts, or_parts, not-true, ltb-true, ltb-false, leb-true, eqb-true, ne_eqb, lt-ltb, le-ltb}
 use Rattle.std.proofs.lemmas.List.{drop_at, drop_more, take-append-drop, length-append, length-take-le, get_or_at}
-use Rattle.ftrace_line.specs.Numerals.{is_digit, value_of, many, IsRunOf, IsNumeral}
-use Rattle.ftrace_line.specs.Head.{is_space, IsGap, is_group_byte, IsGroup, is_flag}
-use Rattle.ftrace_line.specs.Reading.{or_else, after_text, after_run, front_value}
+use Rattle.text_parts.specs.Numerals.{is_digit, value_of, many, IsNumeral}
+use Rattle.text_parts.specs.Pieces.{IsRunOf, is_space, IsGap}
+use Rattle.ftrace_line.specs.Head.{is_group_byte, IsThreadGroup, is_flag}
+use Rattle.text_parts.specs.Reading.{or_else, after_text, after_run, front_value}
 use Rattle.ftrace_line.specs.Meaning.{after_name, after_brackets, after_group, processor_at}
-use Rattle.ftrace_line.proofs.Runs.{Stops, begins_with, BeginsWith, run_again, run_taken, text_taken, text_again, bind_elim, guard_some, some_is, front_is_run, front_and_rest, length_front}
+use Rattle.text_parts.proofs.Runs.{Stops, begins_with, BeginsWith, run_again, run_taken, text_taken, text_again, bind_elim, guard_some, some_is, front_is_run, front_and_rest, length_front}
 
 -- ---- bytes that are told apart
 
@@ -54,7 +55,7 @@ name_taken (b ∷ s) rest e =
 
 -- ---- the thread group
 
-pub group_again : (group rest : List ℕ) → IsGroup group → after_group (group ++ (91 ∷ rest)) ≡ Some (91 ∷ rest)
+pub group_again : (group rest : List ℕ) → IsThreadGroup group → after_group (group ++ (91 ∷ rest)) ≡ Some (91 ∷ rest)
 unfolding after_group after_brackets after_text
 group_again group rest (inl none) = rw none refl
 group_again group rest (inr (w, gap, run, space, whole)) =
@@ -63,20 +64,20 @@ group_again group rest (inr (w, gap, run, space, whole)) =
     ap (λ (t : List ℕ). t ++ text) whole ∙ ap (λ (t : List ℕ). 40 ∷ t) (append_assoc w (41 ∷ gap) text) in
     rw (regrouped, run_again is_group_byte w (41 ∷ (gap ++ text)) run refl, run_again is_space gap text space refl) refl
 
-pub group_stops : (group rest : List ℕ) → IsGroup group → Stops is_space (group ++ (91 ∷ rest))
+pub group_stops : (group rest : List ℕ) → IsThreadGroup group → Stops is_space (group ++ (91 ∷ rest))
 group_stops group rest (inl none) = rw none refl
 group_stops group rest (inr (w, gap, run, space, whole)) = rw whole refl
 
 brackets_from : (s group bracket gap rest : List ℕ) → s ≡ 40 ∷ group →
     (w : List ℕ) × IsRunOf is_group_byte w × (group ≡ w ++ bracket) → bracket ≡ 41 ∷ gap →
-    (v : List ℕ) × IsGap v × (gap ≡ v ++ rest) → (g : List ℕ) × IsGroup g × (s ≡ g ++ rest)
+    (v : List ℕ) × IsGap v × (gap ≡ v ++ rest) → (g : List ℕ) × IsThreadGroup g × (s ≡ g ++ rest)
 brackets_from s group bracket gap rest first (w, run, inside) second (v, space, behind) = (
   40 ∷ (w ++ (41 ∷ v)),
   inr (w, v, run, space, refl),
   first ∙ ap (λ (t : List ℕ). 40 ∷ t) (inside ∙ ap (λ (t : List ℕ). w ++ t) (second ∙ ap (λ (t : List ℕ). 41 ∷ t) behind) ∙ sym (append_assoc w (41 ∷ v) rest)),
 )
 
-pub brackets_taken : (s rest : List ℕ) → after_brackets s ≡ Some rest → (g : List ℕ) × IsGroup g × (s ≡ g ++ rest)
+pub brackets_taken : (s rest : List ℕ) → after_brackets s ≡ Some rest → (g : List ℕ) × IsThreadGroup g × (s ≡ g ++ rest)
 unfolding after_brackets
 brackets_taken s rest e =
     bind_elim (after_text (codes "(") s) _ rest e (λ group open_bracket e.
@@ -84,12 +85,12 @@ brackets_taken s rest e =
     bind_elim (after_text (codes ")") bracket) _ rest e (λ gap close_bracket e.
     brackets_from s group bracket gap rest (text_taken (codes "(") s group open_bracket) (run_taken is_group_byte group bracket inside) (text_taken (codes ")") bracket gap close_bracket) (run_taken is_space gap rest e))))
 
-group_from : (s rest : List ℕ) (r : Option (List ℕ)) → (r ≡ Some rest → (g : List ℕ) × IsGroup g × (s ≡ g ++ rest)) →
-    or_else r (Some s) ≡ Some rest → (g : List ℕ) × IsGroup g × (s ≡ g ++ rest)
+group_from : (s rest : List ℕ) (r : Option (List ℕ)) → (r ≡ Some rest → (g : List ℕ) × IsThreadGroup g × (s ≡ g ++ rest)) →
+    or_else r (Some s) ≡ Some rest → (g : List ℕ) × IsThreadGroup g × (s ≡ g ++ rest)
 group_from s rest (Some x) taken e = taken e
 group_from s rest None taken e = ([], inl refl, some_is s rest e)
 
-pub group_taken : (s rest : List ℕ) → after_group s ≡ Some rest → (g : List ℕ) × IsGroup g × (s ≡ g ++ rest)
+pub group_taken : (s rest : List ℕ) → after_group s ≡ Some rest → (g : List ℕ) × IsThreadGroup g × (s ≡ g ++ rest)
 unfolding after_group
 group_taken s rest e = group_from s rest (after_brackets s) (λ e. brackets_taken s rest e) e
 

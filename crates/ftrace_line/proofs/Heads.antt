@@ -1,10 +1,11 @@
 -- A head, both ways: what was read in front of a line is its head, and a line's head is what is read.
 use Rattle.std.proofs.Common.{◌≡◌, ℕ, List, ◌∷◌, ◌++◌, length, min, Option, Some, refl, ap, subst, ◌∙◌}
-use Rattle.ftrace_line.specs.Numerals.{is_digit, value_of, many, IsNumeral}
-use Rattle.ftrace_line.specs.Head.{is_space, IsGap, IsGroup, IsHead}
-use Rattle.ftrace_line.specs.Reading.{or_else, after_run}
+use Rattle.text_parts.specs.Numerals.{is_digit, value_of, many, IsNumeral}
+use Rattle.ftrace_line.specs.Head.{IsThreadGroup, IsHead}
+use Rattle.text_parts.specs.Pieces.{is_space, IsGap}
+use Rattle.text_parts.specs.Reading.{or_else, after_run}
 use Rattle.ftrace_line.specs.Meaning.{after_name, after_group, processor_at, stamp_at, flagged_stamp_at, HeadParts, head_at}
-use Rattle.ftrace_line.proofs.Runs.{stops_at_run, run_again, run_taken, bind_elim, some_is}
+use Rattle.text_parts.proofs.Runs.{stops_at_run, run_again, run_taken, bind_elim, some_is}
 use Rattle.ftrace_line.proofs.HeadParts.{space_is_no_digit, name_again, name_taken, group_again, group_stops, group_taken, processor_again, processor_taken, TakesProcessor}
 use Rattle.ftrace_line.proofs.Clocks.{clock_again, clock_stops, clock_taken, TakesClock}
 
@@ -52,7 +53,7 @@ head_from : (line pid pid_gap group bracket clock : List ℕ) (processor : ℕ �
     (name : List ℕ) × (length name ≡ 15) × (line ≡ 32 ∷ (name ++ (45 ∷ pid))) →
     (digits : List ℕ) × IsNumeral digits × (pid ≡ digits ++ pid_gap) →
     (gap : List ℕ) × IsGap gap × (pid_gap ≡ gap ++ group) →
-    (column : List ℕ) × IsGroup column × (group ≡ column ++ bracket) →
+    (column : List ℕ) × IsThreadGroup column × (group ≡ column ++ bracket) →
     TakesProcessor bracket processor.0 processor.1 →
     (space : List ℕ) × IsGap space × (processor.1 ≡ space ++ clock) →
     TakesClock clock stamp.0 stamp.1 stamp.2 →

@@ -1,10 +1,3 @@
-pub mod TextLines
-pub mod WholeLines
-pub mod Digits
-pub mod Runs
-pub mod Fronts
-pub mod Times
-pub mod Words
 pub mod HeadParts
 pub mod Clocks
 pub mod Heads

@@ -2,11 +2,11 @@
 use Rattle.std.proofs.Common.{◌≡◌, ℕ, true, false, eqb, leb, List, [], ◌∷◌, ◌++◌, Option, Some, None, refl, ap, ◌∙◌, inl, inr, arith, codes}
 use Rattle.std.specs.List.{list_all}
 use Rattle.std.proofs.lemmas.Bool.{and_parts, leb-true, ne_eqb}
-use Rattle.ftrace_line.specs.Numerals.{is_digit, IsNumeral}
+use Rattle.text_parts.specs.Numerals.{is_digit, IsNumeral}
 use Rattle.ftrace_line.specs.Line.{IsLoss, IsLost}
-use Rattle.ftrace_line.specs.Reading.{or_else, after_text, after_run}
+use Rattle.text_parts.specs.Reading.{or_else, after_text, after_run}
 use Rattle.ftrace_line.specs.Meaning.{after_count, after_loss, is_end}
-use Rattle.ftrace_line.proofs.Runs.{Stops, run_again, run_taken, text_taken, text_again, bind_elim}
+use Rattle.text_parts.proofs.Runs.{Stops, run_again, run_taken, text_taken, text_again, bind_elim}
 
 pub end_is : (r : Option (List ℕ)) → is_end r ≡ true → r ≡ Some []
 end_is None e = absurd cc

@@ -2,11 +2,11 @@
 use Rattle.std.proofs.Common.{◌≡◌, ◌≤◌, ℕ, Bool, true, false, cond, List, ◌++◌, length, Option, Some, None, refl, ap, arith, length-append}
 use Rattle.ftrace_line.specs.declared.kinds.Which.{Which}
 use Rattle.ftrace_line.specs.declared.kinds.Which.TheVariants.{Switch, Wakeup, WakeupNew, MigrateTask}
-use Rattle.ftrace_line.specs.Front.{begins_with}
+use Rattle.text_parts.specs.Pieces.{begins_with}
 use Rattle.ftrace_line.specs.Line.{mark_of}
 use Rattle.ftrace_line.specs.Meaning.{kind_at, fields_of}
-use Rattle.ftrace_line.proofs.Runs.{none_from, some_is}
-use Rattle.ftrace_line.proofs.Fronts.{front_then_rest}
+use Rattle.text_parts.proofs.Runs.{none_from, some_is}
+use Rattle.text_parts.proofs.Fronts.{front_then_rest}
 
 -- a text behind a mark is read as that event
 pub mark_again : (which : Which) (rest : List ℕ) → kind_at (mark_of which ++ rest) ≡ Some which

@@ -5,12 +5,12 @@ use Rattle.std.proofs.lemmas.Bool.{and_left, and_right, eqb-true, le-leb, lt-leb
 use Rattle.ftrace_line.specs.declared.kinds.Which.{Which}
 use Rattle.ftrace_line.specs.declared.fault.LineFault.{LineFault}
 use Rattle.ftrace_line.specs.declared.fault.LineFault.TheVariants.{BadHead, NumberRange}
-use Rattle.ftrace_line.specs.Numerals.{many}
+use Rattle.text_parts.specs.Numerals.{many}
 use Rattle.ftrace_line.specs.Head.{IsHead}
-use Rattle.ftrace_line.specs.Line.{LineReading, comment, lost, other, sched, IsComment, IsLost, IsEvent, IsSched, IsOther, IsBeyond, IsHeadless, LineAnswer}
-use Rattle.ftrace_line.specs.Reading.{after_text}
+use Rattle.ftrace_line.specs.Line.{LineView, comment, lost, other, sched, IsComment, IsLost, IsEventLine, IsSched, IsOther, IsHeadOutOfRange, IsHeadless, LineAnswer}
+use Rattle.text_parts.specs.Reading.{after_text}
 use Rattle.ftrace_line.specs.Meaning.{after_loss, is_comment, is_end, kind_at, event_meaning, head_at, head_meaning, meaning_of}
-use Rattle.ftrace_line.proofs.Runs.{none_from}
+use Rattle.text_parts.proofs.Runs.{none_from}
 use Rattle.ftrace_line.proofs.Heads.{head_again, head_taken, TakesHead, parts_found}
 use Rattle.ftrace_line.proofs.Losses.{lost_again, lost_taken, end_is}
 use Rattle.ftrace_line.proofs.Marks.{mark_again, fields_again, unmarked_again}
@@ -51,7 +51,7 @@ head_decides line cpu seconds nanoseconds text h =
 
 -- ---- what is so is answered
 
-event_only : (line : List ℕ) (cpu time : ℕ) (text : List ℕ) (e : IsEvent line cpu time text) →
+event_only : (line : List ℕ) (cpu time : ℕ) (text : List ℕ) (e : IsEventLine line cpu time text) →
     meaning_of line ≡ Ok (event_meaning (record { cpu = cpu; seconds = e.seconds; nanoseconds = e.nanoseconds; text = text }) (kind_at text))
 event_only line cpu time text e =
     let low_cpu : cpu ≤ 65535 = e.cpu_in_range in
@@ -73,7 +73,7 @@ beyond_test : (cpu seconds : ℕ) → (65535 < cpu) ⊎ (4294967295 < seconds) �
 beyond_test cpu seconds (inl high) = and_left (leb (min cpu many) 65535) (leb (min seconds many) 4294967295) (lt-leb (min cpu many) 65535 (omega arith))
 beyond_test cpu seconds (inr high) = and_right (leb (min cpu many) 65535) (leb (min seconds many) 4294967295) (lt-leb (min seconds many) 4294967295 (omega arith))
 
-beyond_only : (line : List ℕ) → IsBeyond line → meaning_of line ≡ Err NumberRange
+beyond_only : (line : List ℕ) → IsHeadOutOfRange line → meaning_of line ≡ Err NumberRange
 beyond_only line b = head_decides line b.cpu b.seconds b.nanoseconds b.text b.head ∙ rw (beyond_test b.cpu b.seconds b.beyond) refl
 
 headless_only : (line : List ℕ) → IsHeadless line → meaning_of line ≡ Err BadHead
@@ -95,7 +95,7 @@ unfolding meaning_of
 lost_only line l = rw (lost_is_no_comment line l, lost_again line l) refl
 
 -- what a line means is what is read
-pub answer_only : (line : List ℕ) (a : Result LineReading LineFault) → LineAnswer line a → meaning_of line ≡ a
+pub answer_only : (line : List ℕ) (a : Result LineView LineFault) → LineAnswer line a → meaning_of line ≡ a
 answer_only line (Ok comment) c = comment_only line c
 answer_only line (Ok lost) l = lost_only line l
 answer_only line (Ok other) o = other_only line o
@@ -104,5 +104,5 @@ answer_only line (Err BadHead) h = headless_only line h
 answer_only line (Err NumberRange) b = beyond_only line b
 
 -- a line has one meaning at most
-pub answers_agree : (line : List ℕ) (a b : Result LineReading LineFault) → LineAnswer line a → LineAnswer line b → a ≡ b
+pub answers_agree : (line : List ℕ) (a b : Result LineView LineFault) → LineAnswer line a → LineAnswer line b → a ≡ b
 answers_agree line a b p q = sym (answer_only line a p) ∙ answer_only line b q

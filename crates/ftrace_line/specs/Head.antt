@@ -1,24 +1,17 @@
 -- The head of an event's line in ftrace's plain format (ftrace.rst): the task's name in sixteen columns, its pid, the
 -- column of thread groups where it is printed, the processor, the word of flags where it is printed, and the time.
 use Rattle.std.specs.Prelude.{◌≡◌, ℕ, ◌≤◌, ◌⊎◌, ◌||◌, ◌==◌, not, Bool, List, [], ◌∷◌, codes, length}
-use Rattle.ftrace_line.specs.Numerals.{is_digit, value_of, IsRunOf, IsNumeral, joined}
-use Rattle.ftrace_line.specs.Time.{IsTime}
-
--- a space
-abbrev pub is_space : ℕ → Bool
-is_space byte = byte == 32
-
--- one or more spaces
-abbrev pub IsGap : List ℕ → Type 0
-IsGap text = IsRunOf is_space text
+use Rattle.text_parts.specs.Numerals.{is_digit, value_of, IsNumeral}
+use Rattle.text_parts.specs.Pieces.{IsRunOf, joined, is_space, IsGap}
+use Rattle.text_parts.specs.Time.{IsTime}
 
 -- the bytes of the column of thread groups: digits, and spaces or `-` where the group isn't known
 abbrev pub is_group_byte : ℕ → Bool
 is_group_byte byte = is_digit byte || (is_space byte || byte == 45)
 
 -- the column of thread groups, in round brackets, where it is printed
-abbrev pub IsGroup : List ℕ → Type 0
-IsGroup text =
+abbrev pub IsThreadGroup : List ℕ → Type 0
+IsThreadGroup text =
     (text ≡ [])
     ⊎ ((group gap : List ℕ) × IsRunOf is_group_byte group × IsGap gap × (text ≡ joined (codes "(" ∷ group ∷ codes ")" ∷ gap ∷ [])))
 
@@ -41,7 +34,7 @@ pub record IsHead (line : List ℕ) (cpu seconds nanoseconds : ℕ) (text : List
   pub pid_gap : List ℕ
   pub pid_gap_form : IsGap pid_gap
   pub group : List ℕ
-  pub group_form : IsGroup group
+  pub group_form : IsThreadGroup group
   pub processor : List ℕ
   pub processor_form : IsNumeral processor
   pub processor_width : 3 ≤ length processor

@@ -4,31 +4,32 @@ use Rattle.std.specs.Prelude.{◌≡◌, ℕ, ◌+◌, ◌*◌, ◌<◌, ◌≤�
 use Rattle.ftrace_line.specs.declared.kinds.Which.{Which}
 use Rattle.ftrace_line.specs.declared.kinds.Which.TheVariants.{Switch, Wakeup, WakeupNew, MigrateTask}
 use Rattle.ftrace_line.specs.declared.kinds.Line.{Line}
-use Rattle.ftrace_line.specs.declared.kinds.Line.TheVariants as shown
+use Rattle.ftrace_line.specs.declared.kinds.Line.TheVariants as line_variants
 use Rattle.ftrace_line.specs.declared.fault.LineFault.{LineFault}
 use Rattle.ftrace_line.specs.declared.fault.LineFault.TheVariants.{BadHead, NumberRange}
-use Rattle.ftrace_line.specs.Numerals.{IsNumeral, joined}
+use Rattle.text_parts.specs.Numerals.{IsNumeral}
+use Rattle.text_parts.specs.Pieces.{joined}
 use Rattle.ftrace_line.specs.Head.{IsHead}
 
 -- what a line means: an event of the scheduler has its head's processor, its time in nanoseconds, its kind, and the
 -- text of its fields
-pub data LineReading : Type 0 where
-  comment : LineReading
-  lost : LineReading
-  other : LineReading
-  sched : (cpu time : ℕ) (which : Which) (rest : List ℕ) → LineReading
+pub data LineView : Type 0 where
+  comment : LineView
+  lost : LineView
+  other : LineView
+  sched : (cpu time : ℕ) (which : Which) (rest : List ℕ) → LineView
 
 -- what a line as the program has it means
-abbrev pub line_shown : Line → LineReading
-line_shown shown.Comment = comment
-line_shown shown.Lost = lost
-line_shown shown.Other = other
-line_shown (shown.Sched event) = sched event.cpu event.time event.which event.rest.now
+abbrev pub line_view : Line → LineView
+line_view line_variants.Comment = comment
+line_view line_variants.Lost = lost
+line_view line_variants.Other = other
+line_view (line_variants.Sched event) = sched event.cpu event.time event.which event.rest.now
 
 -- what an answer of the program means
-abbrev pub line_seen : Result Line LineFault → Result LineReading LineFault
-line_seen (Ok line) = Ok (line_shown line)
-line_seen (Err fault) = Err fault
+abbrev pub line_answer_view : Result Line LineFault → Result LineView LineFault
+line_answer_view (Ok line) = Ok (line_view line)
+line_answer_view (Err fault) = Err fault
 
 -- a comment: nothing, or `#` and anything
 abbrev pub IsComment : List ℕ → Type 0
@@ -64,7 +65,7 @@ abbrev pub greatest_seconds : ℕ
 greatest_seconds = 4294967295
 
 -- an event's head in range: its line is the head and then this text, and its time is in nanoseconds
-pub record IsEvent (line : List ℕ) (cpu time : ℕ) (text : List ℕ) : Type 0 where
+pub record IsEventLine (line : List ℕ) (cpu time : ℕ) (text : List ℕ) : Type 0 where
   pub seconds : ℕ
   pub nanoseconds : ℕ
   pub head : IsHead line cpu seconds nanoseconds text
@@ -75,7 +76,7 @@ pub record IsEvent (line : List ℕ) (cpu time : ℕ) (text : List ℕ) : Type 0
 -- one of the four events
 pub record IsSched (line : List ℕ) (cpu time : ℕ) (which : Which) (rest : List ℕ) : Type 0 where
   pub text : List ℕ
-  pub event : IsEvent line cpu time text
+  pub event : IsEventLine line cpu time text
   pub marked : text ≡ mark_of which ++ rest
 
 -- any other event
@@ -83,11 +84,11 @@ pub record IsOther (line : List ℕ) : Type 0 where
   pub cpu : ℕ
   pub time : ℕ
   pub text : List ℕ
-  pub event : IsEvent line cpu time text
+  pub event : IsEventLine line cpu time text
   pub unmarked : (which : Which) (rest : List ℕ) → text ≡ mark_of which ++ rest → ⊥
 
 -- an event whose head has a processor or seconds out of range
-pub record IsBeyond (line : List ℕ) : Type 0 where
+pub record IsHeadOutOfRange (line : List ℕ) : Type 0 where
   pub cpu : ℕ
   pub seconds : ℕ
   pub nanoseconds : ℕ
@@ -102,10 +103,10 @@ pub record IsHeadless (line : List ℕ) : Type 0 where
   pub no_head : (cpu seconds nanoseconds : ℕ) (text : List ℕ) → IsHead line cpu seconds nanoseconds text → ⊥
 
 -- what a line means, or why it can't be read
-abbrev pub LineAnswer : List ℕ → Result LineReading LineFault → Type 0
+abbrev pub LineAnswer : List ℕ → Result LineView LineFault → Type 0
 LineAnswer line (Ok comment) = IsComment line
 LineAnswer line (Ok lost) = IsLost line
 LineAnswer line (Ok other) = IsOther line
 LineAnswer line (Ok (sched cpu time which rest)) = IsSched line cpu time which rest
 LineAnswer line (Err BadHead) = IsHeadless line
-LineAnswer line (Err NumberRange) = IsBeyond line
+LineAnswer line (Err NumberRange) = IsHeadOutOfRange line

@@ -6,11 +6,11 @@ use Rattle.ftrace_line.specs.declared.kinds.Which.{Which}
 use Rattle.ftrace_line.specs.declared.kinds.Which.TheVariants.{Switch, Wakeup, WakeupNew, MigrateTask}
 use Rattle.ftrace_line.specs.declared.fault.LineFault.{LineFault}
 use Rattle.ftrace_line.specs.declared.fault.LineFault.TheVariants.{BadHead, NumberRange}
-use Rattle.ftrace_line.specs.Numerals.{is_digit}
-use Rattle.ftrace_line.specs.Head.{is_space, is_group_byte, is_flag}
-use Rattle.ftrace_line.specs.Line.{LineReading, comment, lost, other, sched, mark_of, greatest_cpu, greatest_seconds}
-use Rattle.ftrace_line.specs.Front.{begins_with}
-use Rattle.ftrace_line.specs.Reading.{◌>>=◌, or_else, after_text, after_run, front_value, time_at}
+use Rattle.text_parts.specs.Numerals.{is_digit}
+use Rattle.ftrace_line.specs.Head.{is_group_byte, is_flag}
+use Rattle.text_parts.specs.Pieces.{is_space, begins_with}
+use Rattle.ftrace_line.specs.Line.{LineView, comment, lost, other, sched, mark_of, greatest_cpu, greatest_seconds}
+use Rattle.text_parts.specs.Reading.{◌>>=◌, or_else, after_text, after_run, front_value, time_at}
 
 -- what follows the space, the name and the `-`
 unfoldable pub after_name : List ℕ → Option (List ℕ)
@@ -97,11 +97,11 @@ abbrev pub fields_of : Which → List ℕ → List ℕ
 fields_of which text = drop (length (mark_of which)) text
 
 -- the meaning of a line of this kind
-abbrev pub event_meaning : HeadParts → Option Which → LineReading
+abbrev pub event_meaning : HeadParts → Option Which → LineView
 event_meaning head None = other
 event_meaning head (Some which) = sched head.cpu (head.seconds * 1000000000 + head.nanoseconds) which (fields_of which head.text)
 
-abbrev pub head_meaning : Option HeadParts → Result LineReading LineFault
+abbrev pub head_meaning : Option HeadParts → Result LineView LineFault
 head_meaning None = Err BadHead
 head_meaning (Some head) =
     if nat_le head.cpu greatest_cpu && nat_le head.seconds greatest_seconds
@@ -117,7 +117,7 @@ is_end None = false
 is_end (Some []) = true
 is_end (Some (byte ∷ text)) = false
 
-unfoldable pub meaning_of : List ℕ → Result LineReading LineFault
+unfoldable pub meaning_of : List ℕ → Result LineView LineFault
 meaning_of line =
     if is_comment line then Ok comment else
     (if is_end (after_loss line) then Ok lost else head_meaning (head_at line))

@@ -1,12 +1,12 @@
 ghost use Rattle.std.specs.Prelude.{◌≡◌, ◌≤◌, ◌∷◌, [], length, codes};
 ghost use Rattle.std.specs.List.{prefix_len};
 ghost use Rattle.ftrace_line.specs.Head.{is_group_byte, is_flag};
-ghost use Rattle.ftrace_line.specs.Reading.{Gives, or_else, after_text, after_run};
+ghost use Rattle.text_parts.specs.Reading.{Gives, or_else, after_text, after_run};
 ghost use Rattle.ftrace_line.specs.Meaning.{after_name, after_brackets, after_group, processor_at, stamp_at, flagged_stamp_at, head_at};
 
-use crate::numerals::{is_digit_byte, number_at};
-use crate::pieces::{after_byte, after_digits, after_gap, beyond};
-use crate::time::{Time, time_at};
+use text_parts::numerals::{is_digit_byte, number_at};
+use text_parts::pieces::{after_byte, after_digits, after_gap, beyond};
+use text_parts::time::{Time, time_at};
 
 /// The parts of an event line's head that are looked at, and the event's text behind it.
 #[derive(Drop)]
@@ -71,7 +71,7 @@ fn after_brackets(text: &[u8]) -> Option<&[u8]>
 
 /// What follows one or more bytes of a thread group.
 #[inline(always)]
-#[tactic(auto, unfolding(crate::specs::Reading::after_run))]
+#[tactic(auto, unfolding(text_parts::specs::Reading::after_run))]
 fn beyond_group(text: &[u8]) -> Option<&[u8]>
     ensures { Gives (λ x. x.now) result (after_run is_group_byte text.now) }
 {
@@ -80,7 +80,7 @@ fn beyond_group(text: &[u8]) -> Option<&[u8]>
 
 /// How many bytes of a thread group a text begins with.
 #[inline(always)]
-#[tactic(auto, using(crate::proofs::Runs::prefix_within))]
+#[tactic(auto, using(text_parts::proofs::Runs::prefix_within))]
 fn group_width(text: &[u8]) -> usize
     ensures count { result ≡ prefix_len is_group_byte text.now }
     ensures within { result ≤ length text.now }
@@ -138,7 +138,7 @@ fn flagged_stamp_at(text: &[u8]) -> Option<(Time, &[u8])>
 
 /// What follows one or more bytes of a word of flags.
 #[inline(always)]
-#[tactic(auto, unfolding(crate::specs::Reading::after_run))]
+#[tactic(auto, unfolding(text_parts::specs::Reading::after_run))]
 fn beyond_flags(text: &[u8]) -> Option<&[u8]>
     ensures { Gives (λ x. x.now) result (after_run is_flag text.now) }
 {
@@ -147,7 +147,7 @@ fn beyond_flags(text: &[u8]) -> Option<&[u8]>
 
 /// How many bytes of a word of flags a text begins with.
 #[inline(always)]
-#[tactic(auto, using(crate::proofs::Runs::prefix_within))]
+#[tactic(auto, using(text_parts::proofs::Runs::prefix_within))]
 fn flags_width(text: &[u8]) -> usize
     ensures count { result ≡ prefix_len is_flag text.now }
     ensures within { result ≤ length text.now }
@@ -159,7 +159,7 @@ fn flags_width(text: &[u8]) -> usize
 
 /// What follows a colon and a space.
 #[inline(always)]
-#[tactic(auto, unfolding(crate::specs::Reading::after_text))]
+#[tactic(auto, unfolding(text_parts::specs::Reading::after_text))]
 fn after_colon(text: &[u8]) -> Option<&[u8]>
     ensures { Gives (λ x. x.now) result (after_text (codes ": ") text.now) }
 {

@@ -4,13 +4,7 @@
 mod fault;
 mod head;
 mod kinds;
-pub mod lines;
-pub mod numerals;
-pub mod pieces;
 mod reading;
-#[cfg(test)]
-mod tests;
-pub mod time;
 
 pub use fault::LineFault;
 pub use kinds::{Line, Sched, Which};

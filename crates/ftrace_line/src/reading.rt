@@ -1,14 +1,14 @@
 ghost use Rattle.std.specs.Prelude.{◌≡◌, ◌≤◌, length, ◌∷◌, [], List, ℕ, ◌↔◌, IsErrOf, codes, Result};
 ghost use Rattle.ftrace_line.specs.declared.kinds.Which.TheVariants.{Switch};
 ghost use Rattle.ftrace_line.specs.declared.fault.LineFault.{LineFault as TheFault};
-ghost use Rattle.ftrace_line.specs.Line.{LineReading, LineAnswer, IsHeadless, IsBeyond, line_seen, mark_of};
-ghost use Rattle.ftrace_line.specs.Reading.{Gives, after_text};
+ghost use Rattle.ftrace_line.specs.Line.{LineView, LineAnswer, IsHeadless, IsHeadOutOfRange, line_answer_view, mark_of};
+ghost use Rattle.text_parts.specs.Reading.{Gives, after_text};
 ghost use Rattle.ftrace_line.specs.Meaning.{after_count, after_loss, kind_at, fields_of, is_comment, is_end, meaning_of};
 
 use crate::fault::LineFault;
 use crate::head::{HeadParts, head_at};
 use crate::kinds::{Line, Sched, Which};
-use crate::pieces::{after_digits, after_front, begins_with};
+use text_parts::pieces::{after_digits, after_front, begins_with};
 
 /// The greatest number of a processor.
 const GREATEST_CPU: u64 = 65_535;
@@ -24,9 +24,9 @@ const NANOSECONDS_A_SECOND: u64 = 1_000_000_000;
 /// The format is ftrace's plain one: a comment is empty or begins with `#`; a line of lost events is `CPU:0 [LOST EVENTS]`
 /// or `CPU:0 [LOST 12 EVENTS]`; an event stands behind a head.
 pub fn read_line<'a>(line: &'a [u8]) -> Result<Line<'a>, LineFault>
-    ensures answers { LineAnswer line.now (line_seen result) }
+    ensures answers { LineAnswer line.now (line_answer_view result) }
     ensures bad { IsErrOf result LineFault.BadHead ↔ IsHeadless line.now }
-    ensures range { IsErrOf result LineFault.NumberRange ↔ IsBeyond line.now }
+    ensures range { IsErrOf result LineFault.NumberRange ↔ IsHeadOutOfRange line.now }
 {
     if is_comment(line) {
         return Ok(Line::Comment);
@@ -53,7 +53,7 @@ pub fn read_line<'a>(line: &'a [u8]) -> Result<Line<'a>, LineFault>
 
 /// A line has at most one meaning, and that or one fault.
 pub fn one_reading()
-    ensures { (line : List ℕ) (a b : Result LineReading TheFault) → LineAnswer line a → LineAnswer line b → a ≡ b }
+    ensures { (line : List ℕ) (a b : Result LineView TheFault) → LineAnswer line a → LineAnswer line b → a ≡ b }
 {}
 
 /// Whether a line is a comment.
@@ -70,7 +70,7 @@ fn is_comment(line: &[u8]) -> bool
 
 /// Whether a line says that a processor lost events.
 #[inline(always)]
-#[tactic(auto, using(crate::proofs::Fronts::front_missing), unfolding(crate::specs::Meaning::after_loss))]
+#[tactic(auto, using(text_parts::proofs::Fronts::front_missing), unfolding(crate::specs::Meaning::after_loss))]
 fn is_lost(line: &[u8]) -> bool
     ensures { result ≡ is_end (after_loss line.now) }
 {

@@ -3,20 +3,19 @@ use Rattle.std.proofs.Common.{◌≡◌, ◌≢◌, ◌↔◌, ℕ, zero, suc, B
 use Rattle.std.specs.Int.{int_max}
 use Rattle.std.specs.List.{list_any, Any}
 use Rattle.std.proofs.lemmas.Int.{ints, clamps}
-use Rattle.std.proofs.lemmas.Bool.{false≢true, not-true, not_from_false}
+use Rattle.std.proofs.lemmas.Bool.{false≢true, not-true, not_from_false, or_parts, cases_eq}
 use Rattle.std.proofs.lemmas.List.Folds.{Any-from_list_any}
 use Rattle.std.proofs.lemmas.Option.{same_Some}
 use Rattle.std.proofs.lemmas.List.Elements.{All-cons, All-nil}
-use Rattle.std.proofs.lemmas.Bool.{or_parts, cases_eq}
-use Rattle.cfs_model.specs.Part.{Stander, start_part, IsIn, NobodyIn, IsIdlePart}
-use Rattle.cfs_model.specs.Placing.{IsInWakeBounds}
-use Rattle.cfs_model.specs.Standing.{HasOtherNice, IsRunner}
+use Rattle.replay_model.specs.Part.{Entity, start_part, IsIn, NobodyIn, IsIdlePart}
+use Rattle.replay_model.specs.ClaimTests.{IsInWakeBounds}
+use Rattle.replay_model.specs.QueueTests.{HasOtherNice, IsRunner}
 use Rattle.cfs_model.specs.Start.{place_eq, task_of}
 use Rattle.cfs_model.specs.declared.task.Place.{Place}
 use Rattle.cfs_model.specs.declared.task.Place.TheVariants.{Run, Wait, Rest}
 use Rattle.cfs_model.specs.declared.task.Task.{Task}
-use Rattle.queue_replay.specs.Queue.{IdlesBeside, IsBeyond}
-use Rattle.queue_replay.specs.Rows.{standing, EachOnce, IsBelow, runs, waits}
+use Rattle.queue_replay.specs.Queue.{IdlesBeside, IsAboveGranularity}
+use Rattle.queue_replay.specs.TaskList.{standing, EachOnce, IsBelow, runs, waits}
 use Rattle.queue_replay.proofs.Parts.{stands, row_of, stands_row, stands_each}
 use Rattle.queue_replay.proofs.TaskOf.{task_of-each, task_of-first, task_of-later, option_cases}
 
@@ -37,8 +36,8 @@ place_eq-same Wait = refl
 place_eq-same Rest = refl
 
 -- a row of this pid, where one has it
-pub some_row : (tasks : List Task) (pid : ℕ) (t : Task) (P : Stander → Type 0) (b : Bool) → task_of tasks pid ≡ Some t
-    → (IsTrue b ↔ P (standing t)) → (IsTrue b ↔ ((s : Stander) × (stands tasks pid ≡ Some s) × P s))
+pub some_row : (tasks : List Task) (pid : ℕ) (t : Task) (P : Entity → Type 0) (b : Bool) → task_of tasks pid ≡ Some t
+    → (IsTrue b ↔ P (standing t)) → (IsTrue b ↔ ((s : Entity) × (stands tasks pid ≡ Some s) × P s))
 some_row tasks pid t P b e same = (
   (λ h. (standing t, stands_row tasks pid t e, same.0 h)),
   (λ h. same.1 (subst P (same_Some h.0 (standing t) (sym h.1 ∙ stands_row tasks pid t e)) h.2)),
@@ -49,16 +48,16 @@ pub other_nice : (tasks : List Task) (floor : ℤ) (mark pid : ℕ) (t : Task) (
     → (IsTrue b ↔ (t.nice ≢ nice)) → (IsTrue b ↔ HasOtherNice (start_part tasks floor mark) pid nice)
 other_nice tasks floor mark pid t nice b e same = (
   (λ h. record { task = standing t; stands = stands_row tasks pid t e; other = same.0 h }),
-  (λ h. same.1 (subst (λ (s : Stander). s.nice ≢ nice) (same_Some h.task (standing t) (sym h.stands ∙ stands_row tasks pid t e)) h.other)),
+  (λ h. same.1 (subst (λ (s : Entity). s.nice ≢ nice) (same_Some h.task (standing t) (sym h.stands ∙ stands_row tasks pid t e)) h.other)),
 )
 
 -- a row outside its wakeup's bounds
 pub outside : (tasks : List Task) (credit : ℕ) (floor v : ℤ) (pid : ℕ) (t : Task) (b : Bool) → task_of tasks pid ≡ Some t → t.place ≡ Rest
     → (IsTrue b ↔ IsInWakeBounds credit floor t.v v)
-    → (IsTrue (not b) ↔ ((s : Stander) × (stands tasks pid ≡ Some s) × (s.place ≡ Rest) × (¬ IsInWakeBounds credit floor s.runtime v)))
+    → (IsTrue (not b) ↔ ((s : Entity) × (stands tasks pid ≡ Some s) × (s.place ≡ Rest) × (¬ IsInWakeBounds credit floor s.runtime v)))
 outside tasks credit floor v pid t b e rests same = (
   (λ h. (standing t, stands_row tasks pid t e, rests, λ k. false≢true (sym (not-true b h) ∙ same.1 k))),
-  (λ h. not_from_false b (false_or b (λ k. h.3 (subst (λ (s : Stander). IsInWakeBounds credit floor s.runtime v)
+  (λ h. not_from_false b (false_or b (λ k. h.3 (subst (λ (s : Entity). IsInWakeBounds credit floor s.runtime v)
       (same_Some (standing t) h.0 (sym (stands_row tasks pid t e) ∙ h.1)) (same.0 k))))),
 )
   where
@@ -71,13 +70,13 @@ pub row_in : (tasks : List Task) (floor : ℤ) (mark : ℕ) (place : Place) (pid
     → (t : Task) × (task_of tasks pid ≡ Some t) × (t.place ≡ place)
 row_in tasks floor mark place pid h =
     elim (option_cases (task_of tasks pid)) [
-      | inl none ↦ let f : None ≡ Some place = sym (ap (λ o. option_map (λ (s : Stander). s.place) (option_map standing o)) none) ∙ h in absurd cc
-      | inr some ↦ (some.0, some.1, same_Some some.0.place place (sym (ap (λ o. option_map (λ (s : Stander). s.place) (option_map standing o)) some.1) ∙ h))
+      | inl none ↦ let f : None ≡ Some place = sym (ap (λ o. option_map (λ (s : Entity). s.place) (option_map standing o)) none) ∙ h in absurd cc
+      | inr some ↦ (some.0, some.1, same_Some some.0.place place (sym (ap (λ o. option_map (λ (s : Entity). s.place) (option_map standing o)) some.1) ∙ h))
     ]
 
 pub in_row : (tasks : List Task) (floor : ℤ) (mark : ℕ) (place : Place) (pid : ℕ) (t : Task) → task_of tasks pid ≡ Some t → t.place ≡ place
     → IsIn (start_part tasks floor mark) place pid
-in_row tasks floor mark place pid t e p = ap (λ o. option_map (λ (s : Stander). s.place) (option_map standing o)) e ∙ ap Some p
+in_row tasks floor mark place pid t e p = ap (λ o. option_map (λ (s : Entity). s.place) (option_map standing o)) e ∙ ap Some p
 
 none_passes : (p : Task → Bool) (tasks : List Task) → list_any p tasks ≡ false → All (λ t. p t ≡ false) tasks
 none_passes p [] e = All-nil (λ t. p t ≡ false)
@@ -105,7 +104,7 @@ pub somebody : (tasks : List Task) (floor : ℤ) (mark : ℕ) (place : Place) �
 somebody tasks floor mark place once e =
     let a = Any-from_list_any (λ t. place_eq t.place place) tasks e in
     let t = a.1 in
-    (t.pid, ap (option_map (λ (s : Stander). s.place)) (stands_each tasks once t (a.0, a.2, a.3)) ∙ ap Some (place_eq-true t.place place a.4))
+    (t.pid, ap (option_map (λ (s : Entity). s.place)) (stands_each tasks once t (a.0, a.2, a.3)) ∙ ap Some (place_eq-true t.place place a.4))
 
 pub is_runner : (tasks : List Task) (floor : ℤ) (mark pid : ℕ) (b : Bool) → EachOnce tasks → pid ≡ 0 → b ≡ list_any runs tasks
     → (IsTrue (not b) ↔ IsRunner (start_part tasks floor mark) pid)
@@ -130,7 +129,7 @@ idles_not tasks floor mark (suc n) any pid h = h
 idles_not tasks floor mark zero any pid h = nobody tasks floor mark Wait (any refl) h.0.0 h.0.1
 
 pub beyond : (tasks : List Task) (floor : ℤ) (mark granularity next : ℕ) (own : Task) → EachOnce tasks → next ≢ 0
-    → Any (IsBelow granularity own.v) tasks → IsBeyond granularity (Some (standing own)) (start_part tasks floor mark) next next
+    → Any (IsBelow granularity own.v) tasks → IsAboveGranularity granularity (Some (standing own)) (start_part tasks floor mark) next next
 beyond tasks floor mark granularity zero own once ne any = absurd (ne refl)
 beyond tasks floor mark granularity (suc n) own once ne any =
     let t = any.1 in
@@ -138,16 +137,16 @@ beyond tasks floor mark granularity (suc n) own once ne any =
 
 pub beyond_not : (tasks : List Task) (floor : ℤ) (mark granularity next : ℕ) (own : Task) → EachOnce tasks
     → (next ≢ 0 → Any (IsBelow granularity own.v) tasks → ⊥)
-    → (pid : ℕ) → ¬ IsBeyond granularity (Some (standing own)) (start_part tasks floor mark) next pid
+    → (pid : ℕ) → ¬ IsAboveGranularity granularity (Some (standing own)) (start_part tasks floor mark) next pid
 beyond_not tasks floor mark granularity zero own once none pid h = h
 beyond_not tasks floor mark granularity (suc n) own once none pid h =
     let s = h.0.0 in
     let t = h.0.1 in
     let r = row_of tasks h.0.2 t h.0.4 in
     let same : s ≡ standing own = sym (same_Some (standing own) s h.0.3) in
-    let low : (t.runtime +ℤ pos granularity) <ℤ own.v = subst (λ (x : Stander). (t.runtime +ℤ pos granularity) <ℤ x.runtime) same h.0.6 in
-    let low' : (r.0.v +ℤ pos granularity) <ℤ own.v = subst (λ (x : Stander). (x.runtime +ℤ pos granularity) <ℤ own.v) (sym r.2) low in
-    let waiting : place_eq r.0.place Wait ≡ true = ap (λ (x : Stander). place_eq x.place Wait) r.2 ∙ ap (λ p. place_eq p Wait) h.0.5 in
+    let low : (t.runtime +ℤ pos granularity) <ℤ own.v = subst (λ (x : Entity). (t.runtime +ℤ pos granularity) <ℤ x.runtime) same h.0.6 in
+    let low' : (r.0.v +ℤ pos granularity) <ℤ own.v = subst (λ (x : Entity). (x.runtime +ℤ pos granularity) <ℤ own.v) (sym r.2) low in
+    let waiting : place_eq r.0.place Wait ≡ true = ap (λ (x : Entity). place_eq x.place Wait) r.2 ∙ ap (λ p. place_eq p Wait) h.0.5 in
     let c = contains tasks h.0.2 r.0 r.1 in
     none (λ e. absurd (omega (arith, e))) (c.0, r.0, c.1, c.2, (waiting, low'))
 

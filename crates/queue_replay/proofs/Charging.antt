@@ -11,7 +11,7 @@ use Rattle.cfs_model.specs.Nice.{weight_of}
 use Rattle.cfs_model.specs.Start.{place_eq}
 use Rattle.cfs_model.specs.declared.task.Place.TheVariants.{Run}
 use Rattle.cfs_model.specs.declared.task.Task.{Task}
-use Rattle.queue_replay.specs.Rows.{runs, is_queued, queued_runtimes, cost_of, charged_task, CanBeCharged, IsLeastOf}
+use Rattle.queue_replay.specs.TaskList.{runs, is_queued, queued_runtimes, cost_of, charged_task, CanBeCharged, IsLeastOf}
 
 -- a task in the place of those that run does run
 pub runs-from_place : (t : Task) → t.place ≡ Run → runs t ≡ true

@@ -5,16 +5,16 @@ use Rattle.std.proofs.lemmas.Bool.{eq-eqb, ne_eqb, cond-true, cond-false, cases_
 use Rattle.std.proofs.lemmas.List.Edits.{map_over_more}
 use Rattle.std.proofs.lemmas.List.Elements.{All-cons, All-nil}
 use Rattle.std.proofs.lemmas.Option.{same_Some}
-use Rattle.cfs_model.specs.Noted.{charged_tally, charged_tallies, after_run}
-use Rattle.cfs_model.specs.Part.{Part, Stander, start_part, IsIn, cost_in}
+use Rattle.replay_model.specs.Noted.{charged_tally, charged_tallies, tallies_after_run}
+use Rattle.replay_model.specs.Part.{Part, Entity, start_part, IsIn, cost_in}
 use Rattle.cfs_model.specs.Start.{place_eq}
-use Rattle.cfs_model.specs.declared.page.Tally.{Tally}
+use Rattle.replay_model.specs.declared.page.Tally.{Tally}
 use Rattle.cfs_model.specs.declared.task.Place.{Place}
 use Rattle.cfs_model.specs.declared.task.Place.TheVariants.{Run, Wait, Rest}
 use Rattle.cfs_model.specs.declared.task.Task.{Task}
 use Rattle.queue_replay.specs.Counting.{ran_tally, stretched, IsWithin}
-use Rattle.queue_replay.specs.Queue.{OneRuns}
-use Rattle.queue_replay.specs.Rows.{runs, cost_of, EachOnce}
+use Rattle.queue_replay.specs.Queue.{OneRunsHere}
+use Rattle.queue_replay.specs.TaskList.{runs, cost_of, EachOnce}
 use Rattle.queue_replay.proofs.Answered.{place_eq-true, row_in}
 use Rattle.queue_replay.proofs.Parts.{stands, stands_each}
 use Rattle.queue_replay.proofs.TaskOf.{task_of-each}
@@ -61,24 +61,24 @@ map_none f e [] = refl
 map_none f e (x ∷ xs) = ap (λ y. y ∷ map f xs) (e x) ∙ ap (λ l. x ∷ l) (map_none f e xs)
 
 -- a tally of one who doesn't run stays
-unrun : (part : Part) (time : ℕ) (o : Option Stander) (tally : Tally) → (option_map (λ (s : Stander). s.place) o ≡ Some Run → ⊥)
+unrun : (part : Part) (time : ℕ) (o : Option Entity) (tally : Tally) → (option_map (λ (s : Entity). s.place) o ≡ Some Run → ⊥)
     → charged_tally part time o tally ≡ tally
 unrun part time None tally ne = refl
 unrun part time (Some s) tally ne = go s.place refl
   where
     go : (p : Place) → s.place ≡ p → charged_tally part time (Some s) tally ≡ tally
     go Run e = absurd (ne (ap Some e))
-    go Wait e = ap (λ q. after_run q (time - part.mark) (cost_in part time s) tally) e
-    go Rest e = ap (λ q. after_run q (time - part.mark) (cost_in part time s) tally) e
+    go Wait e = ap (λ q. tallies_after_run q (time - part.mark) (cost_in part time s) tally) e
+    go Rest e = ap (λ q. tallies_after_run q (time - part.mark) (cost_in part time s) tally) e
 
-module _ (tasks : List Task) (floor : ℤ) (mark time : ℕ) (once : EachOnce tasks) (one : OneRuns (start_part tasks floor mark)) where
+module _ (tasks : List Task) (floor : ℤ) (mark time : ℕ) (once : EachOnce tasks) (one : OneRunsHere (start_part tasks floor mark)) where
   abbrev part : Part
   part = start_part tasks floor mark
 
   runner_in : (t : Task) → find runs tasks ≡ Some t → IsIn (start_part tasks floor mark) Run t.pid
   runner_in t e =
       let f = find_some runs tasks t e in
-      ap (option_map (λ (s : Stander). s.place)) (stands_each tasks once t f.0) ∙ ap Some (place_eq-true t.place Run f.1)
+      ap (option_map (λ (s : Entity). s.place)) (stands_each tasks once t f.0) ∙ ap Some (place_eq-true t.place Run f.1)
 
   one_tally : (t : Task) → find runs tasks ≡ Some t → (tally : Tally)
       → charged_tally (start_part tasks floor mark) time (stands tasks tally.pid) tally ≡ ran_tally t.pid (time - mark) (cost_of (time - mark) t) tally
@@ -87,7 +87,7 @@ module _ (tasks : List Task) (floor : ℤ) (mark time : ℕ) (once : EachOnce ta
       elim (cases_eq tally.pid t.pid) [
         | inl same ↦
             ap (λ o. charged_tally (start_part tasks floor mark) time o tally) (ap (stands tasks) same ∙ stands_each tasks once t f.0)
-            ∙ ap (λ p. after_run p (time - mark) (cost_of (time - mark) t) tally) (place_eq-true t.place Run f.1)
+            ∙ ap (λ p. tallies_after_run p (time - mark) (cost_of (time - mark) t) tally) (place_eq-true t.place Run f.1)
             ∙ sym (cond-true (eqb tally.pid t.pid) _ tally (eq-eqb _ _ same))
         | inr other ↦
             unrun (start_part tasks floor mark) time (stands tasks tally.pid) tally (λ h. other (one tally.pid t.pid h (runner_in t e)))

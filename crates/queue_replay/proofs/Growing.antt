@@ -4,17 +4,17 @@ use Rattle.std.specs.List.{list_any, find}
 use Rattle.std.proofs.lemmas.Bool.{cases_lt}
 use Rattle.std.proofs.lemmas.List.Elements.{All-map, All-weaker, All-push}
 use Rattle.cfs_model.specs.Charge.{greatest}
-use Rattle.cfs_model.specs.Noted.{with_tally, new_tally, tallied}
-use Rattle.cfs_model.specs.Part.{Part, Stander, start_part, charged_in, IsIn, IsLiftedPart}
-use Rattle.cfs_model.specs.Standing.{IsOutOfRange}
-use Rattle.cfs_model.specs.declared.page.Tally.{Tally}
-use Rattle.cfs_model.specs.declared.step.Deed.{Deed}
-use Rattle.cfs_model.specs.declared.step.Deed.TheVariants.{Switch, Wake, Born, Leave, Arrive}
+use Rattle.replay_model.specs.Noted.{with_tally, new_tally, tallied}
+use Rattle.replay_model.specs.Part.{Part, Entity, start_part, charged_in, IsIn, IsLiftedPart}
+use Rattle.replay_model.specs.QueueTests.{IsOutOfRange}
+use Rattle.replay_model.specs.declared.page.Tally.{Tally}
+use Rattle.replay_model.specs.declared.step.Deed.{Deed}
+use Rattle.replay_model.specs.declared.step.Deed.TheVariants.{Switch, Wake, Born, Leave, Arrive}
 use Rattle.cfs_model.specs.declared.task.Place.TheVariants.{Run}
 use Rattle.cfs_model.specs.declared.task.Task.{Task}
 use Rattle.queue_replay.specs.Counting.{ran_tally, picked_tally, stretched, IsWithin}
-use Rattle.queue_replay.specs.Queue.{OneRuns}
-use Rattle.queue_replay.specs.Rows.{runs, cost_of, standing, EachOnce}
+use Rattle.queue_replay.specs.Queue.{OneRunsHere}
+use Rattle.queue_replay.specs.TaskList.{runs, cost_of, standing, EachOnce}
 use Rattle.queue_replay.proofs.Answered.{place_eq-true}
 use Rattle.queue_replay.proofs.Counts.{find_some}
 use Rattle.queue_replay.proofs.Parts.{stands_each}
@@ -91,10 +91,10 @@ runner_fits tasks floor mark time once in_range (Some t) e =
     ]
 
 -- the lift lets the same task run
-pub lifted_one : (time : ℕ) (part lifted : Part) → IsLiftedPart time part lifted → OneRuns part → OneRuns lifted
+pub lifted_one : (time : ℕ) (part lifted : Part) → IsLiftedPart time part lifted → OneRunsHere part → OneRunsHere lifted
 lifted_one time part lifted l one p q h k = one p q (was p h) (was q k)
   where
-    back : (o : Option Stander) → option_map (λ (s : Stander). s.place) (option_map (charged_in part time) o) ≡ option_map (λ (s : Stander). s.place) o
+    back : (o : Option Entity) → option_map (λ (s : Entity). s.place) (option_map (charged_in part time) o) ≡ option_map (λ (s : Entity). s.place) o
     back None = refl
     back (Some s) = refl
 

@@ -5,13 +5,13 @@ use Rattle.std.proofs.lemmas.Bool.{cond-true, cond-false, cases_Bool, cases_lt}
 use Rattle.std.proofs.lemmas.Int.{ints}
 use Rattle.std.proofs.lemmas.List.Elements.{All-nil, All-cons, All-head, All-tail, All-same}
 use Rattle.cfs_model.specs.Charge.{greatest}
-use Rattle.cfs_model.specs.Part.{Part, Stander, start_part, charged_part, charged_in, cost_in, IsQueuedHere, IsLeastHere, IsRaisedHere, IsLiftedPart}
-use Rattle.cfs_model.specs.Standing.{IsOutOfRange}
+use Rattle.replay_model.specs.Part.{Part, Entity, start_part, charged_part, charged_in, cost_in, IsQueuedHere, IsLeastHere, IsRaisedHere, IsLiftedPart}
+use Rattle.replay_model.specs.QueueTests.{IsOutOfRange}
 use Rattle.cfs_model.specs.Start.{place_eq, task_of}
 use Rattle.cfs_model.specs.declared.task.Place.{Place}
 use Rattle.cfs_model.specs.declared.task.Place.TheVariants.{Run, Wait, Rest}
 use Rattle.cfs_model.specs.declared.task.Task.{Task}
-use Rattle.queue_replay.specs.Rows.{runs, is_queued, queued_runtimes, cost_of, charged_task, CanBeCharged, IsRaisedBy, standing, EachOnce}
+use Rattle.queue_replay.specs.TaskList.{runs, is_queued, queued_runtimes, cost_of, charged_task, CanBeCharged, IsRaisedBy, standing, EachOnce}
 use Rattle.queue_replay.proofs.Parts.{stands, row_of, same_tasks, stands_each}
 use Rattle.queue_replay.proofs.TaskOf.{task_of-map, task_of-each, EachOnce-map}
 
@@ -97,12 +97,12 @@ module _ (tasks : List Task) (floor : ℤ) (mark time : ℕ) (once : EachOnce ta
       go None = refl
       go (Some t) = ap Some (charged_row (start_part tasks floor mark) time t t.place)
 
-  by_queued : (P : ℤ → Type 0) → All P (queued_runtimes rows) → (pid : ℕ) (s : Stander)
+  by_queued : (P : ℤ → Type 0) → All P (queued_runtimes rows) → (pid : ℕ) (s : Entity)
       → (charged_part (start_part tasks floor mark) time).tasks pid ≡ Some s → IsQueuedHere s → P s.runtime
   by_queued P each pid s e queued =
       let r = row_of rows pid s (charged_stands pid ∙ e) in
       let q : is_queued r.0 ≡ true = queued_place r.0.place (λ f. queued (ap (λ x. x.place) (sym r.2) ∙ f)) in
-      subst (λ (x : Stander). P x.runtime) r.2 (task_of-each (λ t. is_queued t ≡ true → P t.v) rows pid r.0 (each_queued P rows each) r.1 q)
+      subst (λ (x : Entity). P x.runtime) r.2 (task_of-each (λ t. is_queued t ≡ true → P t.v) rows pid r.0 (each_queued P rows each) r.1 q)
 
   is_least : (v : ℤ) → Contains (queued_runtimes rows) v → All (λ w. v ≤ℤ w) (queued_runtimes rows)
       → IsLeastHere (charged_part (start_part tasks floor mark) time) v
@@ -133,8 +133,8 @@ module _ (tasks : List Task) (floor : ℤ) (mark time : ℕ) (once : EachOnce ta
     result = same_tasks (stands rows) (charged_part (start_part tasks floor mark) time).tasks new time charged_stands;
   }
 
-  runs_row : (t : Task) (s : Stander) → standing t ≡ s → s.place ≡ Run → runs t ≡ true
-  runs_row t s e r = ap (λ (x : Stander). place_eq x.place Run) e ∙ ap (λ p. place_eq p Run) r
+  runs_row : (t : Task) (s : Entity) → standing t ≡ s → s.place ≡ Run → runs t ≡ true
+  runs_row t s e r = ap (λ (x : Entity). place_eq x.place Run) e ∙ ap (λ p. place_eq p Run) r
 
   -- where each row can be charged, none is out of range
   pub none_above : All (CanBeCharged (time - mark)) tasks → (pid : ℕ) → ¬ IsOutOfRange (start_part tasks floor mark) time pid
@@ -142,7 +142,7 @@ module _ (tasks : List Task) (floor : ℤ) (mark time : ℕ) (once : EachOnce ta
       let r = row_of tasks pid o.task o.stands in
       let fits = task_of-each (CanBeCharged (time - mark)) tasks pid r.0 can r.1 (runs_row r.0 o.task r.2 o.runs) in
       let above : (greatest < cost_of (time - mark) r.0) ⊎ (pos greatest <ℤ (r.0.v +ℤ pos (cost_of (time - mark) r.0)))
-      = subst (λ (s : Stander). (greatest < cost_in (start_part tasks floor mark) time s) ⊎ (pos greatest <ℤ (s.runtime +ℤ pos (cost_in (start_part tasks floor mark) time s)))) (sym r.2) o.above in
+      = subst (λ (s : Entity). (greatest < cost_in (start_part tasks floor mark) time s) ⊎ (pos greatest <ℤ (s.runtime +ℤ pos (cost_in (start_part tasks floor mark) time s)))) (sym r.2) o.above in
       elim above [ inl far ↦ absurd (omega (arith, fits.0)) | inr far ↦ absurd (omega (arith, ints, fits.1)) ]
 
   -- a row that can't be charged is out of range

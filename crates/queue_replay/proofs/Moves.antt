@@ -1,61 +1,61 @@
 -- What a row's change makes of the part.
 use Rattle.std.proofs.Common.{◌≡◌, ◌≢◌, ℕ, zero, suc, Bool, true, false, ◌&&◌, cond, eqb, List, [], ◌∷◌, ◌++◌, map, Option, Some, None, is_some, option_map, ℤ, inl, inr, refl, sym, ap, ◌∙◌, subst}
 use Rattle.std.proofs.lemmas.Bool.{eq-eqb, ne_eqb, cond-true, cond-false, and_left, cases_eq}
-use Rattle.cfs_model.specs.Deeds.{with_stander, goes, part_after_prev, part_after_next, woken, wakes}
+use Rattle.replay_model.specs.Deeds.{with_entity, goes, part_after_prev, part_after_next, woken, wakes}
 use Rattle.cfs_model.specs.Machine.{put}
-use Rattle.cfs_model.specs.Part.{Part, Stander, start_part}
-use Rattle.cfs_model.specs.Placing.{IsClaimMissing, IsIdleBesideWaiting, IsNotLeast}
-use Rattle.cfs_model.specs.Standing.{IsAlready}
+use Rattle.replay_model.specs.Part.{Part, Entity, start_part}
+use Rattle.replay_model.specs.ClaimTests.{IsClaimMissing, IsIdleBesideWaiting, IsNotLeast}
+use Rattle.replay_model.specs.QueueTests.{IsAlready}
 use Rattle.cfs_model.specs.Start.{place_eq}
 use Rattle.cfs_model.specs.declared.act.Way.{Way}
 use Rattle.cfs_model.specs.declared.act.Way.TheVariants.{Stays, Sleeps, Ends}
 use Rattle.cfs_model.specs.declared.claim.Claim.{Claim}
-use Rattle.cfs_model.specs.declared.step.Deed.{Deed}
-use Rattle.cfs_model.specs.declared.step.Deed.TheVariants.{Switch, Born, Arrive}
-use Rattle.cfs_model.specs.declared.step.Step.{Step}
+use Rattle.replay_model.specs.declared.step.Deed.{Deed}
+use Rattle.replay_model.specs.declared.step.Deed.TheVariants.{Switch, Born, Arrive}
+use Rattle.replay_model.specs.declared.step.Step.{Step}
 use Rattle.cfs_model.specs.declared.task.Place.{Place}
 use Rattle.cfs_model.specs.declared.task.Place.TheVariants.{Run, Wait, Rest}
 use Rattle.cfs_model.specs.declared.task.Task.{Task}
-use Rattle.queue_replay.specs.Queue.{part_of, IdlesBeside, IsBeyond}
+use Rattle.queue_replay.specs.Queue.{runqueue_view, IdlesBeside, IsAboveGranularity}
 use Rattle.queue_replay.specs.declared.runqueue.Runqueue.{Runqueue}
-use Rattle.queue_replay.specs.Rows.{standing, placed, roused, without, EachOnce}
+use Rattle.queue_replay.specs.TaskList.{standing, moved_to, roused, without, EachOnce}
 use Rattle.queue_replay.specs.Sifting.{IsCleared}
 use Rattle.queue_replay.proofs.Parts.{stands, same_tasks, stands_changed, stands_gone, stands_pushed, put-same, put-other, EachOnce-push, row_none}
 use Rattle.queue_replay.proofs.TaskOf.{EachOnce-map, EachOnce-without}
 
 -- a runqueue with these rows, and the floor and the mark of another
 pub part_is : (q new : Runqueue) (rows : List Task) → new.tasks.items ≡ rows → new.floor ≡ q.floor → new.mark ≡ q.mark
-    → part_of new ≡ start_part rows q.floor q.mark
+    → runqueue_view new ≡ start_part rows q.floor q.mark
 part_is q new rows e f g =
     ap (λ l. start_part l new.floor new.mark) e ∙ ap (λ x. start_part rows x new.mark) f ∙ ap (λ x. start_part rows q.floor x) g
 
 -- to another place
-placed_here : (pid : ℕ) (place : Place) (t : Task) → t.pid ≡ pid → placed pid place t ≡ record t { place = place }
+placed_here : (pid : ℕ) (place : Place) (t : Task) → t.pid ≡ pid → moved_to pid place t ≡ record t { place = place }
 placed_here pid place t e = cond-true (eqb t.pid pid) (record t { place = place }) t (eq-eqb _ _ e)
 
-placed_there : (pid : ℕ) (place : Place) (t : Task) → t.pid ≢ pid → placed pid place t ≡ t
+placed_there : (pid : ℕ) (place : Place) (t : Task) → t.pid ≢ pid → moved_to pid place t ≡ t
 placed_there pid place t ne = cond-false (eqb t.pid pid) (record t { place = place }) t (ne_eqb _ _ ne)
 
-placed-pid : (pid : ℕ) (place : Place) (t : Task) → (placed pid place t).pid ≡ t.pid
-placed-pid pid place t = go (eqb t.pid pid)
+moved_to-pid : (pid : ℕ) (place : Place) (t : Task) → (moved_to pid place t).pid ≡ t.pid
+moved_to-pid pid place t = go (eqb t.pid pid)
   where
     go : (b : Bool) → (cond b (record t { place = place }) t).pid ≡ t.pid
     go true = refl
     go false = refl
 
 pub placed_part : (tasks : List Task) (floor : ℤ) (mark pid : ℕ) (place : Place)
-    → start_part (map (placed pid place) tasks) floor mark ≡ goes (start_part tasks floor mark) pid place
+    → start_part (map (moved_to pid place) tasks) floor mark ≡ goes (start_part tasks floor mark) pid place
 placed_part tasks floor mark pid place =
-    same_tasks (stands (map (placed pid place) tasks)) _ floor mark
-    (stands_changed (placed pid place) (placed-pid pid place) (λ (s : Stander). record s { place = place }) pid
+    same_tasks (stands (map (moved_to pid place) tasks)) _ floor mark
+    (stands_changed (moved_to pid place) (moved_to-pid pid place) (λ (s : Entity). record s { place = place }) pid
     (λ t e. ap standing (placed_here pid place t e)) (placed_there pid place) tasks)
 
-pub placed_once : (tasks : List Task) (pid : ℕ) (place : Place) → EachOnce tasks → EachOnce (map (placed pid place) tasks)
-placed_once tasks pid place once = EachOnce-map (placed pid place) (placed-pid pid place) tasks once
+pub placed_once : (tasks : List Task) (pid : ℕ) (place : Place) → EachOnce tasks → EachOnce (map (moved_to pid place) tasks)
+placed_once tasks pid place once = EachOnce-map (moved_to pid place) (moved_to-pid pid place) tasks once
 
 -- away
 pub gone_part : (tasks : List Task) (floor : ℤ) (mark pid : ℕ)
-    → start_part (without pid tasks) floor mark ≡ with_stander (start_part tasks floor mark) pid None
+    → start_part (without pid tasks) floor mark ≡ with_entity (start_part tasks floor mark) pid None
 gone_part tasks floor mark pid = same_tasks (stands (without pid tasks)) _ floor mark (stands_gone tasks pid)
 
 pub gone_once : (tasks : List Task) (pid : ℕ) → EachOnce tasks → EachOnce (without pid tasks)
@@ -88,7 +88,7 @@ pub roused_part : (tasks : List Task) (floor : ℤ) (mark pid : ℕ) (claim : Cl
     → start_part (map (roused pid claim.v) tasks) floor mark ≡ wakes (start_part tasks floor mark) pid (Some claim)
 roused_part tasks floor mark pid claim =
     same_tasks (stands (map (roused pid claim.v) tasks)) _ floor mark
-    (stands_changed (roused pid claim.v) (roused-pid pid claim.v) (λ (s : Stander). woken (Some claim) s.place s) pid
+    (stands_changed (roused pid claim.v) (roused-pid pid claim.v) (λ (s : Entity). woken (Some claim) s.place s) pid
     (roused_here pid claim) (roused_there pid claim.v) tasks)
 
 pub roused_once : (tasks : List Task) (pid : ℕ) (v : ℤ) → EachOnce tasks → EachOnce (map (roused pid v) tasks)
@@ -96,7 +96,7 @@ roused_once tasks pid v once = EachOnce-map (roused pid v) (roused-pid pid v) ta
 
 -- one more
 pub pushed_part : (tasks : List Task) (floor : ℤ) (mark : ℕ) (t : Task) → stands tasks t.pid ≡ None
-    → start_part (tasks ++ t ∷ []) floor mark ≡ with_stander (start_part tasks floor mark) t.pid (Some (standing t))
+    → start_part (tasks ++ t ∷ []) floor mark ≡ with_entity (start_part tasks floor mark) t.pid (Some (standing t))
 pushed_part tasks floor mark t none =
     same_tasks (stands (tasks ++ t ∷ [])) _ floor mark (stands_pushed tasks t (row_none tasks t.pid none))
 
@@ -112,7 +112,7 @@ pub after_sleeps : (part : Part) (prev : ℕ) → prev ≢ 0 → goes part prev 
 after_sleeps part zero ne = absurd (ne refl)
 after_sleeps part (suc n) ne = refl
 
-pub after_ends : (part : Part) (prev : ℕ) → prev ≢ 0 → with_stander part prev None ≡ part_after_prev part prev Ends
+pub after_ends : (part : Part) (prev : ℕ) → prev ≢ 0 → with_entity part prev None ≡ part_after_prev part prev Ends
 after_ends part zero ne = absurd (ne refl)
 after_ends part (suc n) ne = refl
 
@@ -129,12 +129,12 @@ unwoken part pid = same_tasks (put part.tasks pid (option_map (λ s. woken None 
       | inr other ↦ put-other part.tasks pid (option_map (λ s. woken None s.place s) (part.tasks pid)) q other
     ])
   where
-    stays : (p : Place) (s : Stander) → woken None p s ≡ s
+    stays : (p : Place) (s : Entity) → woken None p s ≡ s
     stays Run s = refl
     stays Wait s = refl
     stays Rest s = refl
 
-    go : (o : Option Stander) → option_map (λ s. woken None s.place s) o ≡ o
+    go : (o : Option Entity) → option_map (λ s. woken None s.place s) o ≡ o
     go None = refl
     go (Some s) = ap Some (stays s.place s)
 
@@ -144,7 +144,7 @@ apart_born part step pid nice e cleared =
     let f : (p : ℕ) → ¬ IsAlready part (Born pid nice) p = λ p h. cleared.apart p (subst (λ (d : Deed). IsAlready part d p) (sym e) h) in
     go (part.tasks pid) refl f
   where
-    go : (o : Option Stander) → part.tasks pid ≡ o → ((p : ℕ) → ¬ IsAlready part (Born pid nice) p) → part.tasks pid ≡ None
+    go : (o : Option Entity) → part.tasks pid ≡ o → ((p : ℕ) → ¬ IsAlready part (Born pid nice) p) → part.tasks pid ≡ None
     go None e f = e
     go (Some s) e f = absurd (f pid (ap is_some e, refl))
 
@@ -153,7 +153,7 @@ apart_arrive part step pid nice orig e cleared =
     let f : (p : ℕ) → ¬ IsAlready part (Arrive pid nice orig) p = λ p h. cleared.apart p (subst (λ (d : Deed). IsAlready part d p) (sym e) h) in
     go (part.tasks pid) refl f
   where
-    go : (o : Option Stander) → part.tasks pid ≡ o → ((p : ℕ) → ¬ IsAlready part (Arrive pid nice orig) p) → part.tasks pid ≡ None
+    go : (o : Option Entity) → part.tasks pid ≡ o → ((p : ℕ) → ¬ IsAlready part (Arrive pid nice orig) p) → part.tasks pid ≡ None
     go None e f = e
     go (Some s) e f = absurd (f pid (ap is_some e, refl))
 
@@ -182,29 +182,29 @@ idles_pass part moved deed prev prev_nice way next next_nice e m none pid h =
     (idles_same part prev prev_nice way next next_nice pid (subst (λ (d : Deed). IsIdleBesideWaiting part d pid) e h)))
 
 beyond_same : (granularity : ℕ) (part : Part) (prev : ℕ) (prev_nice : ℤ) (way : Way) (next : ℕ) (next_nice : ℤ) (pid : ℕ)
-    → (IsBeyond granularity (part.tasks next) (part_after_prev part prev way) next pid
+    → (IsAboveGranularity granularity (part.tasks next) (part_after_prev part prev way) next pid
     → IsNotLeast granularity part (Switch prev prev_nice way next next_nice) pid)
     × (IsNotLeast granularity part (Switch prev prev_nice way next next_nice) pid
-    → IsBeyond granularity (part.tasks next) (part_after_prev part prev way) next pid)
+    → IsAboveGranularity granularity (part.tasks next) (part_after_prev part prev way) next pid)
 beyond_same granularity part prev prev_nice way zero next_nice pid = ((λ h. h), (λ h. h))
 beyond_same granularity part prev prev_nice way (suc n) next_nice pid = ((λ h. h), (λ h. h))
 
 pub beyond_holds : (granularity : ℕ) (part moved : Part) (deed : Deed) (prev : ℕ) (prev_nice : ℤ) (way : Way) (next : ℕ) (next_nice : ℤ)
     → deed ≡ Switch prev prev_nice way next next_nice → moved ≡ part_after_prev part prev way
-    → (own : Option Stander) → own ≡ part.tasks next
-    → (pid : ℕ) → IsBeyond granularity own moved next pid → IsNotLeast granularity part deed pid
+    → (own : Option Entity) → own ≡ part.tasks next
+    → (pid : ℕ) → IsAboveGranularity granularity own moved next pid → IsNotLeast granularity part deed pid
 beyond_holds granularity part moved deed prev prev_nice way next next_nice e m own o pid h =
     subst (λ (d : Deed). IsNotLeast granularity part d pid) (sym e)
     ((beyond_same granularity part prev prev_nice way next next_nice pid).0
-    (subst (λ (x : Option Stander). IsBeyond granularity x (part_after_prev part prev way) next pid) o
-    (subst (λ (p : Part). IsBeyond granularity own p next pid) m h)))
+    (subst (λ (x : Option Entity). IsAboveGranularity granularity x (part_after_prev part prev way) next pid) o
+    (subst (λ (p : Part). IsAboveGranularity granularity own p next pid) m h)))
 
 pub beyond_pass : (granularity : ℕ) (part moved : Part) (deed : Deed) (prev : ℕ) (prev_nice : ℤ) (way : Way) (next : ℕ) (next_nice : ℤ)
     → deed ≡ Switch prev prev_nice way next next_nice → moved ≡ part_after_prev part prev way
-    → (own : Option Stander) → own ≡ part.tasks next
-    → ((pid : ℕ) → ¬ IsBeyond granularity own moved next pid) → (pid : ℕ) → ¬ IsNotLeast granularity part deed pid
+    → (own : Option Entity) → own ≡ part.tasks next
+    → ((pid : ℕ) → ¬ IsAboveGranularity granularity own moved next pid) → (pid : ℕ) → ¬ IsNotLeast granularity part deed pid
 beyond_pass granularity part moved deed prev prev_nice way next next_nice e m own o none pid h =
-    none pid (subst (λ (p : Part). IsBeyond granularity own p next pid) (sym m)
-    (subst (λ (x : Option Stander). IsBeyond granularity x (part_after_prev part prev way) next pid) (sym o)
+    none pid (subst (λ (p : Part). IsAboveGranularity granularity own p next pid) (sym m)
+    (subst (λ (x : Option Entity). IsAboveGranularity granularity x (part_after_prev part prev way) next pid) (sym o)
     ((beyond_same granularity part prev prev_nice way next next_nice pid).1
     (subst (λ (d : Deed). IsNotLeast granularity part d pid) e h))))

@@ -1,26 +1,26 @@
 -- What is noted of a step that passed is what the definitions note of it.
 use Rattle.std.proofs.Common.{◌≡◌, ℕ, List, ◌++◌, Option, None, refl, ap, ◌∙◌}
-use Rattle.cfs_model.specs.Noted.{PageReading, noted, left_by, came_by, births_of, deaths_of, tallied, charged_tallies}
-use Rattle.cfs_model.specs.Part.{Part}
-use Rattle.cfs_model.specs.declared.page.RollEntry.{RollEntry}
-use Rattle.cfs_model.specs.declared.page.StepFault.{StepFault}
-use Rattle.cfs_model.specs.declared.page.Tally.{Tally}
-use Rattle.cfs_model.specs.declared.page.Ticket.{Ticket}
-use Rattle.cfs_model.specs.declared.step.Deed.{Deed}
-use Rattle.cfs_model.specs.declared.step.Deed.TheVariants.{Switch, Wake, Born, Leave, Arrive}
-use Rattle.cfs_model.specs.declared.step.Step.{Step}
-use Rattle.queue_replay.specs.Counting.{notes_shown, ticket_by, if_left, if_came}
-use Rattle.queue_replay.specs.declared.notes.Notes.{Notes}
+use Rattle.replay_model.specs.Noted.{PageView, noted, left_by, came_by, births_of, deaths_of, tallied, charged_tallies}
+use Rattle.replay_model.specs.Part.{Part}
+use Rattle.replay_model.specs.declared.page.LifeEvent.{LifeEvent}
+use Rattle.replay_model.specs.declared.page.StepFault.{StepFault}
+use Rattle.replay_model.specs.declared.page.Tally.{Tally}
+use Rattle.replay_model.specs.declared.page.Ticket.{Ticket}
+use Rattle.replay_model.specs.declared.step.Deed.{Deed}
+use Rattle.replay_model.specs.declared.step.Deed.TheVariants.{Switch, Wake, Born, Leave, Arrive}
+use Rattle.replay_model.specs.declared.step.Step.{Step}
+use Rattle.queue_replay.specs.Counting.{page_draft_view, ticket_by, if_left, if_came}
+use Rattle.queue_replay.specs.declared.page_draft.PageDraft.{PageDraft}
 
-pub same_page : (p q : PageReading) → p.line ≡ q.line → p.fault ≡ q.fault → p.left ≡ q.left → p.came ≡ q.came
+pub same_page : (p q : PageView) → p.line ≡ q.line → p.fault ≡ q.fault → p.left ≡ q.left → p.came ≡ q.came
     → p.births ≡ q.births → p.deaths ≡ q.deaths → p.tallies ≡ q.tallies → p ≡ q
 same_page p q a b c d e f g =
     ap (λ (x : ℕ). record p { line = x }) a
     ∙ ap (λ (x : Option StepFault). record p { line = q.line; fault = x }) b
     ∙ ap (λ (x : List Ticket). record p { line = q.line; fault = q.fault; left = x }) c
     ∙ ap (λ (x : List Ticket). record p { line = q.line; fault = q.fault; left = q.left; came = x }) d
-    ∙ ap (λ (x : List RollEntry). record q { births = x; deaths = p.deaths; tallies = p.tallies }) e
-    ∙ ap (λ (x : List RollEntry). record q { deaths = x; tallies = p.tallies }) f
+    ∙ ap (λ (x : List LifeEvent). record q { births = x; deaths = p.deaths; tallies = p.tallies }) e
+    ∙ ap (λ (x : List LifeEvent). record q { deaths = x; tallies = p.tallies }) f
     ∙ ap (λ (x : List Tally). record q { tallies = x }) g
 
 left_is : (lifted : Part) (step : Step) (deed : Deed) → if_left deed (ticket_by lifted step deed) ≡ left_by lifted step deed
@@ -38,7 +38,7 @@ came_is lifted step (Leave pid nice dest) = refl
 came_is lifted step (Arrive pid nice orig) = refl
 
 -- notes that differ in their tallies alone
-pub record IsStretch (old mid : Notes) : Type 0 where
+pub record IsStretch (old mid : PageDraft) : Type 0 where
   pub line : mid.line ≡ old.line
   pub fault : mid.fault ≡ old.fault
   pub left : mid.left ≡ old.left
@@ -47,7 +47,7 @@ pub record IsStretch (old mid : Notes) : Type 0 where
   pub deaths : mid.deaths ≡ old.deaths
 
 -- the notes with a step more
-pub record IsNote (mid : Notes) (step : Step) (ticket : Option Ticket) (new : Notes) : Type 0 where
+pub record IsNote (mid : PageDraft) (step : Step) (ticket : Option Ticket) (new : PageDraft) : Type 0 where
   pub line : new.line ≡ step.line
   pub fault : new.fault ≡ mid.fault
   pub left : new.left.items ≡ mid.left.items ++ if_left step.deed ticket
@@ -56,12 +56,12 @@ pub record IsNote (mid : Notes) (step : Step) (ticket : Option Ticket) (new : No
   pub deaths : new.deaths.items ≡ mid.deaths.items ++ deaths_of step.line step.deed
   pub tallies : new.tallies.items ≡ tallied step.deed mid.tallies.items
 
-pub page_is : (old mid new : Notes) (part lifted : Part) (step : Step) (ticket : Option Ticket) → old.fault ≡ None
+pub page_is : (old mid new : PageDraft) (part lifted : Part) (step : Step) (ticket : Option Ticket) → old.fault ≡ None
     → IsStretch old mid → mid.tallies.items ≡ charged_tallies part step.time old.tallies.items
     → ticket ≡ ticket_by lifted step step.deed → IsNote mid step ticket new
-    → notes_shown new ≡ noted (notes_shown old) part lifted step
+    → page_draft_view new ≡ noted (page_draft_view old) part lifted step
 page_is old mid new part lifted step ticket none same tallies is n =
-    same_page (notes_shown new) (noted (notes_shown old) part lifted step)
+    same_page (page_draft_view new) (noted (page_draft_view old) part lifted step)
     n.line
     (n.fault ∙ same.fault ∙ none)
     (n.left ∙ ap (λ l. l.items ++ if_left step.deed ticket) same.left

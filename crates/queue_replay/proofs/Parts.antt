@@ -5,18 +5,18 @@ use Rattle.std.proofs.lemmas.Bool.{eq-eqb, ne_eqb, cond-true, cond-false, cases_
 use Rattle.std.proofs.lemmas.Option.{same_Some}
 use Rattle.std.proofs.lemmas.List.Elements.{All-push, All-weaker}
 use Rattle.cfs_model.specs.Machine.{put}
-use Rattle.cfs_model.specs.Part.{Part, Stander}
+use Rattle.replay_model.specs.Part.{Part, Entity}
 use Rattle.cfs_model.specs.Start.{task_of}
 use Rattle.cfs_model.specs.declared.task.Task.{Task}
-use Rattle.queue_replay.specs.Rows.{standing, without, EachOnce}
+use Rattle.queue_replay.specs.TaskList.{standing, without, EachOnce}
 use Rattle.queue_replay.proofs.TaskOf.{task_of-first, task_of-later, task_of-pid, task_of-map, task_of-gone, task_of-left, option_cases}
 
 -- what a list of rows says of a pid
-abbrev pub stands : List Task → ℕ → Option Stander
+abbrev pub stands : List Task → ℕ → Option Entity
 stands tasks pid = option_map standing (task_of tasks pid)
 
 -- the row of a pid that stands here
-pub row_of : (tasks : List Task) (pid : ℕ) (s : Stander) → stands tasks pid ≡ Some s
+pub row_of : (tasks : List Task) (pid : ℕ) (s : Entity) → stands tasks pid ≡ Some s
     → (t : Task) × (task_of tasks pid ≡ Some t) × (standing t ≡ s)
 row_of tasks pid s e =
     elim (option_cases (task_of tasks pid)) [
@@ -45,7 +45,7 @@ stands_each tasks once t has =
     stands_row tasks t.pid t (subst (λ u. task_of tasks u.pid ≡ Some u) e (once k t has.1))
 
 -- parts that agree on each pid are one
-pub same_tasks : (f g : ℕ → Option Stander) (floor : ℤ) (mark : ℕ) → ((pid : ℕ) → f pid ≡ g pid)
+pub same_tasks : (f g : ℕ → Option Entity) (floor : ℤ) (mark : ℕ) → ((pid : ℕ) → f pid ≡ g pid)
     → (let p : Part = record { tasks = f; floor = floor; mark = mark } in p) ≡ (record { tasks = g; floor = floor; mark = mark })
 same_tasks f g floor mark e = let h : f ≡ g = fun_ext e in ap (λ t. record { tasks = t; floor = floor; mark = mark }) h
 
@@ -58,7 +58,7 @@ unfolding put
 put-other f key x other ne = cond-false (eqb other key) x (f other) (ne_eqb other key ne)
 
 -- one row changes
-pub stands_changed : (f : Task → Task) → ((t : Task) → (f t).pid ≡ t.pid) → (g : Stander → Stander) (pid : ℕ)
+pub stands_changed : (f : Task → Task) → ((t : Task) → (f t).pid ≡ t.pid) → (g : Entity → Entity) (pid : ℕ)
     → ((t : Task) → t.pid ≡ pid → standing (f t) ≡ g (standing t)) → ((t : Task) → t.pid ≢ pid → f t ≡ t)
     → (tasks : List Task) (q : ℕ) → stands (map f tasks) q ≡ put (stands tasks) pid (option_map g (stands tasks pid)) q
 stands_changed f keeps g pid here there tasks q =

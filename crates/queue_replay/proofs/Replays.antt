@@ -2,24 +2,24 @@
 use Rattle.std.proofs.Common.{◌≡◌, ℕ, ◌+◌, ◌-◌, ◌<◌, ◌≤◌, min, nat_le, List, [], ◌∷◌, ◌++◌, length, take, get_or, Option, Some, None, IsSome, is_some, ◌⊎◌, inl, inr, refl, sym, ap, ◌∙◌, subst, true≢false, arith}
 use Rattle.std.proofs.lemmas.Bool.{cond-true, cond-false, le-leb, lt-leb}
 use Rattle.std.proofs.lemmas.List.{take_more}
-use Rattle.cfs_model.specs.Cut.{StreamReading}
-use Rattle.cfs_model.specs.Noted.{PageReading}
-use Rattle.cfs_model.specs.Page.{Progress, PassesStep, FailsStep, with_fault, IsReplayStep, IsReplay, IsStartOf, IsPageOf, end_page}
+use Rattle.replay_model.specs.Cut.{StreamView}
+use Rattle.replay_model.specs.Noted.{PageView}
+use Rattle.replay_model.specs.Page.{ReplayStateView, PassesStep, FailsStep, with_fault, IsReplayStep, IsReplay, IsStartOf, IsPageOf, end_page}
 use Rattle.cfs_model.specs.Settings.{Settings}
-use Rattle.cfs_model.specs.declared.page.StepFault.{StepFault}
-use Rattle.cfs_model.specs.declared.step.Step.{Step}
-use Rattle.queue_replay.specs.Counting.{notes_shown}
-use Rattle.queue_replay.specs.Course.{progress_of, IsGoing, IsStepped}
+use Rattle.replay_model.specs.declared.page.StepFault.{StepFault}
+use Rattle.replay_model.specs.declared.step.Step.{Step}
+use Rattle.queue_replay.specs.Counting.{page_draft_view}
+use Rattle.queue_replay.specs.ReplayState.{replay_state_view, IsGoing, IsStepped}
 use Rattle.queue_replay.specs.Made.{IsUnderWay, IsAt, IsFaultless, GoesOn}
-use Rattle.queue_replay.specs.declared.course.Course.{Course}
+use Rattle.queue_replay.specs.declared.replay_state.ReplayState.{ReplayState}
 
 -- one more step
-IsReplay-push : (knobs : Settings) (cpu : ℕ) (before : Progress) (steps : List Step) (between : Progress) (step : Step) (after : Progress)
+IsReplay-push : (knobs : Settings) (cpu : ℕ) (before : ReplayStateView) (steps : List Step) (between : ReplayStateView) (step : Step) (after : ReplayStateView)
     → IsReplay knobs cpu before steps between → IsReplayStep knobs cpu between.page.fault between step after → IsReplay knobs cpu before (steps ++ step ∷ []) after
 IsReplay-push knobs cpu before [] between step after r s = (after, subst (λ x. IsReplayStep knobs cpu x.page.fault x step after) r s, refl)
 IsReplay-push knobs cpu before (first ∷ steps) between step after r s = (r.0, r.1, IsReplay-push knobs cpu r.0 steps between step after r.2 s)
 
-replay_more : (knobs : Settings) (cpu : ℕ) (start : Progress) (steps : List Step) (made : ℕ) (between : Progress) (step : Step) (after : Progress)
+replay_more : (knobs : Settings) (cpu : ℕ) (start : ReplayStateView) (steps : List Step) (made : ℕ) (between : ReplayStateView) (step : Step) (after : ReplayStateView)
     → made < length steps → step ≡ get_or steps made step → IsReplay knobs cpu start (take made steps) between → between.page.fault ≡ None
     → PassesStep knobs cpu between step after ⊎ FailsStep knobs cpu between step after → IsReplay knobs cpu start (take (made + 1) steps) after
 replay_more knobs cpu start steps made between step after within is r none s =
@@ -29,41 +29,41 @@ replay_more knobs cpu start steps made between step after within is r none s =
     subst (λ l. IsReplay knobs cpu start l after) (sym e) more
 
 -- the page of the steps made, before the end test
-pub record IsReached (s : StreamReading) (knobs : Settings) (c : Course) : Type 0 where
-  pub start : Progress
+pub record IsReached (s : StreamView) (knobs : Settings) (c : ReplayState) : Type 0 where
+  pub start : ReplayStateView
   pub is_start : IsStartOf s start
-  pub end : Progress
+  pub end : ReplayStateView
   pub replay : IsReplay knobs s.cpu start (take c.made s.steps) end
-  pub page : notes_shown c.notes ≡ end.page
-  pub going : c.notes.fault ≡ None → (end ≡ progress_of c) × IsGoing c
+  pub page : page_draft_view c.draft ≡ end.page
+  pub going : c.draft.fault ≡ None → (end ≡ replay_state_view c) × IsGoing c
 
-pub reached_more : (s : StreamReading) (knobs : Settings) (old new : Course) (step : Step) (cpu : ℕ) → cpu ≡ s.cpu → IsUnderWay s knobs old
-    → old.made < length s.steps → step ≡ get_or s.steps old.made step → IsStepped knobs cpu (progress_of old) step new → new.made ≡ old.made + 1
+pub reached_more : (s : StreamView) (knobs : Settings) (old new : ReplayState) (step : Step) (cpu : ℕ) → cpu ≡ s.cpu → IsUnderWay s knobs old
+    → old.made < length s.steps → step ≡ get_or s.steps old.made step → IsStepped knobs cpu (replay_state_view old) step new → new.made ≡ old.made + 1
     → IsReached s knobs new
-reached_more s knobs old new step cpu same u within is stepped made = go (subst (λ n. IsStepped knobs n (progress_of old) step new) same stepped)
+reached_more s knobs old new step cpu same u within is stepped made = go (subst (λ n. IsStepped knobs n (replay_state_view old) step new) same stepped)
   where
-    go : IsStepped knobs s.cpu (progress_of old) step new → IsReached s knobs new
+    go : IsStepped knobs s.cpu (replay_state_view old) step new → IsReached s knobs new
     go (inl p) = record {
       start = u.start;
       is_start = u.is_start;
-      end = progress_of new;
-      replay = subst (λ n. IsReplay knobs s.cpu u.start (take n s.steps) (progress_of new)) (sym made)
-          (replay_more knobs s.cpu u.start s.steps old.made (progress_of old) step (progress_of new) within is u.replay u.going.fault (inl p.0));
+      end = replay_state_view new;
+      replay = subst (λ n. IsReplay knobs s.cpu u.start (take n s.steps) (replay_state_view new)) (sym made)
+          (replay_more knobs s.cpu u.start s.steps old.made (replay_state_view old) step (replay_state_view new) within is u.replay u.going.fault (inl p.0));
       page = refl;
       going = λ _. (refl, p.1);
     }
     go (inr f) = record {
       start = u.start;
       is_start = u.is_start;
-      end = with_fault (progress_of old) f.0;
-      replay = subst (λ n. IsReplay knobs s.cpu u.start (take n s.steps) (with_fault (progress_of old) f.0)) (sym made)
-          (replay_more knobs s.cpu u.start s.steps old.made (progress_of old) step (with_fault (progress_of old) f.0) within is u.replay u.going.fault (inr f.1));
+      end = with_fault (replay_state_view old) f.0;
+      replay = subst (λ n. IsReplay knobs s.cpu u.start (take n s.steps) (with_fault (replay_state_view old) f.0)) (sym made)
+          (replay_more knobs s.cpu u.start s.steps old.made (replay_state_view old) step (with_fault (replay_state_view old) f.0) within is u.replay u.going.fault (inr f.1));
       page = f.2;
       going = λ none. let e : Some f.0 ≡ None = sym (ap (λ p. p.fault) f.2) ∙ none in absurd cc;
     }
 
 -- before the last step the page is that of the steps made
-pub at_middle : (s : StreamReading) (knobs : Settings) (c : Course) → IsReached s knobs c → c.made < length s.steps → IsAt s knobs c
+pub at_middle : (s : StreamView) (knobs : Settings) (c : ReplayState) → IsReached s knobs c → c.made < length s.steps → IsAt s knobs c
 at_middle s knobs c r within = record {
   within = omega arith;
   is_page = record {
@@ -81,56 +81,56 @@ at_middle s knobs c r within = record {
   };
 }
 
-end_faulted : (slack : ℕ) (s : StreamReading) (since : Option ℕ) (fault : StepFault) (page : PageReading) → end_page slack s since (Some fault) page ≡ page
+end_faulted : (slack : ℕ) (s : StreamView) (since : Option ℕ) (fault : StepFault) (page : PageView) → end_page slack s since (Some fault) page ≡ page
 end_faulted slack s None fault page = refl
 end_faulted slack s (Some since) fault page = refl
 
 -- after the last step the end test is made
-pub at_end : (s : StreamReading) (knobs : Settings) (c after : Course) → IsReached s knobs c → c.made ≡ length s.steps → after.made ≡ c.made
-    → notes_shown after.notes ≡ end_page knobs.slack s c.since c.notes.fault (notes_shown c.notes) → IsAt s knobs after
+pub at_end : (s : StreamView) (knobs : Settings) (c after : ReplayState) → IsReached s knobs c → c.made ≡ length s.steps → after.made ≡ c.made
+    → page_draft_view after.draft ≡ end_page knobs.slack s c.since c.draft.fault (page_draft_view c.draft) → IsAt s knobs after
 at_end s knobs c after r last made noted = record {
   within = omega arith;
-  is_page = subst (λ n. IsPageOf s knobs n (notes_shown after.notes)) (sym made) (record {
+  is_page = subst (λ n. IsPageOf s knobs n (page_draft_view after.draft)) (sym made) (record {
     start = r.start;
     is_start = r.is_start;
     end = r.end;
     replay = r.replay;
-    result = noted ∙ same c.notes.fault refl
+    result = noted ∙ same c.draft.fault refl
         ∙ sym (cond-true (nat_le (length s.steps) c.made) (end_page knobs.slack s r.end.since r.end.page.fault r.end.page) r.end.page (le-leb (length s.steps) c.made (omega arith)));
   });
   under_way = λ none left. absurd (omega arith);
 }
   where
-    same : (fault : Option StepFault) → c.notes.fault ≡ fault
-        → end_page knobs.slack s c.since c.notes.fault (notes_shown c.notes) ≡ end_page knobs.slack s r.end.since r.end.page.fault r.end.page
-    same None e = ap (λ (p : Progress). end_page knobs.slack s p.since p.page.fault p.page) (sym (r.going e).0)
+    same : (fault : Option StepFault) → c.draft.fault ≡ fault
+        → end_page knobs.slack s c.since c.draft.fault (page_draft_view c.draft) ≡ end_page knobs.slack s r.end.since r.end.page.fault r.end.page
+    same None e = ap (λ (p : ReplayStateView). end_page knobs.slack s p.since p.page.fault p.page) (sym (r.going e).0)
     same (Some f) e =
         let g : r.end.page.fault ≡ Some f = sym (ap (λ p. p.fault) r.page) ∙ e in
-        ap (λ o. end_page knobs.slack s c.since o (notes_shown c.notes)) e ∙ end_faulted knobs.slack s c.since f (notes_shown c.notes) ∙ r.page
+        ap (λ o. end_page knobs.slack s c.since o (page_draft_view c.draft)) e ∙ end_faulted knobs.slack s c.since f (page_draft_view c.draft) ∙ r.page
         ∙ sym (end_faulted knobs.slack s r.end.since f r.end.page) ∙ ap (λ o. end_page knobs.slack s r.end.since o r.end.page) (sym g)
 
 -- a course before its first step
-pub reached_start : (s : StreamReading) (knobs : Settings) (c : Course) → c.made ≡ 0 → IsStartOf s (progress_of c) → IsGoing c → IsReached s knobs c
+pub reached_start : (s : StreamView) (knobs : Settings) (c : ReplayState) → c.made ≡ 0 → IsStartOf s (replay_state_view c) → IsGoing c → IsReached s knobs c
 reached_start s knobs c e start going = record {
-  start = progress_of c;
+  start = replay_state_view c;
   is_start = start;
-  end = progress_of c;
-  replay = subst (λ n. IsReplay knobs s.cpu (progress_of c) (take n s.steps) (progress_of c)) (sym e) refl;
+  end = replay_state_view c;
+  replay = subst (λ n. IsReplay knobs s.cpu (replay_state_view c) (take n s.steps) (replay_state_view c)) (sym e) refl;
   page = refl;
   going = λ _. (refl, going);
 }
 
 -- a run of some steps, with so many left
-pub record IsRunning (s : StreamReading) (knobs : Settings) (from : ℕ) (before : PageReading) (steps left : ℕ) (c : Course) : Type 0 where
+pub record IsRunning (s : StreamView) (knobs : Settings) (from : ℕ) (before : PageView) (steps left : ℕ) (c : ReplayState) : Type 0 where
   pub at : IsAt s knobs c
   pub counted : c.made + left ≡ from + steps
   pub from_there : from ≤ c.made
   pub faulted : IsSome before.fault → c.made ≡ from
-  pub same : c.made ≡ from → notes_shown c.notes ≡ before
+  pub same : c.made ≡ from → page_draft_view c.draft ≡ before
   pub first : from < c.made → IsFaultless s knobs (c.made - 1)
 
-pub running_more : (s : StreamReading) (knobs : Settings) (from : ℕ) (before : PageReading) (steps left : ℕ) (c new : Course)
-    → IsRunning s knobs from before steps left c → 0 < left → c.notes.fault ≡ None → IsAt s knobs new → new.made ≡ c.made + 1
+pub running_more : (s : StreamView) (knobs : Settings) (from : ℕ) (before : PageView) (steps left : ℕ) (c new : ReplayState)
+    → IsRunning s knobs from before steps left c → 0 < left → c.draft.fault ≡ None → IsAt s knobs new → new.made ≡ c.made + 1
     → IsRunning s knobs from before steps (left - 1) new
 running_more s knobs from before steps left c new r some none at made = record {
   at = at;
@@ -139,7 +139,7 @@ running_more s knobs from before steps left c new r some none at made = record {
   faulted = λ f. let e = r.same (r.faulted f) in
       absurd (true≢false (sym f ∙ ap (λ p. is_some p.fault) (sym e) ∙ ap is_some none));
   same = λ e. let h = r.from_there in absurd (omega arith);
-  first = λ _. subst (IsFaultless s knobs) (omega arith) (notes_shown c.notes, r.at.is_page, none);
+  first = λ _. subst (IsFaultless s knobs) (omega arith) (page_draft_view c.draft, r.at.is_page, none);
 }
 
 min_left : (a b made : ℕ) → made ≡ a → made ≤ b → made ≡ min a b
@@ -148,9 +148,9 @@ min_left a b made e h = omega arith
 min_right : (a b made : ℕ) → made ≡ b → made ≤ a → made ≡ min a b
 min_right a b made e h = omega arith
 
-pub goes_on : (s : StreamReading) (knobs : Settings) (from : ℕ) (before : PageReading) (steps left : ℕ) (c : Course)
-    → IsRunning s knobs from before steps left c → (left ≡ 0) ⊎ (IsSome c.notes.fault ⊎ (length s.steps ≤ c.made))
-    → GoesOn s knobs from before steps c.made (notes_shown c.notes)
+pub goes_on : (s : StreamView) (knobs : Settings) (from : ℕ) (before : PageView) (steps left : ℕ) (c : ReplayState)
+    → IsRunning s knobs from before steps left c → (left ≡ 0) ⊎ (IsSome c.draft.fault ⊎ (length s.steps ≤ c.made))
+    → GoesOn s knobs from before steps c.made (page_draft_view c.draft)
 goes_on s knobs from before steps left c r over = record {
   faulted = λ f. (r.faulted f, r.same (r.faulted f));
   same = r.same;
@@ -160,7 +160,7 @@ goes_on s knobs from before steps left c r over = record {
   first = r.first;
 }
   where
-    all : c.notes.fault ≡ None → (left ≡ 0) ⊎ (IsSome c.notes.fault ⊎ (length s.steps ≤ c.made)) → c.made ≡ min (from + steps) (length s.steps)
+    all : c.draft.fault ≡ None → (left ≡ 0) ⊎ (IsSome c.draft.fault ⊎ (length s.steps ≤ c.made)) → c.made ≡ min (from + steps) (length s.steps)
     all none (inl e) = min_left (from + steps) (length s.steps) c.made (let h = r.counted in omega arith) r.at.within
     all none (inr (inl f)) = absurd (true≢false (sym f ∙ ap is_some none))
     all none (inr (inr h)) = min_right (from + steps) (length s.steps) c.made (let w = r.at.within in omega arith) (let k = r.counted in omega arith)

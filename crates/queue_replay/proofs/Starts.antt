@@ -3,13 +3,13 @@ use Rattle.std.proofs.Common.{◌≡◌, ℕ, zero, suc, ◌<◌, Bool, true, fa
 use Rattle.std.specs.List.{find, AllPairs}
 use Rattle.std.proofs.lemmas.Bool.{eq-eqb, ne_eqb, cases_order}
 use Rattle.std.proofs.lemmas.List.Elements.{All-map}
-use Rattle.cfs_model.specs.Noted.{new_tally}
-use Rattle.cfs_model.specs.Part.{start_part}
+use Rattle.replay_model.specs.Noted.{new_tally}
+use Rattle.replay_model.specs.Part.{start_part}
 use Rattle.cfs_model.specs.declared.task.Place.TheVariants.{Run}
 use Rattle.cfs_model.specs.declared.task.Task.{Task}
 use Rattle.queue_replay.specs.Counting.{IsWithin}
-use Rattle.queue_replay.specs.Queue.{OneRuns, IsKept}
-use Rattle.queue_replay.specs.Rows.{EachOnce}
+use Rattle.queue_replay.specs.Queue.{OneRunsHere, IsKept}
+use Rattle.queue_replay.specs.TaskList.{EachOnce}
 use Rattle.queue_replay.specs.declared.runqueue.Runqueue.{Runqueue}
 use Rattle.queue_replay.proofs.Answered.{row_in, contains}
 use Rattle.queue_replay.proofs.TaskOf.{task_of-pid}
@@ -37,7 +37,7 @@ get_same (x ∷ xs) zero d e h = refl
 get_same (x ∷ xs) (suc i) d e h = get_same xs i d e (omega arith)
 
 pub one_from : (tasks : List Task) (floor : ℤ) (mark : ℕ) → AllPairs (λ t u. t.place ≡ Run → u.place ≡ Run → ⊥) tasks
-    → OneRuns (start_part tasks floor mark)
+    → OneRunsHere (start_part tasks floor mark)
 one_from tasks floor mark pairs p q h k =
     let t = row_in tasks floor mark Run p h in
     let u = row_in tasks floor mark Run q k in
@@ -62,5 +62,5 @@ pub kept_from : (q : Runqueue) (tasks : List Task) → q.tasks.items ≡ tasks �
     → AllPairs (λ t u. t.place ≡ Run → u.place ≡ Run → ⊥) tasks → IsKept q
 kept_from q tasks e rise one = record {
   once = subst EachOnce (sym e) (once_from tasks rise);
-  one_runs = subst (λ l. OneRuns (start_part l q.floor q.mark)) (sym e) (one_from tasks q.floor q.mark one);
+  one_runs = subst (λ l. OneRunsHere (start_part l q.floor q.mark)) (sym e) (one_from tasks q.floor q.mark one);
 }

@@ -1,17 +1,17 @@
 -- The tallies of a processor, task by task, and how far they can have grown (this project's profile).
 use Rattle.std.specs.Prelude.{ℕ, ◌<◌, ⊤, vec_len, vec_capacity, option_to_list, Option, Some, None, [], ◌+◌, ◌*◌, ◌^◌, ◌≤◌, ◌==◌, if◌then◌else◌, List, map}
-use Rattle.cfs_model.specs.Deeds.{left_ticket, came_ticket}
-use Rattle.cfs_model.specs.Part.{Part}
-use Rattle.cfs_model.specs.declared.page.StepFault.{StepFault}
-use Rattle.cfs_model.specs.declared.page.Tally.{Tally}
-use Rattle.cfs_model.specs.declared.page.Ticket.{Ticket}
-use Rattle.cfs_model.specs.declared.step.Deed.{Deed}
-use Rattle.cfs_model.specs.declared.step.Deed.TheVariants.{Switch, Wake, Born, Leave, Arrive}
-use Rattle.cfs_model.specs.declared.step.Step.{Step}
-use Rattle.cfs_model.specs.Noted.{PageReading}
+use Rattle.replay_model.specs.Deeds.{left_ticket, came_ticket}
+use Rattle.replay_model.specs.Part.{Part}
+use Rattle.replay_model.specs.declared.page.StepFault.{StepFault}
+use Rattle.replay_model.specs.declared.page.Tally.{Tally}
+use Rattle.replay_model.specs.declared.page.Ticket.{Ticket}
+use Rattle.replay_model.specs.declared.step.Deed.{Deed}
+use Rattle.replay_model.specs.declared.step.Deed.TheVariants.{Switch, Wake, Born, Leave, Arrive}
+use Rattle.replay_model.specs.declared.step.Step.{Step}
+use Rattle.replay_model.specs.Noted.{PageView}
 use Rattle.cfs_model.specs.declared.task.Task.{Task}
-use Rattle.queue_replay.specs.Rows.{cost_of}
-use Rattle.queue_replay.specs.declared.notes.Notes.{Notes}
+use Rattle.queue_replay.specs.TaskList.{cost_of}
+use Rattle.queue_replay.specs.declared.page_draft.PageDraft.{PageDraft}
 
 -- a tally after the task of this pid ran for so long and was charged so much
 abbrev pub ran_tally : ℕ → ℕ → ℕ → Tally → Tally
@@ -27,8 +27,8 @@ abbrev pub IsWithin : ℕ → Tally → Type 0
 IsWithin steps tally = (tally.ran ≤ steps * 2 ^ 64) × (tally.charged ≤ steps * 2 ^ 64) × (tally.picks ≤ steps)
 
 -- the notes as a page shows them
-abbrev pub notes_shown : Notes → PageReading
-notes_shown n = record {
+abbrev pub page_draft_view : PageDraft → PageView
+page_draft_view n = record {
   line = n.line;
   fault = n.fault;
   left = n.left.items;
@@ -54,7 +54,7 @@ if_came (Arrive pid nice orig) ticket = option_to_list ticket
 if_came _ ticket = []
 
 -- the lists of the notes have room for what a deed adds
-abbrev pub HasNoteRoom : Deed → Notes → Type 0
+abbrev pub HasNoteRoom : Deed → PageDraft → Type 0
 HasNoteRoom (Switch prev prev_nice way next next_nice) n = vec_len n.deaths < vec_capacity n.deaths
 HasNoteRoom (Wake pid nice) n = ⊤
 HasNoteRoom (Born pid nice) n = (vec_len n.births < vec_capacity n.births) × (vec_len n.tallies < vec_capacity n.tallies)
@@ -67,5 +67,5 @@ stretched None time tallies = tallies
 stretched (Some t) time tallies = map (ran_tally t.pid time (cost_of time t)) tallies
 
 -- a page with a fault
-abbrev pub with_note : PageReading → StepFault → PageReading
+abbrev pub with_note : PageView → StepFault → PageView
 with_note page fault = record page { fault = Some fault }

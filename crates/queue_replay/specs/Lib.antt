@@ -1,8 +1,8 @@
-pub mod Rows
+pub mod TaskList
 pub mod Queue
 pub mod Sifting
 pub mod Counting
-pub mod Course
+pub mod ReplayState
 pub mod Made
 pub mod Page
 pub mod Replay

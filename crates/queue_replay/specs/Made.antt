@@ -1,42 +1,42 @@
 -- How far a replay has gone along its stream (this project's profile).
 use Rattle.std.specs.Prelude.{◌≡◌, ℕ, ◌+◌, ◌-◌, ◌<◌, ◌≤◌, min, nat_lt, if◌then◌else◌, Option, Some, None, IsSome, length, take}
 use Rattle.cfs_model.specs.Settings.{Settings}
-use Rattle.cfs_model.specs.Cut.{StreamReading}
-use Rattle.cfs_model.specs.Noted.{PageReading}
-use Rattle.cfs_model.specs.Page.{Progress, IsStartOf, IsReplay, IsPageOf}
-use Rattle.cfs_model.specs.declared.page.StepFault.{StepFault}
-use Rattle.queue_replay.specs.Counting.{notes_shown}
-use Rattle.queue_replay.specs.Course.{progress_of, IsGoing}
-use Rattle.queue_replay.specs.declared.course.Course.{Course}
+use Rattle.replay_model.specs.Cut.{StreamView}
+use Rattle.replay_model.specs.Noted.{PageView}
+use Rattle.replay_model.specs.Page.{ReplayStateView, IsStartOf, IsReplay, IsPageOf}
+use Rattle.replay_model.specs.declared.page.StepFault.{StepFault}
+use Rattle.queue_replay.specs.Counting.{page_draft_view}
+use Rattle.queue_replay.specs.ReplayState.{replay_state_view, IsGoing}
+use Rattle.queue_replay.specs.declared.replay_state.ReplayState.{ReplayState}
 use Rattle.queue_replay.specs.declared.state.State.{State}
-use Rattle.queue_replay.specs.declared.state.State.TheVariants as state
+use Rattle.queue_replay.specs.declared.state.State.TheVariants as states
 use Rattle.queue_replay.specs.declared.tag.Reached.{Reached}
 use Rattle.queue_replay.specs.declared.tag.Reached.TheVariants.{Stopped, Done, Faulted}
 
 -- the course is that of the stream's replay by its first steps, none of which failed
-pub record IsUnderWay (stream : StreamReading) (knobs : Settings) (c : Course) : Type 0 where
-  pub start : Progress
+pub record IsUnderWay (stream : StreamView) (knobs : Settings) (c : ReplayState) : Type 0 where
+  pub start : ReplayStateView
   pub is_start : IsStartOf stream start
-  pub replay : IsReplay knobs stream.cpu start (take c.made stream.steps) (progress_of c)
+  pub replay : IsReplay knobs stream.cpu start (take c.made stream.steps) (replay_state_view c)
   pub going : IsGoing c
 
 -- the course has the page of the steps made, and can go on where none has failed and some are left
-pub record IsAt (stream : StreamReading) (knobs : Settings) (c : Course) : Type 0 where
+pub record IsAt (stream : StreamView) (knobs : Settings) (c : ReplayState) : Type 0 where
   pub within : c.made ≤ length stream.steps
-  pub is_page : IsPageOf stream knobs c.made (notes_shown c.notes)
-  pub under_way : c.notes.fault ≡ None → c.made < length stream.steps → IsUnderWay stream knobs c
+  pub is_page : IsPageOf stream knobs c.made (page_draft_view c.draft)
+  pub under_way : c.draft.fault ≡ None → c.made < length stream.steps → IsUnderWay stream knobs c
 
 -- a replay with this page, after so many steps of so many
 abbrev pub state_of : Option StepFault → ℕ → ℕ → State
-state_of (Some fault) made steps = state.Faulted
-state_of None made steps = if nat_lt made steps then state.Going else state.Done
+state_of (Some fault) made steps = states.Faulted
+state_of None made steps = if nat_lt made steps then states.Going else states.Done
 
 -- a page of so many steps without a fault
-abbrev pub IsFaultless : StreamReading → Settings → ℕ → Type 0
-IsFaultless stream knobs made = (page : PageReading) × IsPageOf stream knobs made page × (page.fault ≡ None)
+abbrev pub IsFaultless : StreamView → Settings → ℕ → Type 0
+IsFaultless stream knobs made = (page : PageView) × IsPageOf stream knobs made page × (page.fault ≡ None)
 
 -- a replay that had this page after so many steps went on for at most so many more
-pub record GoesOn (stream : StreamReading) (knobs : Settings) (from : ℕ) (before : PageReading) (steps made : ℕ) (after : PageReading)
+pub record GoesOn (stream : StreamView) (knobs : Settings) (from : ℕ) (before : PageView) (steps made : ℕ) (after : PageView)
     : Type 0 where
   -- a fault ends it: nothing changes any more
   pub faulted : IsSome before.fault → (made ≡ from) × (after ≡ before)
@@ -51,7 +51,7 @@ pub record GoesOn (stream : StreamReading) (knobs : Settings) (from : ℕ) (befo
   pub first : from < made → IsFaultless stream knobs (made - 1)
 
 -- a replay met want of memory before one of so many steps: it stands before that step
-pub record IsCut (stream : StreamReading) (knobs : Settings) (from steps made : ℕ) (after : PageReading) : Type 0 where
+pub record IsCut (stream : StreamView) (knobs : Settings) (from steps made : ℕ) (after : PageView) : Type 0 where
   pub faultless : after.fault ≡ None
   pub from_there : from ≤ made
   pub fewer : made < from + steps
@@ -62,5 +62,5 @@ abbrev pub reached_at : Option StepFault → ℕ → ℕ → ℕ → Reached
 reached_at (Some fault) line made steps = Faulted fault.line
 reached_at None line made steps = if nat_lt made steps then Stopped line else Done
 
-abbrev pub reached_of : PageReading → ℕ → ℕ → Reached
+abbrev pub reached_of : PageView → ℕ → ℕ → Reached
 reached_of page made steps = reached_at page.fault page.line made steps

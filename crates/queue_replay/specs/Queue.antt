@@ -1,26 +1,26 @@
 -- A runqueue, as the part of a machine at its processor (this project's profile).
 use Rattle.std.specs.Prelude.{◌≡◌, ℕ, zero, suc, ◌<◌, ⊤, vec_len, vec_capacity, Option, Some, List, pos, ◌+ℤ◌, ◌<ℤ◌}
-use Rattle.cfs_model.specs.Part.{Part, Stander, IsIn, start_part}
-use Rattle.cfs_model.specs.declared.step.Deed.{Deed}
-use Rattle.cfs_model.specs.declared.step.Deed.TheVariants.{Switch, Wake, Born, Leave, Arrive}
+use Rattle.replay_model.specs.Part.{Part, Entity, IsIn, start_part}
+use Rattle.replay_model.specs.declared.step.Deed.{Deed}
+use Rattle.replay_model.specs.declared.step.Deed.TheVariants.{Switch, Wake, Born, Leave, Arrive}
 use Rattle.cfs_model.specs.declared.task.Place.TheVariants.{Run, Wait}
 use Rattle.cfs_model.specs.Start.{task_of}
 use Rattle.cfs_model.specs.declared.task.Task.{Task}
-use Rattle.queue_replay.specs.Rows.{EachOnce}
+use Rattle.queue_replay.specs.TaskList.{EachOnce}
 use Rattle.queue_replay.specs.declared.runqueue.Runqueue.{Runqueue}
 
 -- the part of a machine that the runqueue stands for
-abbrev pub part_of : Runqueue → Part
-part_of q = start_part q.tasks.items q.floor q.mark
+abbrev pub runqueue_view : Runqueue → Part
+runqueue_view q = start_part q.tasks.items q.floor q.mark
 
 -- at most one runs
-abbrev pub OneRuns : Part → Type 0
-OneRuns part = (pid other : ℕ) → IsIn part Run pid → IsIn part Run other → pid ≡ other
+abbrev pub OneRunsHere : Part → Type 0
+OneRunsHere part = (pid other : ℕ) → IsIn part Run pid → IsIn part Run other → pid ≡ other
 
 -- a runqueue in order
 pub record IsKept (q : Runqueue) : Type 0 where
   pub once : EachOnce q.tasks.items
-  pub one_runs : OneRuns (part_of q)
+  pub one_runs : OneRunsHere (runqueue_view q)
 
 -- the processor goes idle, and somebody waits here
 abbrev pub IdlesBeside : Part → ℕ → ℕ → Type 0
@@ -28,10 +28,10 @@ IdlesBeside part zero pid = ((other : ℕ) × IsIn part Wait other) × (pid ≡ 
 IdlesBeside part (suc n) pid = ⊥
 
 -- the next task, as it stood, is above one that waits here by more than the granularity
-abbrev pub IsBeyond : ℕ → Option Stander → Part → ℕ → ℕ → Type 0
-IsBeyond granularity own part zero pid = ⊥
-IsBeyond granularity own part (suc n) pid =
-    ((s t : Stander) × (other : ℕ) × (own ≡ Some s) × (part.tasks other ≡ Some t) × (t.place ≡ Wait)
+abbrev pub IsAboveGranularity : ℕ → Option Entity → Part → ℕ → ℕ → Type 0
+IsAboveGranularity granularity own part zero pid = ⊥
+IsAboveGranularity granularity own part (suc n) pid =
+    ((s t : Entity) × (other : ℕ) × (own ≡ Some s) × (part.tasks other ≡ Some t) × (t.place ≡ Wait)
     × ((t.runtime +ℤ pos granularity) <ℤ s.runtime)) × (pid ≡ suc n)
 
 -- the runqueue's list has room for the task that a deed brings, if it brings one

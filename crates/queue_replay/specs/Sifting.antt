@@ -1,14 +1,14 @@
 -- What a test answers: the pid of which it holds, or none. What a row of tests answers: the first that holds, by its
 -- kind and its pid, or none (this project's profile).
 use Rattle.std.specs.Prelude.{ℕ, Option, Some, None, List, [], ◌∷◌}
-use Rattle.cfs_model.specs.Part.{Part}
-use Rattle.cfs_model.specs.Placing.{IsClaimMissing, IsClaimExtra, IsClaimPid, IsWrongPutBack, IsWakeOutside, IsForkOutside, IsNextNotWaiting, IsIdleBesideWaiting, IsNotLeast}
+use Rattle.replay_model.specs.Part.{Part}
+use Rattle.replay_model.specs.ClaimTests.{IsClaimMissing, IsClaimExtra, IsClaimPid, IsWrongPutBack, IsWakeOutside, IsForkOutside, IsNextNotWaiting, IsIdleBesideWaiting, IsNotLeast}
 use Rattle.cfs_model.specs.Settings.{Settings}
-use Rattle.cfs_model.specs.Standing.{IsPrevNotRunning, IsAlready}
-use Rattle.cfs_model.specs.Tests.{Test, NoneHolds, FirstHolds}
+use Rattle.replay_model.specs.QueueTests.{IsPrevNotRunning, IsAlready}
+use Rattle.replay_model.specs.Tests.{Test, NoneHolds, FirstHolds}
 use Rattle.cfs_model.specs.declared.kind.Kind.TheVariants as kind
-use Rattle.cfs_model.specs.declared.step.Step.{Step}
-use Rattle.queue_replay.specs.declared.broken.Broken.{Broken}
+use Rattle.replay_model.specs.declared.step.Step.{Step}
+use Rattle.queue_replay.specs.declared.failed_test.FailedTest.{FailedTest}
 
 -- whether a condition holds, and of which pid
 abbrev pub Decides : Option ℕ → (ℕ → Type 0) → Type 0
@@ -16,14 +16,14 @@ Decides None holds = (pid : ℕ) → ¬ holds pid
 Decides (Some pid) holds = holds pid
 
 -- the first test that holds, if one does
-abbrev pub IsFirst : Option Broken → List Test → Type 0
+abbrev pub IsFirst : Option FailedTest → List Test → Type 0
 IsFirst None tests = NoneHolds tests
-IsFirst (Some broken) tests = FirstHolds tests broken.kind broken.pid
+IsFirst (Some failed) tests = FirstHolds tests failed.kind failed.pid
 
 -- the first of the tests that holds, if one does before the rest; else what is first among the rest is first
-abbrev pub Sifts : Option Broken → List Test → List Test → Type 0
-Sifts None rest tests = (first : Option Broken) → IsFirst first rest → IsFirst first tests
-Sifts (Some broken) rest tests = FirstHolds tests broken.kind broken.pid
+abbrev pub Sifts : Option FailedTest → List Test → List Test → Type 0
+Sifts None rest tests = (first : Option FailedTest) → IsFirst first rest → IsFirst first tests
+Sifts (Some failed) rest tests = FirstHolds tests failed.kind failed.pid
 
 -- the tests of a switch's pick, the last two of a step's
 abbrev pub pick_tests : Settings → Part → Step → List Test
@@ -32,8 +32,8 @@ pick_tests knobs part step =
     record { kind = kind.NotLeast; holds = IsNotLeast knobs.granularity part step.deed } ∷ []
 
 -- the tests of a step's claim and of what follows it
-abbrev pub placing_tests : Settings → Part → Step → List Test
-placing_tests knobs part step =
+abbrev pub claim_tests : Settings → Part → Step → List Test
+claim_tests knobs part step =
     record { kind = kind.ClaimMissing; holds = IsClaimMissing part step.deed step.claim } ∷
     record { kind = kind.ClaimExtra; holds = IsClaimExtra part step.deed step.claim } ∷
     record { kind = kind.ClaimPid; holds = IsClaimPid part step.deed step.claim } ∷

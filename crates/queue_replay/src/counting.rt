@@ -1,11 +1,12 @@
 ghost use Rattle.std.specs.Prelude.{◌≡◌, ℕ, ◌+◌, ◌-◌, ◌*◌, ◌^◌, ◌<◌, ◌≤◌, ◌==◌, map, All, vec_len, vec_capacity};
 ghost use Rattle.std.specs.List.{list_any};
 ghost use Rattle.cfs_model.specs.Charge.{greatest};
-ghost use Rattle.cfs_model.specs.Noted.{picked, with_tally};
+ghost use Rattle.replay_model.specs.Noted.{picked, with_tally};
 ghost use Rattle.queue_replay.specs.Counting.{ran_tally, picked_tally, IsWithin};
-ghost use Rattle.queue_replay.specs.Rows.{cost_of};
+ghost use Rattle.queue_replay.specs.TaskList.{cost_of};
 
-use cfs_model::{Tally, Task, charge, weight};
+use cfs_model::{Task, charge, weight};
+use replay_model::Tally;
 
 /// Adds a stretch of running, in nanoseconds, and its charge to the tally of the task. Each tally is that of at most
 /// so many steps.

@@ -1,24 +1,22 @@
 //! The replay of one processor alone: its stream of steps, tested one after another, up to the first that fails.
 #![tactic(auto)]
 
-mod broken;
+mod claim_tests;
 mod counting;
-mod course;
-mod notes;
+mod failed_test;
 mod page;
-mod placing;
+mod page_draft;
+mod queue_tests;
 mod replay;
+mod replay_state;
 mod roll;
-mod rows;
 mod running;
 mod runqueue;
-mod standing;
 mod state;
 mod step_table;
 mod tag;
 mod tallies;
-#[cfg(test)]
-mod tests;
+mod task_list;
 mod tickets;
 
 pub use page::Page;

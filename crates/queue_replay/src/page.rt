@@ -1,13 +1,14 @@
 ghost use Rattle.std.specs.Prelude.{◌≡◌, length};
-ghost use Rattle.cfs_model.specs.Page.{IsPageOf};
+ghost use Rattle.replay_model.specs.Page.{IsPageOf};
 ghost use Rattle.queue_replay.specs.Made.{reached_of};
-ghost use Rattle.sched_record.specs.Stream.{stream_shown};
+ghost use Rattle.sched_record.specs.Stream.{stream_view};
 
 use crate::roll::Roll;
 use crate::tag::{Reached, Tag};
 use crate::tallies::Tallies;
 use crate::tickets::Tickets;
-use cfs_model::{Knobs, RollEntry, StepFault, Tally, Ticket};
+use cfs_model::Knobs;
+use replay_model::{LifeEvent, StepFault, Tally, Ticket};
 use sched_record::Stream;
 
 /// What the replay of one processor found, by its first steps.
@@ -23,11 +24,11 @@ pub struct Page {
     pub(crate) births: Roll,
     pub(crate) deaths: Roll,
     pub(crate) tallies: Tallies,
-    pub ghost is_page: { ∥ IsPageOf (stream_shown stream) knobs made (record { line = line; fault = fault; left = left; came = came; births = births; deaths = deaths; tallies = tallies }) ∥₁ },
+    pub ghost is_page: { ∥ IsPageOf (stream_view stream) knobs made (record { line = line; fault = fault; left = left; came = came; births = births; deaths = deaths; tallies = tallies }) ∥₁ },
 }
 
 impl Page {
-    ghost use Rattle.queue_replay.specs.Page.{page_shown};
+    ghost use Rattle.queue_replay.specs.Page.{page_view};
 
     /// The stream that was replayed.
     pub fn stream(&self) -> &Stream
@@ -52,57 +53,57 @@ impl Page {
 
     /// The line of the last step that passed, from 1, comments counted; 0 if none did.
     pub fn line(&self) -> u32
-        ensures { result ≡ (page_shown self.now).line }
+        ensures { result ≡ (page_view self.now).line }
     {
         self.line
     }
 
     /// The first fault, of a step or of the end test.
     pub fn fault(&self) -> Option<StepFault>
-        ensures { result ≡ (page_shown self.now).fault }
+        ensures { result ≡ (page_view self.now).fault }
     {
         self.fault
     }
 
     /// The tickets of the tasks that left, in the order of their lines.
     pub fn left(&self) -> &[Ticket]
-        ensures { result.now ≡ (page_shown self.now).left }
+        ensures { result.now ≡ (page_view self.now).left }
     {
         self.left.as_slice()
     }
 
     /// The tickets of the tasks that came, in the order of their lines.
     pub fn came(&self) -> &[Ticket]
-        ensures { result.now ≡ (page_shown self.now).came }
+        ensures { result.now ≡ (page_view self.now).came }
     {
         self.came.as_slice()
     }
 
     /// The births, in the order of their lines.
-    pub fn births(&self) -> &[RollEntry]
-        ensures { result.now ≡ (page_shown self.now).births }
+    pub fn births(&self) -> &[LifeEvent]
+        ensures { result.now ≡ (page_view self.now).births }
     {
         self.births.as_slice()
     }
 
     /// The deaths, in the order of their lines.
-    pub fn deaths(&self) -> &[RollEntry]
-        ensures { result.now ≡ (page_shown self.now).deaths }
+    pub fn deaths(&self) -> &[LifeEvent]
+        ensures { result.now ≡ (page_view self.now).deaths }
     {
         self.deaths.as_slice()
     }
 
     /// One for each pid that stood here, in the order in which they first did.
     pub fn tallies(&self) -> &[Tally]
-        ensures { result.now ≡ (page_shown self.now).tallies }
+        ensures { result.now ≡ (page_view self.now).tallies }
     {
         self.tallies.as_slice()
     }
 
     /// The processor, and how far the replay went.
     pub fn tag(&self) -> Tag
-        ensures cpu { result.cpu ≡ (stream_shown self.now.stream).cpu }
-        ensures reached { result.reached ≡ reached_of (page_shown self.now) self.now.made (length (stream_shown self.now.stream).steps) }
+        ensures cpu { result.cpu ≡ (stream_view self.now.stream).cpu }
+        ensures reached { result.reached ≡ reached_of (page_view self.now) self.now.made (length (stream_view self.now.stream).steps) }
     {
         Tag {
             cpu: self.stream.cpu(),
@@ -111,7 +112,7 @@ impl Page {
     }
 
     fn reached(&self) -> Reached
-        ensures { result ≡ reached_of (page_shown self.now) self.now.made (length (stream_shown self.now.stream).steps) }
+        ensures { result ≡ reached_of (page_view self.now) self.now.made (length (stream_view self.now.stream).steps) }
     {
         match self.fault {
             Some(fault) => Reached::Faulted(fault.line),

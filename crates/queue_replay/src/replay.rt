@@ -1,12 +1,12 @@
 ghost use Rattle.std.specs.Prelude.{◌≡◌, length, IfOk, IfErr, OnOk, OnErr};
-ghost use Rattle.cfs_model.specs.Page.{IsPageOf};
-ghost use Rattle.queue_replay.specs.Counting.{notes_shown};
+ghost use Rattle.replay_model.specs.Page.{IsPageOf};
+ghost use Rattle.queue_replay.specs.Counting.{page_draft_view};
 ghost use Rattle.queue_replay.specs.Made.{IsAt, IsCut, GoesOn, state_of};
-ghost use Rattle.sched_record.specs.Stream.{stream_shown};
+ghost use Rattle.sched_record.specs.Stream.{stream_view};
 
-use crate::course::Course;
-use crate::notes::Notes;
 use crate::page::Page;
+use crate::page_draft::PageDraft;
+use crate::replay_state::ReplayState;
 use crate::roll::Roll;
 use crate::running::{run, start};
 use crate::state::State;
@@ -22,38 +22,38 @@ use std::marker::Model;
 pub struct Replay {
     stream: Stream,
     knobs: Knobs,
-    course: Course,
+    state: ReplayState,
 }
 
 impl Model for Replay {
-    ghost use Rattle.queue_replay.specs.Counting.{notes_shown};
+    ghost use Rattle.queue_replay.specs.Counting.{page_draft_view};
     ghost use Rattle.queue_replay.specs.Made.{IsAt};
-    ghost use Rattle.queue_replay.specs.Replay.{ReplayReading};
-    ghost use Rattle.sched_record.specs.Stream.{stream_shown};
+    ghost use Rattle.queue_replay.specs.Replay.{ReplayView};
+    ghost use Rattle.sched_record.specs.Stream.{stream_view};
 
-    ghost Value = { ReplayReading };
+    ghost Value = { ReplayView };
 
-    ghost view = { λ r. record { stream = stream_shown r.stream; knobs = r.knobs; made = r.course.made; page = notes_shown r.course.notes } };
+    ghost view = { λ r. record { stream = stream_view r.stream; knobs = r.knobs; made = r.state.made; page = page_draft_view r.state.draft } };
 
-    ghost invariant = { λ r. IsAt (stream_shown r.stream) r.knobs r.course };
+    ghost invariant = { λ r. IsAt (stream_view r.stream) r.knobs r.state };
 }
 
 impl Replay {
-    ghost use Rattle.queue_replay.specs.Page.{page_shown};
+    ghost use Rattle.queue_replay.specs.Page.{page_view};
 
     /// The replay before its first step; on a stream without steps, after the end test. Where memory is wanted the
     /// stream comes back.
     pub fn new(alloc: Global, stream: Stream, knobs: Knobs) -> Result<Replay, (Stream, Memory)>
-        ensures stream { IfOk result (λ r. r.stream ≡ stream_shown stream) }
+        ensures stream { IfOk result (λ r. r.stream ≡ stream_view stream) }
         ensures knobs { IfOk result (λ r. r.knobs ≡ knobs) }
         ensures made { IfOk result (λ r. r.made ≡ 0) }
         ensures back { IfErr result (λ e. e.0 ≡ stream) }
     {
         match start(alloc, &stream, knobs) {
-            Ok(course) => Ok(Replay {
+            Ok(state) => Ok(Replay {
                 stream,
                 knobs,
-                course,
+                state,
             }),
             Err(memory) => Err((stream, memory)),
         }
@@ -65,21 +65,21 @@ impl Replay {
     pub fn go_on(&mut self, steps: u64) -> Result<State, Memory>
         ensures stream { self.new.stream ≡ self.old.stream }
         ensures knobs { self.new.knobs ≡ self.old.knobs }
-        ensures state { IfOk result (λ state. state ≡ state_of self.new.page.fault self.new.made (length self.new.stream.steps)) }
+        ensures state { IfOk result (λ answer. answer ≡ state_of self.new.page.fault self.new.made (length self.new.stream.steps)) }
         ensures made { OnOk result (GoesOn self.old.stream self.old.knobs self.old.made self.old.page steps self.new.made self.new.page) }
         ensures memory { OnErr result (IsCut self.old.stream self.old.knobs self.old.made steps self.new.made self.new.page) }
     {
-        run(&self.stream, self.knobs, &mut self.course, steps)?;
+        run(&self.stream, self.knobs, &mut self.state, steps)?;
         Ok(self.state())
     }
 
     fn state(&self) -> State
         ensures { result ≡ state_of self.now.page.fault self.now.made (length self.now.stream.steps) }
     {
-        match self.course.notes.fault {
+        match self.state.draft.fault {
             Some(_) => State::Faulted,
             None => {
-                if self.course.made < self.stream.steps().len() {
+                if self.state.made < self.stream.steps().len() {
                     State::Going
                 } else {
                     State::Done
@@ -92,24 +92,24 @@ impl Replay {
     pub fn line(&self) -> u32
         ensures { result ≡ self.now.page.line }
     {
-        self.course.notes.line
+        self.state.draft.line
     }
 
     /// What the replay found so far.
     pub fn page(self) -> Page
-        ensures stream { stream_shown result.stream ≡ self.stream }
+        ensures stream { stream_view result.stream ≡ self.stream }
         ensures knobs { result.knobs ≡ self.knobs }
         ensures made { result.made ≡ self.made }
-        ensures page { page_shown result ≡ self.page }
+        ensures page { page_view result ≡ self.page }
         ensures is_page { IsPageOf self.stream self.knobs self.made self.page }
     {
         let Replay {
             stream,
             knobs,
-            course,
+            state,
         } = self;
-        let Course { made, notes, .. } = course;
-        let Notes {
+        let ReplayState { made, draft, .. } = state;
+        let PageDraft {
             line,
             fault,
             left,
@@ -117,7 +117,7 @@ impl Replay {
             births,
             deaths,
             tallies,
-        } = notes;
+        } = draft;
         Page {
             stream,
             knobs,

@@ -1,15 +1,16 @@
 ghost use Rattle.std.specs.Prelude.{◌≡◌, ◌+◌, ◌<◌, ◌≤◌, true, false, None, IsSome, ◌⊎◌, map, length, OnOk, OnErr, IfOk};
-ghost use Rattle.cfs_model.specs.Noted.{new_tally};
-ghost use Rattle.cfs_model.specs.Page.{IsStartOf, end_page};
-ghost use Rattle.queue_replay.specs.Counting.{notes_shown};
-ghost use Rattle.queue_replay.specs.Course.{IsGoing, progress_of};
+ghost use Rattle.replay_model.specs.Noted.{new_tally};
+ghost use Rattle.replay_model.specs.Page.{IsStartOf, end_page};
+ghost use Rattle.queue_replay.specs.Counting.{page_draft_view};
+ghost use Rattle.queue_replay.specs.ReplayState.{IsGoing, replay_state_view};
 ghost use Rattle.queue_replay.specs.Made.{IsAt, IsCut, GoesOn};
-ghost use Rattle.sched_record.specs.Stream.{stream_shown};
+ghost use Rattle.sched_record.specs.Stream.{stream_view};
 
-use crate::course::{Course, idle_deadline, since_after};
-use crate::notes::Notes;
+use crate::page_draft::PageDraft;
+use crate::replay_state::{ReplayState, idle_deadline, since_after};
 use crate::runqueue::Runqueue;
-use cfs_model::{Kind, Knobs, Memory, StepFault, Tally, Task};
+use cfs_model::{Kind, Knobs, Memory, Task};
+use replay_model::{StepFault, Tally};
 use sched_record::Stream;
 use std::alloc::Global;
 
@@ -17,63 +18,63 @@ use std::alloc::Global;
 pub(crate) fn run(
     stream: &Stream,
     knobs: Knobs,
-    course: &mut Course,
+    state: &mut ReplayState,
     steps: u64,
 ) -> Result<(), Memory>
-    requires { IsAt (stream_shown stream.now) knobs course.old }
-    ensures at { IsAt (stream_shown stream.now) knobs course.new }
-    ensures made { OnOk result (GoesOn (stream_shown stream.now) knobs course.old.made (notes_shown course.old.notes) steps course.new.made (notes_shown course.new.notes)) }
-    ensures memory { OnErr result (IsCut (stream_shown stream.now) knobs course.old.made steps course.new.made (notes_shown course.new.notes)) }
+    requires { IsAt (stream_view stream.now) knobs state.old }
+    ensures at { IsAt (stream_view stream.now) knobs state.new }
+    ensures made { OnOk result (GoesOn (stream_view stream.now) knobs state.old.made (page_draft_view state.old.draft) steps state.new.made (page_draft_view state.new.draft)) }
+    ensures memory { OnErr result (IsCut (stream_view stream.now) knobs state.old.made steps state.new.made (page_draft_view state.new.draft)) }
 {
     let mut left = steps;
     while left > 0 {
-        if !is_going(stream, course) {
+        if !is_going(stream, state) {
             return Ok(());
         }
-        advance(stream, knobs, course)?;
+        advance(stream, knobs, state)?;
         left -= 1;
     }
     Ok(())
 }
 
 /// Steps are left, and none has failed.
-fn is_going(stream: &Stream, course: &Course) -> bool
-    ensures going { result ≡ true → (course.now.notes.fault ≡ None) × (course.now.made < length (stream_shown stream.now).steps) }
-    ensures over { result ≡ false → IsSome course.now.notes.fault ⊎ (length (stream_shown stream.now).steps ≤ course.now.made) }
+fn is_going(stream: &Stream, state: &ReplayState) -> bool
+    ensures going { result ≡ true → (state.now.draft.fault ≡ None) × (state.now.made < length (stream_view stream.now).steps) }
+    ensures over { result ≡ false → IsSome state.now.draft.fault ⊎ (length (stream_view stream.now).steps ≤ state.now.made) }
 {
-    match course.notes.fault {
+    match state.draft.fault {
         Some(_) => false,
-        None => course.made < stream.steps().len(),
+        None => state.made < stream.steps().len(),
     }
 }
 
 /// Makes the next step, and the end test where none is then left.
-fn advance(stream: &Stream, knobs: Knobs, course: &mut Course) -> Result<(), Memory>
-    requires at { IsAt (stream_shown stream.now) knobs course.old }
-    requires fault { course.old.notes.fault ≡ None }
-    requires left { course.old.made < length (stream_shown stream.now).steps }
-    ensures at { IsAt (stream_shown stream.now) knobs course.new }
-    ensures made { OnOk result (course.new.made ≡ course.old.made + 1) }
-    ensures memory { OnErr result ((course.new.made ≡ course.old.made) × (notes_shown course.new.notes ≡ notes_shown course.old.notes)) }
+fn advance(stream: &Stream, knobs: Knobs, state: &mut ReplayState) -> Result<(), Memory>
+    requires at { IsAt (stream_view stream.now) knobs state.old }
+    requires fault { state.old.draft.fault ≡ None }
+    requires left { state.old.made < length (stream_view stream.now).steps }
+    ensures at { IsAt (stream_view stream.now) knobs state.new }
+    ensures made { OnOk result (state.new.made ≡ state.old.made + 1) }
+    ensures memory { OnErr result ((state.new.made ≡ state.old.made) × (page_draft_view state.new.draft ≡ page_draft_view state.old.draft)) }
 {
-    let step = stream.steps()[course.made];
-    course.step(stream.cpu(), &step, knobs)?;
-    if course.made == stream.steps().len() {
-        end_test(stream, knobs, course);
+    let step = stream.steps()[state.made];
+    state.step(stream.cpu(), &step, knobs)?;
+    if state.made == stream.steps().len() {
+        end_test(stream, knobs, state);
     }
     Ok(())
 }
 
 /// A processor that idles beside a waiting task at the record's end may have idled for too long.
-fn end_test(stream: &Stream, knobs: Knobs, course: &mut Course)
-    ensures made { course.new.made ≡ course.old.made }
-    ensures page { notes_shown course.new.notes ≡ end_page knobs.slack (stream_shown stream.now) course.old.since course.old.notes.fault (notes_shown course.old.notes) }
+fn end_test(stream: &Stream, knobs: Knobs, state: &mut ReplayState)
+    ensures made { state.new.made ≡ state.old.made }
+    ensures page { page_draft_view state.new.draft ≡ end_page knobs.slack (stream_view stream.now) state.old.since state.old.draft.fault (page_draft_view state.old.draft) }
 {
-    if course.notes.fault.is_some() {
+    if state.draft.fault.is_some() {
         return;
     }
-    if let Some(deadline) = idle_deadline(course.since, stream.last_time(), knobs.slack()) {
-        course.notes.fault = Some(StepFault {
+    if let Some(deadline) = idle_deadline(state.since, stream.last_time(), knobs.slack()) {
+        state.draft.fault = Some(StepFault {
             line: stream.last_line(),
             kind: Kind::IdleTooLong,
             pid: 0,
@@ -83,21 +84,21 @@ fn end_test(stream: &Stream, knobs: Knobs, course: &mut Course)
 }
 
 /// The course before the first step; on a stream without steps, after the end test.
-pub(crate) fn start(alloc: Global, stream: &Stream, knobs: Knobs) -> Result<Course, Memory>
-    ensures at { IfOk result (λ c. IsAt (stream_shown stream.now) knobs c) }
+pub(crate) fn start(alloc: Global, stream: &Stream, knobs: Knobs) -> Result<ReplayState, Memory>
+    ensures at { IfOk result (λ c. IsAt (stream_view stream.now) knobs c) }
     ensures made { IfOk result (λ c. c.made ≡ 0) }
 {
-    let mut course = before_steps(alloc, stream)?;
+    let mut state = before_steps(alloc, stream)?;
     if stream.steps().is_empty() {
-        end_test(stream, knobs, &mut course);
+        end_test(stream, knobs, &mut state);
     }
-    Ok(course)
+    Ok(state)
 }
 
 /// The course before the first step.
-fn before_steps(alloc: Global, stream: &Stream) -> Result<Course, Memory>
+fn before_steps(alloc: Global, stream: &Stream) -> Result<ReplayState, Memory>
     ensures made { IfOk result (λ c. c.made ≡ 0) }
-    ensures start { IfOk result (λ c. IsStartOf (stream_shown stream.now) (progress_of c)) }
+    ensures start { IfOk result (λ c. IsStartOf (stream_view stream.now) (replay_state_view c)) }
     ensures going { IfOk result IsGoing }
 {
     let queue = Runqueue {
@@ -105,11 +106,11 @@ fn before_steps(alloc: Global, stream: &Stream) -> Result<Course, Memory>
         floor: stream.floor(),
         mark: stream.start(),
     };
-    Ok(Course {
+    Ok(ReplayState {
         made: 0,
         since: since_after(None, stream.start(), &queue),
         queue,
-        notes: Notes {
+        draft: PageDraft {
             line: 0,
             fault: None,
             left: Vec::new(alloc),

@@ -1,12 +1,12 @@
 ghost use Rattle.std.specs.Prelude.{◌≡◌, ℕ, ◌-◌, ◌<◌, None, Some, vec_len, vec_capacity, All, Contains, map, OnOk, IfErr};
-ghost use Rattle.cfs_model.specs.Deeds.{goes, part_after_next, part_after_prev, wakes, with_stander};
-ghost use Rattle.cfs_model.specs.Part.{IsLiftedPart};
-ghost use Rattle.cfs_model.specs.Standing.{IsOutOfRange};
+ghost use Rattle.replay_model.specs.Deeds.{goes, part_after_next, part_after_prev, wakes, with_entity};
+ghost use Rattle.replay_model.specs.Part.{IsLiftedPart};
+ghost use Rattle.replay_model.specs.QueueTests.{IsOutOfRange};
 ghost use Rattle.cfs_model.specs.declared.task.Task.{Task as TaskOf};
-ghost use Rattle.queue_replay.specs.Rows.{CanBeCharged, charged_task, queued_runtimes, IsRaisedBy, placed, roused, without, standing, EachOnce};
-ghost use Rattle.queue_replay.specs.Queue.{part_of};
+ghost use Rattle.queue_replay.specs.TaskList.{CanBeCharged, charged_task, queued_runtimes, IsRaisedBy, moved_to, roused, without, standing, EachOnce};
+ghost use Rattle.queue_replay.specs.Queue.{runqueue_view};
 
-use crate::rows::{charge_running, least_queued, put_in, rouse};
+use crate::task_list::{charge_running, least_queued, put_in, rouse};
 use cfs_model::{Claim, Place, Task, Way};
 
 /// Those who stand at the processor, and what the processor keeps.
@@ -24,11 +24,11 @@ impl Runqueue {
     /// Charges who runs, up to this time, and raises the floor. Else the pid of one whom that takes out of range.
     pub fn lift(&mut self, time: u64) -> Result<(), u32>
         requires { EachOnce self.old.tasks.items }
-        ensures in_range { OnOk result ((pid : ℕ) → IsOutOfRange (part_of self.old) time pid → ⊥) }
-        ensures lifted { OnOk result (IsLiftedPart time (part_of self.old) (part_of self.new)) }
+        ensures in_range { OnOk result ((pid : ℕ) → IsOutOfRange (runqueue_view self.old) time pid → ⊥) }
+        ensures lifted { OnOk result (IsLiftedPart time (runqueue_view self.old) (runqueue_view self.new)) }
         ensures once { OnOk result (EachOnce self.new.tasks.items) }
         ensures room { (vec_len self.new.tasks ≡ vec_len self.old.tasks) × (vec_capacity self.new.tasks ≡ vec_capacity self.old.tasks) }
-        ensures above { IfErr result (IsOutOfRange (part_of self.old) time) }
+        ensures above { IfErr result (IsOutOfRange (runqueue_view self.old) time) }
     {
         self.charge(time)
     }
@@ -53,7 +53,7 @@ impl Runqueue {
     /// The previous task of a switch waits, rests or is gone.
     pub fn take_off(&mut self, prev: u32, way: Way)
         requires { EachOnce self.old.tasks.items }
-        ensures part { part_of self.new ≡ part_after_prev (part_of self.old) prev way }
+        ensures part { runqueue_view self.new ≡ part_after_prev (runqueue_view self.old) prev way }
         ensures once { EachOnce self.new.tasks.items }
     {
         if prev == 0 {
@@ -69,7 +69,7 @@ impl Runqueue {
     /// The next task of a switch runs.
     pub fn put_on(&mut self, next: u32)
         requires { EachOnce self.old.tasks.items }
-        ensures part { part_of self.new ≡ part_after_next (part_of self.old) next }
+        ensures part { runqueue_view self.new ≡ part_after_next (runqueue_view self.old) next }
         ensures once { EachOnce self.new.tasks.items }
     {
         if next == 0 {
@@ -81,7 +81,7 @@ impl Runqueue {
     /// The task of this pid goes to another place.
     pub fn put_in(&mut self, pid: u32, place: Place)
         requires { EachOnce self.old.tasks.items }
-        ensures part { part_of self.new ≡ goes (part_of self.old) pid place }
+        ensures part { runqueue_view self.new ≡ goes (runqueue_view self.old) pid place }
         ensures once { EachOnce self.new.tasks.items }
     {
         self.change_place(pid, place);
@@ -90,7 +90,7 @@ impl Runqueue {
     /// The task of this pid stands here no more.
     pub fn remove(&mut self, pid: u32)
         requires { EachOnce self.old.tasks.items }
-        ensures part { part_of self.new ≡ with_stander (part_of self.old) pid None }
+        ensures part { runqueue_view self.new ≡ with_entity (runqueue_view self.old) pid None }
         ensures once { EachOnce self.new.tasks.items }
     {
         self.drop_row(pid);
@@ -99,7 +99,7 @@ impl Runqueue {
     /// The task of this pid waits at the claimed virtual runtime, if it rests.
     pub fn wake(&mut self, pid: u32, claim: Claim)
         requires { EachOnce self.old.tasks.items }
-        ensures part { part_of self.new ≡ wakes (part_of self.old) pid (Some claim) }
+        ensures part { runqueue_view self.new ≡ wakes (runqueue_view self.old) pid (Some claim) }
         ensures once { EachOnce self.new.tasks.items }
     {
         self.rouse_row(pid, claim);
@@ -109,8 +109,8 @@ impl Runqueue {
     pub fn add(&mut self, task: Task)
         requires once { EachOnce self.old.tasks.items }
         requires room { vec_len self.old.tasks < vec_capacity self.old.tasks }
-        requires apart { (part_of self.old).tasks task.pid ≡ None }
-        ensures part { part_of self.new ≡ with_stander (part_of self.old) task.pid (Some (standing task)) }
+        requires apart { (runqueue_view self.old).tasks task.pid ≡ None }
+        ensures part { runqueue_view self.new ≡ with_entity (runqueue_view self.old) task.pid (Some (standing task)) }
         ensures once { EachOnce self.new.tasks.items }
     {
         if self.tasks.push(task).is_err() {
@@ -119,7 +119,7 @@ impl Runqueue {
     }
 
     fn change_place(&mut self, pid: u32, place: Place)
-        ensures tasks { self.new.tasks.items ≡ map (placed pid place) self.old.tasks.items }
+        ensures tasks { self.new.tasks.items ≡ map (moved_to pid place) self.old.tasks.items }
         ensures floor { self.new.floor ≡ self.old.floor }
         ensures mark { self.new.mark ≡ self.old.mark }
     {

@@ -1,35 +1,36 @@
 ghost use Rattle.std.specs.Prelude.{◌≡◌, ◌≢◌, ℕ, ◌+◌, ◌-◌, ◌^◌, ◌<◌, None, IfSome, OnOk, OnErr};
-ghost use Rattle.cfs_model.specs.Deeds.{after_deed};
-ghost use Rattle.cfs_model.specs.Placing.{IsClaimMissing};
-ghost use Rattle.cfs_model.specs.Page.{FailsTest};
-ghost use Rattle.cfs_model.specs.Standing.{IsIdleTooLong, IsPrevNotRunning, IsAlready};
-ghost use Rattle.cfs_model.specs.Tests.{late_tests};
+ghost use Rattle.replay_model.specs.Deeds.{after_deed};
+ghost use Rattle.replay_model.specs.ClaimTests.{IsClaimMissing};
+ghost use Rattle.replay_model.specs.Page.{FailsTest};
+ghost use Rattle.replay_model.specs.QueueTests.{IsIdleTooLong, IsPrevNotRunning, IsAlready};
+ghost use Rattle.replay_model.specs.Tests.{late_tests};
 ghost use Rattle.cfs_model.specs.declared.kind.Kind.TheVariants.{IdleTooLong};
-ghost use Rattle.queue_replay.specs.Counting.{HasNoteRoom, notes_shown, with_note};
-ghost use Rattle.queue_replay.specs.Course.{IsGoing, IsPassed, IsStepped, progress_of};
-ghost use Rattle.queue_replay.specs.Queue.{part_of, HasRoom, IsSubject, IsNext};
-ghost use Rattle.queue_replay.specs.Rows.{EachOnce, standing};
-ghost use Rattle.queue_replay.specs.Sifting.{Sifts, pick_tests, placing_tests, IsFirst, IsCleared};
+ghost use Rattle.queue_replay.specs.Counting.{HasNoteRoom, page_draft_view, with_note};
+ghost use Rattle.queue_replay.specs.ReplayState.{IsGoing, IsPassed, IsStepped, replay_state_view};
+ghost use Rattle.queue_replay.specs.Queue.{runqueue_view, HasRoom, IsSubject, IsNext};
+ghost use Rattle.queue_replay.specs.TaskList.{EachOnce, standing};
+ghost use Rattle.queue_replay.specs.Sifting.{Sifts, pick_tests, claim_tests, IsFirst, IsCleared};
 
-use crate::broken::Broken;
-use crate::course::{Course, idle_deadline, place_of, since_after, ticket_of};
-use crate::placing::{
+use crate::claim_tests::{
     claim_extra, claim_missing, claim_pid, fork_outside, idle_beside_waiting, next_not_waiting,
     not_least, wake_outside, wrong_put_back,
 };
-use crate::rows::runner_of;
-use crate::runqueue::Runqueue;
-use crate::standing::{
+use crate::failed_test::FailedTest;
+use crate::queue_tests::{
     already, move_home, move_running, next_of, prev_not_running, self_switch, strange, subject_of,
     wrong_prio,
 };
-use cfs_model::{Claim, Deed, Kind, Knobs, Memory, Nice, Place, Step, StepFault, Task};
+use crate::replay_state::{ReplayState, idle_deadline, place_of, since_after, ticket_of};
+use crate::runqueue::Runqueue;
+use crate::task_list::runner_of;
+use cfs_model::{Claim, Kind, Knobs, Memory, Nice, Place, Task};
+use replay_model::{Deed, Step, StepFault};
 
 // Conditions in their order, each with the kind of fault that it is: the first that holds is answered.
 macro_rules! guard {
     ($($kind:ident: $condition:expr,)+) => {
         $(if let Some(pid) = $condition {
-            return Some(Broken {
+            return Some(FailedTest {
                 kind: Kind::$kind,
                 pid,
             });
@@ -41,7 +42,7 @@ macro_rules! guard {
 macro_rules! lift {
     ($queue:expr, $time:expr) => {
         if let Err(pid) = $queue.lift($time) {
-            return Some(Broken {
+            return Some(FailedTest {
                 kind: Kind::Range,
                 pid,
             });
@@ -69,21 +70,21 @@ macro_rules! moves {
 }
 
 /// Who stands where: the first test that the step fails before its claim is looked at.
-fn first_of_standing(
+fn first_queue_test(
     queue: &Runqueue,
     cpu: u32,
     step: &Step,
     subject: &Option<Task>,
     next: &Option<Task>,
     knobs: Knobs,
-) -> Option<Broken>
+) -> Option<FailedTest>
     requires once { EachOnce queue.now.tasks.items }
     requires subject { IsSubject queue.now.tasks.items step.now.deed subject.now }
     requires next { IsNext queue.now.tasks.items step.now.deed next.now }
-    ensures later { IfSome result (λ broken. broken.kind ≢ IdleTooLong) }
-    ensures runner { result ≡ None → (pid : ℕ) → IsPrevNotRunning (part_of queue.now) step.now.deed pid → ⊥ }
-    ensures apart { result ≡ None → (pid : ℕ) → IsAlready (part_of queue.now) step.now.deed pid → ⊥ }
-    ensures first { Sifts result (placing_tests knobs (part_of queue.now) step.now) (late_tests knobs cpu (part_of queue.now) step.now) }
+    ensures later { IfSome result (λ failed. failed.kind ≢ IdleTooLong) }
+    ensures runner { result ≡ None → (pid : ℕ) → IsPrevNotRunning (runqueue_view queue.now) step.now.deed pid → ⊥ }
+    ensures apart { result ≡ None → (pid : ℕ) → IsAlready (runqueue_view queue.now) step.now.deed pid → ⊥ }
+    ensures first { Sifts result (claim_tests knobs (runqueue_view queue.now) step.now) (late_tests knobs cpu (runqueue_view queue.now) step.now) }
 {
     guard!(
         MoveHome: move_home(cpu, step),
@@ -98,18 +99,18 @@ fn first_of_standing(
 }
 
 /// The claim, and where it places a task: the first test that the step fails before its pick is looked at.
-fn first_of_placing(
+fn first_claim_test(
     queue: &Runqueue,
     step: &Step,
     subject: &Option<Task>,
     next: &Option<Task>,
     knobs: Knobs,
-) -> Option<Broken>
+) -> Option<FailedTest>
     requires subject { IsSubject queue.now.tasks.items step.now.deed subject.now }
     requires next { IsNext queue.now.tasks.items step.now.deed next.now }
-    ensures later { IfSome result (λ broken. broken.kind ≢ IdleTooLong) }
-    ensures claimed { result ≡ None → (pid : ℕ) → IsClaimMissing (part_of queue.now) step.now.deed step.now.claim pid → ⊥ }
-    ensures first { Sifts result (pick_tests knobs (part_of queue.now) step.now) (placing_tests knobs (part_of queue.now) step.now) }
+    ensures later { IfSome result (λ failed. failed.kind ≢ IdleTooLong) }
+    ensures claimed { result ≡ None → (pid : ℕ) → IsClaimMissing (runqueue_view queue.now) step.now.deed step.now.claim pid → ⊥ }
+    ensures first { Sifts result (pick_tests knobs (runqueue_view queue.now) step.now) (claim_tests knobs (runqueue_view queue.now) step.now) }
 {
     guard!(
         ClaimMissing: claim_missing(queue, step, subject),
@@ -131,14 +132,14 @@ fn make(
     step: &Step,
     own: Option<Task>,
     knobs: Knobs,
-) -> Option<Broken>
+) -> Option<FailedTest>
     requires own { IsNext queue.old.tasks.items step.now.deed own }
     requires once { EachOnce queue.old.tasks.items }
     requires room { HasRoom step.now.deed queue.old }
-    requires cleared { IsCleared (part_of queue.old) step.now }
-    ensures later { IfSome result (λ broken. broken.kind ≢ IdleTooLong) }
-    ensures first { IsFirst result (pick_tests knobs (part_of queue.old) step.now) }
-    ensures part { result ≡ None → part_of queue.new ≡ after_deed (part_of queue.old) step.now.deed step.now.claim }
+    requires cleared { IsCleared (runqueue_view queue.old) step.now }
+    ensures later { IfSome result (λ failed. failed.kind ≢ IdleTooLong) }
+    ensures first { IsFirst result (pick_tests knobs (runqueue_view queue.old) step.now) }
+    ensures part { result ≡ None → runqueue_view queue.new ≡ after_deed (runqueue_view queue.old) step.now.deed step.now.claim }
     ensures once { EachOnce queue.new.tasks.items }
 {
     let deed = step.deed;
@@ -199,89 +200,89 @@ fn standing_at(place: Place, pid: u32, nice: Nice, cpu: u32, claim: Claim) -> Ta
     }
 }
 
-impl Course {
+impl ReplayState {
     /// One step: it passes and is made, or its fault is noted.
     pub fn step(&mut self, cpu: u32, step: &Step, knobs: Knobs) -> Result<(), Memory>
         requires going { IsGoing self.old }
         requires few { self.old.made < 2 ^ 64 - 1 }
         ensures made { OnOk result (self.new.made ≡ self.old.made + 1) }
-        ensures stepped { OnOk result (IsStepped knobs cpu (progress_of self.old) step.now self.new) }
-        ensures memory { OnErr result (IsGoing self.new × (progress_of self.new ≡ progress_of self.old) × (self.new.made ≡ self.old.made)) }
+        ensures stepped { OnOk result (IsStepped knobs cpu (replay_state_view self.old) step.now self.new) }
+        ensures memory { OnErr result (IsGoing self.new × (replay_state_view self.new ≡ replay_state_view self.old) × (self.new.made ≡ self.old.made)) }
     {
         self.make_room(step)?;
-        self.judge(cpu, step, knobs);
+        self.test_step(cpu, step, knobs);
         Ok(())
     }
 
     /// The same, where there is room for what the step adds.
-    fn judge(&mut self, cpu: u32, step: &Step, knobs: Knobs)
+    fn test_step(&mut self, cpu: u32, step: &Step, knobs: Knobs)
         requires going { IsGoing self.old }
         requires few { self.old.made < 2 ^ 64 - 1 }
         requires queue { HasRoom step.now.deed self.old.queue }
-        requires notes { HasNoteRoom step.now.deed self.old.notes }
+        requires draft { HasNoteRoom step.now.deed self.old.draft }
         ensures made { self.new.made ≡ self.old.made + 1 }
-        ensures stepped { IsStepped knobs cpu (progress_of self.old) step.now self.new }
+        ensures stepped { IsStepped knobs cpu (replay_state_view self.old) step.now self.new }
     {
         if let Some(deadline) = idle_deadline(self.since, step.time, knobs.slack()) {
-            let broken = Broken {
+            let failed = FailedTest {
                 kind: Kind::IdleTooLong,
                 pid: 0,
             };
-            self.fail(step.line, broken, Some(deadline));
+            self.fail(step.line, failed, Some(deadline));
             return;
         }
-        if let Some(broken) = self.pass(cpu, step, knobs) {
-            self.fail(step.line, broken, None);
+        if let Some(failed) = self.pass(cpu, step, knobs) {
+            self.fail(step.line, failed, None);
             return;
         }
         self.made += 1;
     }
 
     /// Notes a fault, and counts its step.
-    fn fail(&mut self, line: u32, broken: Broken, deadline: Option<u64>)
+    fn fail(&mut self, line: u32, failed: FailedTest, deadline: Option<u64>)
         requires { self.old.made < 2 ^ 64 - 1 }
         ensures made { self.new.made ≡ self.old.made + 1 }
-        ensures noted { notes_shown self.new.notes ≡ with_note (notes_shown self.old.notes) (record { line = line; kind = broken.kind; pid = broken.pid; deadline = deadline }) }
+        ensures noted { page_draft_view self.new.draft ≡ with_note (page_draft_view self.old.draft) (record { line = line; kind = failed.kind; pid = failed.pid; deadline = deadline }) }
     {
-        self.notes.fault = Some(StepFault {
+        self.draft.fault = Some(StepFault {
             line,
-            kind: broken.kind,
-            pid: broken.pid,
+            kind: failed.kind,
+            pid: failed.pid,
             deadline,
         });
         self.made += 1;
     }
 
     /// The tests of a step but for the first. If it passes them it is made.
-    fn pass(&mut self, cpu: u32, step: &Step, knobs: Knobs) -> Option<Broken>
+    fn pass(&mut self, cpu: u32, step: &Step, knobs: Knobs) -> Option<FailedTest>
         requires going { IsGoing self.old }
         requires few { self.old.made < 2 ^ 64 - 1 }
         requires queue { HasRoom step.now.deed self.old.queue }
-        requires notes { HasNoteRoom step.now.deed self.old.notes }
+        requires draft { HasNoteRoom step.now.deed self.old.draft }
         requires in_time { (pid : ℕ) → IsIdleTooLong knobs.slack self.old.since step.now.time pid → ⊥ }
         ensures made { self.new.made ≡ self.old.made }
         ensures passes { result ≡ None → IsPassed knobs cpu self.old step.now self.new }
-        ensures fails { IfSome result (λ broken. FailsTest knobs cpu (progress_of self.old) step.now broken.kind broken.pid) }
-        ensures later { IfSome result (λ broken. broken.kind ≢ IdleTooLong) }
-        ensures noted { result ≢ None → (notes_shown self.new.notes ≡ notes_shown self.old.notes) × (self.new.since ≡ self.old.since) }
+        ensures fails { IfSome result (λ failed. FailsTest knobs cpu (replay_state_view self.old) step.now failed.kind failed.pid) }
+        ensures later { IfSome result (λ failed. failed.kind ≢ IdleTooLong) }
+        ensures noted { result ≢ None → (page_draft_view self.new.draft ≡ page_draft_view self.old.draft) × (self.new.since ≡ self.old.since) }
     {
         let runner = runner_of(self.queue.tasks.as_slice());
         let time = step.time.saturating_sub(self.queue.mark);
         lift!(self.queue, step.time);
         let subject = subject_of(&self.queue, step);
         let next = next_of(&self.queue, step);
-        if let Some(broken) = first_of_standing(&self.queue, cpu, step, &subject, &next, knobs) {
-            return Some(broken);
+        if let Some(failed) = first_queue_test(&self.queue, cpu, step, &subject, &next, knobs) {
+            return Some(failed);
         }
-        if let Some(broken) = first_of_placing(&self.queue, step, &subject, &next, knobs) {
-            return Some(broken);
+        if let Some(failed) = first_claim_test(&self.queue, step, &subject, &next, knobs) {
+            return Some(failed);
         }
         let ticket = ticket_of(&self.queue, step, &subject);
-        if let Some(broken) = make(&mut self.queue, cpu, step, next, knobs) {
-            return Some(broken);
+        if let Some(failed) = make(&mut self.queue, cpu, step, next, knobs) {
+            return Some(failed);
         }
-        self.notes.note_stretch(runner, time, self.made);
-        self.notes.note(step, ticket, self.made);
+        self.draft.note_stretch(runner, time, self.made);
+        self.draft.note(step, ticket, self.made);
         self.since = since_after(self.since, step.time, &self.queue);
         None
     }

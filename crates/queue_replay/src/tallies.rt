@@ -1,6 +1,6 @@
 ghost use Rattle.std.specs.Prelude.{◌≡◌};
 
-use cfs_model::Tally;
+use replay_model::Tally;
 use std::marker::Model;
 
 /// What each task did at a processor, in the order in which they first stood there.
@@ -11,7 +11,7 @@ pub struct Tallies {
 
 impl Model for Tallies {
     ghost use Rattle.std.specs.Prelude.{List};
-    ghost use Rattle.cfs_model.specs.declared.page.Tally.{Tally};
+    ghost use Rattle.replay_model.specs.declared.page.Tally.{Tally};
 
     ghost Value = { List Tally };
 

@@ -1,6 +1,6 @@
 ghost use Rattle.std.specs.Prelude.{◌≡◌};
 
-use cfs_model::Ticket;
+use replay_model::Ticket;
 use std::marker::Model;
 
 /// The tickets of the tasks that left a processor, or came to it, in the order of their lines.
@@ -11,7 +11,7 @@ pub struct Tickets {
 
 impl Model for Tickets {
     ghost use Rattle.std.specs.Prelude.{List};
-    ghost use Rattle.cfs_model.specs.declared.page.Ticket.{Ticket};
+    ghost use Rattle.replay_model.specs.declared.page.Ticket.{Ticket};
 
     ghost Value = { List Ticket };
 

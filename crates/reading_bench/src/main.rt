@@ -2,7 +2,6 @@
 #![tactic(auto)]
 
 use companion_file::read_companion;
-use ftrace_line::lines::next_line;
 use ftrace_line::{Line, read_line};
 use sched_event::{Event, read_event};
 use sched_record::read_trace;
@@ -10,6 +9,7 @@ use std::alloc::Global;
 use std::process::ExitCode;
 use std::time::Instant;
 use std::{env, fs, io};
+use text_parts::lines::next_line;
 
 /// The exit status of a bad command line.
 const BAD_WORDS: u8 = 5;

@@ -1,20 +1,20 @@
 -- What the page of a record's only processor says of the record.
 use Rattle.std.proofs.Common.{◌≡◌, ℕ, ◌≤◌, Some, None, length, arith}
 use Rattle.cfs_model.specs.Claimed.{claimed}
-use Rattle.cfs_model.specs.Faults.{OneProcessorFaults}
-use Rattle.cfs_model.specs.Noted.{PageReading}
-use Rattle.cfs_model.specs.OneProcessor.{OneProcessorRuns}
-use Rattle.cfs_model.specs.Page.{IsPageOf}
+use Rattle.replay_model.specs.Faults.{OneProcessorFaults}
+use Rattle.replay_model.specs.Noted.{PageView}
+use Rattle.replay_model.specs.OneProcessor.{OneProcessorRuns}
+use Rattle.replay_model.specs.Page.{IsPageOf}
 use Rattle.cfs_model.specs.Settings.{Settings}
-use Rattle.cfs_model.specs.declared.page.StepFault.{StepFault}
-use Rattle.sched_record.specs.Record.{RecordReading, IsInOrder}
+use Rattle.replay_model.specs.declared.page.StepFault.{StepFault}
+use Rattle.sched_record.specs.Record.{RecordView, IsRecordInOrder}
 use Rattle.sched_record.specs.Share.{cut_of}
 use Rattle.sched_audit.specs.Answer.{IsScheduled, IsFaulty}
 use Rattle.sched_audit.specs.Texts.{IsAllTaken}
 use Rattle.sched_audit.proofs.OneProcessor.{one_processor_of, as_many}
 
-module _ (runs : OneProcessorRuns) (faults : OneProcessorFaults) (r : RecordReading) (in_order : IsInOrder r)
-    (taken : IsAllTaken r) (knobs : Settings) (made : ℕ) (page : PageReading) (is_page : IsPageOf (cut_of r 0) knobs made page) where
+module _ (runs : OneProcessorRuns) (faults : OneProcessorFaults) (r : RecordView) (in_order : IsRecordInOrder r)
+    (taken : IsAllTaken r) (knobs : Settings) (made : ℕ) (page : PageView) (is_page : IsPageOf (cut_of r 0) knobs made page) where
   -- with all steps made and no fault the record is a run
   pub no_fault : made ≡ length (cut_of r 0).steps → page.fault ≡ None → IsScheduled knobs r
   no_fault all none =

@@ -4,18 +4,18 @@ use Rattle.std.specs.Prelude.{All}
 use Rattle.std.specs.List.{AllByRecursion, list_any}
 use Rattle.std.proofs.lemmas.List.Elements.{recursion_from_All}
 use Rattle.cfs_model.specs.Claimed.{Claimed, claimed}
-use Rattle.cfs_model.specs.Cut.{steps_at, touches}
-use Rattle.cfs_model.specs.OneProcessor.{IsOneProcessor}
-use Rattle.cfs_model.specs.PartStep.{TouchesOnly}
+use Rattle.replay_model.specs.Cut.{steps_at, touches}
+use Rattle.replay_model.specs.OneProcessor.{IsOneProcessor}
+use Rattle.replay_model.specs.PartStep.{TouchesOnly}
 use Rattle.cfs_model.specs.Touch.{touched}
 use Rattle.cfs_model.specs.declared.act.Act.{Act}
 use Rattle.cfs_model.specs.declared.act.Act.TheVariants.{Switch, Wake, Born, Shift}
 use Rattle.cfs_model.specs.declared.act.Entry.{Entry}
 use Rattle.cfs_model.specs.declared.claim.Claim.{Claim}
 use Rattle.cfs_model.specs.declared.task.Task.{Task}
-use Rattle.cfs_model.proofs.RecordFrom.{record_from}
-use Rattle.cfs_model.proofs.StartFrom.{start_from}
-use Rattle.sched_record.specs.Record.{RecordReading, IsInOrder}
+use Rattle.replay_model.proofs.RecordFrom.{record_from}
+use Rattle.replay_model.proofs.StartFrom.{start_from}
+use Rattle.sched_record.specs.Record.{RecordView, IsRecordInOrder}
 use Rattle.sched_audit.specs.Texts.{IsAllTaken, IsTaken}
 
 only_one : (cpu : ℕ) → cpu < 1 → cpu ∷ [] ≡ 0 ∷ []
@@ -38,7 +38,7 @@ all_here : (tasks : List Task) → AllByRecursion (λ (t : Task). t.cpu < 1) tas
 all_here [] below = tt
 all_here (t ∷ tasks) below = ((let low : t.cpu < 1 = below.0 in omega arith), all_here tasks below.1)
 
-pub one_processor_of : (r : RecordReading) → IsInOrder r → IsAllTaken r → IsOneProcessor r.start r.floors r.tasks (claimed r.claims r.events)
+pub one_processor_of : (r : RecordView) → IsRecordInOrder r → IsAllTaken r → IsOneProcessor r.start r.floors r.tasks (claimed r.claims r.events)
 one_processor_of r o taken =
     let start = start_from r.floors r.tasks o.companion.pids_rise o.companion.one_runs_a_cpu
     (λ k d h. (o.companion.tasks_in_limits k d h).v) o.companion.floors_in_limits in

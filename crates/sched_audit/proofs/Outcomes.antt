@@ -2,7 +2,7 @@
 use Rattle.std.proofs.Common.{◌≡◌, refl, ap, subst, inr, ℕ, List, Option, Some, IfSome, Result, Ok, Err}
 use Rattle.std.specs.Result.{IsErrAnd}
 use Rattle.cfs_model.specs.Settings.{Settings}
-use Rattle.sched_record.specs.Record.{shown}
+use Rattle.sched_record.specs.Record.{record_view}
 use Rattle.sched_record.specs.declared.record.Record.{Record}
 use Rattle.sched_audit.specs.declared.cause.Cause.TheVariants.{Later}
 use Rattle.sched_audit.specs.declared.outcome.Outcome.{Outcome}
@@ -46,17 +46,17 @@ refused_answer trace companion settings refusals.Memory texts = tt
 
 -- the answer where the record has what isn't audited yet
 pub later_answer : (trace companion : List ℕ) (settings : Settings) (joined : Record) (line : ℕ) → IsTexts trace companion (Ok joined)
-    → IsLater (shown joined) line → OutcomeAnswer trace companion settings (outcomes.Text Join line Later)
+    → IsLater (record_view joined) line → OutcomeAnswer trace companion settings (outcomes.Text Join line Later)
 unfolding OutcomeAnswer
 later_answer trace companion settings joined line texts later = record {
   events = texts.events;
   start = texts.start;
   are_read = texts.are_read;
-  why = inr (shown joined, texts.joined, later, refl);
+  why = inr (record_view joined, texts.joined, later, refl);
 }
 
 -- the answer where the record was judged
 pub judged_answer : (trace companion : List ℕ) (settings : Settings) (joined : Record) (verdict : Verdict) → IsTexts trace companion (Ok joined)
-    → IsVerdict settings (shown joined) verdict → OutcomeAnswer trace companion settings (outcomes.Judged verdict)
+    → IsVerdict settings (record_view joined) verdict → OutcomeAnswer trace companion settings (outcomes.Judged verdict)
 unfolding OutcomeAnswer
-judged_answer trace companion settings joined verdict texts is = (shown joined, texts, is)
+judged_answer trace companion settings joined verdict texts is = (record_view joined, texts, is)

@@ -6,7 +6,7 @@ use Rattle.std.proofs.lemmas.List.{append_assoc, append-nil, length-take, length
 use Rattle.std.proofs.lemmas.List.Edits.{take-paste}
 use Rattle.std.specs.List.{copy_within}
 use Rattle.std.specs.Io.KnownBytes.{Consumes, IsAtEnd}
-use Rattle.ftrace_line.specs.Lines.{lines_of, IsWhole}
+use Rattle.text_parts.specs.Lines.{lines_of, IsWhole}
 use Rattle.sched_record.specs.Reader.{HasRead}
 use Rattle.sched_record.specs.declared.trace_reader.TraceReader.{TraceReader}
 use Rattle.sched_audit.specs.Known.{Agrees}

@@ -4,10 +4,10 @@ use Rattle.std.specs.Prelude.{◌≡◌, ◌≢◌, ℕ, ◌⊎◌, ◌++◌, �
 use Rattle.cfs_model.specs.declared.act.Act.{Act}
 use Rattle.cfs_model.specs.declared.act.Act.TheVariants as acts
 use Rattle.cfs_model.specs.declared.act.Entry.{Entry}
-use Rattle.companion_file.specs.Companion.{CompanionReading, CompanionAnswer}
+use Rattle.companion_file.specs.Companion.{CompanionView, CompanionAnswer}
 use Rattle.companion_file.specs.declared.fault.CompanionCause.{CompanionCause}
 use Rattle.sched_record.specs.Trace.{TraceAnswer}
-use Rattle.sched_record.specs.Record.{RecordReading, RecordAnswer, shown}
+use Rattle.sched_record.specs.Record.{RecordView, RecordAnswer, record_view}
 use Rattle.sched_record.specs.declared.record.Record.{Record}
 use Rattle.sched_record.specs.declared.cause.TraceCause.{TraceCause}
 use Rattle.sched_record.specs.declared.joining.JoinCause.{JoinCause}
@@ -20,15 +20,15 @@ use Rattle.sched_audit.specs.declared.source.Source.{Source}
 use Rattle.sched_audit.specs.declared.source.Source.TheVariants.{Trace, Companion, Join}
 
 -- both texts can be read, and these are the trace's events and the companion's start and claims
-pub record AreRead (trace companion : List ℕ) (events : List Entry) (start : CompanionReading) : Type 0 where
+pub record AreBothRead (trace companion : List ℕ) (events : List Entry) (start : CompanionView) : Type 0 where
   pub trace_means : TraceAnswer trace (Ok events)
   pub companion_means : CompanionAnswer companion (Ok start)
 
 -- both texts can be read, and joined they are this record
-pub record IsRecordOf (trace companion : List ℕ) (r : RecordReading) : Type 0 where
+pub record IsRecordOf (trace companion : List ℕ) (r : RecordView) : Type 0 where
   pub events : List Entry
-  pub start : CompanionReading
-  pub are_read : AreRead trace companion events start
+  pub start : CompanionView
+  pub are_read : AreBothRead trace companion events start
   pub joined : RecordAnswer events start (Ok r)
 
 -- an act that is audited: any but a migration
@@ -49,21 +49,21 @@ pub record IsFirstUntaken (events : List Entry) (line : ℕ) : Type 0 where
   pub placed : line ≡ event.line
 
 -- the record has what isn't audited yet: several processors, named at line 0, or else such an event, named at its line
-abbrev pub IsLater : RecordReading → ℕ → Type 0
+abbrev pub IsLater : RecordView → ℕ → Type 0
 IsLater r line = ((r.cpus ≢ 1) × (line ≡ 0)) ⊎ ((r.cpus ≡ 1) × IsFirstUntaken r.events line)
 
 -- all of the record is audited: one processor, and events whose acts are
-pub record IsAllTaken (r : RecordReading) : Type 0 where
+pub record IsAllTaken (r : RecordView) : Type 0 where
   pub one_cpu : r.cpus ≡ 1
   pub events : All (λ e. IsTaken e.act) r.events
 
 -- the texts can be read, but they don't go together, or their record has what isn't audited yet
 pub record IsJoinRefused (trace companion : List ℕ) (line : ℕ) (cause : Cause) : Type 0 where
   pub events : List Entry
-  pub start : CompanionReading
-  pub are_read : AreRead trace companion events start
+  pub start : CompanionView
+  pub are_read : AreBothRead trace companion events start
   pub why : ((c : JoinCause) × RecordAnswer events start (Err (line, c)) × (cause ≡ join_cause c))
-      ⊎ ((r : RecordReading) × RecordAnswer events start (Ok r) × IsLater r line × (cause ≡ Later))
+      ⊎ ((r : RecordView) × RecordAnswer events start (Ok r) × IsLater r line × (cause ≡ Later))
 
 -- a text is refused at this line for this cause: the trace before the companion, and both before their joining
 abbrev pub IsRefused : List ℕ → List ℕ → Source → ℕ → Cause → Type 0
@@ -76,6 +76,6 @@ IsRefused trace companion Join line cause = IsJoinRefused trace companion line c
 
 -- what reading and joining both texts gives: their record, or why one is refused; of want of memory nothing is said
 abbrev pub IsTexts : List ℕ → List ℕ → Result Record Refused → Type 0
-IsTexts trace companion (Ok r) = IsRecordOf trace companion (shown r)
+IsTexts trace companion (Ok r) = IsRecordOf trace companion (record_view r)
 IsTexts trace companion (Err (refusals.Text source line cause)) = IsRefused trace companion source line cause
 IsTexts trace companion (Err refusals.Memory) = Unit {0}

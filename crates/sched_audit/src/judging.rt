@@ -1,14 +1,15 @@
 ghost use Rattle.std.specs.Prelude.{◌≡◌, None, length, IfOk};
-ghost use Rattle.cfs_model.specs.Page.{IsPageOf};
-ghost use Rattle.queue_replay.specs.Page.{page_shown};
-ghost use Rattle.sched_record.specs.Record.{shown};
+ghost use Rattle.replay_model.specs.Page.{IsPageOf};
+ghost use Rattle.queue_replay.specs.Page.{page_view};
+ghost use Rattle.sched_record.specs.Record.{record_view};
 ghost use Rattle.sched_record.specs.Share.{cut_of};
 ghost use Rattle.sched_audit.specs.Answer.{IsVerdict};
 ghost use Rattle.sched_audit.specs.Texts.{IsAllTaken};
 
 use crate::{Summary, Verdict};
-use cfs_model::{Knobs, Memory, one_processor};
+use cfs_model::{Knobs, Memory};
 use queue_replay::{Page, Replay};
+use replay_model::one_processor;
 use sched_record::Record;
 use std::alloc::Global;
 
@@ -17,8 +18,8 @@ const CPU: u32 = 0;
 
 /// The verdict on a record, all of which is audited.
 pub(crate) fn judge(alloc: Global, joined: &Record, knobs: Knobs) -> Result<Verdict, Memory>
-    requires { IsAllTaken (shown joined.now) }
-    ensures { IfOk result (IsVerdict knobs (shown joined.now)) }
+    requires { IsAllTaken (record_view joined.now) }
+    ensures { IfOk result (IsVerdict knobs (record_view joined.now)) }
 {
     one_processor();
     let page = page_of(alloc, joined, knobs)?;
@@ -37,9 +38,9 @@ pub(crate) fn judge(alloc: Global, joined: &Record, knobs: Knobs) -> Result<Verd
 
 /// The page of the only processor by all its steps, or up to the first that fails.
 fn page_of(alloc: Global, joined: &Record, knobs: Knobs) -> Result<Page, Memory>
-    requires { (shown joined.now).cpus ≡ 1 }
-    ensures page { IfOk result (λ page. IsPageOf (cut_of (shown joined.now) 0) knobs page.made (page_shown page)) }
-    ensures whole { IfOk result (λ page. (page_shown page).fault ≡ None → page.made ≡ length (cut_of (shown joined.now) 0).steps) }
+    requires { (record_view joined.now).cpus ≡ 1 }
+    ensures page { IfOk result (λ page. IsPageOf (cut_of (record_view joined.now) 0) knobs page.made (page_view page)) }
+    ensures whole { IfOk result (λ page. (page_view page).fault ≡ None → page.made ≡ length (cut_of (record_view joined.now) 0).steps) }
 {
     let stream = joined.deal(CPU)?;
     let mut replay = match Replay::new(alloc, stream, knobs) {

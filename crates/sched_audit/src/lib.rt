@@ -7,10 +7,10 @@ mod failed;
 mod fault;
 mod feed;
 mod feed_of;
+mod headline;
 mod judging;
 mod lines;
 mod outcome;
-mod page;
 mod reading;
 mod refused;
 mod reporting;
@@ -29,8 +29,8 @@ pub use failed::Failed;
 pub use fault::Fault;
 pub use feed::Feed;
 pub use feed_of::FeedOf;
+pub use headline::{audit_texts, run};
 pub use outcome::Outcome;
-pub use page::{audit_texts, run};
 pub use refused::Refused;
 pub use reporting::report;
 pub use sink::Sink;
@@ -39,6 +39,3 @@ pub use source::Source;
 pub use status::Status;
 pub use summary::Summary;
 pub use verdict::Verdict;
-
-#[cfg(test)]
-mod tests;

@@ -5,9 +5,9 @@ ghost use Rattle.sched_audit.specs.Run.{IsReadFrom, PassesWhole};
 use crate::reading::{MOST_READS, read_chunk};
 use crate::{Fault, Feed};
 use cfs_model::Memory;
-use ftrace_line::lines::{lines_after_whole, whole_lines};
 use sched_record::TraceReader;
 use std::alloc::Global;
+use text_parts::lines::{lines_after_whole, whole_lines};
 
 /// Reads the lines that an input still gives, as they come: only the beginning of a line is held over from read to read.
 /// Where a read fails, or the most reads don't reach the end, `ReadTrace`.

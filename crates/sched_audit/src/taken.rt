@@ -1,5 +1,5 @@
 ghost use Rattle.std.specs.Prelude.{◌≡◌, true, false, IfSome, IfNone, All};
-ghost use Rattle.sched_record.specs.Record.{shown};
+ghost use Rattle.sched_record.specs.Record.{record_view};
 ghost use Rattle.sched_audit.specs.Texts.{IsLater, IsTaken, IsFirstUntaken, IsAllTaken};
 
 use cfs_model::{Act, Entry};
@@ -10,8 +10,8 @@ const NO_LINE: u64 = 0;
 
 /// Where a record has what isn't audited yet, if anywhere.
 pub(crate) fn untaken(joined: &Record) -> Option<u64>
-    ensures later { IfSome result (IsLater (shown joined.now)) }
-    ensures taken { IfNone result (IsAllTaken (shown joined.now)) }
+    ensures later { IfSome result (IsLater (record_view joined.now)) }
+    ensures taken { IfNone result (IsAllTaken (record_view joined.now)) }
 {
     if joined.cpus() == 1 {
         first_untaken(joined.events()).map(|line| u64::from(line))

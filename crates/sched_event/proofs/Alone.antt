@@ -4,7 +4,7 @@ use Rattle.std.proofs.Common.{◌≡◌, ℕ, zero, suc, ◌+◌, ◌≤◌, ◌
 use Rattle.std.specs.Prelude.{not}
 use Rattle.std.specs.List.{list_all}
 use Rattle.std.proofs.lemmas.Bool.Decides.{nat_tests}
-use Rattle.ftrace_line.specs.Numerals.{is_digit, IsNumeral}
+use Rattle.text_parts.specs.Numerals.{is_digit, IsNumeral}
 use Rattle.sched_event.specs.Texts.{is_dark, Prio, prio_text}
 use Rattle.sched_event.specs.Reading.{begins_with}
 use Rattle.sched_event.proofs.Runs.{both_pass}

@@ -8,7 +8,7 @@ use Rattle.sched_event.specs.declared.fault.EventFault.{EventFault}
 use Rattle.sched_event.specs.declared.fault.EventFault.TheVariants.{BadFields, NumberRange, RealTime, PrioRange, IdleNamed}
 use Rattle.sched_event.specs.Texts.{EventText, switch, wakeup, wakeup_new, migration, Reads}
 use Rattle.sched_event.specs.Ranges.{is_out_of_range, prios_of, names_idle}
-use Rattle.sched_event.specs.Event.{EventReading, event_of, EventAnswer, reading_seen, event_seen}
+use Rattle.sched_event.specs.Event.{EventView, event_of, EventAnswer, event_view, event_answer_view}
 use Rattle.sched_event.specs.Reading.{switch_at, wakeup_at, migration_at, text_at}
 use Rattle.sched_event.specs.Judging.{Judges, judged, judged_if_read, answer_at}
 use Rattle.sched_event.proofs.Switches.{switch_takes, switch_again}
@@ -46,10 +46,10 @@ one_text which rest s t p q = let a = text_again which rest s p in let b = text_
 -- ---- the answer
 
 -- an answer for parts, as an answer for the text
-abbrev MeetsOf : ℕ → EventText → Result EventReading EventFault → Type 0
+abbrev MeetsOf : ℕ → EventText → Result EventView EventFault → Type 0
 MeetsOf cpu text answer = Meets (is_out_of_range text) (prios_of text) (names_idle text) (event_of cpu text) answer
 
-packed : (cpu : ℕ) (which : Which) (rest : List ℕ) (text : EventText) → Reads which rest text → (answer : Result EventReading EventFault) → MeetsOf cpu text answer → EventAnswer cpu which rest answer
+packed : (cpu : ℕ) (which : Which) (rest : List ℕ) (text : EventText) → Reads which rest text → (answer : Result EventView EventFault) → MeetsOf cpu text answer → EventAnswer cpu which rest answer
 packed cpu which rest text reads (Ok event) meets = (text, reads, meets.0, meets.1.0, meets.1.1, meets.1.2)
 packed cpu which rest text reads (Err BadFields) meets = absurd meets.1
 packed cpu which rest text reads (Err NumberRange) meets = (text, reads, meets)
@@ -69,7 +69,7 @@ answers cpu which rest = by_read (text_at which rest) refl
     by_read None e = λ text reads. let again = text_again which rest text reads in cc
     by_read (Some text) e = packed cpu which rest text (text_takes which rest text e) (judged cpu text) (judged_meets cpu text)
 
-at_parts : (cpu : ℕ) (which : Which) (rest : List ℕ) (text : EventText) (answer : Result EventReading EventFault) → Reads which rest text → MeetsOf cpu text answer → answer ≡ answer_at cpu which rest
+at_parts : (cpu : ℕ) (which : Which) (rest : List ℕ) (text : EventText) (answer : Result EventView EventFault) → Reads which rest text → MeetsOf cpu text answer → answer ≡ answer_at cpu which rest
 unfolding answer_at
 at_parts cpu which rest text answer reads meets =
     let tested : answer ≡ decided_of cpu text = decided_only (is_out_of_range text) (prios_of text) (names_idle text) (event_of cpu text) answer meets in
@@ -83,7 +83,7 @@ at_none cpu which rest none = by_read (text_at which rest) refl
     by_read None e = refl
     by_read (Some text) e = absurd (none text (text_takes which rest text e))
 
-pub only_answer : (cpu : ℕ) (which : Which) (rest : List ℕ) (answer : Result EventReading EventFault) → EventAnswer cpu which rest answer → answer ≡ answer_at cpu which rest
+pub only_answer : (cpu : ℕ) (which : Which) (rest : List ℕ) (answer : Result EventView EventFault) → EventAnswer cpu which rest answer → answer ≡ answer_at cpu which rest
 only_answer cpu which rest (Ok event) a = at_parts cpu which rest a.0 (Ok event) a.1 (a.2, (a.3, a.4, a.5))
 only_answer cpu which rest (Err BadFields) a = at_none cpu which rest a
 only_answer cpu which rest (Err NumberRange) a = at_parts cpu which rest a.0 (Err NumberRange) a.1 a.2
@@ -91,28 +91,28 @@ only_answer cpu which rest (Err RealTime) a = at_parts cpu which rest a.0 (Err R
 only_answer cpu which rest (Err PrioRange) a = at_parts cpu which rest a.0 (Err PrioRange) a.1 (a.2, a.3)
 only_answer cpu which rest (Err IdleNamed) a = at_parts cpu which rest a.0 (Err IdleNamed) a.1 (a.2, (idle_unlooked a.0 a.3, a.3))
 
-pub same_answer : (cpu : ℕ) (which : Which) (rest : List ℕ) (a b : Result EventReading EventFault) → EventAnswer cpu which rest a → EventAnswer cpu which rest b → a ≡ b
+pub same_answer : (cpu : ℕ) (which : Which) (rest : List ℕ) (a b : Result EventView EventFault) → EventAnswer cpu which rest a → EventAnswer cpu which rest b → a ≡ b
 same_answer cpu which rest a b p q = only_answer cpu which rest a p ∙ sym (only_answer cpu which rest b q)
 
 -- ---- what is seen of the reader's answer
 
-seen_is_judged : (answer : Result Event EventFault) (judgement : Result EventReading EventFault) → Judges reading_seen answer judgement → event_seen answer ≡ judgement
+seen_is_judged : (answer : Result Event EventFault) (judgement : Result EventView EventFault) → Judges event_view answer judgement → event_answer_view answer ≡ judgement
 seen_is_judged (Ok event) judgement e = sym e
 seen_is_judged (Err fault) judgement e = sym e
 
-seen_fault : (answer : Result Event EventFault) (fault : EventFault) → event_seen answer ≡ Err fault → answer ≡ Err fault
+seen_fault : (answer : Result Event EventFault) (fault : EventFault) → event_answer_view answer ≡ Err fault → answer ≡ Err fault
 seen_fault (Ok event) fault e = absurd cc
 seen_fault (Err other) fault e = cc
 
 -- the reader's answer is so
-pub seen_answers : (cpu : ℕ) (which : Which) (rest : List ℕ) (answer : Result Event EventFault) → Judges reading_seen answer (answer_at cpu which rest) → EventAnswer cpu which rest (event_seen answer)
+pub seen_answers : (cpu : ℕ) (which : Which) (rest : List ℕ) (answer : Result Event EventFault) → Judges event_view answer (answer_at cpu which rest) → EventAnswer cpu which rest (event_answer_view answer)
 seen_answers cpu which rest answer judges =
     subst (EventAnswer cpu which rest) (sym (seen_is_judged answer (answer_at cpu which rest) judges)) (answers cpu which rest)
 
 -- the reader refuses a text exactly where the relation does
-pub refused : (cpu : ℕ) (which : Which) (rest : List ℕ) (answer : Result Event EventFault) (fault : EventFault) → Judges reading_seen answer (answer_at cpu which rest)
+pub refused : (cpu : ℕ) (which : Which) (rest : List ℕ) (answer : Result Event EventFault) (fault : EventFault) → Judges event_view answer (answer_at cpu which rest)
     → (answer ≡ Err fault) ↔ EventAnswer cpu which rest (Err fault)
 refused cpu which rest answer fault judges = (
-  λ e. subst (EventAnswer cpu which rest) (ap event_seen e) (seen_answers cpu which rest answer judges),
+  λ e. subst (EventAnswer cpu which rest) (ap event_answer_view e) (seen_answers cpu which rest answer judges),
   λ a. seen_fault answer fault (seen_is_judged answer (answer_at cpu which rest) judges ∙ sym (only_answer cpu which rest (Err fault) a)),
 )

@@ -2,19 +2,19 @@
 use Rattle.std.proofs.Common.{◌≡◌, ℕ, Bool, true, false, eqb, Result, Ok, refl}
 use Rattle.std.specs.Prelude.{IsTrue, nat_lt}
 use Rattle.std.specs.List.{AllByRecursion}
-use Rattle.ftrace_line.specs.Numerals.{value_of}
+use Rattle.text_parts.specs.Numerals.{value_of}
 use Rattle.sched_event.specs.declared.fault.EventFault.{EventFault}
 use Rattle.sched_event.specs.Texts.{SwitchText, WakeupText, MigrationText, EventText, switch, wakeup, wakeup_new, migration}
 use Rattle.sched_event.specs.Ranges.{most_pid, most_cpu, prio_of, is_out_of_range, prios_of, IsFair, names_idle}
-use Rattle.sched_event.specs.Event.{EventReading, WakeupReading, woken, born, wakeup_of, event_of}
+use Rattle.sched_event.specs.Event.{EventView, WakeupView, woken, born, wakeup_of, event_of}
 use Rattle.sched_event.specs.Judging.{◌>>=◌, number_within, nice_at, switch_judged, wakeup_judged, migration_judged, judged}
 use Rattle.sched_event.proofs.Verdicts.{PrioCase, low, high, fair, prio_case, decided}
 
 -- the answer of the tests for a text's parts
-abbrev pub decided_of : ℕ → EventText → Result EventReading EventFault
+abbrev pub decided_of : ℕ → EventText → Result EventView EventFault
 decided_of cpu text = decided (is_out_of_range text) (prios_of text) (names_idle text) (event_of cpu text)
 
-wakeup_tests : (make : WakeupReading → EventReading) (t : WakeupText)
+wakeup_tests : (make : WakeupView → EventView) (t : WakeupText)
     → (wakeup_judged t >>= λ read. Ok (make read)) ≡ decided (is_out_of_range (wakeup t)) (prios_of (wakeup t)) (names_idle (wakeup t)) (make (wakeup_of t))
 unfolding wakeup_judged number_within nice_at
 wakeup_tests make t = by_tests (nat_lt most_pid (value_of t.pid)) (nat_lt most_cpu (value_of t.target)) (eqb (value_of t.pid) 0) refl refl refl (prio_case (prio_of t.prio))

@@ -5,7 +5,8 @@ use Rattle.std.proofs.lemmas.List.{append-nil, nil_from_length, take_at, drop_at
 use Rattle.std.proofs.lemmas.Bool.{eqb-true}
 use Rattle.std.proofs.lemmas.Bool.Decides.{nat_tests}
 use Rattle.std.proofs.lemmas.Option.{some_pair_parts, same_Some}
-use Rattle.ftrace_line.specs.Numerals.{IsRunOf, IsNumeral, is_digit}
+use Rattle.text_parts.specs.Numerals.{IsNumeral, is_digit}
+use Rattle.text_parts.specs.Pieces.{IsRunOf}
 use Rattle.sched_event.specs.Texts.{IsName, IsState, is_dark, Prio, prio_text}
 use Rattle.sched_event.specs.Reading.{◌>>=◌, at_end, begins_with, key_at, run_at, sign_at, last_place, numeral_at, state_at, prio_at, name_at}
 use Rattle.sched_event.proofs.Places.{chosen, place_stands, place_is_last}

@@ -1,7 +1,7 @@
 -- A migration's text: what is read is so, and what is so is read.
 use Rattle.std.proofs.Common.{◌≡◌, ℕ, List, [], ◌++◌, Some, refl, ap, subst, ◌∙◌, lit≤}
 use Rattle.std.specs.Prelude.{codes}
-use Rattle.sched_event.specs.Texts.{prio_text, MigrationText, IsMigration}
+use Rattle.sched_event.specs.Texts.{prio_text, MigrationText, IsMigrationText}
 use Rattle.sched_event.specs.Reading.{numeral_at, prio_at, name_at, migration_at}
 use Rattle.sched_event.proofs.Runs.{begins_own}
 use Rattle.sched_event.proofs.Alone.{alone_three, prio_dark, prio_some}
@@ -23,7 +23,7 @@ migration_from : (text : List ℕ) (t : MigrationText) → MigrationSteps text t
 unfolding migration_at
 migration_from text t steps = rw (steps.name, steps.pid, steps.prio, steps.orig, steps.dest) refl
 
-pub migration_again : (rest : List ℕ) (t : MigrationText) → IsMigration rest t → migration_at rest ≡ Some t
+pub migration_again : (rest : List ℕ) (t : MigrationText) → IsMigrationText rest t → migration_at rest ≡ Some t
 migration_again rest t is =
     let after4 : List ℕ = codes " dest_cpu=" ++ t.dest in
     let after3 : List ℕ = codes " orig_cpu=" ++ (t.orig ++ after4) in
@@ -66,7 +66,7 @@ steps_of text t e =
       dest = last;
     })
 
-pub migration_takes : (rest : List ℕ) (t : MigrationText) → migration_at rest ≡ Some t → IsMigration rest t
+pub migration_takes : (rest : List ℕ) (t : MigrationText) → migration_at rest ≡ Some t → IsMigrationText rest t
 migration_takes rest t e =
     let steps = steps_of rest t e in
     let a = name_takes (codes "comm=") (codes " pid=") rest t.name steps.after1 steps.name in

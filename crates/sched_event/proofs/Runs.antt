@@ -7,8 +7,8 @@ use Rattle.std.proofs.lemmas.Option.{some_pair_parts}
 use Rattle.std.proofs.lemmas.List.Folds.{length-prefix_len}
 use Rattle.std.proofs.lemmas.List.{take_at, drop_at, take-append-drop}
 use Rattle.std.proofs.lemmas.Slice.Eq.{bytes_eq-Decides}
-use Rattle.ftrace_line.specs.Numerals.{IsRunOf}
-pub use Rattle.ftrace_line.proofs.Fronts.{begins_own}
+use Rattle.text_parts.specs.Pieces.{IsRunOf}
+pub use Rattle.text_parts.proofs.Fronts.{begins_own}
 use Rattle.sched_event.specs.Reading.{begins_with, key_at, run_at}
 use Rattle.sched_event.proofs.Places.{chosen}
 

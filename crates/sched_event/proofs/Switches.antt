@@ -1,7 +1,7 @@
 -- A switch's text: what is read is so, and what is so is read.
 use Rattle.std.proofs.Common.{◌≡◌, ℕ, List, [], ◌++◌, Some, refl, ap, subst, ◌∙◌, lit≤}
 use Rattle.std.specs.Prelude.{codes}
-use Rattle.sched_event.specs.Texts.{prio_text, SwitchText, IsSwitch}
+use Rattle.sched_event.specs.Texts.{prio_text, SwitchText, IsSwitchText}
 use Rattle.sched_event.specs.Reading.{numeral_at, state_at, prio_at, name_at, switch_at}
 use Rattle.sched_event.proofs.Runs.{begins_own}
 use Rattle.sched_event.proofs.Alone.{alone_two}
@@ -27,7 +27,7 @@ pub switch_from : (text : List ℕ) (t : SwitchText) → SwitchSteps text t → 
 unfolding switch_at
 switch_from text t steps = rw (steps.prev_name, steps.prev, steps.prev_prio, steps.prev_state, steps.next_name, steps.next, steps.next_prio) refl
 
-pub switch_again : (rest : List ℕ) (t : SwitchText) → IsSwitch rest t → switch_at rest ≡ Some t
+pub switch_again : (rest : List ℕ) (t : SwitchText) → IsSwitchText rest t → switch_at rest ≡ Some t
 switch_again rest t is =
     let after6 : List ℕ = codes " next_prio=" ++ prio_text t.next_prio in
     let after5 : List ℕ = codes " next_pid=" ++ (t.next ++ after6) in
@@ -82,7 +82,7 @@ steps_of text t e =
       next_prio = last;
     })
 
-pub switch_takes : (rest : List ℕ) (t : SwitchText) → switch_at rest ≡ Some t → IsSwitch rest t
+pub switch_takes : (rest : List ℕ) (t : SwitchText) → switch_at rest ≡ Some t → IsSwitchText rest t
 switch_takes rest t e =
     let steps = steps_of rest t e in
     let a = name_takes (codes "prev_comm=") (codes " prev_pid=") rest t.prev_name steps.after1 steps.prev_name in

@@ -6,7 +6,7 @@ use Rattle.std.proofs.lemmas.Int.{ints}
 use Rattle.sched_event.specs.declared.fault.EventFault.{EventFault}
 use Rattle.sched_event.specs.declared.fault.EventFault.TheVariants.{BadFields, NumberRange, RealTime, PrioRange, IdleNamed}
 use Rattle.sched_event.specs.Ranges.{IsFair, Leftmost}
-use Rattle.sched_event.specs.Event.{EventReading}
+use Rattle.sched_event.specs.Event.{EventView}
 use Rattle.sched_event.specs.Judging.{◌>>=◌, nice_for}
 
 -- ---- one prio
@@ -51,17 +51,17 @@ fair_prio prio is =
 
 -- ---- the tests, for any numbers, prios and event
 
-abbrev past_prios : List ℤ → Bool → EventReading → Result EventReading EventFault
+abbrev past_prios : List ℤ → Bool → EventView → Result EventView EventFault
 past_prios [] true event = Err IdleNamed
 past_prios [] false event = Ok event
 past_prios (prio ∷ prios) idle event = nice_for prio >>= λ nice. past_prios prios idle event
 
-abbrev pub decided : Bool → List ℤ → Bool → EventReading → Result EventReading EventFault
+abbrev pub decided : Bool → List ℤ → Bool → EventView → Result EventView EventFault
 decided true prios idle event = Err NumberRange
 decided false prios idle event = past_prios prios idle event
 
 -- what an answer says of the prios and of the idle task
-abbrev Tells : List ℤ → Bool → EventReading → Result EventReading EventFault → Type 0
+abbrev Tells : List ℤ → Bool → EventView → Result EventView EventFault → Type 0
 Tells prios idle event (Ok read) = AllByRecursion IsFair prios × IsFalse idle × (read ≡ event)
 Tells prios idle event (Err BadFields) = ⊥
 Tells prios idle event (Err NumberRange) = ⊥
@@ -70,12 +70,12 @@ Tells prios idle event (Err PrioRange) = Leftmost (λ prio. pos 139 <ℤ prio) p
 Tells prios idle event (Err IdleNamed) = AllByRecursion IsFair prios × IsTrue idle
 
 -- what an answer says of the numbers too
-abbrev pub Meets : Bool → List ℤ → Bool → EventReading → Result EventReading EventFault → Type 0
+abbrev pub Meets : Bool → List ℤ → Bool → EventView → Result EventView EventFault → Type 0
 Meets out prios idle event (Ok read) = IsFalse out × Tells prios idle event (Ok read)
 Meets out prios idle event (Err NumberRange) = IsTrue out
 Meets out prios idle event (Err fault) = IsFalse out × Tells prios idle event (Err fault)
 
-tells_fair : (prio : ℤ) (prios : List ℤ) (idle : Bool) (event : EventReading) (answer : Result EventReading EventFault) → IsFair prio → Tells prios idle event answer → Tells (prio ∷ prios) idle event answer
+tells_fair : (prio : ℤ) (prios : List ℤ) (idle : Bool) (event : EventView) (answer : Result EventView EventFault) → IsFair prio → Tells prios idle event answer → Tells (prio ∷ prios) idle event answer
 tells_fair prio prios idle event (Ok read) is tells = ((is, tells.0), tells.1, tells.2)
 tells_fair prio prios idle event (Err BadFields) is tells = tells
 tells_fair prio prios idle event (Err NumberRange) is tells = tells
@@ -83,7 +83,7 @@ tells_fair prio prios idle event (Err RealTime) is tells = inr (is, tells)
 tells_fair prio prios idle event (Err PrioRange) is tells = inr (is, tells)
 tells_fair prio prios idle event (Err IdleNamed) is tells = ((is, tells.0), tells.1)
 
-past_tells : (prios : List ℤ) (idle : Bool) (event : EventReading) → Tells prios idle event (past_prios prios idle event)
+past_tells : (prios : List ℤ) (idle : Bool) (event : EventView) → Tells prios idle event (past_prios prios idle event)
 past_tells [] true event = (tt, refl)
 past_tells [] false event = (tt, refl, refl)
 past_tells (prio ∷ prios) idle event = on (past_tells prios idle event) (prio_case prio)
@@ -93,21 +93,21 @@ past_tells (prio ∷ prios) idle event = on (past_tells prios idle event) (prio_
     on others (high p e) = subst (λ (r : Result ℤ EventFault). Tells (prio ∷ prios) idle event (r >>= λ nice. past_prios prios idle event)) (sym e) (inl p)
     on others (fair p e) = subst (λ (r : Result ℤ EventFault). Tells (prio ∷ prios) idle event (r >>= λ nice. past_prios prios idle event)) (sym e) (tells_fair prio prios idle event (past_prios prios idle event) p others)
 
-past_fair : (prios : List ℤ) (idle : Bool) (event : EventReading) → AllByRecursion IsFair prios → past_prios prios idle event ≡ past_prios [] idle event
+past_fair : (prios : List ℤ) (idle : Bool) (event : EventView) → AllByRecursion IsFair prios → past_prios prios idle event ≡ past_prios [] idle event
 past_fair [] idle event all = refl
 past_fair (prio ∷ prios) idle event all = rw (fair_prio prio all.0) (past_fair prios idle event all.1)
 
-past_low : (prios : List ℤ) (idle : Bool) (event : EventReading) → Leftmost (λ prio. prio <ℤ pos 100) prios → past_prios prios idle event ≡ Err RealTime
+past_low : (prios : List ℤ) (idle : Bool) (event : EventView) → Leftmost (λ prio. prio <ℤ pos 100) prios → past_prios prios idle event ≡ Err RealTime
 past_low [] idle event left = absurd left
 past_low (prio ∷ prios) idle event (inl p) = rw (low_prio prio p) refl
 past_low (prio ∷ prios) idle event (inr on) = rw (fair_prio prio on.0) (past_low prios idle event on.1)
 
-past_high : (prios : List ℤ) (idle : Bool) (event : EventReading) → Leftmost (λ prio. pos 139 <ℤ prio) prios → past_prios prios idle event ≡ Err PrioRange
+past_high : (prios : List ℤ) (idle : Bool) (event : EventView) → Leftmost (λ prio. pos 139 <ℤ prio) prios → past_prios prios idle event ≡ Err PrioRange
 past_high [] idle event left = absurd left
 past_high (prio ∷ prios) idle event (inl p) = rw (high_prio prio p) refl
 past_high (prio ∷ prios) idle event (inr on) = rw (fair_prio prio on.0) (past_high prios idle event on.1)
 
-with_numbers : (prios : List ℤ) (idle : Bool) (event : EventReading) (answer : Result EventReading EventFault) → Tells prios idle event answer → Meets false prios idle event answer
+with_numbers : (prios : List ℤ) (idle : Bool) (event : EventView) (answer : Result EventView EventFault) → Tells prios idle event answer → Meets false prios idle event answer
 with_numbers prios idle event (Ok read) tells = (refl, tells)
 with_numbers prios idle event (Err BadFields) tells = absurd tells
 with_numbers prios idle event (Err NumberRange) tells = absurd tells
@@ -116,12 +116,12 @@ with_numbers prios idle event (Err PrioRange) tells = (refl, tells)
 with_numbers prios idle event (Err IdleNamed) tells = (refl, tells)
 
 -- the tests' answer is so
-pub decided_meets : (out : Bool) (prios : List ℤ) (idle : Bool) (event : EventReading) → Meets out prios idle event (decided out prios idle event)
+pub decided_meets : (out : Bool) (prios : List ℤ) (idle : Bool) (event : EventView) → Meets out prios idle event (decided out prios idle event)
 decided_meets true prios idle event = refl
 decided_meets false prios idle event = with_numbers prios idle event (past_prios prios idle event) (past_tells prios idle event)
 
 -- what is so is the tests' answer
-pub decided_only : (out : Bool) (prios : List ℤ) (idle : Bool) (event : EventReading) (answer : Result EventReading EventFault) → Meets out prios idle event answer → answer ≡ decided out prios idle event
+pub decided_only : (out : Bool) (prios : List ℤ) (idle : Bool) (event : EventView) (answer : Result EventView EventFault) → Meets out prios idle event answer → answer ≡ decided out prios idle event
 decided_only out prios idle event (Ok read) meets = rw (meets.0, past_fair prios idle event meets.1.0, meets.1.1, meets.1.2) refl
 decided_only out prios idle event (Err BadFields) meets = absurd meets.1
 decided_only out prios idle event (Err NumberRange) meets = rw meets refl

@@ -1,8 +1,8 @@
 -- A wakeup's text, with and without `success`: what is read is so, and what is so is read.
 use Rattle.std.proofs.Common.{◌≡◌, ℕ, List, [], ◌++◌, Option, Some, None, refl, ap, subst, ◌∙◌, lit≤}
 use Rattle.std.specs.Prelude.{codes, IfSome}
-use Rattle.ftrace_line.specs.Numerals.{IsNumeral, is_digit}
-use Rattle.sched_event.specs.Texts.{Prio, prio_text, WakeupText, IsWakeup, success_text}
+use Rattle.text_parts.specs.Numerals.{IsNumeral, is_digit}
+use Rattle.sched_event.specs.Texts.{Prio, prio_text, WakeupText, IsWakeupText, success_text}
 use Rattle.sched_event.specs.Reading.{key_at, numeral_at, or_nothing, optional_at, prio_at, name_at, wakeup_at}
 use Rattle.sched_event.proofs.Runs.{Stops, begins_own}
 use Rattle.sched_event.proofs.Alone.{IsAlone, alone_three, prio_dark, prio_some}
@@ -65,7 +65,7 @@ wakeup_from : (text : List ℕ) (t : WakeupText) → WakeupSteps text t → wake
 unfolding wakeup_at
 wakeup_from text t steps = rw (steps.name, steps.pid, steps.prio, steps.success, steps.target) refl
 
-pub wakeup_again : (rest : List ℕ) (t : WakeupText) → IsWakeup rest t → wakeup_at rest ≡ Some t
+pub wakeup_again : (rest : List ℕ) (t : WakeupText) → IsWakeupText rest t → wakeup_at rest ≡ Some t
 wakeup_again rest t is =
     let after4 : List ℕ = codes " target_cpu=" ++ t.target in
     let after3 : List ℕ = success_text t.success ++ after4 in
@@ -106,7 +106,7 @@ steps_of text t e =
       target = last;
     })
 
-pub wakeup_takes : (rest : List ℕ) (t : WakeupText) → wakeup_at rest ≡ Some t → IsWakeup rest t
+pub wakeup_takes : (rest : List ℕ) (t : WakeupText) → wakeup_at rest ≡ Some t → IsWakeupText rest t
 wakeup_takes rest t e =
     let steps = steps_of rest t e in
     let a = name_takes (codes "comm=") (codes " pid=") rest t.name steps.after1 steps.name in

@@ -5,7 +5,7 @@ use Rattle.cfs_model.specs.declared.act.Act.{Act}
 use Rattle.cfs_model.specs.declared.act.Act.TheVariants as acts
 use Rattle.cfs_model.specs.declared.act.Way.{Way}
 use Rattle.cfs_model.specs.declared.act.Way.TheVariants.{Stays, Sleeps, Ends}
-use Rattle.sched_event.specs.Readings.{EventReading, switched, woken, born, migrated}
+use Rattle.sched_event.specs.EventView.{EventView, switched, woken, born, migrated}
 
 -- the letters of a state tell that the task was put back: `+` is among them
 abbrev pub is_put_back : List ℕ → Bool
@@ -29,7 +29,7 @@ abbrev pub nice_in_switch : ℕ → ℤ → ℤ
 nice_in_switch pid nice = if pid == 0 then pos 0 else nice
 
 -- what an event does: the idle task stays, whatever its state
-abbrev pub act_of : EventReading → Act
+abbrev pub act_of : EventView → Act
 act_of (switched s) = acts.Switch s.cpu s.prev (nice_in_switch s.prev s.prev_nice) (if s.prev == 0 then Stays else way_of s.prev_state) s.next (nice_in_switch s.next s.next_nice)
 act_of (woken w) = acts.Wake w.target w.pid w.nice
 act_of (born w) = acts.Born w.target w.pid w.nice

@@ -3,13 +3,13 @@
 use Rattle.std.specs.Prelude.{◌≡◌, ℕ, ◌==◌, if◌then◌else◌, IsTrue, IsFalse, ℤ, pos, ◌-ℤ◌, ◌<ℤ◌, List, Result, Ok, Err}
 use Rattle.std.specs.List.{AllByRecursion}
 use Rattle.ftrace_line.specs.declared.kinds.Which.{Which}
-use Rattle.ftrace_line.specs.Numerals.{value_of}
+use Rattle.text_parts.specs.Numerals.{value_of}
 use Rattle.sched_event.specs.declared.event.Event.{Event}
 use Rattle.sched_event.specs.declared.fault.EventFault.{EventFault}
 use Rattle.sched_event.specs.declared.fault.EventFault.TheVariants.{BadFields, NumberRange, RealTime, PrioRange, IdleNamed}
 use Rattle.sched_event.specs.Texts.{Prio, EventText, switch, wakeup, wakeup_new, migration, WakeupText, Reads}
 use Rattle.sched_event.specs.Ranges.{prio_of, is_out_of_range, prios_of, IsFair, Leftmost, names_idle}
-pub use Rattle.sched_event.specs.Readings.{SwitchReading, WakeupReading, MigrationReading, EventReading, switched, woken, born, migrated, switched_seen, entering_seen, migrated_seen, reading_seen}
+pub use Rattle.sched_event.specs.EventView.{SwitchView, WakeupView, MigrationView, EventView, switched, woken, born, migrated, switch_view, wakeup_view, migration_view, event_view}
 pub use Rattle.sched_event.specs.Act.{act_of}
 
 -- the nice value that a prio stands for; that of pid 0 is 0, whatever is printed
@@ -17,11 +17,11 @@ abbrev pub nice_of : List ℕ → Prio → ℤ
 nice_of pid prio = if value_of pid == 0 then pos 0 else prio_of prio -ℤ pos 120
 
 -- a wakeup's parts as names and numbers
-abbrev pub wakeup_of : WakeupText → WakeupReading
+abbrev pub wakeup_of : WakeupText → WakeupView
 wakeup_of text = record { name = text.name; pid = value_of text.pid; nice = nice_of text.pid text.prio; target = value_of text.target }
 
 -- what a text's parts say, on a line whose head has this processor
-abbrev pub event_of : ℕ → EventText → EventReading
+abbrev pub event_of : ℕ → EventText → EventView
 event_of cpu (switch text) = switched (record {
   cpu = cpu;
   prev_name = text.prev_name;
@@ -43,9 +43,9 @@ event_of cpu (migration text) = migrated (record {
 })
 
 -- what is seen of the answer for a text
-abbrev pub event_seen : Result Event EventFault → Result EventReading EventFault
-event_seen (Ok event) = Ok (reading_seen event)
-event_seen (Err fault) = Err fault
+abbrev pub event_answer_view : Result Event EventFault → Result EventView EventFault
+event_answer_view (Ok event) = Ok (event_view event)
+event_answer_view (Err fault) = Err fault
 
 -- no parts make up the text
 abbrev pub HasNoReading : Which → List ℕ → Type 0
@@ -73,12 +73,12 @@ abbrev pub NamesIdle : Which → List ℕ → Type 0
 NamesIdle which rest = (text : EventText) × Reads which rest text × IsFalse (is_out_of_range text) × IsTrue (names_idle text)
 
 -- the text can be read as this event, with every number in its range
-abbrev pub IsEvent : ℕ → Which → List ℕ → EventReading → Type 0
+abbrev pub IsEvent : ℕ → Which → List ℕ → EventView → Type 0
 IsEvent cpu which rest event = (text : EventText) × Reads which rest text × IsFalse (is_out_of_range text) × AllByRecursion IsFair (prios_of text)
     × IsFalse (names_idle text) × (event ≡ event_of cpu text)
 
 -- what a text means, on a line whose head has this processor: an event, or the first cause to refuse it
-abbrev pub EventAnswer : ℕ → Which → List ℕ → Result EventReading EventFault → Type 0
+abbrev pub EventAnswer : ℕ → Which → List ℕ → Result EventView EventFault → Type 0
 EventAnswer cpu which rest (Ok event) = IsEvent cpu which rest event
 EventAnswer cpu which rest (Err BadFields) = HasNoReading which rest
 EventAnswer cpu which rest (Err NumberRange) = HasNumberOutOfRange which rest

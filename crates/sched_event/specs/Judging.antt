@@ -2,12 +2,12 @@
 -- project's profile). What is answered so is the relation of Event.
 use Rattle.std.specs.Prelude.{◌≡◌, ℕ, ◌==◌, if◌then◌else◌, nat_lt, int_lt, ℤ, pos, ◌-ℤ◌, List, Option, Some, None, Result, Ok, Err}
 use Rattle.ftrace_line.specs.declared.kinds.Which.{Which}
-use Rattle.ftrace_line.specs.Numerals.{value_of}
+use Rattle.text_parts.specs.Numerals.{value_of}
 use Rattle.sched_event.specs.declared.fault.EventFault.{EventFault}
 use Rattle.sched_event.specs.declared.fault.EventFault.TheVariants.{BadFields, NumberRange, RealTime, PrioRange, IdleNamed}
 use Rattle.sched_event.specs.Texts.{Prio, SwitchText, WakeupText, MigrationText, EventText, switch, wakeup, wakeup_new, migration}
 use Rattle.sched_event.specs.Ranges.{prio_of, most_pid, most_cpu}
-use Rattle.sched_event.specs.Event.{SwitchReading, WakeupReading, MigrationReading, EventReading, switched, woken, born, migrated}
+use Rattle.sched_event.specs.Event.{SwitchView, WakeupView, MigrationView, EventView, switched, woken, born, migrated}
 use Rattle.sched_event.specs.Reading.{text_at}
 
 -- a test, and another at what it let through
@@ -34,7 +34,7 @@ unfoldable pub nice_at : ℕ → Prio → Result ℤ EventFault
 nice_at pid prio = nice_for (if pid == 0 then pos 120 else prio_of prio)
 
 -- a switch, by its numbers and then by its prios
-unfoldable pub switch_judged : ℕ → SwitchText → Result SwitchReading EventFault
+unfoldable pub switch_judged : ℕ → SwitchText → Result SwitchView EventFault
 switch_judged cpu text = do
   prev ← number_within most_pid text.prev
   next ← number_within most_pid text.next
@@ -52,7 +52,7 @@ switch_judged cpu text = do
   })
 
 -- a wakeup, by its numbers, then by its prio, then by its pid
-unfoldable pub wakeup_judged : WakeupText → Result WakeupReading EventFault
+unfoldable pub wakeup_judged : WakeupText → Result WakeupView EventFault
 wakeup_judged text = do
   pid ← number_within most_pid text.pid
   target ← number_within most_cpu text.target
@@ -60,7 +60,7 @@ wakeup_judged text = do
   if pid == 0 then Err IdleNamed else Ok (record { name = text.name; pid = pid; nice = nice; target = target })
 
 -- a migration, in the same order
-unfoldable pub migration_judged : MigrationText → Result MigrationReading EventFault
+unfoldable pub migration_judged : MigrationText → Result MigrationView EventFault
 migration_judged text = do
   pid ← number_within most_pid text.pid
   orig ← number_within most_cpu text.orig
@@ -69,17 +69,17 @@ migration_judged text = do
   if pid == 0 then Err IdleNamed else Ok (record { name = text.name; pid = pid; nice = nice; orig = orig; dest = dest })
 
 -- the answer for a text's parts
-unfoldable pub judged : ℕ → EventText → Result EventReading EventFault
+unfoldable pub judged : ℕ → EventText → Result EventView EventFault
 judged cpu (switch text) = switch_judged cpu text >>= λ read. Ok (switched read)
 judged cpu (wakeup text) = wakeup_judged text >>= λ read. Ok (woken read)
 judged cpu (wakeup_new text) = wakeup_judged text >>= λ read. Ok (born read)
 judged cpu (migration text) = migration_judged text >>= λ read. Ok (migrated read)
 
 -- the answer for the parts that were read, if any
-abbrev pub judged_if_read : ℕ → Option EventText → Result EventReading EventFault
+abbrev pub judged_if_read : ℕ → Option EventText → Result EventView EventFault
 judged_if_read cpu None = Err BadFields
 judged_if_read cpu (Some text) = judged cpu text
 
 -- the answer for a text
-unfoldable pub answer_at : ℕ → Which → List ℕ → Result EventReading EventFault
+unfoldable pub answer_at : ℕ → Which → List ℕ → Result EventView EventFault
 answer_at cpu which rest = judged_if_read cpu (text_at which rest)

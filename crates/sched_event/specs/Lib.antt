@@ -1,8 +1,8 @@
 pub mod Texts
 pub mod Ranges
-pub mod Readings
+pub mod EventView
 pub mod Act
 pub mod Event
 pub mod Reading
 pub mod Judging
-pub mod Seen
+pub mod FieldsView

@@ -2,7 +2,7 @@
 -- the prios of fair tasks are this project's profile).
 use Rattle.std.specs.Prelude.{ℕ, ◌==◌, ◌||◌, Bool, false, if◌then◌else◌, nat_lt, ℤ, pos, neg_ℤ, ◌≤ℤ◌, List, [], ◌∷◌, ◌++◌, ◌⊎◌}
 use Rattle.std.specs.List.{list_any}
-use Rattle.ftrace_line.specs.Numerals.{value_of}
+use Rattle.text_parts.specs.Numerals.{value_of}
 use Rattle.sched_event.specs.Texts.{Prio, EventText, switch, wakeup, wakeup_new, migration}
 
 -- the number of a printed prio

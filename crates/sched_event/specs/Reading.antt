@@ -4,8 +4,8 @@ use Rattle.std.specs.Prelude.{◌≡◌, ℕ, zero, suc, ◌==◌, Bool, true, f
 use Rattle.std.specs.List.{prefix_len}
 use Rattle.ftrace_line.specs.declared.kinds.Which.{Which}
 use Rattle.ftrace_line.specs.declared.kinds.Which.TheVariants as kinds
-use Rattle.ftrace_line.specs.Numerals.{is_digit}
-pub use Rattle.ftrace_line.specs.Front.{begins_with}
+use Rattle.text_parts.specs.Numerals.{is_digit}
+pub use Rattle.text_parts.specs.Pieces.{begins_with}
 use Rattle.sched_event.specs.Texts.{Prio, SwitchText, WakeupText, MigrationText, EventText, switch, wakeup, wakeup_new, migration, is_dark}
 
 -- a reader, and another at what it found

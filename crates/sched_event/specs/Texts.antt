@@ -3,7 +3,8 @@
 use Rattle.std.specs.Prelude.{◌≡◌, ℕ, ◌≤◌, ◌==◌, not, Bool, if◌then◌else◌, List, [], ◌∷◌, ◌++◌, codes, length, Option, Some, None, IfSome}
 use Rattle.ftrace_line.specs.declared.kinds.Which.{Which}
 use Rattle.ftrace_line.specs.declared.kinds.Which.TheVariants as kinds
-use Rattle.ftrace_line.specs.Numerals.{IsRunOf, IsNumeral, joined}
+use Rattle.text_parts.specs.Numerals.{IsNumeral}
+use Rattle.text_parts.specs.Pieces.{IsRunOf, joined}
 
 -- a task's name: at most fifteen bytes of any kind, spaces and keys among them
 abbrev pub IsName : List ℕ → Type 0
@@ -38,7 +39,7 @@ pub record SwitchText : Type 0 where
   pub next_prio : Prio
 
 -- a text is a switch of these parts
-pub record IsSwitch (rest : List ℕ) (text : SwitchText) : Type 0 where
+pub record IsSwitchText (rest : List ℕ) (text : SwitchText) : Type 0 where
   pub prev_name : IsName text.prev_name
   pub prev : IsNumeral text.prev
   pub prev_prio : IsNumeral text.prev_prio.digits
@@ -64,7 +65,7 @@ success_text None = []
 success_text (Some digits) = codes " success=" ++ digits
 
 -- a text is a wakeup of these parts, of a task that slept or of a new one
-pub record IsWakeup (rest : List ℕ) (text : WakeupText) : Type 0 where
+pub record IsWakeupText (rest : List ℕ) (text : WakeupText) : Type 0 where
   pub name : IsName text.name
   pub pid : IsNumeral text.pid
   pub prio : IsNumeral text.prio.digits
@@ -82,7 +83,7 @@ pub record MigrationText : Type 0 where
   pub dest : List ℕ
 
 -- a text is a migration of these parts
-pub record IsMigration (rest : List ℕ) (text : MigrationText) : Type 0 where
+pub record IsMigrationText (rest : List ℕ) (text : MigrationText) : Type 0 where
   pub name : IsName text.name
   pub pid : IsNumeral text.pid
   pub prio : IsNumeral text.prio.digits
@@ -100,8 +101,8 @@ pub data EventText : Type 0 where
 
 -- the text behind an event's name has these parts
 abbrev pub Reads : Which → List ℕ → EventText → Type 0
-Reads kinds.Switch rest (switch text) = IsSwitch rest text
-Reads kinds.Wakeup rest (wakeup text) = IsWakeup rest text
-Reads kinds.WakeupNew rest (wakeup_new text) = IsWakeup rest text
-Reads kinds.MigrateTask rest (migration text) = IsMigration rest text
+Reads kinds.Switch rest (switch text) = IsSwitchText rest text
+Reads kinds.Wakeup rest (wakeup text) = IsWakeupText rest text
+Reads kinds.WakeupNew rest (wakeup_new text) = IsWakeupText rest text
+Reads kinds.MigrateTask rest (migration text) = IsMigrationText rest text
 Reads _ rest _ = ⊥

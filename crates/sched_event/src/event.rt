@@ -1,5 +1,5 @@
 ghost use Rattle.std.specs.Prelude.{◌≡◌};
-ghost use Rattle.sched_event.specs.Readings.{reading_seen};
+ghost use Rattle.sched_event.specs.EventView.{event_view};
 ghost use Rattle.sched_event.specs.Act.{act_of, nice_in_switch, is_put_back, is_gone, is_runnable, way_of};
 
 use cfs_model::{Act, Nice, Way};
@@ -107,7 +107,7 @@ fn way_of(state: &[u8]) -> Way
 impl<'a> Event<'a> {
     /// What the event does.
     pub fn act(&self) -> Act
-        ensures { result ≡ act_of (reading_seen self.now) }
+        ensures { result ≡ act_of (event_view self.now) }
     {
         match self {
             Event::Switch(switch) => Act::Switch {

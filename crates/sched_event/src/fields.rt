@@ -2,12 +2,12 @@ ghost use Rattle.std.specs.Prelude.{◌≡◌, ◌≢◌, ℕ, ◌+◌, ◌<◌,
 ghost use Rattle.std.specs.List.{prefix_len};
 ghost use Rattle.sched_event.specs.Texts.{is_dark};
 ghost use Rattle.sched_event.specs.Reading.{Gives, key_at, run_at, sign_at, last_place, numeral_at, state_at, prio_at, name_at, optional_at};
-ghost use Rattle.sched_event.specs.Seen.{pair, numeral_pair, prio_seen, prio_pair, optional_pair};
-ghost use Rattle.ftrace_line.specs.Numerals.{is_digit};
+ghost use Rattle.sched_event.specs.FieldsView.{pair, numeral_pair, prio_fields_view, prio_pair, optional_pair};
+ghost use Rattle.text_parts.specs.Numerals.{is_digit};
 
 use crate::numeral::Numeral;
-use ftrace_line::numerals::number_at;
-use ftrace_line::pieces::begins_with;
+use text_parts::numerals::number_at;
+use text_parts::pieces::begins_with;
 
 /// A printed prio.
 #[derive(Clone, Copy)]

@@ -14,6 +14,3 @@ mod wakeup;
 pub use event::{Event, IDLE, Migration, Switch, Wakeup};
 pub use fault::EventFault;
 pub use read::{one_answer, one_reading, read_event};
-
-#[cfg(test)]
-mod tests;

@@ -1,7 +1,7 @@
 ghost use Rattle.std.specs.Prelude.{◌≡◌, ◌<◌, ◌^◌};
 ghost use Rattle.sched_event.specs.Ranges.{most_pid, most_cpu};
 ghost use Rattle.sched_event.specs.Judging.{Judges, number_within, nice_at};
-ghost use Rattle.sched_event.specs.Seen.{prio_seen};
+ghost use Rattle.sched_event.specs.FieldsView.{prio_fields_view};
 
 use crate::event::IDLE;
 use crate::fault::EventFault;
@@ -54,7 +54,7 @@ pub(crate) fn cpu_of(numeral: &Numeral) -> Result<u32, EventFault>
 #[inline(always)]
 #[tactic(auto, unfolding(crate::specs::Judging::nice_at))]
 pub(crate) fn nice_of(pid: u32, prio: &PrioFields) -> Result<Nice, EventFault>
-    ensures { result ≡ nice_at pid (prio_seen prio.now) }
+    ensures { result ≡ nice_at pid (prio_fields_view prio.now) }
 {
     let number = prio.numeral.value.min(PRIO_BEYOND) as i64;
     let printed = if pid == IDLE {

@@ -1,7 +1,7 @@
 ghost use Rattle.sched_event.specs.Reading.{Gives, migration_at};
 ghost use Rattle.sched_event.specs.Judging.{Judges, migration_judged};
-ghost use Rattle.sched_event.specs.Event.{migrated_seen};
-ghost use Rattle.sched_event.specs.Seen.{migration_seen};
+ghost use Rattle.sched_event.specs.Event.{migration_view};
+ghost use Rattle.sched_event.specs.FieldsView.{migration_fields_view};
 
 use crate::event::{IDLE, Migration};
 use crate::fault::EventFault;
@@ -23,7 +23,7 @@ pub(crate) struct MigrationFields<'a> {
 #[inline(always)]
 #[tactic(auto, unfolding(crate::specs::Reading::migration_at))]
 pub(crate) fn migration_fields(text: &[u8]) -> Option<MigrationFields<'_>>
-    ensures { Gives migration_seen result (migration_at text.now) }
+    ensures { Gives migration_fields_view result (migration_at text.now) }
 {
     let rest = text;
     fields!(rest;
@@ -49,7 +49,7 @@ pub(crate) fn migration_fields(text: &[u8]) -> Option<MigrationFields<'_>>
 #[inline(always)]
 #[tactic(auto, unfolding(crate::specs::Judging::migration_judged))]
 pub(crate) fn migration_of<'a>(text: &MigrationFields<'a>) -> Result<Migration<'a>, EventFault>
-    ensures { Judges migrated_seen result (migration_judged (migration_seen text.now)) }
+    ensures { Judges migration_view result (migration_judged (migration_fields_view text.now)) }
 {
     let pid = pid_of(&text.pid)?;
     let orig = cpu_of(&text.orig)?;

@@ -1,5 +1,5 @@
 ghost use Rattle.std.specs.Prelude.{◌≡◌, min};
-ghost use Rattle.ftrace_line.specs.Numerals.{value_of, many};
+ghost use Rattle.text_parts.specs.Numerals.{value_of, many};
 
 /// One or more digits, with the number that they stand for.
 #[derive(Clone, Copy)]

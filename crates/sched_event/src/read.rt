@@ -1,7 +1,7 @@
 ghost use Rattle.std.specs.Prelude.{◌≡◌, ℕ, List, Result, ◌↔◌, IsErrOf};
 ghost use Rattle.ftrace_line.specs.declared.kinds.Which.{Which};
 ghost use Rattle.sched_event.specs.Texts.{EventText, Reads};
-ghost use Rattle.sched_event.specs.Event.{EventReading, event_seen, EventAnswer, HasNoReading, HasNumberOutOfRange, HasRealTimePrio, HasPrioAboveRange, NamesIdle};
+ghost use Rattle.sched_event.specs.Event.{EventView, event_answer_view, EventAnswer, HasNoReading, HasNumberOutOfRange, HasRealTimePrio, HasPrioAboveRange, NamesIdle};
 ghost use Rattle.sched_event.specs.declared.fault.EventFault.{EventFault};
 
 use crate::event::Event;
@@ -14,7 +14,7 @@ use ftrace_line::{Sched, Which};
 /// Reads the text behind an event's name. An event's names and its state are slices of the line.
 pub fn read_event<'a>(line: Sched<'a>) -> Result<Event<'a>, EventFault>
     // What is answered is so: the event that the text says, or the first cause to refuse it.
-    ensures answer { EventAnswer line.entry.cpu line.entry.which line.entry.rest.now (event_seen result) }
+    ensures answer { EventAnswer line.entry.cpu line.entry.which line.entry.rest.now (event_answer_view result) }
     ensures bad_fields { IsErrOf result EventFault.BadFields ↔ HasNoReading line.entry.which line.entry.rest.now }
     ensures number_range { IsErrOf result EventFault.NumberRange ↔ HasNumberOutOfRange line.entry.which line.entry.rest.now }
     ensures real_time { IsErrOf result EventFault.RealTime ↔ HasRealTimePrio line.entry.which line.entry.rest.now }
@@ -72,6 +72,6 @@ pub fn one_reading()
 /// A text has at most one answer.
 #[tactic(auto, using(crate::proofs::Answering::same_answer))]
 pub fn one_answer()
-    ensures { (cpu : ℕ) (which : Which) (rest : List ℕ) (a b : Result EventReading EventFault)
+    ensures { (cpu : ℕ) (which : Which) (rest : List ℕ) (a b : Result EventView EventFault)
         → EventAnswer cpu which rest a → EventAnswer cpu which rest b → a ≡ b }
 {}

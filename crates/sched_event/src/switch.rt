@@ -1,7 +1,7 @@
 ghost use Rattle.sched_event.specs.Reading.{Gives, switch_at};
 ghost use Rattle.sched_event.specs.Judging.{Judges, switch_judged};
-ghost use Rattle.sched_event.specs.Event.{switched_seen};
-ghost use Rattle.sched_event.specs.Seen.{switch_seen};
+ghost use Rattle.sched_event.specs.Event.{switch_view};
+ghost use Rattle.sched_event.specs.FieldsView.{switch_fields_view};
 
 use crate::event::Switch;
 use crate::fault::EventFault;
@@ -25,7 +25,7 @@ pub(crate) struct SwitchFields<'a> {
 #[inline(always)]
 #[tactic(auto, unfolding(crate::specs::Reading::switch_at))]
 pub(crate) fn switch_fields(text: &[u8]) -> Option<SwitchFields<'_>>
-    ensures { Gives switch_seen result (switch_at text.now) }
+    ensures { Gives switch_fields_view result (switch_at text.now) }
 {
     let rest = text;
     fields!(rest;
@@ -55,7 +55,7 @@ pub(crate) fn switch_fields(text: &[u8]) -> Option<SwitchFields<'_>>
 #[inline(always)]
 #[tactic(auto, unfolding(crate::specs::Judging::switch_judged))]
 pub(crate) fn switch_of<'a>(cpu: u32, text: &SwitchFields<'a>) -> Result<Switch<'a>, EventFault>
-    ensures { Judges switched_seen result (switch_judged cpu (switch_seen text.now)) }
+    ensures { Judges switch_view result (switch_judged cpu (switch_fields_view text.now)) }
 {
     let prev = pid_of(&text.prev)?;
     let next = pid_of(&text.next)?;

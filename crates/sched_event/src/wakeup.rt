@@ -1,7 +1,7 @@
 ghost use Rattle.sched_event.specs.Reading.{Gives, wakeup_at};
 ghost use Rattle.sched_event.specs.Judging.{Judges, wakeup_judged};
-ghost use Rattle.sched_event.specs.Event.{entering_seen};
-ghost use Rattle.sched_event.specs.Seen.{wakeup_seen};
+ghost use Rattle.sched_event.specs.Event.{wakeup_view};
+ghost use Rattle.sched_event.specs.FieldsView.{wakeup_fields_view};
 
 use crate::event::{IDLE, Wakeup};
 use crate::fault::EventFault;
@@ -23,7 +23,7 @@ pub(crate) struct WakeupFields<'a> {
 #[inline(always)]
 #[tactic(auto, unfolding(crate::specs::Reading::wakeup_at))]
 pub(crate) fn wakeup_fields(text: &[u8]) -> Option<WakeupFields<'_>>
-    ensures { Gives wakeup_seen result (wakeup_at text.now) }
+    ensures { Gives wakeup_fields_view result (wakeup_at text.now) }
 {
     let rest = text;
     fields!(rest;
@@ -49,7 +49,7 @@ pub(crate) fn wakeup_fields(text: &[u8]) -> Option<WakeupFields<'_>>
 #[inline(always)]
 #[tactic(auto, unfolding(crate::specs::Judging::wakeup_judged))]
 pub(crate) fn wakeup_of<'a>(text: &WakeupFields<'a>) -> Result<Wakeup<'a>, EventFault>
-    ensures { Judges entering_seen result (wakeup_judged (wakeup_seen text.now)) }
+    ensures { Judges wakeup_view result (wakeup_judged (wakeup_fields_view text.now)) }
 {
     let pid = pid_of(&text.pid)?;
     let target = cpu_of(&text.target)?;

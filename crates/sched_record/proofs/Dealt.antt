@@ -5,11 +5,11 @@ use Rattle.std.proofs.lemmas.Bool.{eq-eqb, ne_eqb}
 use Rattle.std.proofs.lemmas.List.{append-nil, map-append, map_push, take_more}
 use Rattle.std.proofs.lemmas.List.Elements.{filter-append}
 use Rattle.cfs_model.specs.Claimed.{Claimed, claim_at, claimed}
-use Rattle.cfs_model.specs.Cut.{claim_for, deed_at, step_at, steps_at, touches}
+use Rattle.replay_model.specs.Cut.{claim_for, deed_at, step_at, steps_at, touches}
 use Rattle.cfs_model.specs.declared.act.Entry.{Entry}
 use Rattle.cfs_model.specs.declared.claim.Claim.{Claim}
-use Rattle.cfs_model.specs.declared.step.Deed.{Deed}
-use Rattle.cfs_model.specs.declared.step.Step.{Step}
+use Rattle.replay_model.specs.declared.step.Deed.{Deed}
+use Rattle.replay_model.specs.declared.step.Step.{Step}
 
 -- the claim on a line, where those before it stand above
 pub claim_found : (claims : List Claim) (line place : ℕ) (d : Claim) → ((k : ℕ) (e : Claim) → k < place → (get_or claims k e).line < line)

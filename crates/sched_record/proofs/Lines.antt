@@ -11,7 +11,7 @@ use Rattle.sched_record.specs.declared.cause.TraceCause.{TraceCause}
 use Rattle.sched_record.specs.declared.cause.TraceCause.TheVariants.{TooManyLines, Line, LostEvents, Event, TimeBack}
 use Rattle.sched_record.specs.Said.{LineSays}
 use Rattle.sched_record.specs.Progress.{AreRead, IsLastTime}
-use Rattle.sched_record.specs.Trace.{AreEventsOf, IsTimeBack, IsBadAfter, IsFirstBad}
+use Rattle.sched_record.specs.Trace.{AreEventsOf, IsTimeBack, IsBadAfter, IsFirstBadTraceLine}
 
 enumerate_push : {X : Type 0} (n : ℕ) (xs : List X) (x : X)
     → enumerate_from n (xs ++ x ∷ []) ≡ enumerate_from n xs ++ (n + length xs, x) ∷ []
@@ -86,7 +86,7 @@ bad_alone events number line TimeBack says = absurd says
 
 -- the next line is bad
 first_bad : {lines : List (List ℕ)} {count last : ℕ} {events : List Entry} (line : List ℕ) (cause : TraceCause)
-    → AreRead lines count last events → IsBadAfter events (count + 1) line cause → IsFirstBad (lines ++ line ∷ []) (count + 1) cause
+    → AreRead lines count last events → IsBadAfter events (count + 1) line cause → IsFirstBadTraceLine (lines ++ line ∷ []) (count + 1) cause
 first_bad {lines} {count} {last} {events} line cause read bad = record {
   front = lines;
   line = line;
@@ -100,7 +100,7 @@ first_bad {lines} {count} {last} {events} line cause read bad = record {
 
 -- the next line is bad by itself
 pub refuses : {lines : List (List ℕ)} {count last : ℕ} {events : List Entry} (line : List ℕ) (cause : TraceCause)
-    → AreRead lines count last events → LineSays (count + 1) line (Err cause) → IsFirstBad (lines ++ line ∷ []) (count + 1) cause
+    → AreRead lines count last events → LineSays (count + 1) line (Err cause) → IsFirstBadTraceLine (lines ++ line ∷ []) (count + 1) cause
 refuses {lines} {count} {last} {events} line cause read says =
     first_bad line cause read (bad_alone events (count + 1) line cause says)
 
@@ -119,6 +119,6 @@ falls events last number line event (inr some) says lt = record {
 
 pub turns_back : {lines : List (List ℕ)} {count last : ℕ} {events : List Entry} (line : List ℕ) (event : Entry)
     → AreRead lines count last events → LineSays (count + 1) line (Ok (Some event)) → event.time < last
-    → IsFirstBad (lines ++ line ∷ []) (count + 1) TimeBack
+    → IsFirstBadTraceLine (lines ++ line ∷ []) (count + 1) TimeBack
 turns_back {lines} {count} {last} {events} line event read says lt =
     first_bad line TimeBack read (falls events last (count + 1) line event read.last_is says lt)

@@ -5,11 +5,11 @@ use Rattle.std.specs.List.{list_any}
 use Rattle.std.proofs.lemmas.Bool.{or_parts, ltb-false, eqb-false}
 use Rattle.std.proofs.lemmas.List.Elements.{All-nil, All-cons}
 use Rattle.cfs_model.specs.declared.act.Entry.{Entry}
-use Rattle.sched_event.specs.Event.{EventAnswer, EventReading, event_of, act_of}
+use Rattle.sched_event.specs.Event.{EventAnswer, EventView, event_of, act_of}
 use Rattle.sched_event.specs.Ranges.{is_out_of_range, names_idle, pids_of as printed_pids, cpus_of}
 use Rattle.sched_event.specs.Texts.{EventText, switch, wakeup, wakeup_new, migration}
 use Rattle.ftrace_line.specs.declared.kinds.Which.{Which}
-use Rattle.ftrace_line.specs.Numerals.{value_of}
+use Rattle.text_parts.specs.Numerals.{value_of}
 use Rattle.sched_record.specs.Kept.{IsNamed, greatest_pid}
 use Rattle.sched_record.specs.Said.{SaysEvent}
 
@@ -33,7 +33,7 @@ text_named cpu (wakeup text) inside awake = record { in_range = in_range (wakeup
 text_named cpu (wakeup_new text) inside awake = record { in_range = in_range (wakeup_new text) inside; no_idle = not_idle (value_of text.pid) awake }
 text_named cpu (migration text) inside awake = record { in_range = in_range (migration text) inside; no_idle = not_idle (value_of text.pid) awake }
 
-event_named : (cpu : ℕ) (which : Which) (rest : List ℕ) (event : EventReading) → EventAnswer cpu which rest (Ok event) → IsNamed (act_of event)
+event_named : (cpu : ℕ) (which : Which) (rest : List ℕ) (event : EventView) → EventAnswer cpu which rest (Ok event) → IsNamed (act_of event)
 event_named cpu which rest event is = subst (λ e. IsNamed (act_of e)) (sym is.5) (text_named cpu is.0 is.2 is.4)
 
 pub says_named : (number : ℕ) (line : List ℕ) (entry : Entry) → SaysEvent number line entry → IsNamed entry.act

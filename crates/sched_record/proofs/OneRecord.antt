@@ -4,10 +4,10 @@ use Rattle.std.specs.Prelude.{All, Any}
 use Rattle.cfs_model.specs.declared.act.Entry.{Entry}
 use Rattle.cfs_model.specs.declared.claim.Claim.{Claim}
 use Rattle.cfs_model.specs.Touch.{touched}
-use Rattle.companion_file.specs.Companion.{CompanionReading}
+use Rattle.companion_file.specs.Companion.{CompanionView}
 use Rattle.sched_record.specs.declared.joining.JoinCause.{JoinCause}
 use Rattle.sched_record.specs.declared.joining.JoinCause.TheVariants.{CpuOutside, StartLate, ClaimNoEvent}
-use Rattle.sched_record.specs.Kept.{RecordReading, IsInside, is_event_line}
+use Rattle.sched_record.specs.Kept.{RecordView, IsInside, is_event_line}
 use Rattle.sched_record.specs.Join.{IsFirstOutside, IsBeforeStart, BeginsInTime, IsFirstStray, Refuses, GoTogether, RecordAnswer}
 use Rattle.sched_record.proofs.Splits.{one_first, all_at_cut}
 
@@ -46,13 +46,13 @@ one_stray events claims m n x y =
     x.parts y.parts x.claimed y.claimed x.stray y.stray in
     x.placed ∙ ap (λ (c : Claim). c.line) same ∙ sym y.placed
 
-not_mixed : (events : List Entry) (companion : CompanionReading) (line : ℕ) (cause : JoinCause) → GoTogether events companion
+not_mixed : (events : List Entry) (companion : CompanionView) (line : ℕ) (cause : JoinCause) → GoTogether events companion
     → Refuses events companion line cause → ⊥
 not_mixed events companion line CpuOutside good bad = none_outside companion.cpus events line good.inside bad
 not_mixed events companion line StartLate good bad = none_early companion.start events line good.in_time bad.1
 not_mixed events companion line ClaimNoEvent good bad = none_stray events companion.claims line good.claimed bad.2
 
-one_refusal : (events : List Entry) (companion : CompanionReading) (m n : ℕ) (c d : JoinCause) → Refuses events companion m c
+one_refusal : (events : List Entry) (companion : CompanionView) (m n : ℕ) (c d : JoinCause) → Refuses events companion m c
     → Refuses events companion n d → (m ≡ n) × (c ≡ d)
 one_refusal events companion m n CpuOutside CpuOutside p q = (one_outside companion.cpus events m n p q, refl)
 one_refusal events companion m n CpuOutside StartLate p q = absurd (none_outside companion.cpus events m q.0 p)
@@ -64,7 +64,7 @@ one_refusal events companion m n ClaimNoEvent CpuOutside p q = absurd (none_outs
 one_refusal events companion m n ClaimNoEvent StartLate p q = absurd (none_early companion.start events n p.1 q.1)
 one_refusal events companion m n ClaimNoEvent ClaimNoEvent p q = (one_stray events companion.claims m n p.2 q.2, refl)
 
-pub one_record : (events : List Entry) (companion : CompanionReading) (a b : Result RecordReading (ℕ × JoinCause))
+pub one_record : (events : List Entry) (companion : CompanionView) (a b : Result RecordView (ℕ × JoinCause))
     → RecordAnswer events companion a → RecordAnswer events companion b → a ≡ b
 one_record events companion (Ok r) (Ok s) p q = ap (λ x. Ok x) (p.1 ∙ sym q.1)
 one_record events companion (Ok r) (Err fault) p q = absurd (not_mixed events companion fault.0 fault.1 p.0 q)
@@ -74,7 +74,7 @@ one_record events companion (Err (m, c)) (Err (n, d)) p q =
     ap (λ k. Err (k, c)) same.0 ∙ ap (λ e. Err (n, e)) same.1
 
 -- each refusal is answered exactly where it is due
-pub due : (events : List Entry) (companion : CompanionReading) (told : Result RecordReading (ℕ × JoinCause))
+pub due : (events : List Entry) (companion : CompanionView) (told : Result RecordView (ℕ × JoinCause))
     → RecordAnswer events companion told
     → (cause : JoinCause) (line : ℕ) → (told ≡ Err (line, cause)) ↔ Refuses events companion line cause
 due events companion told answered cause line =

@@ -4,34 +4,34 @@ use Rattle.cfs_model.specs.declared.act.Act.{Act}
 use Rattle.cfs_model.specs.declared.act.Entry.{Entry}
 use Rattle.ftrace_line.specs.declared.kinds.Which.{Which}
 use Rattle.ftrace_line.specs.declared.fault.LineFault.{LineFault}
-use Rattle.ftrace_line.specs.Line.{LineAnswer, LineReading, comment, lost, other, sched}
+use Rattle.ftrace_line.specs.Line.{LineAnswer, LineView, comment, lost, other, sched}
 use Rattle.sched_event.specs.declared.fault.EventFault.{EventFault}
-use Rattle.sched_event.specs.Event.{EventAnswer, EventReading, act_of}
+use Rattle.sched_event.specs.Event.{EventAnswer, EventView, act_of}
 use Rattle.sched_record.specs.declared.cause.TraceCause.{TraceCause}
 use Rattle.sched_record.specs.declared.cause.TraceCause.TheVariants.{TooManyLines, Line, LostEvents, Event, TimeBack}
 use Rattle.sched_record.specs.Said.{LineSays, last_number}
 
 -- a line reads in one way, and so does an event's text
 pub record ReadOnce : Type 0 where
-  pub lines : (line : List ℕ) (a b : Result LineReading LineFault) → LineAnswer line a → LineAnswer line b → a ≡ b
-  pub events : (cpu : ℕ) (which : Which) (rest : List ℕ) (a b : Result EventReading EventFault) → EventAnswer cpu which rest a
+  pub lines : (line : List ℕ) (a b : Result LineView LineFault) → LineAnswer line a → LineAnswer line b → a ≡ b
+  pub events : (cpu : ℕ) (which : Which) (rest : List ℕ) (a b : Result EventView EventFault) → EventAnswer cpu which rest a
       → EventAnswer cpu which rest b → a ≡ b
 
 -- what an event's text makes of its line
-of_event : ℕ → ℕ → Result EventReading EventFault → Result (Option Entry) TraceCause
+of_event : ℕ → ℕ → Result EventView EventFault → Result (Option Entry) TraceCause
 of_event number time (Ok event) = Ok (Some (record { line = number; time = time; act = act_of event }))
 of_event number time (Err fault) = Err (Event fault)
 
 -- what a line's reading says
-abbrev Follows : ℕ → Result LineReading LineFault → Result (Option Entry) TraceCause → Type 0
+abbrev Follows : ℕ → Result LineView LineFault → Result (Option Entry) TraceCause → Type 0
 Follows number (Ok comment) say = say ≡ Ok None
 Follows number (Ok lost) say = say ≡ Err LostEvents
 Follows number (Ok other) say = say ≡ Ok None
-Follows number (Ok (sched cpu time which rest)) say = (event : Result EventReading EventFault) × EventAnswer cpu which rest event × (say ≡ of_event number time event)
+Follows number (Ok (sched cpu time which rest)) say = (event : Result EventView EventFault) × EventAnswer cpu which rest event × (say ≡ of_event number time event)
 Follows number (Err fault) say = say ≡ Err (Line fault)
 
 record Path (number : ℕ) (line : List ℕ) (say : Result (Option Entry) TraceCause) : Type 0 where
-  reading : Result LineReading LineFault
+  reading : Result LineView LineFault
   answer : LineAnswer line reading
   follows : Follows number reading say
 
@@ -70,7 +70,7 @@ path number line (Err (Event fault)) says =
     )
 path number line (Err TimeBack) says = absurd says
 
-one_follows : ReadOnce → (number : ℕ) (reading : Result LineReading LineFault) (a b : Result (Option Entry) TraceCause)
+one_follows : ReadOnce → (number : ℕ) (reading : Result LineView LineFault) (a b : Result (Option Entry) TraceCause)
     → Follows number reading a → Follows number reading b → a ≡ b
 one_follows once number (Ok comment) a b p q = p ∙ sym q
 one_follows once number (Ok lost) a b p q = p ∙ sym q

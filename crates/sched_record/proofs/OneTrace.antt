@@ -6,11 +6,11 @@ use Rattle.std.proofs.lemmas.Bool.{cases_order}
 use Rattle.std.proofs.lemmas.List.{append_assoc}
 use Rattle.std.proofs.lemmas.List.Elements.{filter_map-append}
 use Rattle.cfs_model.specs.declared.act.Entry.{Entry}
-use Rattle.ftrace_line.specs.Lines.{lines_of}
+use Rattle.text_parts.specs.Lines.{lines_of}
 use Rattle.sched_record.specs.declared.cause.TraceCause.{TraceCause}
 use Rattle.sched_record.specs.declared.cause.TraceCause.TheVariants.{TooManyLines, Line, LostEvents, Event, TimeBack}
 use Rattle.sched_record.specs.Said.{LineSays}
-use Rattle.sched_record.specs.Trace.{AreEventsOf, IsBadAfter, IsFirstBad, TraceAnswer}
+use Rattle.sched_record.specs.Trace.{AreEventsOf, IsBadAfter, IsFirstBadTraceLine, TraceAnswer}
 use Rattle.sched_record.proofs.OneSaying.{ReadOnce, one_saying}
 use Rattle.sched_record.proofs.Splits.{same_cut, later_cut, next_in_order}
 
@@ -133,13 +133,13 @@ never_bad once lines front rest line all events cause good parts front_good bad 
         (whole ∙ append_assoc bad.before (bad.last ∷ []) (bad.event ∷ events_said cut.after)) good.in_time bad.falls
 
 -- of two first bad lines neither comes before the other
-not_before : ReadOnce → (lines : List (List ℕ)) (m n : ℕ) (c d : TraceCause) → (x : IsFirstBad lines m c) → (y : IsFirstBad lines n d)
+not_before : ReadOnce → (lines : List (List ℕ)) (m n : ℕ) (c d : TraceCause) → (x : IsFirstBadTraceLine lines m c) → (y : IsFirstBadTraceLine lines n d)
     → length x.front < length y.front → ⊥
 not_before once lines m n c d x y lt =
     let cut = later_cut x.front y.front x.line y.line x.rest y.rest (sym x.parts ∙ y.parts) lt in
     never_bad once y.front x.front cut.0 x.line y.events x.events c y.good cut.1 x.good (subst (λ k. IsBadAfter x.events k x.line c) x.placed x.bad)
 
-one_first_bad : ReadOnce → (lines : List (List ℕ)) (m n : ℕ) (c d : TraceCause) → IsFirstBad lines m c → IsFirstBad lines n d
+one_first_bad : ReadOnce → (lines : List (List ℕ)) (m n : ℕ) (c d : TraceCause) → IsFirstBadTraceLine lines m c → IsFirstBadTraceLine lines n d
     → (m ≡ n) × (c ≡ d)
 one_first_bad once lines m n c d x y =
     elim (cases_order (length x.front) (length y.front)) [
@@ -156,7 +156,7 @@ one_first_bad once lines m n c d x y =
 
 -- good lines have no first bad line
 not_mixed : ReadOnce → (lines : List (List ℕ)) (events : List Entry) (number : ℕ) (cause : TraceCause) → AreEventsOf lines events
-    → IsFirstBad lines number cause → ⊥
+    → IsFirstBadTraceLine lines number cause → ⊥
 not_mixed once lines events number cause good bad =
     never_bad once lines bad.front bad.rest bad.line events bad.events cause good bad.parts bad.good
     (subst (λ k. IsBadAfter bad.events k bad.line cause) bad.placed bad.bad)

@@ -4,7 +4,7 @@ use Rattle.std.proofs.lemmas.Bool.{both_ways}
 use Rattle.std.proofs.lemmas.List.{append-nil}
 use Rattle.std.specs.Prelude.{MatchOption, is_some}
 use Rattle.cfs_model.specs.declared.act.Entry.{Entry}
-use Rattle.ftrace_line.specs.Lines.{lines_of}
+use Rattle.text_parts.specs.Lines.{lines_of}
 use Rattle.sched_record.specs.Said.{LineSays}
 
 -- what holds where there is none

@@ -3,15 +3,15 @@ use Rattle.std.proofs.Common.{◌≡◌, Decides, Option, Some, None, refl}
 use Rattle.std.specs.Option.{option_eq}
 use Rattle.std.proofs.lemmas.Bool.Decides.{Decides-eqb, Decides-int_eq, Decides-and, Decides-like}
 use Rattle.std.proofs.lemmas.Slice.Eq.{slice_eq-Decides}
-use Rattle.cfs_model.specs.Cut.{StreamReading}
+use Rattle.replay_model.specs.Cut.{StreamView}
 use Rattle.cfs_model.specs.declared.act.Way.{Way}
 use Rattle.cfs_model.specs.declared.act.Way.TheVariants.{Stays, Sleeps, Ends}
 use Rattle.cfs_model.specs.declared.claim.Claim.{Claim}
 use Rattle.cfs_model.specs.declared.claim.ClaimSort.{ClaimSort}
 use Rattle.cfs_model.specs.declared.claim.ClaimSort.TheVariants.{At, Pass}
-use Rattle.cfs_model.specs.declared.step.Deed.{Deed}
-use Rattle.cfs_model.specs.declared.step.Deed.TheVariants.{Switch, Wake, Born, Leave, Arrive}
-use Rattle.cfs_model.specs.declared.step.Step.{Step}
+use Rattle.replay_model.specs.declared.step.Deed.{Deed}
+use Rattle.replay_model.specs.declared.step.Deed.TheVariants.{Switch, Wake, Born, Leave, Arrive}
+use Rattle.replay_model.specs.declared.step.Step.{Step}
 use Rattle.cfs_model.specs.declared.task.Place.{Place}
 use Rattle.cfs_model.specs.declared.task.Place.TheVariants.{Run, Wait, Rest}
 use Rattle.cfs_model.specs.declared.task.Task.{Task}
@@ -19,8 +19,8 @@ use Rattle.sched_record.specs.Same.{is_same}
 use Rattle.cfs_model.specs.contracts.act.WayPartialEq.TheImpl as way_eq
 use Rattle.cfs_model.specs.contracts.claim.ClaimPartialEq.TheImpl as claim_eq
 use Rattle.cfs_model.specs.contracts.claim.ClaimSortPartialEq.TheImpl as sort_eq
-use Rattle.cfs_model.specs.contracts.step.DeedPartialEq.TheImpl as deed_eq
-use Rattle.cfs_model.specs.contracts.step.StepPartialEq.TheImpl as step_eq
+use Rattle.replay_model.specs.contracts.step.DeedPartialEq.TheImpl as deed_eq
+use Rattle.replay_model.specs.contracts.step.StepPartialEq.TheImpl as step_eq
 use Rattle.cfs_model.specs.contracts.task.PlacePartialEq.TheImpl as place_eq
 use Rattle.cfs_model.specs.contracts.task.TaskPartialEq.TheImpl as task_eq
 
@@ -82,7 +82,7 @@ step_decides a b =
     (Decides-and _ _ (deed_decides a.deed b.deed) (option_decides a.claim b.claim))))
 
 -- two streams hold the same where each of what they hold is equal
-pub is_same_decides : (a b : StreamReading) → Decides (is_same a b) (a ≡ b)
+pub is_same_decides : (a b : StreamView) → Decides (is_same a b) (a ≡ b)
 is_same_decides a b =
     Decides-like _ (λ h i. record {
       cpu = h.0 i;

@@ -9,18 +9,18 @@ use Rattle.std.proofs.lemmas.List.Elements.{All-map, All-filter, All-weaker, fil
 use Rattle.std.proofs.lemmas.Option.{slice_get-get_or}
 use Rattle.cfs_model.specs.Charge.{IsInRange}
 use Rattle.cfs_model.specs.Claimed.{Claimed, claim_at, claimed}
-use Rattle.cfs_model.specs.Cut.{claim_for, deed_at, last_line_after, last_time_of, step_at, steps_at, tasks_at, touches}
+use Rattle.replay_model.specs.Cut.{claim_for, deed_at, last_line_after, last_time_of, step_at, steps_at, tasks_at, touches}
 use Rattle.cfs_model.specs.declared.act.Act.{Act}
 use Rattle.cfs_model.specs.declared.act.Act.TheVariants as act
 use Rattle.cfs_model.specs.declared.act.Entry.{Entry}
 use Rattle.cfs_model.specs.declared.claim.Claim.{Claim}
-use Rattle.cfs_model.specs.declared.step.Deed.{Deed}
-use Rattle.cfs_model.specs.declared.step.Deed.TheVariants.{Switch, Wake, Born, Leave, Arrive}
-use Rattle.cfs_model.specs.declared.step.Step.{Step}
+use Rattle.replay_model.specs.declared.step.Deed.{Deed}
+use Rattle.replay_model.specs.declared.step.Deed.TheVariants.{Switch, Wake, Born, Leave, Arrive}
+use Rattle.replay_model.specs.declared.step.Step.{Step}
 use Rattle.cfs_model.specs.declared.task.Place.TheVariants.{Run}
 use Rattle.cfs_model.specs.declared.task.Task.{Task}
 use Rattle.companion_file.specs.Reading.{IsClaimInLimits, IsTaskInLimits, RunApart}
-use Rattle.sched_record.specs.Kept.{RecordReading, IsInOrder, IsNamed, tasks_of}
+use Rattle.sched_record.specs.Kept.{RecordView, IsRecordInOrder, IsNamed, tasks_of}
 use Rattle.sched_record.specs.Share.{IsShare, OwnsClaim, cut_of, tasks_of_deed}
 use Rattle.sched_record.proofs.Pairs.{pairs_map, pairs_filter, found_in}
 
@@ -124,7 +124,7 @@ within_time start claims [] in_time = λ k d h. absurd (omega arith)
 within_time start claims (event ∷ events) in_time =
     subst (λ n. All (λ e. e.time ≤ n) (event ∷ events)) (sym (last_time_is start claims event events)) (greatest_last (λ (e : Entry). e.time) event events in_time)
 
-pub share_of : (r : RecordReading) (cpu : ℕ) → IsInOrder r → cpu < r.cpus → IsShare (cut_of r cpu)
+pub share_of : (r : RecordView) (cpu : ℕ) → IsRecordInOrder r → cpu < r.cpus → IsShare (cut_of r cpu)
 share_of r cpu order below =
     let limits = order.companion in
     let has_floor : cpu < length r.floors = let each = limits.floor_for_each_cpu in omega (arith, each, below) in
@@ -165,7 +165,7 @@ same_last_line claims (event ∷ events) =
     ∙ ap (λ n. (get_or (event ∷ events) n event).line) (omega arith) ∙ sym (last_line_is 0 claims event events)
 
 -- a cut, part by part, each from a part of the record that was read
-pub cut_is : (r : RecordReading) (cpu : ℕ) (tasks all_tasks : List Task) (floor : ℤ) (floors : List ℤ) (start : ℕ)
+pub cut_is : (r : RecordView) (cpu : ℕ) (tasks all_tasks : List Task) (floor : ℤ) (floors : List ℤ) (start : ℕ)
     (steps : List Step) (claims : List Claim) (events : List Entry) (last_time last_line : ℕ)
     → all_tasks ≡ r.tasks → tasks ≡ tasks_at cpu all_tasks → floors ≡ r.floors → floor ≡ slice_index_or floors cpu (pos 0) → start ≡ r.start
     → claims ≡ r.claims → events ≡ r.events → steps ≡ steps_at cpu (claimed claims events)

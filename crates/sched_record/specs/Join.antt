@@ -3,10 +3,10 @@ use Rattle.std.specs.Prelude.{◌≡◌, ℕ, ◌<◌, ◌≤◌, IsTrue, List, 
 use Rattle.cfs_model.specs.declared.act.Entry.{Entry}
 use Rattle.cfs_model.specs.declared.claim.Claim.{Claim}
 use Rattle.cfs_model.specs.Touch.{touched}
-use Rattle.companion_file.specs.Companion.{CompanionReading}
+use Rattle.companion_file.specs.Companion.{CompanionView}
 use Rattle.sched_record.specs.declared.joining.JoinCause.{JoinCause}
 use Rattle.sched_record.specs.declared.joining.JoinCause.TheVariants.{CpuOutside, StartLate, ClaimNoEvent}
-use Rattle.sched_record.specs.Kept.{RecordReading, IsInside, is_event_line}
+use Rattle.sched_record.specs.Kept.{RecordView, IsInside, is_event_line}
 
 -- the first event that touches a processor which the companion doesn't have, by its line
 pub record IsFirstOutside (cpus : ℕ) (events : List Entry) (line : ℕ) : Type 0 where
@@ -43,7 +43,7 @@ pub record IsFirstStray (events : List Entry) (claims : List Claim) (line : ℕ)
 
 -- why a trace and a companion don't go together, with the line in the trace: each test goes over the whole, and
 -- comes only where the one before it found nothing
-abbrev pub Refuses : List Entry → CompanionReading → ℕ → JoinCause → Type 0
+abbrev pub Refuses : List Entry → CompanionView → ℕ → JoinCause → Type 0
 Refuses events companion line CpuOutside = IsFirstOutside companion.cpus events line
 Refuses events companion line StartLate =
     All (IsInside companion.cpus) events × IsBeforeStart companion.start events line
@@ -51,16 +51,16 @@ Refuses events companion line ClaimNoEvent =
     All (IsInside companion.cpus) events × BeginsInTime companion.start events × IsFirstStray events companion.claims line
 
 -- a trace and a companion go together
-pub record GoTogether (events : List Entry) (companion : CompanionReading) : Type 0 where
+pub record GoTogether (events : List Entry) (companion : CompanionView) : Type 0 where
   pub inside : All (IsInside companion.cpus) events
   pub in_time : BeginsInTime companion.start events
   pub claimed : All (λ claim. IsTrue (is_event_line events claim.line)) companion.claims
 
 -- the record of a trace's events and a companion: all of both
-abbrev pub joined : List Entry → CompanionReading → RecordReading
-joined events c = record { cpus = c.cpus; start = c.start; floors = c.floors; tasks = c.tasks; events = events; claims = c.claims }
+abbrev pub joined_record : List Entry → CompanionView → RecordView
+joined_record events c = record { cpus = c.cpus; start = c.start; floors = c.floors; tasks = c.tasks; events = events; claims = c.claims }
 
 -- joining gives the record of both, or the first reason why they don't go together
-abbrev pub RecordAnswer : List Entry → CompanionReading → Result RecordReading (ℕ × JoinCause) → Type 0
-RecordAnswer events companion (Ok r) = GoTogether events companion × (r ≡ joined events companion)
+abbrev pub RecordAnswer : List Entry → CompanionView → Result RecordView (ℕ × JoinCause) → Type 0
+RecordAnswer events companion (Ok r) = GoTogether events companion × (r ≡ joined_record events companion)
 RecordAnswer events companion (Err fault) = Refuses events companion fault.0 fault.1

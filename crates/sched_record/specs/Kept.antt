@@ -7,7 +7,7 @@ use Rattle.cfs_model.specs.declared.act.Entry.{Entry}
 use Rattle.cfs_model.specs.declared.claim.Claim.{Claim}
 use Rattle.cfs_model.specs.declared.task.Task.{Task}
 use Rattle.cfs_model.specs.Touch.{touched}
-use Rattle.companion_file.specs.Companion.{CompanionReading, IsInOrder as CompanionIsInOrder}
+use Rattle.companion_file.specs.Companion.{CompanionView, IsCompanionInOrder}
 
 -- the greatest pid
 abbrev pub greatest_pid : ℕ
@@ -48,7 +48,7 @@ abbrev pub is_event_line : List Entry → ℕ → Bool
 is_event_line events line = list_any (λ event. event.line == line) events
 
 -- a trace and a companion, joined
-pub record RecordReading : Type 0 where
+pub record RecordView : Type 0 where
   pub cpus : ℕ
   pub start : ℕ
   pub floors : List ℤ
@@ -57,12 +57,12 @@ pub record RecordReading : Type 0 where
   pub claims : List Claim
 
 -- the companion's part of a record
-abbrev pub companion_part : RecordReading → CompanionReading
+abbrev pub companion_part : RecordView → CompanionView
 companion_part r = record { cpus = r.cpus; start = r.start; floors = r.floors; tasks = r.tasks; claims = r.claims }
 
 -- both parts are in order, and they go together
-pub record IsInOrder (r : RecordReading) : Type 0 where
-  pub companion : CompanionIsInOrder (companion_part r)
+pub record IsRecordInOrder (r : RecordView) : Type 0 where
+  pub companion : IsCompanionInOrder (companion_part r)
   pub events : AreInOrder r.events
   pub inside : All (IsInside r.cpus) r.events
   pub started : All (λ event. r.start ≤ event.time) r.events

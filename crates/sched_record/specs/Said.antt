@@ -5,7 +5,7 @@ use Rattle.cfs_model.specs.declared.act.Entry.{Entry}
 use Rattle.ftrace_line.specs.declared.kinds.Which.{Which}
 use Rattle.ftrace_line.specs.Line.{LineAnswer, comment, lost, other, sched}
 use Rattle.sched_event.specs.declared.fault.EventFault.{EventFault}
-use Rattle.sched_event.specs.Event.{EventAnswer, EventReading, act_of}
+use Rattle.sched_event.specs.Event.{EventAnswer, EventView, act_of}
 use Rattle.sched_record.specs.declared.cause.TraceCause.{TraceCause}
 use Rattle.sched_record.specs.declared.cause.TraceCause.TheVariants.{TooManyLines, Line, LostEvents, Event, TimeBack}
 
@@ -18,7 +18,7 @@ pub record SaysEvent (number : ℕ) (line : List ℕ) (entry : Entry) : Type 0 w
   pub cpu : ℕ
   pub which : Which
   pub rest : List ℕ
-  pub event : EventReading
+  pub event : EventView
   pub head : LineAnswer line (Ok (sched cpu entry.time which rest))
   pub text : EventAnswer cpu which rest (Ok event)
   pub act : entry.act ≡ act_of event

@@ -2,13 +2,13 @@
 use Rattle.std.specs.Prelude.{◌≡◌, ℕ, ◌<◌, ◌≤◌, List, [], ◌∷◌, Some, All, AllPairs}
 use Rattle.cfs_model.specs.Charge.{IsInRange}
 use Rattle.cfs_model.specs.Claimed.{claimed}
-use Rattle.cfs_model.specs.Cut.{StreamReading, cut}
+use Rattle.replay_model.specs.Cut.{StreamView, cut}
 use Rattle.cfs_model.specs.declared.claim.Claim.{Claim}
-use Rattle.cfs_model.specs.declared.step.Deed.{Deed}
-use Rattle.cfs_model.specs.declared.step.Deed.TheVariants.{Switch, Wake, Born, Leave, Arrive}
-use Rattle.cfs_model.specs.declared.step.Step.{Step}
+use Rattle.replay_model.specs.declared.step.Deed.{Deed}
+use Rattle.replay_model.specs.declared.step.Deed.TheVariants.{Switch, Wake, Born, Leave, Arrive}
+use Rattle.replay_model.specs.declared.step.Step.{Step}
 use Rattle.cfs_model.specs.declared.task.Place.TheVariants.{Run}
-use Rattle.sched_record.specs.Kept.{RecordReading}
+use Rattle.sched_record.specs.Kept.{RecordView}
 
 -- the pids of a deed that can't be the idle task's
 abbrev pub tasks_of_deed : Deed → List ℕ
@@ -24,7 +24,7 @@ pub record OwnsClaim (step : Step) (claim : Claim) : Type 0 where
   pub in_range : IsInRange claim.v
 
 -- what every stream keeps
-pub record IsShare (s : StreamReading) : Type 0 where
+pub record IsShare (s : StreamView) : Type 0 where
   pub here : All (λ task. task.cpu ≡ s.cpu) s.tasks
   pub runtimes : All (λ task. IsInRange task.v) s.tasks
   pub pids_rise : AllPairs (λ t u. t.pid < u.pid) s.tasks
@@ -38,5 +38,5 @@ pub record IsShare (s : StreamReading) : Type 0 where
   pub claims : All (λ step. (claim : Claim) → step.claim ≡ Some claim → OwnsClaim step claim) s.steps
 
 -- what a processor sees of a record
-abbrev pub cut_of : RecordReading → ℕ → StreamReading
+abbrev pub cut_of : RecordView → ℕ → StreamView
 cut_of r cpu = cut r.start r.floors r.tasks (claimed r.claims r.events) cpu

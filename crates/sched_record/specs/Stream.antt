@@ -1,11 +1,11 @@
 -- A stream, as contracts see it (this project's profile).
 use Rattle.sched_record.specs.declared.stream.Stream.{Stream}
-pub use Rattle.cfs_model.specs.Cut.{StreamReading}
+pub use Rattle.replay_model.specs.Cut.{StreamView}
 pub use Rattle.sched_record.specs.Share.{IsShare, cut_of}
 
 -- the stream, without where it lies in memory
-abbrev pub stream_shown : Stream → StreamReading
-stream_shown s = record {
+abbrev pub stream_view : Stream → StreamView
+stream_view s = record {
   cpu = s.cpu;
   tasks = s.tasks;
   floor = s.floor;

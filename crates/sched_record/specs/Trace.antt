@@ -3,7 +3,7 @@
 use Rattle.std.specs.Prelude.{◌≡◌, ℕ, ◌+◌, ◌<◌, ◌≤◌, List, [], ◌∷◌, ◌++◌, length, Option, Some, Result, Ok, Err}
 use Rattle.std.specs.List.{AllPairs, AllZip, enumerate_from, filter_map}
 use Rattle.cfs_model.specs.declared.act.Entry.{Entry}
-use Rattle.ftrace_line.specs.Lines.{lines_of}
+use Rattle.text_parts.specs.Lines.{lines_of}
 use Rattle.sched_record.specs.declared.cause.TraceCause.{TraceCause}
 use Rattle.sched_record.specs.declared.cause.TraceCause.TheVariants.{TooManyLines, Line, LostEvents, Event, TimeBack}
 use Rattle.sched_record.specs.declared.cause.TraceFault.{TraceFault}
@@ -37,7 +37,7 @@ IsBadAfter events number line (Event fault) = LineSays number line (Err (Event f
 IsBadAfter events number line TimeBack = IsTimeBack events number line
 
 -- the first bad line of all, with its number and its cause
-pub record IsFirstBad (lines : List (List ℕ)) (number : ℕ) (cause : TraceCause) : Type 0 where
+pub record IsFirstBadTraceLine (lines : List (List ℕ)) (number : ℕ) (cause : TraceCause) : Type 0 where
   pub front : List (List ℕ)
   pub line : List ℕ
   pub rest : List (List ℕ)
@@ -50,7 +50,7 @@ pub record IsFirstBad (lines : List (List ℕ)) (number : ℕ) (cause : TraceCau
 -- lines mean their events, or the first bad one and why it is bad
 abbrev pub LinesAnswer : List (List ℕ) → Result (List Entry) (ℕ × TraceCause) → Type 0
 LinesAnswer lines (Ok events) = AreEventsOf lines events
-LinesAnswer lines (Err fault) = IsFirstBad lines fault.0 fault.1
+LinesAnswer lines (Err fault) = IsFirstBadTraceLine lines fault.0 fault.1
 
 -- a trace means what its lines mean
 abbrev pub TraceAnswer : List ℕ → Result (List Entry) (ℕ × TraceCause) → Type 0

@@ -1,25 +1,26 @@
 ghost use Rattle.std.specs.Prelude.{◌≡◌, ◌==◌, ℕ, ◌<◌, ◌≤◌, length, pos, IfOk, slice_index_or};
 ghost use Rattle.std.specs.List.{AllPairs, list_any};
 ghost use Rattle.cfs_model.specs.Claimed.{claim_at, claimed};
-ghost use Rattle.cfs_model.specs.Cut.{claim_for, deed_at as deed_here, steps_at, tasks_at};
+ghost use Rattle.replay_model.specs.Cut.{claim_for, deed_at as deed_here, steps_at, tasks_at};
 ghost use Rattle.cfs_model.specs.Touch.{touched};
 ghost use Rattle.cfs_model.specs.declared.claim.Claim.{Claim};
 
 use crate::record::Record;
 use crate::steps::Steps;
 use crate::stream::Stream;
-use cfs_model::{Act, Claim, Deed, Entry, Memory, Step, Task};
+use cfs_model::{Act, Claim, Entry, Memory, Task};
 use companion_file::Tasks;
+use replay_model::{Deed, Step};
 use std::alloc::Global;
 
 impl Record {
-    ghost use Rattle.sched_record.specs.Record.{shown};
-    ghost use Rattle.sched_record.specs.Stream.{cut_of, stream_shown};
+    ghost use Rattle.sched_record.specs.Record.{record_view};
+    ghost use Rattle.sched_record.specs.Stream.{cut_of, stream_view};
 
     /// What one processor sees of the record: its tasks and floor, and the steps of the events that touch it.
     pub fn deal(&self, cpu: u32) -> Result<Stream, Memory>
-        requires { cpu < (shown self.now).cpus }
-        ensures { IfOk result (λ stream. stream_shown stream ≡ cut_of (shown self.now) cpu) }
+        requires { cpu < (record_view self.now).cpus }
+        ensures { IfOk result (λ stream. stream_view stream ≡ cut_of (record_view self.now) cpu) }
     {
         let alloc = self.allocator();
         let tasks = tasks_of(alloc, self.tasks(), cpu)?;

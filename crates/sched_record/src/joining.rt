@@ -3,10 +3,10 @@ ghost use Rattle.std.specs.Bool.{OnFalse, OnTrue};
 ghost use Rattle.std.specs.List.{AllPairs};
 ghost use Rattle.cfs_model.specs.Touch.{touched};
 ghost use Rattle.cfs_model.specs.declared.act.Entry.{Entry};
-ghost use Rattle.companion_file.specs.Companion.{shown as companion_shown};
+ghost use Rattle.companion_file.specs.Companion.{companion_view};
 ghost use Rattle.sched_record.specs.Join.{BeginsInTime, GoTogether, IsBeforeStart, IsFirstOutside, IsFirstStray, Refuses};
 ghost use Rattle.sched_record.specs.Kept.{AreInOrder, IsInside, is_event_line};
-ghost use Rattle.sched_record.specs.Record.{RecordAnswer, RecordReading, join_seen};
+ghost use Rattle.sched_record.specs.Record.{RecordAnswer, RecordView, join_answer_view};
 ghost use Rattle.sched_record.specs.Trace.{events_of};
 
 use crate::record::Record;
@@ -36,17 +36,17 @@ pub struct JoinFault {
 /// The record of a trace and its companion. A refusal hands both back as they were.
 pub fn join(trace: Trace, companion: Companion) -> Result<Record, (Trace, Companion, JoinFault)>
     // What is answered is what joining them gives.
-    ensures answered { RecordAnswer (events_of trace) (companion_shown companion) (join_seen result) }
+    ensures answered { RecordAnswer (events_of trace) (companion_view companion) (join_answer_view result) }
     // What joining them gives is answered.
-    ensures only { (answer : Result RecordReading (ℕ × JoinCause)) →
-        RecordAnswer (events_of trace) (companion_shown companion) answer → join_seen result ≡ answer }
+    ensures only { (answer : Result RecordView (ℕ × JoinCause)) →
+        RecordAnswer (events_of trace) (companion_view companion) answer → join_answer_view result ≡ answer }
     // Each refusal, with its line, exactly where it is due.
-    ensures cpu_outside { (line : ℕ) → (join_seen result ≡ Err (line, JoinCause.CpuOutside))
-        ↔ Refuses (events_of trace) (companion_shown companion) line JoinCause.CpuOutside }
-    ensures start_late { (line : ℕ) → (join_seen result ≡ Err (line, JoinCause.StartLate))
-        ↔ Refuses (events_of trace) (companion_shown companion) line JoinCause.StartLate }
-    ensures claim_no_event { (line : ℕ) → (join_seen result ≡ Err (line, JoinCause.ClaimNoEvent))
-        ↔ Refuses (events_of trace) (companion_shown companion) line JoinCause.ClaimNoEvent }
+    ensures cpu_outside { (line : ℕ) → (join_answer_view result ≡ Err (line, JoinCause.CpuOutside))
+        ↔ Refuses (events_of trace) (companion_view companion) line JoinCause.CpuOutside }
+    ensures start_late { (line : ℕ) → (join_answer_view result ≡ Err (line, JoinCause.StartLate))
+        ↔ Refuses (events_of trace) (companion_view companion) line JoinCause.StartLate }
+    ensures claim_no_event { (line : ℕ) → (join_answer_view result ≡ Err (line, JoinCause.ClaimNoEvent))
+        ↔ Refuses (events_of trace) (companion_view companion) line JoinCause.ClaimNoEvent }
     // A refusal gives both back.
     ensures back { IfErr result (λ back. (back.0 ≡ trace) × (back.1 ≡ companion)) }
 {
@@ -55,7 +55,7 @@ pub fn join(trace: Trace, companion: Companion) -> Result<Record, (Trace, Compan
 
 /// The record, or the first reason to refuse.
 fn record_of(trace: Trace, companion: Companion) -> Result<Record, (Trace, Companion, JoinFault)>
-    ensures answered { RecordAnswer (events_of trace) (companion_shown companion) (join_seen result) }
+    ensures answered { RecordAnswer (events_of trace) (companion_view companion) (join_answer_view result) }
     ensures back { IfErr result (λ back. (back.0 ≡ trace) × (back.1 ≡ companion)) }
 {
     match refusal_of(trace.events(), &companion) {
@@ -67,8 +67,8 @@ fn record_of(trace: Trace, companion: Companion) -> Result<Record, (Trace, Compa
 /// The first reason to refuse, if there is one.
 fn refusal_of(events: &[Entry], companion: &Companion) -> Option<JoinFault>
     requires { AreInOrder events.now }
-    ensures none { IfNone result (GoTogether events.now (companion_shown companion.now)) }
-    ensures found { IfSome result (λ fault. Refuses events.now (companion_shown companion.now) fault.line fault.cause) }
+    ensures none { IfNone result (GoTogether events.now (companion_view companion.now)) }
+    ensures found { IfSome result (λ fault. Refuses events.now (companion_view companion.now) fault.line fault.cause) }
 {
     if let Some(line) = outside_line(events, companion.cpus()) {
         return Some(refusal(line, JoinCause::CpuOutside));

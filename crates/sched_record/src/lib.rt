@@ -25,6 +25,3 @@ pub use steps::Steps;
 pub use stream::Stream;
 pub use trace::Trace;
 pub use trace_reader::TraceReader;
-
-#[cfg(test)]
-mod tests;

@@ -1,8 +1,8 @@
 ghost use Rattle.std.specs.Prelude.{◌≡◌, ℕ, IsErrOf, List, Result};
 ghost use Rattle.cfs_model.specs.declared.act.Entry.{Entry};
-ghost use Rattle.ftrace_line.specs.Lines.{lines_of};
+ghost use Rattle.text_parts.specs.Lines.{lines_of};
 ghost use Rattle.sched_record.specs.declared.cause.TraceCause.{TraceCause};
-ghost use Rattle.sched_record.specs.Trace.{IsFirstBad, TraceAnswer, Tells};
+ghost use Rattle.sched_record.specs.Trace.{IsFirstBadTraceLine, TraceAnswer, Tells};
 
 use crate::cause::TraceFault;
 use crate::laws::one_trace_answer;
@@ -17,7 +17,7 @@ pub fn read_trace(alloc: Global, text: &[u8]) -> Result<Trace, TraceFault>
     // What the text means is answered, unless a growth was refused.
     ensures only { (answer : Result (List Entry) (ℕ × TraceCause)) → TraceAnswer text.now answer → Tells result (λ told. told ≡ answer) }
     // A refusal is of the first bad line.
-    ensures refused { (line : ℕ) (cause : TraceCause) → IsErrOf result (TraceFault.Text line cause) → IsFirstBad (lines_of text.now) line cause }
+    ensures refused { (line : ℕ) (cause : TraceCause) → IsErrOf result (TraceFault.Text line cause) → IsFirstBadTraceLine (lines_of text.now) line cause }
 {
     one_trace_answer();
     trace_of(alloc, text)

@@ -1,7 +1,7 @@
 ghost use Rattle.std.specs.Prelude.{◌≡◌};
-ghost use Rattle.companion_file.specs.Companion.{shown as companion_shown};
-ghost use Rattle.sched_record.specs.Join.{joined};
-ghost use Rattle.sched_record.specs.Kept.{IsInOrder};
+ghost use Rattle.companion_file.specs.Companion.{companion_view};
+ghost use Rattle.sched_record.specs.Join.{joined_record};
+ghost use Rattle.sched_record.specs.Kept.{IsRecordInOrder};
 
 use crate::trace::Trace;
 use cfs_model::{Claim, Entry, Task};
@@ -13,66 +13,66 @@ use std::alloc::Global;
 pub struct Record {
     trace: Trace,
     companion: Companion,
-    pub ghost in_order: { IsInOrder (joined trace.events (companion_shown companion)) },
+    pub ghost in_order: { IsRecordInOrder (joined_record trace.events (companion_view companion)) },
 }
 
 impl Record {
     ghost use Rattle.sched_record.specs.Join.{GoTogether};
-    ghost use Rattle.sched_record.specs.Record.{shown, last_time_of, last_line_of};
+    ghost use Rattle.sched_record.specs.Record.{record_view, record_last_time, record_last_line};
     ghost use Rattle.sched_record.specs.Trace.{events_of};
 
     pub(crate) fn new(trace: Trace, companion: Companion) -> Record
-        requires { GoTogether (events_of trace) (companion_shown companion) }
-        ensures { shown result ≡ joined (events_of trace) (companion_shown companion) }
+        requires { GoTogether (events_of trace) (companion_view companion) }
+        ensures { record_view result ≡ joined_record (events_of trace) (companion_view companion) }
     {
         Record { trace, companion }
     }
 
     /// The number of processors, 1 to 64.
     pub fn cpus(&self) -> u32
-        ensures { result ≡ (shown self.now).cpus }
+        ensures { result ≡ (record_view self.now).cpus }
     {
         self.companion.cpus()
     }
 
     /// The start time, in nanoseconds.
     pub fn start(&self) -> u64
-        ensures { result ≡ (shown self.now).start }
+        ensures { result ≡ (record_view self.now).start }
     {
         self.companion.start()
     }
 
     /// The events, in the order of their lines.
     pub fn events(&self) -> &[Entry]
-        ensures { result.now ≡ (shown self.now).events }
+        ensures { result.now ≡ (record_view self.now).events }
     {
         self.trace.events()
     }
 
     /// The claims, in the order of their lines.
     pub fn claims(&self) -> &[Claim]
-        ensures { result.now ≡ (shown self.now).claims }
+        ensures { result.now ≡ (record_view self.now).claims }
     {
         self.companion.claims()
     }
 
     /// The tasks of the start state, by rising pid.
     pub fn tasks(&self) -> &[Task]
-        ensures { result.now ≡ (shown self.now).tasks }
+        ensures { result.now ≡ (record_view self.now).tasks }
     {
         self.companion.tasks()
     }
 
     /// Each processor's floor at the start, in virtual nanoseconds, signed.
     pub fn floors(&self) -> &[i64]
-        ensures { result.now ≡ (shown self.now).floors }
+        ensures { result.now ≡ (record_view self.now).floors }
     {
         self.companion.floors()
     }
 
     /// The time of the last event, in nanoseconds; the start where there is none.
     pub fn last_time(&self) -> u64
-        ensures { result ≡ last_time_of (shown self.now) }
+        ensures { result ≡ record_last_time (record_view self.now) }
     {
         self.events()
             .last()
@@ -81,7 +81,7 @@ impl Record {
 
     /// The line of the last event in the trace, from 1, comments counted; 0 where there is none.
     pub fn last_line(&self) -> u32
-        ensures { result ≡ last_line_of (shown self.now) }
+        ensures { result ≡ record_last_line (record_view self.now) }
     {
         self.events().last().map_or(0, |event| event.line)
     }

@@ -1,6 +1,6 @@
 ghost use Rattle.std.specs.Prelude.{◌≡◌};
 
-use cfs_model::Step;
+use replay_model::Step;
 use std::marker::Model;
 
 /// The steps of a stream, in the order of their lines.
@@ -11,7 +11,7 @@ pub struct Steps {
 
 impl Model for Steps {
     ghost use Rattle.std.specs.Prelude.{List};
-    ghost use Rattle.cfs_model.specs.declared.step.Step.{Step};
+    ghost use Rattle.replay_model.specs.declared.step.Step.{Step};
 
     ghost Value = { List Step };
 

@@ -7,8 +7,8 @@ use crate::entry::line_entry;
 use crate::events::Events;
 use crate::trace::Trace;
 use cfs_model::{Entry, Memory};
-use ftrace_line::lines::next_line;
 use std::alloc::Global;
+use text_parts::lines::next_line;
 
 /// A bad line: its number, from 1, comments counted, and why it is bad.
 #[derive(Clone, Copy, Debug, PartialEq, Eq)]
@@ -32,7 +32,7 @@ pub struct TraceReader {
 
 impl TraceReader {
     ghost use Rattle.std.specs.Prelude.{ℕ, ◌∷◌, ◌++◌, [], List, OnOk, OnErr, IsErrOf};
-    ghost use Rattle.ftrace_line.specs.Lines.{lines_of};
+    ghost use Rattle.text_parts.specs.Lines.{lines_of};
     ghost use Rattle.sched_record.specs.Reader.{HasRead, HasReadFront};
     ghost use Rattle.sched_record.specs.Trace.{LinesAnswer, Tells};
 

@@ -10,7 +10,7 @@ use crate::marks::{is_comment, is_first, is_group};
 use crate::statement::Statement;
 use crate::version_one::statement_of;
 use cfs_model::{ClaimSort, Place};
-use ftrace_line::time::Time;
+use text_parts::time::Time;
 
 impl Draft {
     fn say_cpus(&mut self, count: u64) -> Result<(), Refusal>

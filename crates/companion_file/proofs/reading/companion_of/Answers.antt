@@ -1,6 +1,6 @@
 use Rattle.std.proofs.Common.{◌≡◌, ℕ, ◌<◌, Bool, false, eqb, List, length, sym, ◌∙◌, arith}
 use Rattle.std.proofs.lemmas.Bool.{eqb-true, eqb-false}
-use Rattle.companion_file.specs.Companion.{shown}
+use Rattle.companion_file.specs.Companion.{companion_view}
 use Rattle.companion_file.proofs.Reaching.{reached_more, reached_order, reached_whole, refused_answer, short_answer}
 use Rattle.companion_file.proofs.reading.companion_of.Goals as goal
 
@@ -26,7 +26,7 @@ finish-requires c = reached_order c.args.text.now c.loop-rest.rest.now c.loop-re
 
 pub returns-in-Some : goal.returns-in-Some
 returns-in-Some c =
-    reached_whole c.args.text.now c.loop-rest.rest.now c.loop-rest.number c.loop-rest.draft (shown c.in-Some.companion) c.loop-rest.invariant
+    reached_whole c.args.text.now c.loop-rest.rest.now c.loop-rest.number c.loop-rest.draft (companion_view c.in-Some.companion) c.loop-rest.invariant
     (eqb-true (length c.loop-rest.rest.now) 0 (sym c.is_empty.ensures ∙ c.loop-rest-test.false)) c.in-Some.ensures
 
 pub short_after-requires : goal.short_after-requires

@@ -3,10 +3,10 @@ use Rattle.std.proofs.Common.{◌≡◌, ◌+◌, ◌*◌, List, ℕ, Result, Ok
 use Rattle.std.specs.Prelude.{◌↔◌, IsErrOf}
 use Rattle.ftrace_line.specs.declared.kinds.Sched.{Sched}
 use Rattle.ftrace_line.specs.declared.kinds.Line.{Line}
-use Rattle.ftrace_line.specs.declared.kinds.Line.TheVariants as shown
+use Rattle.ftrace_line.specs.declared.kinds.Line.TheVariants as line_variants
 use Rattle.ftrace_line.specs.declared.fault.LineFault.{LineFault}
 use Rattle.ftrace_line.specs.declared.fault.LineFault.TheVariants.{BadHead, NumberRange}
-use Rattle.ftrace_line.specs.Line.{LineAnswer, IsHeadless, IsBeyond, line_seen}
+use Rattle.ftrace_line.specs.Line.{LineAnswer, IsHeadless, IsHeadOutOfRange, line_answer_view}
 use Rattle.ftrace_line.specs.Meaning.{meaning_of}
 use Rattle.ftrace_line.proofs.OneReading.{answer_only}
 use Rattle.ftrace_line.proofs.Answered.{answer_so}
@@ -15,24 +15,24 @@ use Rattle.ftrace_line.proofs.reading.read_line.Goals as goal
 
 -- what the contract says of an answer
 record Told (line : List ℕ) (answer : Result Line LineFault) : Type 0 where
-  answers : LineAnswer line (line_seen answer)
+  answers : LineAnswer line (line_answer_view answer)
   bad : IsErrOf answer BadHead ↔ IsHeadless line
-  range : IsErrOf answer NumberRange ↔ IsBeyond line
+  range : IsErrOf answer NumberRange ↔ IsHeadOutOfRange line
 
-fault_seen : (answer : Result Line LineFault) (fault : LineFault) → line_seen answer ≡ Err fault → answer ≡ Err fault
+fault_seen : (answer : Result Line LineFault) (fault : LineFault) → line_answer_view answer ≡ Err fault → answer ≡ Err fault
 fault_seen (Ok line) fault e = absurd cc
 fault_seen (Err found) fault e = cc
 
 -- it is so where the answer is what is read
-told : (line : List ℕ) (answer : Result Line LineFault) → line_seen answer ≡ meaning_of line → Told line answer
+told : (line : List ℕ) (answer : Result Line LineFault) → line_answer_view answer ≡ meaning_of line → Told line answer
 told line answer e = record {
   answers = subst (LineAnswer line) (sym e) (answer_so line);
   bad = (
-    (λ is. subst (LineAnswer line) (sym e ∙ ap line_seen is) (answer_so line)),
+    (λ is. subst (LineAnswer line) (sym e ∙ ap line_answer_view is) (answer_so line)),
     (λ headless. fault_seen answer BadHead (e ∙ answer_only line (Err BadHead) headless)),
   );
   range = (
-    (λ is. subst (LineAnswer line) (sym e ∙ ap line_seen is) (answer_so line)),
+    (λ is. subst (LineAnswer line) (sym e ∙ ap line_answer_view is) (answer_so line)),
     (λ beyond. fault_seen answer NumberRange (e ∙ answer_only line (Err NumberRange) beyond)),
   );
 }
@@ -43,13 +43,13 @@ fields_of-requires c = mark_within c.in-Some.head.text.now c.in-Some-kind_of.whi
 pub returns-then-is_comment : goal.returns-then-is_comment
 unfolding meaning_of
 returns-then-is_comment c =
-    let t = told c.args.line.now (Ok shown.Comment) (search rules) in
+    let t = told c.args.line.now (Ok line_variants.Comment) (search rules) in
     record { answers = t.answers; bad = t.bad; range = t.range }
 
 pub returns-then-is_lost : goal.returns-then-is_lost
 unfolding meaning_of
 returns-then-is_lost c =
-    let t = told c.args.line.now (Ok shown.Lost) (search rules) in
+    let t = told c.args.line.now (Ok line_variants.Lost) (search rules) in
     record { answers = t.answers; bad = t.bad; range = t.range }
 
 pub returns-in_default : goal.returns-in_default
@@ -67,7 +67,7 @@ returns-then-head-gt-GREATEST_CPU c =
 pub returns-in_default-kind_of : goal.returns-in_default-kind_of
 unfolding meaning_of
 returns-in_default-kind_of c =
-    let t = told c.args.line.now (Ok shown.Other) (search rules) in
+    let t = told c.args.line.now (Ok line_variants.Other) (search rules) in
     record { answers = t.answers; bad = t.bad; range = t.range }
 
 pub returns : goal.returns
@@ -75,5 +75,5 @@ unfolding meaning_of
 returns c =
     let head = c.in-Some.head in
     let event : Sched = record { cpu = head.cpu; which = c.in-Some-kind_of.which; time = head.time.seconds * 1000000000 + head.time.nanoseconds; rest = c.fields_of.result } in
-    let t = told c.args.line.now (Ok (shown.Sched event)) (search rules) in
+    let t = told c.args.line.now (Ok (line_variants.Sched event)) (search rules) in
     record { answers = t.answers; bad = t.bad; range = t.range }

@@ -1,7 +1,7 @@
 use Rattle.std.proofs.Common.{◌≡◌, List, All, sym, subst, refl, rules}
-use Rattle.cfs_model.specs.declared.page.Tally.{Tally}
+use Rattle.replay_model.specs.declared.page.Tally.{Tally}
 use Rattle.queue_replay.specs.Counting.{IsWithin}
-use Rattle.queue_replay.specs.Rows.{EachOnce}
+use Rattle.queue_replay.specs.TaskList.{EachOnce}
 use Rattle.queue_replay.proofs.Starts.{once_from, kept_from, new_within}
 use Rattle.queue_replay.proofs.running.before_steps.Goals as goal
 

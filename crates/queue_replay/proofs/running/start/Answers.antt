@@ -4,21 +4,21 @@ use Rattle.queue_replay.specs.Made.{IsAt}
 use Rattle.queue_replay.proofs.Replays.{reached_start, at_middle, at_end}
 use Rattle.queue_replay.proofs.running.start.Goals as goal
 use Rattle.queue_replay.proofs.running.start.Goals.{then-is_empty, else-is_empty}
-use Rattle.sched_record.specs.Stream.{stream_shown}
+use Rattle.sched_record.specs.Stream.{stream_view}
 
 pub returns-clause-at : goal.returns-clause-at
 returns-clause-at c =
-    let s = stream_shown c.args.stream.now in
-    let first = c.in_ok-course.course in
-    let e = c.in_ok-course.ensures in
+    let s = stream_view c.args.stream.now in
+    let first = c.in_ok-state.state in
+    let e = c.in_ok-state.ensures in
     let r = reached_start s c.args.knobs first e.made e.start e.going in
     let n = ap length c.steps.ensures in
     elim c.if-is_empty.branch [
       | then-is_empty w ↦
           let z = eqb-true (length c.steps.result.now) 0 (sym c.is_empty.ensures ∙ w.if-is_empty.true) in
-          subst (IsAt s c.args.knobs) (sym w.course-is)
-          (at_end s c.args.knobs first w.end_test.new.course r (e.made ∙ sym z ∙ n) w.end_test.ensures.made w.end_test.ensures.page)
+          subst (IsAt s c.args.knobs) (sym w.state-is)
+          (at_end s c.args.knobs first w.end_test.new.state r (e.made ∙ sym z ∙ n) w.end_test.ensures.made w.end_test.ensures.page)
       | else-is_empty w ↦
           let z = eqb-false (length c.steps.result.now) 0 (sym c.is_empty.ensures ∙ w.if-is_empty.false) in
-          subst (IsAt s c.args.knobs) (sym w.course-is) (at_middle s c.args.knobs first r (let m = e.made in omega (arith, z, n)))
+          subst (IsAt s c.args.knobs) (sym w.state-is) (at_middle s c.args.knobs first r (let m = e.made in omega (arith, z, n)))
     ]

@@ -1,7 +1,7 @@
 use Rattle.std.proofs.Common.{◌++◌, [], take, refl, sym, ap, ◌∙◌, inl, subst, arith}
 use Rattle.std.proofs.lemmas.List.{append_assoc}
 use Rattle.std.specs.Io.KnownBytes.{Consumes}
-use Rattle.ftrace_line.specs.Lines.{lines_of}
+use Rattle.text_parts.specs.Lines.{lines_of}
 use Rattle.sched_record.specs.Reader.{HasRead}
 use Rattle.sched_audit.proofs.Counting.{one_more-below}
 use Rattle.sched_audit.proofs.Passing.{lines_of_none, whole_and_whole, consumes_none, consumes_more, all_consumed}

@@ -1,7 +1,7 @@
 -- What was consumed is whole lines, which were read, and what is filled; a call a turn, and none has failed.
 use Rattle.std.proofs.Common.{◌≡◌, ◌≤◌, ◌++◌, List, ℕ, take, vec_len}
 use Rattle.std.specs.Io.KnownBytes.{Consumes}
-use Rattle.ftrace_line.specs.Lines.{lines_of, IsWhole}
+use Rattle.text_parts.specs.Lines.{lines_of, IsWhole}
 use Rattle.sched_record.specs.Reader.{HasRead}
 use Rattle.sched_audit.proofs.lines.read_lines.Given as goal
 

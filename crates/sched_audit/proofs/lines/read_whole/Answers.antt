@@ -1,6 +1,6 @@
 use Rattle.std.proofs.Common.{ℕ, ◌+◌, ◌-◌, ◌<◌, ◌≤◌, ◌++◌, List, length, take, drop, arith, subst}
 use Rattle.std.proofs.lemmas.List.{length-take}
-use Rattle.ftrace_line.specs.Lines.{lines_of, IsWhole}
+use Rattle.text_parts.specs.Lines.{lines_of, IsWhole}
 use Rattle.sched_record.specs.Reader.{HasRead}
 use Rattle.sched_audit.proofs.Passing.{passes_none, passes_some, moved_front, whole_part}
 use Rattle.sched_audit.proofs.lines.read_whole.Goals as goal

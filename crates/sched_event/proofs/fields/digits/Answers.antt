@@ -1,7 +1,7 @@
 use Rattle.std.proofs.Common.{sym, arith}
 use Rattle.std.proofs.lemmas.List.{length-take-le}
 use Rattle.std.proofs.lemmas.List.Sums.{prefix_len-le-length}
-use Rattle.ftrace_line.specs.Numerals.{is_digit}
+use Rattle.text_parts.specs.Numerals.{is_digit}
 use Rattle.sched_event.proofs.fields.digits.Goals as goal
 
 pub slice_bounds-digits-end : goal.slice_bounds-digits-end

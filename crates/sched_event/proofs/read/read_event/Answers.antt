@@ -7,7 +7,7 @@ use Rattle.sched_event.specs.declared.event.Event.{Event}
 use Rattle.sched_event.specs.declared.event.Event.TheVariants as events
 use Rattle.sched_event.specs.declared.fault.EventFault.{EventFault}
 use Rattle.sched_event.specs.declared.fault.EventFault.TheVariants.{BadFields, NumberRange, RealTime, PrioRange, IdleNamed}
-use Rattle.sched_event.specs.Event.{reading_seen, event_seen, EventAnswer, HasNoReading, HasNumberOutOfRange, HasRealTimePrio, HasPrioAboveRange, NamesIdle}
+use Rattle.sched_event.specs.Event.{event_view, event_answer_view, EventAnswer, HasNoReading, HasNumberOutOfRange, HasRealTimePrio, HasPrioAboveRange, NamesIdle}
 use Rattle.sched_event.specs.Judging.{Judges, answer_at, judged}
 use Rattle.sched_event.specs.Reading.{text_at}
 use Rattle.sched_event.proofs.Answering.{seen_answers, refused}
@@ -15,16 +15,16 @@ use Rattle.sched_event.proofs.read.read_event.Goals as goal
 
 -- what the contract says of an answer
 record Told (cpu : ℕ) (which : Which) (rest : List ℕ) (answer : Result Event EventFault) : Type 0 where
-  answers : EventAnswer cpu which rest (event_seen answer)
+  answers : EventAnswer cpu which rest (event_answer_view answer)
   bad_fields : IsErrOf answer BadFields ↔ HasNoReading which rest
   number_range : IsErrOf answer NumberRange ↔ HasNumberOutOfRange which rest
   real_time : IsErrOf answer RealTime ↔ HasRealTimePrio which rest
   prio_range : IsErrOf answer PrioRange ↔ HasPrioAboveRange which rest
   idle_named : IsErrOf answer IdleNamed ↔ NamesIdle which rest
 
-told : (cpu : ℕ) (which kind : Which) (rest : List ℕ) (answer : Result Event EventFault) → which ≡ kind → Judges reading_seen answer (answer_at cpu kind rest) → Told cpu which rest answer
+told : (cpu : ℕ) (which kind : Which) (rest : List ℕ) (answer : Result Event EventFault) → which ≡ kind → Judges event_view answer (answer_at cpu kind rest) → Told cpu which rest answer
 told cpu which kind rest answer is judges =
-    let so : Judges reading_seen answer (answer_at cpu which rest) = subst (λ (w : Which). Judges reading_seen answer (answer_at cpu w rest)) (sym is) judges in
+    let so : Judges event_view answer (answer_at cpu which rest) = subst (λ (w : Which). Judges event_view answer (answer_at cpu w rest)) (sym is) judges in
     record {
       answers = seen_answers cpu which rest answer so;
       bad_fields = refused cpu which rest answer BadFields so;

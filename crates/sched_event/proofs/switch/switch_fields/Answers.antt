@@ -2,7 +2,7 @@
 use Rattle.std.proofs.Common.{◌≡◌, false, eqb, length, refl, rules}
 use Rattle.std.specs.Prelude.{codes}
 use Rattle.sched_event.specs.Texts.{SwitchText}
-use Rattle.sched_event.specs.Seen.{prio_seen}
+use Rattle.sched_event.specs.FieldsView.{prio_fields_view}
 use Rattle.sched_event.specs.Reading.{prio_at, switch_at}
 use Rattle.sched_event.proofs.Keyed.{nothing_left}
 use Rattle.sched_event.proofs.Switches.{SwitchSteps, switch_from}
@@ -13,11 +13,11 @@ returns c =
     let read : SwitchText = record {
       prev_name = c.in_ok-prev_name.prev_name.now;
       prev = c.in_ok-prev.prev.digits.now;
-      prev_prio = prio_seen c.in_ok-prev_prio.prev_prio;
+      prev_prio = prio_fields_view c.in_ok-prev_prio.prev_prio;
       prev_state = c.in_ok-prev_state.prev_state.now;
       next_name = c.in_ok-next_name.next_name.now;
       next = c.in_ok-next.next.digits.now;
-      next_prio = prio_seen c.in_ok-next_prio.next_prio;
+      next_prio = prio_fields_view c.in_ok-next_prio.next_prio;
     } in
     let steps : SwitchSteps c.args.text.now read = record {
       after1 = c.in_ok-prev_name.rest.now;
@@ -32,7 +32,7 @@ returns c =
       prev_state = c.in_ok-prev_state.ensures;
       next_name = c.in_ok-next_name.ensures;
       next = c.in_ok-next.ensures;
-      next_prio = nothing_left (prio_at (codes " next_prio=") c.in_ok-next.rest.now) (prio_seen c.in_ok-next_prio.next_prio) c.in_ok-next_prio.rest.now c.in_ok-next_prio.ensures (search rules);
+      next_prio = nothing_left (prio_at (codes " next_prio=") c.in_ok-next.rest.now) (prio_fields_view c.in_ok-next_prio.next_prio) c.in_ok-next_prio.rest.now c.in_ok-next_prio.ensures (search rules);
     } in
     switch_from c.args.text.now read steps
 

@@ -1,9 +1,9 @@
 use Rattle.std.proofs.Common.{◌≡◌, ℕ, ◌+◌, List, take, sym, ap, ◌∙◌}
 use Rattle.cfs_model.specs.Claimed.{claimed}
-use Rattle.cfs_model.specs.Cut.{steps_at}
+use Rattle.replay_model.specs.Cut.{steps_at}
 use Rattle.cfs_model.specs.declared.act.Entry.{Entry}
 use Rattle.cfs_model.specs.declared.claim.Claim.{Claim}
-use Rattle.cfs_model.specs.declared.step.Step.{Step}
+use Rattle.replay_model.specs.declared.step.Step.{Step}
 use Rattle.sched_record.proofs.Dealt.{dealt_step, dealt_none}
 use Rattle.sched_record.proofs.Walk.{passed_more}
 use Rattle.sched_record.proofs.dealing.steps_of.Goals as goal

@@ -1,6 +1,6 @@
 use Rattle.std.proofs.Common.{◌≡◌, ℕ, ◌<◌, ◌≤◌, length, take, slice_index_or}
 use Rattle.cfs_model.specs.Claimed.{claimed}
-use Rattle.cfs_model.specs.Cut.{steps_at}
+use Rattle.replay_model.specs.Cut.{steps_at}
 use Rattle.cfs_model.specs.declared.act.Entry.{Entry}
 use Rattle.cfs_model.specs.declared.claim.Claim.{Claim}
 use Rattle.sched_record.proofs.dealing.steps_of.Given as goal

@@ -1,5 +1,5 @@
 use Rattle.std.proofs.Common.{◌≡◌, take}
-use Rattle.cfs_model.specs.Cut.{tasks_at}
+use Rattle.replay_model.specs.Cut.{tasks_at}
 use Rattle.sched_record.proofs.dealing.tasks_of.Given as goal
 
 abbrev pub invariant-loop-task : goal.invariant-loop-task

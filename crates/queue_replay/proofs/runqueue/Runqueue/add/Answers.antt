@@ -1,6 +1,6 @@
 use Rattle.std.proofs.Common.{◌≡◌, [], ◌∷◌, ◌++◌, sym, ap, ◌∙◌, subst, rules}
-use Rattle.cfs_model.specs.Part.{start_part}
-use Rattle.queue_replay.specs.Rows.{EachOnce}
+use Rattle.replay_model.specs.Part.{start_part}
+use Rattle.queue_replay.specs.TaskList.{EachOnce}
 use Rattle.queue_replay.proofs.Moves.{pushed_part, pushed_once}
 use Rattle.queue_replay.proofs.runqueue.Runqueue.add.Goals as goal
 

@@ -1,5 +1,5 @@
 use Rattle.std.proofs.Common.{◌∙◌, sym, subst}
-use Rattle.queue_replay.specs.Rows.{EachOnce}
+use Rattle.queue_replay.specs.TaskList.{EachOnce}
 use Rattle.queue_replay.proofs.Moves.{part_is, placed_part, placed_once}
 use Rattle.queue_replay.proofs.runqueue.Runqueue.put_in.Goals as goal
 

@@ -1,5 +1,5 @@
 use Rattle.std.proofs.Common.{◌∙◌, sym, subst}
-use Rattle.queue_replay.specs.Rows.{EachOnce}
+use Rattle.queue_replay.specs.TaskList.{EachOnce}
 use Rattle.queue_replay.proofs.Moves.{part_is, roused_part, roused_once}
 use Rattle.queue_replay.proofs.runqueue.Runqueue.wake.Goals as goal
 

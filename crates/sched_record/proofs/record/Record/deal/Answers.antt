@@ -1,7 +1,7 @@
 use Rattle.std.proofs.Common.{w64, rules, sym, subst}
 use Rattle.std.proofs.lemmas.Int.{to_z-of_z}
 use mir.Val.{SFits}
-use Rattle.sched_record.specs.Record.{shown}
+use Rattle.sched_record.specs.Record.{record_view}
 use Rattle.sched_record.specs.Share.{IsShare}
 use Rattle.sched_record.proofs.Shares.{cut_is, share_of}
 use Rattle.sched_record.proofs.record.Record.deal.Goals as goal
@@ -9,7 +9,7 @@ use Rattle.sched_record.proofs.record.Record.deal.Goals as goal
 pub invariant_of-result : goal.invariant_of-result
 invariant_of-result c =
     let fits : SFits w64 c.floor_of.result = search rules in
-    let r = shown c.args.self.now in
+    let r = record_view c.args.self.now in
     let is_cut =
     cut_is r c.args.cpu _ _ _ _ _ _ _ _ _ _ c.tasks.ensures c.in_ok-tasks.ensures c.floors.ensures c.floor_of.ensures c.start.ensures
     c.claims.ensures c.events.ensures c.in_ok-steps.ensures c.last_time.ensures c.last_line.ensures in
@@ -19,5 +19,5 @@ pub returns : goal.returns
 returns c =
     let fits : SFits w64 c.floor_of.result = search rules in
     rw to_z-of_z
-    (cut_is (shown c.args.self.now) c.args.cpu _ _ _ _ _ _ _ _ _ _ c.tasks.ensures c.in_ok-tasks.ensures c.floors.ensures c.floor_of.ensures c.start.ensures
+    (cut_is (record_view c.args.self.now) c.args.cpu _ _ _ _ _ _ _ _ _ _ c.tasks.ensures c.in_ok-tasks.ensures c.floors.ensures c.floor_of.ensures c.start.ensures
     c.claims.ensures c.events.ensures c.in_ok-steps.ensures c.last_time.ensures c.last_line.ensures)

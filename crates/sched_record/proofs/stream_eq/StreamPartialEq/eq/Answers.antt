@@ -1,13 +1,13 @@
 use Rattle.std.proofs.Common.{rules}
 use Rattle.std.proofs.lemmas.Bool.Decides.{Decides-at}
-use Rattle.sched_record.specs.Stream.{stream_shown}
+use Rattle.sched_record.specs.Stream.{stream_view}
 use Rattle.sched_record.proofs.Same.{is_same_decides}
 use Rattle.sched_record.proofs.stream_eq.StreamPartialEq.eq.Goals as goal
 
 pub returns-then-self-other-4-clause-exact : goal.returns-then-self-other-4-clause-exact
 returns-then-self-other-4-clause-exact c =
-    Decides-at _ _ (search rules) (is_same_decides (stream_shown c.args.self.now) (stream_shown c.args.other.now))
+    Decides-at _ _ (search rules) (is_same_decides (stream_view c.args.self.now) (stream_view c.args.other.now))
 
 pub returns-else-self-other-4-clause-exact : goal.returns-else-self-other-4-clause-exact
 returns-else-self-other-4-clause-exact c =
-    Decides-at _ _ (search rules) (is_same_decides (stream_shown c.args.self.now) (stream_shown c.args.other.now))
+    Decides-at _ _ (search rules) (is_same_decides (stream_view c.args.self.now) (stream_view c.args.other.now))

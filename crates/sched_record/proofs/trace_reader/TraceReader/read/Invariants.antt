@@ -1,6 +1,6 @@
 -- The lines that are gone from the rest were read.
 use Rattle.std.proofs.Common.{◌≡◌, ℕ, ◌++◌, List, length}
-use Rattle.ftrace_line.specs.Lines.{lines_of}
+use Rattle.text_parts.specs.Lines.{lines_of}
 use Rattle.sched_record.specs.Reader.{HasRead}
 use Rattle.sched_record.proofs.trace_reader.TraceReader.read.Given as goal
 

@@ -1,0 +1,104 @@
+-- How one line of a companion is read from left to right: what each part takes from the front of a text, and what it
+-- leaves. Nothing here is to be believed: it is proved to give what `VersionOne` spells, but for numbers far out of
+-- their limits, which are read as other numbers out of their limits.
+use Rattle.std.specs.Prelude.{ℕ, ◌+◌, ◌^◌, ◌==◌, ℤ, pos, neg_ℤ, min, List, codes, length, Option, None, Some, if◌then◌else◌, option_map}
+use Rattle.std.specs.Option.{option_map_or}
+use Rattle.cfs_model.specs.declared.task.Place.{Place}
+use Rattle.cfs_model.specs.declared.task.Place.TheVariants.{Run, Wait, Rest}
+use Rattle.cfs_model.specs.declared.claim.ClaimSort.{ClaimSort}
+use Rattle.cfs_model.specs.declared.claim.ClaimSort.TheVariants.{At, Pass}
+use Rattle.text_parts.specs.Reading.{◌>>=◌, or_else, after_text, numeral_at, time_at}
+use Rattle.companion_file.specs.Shape.{Shape, version_line, cpus_line, start_line, floor_line, task_line, claim_line}
+
+-- a number above each virtual runtime; larger ones are read as this one
+abbrev pub beyond_range : ℕ
+beyond_range = 2 ^ 62 + 1
+
+-- what is there, where nothing follows it
+abbrev pub alone : {A : Type 0} → A × List ℕ → Option A
+alone x = if length x.1 == 0 then Some x.0 else None
+
+-- a number and the space behind it
+unfoldable pub number_field : List ℕ → Option (ℕ × List ℕ)
+number_field text = do
+  number ← numeral_at text
+  rest ← after_text (codes " ") number.1
+  Some (number.0, rest)
+
+-- the whole text is a number
+unfoldable pub number_whole : List ℕ → Option ℕ
+number_whole text = numeral_at text >>= λ number. alone number
+
+-- an integer behind its sign, where there is one
+abbrev pub signed_at : List ℕ → Option (List ℕ) → Option (ℤ × List ℕ)
+signed_at text None = numeral_at text >>= λ number. Some (pos (min number.0 beyond_range), number.1)
+signed_at text (Some digits) = numeral_at digits >>= λ number. Some (neg_ℤ (pos (min number.0 beyond_range)), number.1)
+
+unfoldable pub integer_at : List ℕ → Option (ℤ × List ℕ)
+integer_at text = signed_at text (after_text (codes "-") text)
+
+-- an integer and the space behind it
+unfoldable pub integer_field : List ℕ → Option (ℤ × List ℕ)
+integer_field text = do
+  integer ← integer_at text
+  rest ← after_text (codes " ") integer.1
+  Some (integer.0, rest)
+
+-- the whole text is an integer
+unfoldable pub integer_whole : List ℕ → Option ℤ
+integer_whole text = integer_at text >>= λ integer. alone integer
+
+-- a place and the space behind it
+abbrev pub place_and_rest : Place → Option (List ℕ) → Option (Place × List ℕ)
+place_and_rest place rest = option_map (λ text. (place, text)) rest
+
+unfoldable pub place_field : List ℕ → Option (Place × List ℕ)
+place_field text =
+    or_else (place_and_rest Run (after_text (codes "run ") text))
+    (or_else (place_and_rest Wait (after_text (codes "wait ") text)) (place_and_rest Rest (after_text (codes "rest ") text)))
+
+-- what follows the first word of each shape
+unfoldable pub version_shape_at : List ℕ → Option Shape
+version_shape_at text = number_whole text >>= λ n. Some (version_line 0)
+
+unfoldable pub cpus_shape_at : List ℕ → Option Shape
+cpus_shape_at text = number_whole text >>= λ n. Some (cpus_line n)
+
+unfoldable pub start_shape_at : List ℕ → Option Shape
+start_shape_at text = time_at text >>= λ time. if length time.2 == 0 then Some (start_line time.0 time.1) else None
+
+unfoldable pub floor_shape_at : List ℕ → Option Shape
+floor_shape_at text = do
+  cpu ← number_field text
+  floor ← integer_whole cpu.1
+  Some (floor_line cpu.0 floor)
+
+unfoldable pub task_shape_at : List ℕ → Option Shape
+task_shape_at text = do
+  pid ← number_field text
+  nice ← integer_field pid.1
+  cpu ← number_field nice.1
+  place ← place_field cpu.1
+  v ← integer_whole place.1
+  Some (task_line (record { pid = pid.0; nice = nice.0; cpu = cpu.0; place = place.0; v = v }))
+
+unfoldable pub claim_shape_at : ClaimSort → List ℕ → Option Shape
+claim_shape_at sort text = do
+  line ← number_field text
+  pid ← number_field line.1
+  v ← integer_whole pid.1
+  Some (claim_line (record { line = line.0; pid = pid.0; v = v; sort = sort }))
+
+-- the first word decides the shape
+unfoldable pub front_shape_at : List ℕ → Option Shape
+front_shape_at line =
+    option_map_or start_shape_at (after_text (codes "start ") line)
+    (option_map_or cpus_shape_at (after_text (codes "cpus ") line)
+    (option_map_or version_shape_at (after_text (codes "cfs-companion ") line) None))
+
+unfoldable pub shape_at : List ℕ → Option Shape
+shape_at line =
+    option_map_or (claim_shape_at At) (after_text (codes "at ") line)
+    (option_map_or (claim_shape_at Pass) (after_text (codes "pass ") line)
+    (option_map_or task_shape_at (after_text (codes "task ") line)
+    (option_map_or floor_shape_at (after_text (codes "floor ") line) (front_shape_at line))))

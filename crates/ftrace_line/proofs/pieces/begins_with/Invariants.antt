@@ -1,6 +1,0 @@
-use Rattle.std.proofs.Common.{◌≡◌, take}
-use Rattle.std.specs.Prelude.{bytes_eq}
-use Rattle.ftrace_line.proofs.pieces.begins_with.Given as goal
-
-abbrev pub invariant-loop-place : goal.invariant-loop-place
-invariant-loop-place l = l.same ≡ bytes_eq (take l.place l.text) (take l.place l.front)

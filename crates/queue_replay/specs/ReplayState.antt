@@ -1,0 +1,31 @@
+-- A replay under way, as the definitions have it (this project's profile).
+use Rattle.std.specs.Prelude.{◌≡◌, ℕ, ◌+◌, None, ◌⊎◌, All}
+use Rattle.cfs_model.specs.Settings.{Settings}
+use Rattle.replay_model.specs.Page.{ReplayStateView, PassesStep, FailsStep, with_fault}
+use Rattle.replay_model.specs.declared.page.StepFault.{StepFault}
+use Rattle.replay_model.specs.declared.step.Step.{Step}
+use Rattle.queue_replay.specs.Counting.{IsWithin, page_draft_view}
+use Rattle.queue_replay.specs.Queue.{runqueue_view, IsKept}
+use Rattle.queue_replay.specs.declared.replay_state.ReplayState.{ReplayState}
+
+abbrev pub replay_state_view : ReplayState → ReplayStateView
+replay_state_view c = record { part = runqueue_view c.queue; since = c.since; page = page_draft_view c.draft }
+
+-- no step has failed so far
+pub record IsGoing (c : ReplayState) : Type 0 where
+  pub fault : c.draft.fault ≡ None
+  pub kept : IsKept c.queue
+  pub within : All (IsWithin c.made) c.draft.tallies.items
+
+-- the step passed, and was noted
+pub record IsPassed (knobs : Settings) (cpu : ℕ) (old : ReplayState) (step : Step) (new : ReplayState) : Type 0 where
+  pub passes : PassesStep knobs cpu (replay_state_view old) step (replay_state_view new)
+  pub kept : IsKept new.queue
+  pub within : All (IsWithin (old.made + 1)) new.draft.tallies.items
+
+-- a step was made, which passed, or failed
+abbrev pub IsStepped : Settings → ℕ → ReplayStateView → Step → ReplayState → Type 0
+IsStepped knobs cpu before step new =
+    (PassesStep knobs cpu before step (replay_state_view new) × IsGoing new)
+    ⊎ ((fault : StepFault) × FailsStep knobs cpu before step (with_fault before fault)
+    × (page_draft_view new.draft ≡ (with_fault before fault).page))

@@ -1,0 +1,323 @@
+ghost use Rattle.std.specs.Prelude.{◌≡◌, ◌≢◌, IsTrue, ◌↔◌, Some, option_map, pos, ◌-ℤ◌, ◌≤ℤ◌};
+ghost use Rattle.replay_model.specs.ClaimTests.{claimant, HasClaim, IsClaimMissing, IsClaimExtra, IsClaimPid, IsWrongPutBack, IsInWakeBounds, IsWakeOutside, IsInForkBounds, IsForkOutside, IsNextNotWaiting};
+ghost use Rattle.replay_model.specs.Part.{Entity, IsIn};
+ghost use Rattle.cfs_model.specs.Start.{task_of};
+ghost use Rattle.cfs_model.specs.declared.task.Place.TheVariants.{Rest};
+ghost use Rattle.queue_replay.specs.Queue.{runqueue_view, IdlesBeside, IsAboveGranularity, IsSubject, IsNext};
+ghost use Rattle.queue_replay.specs.TaskList.{standing, EachOnce};
+ghost use Rattle.queue_replay.specs.Sifting.{Decides};
+
+use crate::queue_tests::waits_here;
+use crate::runqueue::Runqueue;
+use crate::task_list::{somebody_below, somebody_waits};
+use cfs_model::{Claim, ClaimSort, Place, Task, Way};
+use replay_model::{Deed, Step};
+
+/// The pid of which the deed needs a claim, if it needs one.
+fn claimant(queue: &Runqueue, step: &Step, subject: &Option<Task>) -> Option<u32>
+    requires { IsSubject queue.now.tasks.items step.now.deed subject.now }
+    ensures { result ≡ claimant (runqueue_view queue.now) step.now.deed }
+{
+    let deed = step.deed;
+    match deed {
+        Deed::Switch { prev, way, .. } => match way {
+            Way::Stays => { if prev == 0 { None } else { Some(prev) } }
+            Way::Sleeps | Way::Ends => None,
+        },
+        Deed::Wake { pid, .. } => {
+            if rests_here(queue, pid, *subject) {
+                Some(pid)
+            } else {
+                None
+            }
+        }
+        Deed::Born { pid, .. } | Deed::Arrive { pid, .. } => Some(pid),
+        Deed::Leave { .. } => None,
+    }
+}
+
+/// The line has a claim of the sort that the deed can need.
+fn has_claim(step: &Step) -> bool
+    ensures { IsTrue result ↔ HasClaim step.now.deed step.now.claim }
+{
+    let claim = step.claim;
+    match claim {
+        Some(claim) => {
+            let sort = claim.sort;
+            let deed = step.deed;
+            match deed {
+                Deed::Arrive { .. } => true,
+                Deed::Switch { .. } | Deed::Wake { .. } | Deed::Born { .. } | Deed::Leave { .. } =>
+                    {
+                        match sort {
+                            ClaimSort::At => true,
+                            ClaimSort::Pass => false,
+                        }
+                    }
+            }
+        }
+        None => false,
+    }
+}
+
+/// A claim is needed, and the line has none that serves.
+pub(crate) fn claim_missing(queue: &Runqueue, step: &Step, subject: &Option<Task>) -> Option<u32>
+    requires { IsSubject queue.now.tasks.items step.now.deed subject.now }
+    ensures { Decides result (IsClaimMissing (runqueue_view queue.now) step.now.deed step.now.claim) }
+{
+    let served = has_claim(step);
+    match claimant(queue, step, subject) {
+        Some(pid) => { if served { None } else { Some(pid) } }
+        None => None,
+    }
+}
+
+/// No claim is needed, and the line has one.
+pub(crate) fn claim_extra(queue: &Runqueue, step: &Step, subject: &Option<Task>) -> Option<u32>
+    requires { IsSubject queue.now.tasks.items step.now.deed subject.now }
+    ensures { Decides result (IsClaimExtra (runqueue_view queue.now) step.now.deed step.now.claim) }
+{
+    let deed = step.deed;
+    let claim = step.claim;
+    match claim {
+        Some(claim) => match claimant(queue, step, subject) {
+            Some(_) => None,
+            None => match deed {
+                Deed::Leave { .. } => None,
+                Deed::Switch { .. } | Deed::Wake { .. } | Deed::Born { .. } | Deed::Arrive { .. } =>
+                    Some(claim.pid),
+            },
+        },
+        None => None,
+    }
+}
+
+/// A claim is needed, and the line's names another task.
+pub(crate) fn claim_pid(queue: &Runqueue, step: &Step, subject: &Option<Task>) -> Option<u32>
+    requires { IsSubject queue.now.tasks.items step.now.deed subject.now }
+    ensures { Decides result (IsClaimPid (runqueue_view queue.now) step.now.deed step.now.claim) }
+{
+    let claim = step.claim;
+    match claim {
+        Some(claim) => match claimant(queue, step, subject) {
+            Some(pid) => {
+                if claim.pid != pid {
+                    Some(claim.pid)
+                } else {
+                    None
+                }
+            }
+            None => None,
+        },
+        None => None,
+    }
+}
+
+/// A previous task that stays is claimed at another virtual runtime than its own.
+pub(crate) fn wrong_put_back(queue: &Runqueue, step: &Step, subject: &Option<Task>) -> Option<u32>
+    requires { IsSubject queue.now.tasks.items step.now.deed subject.now }
+    ensures { Decides result (IsWrongPutBack (runqueue_view queue.now) step.now.deed step.now.claim) }
+{
+    let deed = step.deed;
+    match deed {
+        Deed::Switch { prev, way, .. } => match way {
+            Way::Stays => match step.claim {
+                Some(claim) => {
+                    if prev != 0 && stands_at_other(queue, prev, claim, *subject) {
+                        Some(prev)
+                    } else {
+                        None
+                    }
+                }
+                None => None,
+            },
+            Way::Sleeps | Way::Ends => None,
+        },
+        Deed::Wake { .. } | Deed::Born { .. } | Deed::Leave { .. } | Deed::Arrive { .. } => None,
+    }
+}
+
+/// A woken task that rests is claimed outside its bounds; the credit is in nanoseconds.
+pub(crate) fn wake_outside(
+    queue: &Runqueue,
+    step: &Step,
+    subject: &Option<Task>,
+    credit: u64,
+) -> Option<u32>
+    requires { IsSubject queue.now.tasks.items step.now.deed subject.now }
+    ensures { Decides result (IsWakeOutside credit (runqueue_view queue.now) step.now.deed step.now.claim) }
+{
+    let deed = step.deed;
+    match deed {
+        Deed::Wake { pid, .. } => match step.claim {
+            Some(claim) => {
+                if rests_outside(queue, pid, claim, credit, *subject) {
+                    Some(pid)
+                } else {
+                    None
+                }
+            }
+            None => None,
+        },
+        Deed::Switch { .. } | Deed::Born { .. } | Deed::Leave { .. } | Deed::Arrive { .. } => None,
+    }
+}
+
+/// A new task is claimed outside its bounds; the debit is in nanoseconds.
+pub(crate) fn fork_outside(queue: &Runqueue, step: &Step, debit: u64) -> Option<u32>
+    ensures { Decides result (IsForkOutside debit (runqueue_view queue.now) step.now.deed step.now.claim) }
+{
+    let deed = step.deed;
+    match deed {
+        Deed::Born { pid, .. } => match step.claim {
+            Some(claim) => {
+                if is_in_fork_bounds(queue, claim, debit) {
+                    None
+                } else {
+                    Some(pid)
+                }
+            }
+            None => None,
+        },
+        Deed::Switch { .. } | Deed::Wake { .. } | Deed::Leave { .. } | Deed::Arrive { .. } => None,
+    }
+}
+
+/// The next task of a switch doesn't wait here.
+pub(crate) fn next_not_waiting(queue: &Runqueue, step: &Step, next: &Option<Task>) -> Option<u32>
+    requires { IsNext queue.now.tasks.items step.now.deed next.now }
+    ensures { Decides result (IsNextNotWaiting (runqueue_view queue.now) step.now.deed) }
+{
+    let deed = step.deed;
+    match deed {
+        Deed::Switch { next: pid, .. } => {
+            if pid == 0 || waits_here(queue, pid, *next) {
+                None
+            } else {
+                Some(pid)
+            }
+        }
+        Deed::Wake { .. } | Deed::Born { .. } | Deed::Leave { .. } | Deed::Arrive { .. } => None,
+    }
+}
+
+/// The processor goes idle, and somebody waits here; the previous task has gone its way.
+pub(crate) fn idle_beside_waiting(moved: &Runqueue, next: u32) -> Option<u32>
+    requires { EachOnce moved.now.tasks.items }
+    ensures { Decides result (IdlesBeside (runqueue_view moved.now) next) }
+{
+    if next != 0 {
+        return None;
+    }
+    if somebody_waits(moved.tasks.as_slice()) {
+        Some(0)
+    } else {
+        None
+    }
+}
+
+/// The next task, as it stood, is above one that waits here by more than the granularity, in nanoseconds; the
+/// previous task has gone its way.
+pub(crate) fn not_least(
+    moved: &Runqueue,
+    next: u32,
+    own: Option<Task>,
+    granularity: u64,
+) -> Option<u32>
+    requires { EachOnce moved.now.tasks.items }
+    ensures { Decides result (IsAboveGranularity granularity (option_map standing own) (runqueue_view moved.now) next) }
+{
+    if next == 0 {
+        return None;
+    }
+    match own {
+        Some(task) => {
+            if somebody_below(moved.tasks.as_slice(), task, granularity) {
+                Some(next)
+            } else {
+                None
+            }
+        }
+        None => None,
+    }
+}
+
+fn rests_here(queue: &Runqueue, pid: u32, row: Option<Task>) -> bool
+    requires { row ≡ task_of queue.now.tasks.items pid }
+    ensures { IsTrue result ↔ IsIn (runqueue_view queue.now) Rest pid }
+{
+    match row {
+        Some(task) => {
+            let place = task.place;
+            match place {
+                Place::Rest => true,
+                Place::Run | Place::Wait => false,
+            }
+        }
+        None => false,
+    }
+}
+
+/// The pid stands here at another virtual runtime than the claimed one.
+fn stands_at_other(queue: &Runqueue, pid: u32, claim: Claim, row: Option<Task>) -> bool
+    requires { row ≡ task_of queue.now.tasks.items pid }
+    ensures { IsTrue result ↔ ((s : Entity) × ((runqueue_view queue.now).tasks pid ≡ Some s) × (claim.v ≢ s.runtime)) }
+{
+    match row {
+        Some(task) => is_at_other(task, claim),
+        None => false,
+    }
+}
+
+fn is_at_other(task: Task, claim: Claim) -> bool
+    ensures { IsTrue result ↔ (claim.v ≢ task.v) }
+{
+    if claim.v == task.v { false } else { true }
+}
+
+/// The pid rests here, and is claimed outside the bounds of its wakeup.
+fn rests_outside(queue: &Runqueue, pid: u32, claim: Claim, credit: u64, row: Option<Task>) -> bool
+    requires { row ≡ task_of queue.now.tasks.items pid }
+    ensures { IsTrue result ↔ ((s : Entity) × ((runqueue_view queue.now).tasks pid ≡ Some s) × (s.place ≡ Rest) × (¬ IsInWakeBounds credit queue.now.floor s.runtime claim.v)) }
+{
+    match row {
+        Some(task) => {
+            let place = task.place;
+            match place {
+                Place::Rest => !is_in_wake_bounds(queue, task, claim, credit),
+                Place::Run | Place::Wait => false,
+            }
+        }
+        None => false,
+    }
+}
+
+/// The claim is within the bounds of the task's wakeup, by its own virtual runtime, the floor and the credit.
+fn is_in_wake_bounds(queue: &Runqueue, task: Task, claim: Claim, credit: u64) -> bool
+    ensures { IsTrue result ↔ IsInWakeBounds credit queue.now.floor task.v claim.v }
+{
+    if claim.v < task.v {
+        return false;
+    }
+    if claim.v > task.v.max(queue.floor) {
+        return false;
+    }
+    reaches_credit(queue, claim, credit)
+}
+
+/// The claim is at most the credit below the floor.
+fn reaches_credit(queue: &Runqueue, claim: Claim, credit: u64) -> bool
+    ensures { IsTrue result ↔ ((queue.now.floor -ℤ pos credit) ≤ℤ claim.v) }
+{
+    i128::from(queue.floor) <= i128::from(claim.v) + i128::from(credit)
+}
+
+/// The claim is within the bounds of a birth, by the floor and the debit.
+fn is_in_fork_bounds(queue: &Runqueue, claim: Claim, debit: u64) -> bool
+    ensures { IsTrue result ↔ IsInForkBounds debit queue.now.floor claim.v }
+{
+    if claim.v < queue.floor {
+        return false;
+    }
+    i128::from(claim.v) <= i128::from(queue.floor) + i128::from(debit)
+}

@@ -1,0 +1,121 @@
+ghost use Rattle.std.specs.Prelude.{◌≡◌, ℕ, ℤ, ◌+◌, ◌-◌, ◌^◌, ◌<◌, ◌≤◌, [], ◌∷◌, ◌++◌, All, IfSome, vec_len, vec_capacity};
+ghost use Rattle.cfs_model.specs.Charge.{greatest};
+ghost use Rattle.replay_model.specs.Noted.{births_of, deaths_of, tallied};
+ghost use Rattle.replay_model.specs.declared.step.Deed.TheVariants.{Switch};
+ghost use Rattle.queue_replay.specs.Counting.{HasNoteRoom, if_left, if_came, stretched, IsWithin};
+ghost use Rattle.queue_replay.specs.TaskList.{cost_of};
+
+use crate::counting::{add_pick, add_stretch, add_tally};
+use cfs_model::{Task, Way};
+use replay_model::{Deed, LifeEvent, Step, StepFault, Tally, Ticket};
+
+/// What a replay has noted of its steps.
+#[derive(Drop)]
+pub(crate) struct PageDraft {
+    /// The line of the last step that passed, 0 if none did.
+    pub line: u32,
+    pub fault: Option<StepFault>,
+    /// The tickets of the tasks that left, and of those that came.
+    pub left: Vec<Ticket>,
+    pub came: Vec<Ticket>,
+    pub births: Vec<LifeEvent>,
+    pub deaths: Vec<LifeEvent>,
+    /// One for each pid that stood here, in the order in which they first did.
+    pub tallies: Vec<Tally>,
+}
+
+impl PageDraft {
+    /// Adds a stretch of the runner, in nanoseconds, to its tally. Each tally is that of at most so many steps.
+    pub fn note_stretch(&mut self, runner: Option<Task>, time: u64, steps: usize)
+        requires fits { IfSome runner (λ t. cost_of time t ≤ greatest) }
+        requires few { steps < 2 ^ 64 - 1 }
+        requires within { All (IsWithin steps) self.old.tallies.items }
+        ensures tallies { self.new.tallies.items ≡ stretched runner time self.old.tallies.items }
+        ensures room { (vec_len self.new.tallies ≡ vec_len self.old.tallies) × (vec_capacity self.new.tallies ≡ vec_capacity self.old.tallies) }
+        ensures same { (self.new.line ≡ self.old.line) × (self.new.fault ≡ self.old.fault) × (self.new.left ≡ self.old.left) × (self.new.came ≡ self.old.came) × (self.new.births ≡ self.old.births) × (self.new.deaths ≡ self.old.deaths) }
+    {
+        match runner {
+            Some(task) => add_stretch(self.tallies.as_mut_slice(), task, time, steps),
+            None => {}
+        }
+    }
+
+    /// Notes a step that passed, with its ticket if it has one. Takes no memory. Each tally is that of at most so many
+    /// steps.
+    pub fn note(&mut self, step: &Step, ticket: Option<Ticket>, steps: usize)
+        requires room { HasNoteRoom step.now.deed self.old }
+        requires few { steps < 2 ^ 64 - 1 }
+        requires within { All (λ tally. tally.picks ≤ steps) self.old.tallies.items }
+        ensures line { self.new.line ≡ step.now.line }
+        ensures fault { self.new.fault ≡ self.old.fault }
+        ensures left { self.new.left.items ≡ self.old.left.items ++ if_left step.now.deed ticket }
+        ensures came { self.new.came.items ≡ self.old.came.items ++ if_came step.now.deed ticket }
+        ensures births { self.new.births.items ≡ self.old.births.items ++ births_of step.now.line step.now.deed }
+        ensures deaths { self.new.deaths.items ≡ self.old.deaths.items ++ deaths_of step.now.line step.now.deed }
+        ensures tallies { self.new.tallies.items ≡ tallied step.now.deed self.old.tallies.items }
+    {
+        self.line = step.line;
+        let deed = step.deed;
+        match deed {
+            Deed::Switch {
+                prev,
+                way,
+                next,
+                ..
+            } => {
+                self.note_end(step.line, prev, way);
+                if next != 0 {
+                    add_pick(self.tallies.as_mut_slice(), next, steps);
+                }
+            }
+            Deed::Wake { .. } => {}
+            Deed::Born { pid, .. } => {
+                push_in(
+                    &mut self.births,
+                    LifeEvent {
+                        line: step.line,
+                        pid,
+                    },
+                );
+                add_tally(&mut self.tallies, pid);
+            }
+            Deed::Leave { .. } => {
+                if let Some(ticket) = ticket {
+                    push_in(&mut self.left, ticket);
+                }
+            }
+            Deed::Arrive { pid, .. } => {
+                if let Some(ticket) = ticket {
+                    push_in(&mut self.came, ticket);
+                }
+                add_tally(&mut self.tallies, pid);
+            }
+        }
+    }
+
+    /// Notes the death of a switch's previous task, if it ends.
+    fn note_end(&mut self, line: u32, prev: u32, way: Way)
+        requires { vec_len self.old.deaths < vec_capacity self.old.deaths }
+        ensures deaths { (prev_nice : ℤ) (next : ℕ) (next_nice : ℤ) → self.new.deaths.items ≡ self.old.deaths.items ++ deaths_of line (Switch prev prev_nice way next next_nice) }
+        ensures same { (self.new.line ≡ self.old.line) × (self.new.fault ≡ self.old.fault) × (self.new.left ≡ self.old.left) × (self.new.came ≡ self.old.came) × (self.new.births ≡ self.old.births) × (self.new.tallies ≡ self.old.tallies) }
+    {
+        match way {
+            Way::Stays | Way::Sleeps => {}
+            Way::Ends => {
+                if prev != 0 {
+                    push_in(&mut self.deaths, LifeEvent { line, pid: prev });
+                }
+            }
+        }
+    }
+}
+
+/// Puts an item at the end of a list that has room for it.
+fn push_in<T: Drop>(list: &mut Vec<T>, item: T)
+    requires { vec_len list.old < vec_capacity list.old }
+    ensures { list.new.items ≡ list.old.items ++ item ∷ [] }
+{
+    if list.push(item).is_err() {
+        unreachable!();
+    }
+}

@@ -1,0 +1,239 @@
+ghost use Rattle.std.specs.Prelude.{◌≡◌, ◌≢◌, IsTrue, ◌↔◌};
+ghost use Rattle.replay_model.specs.Part.{IsIn};
+ghost use Rattle.replay_model.specs.QueueTests.{IsMoveHome, IsSelfSwitch, IsRunner, IsPrevNotRunning, IsStrange, IsAlready, IsMoveRunning, HasOtherNice, HasOtherPrio, IsWrongPrio};
+ghost use Rattle.cfs_model.specs.Start.{task_of};
+ghost use Rattle.cfs_model.specs.declared.task.Place.TheVariants.{Run, Wait};
+ghost use Rattle.queue_replay.specs.Queue.{runqueue_view, IsSubject, IsNext};
+ghost use Rattle.queue_replay.specs.TaskList.{EachOnce};
+ghost use Rattle.queue_replay.specs.Sifting.{Decides};
+
+use crate::runqueue::Runqueue;
+use crate::task_list::{somebody_runs, task_at};
+use cfs_model::{Nice, Place, Task};
+use replay_model::{Deed, Step};
+
+/// The task that the step is of, if it stands here; of a switch's two the previous one.
+pub(crate) fn subject_of(queue: &Runqueue, step: &Step) -> Option<Task>
+    ensures { IsSubject queue.now.tasks.items step.now.deed result }
+{
+    let deed = step.deed;
+    match deed {
+        Deed::Switch { prev, .. } => task_at(queue.tasks.as_slice(), prev),
+        Deed::Wake { pid, .. }
+        | Deed::Born { pid, .. }
+        | Deed::Leave { pid, .. }
+        | Deed::Arrive { pid, .. } => task_at(queue.tasks.as_slice(), pid),
+    }
+}
+
+/// The next task of a switch, if it stands here.
+pub(crate) fn next_of(queue: &Runqueue, step: &Step) -> Option<Task>
+    ensures { IsNext queue.now.tasks.items step.now.deed result }
+{
+    let deed = step.deed;
+    match deed {
+        Deed::Switch { next, .. } => task_at(queue.tasks.as_slice(), next),
+        Deed::Wake { .. } | Deed::Born { .. } | Deed::Leave { .. } | Deed::Arrive { .. } => None,
+    }
+}
+
+/// A task goes to the processor where it is.
+pub(crate) fn move_home(cpu: u32, step: &Step) -> Option<u32>
+    ensures { Decides result (IsMoveHome cpu step.now.deed) }
+{
+    let deed = step.deed;
+    match deed {
+        Deed::Leave { pid, dest, .. } => { if dest == cpu { Some(pid) } else { None } }
+        Deed::Switch { .. } | Deed::Wake { .. } | Deed::Born { .. } | Deed::Arrive { .. } => None,
+    }
+}
+
+/// A switch goes from a task to itself.
+pub(crate) fn self_switch(step: &Step) -> Option<u32>
+    ensures { Decides result (IsSelfSwitch step.now.deed) }
+{
+    let deed = step.deed;
+    match deed {
+        Deed::Switch { prev, next, .. } => { if prev == next { Some(prev) } else { None } }
+        Deed::Wake { .. } | Deed::Born { .. } | Deed::Leave { .. } | Deed::Arrive { .. } => None,
+    }
+}
+
+/// The previous task of a switch isn't what runs here.
+pub(crate) fn prev_not_running(queue: &Runqueue, step: &Step, subject: &Option<Task>) -> Option<u32>
+    requires once { EachOnce queue.now.tasks.items }
+    requires subject { IsSubject queue.now.tasks.items step.now.deed subject.now }
+    ensures { Decides result (IsPrevNotRunning (runqueue_view queue.now) step.now.deed) }
+{
+    let deed = step.deed;
+    match deed {
+        Deed::Switch { prev, .. } => {
+            if is_runner(queue, prev, *subject) {
+                None
+            } else {
+                Some(prev)
+            }
+        }
+        Deed::Wake { .. } | Deed::Born { .. } | Deed::Leave { .. } | Deed::Arrive { .. } => None,
+    }
+}
+
+/// A wakeup or a leave names a pid that doesn't stand here.
+pub(crate) fn strange(queue: &Runqueue, step: &Step, subject: &Option<Task>) -> Option<u32>
+    requires { IsSubject queue.now.tasks.items step.now.deed subject.now }
+    ensures { Decides result (IsStrange (runqueue_view queue.now) step.now.deed) }
+{
+    let deed = step.deed;
+    match deed {
+        Deed::Wake { pid, .. } | Deed::Leave { pid, .. } => {
+            if subject.is_none() { Some(pid) } else { None }
+        }
+        Deed::Switch { .. } | Deed::Born { .. } | Deed::Arrive { .. } => None,
+    }
+}
+
+/// A birth or an arrival names a pid that stands here.
+pub(crate) fn already(queue: &Runqueue, step: &Step, subject: &Option<Task>) -> Option<u32>
+    requires { IsSubject queue.now.tasks.items step.now.deed subject.now }
+    ensures { Decides result (IsAlready (runqueue_view queue.now) step.now.deed) }
+{
+    let deed = step.deed;
+    match deed {
+        Deed::Born { pid, .. } | Deed::Arrive { pid, .. } => {
+            if subject.is_some() { Some(pid) } else { None }
+        }
+        Deed::Switch { .. } | Deed::Wake { .. } | Deed::Leave { .. } => None,
+    }
+}
+
+/// The task that runs here leaves.
+pub(crate) fn move_running(queue: &Runqueue, step: &Step, subject: &Option<Task>) -> Option<u32>
+    requires { IsSubject queue.now.tasks.items step.now.deed subject.now }
+    ensures { Decides result (IsMoveRunning (runqueue_view queue.now) step.now.deed) }
+{
+    let deed = step.deed;
+    match deed {
+        Deed::Leave { pid, .. } => {
+            if runs_here(queue, pid, *subject) {
+                Some(pid)
+            } else {
+                None
+            }
+        }
+        Deed::Switch { .. } | Deed::Wake { .. } | Deed::Born { .. } | Deed::Arrive { .. } => None,
+    }
+}
+
+/// A task that the step names stands here with another nice value; of a switch's two the previous one first.
+pub(crate) fn wrong_prio(
+    queue: &Runqueue,
+    step: &Step,
+    subject: &Option<Task>,
+    next: &Option<Task>,
+) -> Option<u32>
+    requires subject { IsSubject queue.now.tasks.items step.now.deed subject.now }
+    requires next { IsNext queue.now.tasks.items step.now.deed next.now }
+    ensures { Decides result (IsWrongPrio (runqueue_view queue.now) step.now.deed) }
+{
+    let deed = step.deed;
+    match deed {
+        Deed::Switch {
+            prev,
+            prev_nice,
+            next: pid,
+            next_nice,
+            ..
+        } => {
+            if has_other_prio(queue, prev, prev_nice, *subject) {
+                Some(prev)
+            } else if has_other_prio(queue, pid, next_nice, *next) {
+                Some(pid)
+            } else {
+                None
+            }
+        }
+        Deed::Wake { pid, nice } | Deed::Leave { pid, nice, .. } => {
+            if has_other_nice(queue, pid, nice, *subject) {
+                Some(pid)
+            } else {
+                None
+            }
+        }
+        Deed::Born { .. } | Deed::Arrive { .. } => None,
+    }
+}
+
+/// The pid is what runs here; pid 0 where nobody does.
+fn is_runner(queue: &Runqueue, pid: u32, row: Option<Task>) -> bool
+    requires once { EachOnce queue.now.tasks.items }
+    requires row { row ≡ task_of queue.now.tasks.items pid }
+    ensures { IsTrue result ↔ IsRunner (runqueue_view queue.now) pid }
+{
+    if pid == 0 {
+        !somebody_runs(queue.tasks.as_slice())
+    } else {
+        runs_here(queue, pid, row)
+    }
+}
+
+fn runs_here(queue: &Runqueue, pid: u32, row: Option<Task>) -> bool
+    requires { row ≡ task_of queue.now.tasks.items pid }
+    ensures { IsTrue result ↔ IsIn (runqueue_view queue.now) Run pid }
+{
+    match row {
+        Some(task) => {
+            let place = task.place;
+            match place {
+                Place::Run => true,
+                Place::Wait | Place::Rest => false,
+            }
+        }
+        None => false,
+    }
+}
+
+/// The pid waits here.
+pub(crate) fn waits_here(queue: &Runqueue, pid: u32, row: Option<Task>) -> bool
+    requires { row ≡ task_of queue.now.tasks.items pid }
+    ensures { IsTrue result ↔ IsIn (runqueue_view queue.now) Wait pid }
+{
+    match row {
+        Some(task) => {
+            let place = task.place;
+            match place {
+                Place::Wait => true,
+                Place::Run | Place::Rest => false,
+            }
+        }
+        None => false,
+    }
+}
+
+/// The pid stands here with another nice value than the printed one.
+fn has_other_nice(queue: &Runqueue, pid: u32, nice: Nice, row: Option<Task>) -> bool
+    requires { row ≡ task_of queue.now.tasks.items pid }
+    ensures { IsTrue result ↔ HasOtherNice (runqueue_view queue.now) pid nice }
+{
+    match row {
+        Some(task) => differ(task.nice, nice),
+        None => false,
+    }
+}
+
+/// The same at a switch, where that of pid 0 isn't looked at.
+fn has_other_prio(queue: &Runqueue, pid: u32, nice: Nice, row: Option<Task>) -> bool
+    requires { row ≡ task_of queue.now.tasks.items pid }
+    ensures { IsTrue result ↔ HasOtherPrio (runqueue_view queue.now) pid nice }
+{
+    if pid == 0 {
+        false
+    } else {
+        has_other_nice(queue, pid, nice, row)
+    }
+}
+
+fn differ(nice: Nice, other: Nice) -> bool
+    ensures { IsTrue result ↔ (nice ≢ other) }
+{
+    nice != other
+}

@@ -1,0 +1,115 @@
+-- The sixteen tests after the lift by name, and what can be decided.
+use Rattle.std.proofs.Common.{◌≡◌, ◌≢◌, ℕ, Option, Some, None, ℤ, ◌⊎◌, inl, inr, refl, arith}
+use Rattle.std.proofs.lemmas.Int.{ints, by_lt_z}
+use Rattle.cfs_model.specs.Settings.{Settings}
+use Rattle.replay_model.specs.Part.{Part}
+use Rattle.replay_model.specs.QueueTests.{IsMoveHome, IsSelfSwitch, IsPrevNotRunning, IsStrange, IsAlready, IsMoveRunning, IsWrongPrio}
+use Rattle.replay_model.specs.ClaimTests.{IsClaimMissing, IsClaimExtra, IsClaimPid, IsWrongPutBack, IsWakeOutside, IsForkOutside, IsNextNotWaiting, IsIdleBesideWaiting, IsNotLeast}
+use Rattle.replay_model.specs.Tests.{NoneHolds, late_tests}
+use Rattle.cfs_model.specs.declared.claim.Claim.{Claim}
+use Rattle.cfs_model.specs.declared.claim.ClaimSort.{ClaimSort}
+use Rattle.cfs_model.specs.declared.claim.ClaimSort.TheVariants.{At, Pass}
+use Rattle.replay_model.specs.declared.step.Deed.{Deed}
+use Rattle.replay_model.specs.declared.step.Step.{Step}
+use Rattle.cfs_model.specs.declared.task.Place.{Place}
+use Rattle.cfs_model.specs.declared.task.Place.TheVariants.{Run, Wait, Rest}
+
+-- none of the tests after the lift holds
+pub record IsClear (knobs : Settings) (cpu : ℕ) (part : Part) (deed : Deed) (claim : Option Claim) : Type 0 where
+  pub home : (pid : ℕ) → ¬ IsMoveHome cpu deed pid
+  pub self : (pid : ℕ) → ¬ IsSelfSwitch deed pid
+  pub prev : (pid : ℕ) → ¬ IsPrevNotRunning part deed pid
+  pub strange : (pid : ℕ) → ¬ IsStrange part deed pid
+  pub already : (pid : ℕ) → ¬ IsAlready part deed pid
+  pub running : (pid : ℕ) → ¬ IsMoveRunning part deed pid
+  pub prio : (pid : ℕ) → ¬ IsWrongPrio part deed pid
+  pub missing : (pid : ℕ) → ¬ IsClaimMissing part deed claim pid
+  pub extra : (pid : ℕ) → ¬ IsClaimExtra part deed claim pid
+  pub other : (pid : ℕ) → ¬ IsClaimPid part deed claim pid
+  pub put_back : (pid : ℕ) → ¬ IsWrongPutBack part deed claim pid
+  pub wake : (pid : ℕ) → ¬ IsWakeOutside knobs.credit part deed claim pid
+  pub fork : (pid : ℕ) → ¬ IsForkOutside knobs.debit part deed claim pid
+  pub next : (pid : ℕ) → ¬ IsNextNotWaiting part deed pid
+  pub idle : (pid : ℕ) → ¬ IsIdleBesideWaiting part deed pid
+  pub least : (pid : ℕ) → ¬ IsNotLeast knobs.granularity part deed pid
+
+pub clear_of : (knobs : Settings) (cpu : ℕ) (part : Part) (step : Step) → NoneHolds (late_tests knobs cpu part step)
+    → IsClear knobs cpu part step.deed step.claim
+clear_of knobs cpu part step h =
+    let h3 = h.1.1.1 in let h7 = h3.1.1.1.1 in let h11 = h7.1.1.1.1 in
+    record {
+      home = h.0;
+      self = h.1.0;
+      prev = h.1.1.0;
+      strange = h3.0;
+      already = h3.1.0;
+      running = h3.1.1.0;
+      prio = h3.1.1.1.0;
+      missing = h7.0;
+      extra = h7.1.0;
+      other = h7.1.1.0;
+      put_back = h7.1.1.1.0;
+      wake = h11.0;
+      fork = h11.1.0;
+      next = h11.1.1.0;
+      idle = h11.1.1.1.0;
+      least = h11.1.1.1.1.0;
+    }
+
+pub none_of : (knobs : Settings) (cpu : ℕ) (part : Part) (step : Step) → IsClear knobs cpu part step.deed step.claim
+    → NoneHolds (late_tests knobs cpu part step)
+none_of knobs cpu part step c = (
+  c.home,
+  (
+    c.self,
+    (
+      c.prev,
+      (
+        c.strange,
+        (
+          c.already,
+          (
+            c.running,
+            (
+              c.prio,
+              (
+                c.missing,
+                (
+                  c.extra,
+                  (
+                    c.other,
+                    (
+                      c.put_back,
+                      (c.wake, (c.fork, (c.next, (c.idle, (c.least, tt))))),
+                    ),
+                  ),
+                ),
+              ),
+            ),
+          ),
+        ),
+      ),
+    ),
+  ),
+)
+
+pub place_or : (o : Option Place) (place : Place) → (o ≡ Some place) ⊎ (o ≢ Some place)
+place_or None place = inr (λ e. cc)
+place_or (Some Run) Run = inl refl
+place_or (Some Run) Wait = inr (λ e. cc)
+place_or (Some Run) Rest = inr (λ e. cc)
+place_or (Some Wait) Run = inr (λ e. cc)
+place_or (Some Wait) Wait = inl refl
+place_or (Some Wait) Rest = inr (λ e. cc)
+place_or (Some Rest) Run = inr (λ e. cc)
+place_or (Some Rest) Wait = inr (λ e. cc)
+place_or (Some Rest) Rest = inl refl
+
+pub is_at : (sort : ClaimSort) → (sort ≢ At → ⊥) → sort ≡ At
+is_at At h = refl
+is_at Pass h = absurd (h (λ e. cc))
+
+pub same_z : (u v : ℤ) → (u ≢ v → ⊥) → u ≡ v
+same_z u v h =
+    by_lt_z u v (λ k. absurd (h (λ e. omega (arith, ints))))
+    (λ k. by_lt_z v u (λ l. absurd (h (λ e. omega (arith, ints)))) (λ l. omega (arith, ints)))

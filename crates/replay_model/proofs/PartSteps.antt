@@ -1,0 +1,103 @@
+-- A step of the machine by an event that touches one processor, from the step of the part there.
+use Rattle.std.proofs.Common.{◌≡◌, ℕ, Option, ℤ, [], ◌∷◌, refl, sym, ap, ◌∙◌, subst}
+use Rattle.cfs_model.specs.Settings.{Settings}
+use Rattle.cfs_model.specs.Machine.{Machine, Stands, with_floor}
+use Rattle.cfs_model.specs.Touch.{touched}
+use Rattle.cfs_model.specs.Lifted.{charged, IsLiftedAt, IsLifted}
+use Rattle.cfs_model.specs.Step.{after_prev, after_next, Changes, IsStep}
+use Rattle.replay_model.specs.Part.{part_of}
+use Rattle.replay_model.specs.Deeds.{after_deed}
+use Rattle.replay_model.specs.Tests.{NoneHolds, late_tests}
+use Rattle.replay_model.specs.Cut.{deed_at, claim_for, step_at}
+use Rattle.replay_model.specs.PartStep.{BornNowhere, OthersStay, MachineSteps}
+use Rattle.cfs_model.proofs.KeptOrder.{IsApart, lifted_apart}
+use Rattle.cfs_model.proofs.StepOrder.{apart_of, step_in_order}
+use Rattle.cfs_model.proofs.Range.{lifted_range, change_range}
+use Rattle.replay_model.proofs.PartLift.{lift_exists}
+use Rattle.replay_model.proofs.PartSwitch.{switch_part, switch_exists}
+use Rattle.replay_model.proofs.PartPlaced.{wake_part, wake_exists, birth_part, birth_exists}
+use Rattle.replay_model.proofs.Clear.{IsClear, clear_of}
+use Rattle.cfs_model.specs.declared.act.Act.{Act}
+use Rattle.cfs_model.specs.declared.act.Act.TheVariants.{Switch, Wake, Born, Shift}
+use Rattle.cfs_model.specs.declared.claim.Claim.{Claim}
+use Rattle.cfs_model.specs.declared.task.Place.{Place}
+use Rattle.cfs_model.specs.declared.task.Place.TheVariants.{Run, Wait, Rest}
+
+-- an event's own change, and the parts after it
+pub record ChangesPart (knobs : Settings) (m : Machine) (cpu : ℕ) (act : Act) (claim : Option Claim) : Type 0 where
+  pub after : Machine
+  pub changes : Changes knobs m act claim after
+  pub here : part_of after cpu ≡ after_deed (part_of m cpu) (deed_at cpu act) (claim_for (deed_at cpu act) claim)
+  pub others : OthersStay m after cpu
+
+pub heads : (a b : ℕ) → a ∷ [] ≡ b ∷ [] → a ≡ b
+heads a b e = cc
+
+change_exists : (knobs : Settings) (m : Machine) → IsApart m → (cpu : ℕ) (act : Act) (claim : Option Claim)
+    → touched act ≡ cpu ∷ [] → BornNowhere m act
+    → IsClear knobs cpu (part_of m cpu) (deed_at cpu act) (claim_for (deed_at cpu act) claim)
+    → ChangesPart knobs m cpu act claim
+change_exists knobs m a cpu (Switch here prev pn way next nn) claim t b =
+    subst (λ x. IsClear knobs x (part_of m x) (deed_at x (Switch here prev pn way next nn)) claim
+    → ChangesPart knobs m x (Switch here prev pn way next nn) claim)
+    (heads here cpu t)
+    (λ c. let s = switch_exists knobs m a here prev pn way next nn claim c in
+    let after = after_next (after_prev m here prev way) here next in
+    let p = switch_part knobs m a here prev pn way next nn claim after s in
+    record { after = after; changes = s; here = p.0; others = p.1 })
+change_exists knobs m a cpu (Wake here pid nice) claim t b =
+    subst (λ x. IsClear knobs x (part_of m x) (deed_at x (Wake here pid nice)) claim
+    → ChangesPart knobs m x (Wake here pid nice) claim)
+    (heads here cpu t)
+    (λ c. let s = wake_exists knobs m a here pid nice claim c in
+    let p = wake_part knobs m a here pid nice claim s.0 s.1 in
+    record { after = s.0; changes = s.1; here = p.0; others = p.1 })
+change_exists knobs m a cpu (Born here pid nice) claim t b =
+    subst (λ x. IsClear knobs x (part_of m x) (deed_at x (Born here pid nice)) claim
+    → ChangesPart knobs m x (Born here pid nice) claim)
+    (heads here cpu t)
+    (λ c. let s = birth_exists knobs m here pid nice claim c b in
+    let p = birth_part knobs m here pid nice claim s.0 s.1 in
+    record { after = s.0; changes = s.1; here = p.0; others = p.1 })
+change_exists knobs m a cpu (Shift orig dest pid nice) claim t b = absurd cc
+
+-- a lift leaves everybody where they stood
+lifted_sets : (m : Machine) (cpu time : ℕ) (f : ℤ) (place : Place) (d pid : ℕ)
+    → Stands (with_floor (charged m cpu time) cpu f) place d pid → Stands m place d pid
+lifted_sets m cpu time f Run d pid h = h
+lifted_sets m cpu time f Wait d pid h = h
+lifted_sets m cpu time f Rest d pid h = h
+
+lifted_nowhere : (m lifted : Machine) (time cpu : ℕ) → IsLiftedAt time cpu m lifted → (act : Act) → BornNowhere m act
+    → BornNowhere lifted act
+lifted_nowhere m lifted time cpu l (Switch here prev pn way next nn) b = tt
+lifted_nowhere m lifted time cpu l (Wake here pid nice) b = tt
+lifted_nowhere m lifted time cpu l (Born here pid nice) b =
+    λ place other h. b place other
+    (lifted_sets m cpu time l.floor place other pid (subst (λ x. Stands x place other pid) l.result h))
+lifted_nowhere m lifted time cpu l (Shift orig dest pid nice) b = tt
+
+pub machine_steps : MachineSteps
+machine_steps knobs before event cpu part o r t b s =
+    let act = event.entry.act in
+    let time = event.entry.time in
+    let l = lift_exists before (apart_of before o) time cpu s.lifted s.passes.in_range s.passes.is_lifted in
+    let lifted : IsLifted time (touched act) before l.0 = subst (λ cpus. IsLifted time cpus before l.0) (sym t)
+    (l.0, l.1, refl) in
+    let a = lifted_apart time (touched act) before l.0 lifted (apart_of before o) in
+    let clear = clear_of knobs cpu (part_of l.0 cpu) (step_at cpu event)
+    (subst (λ p. NoneHolds (late_tests knobs cpu p (step_at cpu event))) (sym l.2) s.passes.none) in
+    let c = change_exists knobs l.0 a cpu act event.claim t (lifted_nowhere before l.0 time cpu l.1 act b) clear in
+    let step : IsStep knobs before event c.after = record {
+      lifted = l.0;
+      is_lifted = lifted;
+      changes = c.changes;
+      in_range = change_range knobs l.0 act event.claim c.after c.changes r
+          (lifted_range time (touched act) before l.0 lifted o.in_range);
+    } in (
+      c.after,
+      step,
+      step_in_order knobs before event c.after o step,
+      c.here ∙ ap (λ p. after_deed p (deed_at cpu act) (claim_for (deed_at cpu act) event.claim)) l.2 ∙ sym s.result,
+      (λ d ne. c.others d ne ∙ l.3 d ne),
+    )

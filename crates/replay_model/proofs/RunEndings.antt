@@ -1,0 +1,96 @@
+-- What ends a run beside a step that fails on its own processor.
+use Rattle.std.proofs.Common.{◌≡◌, ℕ, Bool, List, [], ◌∷◌, ◌++◌, sym, ap, ◌∙◌, subst}
+use Rattle.cfs_model.specs.Settings.{Settings}
+use Rattle.cfs_model.specs.Machine.{Machine}
+use Rattle.cfs_model.specs.Start.{start_machine}
+use Rattle.cfs_model.specs.Claimed.{Claimed}
+use Rattle.cfs_model.specs.Touch.{touched}
+use Rattle.cfs_model.specs.Idle.{KeepsSlack}
+use Rattle.cfs_model.specs.Run.{AreSteps, times_of, IsRun}
+use Rattle.cfs_model.specs.Order.{IsInOrder}
+use Rattle.replay_model.specs.Part.{IsLiftedPart}
+use Rattle.replay_model.specs.Deeds.{left_ticket, came_ticket}
+use Rattle.replay_model.specs.PartStep.{BornNowhere}
+use Rattle.replay_model.specs.Following.{last_of}
+use Rattle.replay_model.specs.Composition.{roll_after}
+use Rattle.replay_model.specs.Endings.{roll_of, IdlingEndsRun, BirthEndsRun, TicketsEndRun}
+use Rattle.cfs_model.proofs.StartOrder.{start_in_order}
+use Rattle.cfs_model.proofs.StepOrder.{step_in_order}
+use Rattle.cfs_model.proofs.Prefix.{steps_length, front_slack}
+use Rattle.replay_model.proofs.PartForward.{part_steps}
+use Rattle.replay_model.proofs.MigrationSteps.{parts_migrate}
+use Rattle.replay_model.proofs.OneLift.{same_lift}
+use Rattle.replay_model.proofs.FollowLaws.{followed_run, slack_follows}
+use Rattle.replay_model.proofs.RunEnds.{LastStep, last_step, slack_holds}
+use Rattle.replay_model.proofs.Roll.{RollIs, roll_step}
+use Rattle.replay_model.proofs.PagesCompose.{start_roll}
+use Rattle.cfs_model.specs.declared.act.Act.TheVariants.{Born}
+
+-- the run without its last event
+front_run : (knobs : Settings) (start : ℕ) (m : Machine) (before : List Claimed) (event : Claimed)
+    (run : IsRun knobs start m (before ++ event ∷ [])) → (l : LastStep knobs m before event run.states)
+    → KeepsSlack knobs.slack (times_of start before) (m ∷ l.front)
+front_run knobs start m before event run l =
+    front_slack knobs.slack start m before (event ∷ []) l.front (l.after ∷ [])
+    (steps_length knobs m before l.front l.steps)
+    (subst (λ xs. KeepsSlack knobs.slack (times_of start (before ++ event ∷ [])) (m ∷ xs)) l.whole run.slack)
+
+pub idling_ends_run : IdlingEndsRun
+idling_ends_run knobs start floors tasks before event cpu last s rise r late run =
+    let m = start_machine start floors tasks in
+    let l = last_step knobs m before event run.states run.steps in
+    let front : IsRun knobs start m before =
+    record { states = l.front; steps = l.steps; slack = front_run knobs start m before event run l } in
+    slack_holds knobs.slack start m before event l.front l.after (steps_length knobs m before l.front l.steps)
+    (subst (λ xs. KeepsSlack knobs.slack (times_of start (before ++ event ∷ [])) (m ∷ xs)) l.whole run.slack) cpu
+    ((slack_follows knobs start floors tasks before cpu last event.entry.time s rise front r).1 late)
+
+-- the order and the roll at the end of some steps
+order_after : (knobs : Settings) (m : Machine) (events : List Claimed) (states : List Machine)
+    → AreSteps knobs m events states → IsInOrder m → IsInOrder (last_of m states)
+order_after knobs m [] [] steps o = o
+order_after knobs m [] (after ∷ states) steps o = absurd steps
+order_after knobs m (event ∷ events) [] steps o = absurd steps
+order_after knobs m (event ∷ events) (after ∷ states) steps o =
+    order_after knobs after events states steps.1 (step_in_order knobs m event after o steps.0)
+
+roll_run : (alive : ℕ → Bool) (knobs : Settings) (m : Machine) (events : List Claimed) (states : List Machine)
+    → AreSteps knobs m events states → RollIs alive m → RollIs (roll_of alive events) (last_of m states)
+roll_run alive knobs m [] [] steps h = h
+roll_run alive knobs m [] (after ∷ states) steps h = absurd steps
+roll_run alive knobs m (event ∷ events) [] steps h = absurd steps
+roll_run alive knobs m (event ∷ events) (after ∷ states) steps h =
+    roll_run (roll_after alive event.entry.act) knobs after events states steps.1
+    (roll_step alive knobs m event after h steps.0)
+
+pub birth_ends_run : BirthEndsRun
+birth_ends_run knobs start floors tasks before event cpu pid nice s e alive run =
+    let m = start_machine start floors tasks in
+    let l = last_step knobs m before event run.states run.steps in
+    let last = last_of m l.front in
+    let o = order_after knobs m before l.front l.steps (start_in_order start floors tasks s) in
+    let roll = roll_run _ knobs m before l.front l.steps (start_roll start floors tasks) in
+    let nowhere : BornNowhere last (Born cpu pid nice) =
+    subst (BornNowhere last) e (part_steps knobs last l.after event cpu o (ap touched e) l.last).0 in
+    let stands = (o.nices pid).0 (roll pid ∙ alive) in
+    nowhere stands.0 stands.1 stands.2
+
+pub tickets_end_run : TicketsEndRun
+tickets_end_run knobs start floors tasks before event orig dest pid nice at_orig at_dest left came s rise e ro rd
+    leave arrive differ run =
+    let m = start_machine start floors tasks in
+    let l = last_step knobs m before event run.states run.steps in
+    let front : IsRun knobs start m before =
+    record { states = l.front; steps = l.steps; slack = front_run knobs start m before event run l } in
+    let last = last_of m l.front in
+    let o = followed_run knobs start floors tasks before orig at_orig s rise front ro in
+    let d = followed_run knobs start floors tasks before dest at_dest s rise front rd in
+    let p = (parts_migrate knobs last l.after event orig dest pid nice o.at.order e l.last).1 in
+    let at : p.leave.lifted ≡ leave.lifted = same_lift event.entry.time at_orig.part p.leave.lifted leave.lifted
+    (subst (λ x. IsLiftedPart event.entry.time x p.leave.lifted) o.at.part p.leave.passes.is_lifted)
+    leave.passes.is_lifted in
+    let to : p.arrive.lifted ≡ arrive.lifted = same_lift event.entry.time at_dest.part p.arrive.lifted arrive.lifted
+    (subst (λ x. IsLiftedPart event.entry.time x p.arrive.lifted) d.at.part p.arrive.passes.is_lifted)
+    arrive.passes.is_lifted in
+    differ (ap (λ x. left_ticket x event.entry.line pid) (sym at) ∙ p.tickets
+    ∙ ap (λ x. came_ticket x event.entry.line pid nice event.claim) to)

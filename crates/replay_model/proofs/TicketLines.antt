@@ -1,0 +1,135 @@
+-- The ticket of a line on a page is the one of that line's step: lines rise.
+use Rattle.std.proofs.Common.{◌≡◌, ◌≢◌, ℕ, ◌<◌, ◌≤◌, nat_eq, cond, Option, Some, None, option_map, option_to_list, List, [], ◌∷◌, ◌++◌, append_assoc, refl, sym, ap, ◌∙◌, subst, arith}
+use Rattle.std.proofs.lemmas.Bool.{eq-eqb, ne_eqb}
+use Rattle.std.specs.List.{AllByRecursion}
+use Rattle.cfs_model.specs.Settings.{Settings}
+use Rattle.replay_model.specs.Part.{Part}
+use Rattle.replay_model.specs.Noted.{PageView, left_by, came_by, noted}
+use Rattle.replay_model.specs.Page.{ReplayStateView, PassesStep, IsReplay}
+use Rattle.replay_model.specs.Composition.{ticket_at}
+use Rattle.replay_model.proofs.Replayed.{first_passes}
+use Rattle.replay_model.specs.declared.page.Ticket.{Ticket}
+use Rattle.replay_model.specs.declared.step.Deed.{Deed}
+use Rattle.replay_model.specs.declared.step.Deed.TheVariants.{Switch, Wake, Born, Leave, Arrive}
+use Rattle.replay_model.specs.declared.step.Step.{Step}
+
+no_ticket : (n : ℕ) (ts : List Ticket) → AllByRecursion (λ (t : Ticket). t.line ≢ n) ts → ticket_at n ts ≡ None
+no_ticket n [] h = refl
+no_ticket n (t ∷ ts) h = ap (λ b. cond b (Some t) (ticket_at n ts)) (ne_eqb t.line n h.0) ∙ no_ticket n ts h.1
+
+ticket_later : (n : ℕ) (xs ys : List Ticket) → AllByRecursion (λ (t : Ticket). t.line ≢ n) xs
+    → ticket_at n (xs ++ ys) ≡ ticket_at n ys
+ticket_later n [] ys h = refl
+ticket_later n (t ∷ xs) ys h = ap (λ b. cond b (Some t) (ticket_at n (xs ++ ys))) (ne_eqb t.line n h.0)
+    ∙ ticket_later n xs ys h.1
+
+ticket_earlier : (n : ℕ) (xs ys : List Ticket) → AllByRecursion (λ (t : Ticket). t.line ≢ n) ys
+    → ticket_at n (xs ++ ys) ≡ ticket_at n xs
+ticket_earlier n [] ys h = no_ticket n ys h
+ticket_earlier n (t ∷ xs) ys h = ap (λ rest. cond (nat_eq t.line n) (Some t) rest) (ticket_earlier n xs ys h)
+
+pub all_append : (P : Ticket → Type 0) (xs ys : List Ticket) → AllByRecursion P xs → AllByRecursion P ys
+    → AllByRecursion P (xs ++ ys)
+all_append P [] ys h k = k
+all_append P (x ∷ xs) ys h k = (h.0, all_append P xs ys h.1 k)
+
+pub all_map : (P Q : Ticket → Type 0) → ((t : Ticket) → P t → Q t) → (xs : List Ticket) → AllByRecursion P xs
+    → AllByRecursion Q xs
+all_map P Q f [] h = tt
+all_map P Q f (x ∷ xs) h = (f x h.0, all_map P Q f xs h.1)
+
+-- one of the two lists of tickets on a page
+pub record IsTickets (tickets : PageView → List Ticket) (by : Part → Step → List Ticket) : Type 0 where
+  pub grows : (page : PageView) (part lifted : Part) (step : Step)
+      → tickets (noted page part lifted step) ≡ tickets page ++ by lifted step
+  pub lines : (lifted : Part) (step : Step) → AllByRecursion (λ (t : Ticket). t.line ≡ step.line) (by lifted step)
+
+module _ (tickets : PageView → List Ticket) (by : Part → Step → List Ticket) (is : IsTickets tickets by) where
+  -- what later steps add
+  more_tickets : (knobs : Settings) (cpu n : ℕ) (s : ReplayStateView) (steps : List Step) (end : ReplayStateView)
+      → s.page.fault ≡ None → IsReplay knobs cpu s steps end → end.page.fault ≡ None
+      → AllByRecursion (λ (step : Step). n < step.line) steps
+      → (more : List Ticket) × (tickets end.page ≡ tickets s.page ++ more)
+      × AllByRecursion (λ (t : Ticket). t.line ≢ n) more
+  more_tickets knobs cpu n s [] end f r g h = ([], ap (λ x. tickets x.page) r ∙ sym (append_none (tickets s.page)), tt)
+    where
+      append_none : (xs : List Ticket) → xs ++ [] ≡ xs
+      append_none [] = refl
+      append_none (x ∷ xs) = ap (λ rest. x ∷ rest) (append_none xs)
+  more_tickets knobs cpu n s (step ∷ steps) end f r g h =
+      let p = first_passes knobs cpu s step r.0 steps end f r.1 r.2 g in
+      let rest = more_tickets knobs cpu n r.0 steps end p.1 r.2 g h.1 in
+      let mine = by p.0.lifted step in (
+        mine ++ rest.0,
+        rest.1 ∙ ap (λ xs. xs ++ rest.0) (ap tickets p.0.page ∙ is.grows s.page s.part p.0.lifted step)
+            ∙ append_assoc (tickets s.page) mine rest.0,
+        all_append (λ t. t.line ≢ n) mine rest.0
+            (all_map (λ t. t.line ≡ step.line) (λ t. t.line ≢ n)
+            (λ t e k. let a : n < step.line = h.0 in absurd (omega arith)) mine (is.lines p.0.lifted step)) rest.2,
+      )
+
+  -- the ticket of a step's line on the page at the end
+  pub ticket_found : (knobs : Settings) (cpu : ℕ) (s : ReplayStateView) (step : Step) (next : ReplayStateView) (steps : List Step)
+      (end : ReplayStateView) (p : PassesStep knobs cpu s step next)
+      → next.page.fault ≡ None → IsReplay knobs cpu next steps end → end.page.fault ≡ None
+      → AllByRecursion (λ (t : Ticket). t.line < step.line) (tickets s.page)
+      → AllByRecursion (λ (x : Step). step.line < x.line) steps
+      → ticket_at step.line (tickets end.page) ≡ ticket_at step.line (by p.lifted step)
+  ticket_found knobs cpu s step next steps end p f r g low high =
+      let rest = more_tickets knobs cpu step.line next steps end f r g high in
+      ap (ticket_at step.line)
+      (rest.1 ∙ ap (λ xs. xs ++ rest.0) (ap tickets p.page ∙ is.grows s.page s.part p.lifted step))
+      ∙ ticket_earlier step.line (tickets s.page ++ by p.lifted step) rest.0 rest.2
+      ∙ ticket_later step.line (tickets s.page) (by p.lifted step)
+      (all_map (λ t. t.line < step.line) (λ t. t.line ≢ step.line) (λ t a k. absurd (omega arith)) (tickets s.page) low)
+
+  -- the lines on a page after a step
+  pub lines_up_to : (n : ℕ) (page : PageView) (part lifted : Part) (step : Step)
+      → AllByRecursion (λ (t : Ticket). t.line ≤ n) (tickets page) → n ≤ step.line
+      → AllByRecursion (λ (t : Ticket). t.line ≤ step.line) (tickets (noted page part lifted step))
+  lines_up_to n page part lifted step h k =
+      subst (AllByRecursion (λ t. t.line ≤ step.line)) (sym (is.grows page part lifted step))
+      (all_append (λ t. t.line ≤ step.line) (tickets page) (by lifted step)
+      (all_map (λ t. t.line ≤ n) (λ t. t.line ≤ step.line) (λ t a. omega arith) (tickets page) h)
+      (all_map (λ t. t.line ≡ step.line) (λ t. t.line ≤ step.line) (λ t a. omega arith) (by lifted step)
+      (is.lines lifted step)))
+
+-- the tickets that left
+abbrev pub left_of : Part → Step → List Ticket
+left_of lifted step = left_by lifted step step.deed
+
+abbrev pub came_of : Part → Step → List Ticket
+came_of lifted step = came_by lifted step step.deed
+
+one_line : {A : Type 0} (f : A → Ticket) (n : ℕ) → ((a : A) → (f a).line ≡ n) → (o : Option A)
+    → AllByRecursion (λ (t : Ticket). t.line ≡ n) (option_to_list (option_map f o))
+one_line f n h None = tt
+one_line f n h (Some a) = (h a, tt)
+
+left_lines : (lifted : Part) (step : Step) (deed : Deed)
+    → AllByRecursion (λ (t : Ticket). t.line ≡ step.line) (left_by lifted step deed)
+left_lines lifted step (Switch prev pn way next nn) = tt
+left_lines lifted step (Wake pid nice) = tt
+left_lines lifted step (Born pid nice) = tt
+left_lines lifted step (Leave pid nice dest) = one_line _ step.line (λ a. refl) (lifted.tasks pid)
+left_lines lifted step (Arrive pid nice orig) = tt
+
+came_lines : (lifted : Part) (step : Step) (deed : Deed)
+    → AllByRecursion (λ (t : Ticket). t.line ≡ step.line) (came_by lifted step deed)
+came_lines lifted step (Switch prev pn way next nn) = tt
+came_lines lifted step (Wake pid nice) = tt
+came_lines lifted step (Born pid nice) = tt
+came_lines lifted step (Leave pid nice dest) = tt
+came_lines lifted step (Arrive pid nice orig) = one_line _ step.line (λ a. refl) step.claim
+
+pub left_tickets : IsTickets (λ page. page.left) left_of
+left_tickets = record { grows = λ page part lifted step. refl; lines = λ lifted step. left_lines lifted step step.deed }
+
+pub came_tickets : IsTickets (λ page. page.came) came_of
+came_tickets = record { grows = λ page part lifted step. refl; lines = λ lifted step. came_lines lifted step step.deed }
+
+-- the only ticket of a line is the line's
+pub only_ticket : {A : Type 0} (f : A → Ticket) (n : ℕ) → ((a : A) → (f a).line ≡ n) → (o : Option A)
+    → ticket_at n (option_to_list (option_map f o)) ≡ option_map f o
+only_ticket f n h None = refl
+only_ticket f n h (Some a) = ap (λ b. cond b (Some (f a)) None) (eq-eqb (f a).line n (h a))

@@ -1,0 +1,58 @@
+-- What the replay of a processor's share of a run says of the machine (this project's profile).
+use Rattle.std.specs.Prelude.{◌≡◌, ℕ, ◌+◌, ◌<◌, ◌≤◌, None, ℤ, ◌↔◌, ⊤, List, [], ◌∷◌, length, slice_index}
+use Rattle.cfs_model.specs.Settings.{Settings}
+use Rattle.cfs_model.specs.Machine.{Machine}
+use Rattle.cfs_model.specs.Start.{start_machine}
+use Rattle.cfs_model.specs.Claimed.{Claimed}
+use Rattle.cfs_model.specs.Idle.{IdlesFrom}
+use Rattle.cfs_model.specs.Run.{times_of, IsRun}
+use Rattle.cfs_model.specs.Order.{IsStart}
+use Rattle.replay_model.specs.Part.{part_of}
+use Rattle.replay_model.specs.QueueTests.{IsIdleTooLong}
+use Rattle.replay_model.specs.Cut.{steps_at, cut}
+use Rattle.replay_model.specs.Page.{ReplayStateView, IsStartOf, IsReplay}
+use Rattle.cfs_model.specs.declared.task.Task.{Task}
+
+-- the times of the events never fall, and none is before this time
+abbrev pub TimesRise : ℕ → List Claimed → Type 0
+TimesRise time [] = ⊤
+TimesRise time (event ∷ events) = (time ≤ event.entry.time) × TimesRise event.entry.time events
+
+-- the last of some states that follow a first
+abbrev pub last_of : Machine → List Machine → Machine
+last_of m [] = m
+last_of m (after ∷ states) = last_of after states
+
+-- a processor's replay of its steps among some events
+pub record IsShareReplay (knobs : Settings) (start : ℕ) (floors : List ℤ) (tasks : List Task) (events : List Claimed)
+    (cpu : ℕ) (last : ReplayStateView) : Type 0 where
+  pub first : ReplayStateView
+  pub is_start : IsStartOf (cut start floors tasks events cpu) first
+  pub replay : IsReplay knobs cpu first (steps_at cpu events) last
+
+-- with one more event, at this time, a processor will have idled for longer than the slack: from some state on it
+-- has idled in each
+pub record SlackFails (slack : ℕ) (times : List ℕ) (states : List Machine) (cpu time : ℕ) : Type 0 where
+  pub from : ℕ
+  pub is_state : from < length states
+  pub idles : IdlesFrom states cpu from (length states)
+  pub late : slice_index times from + slack < time
+
+-- while the events are a run, no step of a processor's replay fails, and the processor's part is the replay's
+abbrev pub ReplayFollows : Type 0
+ReplayFollows = (knobs : Settings) (start : ℕ) (floors : List ℤ) (tasks : List Task) (events : List Claimed)
+    (cpu : ℕ) (last : ReplayStateView)
+    → IsStart floors tasks → TimesRise start events
+    → (run : IsRun knobs start (start_machine start floors tasks) events)
+    → IsShareReplay knobs start floors tasks events cpu last
+    → (last.page.fault ≡ None) × (part_of (last_of (start_machine start floors tasks) run.states) cpu ≡ last.part)
+
+-- then the slack fails with one more event just where the replay has idled for too long at its time
+abbrev pub SlackFollows : Type 0
+SlackFollows = (knobs : Settings) (start : ℕ) (floors : List ℤ) (tasks : List Task) (events : List Claimed)
+    (cpu : ℕ) (last : ReplayStateView) (time : ℕ)
+    → IsStart floors tasks → TimesRise start events
+    → (run : IsRun knobs start (start_machine start floors tasks) events)
+    → IsShareReplay knobs start floors tasks events cpu last
+    → SlackFails knobs.slack (times_of start events) (start_machine start floors tasks ∷ run.states) cpu time
+    ↔ IsIdleTooLong knobs.slack last.since time 0

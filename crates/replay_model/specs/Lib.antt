@@ -1,0 +1,16 @@
+pub mod Part
+pub mod Deeds
+pub mod QueueTests
+pub mod ClaimTests
+pub mod Tests
+pub mod Cut
+pub mod Noted
+pub mod Page
+pub mod OnePage
+pub mod PartStep
+pub mod Migration
+pub mod Following
+pub mod OneProcessor
+pub mod Faults
+pub mod Composition
+pub mod Endings

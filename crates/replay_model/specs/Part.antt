@@ -1,0 +1,121 @@
+-- The part of a machine at one processor, and its charge and lift. Sources: sched-design-CFS.rst, sections 1 and 2 (a
+-- running task's virtual runtime grows by the time that it ran, scaled by its weight; min_vruntime is monotonic and
+-- follows the smallest virtual runtime of the runqueue). That only events charge, and the rounding, are this project's
+-- profile.
+use Rattle.std.specs.Prelude.{◌≡◌, ◌≢◌, ℕ, ◌==◌, ◌-◌, Bool, true, false, Option, Some, None, option_map, ℤ, pos, ◌+ℤ◌, ◌≤ℤ◌, ◌⊎◌, List, find}
+use Rattle.std.specs.Int.{int_max}
+use Rattle.cfs_model.specs.Charge.{charge_of}
+use Rattle.cfs_model.specs.Nice.{weight_of}
+use Rattle.cfs_model.specs.Machine.{Machine}
+use Rattle.cfs_model.specs.declared.task.Place.{Place}
+use Rattle.cfs_model.specs.declared.task.Place.TheVariants.{Run, Wait, Rest}
+use Rattle.cfs_model.specs.declared.task.Task.{Task}
+
+-- a task as it stands at the processor
+pub record Entity : Type 0 where
+  pub place : Place
+  pub nice : ℤ
+  -- the virtual runtime, in virtual nanoseconds
+  pub runtime : ℤ
+
+pub record Part : Type 0 where
+  -- each pid that stands here
+  pub tasks : ℕ → Option Entity
+  -- the floor of the runqueue, in virtual nanoseconds
+  pub floor : ℤ
+  -- the time of the last charge, in nanoseconds
+  pub mark : ℕ
+
+-- the place that is told by three marks: it runs, it waits, it rests
+abbrev pub place_by : Bool → Bool → Bool → Option Place
+place_by true waits rests = Some Run
+place_by false true rests = Some Wait
+place_by false false true = Some Rest
+place_by false false false = None
+
+-- a task with this place, nice value and virtual runtime, where it has all three
+abbrev pub entity_by : Option Place → Option ℤ → Option ℤ → Option Entity
+entity_by (Some place) (Some nice) (Some v) = Some (record { place = place; nice = nice; runtime = v })
+entity_by _ _ _ = None
+
+-- what a machine has of a pid at a processor
+abbrev pub entity_of : Machine → ℕ → ℕ → Option Entity
+entity_of m cpu pid =
+    entity_by (place_by (m.running cpu pid) (m.waiting cpu pid) (m.resting cpu pid)) (m.nice pid) (m.runtime pid)
+
+-- the part of a machine at a processor
+abbrev pub part_of : Machine → ℕ → Part
+part_of m cpu = record { tasks = entity_of m cpu; floor = m.floor cpu; mark = m.mark cpu }
+
+-- the part that a processor's tasks, floor and start time stand for
+abbrev pub start_part : List Task → ℤ → ℕ → Part
+start_part tasks floor start = record {
+  tasks = λ pid. option_map (λ t. record { place = t.place; nice = t.nice; runtime = t.v })
+      (find (λ t. t.pid == pid) tasks);
+  floor = floor;
+  mark = start;
+}
+
+-- where the pid stands here
+abbrev pub place_in : Part → ℕ → Option Place
+place_in part pid = option_map (λ s. s.place) (part.tasks pid)
+
+-- the pid stands here in this place
+abbrev pub IsIn : Part → Place → ℕ → Type 0
+IsIn part place pid = place_in part pid ≡ Some place
+
+-- nobody stands here in this place
+abbrev pub NobodyIn : Part → Place → Type 0
+NobodyIn part place = (pid : ℕ) → ¬ IsIn part place pid
+
+-- nobody runs here, and somebody waits
+pub record IsIdlePart (part : Part) : Type 0 where
+  pub nobody_runs : NobodyIn part Run
+  pub pid : ℕ
+  pub waits : IsIn part Wait pid
+
+-- what a task is charged at a time, in virtual nanoseconds: for the time since the mark
+abbrev pub cost_in : Part → ℕ → Entity → ℕ
+cost_in part time s = charge_of (time - part.mark) (weight_of s.nice)
+
+-- a virtual runtime after a charge: it costs one who runs
+abbrev pub runtime_after : Place → ℕ → ℤ → ℤ
+runtime_after Run cost v = v +ℤ pos cost
+runtime_after _ cost v = v
+
+-- a task after the charge at a time
+abbrev pub charged_in : Part → ℕ → Entity → Entity
+charged_in part time s = record s { runtime = runtime_after s.place (cost_in part time s) s.runtime }
+
+-- who runs is charged, and the mark is the time
+abbrev pub charged_part : Part → ℕ → Part
+charged_part part time = record {
+  tasks = λ pid. option_map (charged_in part time) (part.tasks pid);
+  floor = part.floor;
+  mark = time;
+}
+
+-- s is somebody who runs or waits
+abbrev pub IsQueuedHere : Entity → Type 0
+IsQueuedHere s = s.place ≢ Rest
+
+-- v is the least virtual runtime of those who run or wait here
+pub record IsLeastHere (part : Part) (v : ℤ) : Type 0 where
+  pub pid : ℕ
+  pub task : Entity
+  pub stands : part.tasks pid ≡ Some task
+  pub queued : IsQueuedHere task
+  pub runtime : task.runtime ≡ v
+  pub least : (other : ℕ) (s : Entity) → part.tasks other ≡ Some s → IsQueuedHere s → v ≤ℤ s.runtime
+
+-- the floor stays where nobody runs or waits; else it is raised to the least virtual runtime, and never lowered
+abbrev pub IsRaisedHere : Part → ℤ → Type 0
+IsRaisedHere part floor =
+    (((pid : ℕ) (s : Entity) → part.tasks pid ≡ Some s → ¬ IsQueuedHere s) × (floor ≡ part.floor))
+    ⊎ ((v : ℤ) × IsLeastHere part v × (floor ≡ int_max part.floor v))
+
+-- after is before with its runner charged, and then the floor raised
+pub record IsLiftedPart (time : ℕ) (before after : Part) : Type 0 where
+  pub floor : ℤ
+  pub raised : IsRaisedHere (charged_part before time) floor
+  pub result : after ≡ record (charged_part before time) { floor = floor }

@@ -1,0 +1,63 @@
+//! The laws of a processor's part, and of the replay of one processor. Each is the contract of a function that does
+//! nothing.
+ghost use Rattle.replay_model.specs.Composition.{PagesCompose, SharesCompose};
+ghost use Rattle.replay_model.specs.Endings.{BirthEndsRun, IdlingEndsRun, TicketsEndRun};
+ghost use Rattle.replay_model.specs.Faults.{FaultEndsRun, OneProcessorFaults};
+ghost use Rattle.replay_model.specs.Following.{ReplayFollows, SlackFollows};
+ghost use Rattle.replay_model.specs.Migration.{MachineMigrates, PartsMigrate};
+ghost use Rattle.replay_model.specs.OnePage.{OnePage};
+ghost use Rattle.replay_model.specs.PartStep.{MachineSteps, PartSteps};
+ghost use Rattle.replay_model.specs.OneProcessor.{OneProcessorRuns};
+
+/// A stream has at most one page by its first steps.
+pub fn pages()
+    ensures { OnePage }
+{}
+
+/// Where an event touches one processor, the machine has a step just where the part there passes the tests and a pid
+/// that is born stands nowhere; no other part changes.
+pub fn part_steps()
+    ensures part { PartSteps }
+    ensures machine { MachineSteps }
+{}
+
+/// The machine has a step by a migration just where the parts at both ends pass the tests and their tickets are equal;
+/// no other part changes.
+pub fn migrations()
+    ensures part { PartsMigrate }
+    ensures machine { MachineMigrates }
+{}
+
+/// While the events are a run, the replay of each processor's share of them has no fault and keeps up with its part,
+/// and it tells where the slack fails with one more event.
+pub fn replays()
+    ensures part { ReplayFollows }
+    ensures slack { SlackFollows }
+{}
+
+/// Where a step of a processor's replay fails, the events up to its own are no run.
+pub fn faults_end_runs()
+    ensures { FaultEndsRun }
+{}
+
+/// What ends a run beside a step that fails: a processor that idles for too long, a birth of a pid that is alive, a
+/// migration whose tickets differ.
+pub fn endings()
+    ensures idling { IdlingEndsRun }
+    ensures birth { BirthEndsRun }
+    ensures tickets { TicketsEndRun }
+{}
+
+/// Where the replays of all processors pass, the tickets of each migration agree and each birth is of a pid that isn't
+/// alive, the events are a run: of any events, and of a whole record by its pages.
+pub fn composition()
+    ensures shares { SharesCompose }
+    ensures pages { PagesCompose }
+{}
+
+/// Of a record of one processor without migrations: where the page has no fault, all steps made, the events are a run;
+/// where it has one, the events before its line are a run, and those up to it and including it are none.
+pub fn one_processor()
+    ensures runs { OneProcessorRuns }
+    ensures faults { OneProcessorFaults }
+{}

@@ -1,0 +1,13 @@
+//! What is seen of a recording from one processor: its part of a machine, its steps, the tests of a step, the page of a
+//! replay, and the laws that tie the replays of all processors to a run.
+#![tactic(auto)]
+
+mod laws;
+mod page;
+mod step;
+
+pub use laws::{
+    composition, endings, faults_end_runs, migrations, one_processor, pages, part_steps, replays,
+};
+pub use page::{LifeEvent, StepFault, Tally, Ticket};
+pub use step::{Deed, Step};

@@ -1,0 +1,7 @@
+pub mod TextLines
+pub mod WholeLines
+pub mod Digits
+pub mod Runs
+pub mod Fronts
+pub mod Times
+pub mod Words

@@ -1,0 +1,5 @@
+pub mod Pieces
+pub mod Numerals
+pub mod Lines
+pub mod Time
+pub mod Reading

@@ -1,0 +1,61 @@
+ghost use Rattle.std.specs.Prelude.{◌≡◌, ℕ, ◌<◌, ◌^◌, min, IfSome, IsSomeAnd, MatchOption};
+ghost use Rattle.text_parts.specs.Time.{IsTime};
+ghost use Rattle.text_parts.specs.Reading.{Gives, nanoseconds_of, time_at};
+
+use crate::numerals::{MANY, number_at, numeral_at};
+use crate::pieces::after_byte;
+
+/// A time on the trace's clock.
+#[derive(Clone, Copy, Debug, Drop)]
+pub struct Time {
+    /// Whole seconds, or `MANY` where there are more.
+    pub seconds: u64,
+    /// The nanoseconds beyond them.
+    pub nanoseconds: u64,
+    pub ghost below: { nanoseconds < 1000000000 },
+}
+
+/// The time that a word is: seconds, a point, and six digits of microseconds or nine of nanoseconds.
+pub fn read_time(word: &[u8]) -> Option<Time>
+    ensures reads { MatchOption result
+        ((seconds nanoseconds : ℕ) → IsTime word.now seconds nanoseconds → ⊥)
+        (λ time. (seconds : ℕ) × IsTime word.now seconds time.nanoseconds × (time.seconds ≡ min seconds MANY)) }
+    ensures only { (seconds nanoseconds : ℕ) → IsTime word.now seconds nanoseconds →
+        IsSomeAnd result (λ time. (time.seconds ≡ min seconds MANY) × (time.nanoseconds ≡ nanoseconds)) }
+{
+    let (time, rest) = time_at(word)?;
+    if rest.is_empty() { Some(time) } else { None }
+}
+
+/// The time at the front of a text, and what follows it.
+#[inline(always)]
+#[tactic(auto, unfolding(crate::specs::Reading::time_at))]
+pub fn time_at(text: &[u8]) -> Option<(Time, &[u8])>
+    ensures { Gives (λ x. (x.0.seconds, x.0.nanoseconds, x.1.now)) result (time_at text.now) }
+{
+    let (seconds, rest) = numeral_at(text)?;
+    let fraction = number_at(after_byte(rest, b'.')?);
+    let nanoseconds = nanoseconds_of(fraction.digits, fraction.value)?;
+    Some((
+        Time {
+            seconds,
+            nanoseconds,
+        },
+        fraction.rest,
+    ))
+}
+
+/// The nanoseconds that so many digits behind the point stand for.
+#[inline(always)]
+#[tactic(auto, unfolding(crate::specs::Reading::nanoseconds_of))]
+fn nanoseconds_of(digits: usize, value: u64) -> Option<u64>
+    requires { value < 10 ^ digits }
+    ensures value { Gives (λ n. n) result (nanoseconds_of digits value) }
+    ensures below { IfSome result (λ n. n < 1000000000) }
+{
+    match digits {
+        6 => Some(value * 1000),
+        9 => Some(value),
+        _ => None,
+    }
+}

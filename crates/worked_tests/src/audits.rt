@@ -1,0 +1,341 @@
+//! What no clause says: the words of faults, reports as they are printed, and ends that fail.
+
+use crate::ends::{Broken, Narrow, Pieces};
+use cfs_model::{Kind, Knobs};
+use sched_audit::{
+    Cause, Failed, Fault, Feed, FeedOf, Outcome, Refused, Sink, SinkOf, Source, Status, Summary,
+    Verdict, audit_texts, report, run,
+};
+use std::test::Fail;
+
+/// One processor: task 101 runs for 4 ms and is put back, and task 102 runs next.
+const TRACE: &[u8] =
+    b"            t101-101     [000] d..2.   100.004000: sched_switch: prev_comm=t101 prev_pid=101 prev_prio=120 prev_state=R+ ==> next_comm=t102 next_pid=102 next_prio=120\n";
+
+const COMPANION: &[u8] =
+    b"cfs-companion 1\ncpus 1\nstart 100.000000\nfloor 0 0\ntask 101 0 0 run 0\ntask 102 0 0 wait 0\nat 1 101 4000000\n";
+
+const REPORT: &[u8] = b"run\n";
+
+/// The same, but task 102 waits at 5 ms, 1 ms above what task 101 is put back at.
+const BEHIND: &[u8] =
+    b"cfs-companion 1\ncpus 1\nstart 100.000000\nfloor 0 0\ntask 101 0 0 run 0\ntask 102 0 0 wait 5000000\nat 1 101 4000000\n";
+
+/// One processor that idles from the start on, while task 102 waits.
+const WAITING: &[u8] =
+    b"cfs-companion 1\ncpus 1\nstart 100.000000\nfloor 0 0\ntask 102 0 0 wait 0\n";
+
+/// Task 102 runs after 0.1 ms of that.
+const AT_SLACK: &[u8] =
+    b"          <idle>-0       [000] d..2.   100.000100: sched_switch: prev_comm=swapper/0 prev_pid=0 prev_prio=120 prev_state=R ==> next_comm=t102 next_pid=102 next_prio=120\n";
+
+/// Task 102 runs after a microsecond more.
+const ABOVE_SLACK: &[u8] =
+    b"          <idle>-0       [000] d..2.   100.000101: sched_switch: prev_comm=swapper/0 prev_pid=0 prev_prio=120 prev_state=R ==> next_comm=t102 next_pid=102 next_prio=120\n";
+
+/// A comment, an empty line, and the recording at the slack, without its line feed.
+const COMMENTED: &[u8] =
+    b"# tracer: nop\n\n          <idle>-0       [000] d..2.   100.000100: sched_switch: prev_comm=swapper/0 prev_pid=0 prev_prio=120 prev_state=R ==> next_comm=t102 next_pid=102 next_prio=120";
+
+/// A bad line before a good one.
+const HELLO: &[u8] =
+    b"hello\n          <idle>-0       [000] d..2.   100.000100: sched_switch: prev_comm=swapper/0 prev_pid=0 prev_prio=120 prev_state=R ==> next_comm=t102 next_pid=102 next_prio=120\n";
+
+#[test]
+fn exit_statuses_are_0_to_4(rt: HostRuntime) {
+    for (status, code) in [(Status::Yes, 0), (Status::No, 1), (Status::Refused, 2)] {
+        assert_eq!(rt; status.code(), code, "{status:?}");
+    }
+    for (fault, code) in [
+        (Fault::ReadTrace, 3),
+        (Fault::ReadCompanion, 3),
+        (Fault::Write, 3),
+        (Fault::Memory, 4),
+    ] {
+        assert_eq!(rt; fault.code(), code, "{fault:?}");
+    }
+}
+
+#[test]
+fn faults_are_told_in_words(rt: HostRuntime) -> Result<(), Fail> {
+    for (fault, words) in [
+        (Fault::ReadTrace, "cannot read the trace"),
+        (Fault::ReadCompanion, "cannot read the companion"),
+        (Fault::Write, "cannot write the report"),
+        (Fault::Memory, "out of memory"),
+    ] {
+        assert_eq!(rt; fault.to_string(rt.alloc())?.as_str(), words);
+    }
+    let refused = Refused::Text {
+        source: Source::Trace,
+        line: 1,
+        cause: Cause::BadHead,
+    };
+    for (refused, words) in [
+        (refused, "trace line 1: BadHead"),
+        (Refused::Memory, "out of memory"),
+    ] {
+        assert_eq!(rt; refused.to_string(rt.alloc())?.as_str(), words);
+    }
+    Ok(())
+}
+
+#[test]
+fn reports_are_lines(rt: HostRuntime) -> Result<(), Fail> {
+    let fault = |line: u32| {
+        Outcome::Judged(Verdict::Fault {
+            line,
+            cpu: 0,
+            pid: 201,
+            kind: Kind::PrevNotRunning,
+        })
+    };
+    let refused = |source: Source, line: u64, cause: Cause| Outcome::Text {
+        source,
+        line,
+        cause,
+    };
+    for (outcome, text) in [
+        (
+            Outcome::Judged(Verdict::Run(Summary { events: 1 })),
+            "run\n",
+        ),
+        (fault(4), "fault line 4\n"),
+        (fault(4294967295), "fault line 4294967295\n"),
+        (
+            refused(Source::Trace, 1, Cause::BadHead),
+            "refused trace line 1 BadHead\n",
+        ),
+        (
+            refused(Source::Companion, 10, Cause::TwiceRunning),
+            "refused companion line 10 TwiceRunning\n",
+        ),
+        (
+            refused(Source::Join, 18446744073709551615, Cause::ClaimNoEvent),
+            "refused join line 18446744073709551615 ClaimNoEvent\n",
+        ),
+    ] {
+        assert_eq!(rt;
+            report(rt.alloc(), &outcome)?.as_slice(),
+            text.as_bytes(),
+            "{text}"
+        );
+    }
+    Ok(())
+}
+
+#[test]
+fn a_run_is_judged_and_reported(rt: HostRuntime) -> Result<(), Fail> {
+    let knobs = Knobs::standard();
+    let verdict = audit_texts(rt.alloc(), TRACE, COMPANION, knobs);
+    assert!(rt; matches!(verdict, Ok(Verdict::Run(_))));
+    let mut written = Vec::new(rt.alloc());
+    let status = run(
+        rt.alloc(),
+        &mut FeedOf::new(TRACE),
+        &mut FeedOf::new(COMPANION),
+        knobs,
+        &mut SinkOf::new(&mut written),
+    );
+    assert_eq!(rt; status, Ok(Status::Yes));
+    assert_eq!(rt; written.as_slice(), REPORT);
+    Ok(())
+}
+
+#[test]
+fn inputs_may_come_byte_by_byte(rt: HostRuntime) -> Result<(), Fail> {
+    let mut out = Narrow::new(rt.alloc(), usize::MAX, false);
+    let status = run(
+        rt.alloc(),
+        &mut Pieces::new(TRACE, 1, 0),
+        &mut Pieces::new(COMPANION, 1, 0),
+        Knobs::standard(),
+        &mut out,
+    );
+    assert_eq!(rt; status, Ok(Status::Yes));
+    assert_eq!(rt; out.taken.as_slice(), REPORT);
+    Ok(())
+}
+
+#[test]
+fn lines_may_be_cut_anywhere(rt: HostRuntime) -> Result<(), Fail> {
+    for piece in 1..COMMENTED.len() + 1 {
+        for (trace, status, text) in [
+            (COMMENTED, Status::Yes, "run\n"),
+            (HELLO, Status::Refused, "refused trace line 1 BadHead\n"),
+        ] {
+            let mut out = Narrow::new(rt.alloc(), usize::MAX, false);
+            let answer = run(
+                rt.alloc(),
+                &mut Pieces::new(trace, piece, 0),
+                &mut FeedOf::new(WAITING),
+                Knobs::standard(),
+                &mut out,
+            );
+            assert_eq!(rt; answer, Ok(status), "pieces of {piece} bytes");
+            assert_eq!(rt; out.taken.as_slice(), text.as_bytes());
+        }
+    }
+    Ok(())
+}
+
+#[test]
+fn a_line_may_be_longer_than_a_read(rt: HostRuntime) -> Result<(), Fail> {
+    let mut trace = Vec::new(rt.alloc());
+    trace.resize(200_000, b'#')?;
+    trace.push(b'\n')?;
+    trace.extend_from_slice(TRACE)?;
+    // The switch now stands on line 2, where the companion claims line 1; and task 102 waits for 4 ms before it.
+    for (companion, text) in [
+        (COMPANION, "refused join line 1 ClaimNoEvent\n"),
+        (WAITING, "fault line 2\n"),
+    ] {
+        let mut out = Narrow::new(rt.alloc(), usize::MAX, false);
+        let _status = run(
+            rt.alloc(),
+            &mut FeedOf::new(trace.as_slice()),
+            &mut FeedOf::new(companion),
+            Knobs::standard(),
+            &mut out,
+        );
+        assert_eq!(rt; out.taken.as_slice(), text.as_bytes());
+    }
+    Ok(())
+}
+
+#[test]
+fn a_read_that_fails_behind_a_bad_line_is_told(rt: HostRuntime) {
+    let calls = HELLO.len() as u64 + 1;
+    for call in 1..calls + 1 {
+        let mut out = Narrow::new(rt.alloc(), usize::MAX, false);
+        let status = run(
+            rt.alloc(),
+            &mut Pieces::new(HELLO, 1, call),
+            &mut FeedOf::new(WAITING),
+            Knobs::standard(),
+            &mut out,
+        );
+        assert_eq!(rt; status, Err(Fault::ReadTrace), "call {call}");
+        assert!(rt; out.taken.is_empty());
+    }
+}
+
+#[test]
+fn a_failed_read_ends_the_run_with_nothing_written(rt: HostRuntime) -> Result<(), Fail> {
+    // Each input is read by one call for each piece and one for the end.
+    for (piece, trace_calls, companion_calls) in [(1, 168, 107), (usize::MAX, 2, 2)] {
+        for call in 1..trace_calls + 1 {
+            let mut out = Narrow::new(rt.alloc(), usize::MAX, false);
+            let status = run(
+                rt.alloc(),
+                &mut Pieces::new(TRACE, piece, call),
+                &mut Pieces::new(COMPANION, piece, 0),
+                Knobs::standard(),
+                &mut out,
+            );
+            assert_eq!(rt; status, Err(Fault::ReadTrace), "call {call} of the trace");
+            assert!(rt; out.taken.is_empty());
+        }
+        for call in 1..companion_calls + 1 {
+            let mut out = Narrow::new(rt.alloc(), usize::MAX, false);
+            let status = run(
+                rt.alloc(),
+                &mut Pieces::new(TRACE, piece, 0),
+                &mut Pieces::new(COMPANION, piece, call),
+                Knobs::standard(),
+                &mut out,
+            );
+            assert_eq!(rt;
+                status,
+                Err(Fault::ReadCompanion),
+                "call {call} of the companion"
+            );
+            assert!(rt; out.taken.is_empty());
+        }
+    }
+    Ok(())
+}
+
+#[test]
+fn a_failed_write_leaves_a_front_of_the_report(rt: HostRuntime) -> Result<(), Fail> {
+    for fails in [true, false] {
+        for room in 0..REPORT.len() {
+            let mut out = Narrow::new(rt.alloc(), room, fails);
+            let status = run(
+                rt.alloc(),
+                &mut FeedOf::new(TRACE),
+                &mut FeedOf::new(COMPANION),
+                Knobs::standard(),
+                &mut out,
+            );
+            assert_eq!(rt; status, Err(Fault::Write), "room for {room} bytes");
+            assert_eq!(rt; out.taken.as_slice(), &REPORT[..room]);
+        }
+    }
+    Ok(())
+}
+
+#[test]
+fn a_call_is_one_call_of_the_end_below(rt: HostRuntime) {
+    let mut buf = [0; 4];
+    let mut reader = Broken { calls: 0 };
+    let mut feed = FeedOf::new(&mut reader);
+    assert_eq!(rt; feed.read(&mut buf), Err(Failed));
+    assert_eq!(rt; feed.read(&mut buf), Err(Failed));
+    assert_eq!(rt; reader.calls, 2);
+
+    let mut writer = Broken { calls: 0 };
+    let mut sink = SinkOf::new(&mut writer);
+    assert_eq!(rt; sink.write(b"run"), Err(Failed));
+    assert_eq!(rt; writer.calls, 1);
+
+    let mut feed = FeedOf::new(REPORT);
+    assert_eq!(rt; feed.read(&mut buf[..3]), Ok(3));
+    assert_eq!(rt; feed.read(&mut buf), Ok(1));
+    assert_eq!(rt; feed.read(&mut buf), Ok(0));
+}
+
+fn ran(events: u64) -> Result<Verdict, Refused> {
+    Ok(Verdict::Run(Summary { events }))
+}
+
+fn faulty(line: u32, pid: u32, kind: Kind) -> Result<Verdict, Refused> {
+    Ok(Verdict::Fault {
+        line,
+        cpu: 0,
+        pid,
+        kind,
+    })
+}
+
+fn with_granularity(granularity: u64) -> Knobs {
+    Knobs::new(granularity, 3_000_000, 3_000_000, 100_000).unwrap_or(Knobs::standard())
+}
+
+#[test]
+fn a_pick_within_the_granularity_of_the_put_back_task_passes(rt: HostRuntime) {
+    for (granularity, verdict) in [
+        (1_000_000, ran(1)),
+        (999_999, faulty(1, 102, Kind::NotLeast)),
+    ] {
+        let knobs = with_granularity(granularity);
+        assert_eq!(rt;
+            audit_texts(rt.alloc(), TRACE, BEHIND, knobs),
+            verdict,
+            "{granularity} ns"
+        );
+    }
+}
+
+#[test]
+fn idling_beside_a_waiting_task_ends_with_the_slack(rt: HostRuntime) {
+    for (trace, verdict) in [
+        (AT_SLACK, ran(1)),
+        (ABOVE_SLACK, faulty(1, 0, Kind::IdleTooLong)),
+    ] {
+        assert_eq!(rt;
+            audit_texts(rt.alloc(), trace, WAITING, Knobs::standard()),
+            verdict
+        );
+    }
+}

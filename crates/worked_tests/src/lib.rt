@@ -1,0 +1,22 @@
+//! Tests of what no clause says, on the public calls of the crates below: printed words, calls that succeed where memory
+//! is ample, ends that fail, and worked recordings.
+#![tactic(auto)]
+
+#[cfg(test)]
+mod audits;
+#[cfg(test)]
+mod companions;
+#[cfg(test)]
+mod definitions;
+#[cfg(test)]
+mod ends;
+#[cfg(test)]
+mod events;
+#[cfg(test)]
+mod lines;
+#[cfg(test)]
+mod recordings;
+#[cfg(test)]
+mod records;
+#[cfg(test)]
+mod replays;

@@ -1,0 +1,234 @@
+use cfs_model::{Act, Nice, Way};
+use companion_file::{Companion, read_companion};
+use ftrace_line::LineFault;
+use replay_model::Deed;
+use sched_event::EventFault;
+use sched_record::{
+    Events, JoinCause, JoinFault, Record, Steps, Trace, TraceCause, TraceFault, join, read_trace,
+};
+use std::alloc::Global;
+use std::test::Fail;
+
+// Task 101 runs 4 ms and is put back, and 102 comes.
+const SWITCH: &[u8] =
+    b"            t101-101     [000] d..2.   100.004000: sched_switch: prev_comm=t101 prev_pid=101 prev_prio=120 prev_state=R+ ==> next_comm=t102 next_pid=102 next_prio=120\n";
+
+// 101 is woken, at two times that fall.
+const FALLING: &[u8] =
+    b"            t101-101     [000] d..2.     1.000002: sched_wakeup: comm=t101 pid=101 prio=120 target_cpu=000
+            t101-101     [000] d..2.     1.000001: sched_wakeup: comm=t101 pid=101 prio=120 target_cpu=000
+hello
+";
+
+// Another event is later than the wakeup behind it, and the wakeup at the same time as the one before.
+const LATER_OTHER: &[u8] =
+    b"            t101-101     [000] d..2.     1.000002: sched_wakeup: comm=t101 pid=101 prio=120 target_cpu=000
+            t101-101     [000] d..2.     1.000009: sched_waking: comm=t101 pid=101 prio=120 target_cpu=000
+            t101-101     [000] d..2.     1.000002: sched_wakeup: comm=t101 pid=101 prio=120 target_cpu=000
+# the end
+";
+
+// A processor that the companion below doesn't have.
+const OUTSIDE: &[u8] =
+    b"            t101-101     [001] d..2.   100.000000: sched_wakeup: comm=t101 pid=101 prio=120 target_cpu=001\n";
+
+// An event before the start, and then one at a processor that isn't there.
+const EARLY: &[u8] =
+    b"            t101-101     [000] d..2.    99.999999: sched_wakeup: comm=t101 pid=101 prio=120 target_cpu=000\n";
+
+const EARLY_THEN_OUTSIDE: &[u8] =
+    b"            t101-101     [000] d..2.    99.999999: sched_wakeup: comm=t101 pid=101 prio=120 target_cpu=000
+            t101-101     [001] d..2.   100.000000: sched_wakeup: comm=t101 pid=101 prio=120 target_cpu=001
+";
+
+const START: &[u8] = b"cfs-companion 1\ncpus 1\nstart 100.000000\nfloor 0 0\n";
+
+const ONE_CLAIM: &[u8] =
+    b"cfs-companion 1\ncpus 1\nstart 100.000000\nfloor 0 0\ntask 101 0 0 run 0\ntask 102 0 0 wait 0\nat 1 101 4000000\n";
+
+const STRAY_CLAIM: &[u8] =
+    b"cfs-companion 1\ncpus 1\nstart 100.000000\nfloor 0 0\ntask 101 0 0 run 0\ntask 102 0 0 wait 0\nat 1 101 4000000\nat 2 102 0\n";
+
+// 101 waits at processor 0 and goes to processor 1, where 102 runs.
+const MOVE: &[u8] =
+    b"            t101-101     [000] d..2.   100.000000: sched_migrate_task: comm=t101 pid=101 prio=120 orig_cpu=0 dest_cpu=1\n";
+
+const MOVED: &[u8] =
+    b"cfs-companion 1\ncpus 2\nstart 100.000000\nfloor 0 3\nfloor 1 100\ntask 101 0 0 wait 5\ntask 102 0 0 run 3\nat 1 101 102\n";
+
+/// The trace and the companion of two texts, joined.
+fn joined_record(
+    alloc: Global,
+    trace: &[u8],
+    companion: &[u8],
+) -> Result<Result<Record, (Trace, Companion, JoinFault)>, Fail> {
+    let trace = read_trace(alloc, trace)?;
+    let companion = read_companion(alloc, companion)?;
+    Ok(join(trace, companion))
+}
+
+#[test]
+fn a_switch_is_read(rt: HostRuntime) -> Result<(), Fail> {
+    let trace = read_trace(rt.alloc(), SWITCH)?;
+    assert_eq!(rt; trace.events().len(), 1);
+    let event = trace.events()[0];
+    assert_eq!(rt; (event.line, event.time), (1, 100_004_000_000));
+    let nice = Nice::new(0).ok_or("0 is a nice value")?;
+    let act = Act::Switch {
+        cpu: 0,
+        prev: 101,
+        prev_nice: nice,
+        way: Way::Stays,
+        next: 102,
+        next_nice: nice,
+    };
+    assert!(rt; event.act == act);
+    Ok(())
+}
+
+#[test]
+fn times_of_other_events_are_not_compared(rt: HostRuntime) -> Result<(), Fail> {
+    let trace = read_trace(rt.alloc(), LATER_OTHER)?;
+    assert_eq!(rt; trace.events().len(), 2);
+    assert_eq!(rt; trace.events()[1].line, 3);
+    Ok(())
+}
+
+#[test]
+fn a_trace_is_refused_at_its_first_bad_line(rt: HostRuntime) -> Result<(), Fail> {
+    let rows: [(&[u8], u64, TraceCause); 5] = [
+        (b"hello\n", 1, TraceCause::Line(LineFault::BadHead)),
+        (
+            b"#\n#\nhello\n\nhello\n",
+            3,
+            TraceCause::Line(LineFault::BadHead),
+        ),
+        (
+            b"#\nCPU:0 [LOST 3 EVENTS]\nhello\n",
+            2,
+            TraceCause::LostEvents,
+        ),
+        (FALLING, 2, TraceCause::TimeBack),
+        (
+            b"            t101-101     [000] d..2.   100.004000: sched_switch: prev_comm=t101 prev_pid=101",
+            1,
+            TraceCause::Event(EventFault::BadFields),
+        ),
+    ];
+    for (text, line, cause) in &rows {
+        let fault = read_trace(rt.alloc(), text).err();
+        let expected = TraceFault::Text {
+            line: *line,
+            cause: *cause,
+        };
+        assert_eq!(rt; fault, Some(expected));
+    }
+    Ok(())
+}
+
+#[test]
+fn joining_tests_each_thing_over_the_whole(rt: HostRuntime) -> Result<(), Fail> {
+    let rows: [(&[u8], &[u8], u64, JoinCause); 4] = [
+        (OUTSIDE, START, 1, JoinCause::CpuOutside),
+        (EARLY, START, 1, JoinCause::StartLate),
+        (EARLY_THEN_OUTSIDE, START, 2, JoinCause::CpuOutside),
+        (SWITCH, STRAY_CLAIM, 2, JoinCause::ClaimNoEvent),
+    ];
+    for (trace, companion, line, cause) in &rows {
+        let fault = joined_record(rt.alloc(), trace, companion)?
+            .err()
+            .map(|back| back.2);
+        let expected = JoinFault {
+            line: *line,
+            cause: *cause,
+        };
+        assert_eq!(rt; fault, Some(expected));
+    }
+    Ok(())
+}
+
+#[test]
+fn a_record_has_all_of_both(rt: HostRuntime) -> Result<(), Fail> {
+    let record = joined_record(rt.alloc(), SWITCH, ONE_CLAIM)?
+        .ok()
+        .ok_or("a record")?;
+    assert_eq!(rt; (record.cpus(), record.start()), (1, 100_000_000_000));
+    assert_eq!(rt; (record.events().len(), record.claims().len()), (1, 1));
+    assert_eq!(rt; (record.tasks().len(), record.floors().len()), (2, 1));
+    assert_eq!(rt;
+        (record.last_time(), record.last_line()),
+        (100_004_000_000, 1)
+    );
+    Ok(())
+}
+
+#[test]
+fn without_events_the_last_time_is_the_start(rt: HostRuntime) -> Result<(), Fail> {
+    let record = joined_record(rt.alloc(), b"", START)?
+        .ok()
+        .ok_or("a record")?;
+    assert_eq!(rt;
+        (record.last_time(), record.last_line()),
+        (100_000_000_000, 0)
+    );
+    Ok(())
+}
+
+#[test]
+fn a_migration_is_dealt_to_both_ends(rt: HostRuntime) -> Result<(), Fail> {
+    let record = joined_record(rt.alloc(), MOVE, MOVED)?
+        .ok()
+        .ok_or("a record")?;
+    assert_eq!(rt; record.cpus(), 2);
+    let orig = record.deal(0)?;
+    let dest = record.deal(1)?;
+    let nice = Nice::new(0).ok_or("0 is a nice value")?;
+    assert_eq!(rt;
+        (orig.cpu(), orig.floor(), orig.start()),
+        (0, 3, 100_000_000_000)
+    );
+    assert_eq!(rt; (orig.tasks().len(), orig.steps().len()), (2, 1));
+    assert_eq!(rt; (orig.last_time(), orig.last_line()), (100_000_000_000, 1));
+    let leave = Deed::Leave {
+        pid: 101,
+        nice,
+        dest: 1,
+    };
+    let left = orig.steps().first().copied().ok_or("a step")?;
+    assert!(rt; left.deed == leave && left.claim.is_none());
+    assert_eq!(rt; (dest.tasks().len(), dest.steps().len()), (0, 1));
+    let arrive = Deed::Arrive {
+        pid: 101,
+        nice,
+        orig: 0,
+    };
+    let came = dest.steps().first().copied().ok_or("a step")?;
+    assert!(rt; came.deed == arrive);
+    assert_eq!(rt; came.claim.map(|claim| claim.v), Some(102));
+    Ok(())
+}
+
+#[test]
+fn streams_are_equal_where_they_hold_the_same(rt: HostRuntime) -> Result<(), Fail> {
+    let record = joined_record(rt.alloc(), MOVE, MOVED)?
+        .ok()
+        .ok_or("a record")?;
+    assert_eq!(rt; record.cpus(), 2);
+    let orig = record.deal(0)?;
+    let again = record.deal(0)?;
+    let dest = record.deal(1)?;
+    assert!(rt; orig == again);
+    assert!(rt; orig != dest);
+    Ok(())
+}
+
+#[test]
+fn a_list_gives_its_items_back(rt: HostRuntime) -> Result<(), Fail> {
+    let events = Events::from_vec(Vec::new(rt.alloc()));
+    assert!(rt; events.as_slice().is_empty());
+    assert_eq!(rt; events.into_vec().len(), 0);
+    let steps = Steps::from_vec(Vec::new(rt.alloc()));
+    assert!(rt; steps.as_slice().is_empty());
+    assert_eq!(rt; steps.into_vec().len(), 0);
+    Ok(())
+}

@@ -1,0 +1,103 @@
+use crate::recordings::{RECORDINGS, Recording};
+use cfs_model::Knobs;
+use companion_file::read_companion;
+use queue_replay::{Page, Reached, Replay, State, Tag};
+use replay_model::{LifeEvent, Tally};
+use sched_record::{Stream, join, read_trace};
+use std::alloc::Global;
+use std::test::Fail;
+
+/// Places in the table: an idle processor at the slack and above it, and a birth.
+const IDLE_AT_SLACK: usize = 0;
+
+const IDLE_ABOVE_SLACK: usize = 1;
+
+const BIRTH: usize = 18;
+
+/// What processor 0 sees of a recording.
+fn stream_of(alloc: Global, trace: &[u8], companion: &[u8]) -> Result<Stream, Fail> {
+    let trace = read_trace(alloc, trace)?;
+    let companion = read_companion(alloc, companion)?;
+    let record = join(trace, companion).ok().ok_or("they go together")?;
+    if record.cpus() == 0 {
+        return Err(Fail::from("a processor"));
+    }
+    Ok(record.deal(0)?)
+}
+
+/// The page of a recording's replay, in calls of so many steps.
+fn page_of(alloc: Global, row: &Recording, steps: u64) -> Result<Page, Fail> {
+    let stream = stream_of(alloc, row.trace, row.companion)?;
+    let mut replay = Replay::new(alloc, stream, Knobs::standard())
+        .ok()
+        .ok_or("memory suffices")?;
+    for _ in 0..4 {
+        if replay.go_on(steps)? != State::Going {
+            break;
+        }
+    }
+    Ok(replay.page())
+}
+
+#[test]
+fn the_first_fault_is_found_however_the_steps_are_cut(rt: HostRuntime) -> Result<(), Fail> {
+    for row in &RECORDINGS {
+        for steps in [1, 2, 1000] {
+            let page = page_of(rt.alloc(), row, steps)?;
+            assert_eq!(rt;
+                page.fault(),
+                row.fault,
+                "{}, {steps} steps a call",
+                row.name
+            );
+        }
+    }
+    Ok(())
+}
+
+#[test]
+fn a_page_shows_what_was_replayed(rt: HostRuntime) -> Result<(), Fail> {
+    // A birth.
+    let row = &RECORDINGS[BIRTH];
+    let page = page_of(rt.alloc(), row, 1)?;
+    assert_eq!(rt; page.stream().steps().len(), 1);
+    assert_eq!(rt; page.knobs(), Knobs::standard());
+    assert_eq!(rt; (page.made(), page.line()), (1, 1));
+    assert_eq!(rt; (page.left().len(), page.came().len()), (0, 0));
+    assert_eq!(rt; (page.births().len(), page.deaths().len()), (1, 0));
+    assert_eq!(rt; page.births()[0], LifeEvent { line: 1, pid: 101 });
+    assert_eq!(rt; page.tallies().len(), 1);
+    let tally = Tally {
+        pid: 101,
+        ran: 0,
+        charged: 0,
+        picks: 0,
+    };
+    assert_eq!(rt; page.tallies()[0], tally);
+    let tag = Tag {
+        cpu: 0,
+        reached: Reached::Done,
+    };
+    assert_eq!(rt; page.tag(), tag);
+    Ok(())
+}
+
+#[test]
+fn a_replay_stops_and_goes_on(rt: HostRuntime) -> Result<(), Fail> {
+    let row = &RECORDINGS[IDLE_AT_SLACK];
+    let stream = stream_of(rt.alloc(), row.trace, row.companion)?;
+    let mut replay = Replay::new(rt.alloc(), stream, Knobs::standard())
+        .ok()
+        .ok_or("memory suffices")?;
+    assert_eq!(rt; (replay.go_on(0)?, replay.line()), (State::Going, 0));
+    assert_eq!(rt; (replay.go_on(1)?, replay.line()), (State::Going, 1));
+    assert_eq!(rt; (replay.go_on(1)?, replay.line()), (State::Done, 2));
+    assert_eq!(rt; (replay.go_on(7)?, replay.line()), (State::Done, 2));
+    let page = page_of(rt.alloc(), &RECORDINGS[IDLE_ABOVE_SLACK], 9)?;
+    let tag = Tag {
+        cpu: 0,
+        reached: Reached::Faulted(2),
+    };
+    assert_eq!(rt; (page.made(), page.line(), page.tag()), (2, 1, tag));
+    Ok(())
+}

@@ -14,3 +14,5 @@ pub mod OneProcessor
 pub mod Faults
 pub mod Composition
 pub mod Endings
+pub mod Cause
+pub mod Closing

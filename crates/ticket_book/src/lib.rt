@@ -1,0 +1,12 @@
+//! The book in which the pages of all processors meet, and the verdict that they come to together.
+#![tactic(auto)]
+
+mod closed;
+mod post_fault;
+mod summary;
+mod verdict;
+
+pub use closed::Closed;
+pub use post_fault::PostFault;
+pub use summary::Summary;
+pub use verdict::Verdict;

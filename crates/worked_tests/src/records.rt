@@ -1,10 +1,11 @@
-use cfs_model::{Act, Nice, Way};
+use cfs_model::{Act, Claim, ClaimSort, Nice, Way};
 use companion_file::{Companion, read_companion};
 use ftrace_line::LineFault;
-use replay_model::Deed;
+use replay_model::{Deed, Step};
 use sched_event::EventFault;
 use sched_record::{
-    Events, JoinCause, JoinFault, Record, Steps, Trace, TraceCause, TraceFault, join, read_trace,
+    Events, JoinCause, JoinFault, Record, Steps, Stream, Trace, TraceCause, TraceFault, join,
+    read_trace,
 };
 use std::alloc::Global;
 use std::test::Fail;
@@ -174,37 +175,78 @@ fn without_events_the_last_time_is_the_start(rt: HostRuntime) -> Result<(), Fail
     Ok(())
 }
 
+/// The streams of both processors of a record of two.
+fn streams_of(record: &Record) -> Result<(Stream, Stream), Fail> {
+    if record.cpus() != 2 {
+        return Err(Fail::from("two processors"));
+    }
+    Ok((record.deal(0)?, record.deal(1)?))
+}
+
+/// Task 101 of nice 0 at the only step of a migration, as a processor sees it.
+fn step(deed: Deed, claim: Option<Claim>) -> Step {
+    Step {
+        line: 1,
+        time: 100_000_000_000,
+        deed,
+        claim,
+    }
+}
+
 #[test]
-fn a_migration_is_dealt_to_both_ends(rt: HostRuntime) -> Result<(), Fail> {
+fn a_migration_leaves_its_origin_without_a_claim(rt: HostRuntime) -> Result<(), Fail> {
     let record = joined_record(rt.alloc(), MOVE, MOVED)?
         .ok()
         .ok_or("a record")?;
-    assert_eq!(rt; record.cpus(), 2);
-    let orig = record.deal(0)?;
-    let dest = record.deal(1)?;
     let nice = Nice::new(0).ok_or("0 is a nice value")?;
-    assert_eq!(rt;
-        (orig.cpu(), orig.floor(), orig.start()),
-        (0, 3, 100_000_000_000)
-    );
-    assert_eq!(rt; (orig.tasks().len(), orig.steps().len()), (2, 1));
-    assert_eq!(rt; (orig.last_time(), orig.last_line()), (100_000_000_000, 1));
+    let (stream, _dest) = streams_of(&record)?;
     let leave = Deed::Leave {
         pid: 101,
         nice,
         dest: 1,
     };
-    let left = orig.steps().first().copied().ok_or("a step")?;
-    assert!(rt; left.deed == leave && left.claim.is_none());
-    assert_eq!(rt; (dest.tasks().len(), dest.steps().len()), (0, 1));
+    assert_eq!(rt; stream.steps(), [step(leave, None)].as_slice());
+    assert_eq!(rt; stream.tasks().len(), 2);
+    Ok(())
+}
+
+#[test]
+fn a_migration_comes_to_its_destination_with_the_claim(rt: HostRuntime) -> Result<(), Fail> {
+    let record = joined_record(rt.alloc(), MOVE, MOVED)?
+        .ok()
+        .ok_or("a record")?;
+    let nice = Nice::new(0).ok_or("0 is a nice value")?;
+    let (_orig, stream) = streams_of(&record)?;
     let arrive = Deed::Arrive {
         pid: 101,
         nice,
         orig: 0,
     };
-    let came = dest.steps().first().copied().ok_or("a step")?;
-    assert!(rt; came.deed == arrive);
-    assert_eq!(rt; came.claim.map(|claim| claim.v), Some(102));
+    let claim = Claim {
+        line: 1,
+        pid: 101,
+        v: 102,
+        sort: ClaimSort::At,
+    };
+    assert_eq!(rt; stream.steps(), [step(arrive, Some(claim))].as_slice());
+    assert_eq!(rt; stream.tasks().len(), 0);
+    Ok(())
+}
+
+#[test]
+fn a_stream_has_the_ends_of_its_record(rt: HostRuntime) -> Result<(), Fail> {
+    let record = joined_record(rt.alloc(), MOVE, MOVED)?
+        .ok()
+        .ok_or("a record")?;
+    let (_orig, stream) = streams_of(&record)?;
+    assert_eq!(rt;
+        (stream.cpu(), stream.floor(), stream.start()),
+        (1, 100, 100_000_000_000)
+    );
+    assert_eq!(rt;
+        (stream.last_time(), stream.last_line()),
+        (100_000_000_000, 1)
+    );
     Ok(())
 }
 
@@ -213,10 +255,8 @@ fn streams_are_equal_where_they_hold_the_same(rt: HostRuntime) -> Result<(), Fai
     let record = joined_record(rt.alloc(), MOVE, MOVED)?
         .ok()
         .ok_or("a record")?;
-    assert_eq!(rt; record.cpus(), 2);
-    let orig = record.deal(0)?;
-    let again = record.deal(0)?;
-    let dest = record.deal(1)?;
+    let (orig, dest) = streams_of(&record)?;
+    let (again, _dest) = streams_of(&record)?;
     assert!(rt; orig == again);
     assert!(rt; orig != dest);
     Ok(())

@@ -55,31 +55,45 @@ fn the_first_fault_is_found_however_the_steps_are_cut(rt: HostRuntime) -> Result
     Ok(())
 }
 
+/// How far a page's replay went: the steps made, the line of the last that passed, and the tag.
+fn reach(page: &Page) -> (usize, u32, Tag) {
+    (page.made(), page.line(), page.tag())
+}
+
 #[test]
-fn a_page_shows_what_was_replayed(rt: HostRuntime) -> Result<(), Fail> {
-    // A birth.
-    let row = &RECORDINGS[BIRTH];
-    let page = page_of(rt.alloc(), row, 1)?;
-    assert_eq!(rt; page.stream().steps().len(), 1);
-    assert_eq!(rt; page.knobs(), Knobs::standard());
-    assert_eq!(rt; (page.made(), page.line()), (1, 1));
-    assert_eq!(rt; (page.left().len(), page.came().len()), (0, 0));
-    assert_eq!(rt; (page.births().len(), page.deaths().len()), (1, 0));
-    assert_eq!(rt; page.births()[0], LifeEvent { line: 1, pid: 101 });
-    assert_eq!(rt; page.tallies().len(), 1);
+fn a_page_tells_how_far_its_replay_went(rt: HostRuntime) -> Result<(), Fail> {
+    for (row, made, line, reached) in [
+        (BIRTH, 1, 1, Reached::Done),
+        (IDLE_ABOVE_SLACK, 2, 1, Reached::Faulted(2)),
+    ] {
+        let page = page_of(rt.alloc(), &RECORDINGS[row], 9)?;
+        assert_eq!(rt; reach(&page), (made, line, Tag { cpu: 0, reached }));
+    }
+    Ok(())
+}
+
+#[test]
+fn a_page_shows_a_birth(rt: HostRuntime) -> Result<(), Fail> {
+    let page = page_of(rt.alloc(), &RECORDINGS[BIRTH], 1)?;
     let tally = Tally {
         pid: 101,
         ran: 0,
         charged: 0,
         picks: 0,
     };
-    assert_eq!(rt; page.tallies()[0], tally);
-    let tag = Tag {
-        cpu: 0,
-        reached: Reached::Done,
-    };
-    assert_eq!(rt; page.tag(), tag);
+    assert_eq!(rt; page.births(), [LifeEvent { line: 1, pid: 101 }].as_slice());
+    assert_eq!(rt; page.tallies(), [tally].as_slice());
+    assert_eq!(rt;
+        (page.left().len(), page.came().len(), page.deaths().len()),
+        (0, 0, 0)
+    );
     Ok(())
+}
+
+/// What each call of a replay answers, and the line at which it then stands.
+fn stands(replay: &mut Replay, steps: u64) -> Result<(State, u32), Fail> {
+    let state = replay.go_on(steps)?;
+    Ok((state, replay.line()))
 }
 
 #[test]
@@ -89,15 +103,13 @@ fn a_replay_stops_and_goes_on(rt: HostRuntime) -> Result<(), Fail> {
     let mut replay = Replay::new(rt.alloc(), stream, Knobs::standard())
         .ok()
         .ok_or("memory suffices")?;
-    assert_eq!(rt; (replay.go_on(0)?, replay.line()), (State::Going, 0));
-    assert_eq!(rt; (replay.go_on(1)?, replay.line()), (State::Going, 1));
-    assert_eq!(rt; (replay.go_on(1)?, replay.line()), (State::Done, 2));
-    assert_eq!(rt; (replay.go_on(7)?, replay.line()), (State::Done, 2));
-    let page = page_of(rt.alloc(), &RECORDINGS[IDLE_ABOVE_SLACK], 9)?;
-    let tag = Tag {
-        cpu: 0,
-        reached: Reached::Faulted(2),
-    };
-    assert_eq!(rt; (page.made(), page.line(), page.tag()), (2, 1, tag));
+    for (steps, state, line) in [
+        (0, State::Going, 0),
+        (1, State::Going, 1),
+        (1, State::Done, 2),
+        (7, State::Done, 2),
+    ] {
+        assert_eq!(rt; stands(&mut replay, steps)?, (state, line), "{steps} steps");
+    }
     Ok(())
 }

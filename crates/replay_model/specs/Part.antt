@@ -1,7 +1,7 @@
--- The part of a machine at one processor, and its charge and lift. Sources: sched-design-CFS.rst, sections 1 and 2 (a
--- running task's virtual runtime grows by the time that it ran, scaled by its weight; min_vruntime is monotonic and
--- follows the smallest virtual runtime of the runqueue). That only events charge, and the rounding, are this project's
--- profile.
+-- The part of a machine at one processor, and its charge and lift. Sources: sched-design-CFS.rst, "Few implementation
+-- details" and "The rbtree" (a running task's virtual runtime grows by the time that it ran, scaled by its weight;
+-- min_vruntime is monotonic and follows the smallest virtual runtime of the runqueue). That only events charge, and the
+-- rounding, are this project's profile.
 use Rattle.std.specs.Prelude.{◌≡◌, ◌≢◌, ℕ, ◌==◌, ◌-◌, Bool, true, false, Option, Some, None, option_map, ℤ, pos, ◌+ℤ◌, ◌≤ℤ◌, ◌⊎◌, List, find}
 use Rattle.std.specs.Int.{int_max}
 use Rattle.cfs_model.specs.Charge.{charge_of}

@@ -2,9 +2,12 @@ pub mod Bounded
 pub mod Clear
 pub mod Compose
 pub mod ComposeAll
+pub mod Deadlines
 pub mod Follow
 pub mod FollowLaws
 pub mod Followed
+pub mod FrontReplay
+pub mod IdleFaults
 pub mod Idles
 pub mod MigrationSteps
 pub mod OneFault
@@ -35,3 +38,4 @@ pub mod StepExists
 pub mod SwitchClear
 pub mod TicketLines
 pub mod Touching
+pub mod WholeReplay

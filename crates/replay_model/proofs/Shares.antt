@@ -30,11 +30,11 @@ pub record IsShareDone (knobs : Settings) (start : ℕ) (floors : List ℤ) (tas
   pub in_time : (pid : ℕ) → ¬ IsIdleTooLong knobs.slack end.since (last_time_of start events) pid
 
 -- the fault of the end test
-abbrev late_fault : ℕ → StreamView → ℕ → StepFault
+abbrev pub late_fault : ℕ → StreamView → ℕ → StepFault
 late_fault slack stream x = record { line = stream.last_line; kind = IdleTooLong; pid = 0; deadline = Some (x + slack) }
 
 -- the end test changes no ticket, and where it adds no fault the processor is in time
-end_left : (slack : ℕ) (stream : StreamView) (since : Option ℕ) (o : Option StepFault) (page : PageView)
+pub end_left : (slack : ℕ) (stream : StreamView) (since : Option ℕ) (o : Option StepFault) (page : PageView)
     → (end_page slack stream since o page).left ≡ page.left
 end_left slack stream None o page = refl
 end_left slack stream (Some x) (Some fault) page = refl
@@ -44,7 +44,7 @@ end_left slack stream (Some x) None page = go (nat_lt (x + slack) stream.last_ti
     go true = refl
     go false = refl
 
-end_came : (slack : ℕ) (stream : StreamView) (since : Option ℕ) (o : Option StepFault) (page : PageView)
+pub end_came : (slack : ℕ) (stream : StreamView) (since : Option ℕ) (o : Option StepFault) (page : PageView)
     → (end_page slack stream since o page).came ≡ page.came
 end_came slack stream None o page = refl
 end_came slack stream (Some x) (Some fault) page = refl

@@ -1,0 +1,99 @@
+-- A fault has a deadline just where its processor had idled for too long: no test but that one is of a kind with a
+-- deadline, and it is the first.
+use Rattle.std.proofs.Common.{◌≡◌, ℕ, ◌+◌, ◌<◌, Option, Some, None, inl, inr, List, [], ◌∷◌, refl, sym, ap, ◌∙◌, subst}
+use Rattle.std.specs.Bool.{⊤}
+use Rattle.cfs_model.specs.Settings.{Settings}
+use Rattle.replay_model.specs.Part.{Part}
+use Rattle.replay_model.specs.QueueTests.{IsIdleTooLong}
+use Rattle.replay_model.specs.Tests.{Test, FirstHolds, late_tests}
+use Rattle.replay_model.specs.Page.{ReplayStateView, FailsTest, deadline_of}
+use Rattle.replay_model.specs.Cause.{FailsOn}
+use Rattle.replay_model.proofs.SwitchClear.{no_some, some_no, same_some}
+use Rattle.cfs_model.specs.declared.kind.Kind.{Kind}
+use Rattle.cfs_model.specs.declared.kind.Kind.TheVariants.{IdleTooLong, Range}
+use Rattle.replay_model.specs.declared.step.Step.{Step}
+
+-- what holds of the kind of each test
+abbrev EachKind : (Kind → Type 0) → List Test → Type 0
+EachKind P [] = ⊤
+EachKind P (test ∷ tests) = P test.kind × EachKind P tests
+
+first_kind : (P : Kind → Type 0) (tests : List Test) (kind : Kind) (pid : ℕ) → EachKind P tests
+    → FirstHolds tests kind pid → P kind
+first_kind P [] kind pid each h = absurd h
+first_kind P (test ∷ tests) kind pid each (inl h) = subst P (sym h.1) each.0
+first_kind P (test ∷ tests) kind pid each (inr h) = first_kind P tests kind pid each.1 h.1
+
+-- a kind without a deadline
+abbrev IsTimeless : Kind → Type 0
+IsTimeless kind = (slack : ℕ) (since : Option ℕ) → deadline_of kind slack since ≡ None
+
+late_kinds : (knobs : Settings) (cpu : ℕ) (part : Part) (step : Step)
+    → EachKind IsTimeless (late_tests knobs cpu part step)
+late_kinds knobs cpu part step = (
+  (λ n o. refl),
+  ((λ n o. refl), ((λ n o. refl), ((λ n o. refl), ((λ n o. refl), ((λ n o. refl), ((λ n o. refl), ((λ n o. refl),
+  ((λ n o. refl), ((λ n o. refl), ((λ n o. refl), ((λ n o. refl), ((λ n o. refl), ((λ n o. refl), ((λ n o. refl),
+  ((λ n o. refl), tt))))))))))))))),
+)
+
+late_timeless : (knobs : Settings) (cpu : ℕ) (part : Part) (step : Step) (kind : Kind) (pid : ℕ)
+    → FirstHolds (late_tests knobs cpu part step) kind pid → IsTimeless kind
+late_timeless knobs cpu part step kind pid h = first_kind IsTimeless (late_tests knobs cpu part step) kind pid
+    (late_kinds knobs cpu part step) h
+
+-- a processor has idled since a time, and this long after it is before a step's time
+pub record IsDue (slack : ℕ) (since : Option ℕ) (deadline time : ℕ) : Type 0 where
+  pub from : ℕ
+  pub idles : since ≡ Some from
+  pub deadline_is : deadline ≡ from + slack
+  pub late : deadline < time
+
+idle_due : (slack : ℕ) (since : Option ℕ) (deadline time pid : ℕ) → IsIdleTooLong slack since time pid
+    → deadline_of IdleTooLong slack since ≡ Some deadline → IsDue slack since deadline time
+idle_due slack None deadline time pid h e = absurd h
+idle_due slack (Some x) deadline time pid h e =
+    let same : x + slack ≡ deadline = same_some (Some (x + slack)) (x + slack) deadline refl e in
+    record { from = x; idles = refl; deadline_is = sym same; late = subst (λ d. d < time) same h.0 }
+
+-- a fault with a deadline is of a processor that had idled for too long
+pub with_deadline : (knobs : Settings) (cpu : ℕ) (s : ReplayStateView) (step : Step) (kind : Kind) (pid deadline : ℕ)
+    → FailsTest knobs cpu s step kind pid → deadline_of kind knobs.slack s.since ≡ Some deadline
+    → IsDue knobs.slack s.since deadline step.time
+with_deadline knobs cpu s step kind pid deadline (inl (inl h)) e =
+    idle_due knobs.slack s.since deadline step.time pid h.0 (ap (λ k. deadline_of k knobs.slack s.since) (sym h.1) ∙ e)
+with_deadline knobs cpu s step kind pid deadline (inl (inr (h, inl k))) e =
+    no_some deadline (ap (λ x. deadline_of x knobs.slack s.since) (sym k.1) ∙ e)
+with_deadline knobs cpu s step kind pid deadline (inl (inr (h, inr k))) e = absurd k.1
+with_deadline knobs cpu s step kind pid deadline (inr h) e =
+    no_some deadline (sym (late_timeless knobs cpu h.0 step kind pid h.3 knobs.slack s.since) ∙ e)
+
+idle_has_deadline : (slack : ℕ) (since : Option ℕ) (time pid : ℕ) → IsIdleTooLong slack since time pid
+    → deadline_of IdleTooLong slack since ≡ None → ⊥
+idle_has_deadline slack None time pid h e = h
+idle_has_deadline slack (Some x) time pid h e = some_no (x + slack) e
+
+-- a fault without one is of a test on the part
+pub without_deadline : (knobs : Settings) (cpu : ℕ) (s : ReplayStateView) (step : Step) (kind : Kind) (pid : ℕ)
+    → FailsTest knobs cpu s step kind pid → deadline_of kind knobs.slack s.since ≡ None
+    → FailsOn knobs cpu s.part step kind pid
+without_deadline knobs cpu s step kind pid (inl (inl h)) e =
+    absurd (idle_has_deadline knobs.slack s.since step.time pid h.0
+    (ap (λ k. deadline_of k knobs.slack s.since) (sym h.1) ∙ e))
+without_deadline knobs cpu s step kind pid (inl (inr (h, inl k))) e = inl k
+without_deadline knobs cpu s step kind pid (inl (inr (h, inr k))) e = absurd k.1
+without_deadline knobs cpu s step kind pid (inr h) e = inr (h.1.1.0, (h.0, h.2, h.3))
+
+-- a processor that has idled for too long at a step has that fault, with that deadline
+pub idling_fails : (knobs : Settings) (cpu : ℕ) (s : ReplayStateView) (step : Step) (kind : Kind) (pid x : ℕ)
+    → FailsTest knobs cpu s step kind pid → s.since ≡ Some x → x + knobs.slack < step.time
+    → deadline_of kind knobs.slack s.since ≡ Some (x + knobs.slack)
+idling_fails knobs cpu s step kind pid x fails e late = go fails
+  where
+    idles : IsIdleTooLong knobs.slack s.since step.time 0
+    idles = subst (λ o. IsIdleTooLong knobs.slack o step.time 0) (sym e) (late, refl)
+
+    go : FailsTest knobs cpu s step kind pid → deadline_of kind knobs.slack s.since ≡ Some (x + knobs.slack)
+    go (inl (inl h)) = ap (λ k. deadline_of k knobs.slack s.since) h.1 ∙ ap (deadline_of IdleTooLong knobs.slack) e
+    go (inl (inr h)) = absurd (h.0 0 idles)
+    go (inr h) = absurd (h.1.0 0 idles)

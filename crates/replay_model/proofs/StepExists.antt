@@ -94,12 +94,12 @@ pub record AtEvent (knobs : Settings) (m : Machine) (time : ℕ) (s : ℕ → Re
   pub roll : RollIs alive m
   pub new : BirthIsNew alive event.entry.act
 
-touches_first : (cpu : ℕ) (act : Act) (rest : List ℕ) → touched act ≡ cpu ∷ rest
+pub touches_first : (cpu : ℕ) (act : Act) (rest : List ℕ) → touched act ≡ cpu ∷ rest
     → list_any (λ other. nat_eq other cpu) (touched act) ≡ true
 touches_first cpu act rest e = ap (list_any (λ other. nat_eq other cpu)) e
     ∙ ap (λ b. b || list_any (λ other. nat_eq other cpu) rest) (eq-eqb cpu cpu refl)
 
-touches_second : (cpu first : ℕ) (act : Act) → touched act ≡ first ∷ cpu ∷ []
+pub touches_second : (cpu first : ℕ) (act : Act) → touched act ≡ first ∷ cpu ∷ []
     → list_any (λ other. nat_eq other cpu) (touched act) ≡ true
 touches_second cpu first act e = ap (list_any (λ other. nat_eq other cpu)) e
     ∙ ap (λ b. nat_eq first cpu || (b || false)) (eq-eqb cpu cpu refl) ∙ or_true (nat_eq first cpu)
@@ -148,7 +148,7 @@ module _ (knobs : Settings) (m : Machine) (time : ℕ) (s : ℕ → ReplayStateV
       let line = event.entry.line in
       let left : ticket_at line (end orig).page.left ≡ left_ticket o.passes.lifted line pid =
       ticket_found (λ page. page.left) left_of left_tickets knobs orig (s orig) (step_at orig event) o.next
-      (steps_at orig events) (end orig) o.passes o.fault o.replay (at.no_fault orig)
+      (steps_at orig events) (end orig) o.passes o.replay
       (below orig).0 (steps_above line orig events at.rise)
       ∙ ap (λ x. ticket_at line (left_by o.passes.lifted (step_at orig event) x)) leave
       ∙ only_ticket (λ (t : Entity). let x : Ticket = record
@@ -156,7 +156,7 @@ module _ (knobs : Settings) (m : Machine) (time : ℕ) (s : ℕ → ReplayStateV
       line (λ t. refl) (o.passes.lifted.tasks pid) in
       let came : ticket_at line (end dest).page.came ≡ came_ticket d.passes.lifted line pid nice event.claim =
       ticket_found (λ page. page.came) came_of came_tickets knobs dest (s dest) (step_at dest event) d.next
-      (steps_at dest events) (end dest) d.passes d.fault d.replay (at.no_fault dest)
+      (steps_at dest events) (end dest) d.passes d.replay
       (below dest).1 (steps_above line dest events at.rise)
       ∙ ap (λ x. ticket_at line (came_by d.passes.lifted (step_at dest event) x)) arrive
       ∙ only_ticket (λ (c : Claim). let x : Ticket = record {

@@ -1,13 +1,13 @@
--- The ticket of a line on a page is the one of that line's step: lines rise.
-use Rattle.std.proofs.Common.{◌≡◌, ◌≢◌, ℕ, ◌<◌, ◌≤◌, nat_eq, cond, Option, Some, None, option_map, option_to_list, List, [], ◌∷◌, ◌++◌, append_assoc, refl, sym, ap, ◌∙◌, subst, arith}
+-- The ticket of a line on a page is the one of that line's step: lines rise. A step that fails changes no ticket.
+use Rattle.std.proofs.Common.{◌≡◌, ◌≢◌, ℕ, ◌<◌, ◌≤◌, nat_eq, cond, Option, Some, None, option_map, option_to_list, inl, inr, List, [], ◌∷◌, ◌++◌, append_assoc, refl, sym, ap, ◌∙◌, subst, arith}
 use Rattle.std.proofs.lemmas.Bool.{eq-eqb, ne_eqb}
 use Rattle.std.specs.List.{AllByRecursion}
 use Rattle.cfs_model.specs.Settings.{Settings}
 use Rattle.replay_model.specs.Part.{Part}
 use Rattle.replay_model.specs.Noted.{PageView, left_by, came_by, noted}
-use Rattle.replay_model.specs.Page.{ReplayStateView, PassesStep, IsReplay}
+use Rattle.replay_model.specs.Page.{ReplayStateView, PassesStep, IsReplayStep, IsReplay}
 use Rattle.replay_model.specs.Composition.{ticket_at}
-use Rattle.replay_model.proofs.Replayed.{first_passes}
+use Rattle.replay_model.specs.declared.page.StepFault.{StepFault}
 use Rattle.replay_model.specs.declared.page.Ticket.{Ticket}
 use Rattle.replay_model.specs.declared.step.Deed.{Deed}
 use Rattle.replay_model.specs.declared.step.Deed.TheVariants.{Switch, Wake, Born, Leave, Arrive}
@@ -43,43 +43,60 @@ pub record IsTickets (tickets : PageView → List Ticket) (by : Part → Step �
   pub grows : (page : PageView) (part lifted : Part) (step : Step)
       → tickets (noted page part lifted step) ≡ tickets page ++ by lifted step
   pub lines : (lifted : Part) (step : Step) → AllByRecursion (λ (t : Ticket). t.line ≡ step.line) (by lifted step)
+  pub keeps : (page : PageView) (fault : Option StepFault) → tickets (record page { fault = fault }) ≡ tickets page
 
 module _ (tickets : PageView → List Ticket) (by : Part → Step → List Ticket) (is : IsTickets tickets by) where
-  -- what later steps add
-  more_tickets : (knobs : Settings) (cpu n : ℕ) (s : ReplayStateView) (steps : List Step) (end : ReplayStateView)
-      → s.page.fault ≡ None → IsReplay knobs cpu s steps end → end.page.fault ≡ None
-      → AllByRecursion (λ (step : Step). n < step.line) steps
+  -- what later steps add, whose lines are these
+  pub more_tickets : (Is : ℕ → Type 0) (knobs : Settings) (cpu : ℕ) (s : ReplayStateView) (steps : List Step)
+      (end : ReplayStateView)
+      → IsReplay knobs cpu s steps end → AllByRecursion (λ (step : Step). Is step.line) steps
       → (more : List Ticket) × (tickets end.page ≡ tickets s.page ++ more)
-      × AllByRecursion (λ (t : Ticket). t.line ≢ n) more
-  more_tickets knobs cpu n s [] end f r g h = ([], ap (λ x. tickets x.page) r ∙ sym (append_none (tickets s.page)), tt)
+      × AllByRecursion (λ (t : Ticket). Is t.line) more
+  more_tickets Is knobs cpu s [] end r h = ([], ap (λ x. tickets x.page) r ∙ sym (append_none (tickets s.page)), tt)
     where
       append_none : (xs : List Ticket) → xs ++ [] ≡ xs
       append_none [] = refl
       append_none (x ∷ xs) = ap (λ rest. x ∷ rest) (append_none xs)
-  more_tickets knobs cpu n s (step ∷ steps) end f r g h =
-      let p = first_passes knobs cpu s step r.0 steps end f r.1 r.2 g in
-      let rest = more_tickets knobs cpu n r.0 steps end p.1 r.2 g h.1 in
-      let mine = by p.0.lifted step in (
-        mine ++ rest.0,
-        rest.1 ∙ ap (λ xs. xs ++ rest.0) (ap tickets p.0.page ∙ is.grows s.page s.part p.0.lifted step)
-            ∙ append_assoc (tickets s.page) mine rest.0,
-        all_append (λ t. t.line ≢ n) mine rest.0
-            (all_map (λ t. t.line ≡ step.line) (λ t. t.line ≢ n)
-            (λ t e k. let a : n < step.line = h.0 in absurd (omega arith)) mine (is.lines p.0.lifted step)) rest.2,
-      )
+  more_tickets Is knobs cpu s (step ∷ steps) end r h = go s.page.fault r.1
+      (more_tickets Is knobs cpu r.0 steps end r.2 h.1)
+    where
+      go : (o : Option StepFault) → IsReplayStep knobs cpu o s step r.0
+          → (more : List Ticket) × (tickets end.page ≡ tickets r.0.page ++ more)
+          × AllByRecursion (λ (t : Ticket). Is t.line) more
+          → (more : List Ticket) × (tickets end.page ≡ tickets s.page ++ more)
+          × AllByRecursion (λ (t : Ticket). Is t.line) more
+      go (Some fault) same rest = (rest.0, rest.1 ∙ ap (λ x. tickets x.page ++ rest.0) same, rest.2)
+      go None (inr f) rest =
+          (rest.0, rest.1 ∙ ap (λ xs. xs ++ rest.0) (ap (λ x. tickets x.page) f.result ∙ is.keeps s.page _), rest.2)
+      go None (inl p) rest =
+          let mine = by p.lifted step in (
+            mine ++ rest.0,
+            rest.1 ∙ ap (λ xs. xs ++ rest.0) (ap tickets p.page ∙ is.grows s.page s.part p.lifted step)
+                ∙ append_assoc (tickets s.page) mine rest.0,
+            all_append (λ t. Is t.line) mine rest.0
+                (all_map (λ t. t.line ≡ step.line) (λ t. Is t.line) (λ t e. subst Is (sym e) h.0) mine
+                (is.lines p.lifted step)) rest.2,
+          )
+
+  -- the ticket of an earlier line stays
+  pub ticket_kept : (n : ℕ) (knobs : Settings) (cpu : ℕ) (s : ReplayStateView) (steps : List Step) (end : ReplayStateView)
+      → IsReplay knobs cpu s steps end → AllByRecursion (λ (step : Step). n < step.line) steps
+      → ticket_at n (tickets end.page) ≡ ticket_at n (tickets s.page)
+  ticket_kept n knobs cpu s steps end r h =
+      let more = more_tickets (λ line. n < line) knobs cpu s steps end r h in
+      ap (ticket_at n) more.1
+      ∙ ticket_earlier n (tickets s.page) more.0
+      (all_map (λ t. n < t.line) (λ t. t.line ≢ n) (λ t a k. absurd (omega arith)) more.0 more.2)
 
   -- the ticket of a step's line on the page at the end
   pub ticket_found : (knobs : Settings) (cpu : ℕ) (s : ReplayStateView) (step : Step) (next : ReplayStateView) (steps : List Step)
-      (end : ReplayStateView) (p : PassesStep knobs cpu s step next)
-      → next.page.fault ≡ None → IsReplay knobs cpu next steps end → end.page.fault ≡ None
+      (end : ReplayStateView) (p : PassesStep knobs cpu s step next) → IsReplay knobs cpu next steps end
       → AllByRecursion (λ (t : Ticket). t.line < step.line) (tickets s.page)
       → AllByRecursion (λ (x : Step). step.line < x.line) steps
       → ticket_at step.line (tickets end.page) ≡ ticket_at step.line (by p.lifted step)
-  ticket_found knobs cpu s step next steps end p f r g low high =
-      let rest = more_tickets knobs cpu step.line next steps end f r g high in
-      ap (ticket_at step.line)
-      (rest.1 ∙ ap (λ xs. xs ++ rest.0) (ap tickets p.page ∙ is.grows s.page s.part p.lifted step))
-      ∙ ticket_earlier step.line (tickets s.page ++ by p.lifted step) rest.0 rest.2
+  ticket_found knobs cpu s step next steps end p r low high =
+      ticket_kept step.line knobs cpu next steps end r high
+      ∙ ap (ticket_at step.line) (ap tickets p.page ∙ is.grows s.page s.part p.lifted step)
       ∙ ticket_later step.line (tickets s.page) (by p.lifted step)
       (all_map (λ t. t.line < step.line) (λ t. t.line ≢ step.line) (λ t a k. absurd (omega arith)) (tickets s.page) low)
 
@@ -123,10 +140,18 @@ came_lines lifted step (Leave pid nice dest) = tt
 came_lines lifted step (Arrive pid nice orig) = one_line _ step.line (λ a. refl) step.claim
 
 pub left_tickets : IsTickets (λ page. page.left) left_of
-left_tickets = record { grows = λ page part lifted step. refl; lines = λ lifted step. left_lines lifted step step.deed }
+left_tickets = record {
+  grows = λ page part lifted step. refl;
+  lines = λ lifted step. left_lines lifted step step.deed;
+  keeps = λ page fault. refl;
+}
 
 pub came_tickets : IsTickets (λ page. page.came) came_of
-came_tickets = record { grows = λ page part lifted step. refl; lines = λ lifted step. came_lines lifted step step.deed }
+came_tickets = record {
+  grows = λ page part lifted step. refl;
+  lines = λ lifted step. came_lines lifted step step.deed;
+  keeps = λ page fault. refl;
+}
 
 -- the only ticket of a line is the line's
 pub only_ticket : {A : Type 0} (f : A → Ticket) (n : ℕ) → ((a : A) → (f a).line ≡ n) → (o : Option A)

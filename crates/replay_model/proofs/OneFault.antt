@@ -143,11 +143,11 @@ end_holds slack start m events states same keeps cpu f = go (cases_lt f.from (le
         (slice_index (times_of start events)) at ∙ end in
         omega arith
 
-all_front : (P : Claimed → Type 0) (xs ys : List Claimed) → AllByRecursion P (xs ++ ys) → AllByRecursion P xs
+pub all_front : (P : Claimed → Type 0) (xs ys : List Claimed) → AllByRecursion P (xs ++ ys) → AllByRecursion P xs
 all_front P [] ys h = tt
 all_front P (x ∷ xs) ys h = (h.0, all_front P xs ys h.1)
 
-rise_front : (time : ℕ) (xs ys : List Claimed) → TimesRise time (xs ++ ys) → TimesRise time xs
+pub rise_front : (time : ℕ) (xs ys : List Claimed) → TimesRise time (xs ++ ys) → TimesRise time xs
 rise_front time [] ys h = tt
 rise_front time (x ∷ xs) ys h = (h.0, rise_front x.entry.time xs ys h.1)
 

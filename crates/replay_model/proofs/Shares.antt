@@ -11,6 +11,7 @@ use Rattle.replay_model.specs.QueueTests.{IsIdleTooLong}
 use Rattle.replay_model.specs.Cut.{StreamView, touches, step_at, steps_at, last_time_of, tasks_at, cut}
 use Rattle.replay_model.specs.Noted.{PageView}
 use Rattle.replay_model.specs.Page.{ReplayStateView, IsReplay, IsStartOf, start_page, end_page}
+use Rattle.replay_model.specs.Following.{IsShareReplay}
 use Rattle.replay_model.specs.Composition.{IsRecord, IsDone, PassesShare}
 use Rattle.replay_model.proofs.OneProcessor.{fault_free}
 use Rattle.replay_model.proofs.SwitchClear.{no_some, some_no}
@@ -126,28 +127,48 @@ no_steps cpus cpu events h k = ap (map (step_at cpu)) (go events h)
 empty_part : (floor : ℤ) (start : ℕ) → ¬ IsIdlePart (start_part [] floor start)
 empty_part floor start i = no_some Wait i.waits
 
+pub past_share : (knobs : Settings) (start : ℕ) (floors : List ℤ) (tasks : List Task) (events : List Claimed)
+    (cpus cpu : ℕ) → IsRecord start floors tasks events cpus → cpus ≤ cpu
+    → (last : ReplayStateView) × IsShareReplay knobs start floors tasks events cpu last × (last.page.fault ≡ None)
+    × (last.since ≡ None)
+past_share knobs start floors tasks events cpus cpu r k =
+    let stream = cut start floors tasks events cpu in
+    let first : ReplayStateView = record
+    { part = start_part stream.tasks stream.floor stream.start; since = None; page = start_page stream } in (
+      first,
+      record {
+        first = first;
+        is_start = record {
+          part = refl;
+          since = inr (
+            subst (λ ts. ¬ IsIdlePart (start_part ts stream.floor stream.start))
+                (sym (no_tasks cpus cpu tasks r.tasks_within k)) (empty_part stream.floor stream.start),
+            refl,
+          );
+          page = refl;
+        };
+        replay = subst (λ xs. IsReplay knobs cpu first xs first) (sym (no_steps cpus cpu events r.events_within k)) refl;
+      },
+      refl,
+      refl,
+    )
+
+pub never_too_long : (slack : ℕ) (since : Option ℕ) (time pid : ℕ) → since ≡ None → ¬ IsIdleTooLong slack since time pid
+never_too_long slack None time pid e h = h
+never_too_long slack (Some x) time pid e h = some_no x e
+
 past_done : (knobs : Settings) (start : ℕ) (floors : List ℤ) (tasks : List Task) (events : List Claimed) (cpus cpu : ℕ)
     → IsRecord start floors tasks events cpus → cpus ≤ cpu
     → IsShareDone knobs start floors tasks events cpu
 past_done knobs start floors tasks events cpus cpu r k =
-    let stream = cut start floors tasks events cpu in
-    let first : ReplayStateView = record
-    { part = start_part stream.tasks stream.floor stream.start; since = None; page = start_page stream } in
+    let p = past_share knobs start floors tasks events cpus cpu r k in
     record {
-      first = first;
-      is_start = record {
-        part = refl;
-        since = inr (
-          subst (λ ts. ¬ IsIdlePart (start_part ts stream.floor stream.start))
-              (sym (no_tasks cpus cpu tasks r.tasks_within k)) (empty_part stream.floor stream.start),
-          refl,
-        );
-        page = refl;
-      };
-      end = first;
-      replay = subst (λ xs. IsReplay knobs cpu first xs first) (sym (no_steps cpus cpu events r.events_within k)) refl;
-      no_fault = refl;
-      in_time = λ pid h. h;
+      first = p.1.first;
+      is_start = p.1.is_start;
+      end = p.0;
+      replay = p.1.replay;
+      no_fault = p.2;
+      in_time = λ pid. never_too_long knobs.slack p.0.since (last_time_of start events) pid p.3;
     }
 
 -- a processor's replay, which has its page's tickets

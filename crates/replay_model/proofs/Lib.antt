@@ -7,6 +7,7 @@ pub mod Follow
 pub mod FollowLaws
 pub mod Followed
 pub mod FrontReplay
+pub mod FrontRun
 pub mod Fronts
 pub mod IdleFaults
 pub mod Idles

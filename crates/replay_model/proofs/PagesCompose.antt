@@ -16,18 +16,18 @@ use Rattle.cfs_model.specs.declared.act.Act.TheVariants.{Switch, Wake, Born, Shi
 use Rattle.cfs_model.specs.declared.task.Task.{Task}
 use Rattle.replay_model.proofs.Shares.{ShareOf, share_of, share_from}
 
--- the tickets of the pages are those of the replays
-agree_shares : (cpus : ℕ) (pages ends : ℕ → PageView) (line : ℕ) (act : Act)
+-- where pages have the same ticket of a line, they agree alike
+pub agree_at : (cpus : ℕ) (pages ends : ℕ → PageView) (line : ℕ) (act : Act)
     → AllByRecursion (λ (c : ℕ). c < cpus) (touched act)
-    → ((cpu : ℕ) → cpu < cpus → (pages cpu).left ≡ (ends cpu).left)
-    → ((cpu : ℕ) → cpu < cpus → (pages cpu).came ≡ (ends cpu).came)
+    → ((cpu : ℕ) → cpu < cpus → ticket_at line (pages cpu).left ≡ ticket_at line (ends cpu).left)
+    → ((cpu : ℕ) → cpu < cpus → ticket_at line (pages cpu).came ≡ ticket_at line (ends cpu).came)
     → TicketsAgree pages line act → TicketsAgree ends line act
-agree_shares cpus pages ends line (Switch cpu prev pn way next nn) h l c a = tt
-agree_shares cpus pages ends line (Wake cpu pid nice) h l c a = tt
-agree_shares cpus pages ends line (Born cpu pid nice) h l c a = tt
-agree_shares cpus pages ends line (Shift orig dest pid nice) h l c a =
-    ap (ticket_at line) (sym (l orig h.0)) ∙ a ∙ ap (ticket_at line) (c dest h.1.0)
+agree_at cpus pages ends line (Switch cpu prev pn way next nn) h l c a = tt
+agree_at cpus pages ends line (Wake cpu pid nice) h l c a = tt
+agree_at cpus pages ends line (Born cpu pid nice) h l c a = tt
+agree_at cpus pages ends line (Shift orig dest pid nice) h l c a = sym (l orig h.0) ∙ a ∙ c dest h.1.0
 
+-- the tickets of the pages are those of the replays
 all_agree : (cpus : ℕ) (pages ends : ℕ → PageView) → ((cpu : ℕ) → cpu < cpus → (pages cpu).left ≡ (ends cpu).left)
     → ((cpu : ℕ) → cpu < cpus → (pages cpu).came ≡ (ends cpu).came)
     → (events : List Claimed)
@@ -36,7 +36,8 @@ all_agree : (cpus : ℕ) (pages ends : ℕ → PageView) → ((cpu : ℕ) → cp
     → AllByRecursion (λ (event : Claimed). TicketsAgree ends event.entry.line event.entry.act) events
 all_agree cpus pages ends l c [] h a = tt
 all_agree cpus pages ends l c (event ∷ events) h a = (
-  agree_shares cpus pages ends event.entry.line event.entry.act h.0 l c a.0,
+  agree_at cpus pages ends event.entry.line event.entry.act h.0 (λ cpu k. ap (ticket_at event.entry.line) (l cpu k))
+      (λ cpu k. ap (ticket_at event.entry.line) (c cpu k)) a.0,
   all_agree cpus pages ends l c events h.1
       a.1,
 )

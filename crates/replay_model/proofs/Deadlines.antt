@@ -10,7 +10,7 @@ use Rattle.replay_model.specs.Page.{ReplayStateView, FailsTest, deadline_of}
 use Rattle.replay_model.specs.Cause.{FailsOn}
 use Rattle.replay_model.proofs.SwitchClear.{no_some, some_no, same_some}
 use Rattle.cfs_model.specs.declared.kind.Kind.{Kind}
-use Rattle.cfs_model.specs.declared.kind.Kind.TheVariants.{IdleTooLong, Range}
+use Rattle.cfs_model.specs.declared.kind.Kind.TheVariants.{IdleTooLong}
 use Rattle.replay_model.specs.declared.step.Step.{Step}
 
 -- what holds of the kind of each test

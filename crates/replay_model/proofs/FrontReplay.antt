@@ -1,9 +1,9 @@
 -- The replay of a record in two: up to some events against which its page says nothing, where no step failed, and on
 -- from there. Where a step fails, its fault is the page's, and is either of the step's line or has a deadline before it.
-use Rattle.std.proofs.Common.{◌≡◌, ℕ, ◌+◌, ◌<◌, ◌≤◌, Bool, true, false, Option, Some, None, ◌⊎◌, inl, inr, List, [], ◌∷◌, ◌++◌, refl, sym, ap, ◌∙◌, subst, arith}
+use Rattle.std.proofs.Common.{◌≡◌, ℕ, Bool, true, false, Option, Some, None, ◌⊎◌, inl, inr, List, [], ◌∷◌, ◌++◌, refl, sym, ap, ◌∙◌, subst}
 use Rattle.cfs_model.specs.Settings.{Settings}
 use Rattle.cfs_model.specs.Claimed.{Claimed}
-use Rattle.replay_model.specs.Cut.{touches, step_at, steps_at, last_time_of}
+use Rattle.replay_model.specs.Cut.{touches, step_at, steps_at}
 use Rattle.replay_model.specs.Page.{ReplayStateView, PassesStep, FailsStep, deadline_of, IsReplayStep, IsReplay}
 use Rattle.replay_model.specs.Closing.{IdlesBefore, FailsHere, ComesAfter}
 use Rattle.replay_model.proofs.Deadlines.{with_deadline}

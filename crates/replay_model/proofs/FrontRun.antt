@@ -1,6 +1,6 @@
 -- Events against which the whole pages of all processors say nothing are a run: each replay among them passes, and the
 -- tickets of their lines are those on the whole pages, since lines rise.
-use Rattle.std.proofs.Common.{◌≡◌, ℕ, ◌<◌, ◌≤◌, ℤ, List, [], ◌∷◌, ◌++◌, refl, sym, ap, ◌∙◌, subst, arith}
+use Rattle.std.proofs.Common.{◌≡◌, ℕ, ◌<◌, ℤ, List, [], ◌∷◌, ◌++◌, refl, sym, ap, ◌∙◌, subst}
 use Rattle.std.specs.List.{AllByRecursion}
 use Rattle.cfs_model.specs.Settings.{Settings}
 use Rattle.cfs_model.specs.Start.{start_machine}
@@ -8,21 +8,13 @@ use Rattle.cfs_model.specs.Claimed.{Claimed}
 use Rattle.cfs_model.specs.Touch.{touched}
 use Rattle.cfs_model.specs.Run.{IsRun}
 use Rattle.replay_model.specs.Noted.{PageView}
-use Rattle.replay_model.specs.Page.{ReplayStateView}
-use Rattle.replay_model.specs.Composition.{LinesRise, named, ticket_at, TicketsAgree, IsRecord}
+use Rattle.replay_model.specs.Composition.{LinesRise, ticket_at, TicketsAgree, IsRecord}
 use Rattle.replay_model.specs.Closing.{IsWholePage, SayNothing, PagesTellRun}
 use Rattle.replay_model.proofs.Fronts.{AtFront, record_front, at_front}
 use Rattle.replay_model.proofs.PagesCompose.{agree_at, shares_compose}
-use Rattle.replay_model.proofs.StepExists.{rise_from, steps_above}
+use Rattle.replay_model.proofs.StepLines.{lines_back, steps_above}
 use Rattle.replay_model.proofs.TicketLines.{left_of, came_of, left_tickets, came_tickets, ticket_kept}
 use Rattle.cfs_model.specs.declared.task.Task.{Task}
-
--- the lines of later events are above
-pub lines_back : (line : ℕ) (before rest : List Claimed) → LinesRise line (before ++ rest) → LinesRise line rest
-lines_back line [] rest h = h
-lines_back line (event ∷ before) rest h =
-    let above : line < event.entry.line = h.0 in
-    rise_from event.entry.line line rest (lines_back event.entry.line before rest h.1) (omega arith)
 
 module _ (knobs : Settings) (start : ℕ) (floors : List ℤ) (tasks : List Task) (before rest : List Claimed) (cpus : ℕ)
     (pages : ℕ → PageView) (r : IsRecord start floors tasks (before ++ rest) cpus)

@@ -8,10 +8,10 @@ use Rattle.cfs_model.specs.Settings.{Settings}
 use Rattle.cfs_model.specs.Claimed.{Claimed}
 use Rattle.cfs_model.specs.Touch.{touched}
 use Rattle.replay_model.specs.QueueTests.{IsIdleTooLong}
-use Rattle.replay_model.specs.Cut.{steps_at, last_time_of, cut}
+use Rattle.replay_model.specs.Cut.{steps_at, last_time_of}
 use Rattle.replay_model.specs.Noted.{PageView}
 use Rattle.replay_model.specs.PartStep.{ClaimInRange}
-use Rattle.replay_model.specs.Page.{ReplayStateView, IsReplay, IsStartOf}
+use Rattle.replay_model.specs.Page.{ReplayStateView, IsReplay}
 use Rattle.replay_model.specs.Following.{TimesRise, IsShareReplay}
 use Rattle.replay_model.specs.Composition.{LinesRise, IsRecord, PassesShare}
 use Rattle.replay_model.specs.Closing.{IdlesBefore, ComesAfter, IsWholePage}

@@ -10,7 +10,7 @@ use Rattle.replay_model.specs.Following.{TimesRise}
 use Rattle.replay_model.specs.Page.{ReplayStateView, IsReplay}
 use Rattle.replay_model.proofs.Deadlines.{IsDue, with_deadline, idling_fails}
 use Rattle.replay_model.proofs.Follow.{since_begun}
-use Rattle.replay_model.proofs.FrontReplay.{PassesFirst, FailsFirst, fault_of, first_step, away}
+use Rattle.replay_model.proofs.FrontReplay.{FailsFirst, fault_of, first_step, away}
 use Rattle.replay_model.proofs.SwitchClear.{no_some, same_some}
 use Rattle.replay_model.proofs.WholeReplay.{PageFault}
 use Rattle.replay_model.specs.declared.page.StepFault.{StepFault}

@@ -18,6 +18,7 @@ pub mod OnePage
 pub mod OnePid
 pub mod OneProcessor
 pub mod OneRunner
+pub mod PageCauses
 pub mod PagesCompose
 pub mod PartFacts
 pub mod PartForward
@@ -34,9 +35,11 @@ pub mod Roll
 pub mod RunEndings
 pub mod RunEnds
 pub mod Shares
+pub mod ShiftTickets
 pub mod StartFrom
 pub mod StartPart
 pub mod StepExists
+pub mod StepLines
 pub mod SwitchClear
 pub mod TicketLines
 pub mod Touching

@@ -1,5 +1,5 @@
 -- Where the replays of all processors are where the machine is, and pass an event's steps, the machine has a step by it.
-use Rattle.std.proofs.Common.{◌≡◌, ◌≢◌, ℕ, ◌<◌, ◌≤◌, nat_eq, Bool, true, false, ◌||◌, None, ℤ, ◌-ℤ◌, List, [], ◌∷◌, map, filter, cond, refl, sym, ap, ◌∙◌, subst, arith}
+use Rattle.std.proofs.Common.{◌≡◌, ℕ, ◌<◌, ◌≤◌, nat_eq, Bool, true, false, ◌||◌, None, ℤ, List, [], ◌∷◌, refl, sym, ap, ◌∙◌, subst, arith}
 use Rattle.std.proofs.lemmas.Bool.{eq-eqb}
 use Rattle.std.specs.List.{AllByRecursion, list_any}
 use Rattle.cfs_model.specs.Settings.{Settings}
@@ -7,45 +7,22 @@ use Rattle.cfs_model.specs.Machine.{Machine}
 use Rattle.cfs_model.specs.Claimed.{Claimed}
 use Rattle.cfs_model.specs.Touch.{touched}
 use Rattle.cfs_model.specs.Step.{IsStep}
-use Rattle.replay_model.specs.Part.{Entity, part_of}
-use Rattle.replay_model.specs.Deeds.{left_ticket, came_ticket, place_of_sort}
+use Rattle.replay_model.specs.Part.{part_of}
 use Rattle.replay_model.specs.Tests.{PassesTests}
-use Rattle.replay_model.specs.Cut.{touches, deed_at, claim_for, step_at, steps_at}
+use Rattle.replay_model.specs.Cut.{touches, step_at, steps_at}
 use Rattle.replay_model.specs.PartStep.{PartStep, ClaimInRange}
-use Rattle.replay_model.specs.Noted.{left_by, came_by}
 use Rattle.replay_model.specs.Page.{ReplayStateView, PassesStep, IsReplay}
 use Rattle.replay_model.specs.Composition.{LinesRise, BirthIsNew, ticket_at, TicketsAgree}
-use Rattle.replay_model.proofs.Clear.{clear_of, IsClear}
 use Rattle.replay_model.proofs.PartSteps.{machine_steps}
-use Rattle.replay_model.proofs.MigrationSteps.{leave_deed, arrive_deed, machine_migrates}
+use Rattle.replay_model.proofs.MigrationSteps.{machine_migrates}
 use Rattle.replay_model.proofs.Replayed.{first_passes}
 use Rattle.replay_model.proofs.Follow.{Follows, touched_steps}
+use Rattle.replay_model.proofs.ShiftTickets.{goes_elsewhere, left_is, came_is}
 use Rattle.replay_model.proofs.Roll.{RollIs, born_nowhere}
-use Rattle.replay_model.proofs.TicketLines.{all_map, ticket_found, left_tickets, came_tickets, left_of, came_of, only_ticket}
+use Rattle.replay_model.proofs.TicketLines.{all_map}
 use Rattle.cfs_model.specs.declared.act.Act.{Act}
 use Rattle.cfs_model.specs.declared.act.Act.TheVariants.{Switch, Wake, Born, Shift}
-use Rattle.cfs_model.specs.declared.claim.Claim.{Claim}
 use Rattle.replay_model.specs.declared.page.Ticket.{Ticket}
-use Rattle.replay_model.specs.declared.step.Step.{Step}
-
--- the lines of a processor's later steps are above
-pub rise_from : (a b : ℕ) (events : List Claimed) → LinesRise a events → b ≤ a → LinesRise b events
-rise_from a b [] h k = tt
-rise_from a b (event ∷ events) h k = ((let l : a < event.entry.line = h.0 in omega arith), h.1)
-
-pub steps_above : (n cpu : ℕ) (events : List Claimed) → LinesRise n events
-    → AllByRecursion (λ (step : Step). n < step.line) (steps_at cpu events)
-steps_above n cpu [] h = tt
-steps_above n cpu (event ∷ events) h =
-    go (touches cpu event)
-    (steps_above n cpu events
-    (rise_from event.entry.line n events h.1 (let l : n < event.entry.line = h.0 in omega arith)))
-  where
-    go : (b : Bool) → AllByRecursion (λ (step : Step). n < step.line) (steps_at cpu events)
-        → AllByRecursion (λ (step : Step). n < step.line)
-        (map (step_at cpu) (cond b (event ∷ filter (touches cpu) events) (filter (touches cpu) events)))
-    go true k = (h.0, k)
-    go false k = k
 
 -- the tickets on a page are of lines up to this one
 pub record LinesUpTo (n : ℕ) (s : ReplayStateView) : Type 0 where
@@ -57,7 +34,6 @@ pub record PassesHere (knobs : Settings) (cpu : ℕ) (s : ReplayStateView) (even
     (end : ReplayStateView) : Type 0 where
   pub next : ReplayStateView
   pub passes : PassesStep knobs cpu s (step_at cpu event) next
-  pub fault : next.page.fault ≡ None
   pub replay : IsReplay knobs cpu next (steps_at cpu events) end
 
 pub passes_here : (knobs : Settings) (cpu : ℕ) (s : ReplayStateView) (event : Claimed) (events : List Claimed) (end : ReplayStateView)
@@ -67,7 +43,7 @@ pub passes_here : (knobs : Settings) (cpu : ℕ) (s : ReplayStateView) (event : 
 passes_here knobs cpu s event events end f r g t =
     let h = subst (λ xs. IsReplay knobs cpu s xs end) (touched_steps cpu event events t) r in
     let p = first_passes knobs cpu s (step_at cpu event) h.0 (steps_at cpu events) end f h.1 h.2 g in
-    record { next = h.0; passes = p.0; fault = p.1; replay = h.2 }
+    record { next = h.0; passes = p.0; replay = h.2 }
 
 -- the step of the machine's part that a replay makes
 pub part_step : (knobs : Settings) (cpu : ℕ) (m : Machine) (s : ReplayStateView) (event : Claimed) (next : ReplayStateView)
@@ -140,33 +116,12 @@ module _ (knobs : Settings) (m : Machine) (time : ℕ) (s : ℕ → ReplayStateV
   two_exists orig dest pid nice e =
       let o = here orig (touches_first orig event.entry.act (dest ∷ []) (ap touched e)) in
       let d = here dest (touches_second dest orig event.entry.act (ap touched e)) in
-      let leave = leave_deed event.entry.act orig dest pid nice e in
-      let ne : orig ≢ dest = λ same.
-      (subst (λ x. IsClear knobs orig o.passes.lifted x (claim_for x event.claim)) leave
-      (clear_of knobs orig o.passes.lifted (step_at orig event) o.passes.passes.none)).home pid (sym same, refl) in
-      let arrive = arrive_deed event.entry.act orig dest pid nice e ne in
+      let ne = goes_elsewhere knobs event orig dest pid nice e (s orig) o.next o.passes in
       let line = event.entry.line in
-      let left : ticket_at line (end orig).page.left ≡ left_ticket o.passes.lifted line pid =
-      ticket_found (λ page. page.left) left_of left_tickets knobs orig (s orig) (step_at orig event) o.next
-      (steps_at orig events) (end orig) o.passes o.replay
-      (below orig).0 (steps_above line orig events at.rise)
-      ∙ ap (λ x. ticket_at line (left_by o.passes.lifted (step_at orig event) x)) leave
-      ∙ only_ticket (λ (t : Entity). let x : Ticket = record
-      { line = line; pid = pid; nice = t.nice; place = t.place; offset = t.runtime -ℤ o.passes.lifted.floor } in x)
-      line (λ t. refl) (o.passes.lifted.tasks pid) in
-      let came : ticket_at line (end dest).page.came ≡ came_ticket d.passes.lifted line pid nice event.claim =
-      ticket_found (λ page. page.came) came_of came_tickets knobs dest (s dest) (step_at dest event) d.next
-      (steps_at dest events) (end dest) d.passes d.replay
-      (below dest).1 (steps_above line dest events at.rise)
-      ∙ ap (λ x. ticket_at line (came_by d.passes.lifted (step_at dest event) x)) arrive
-      ∙ only_ticket (λ (c : Claim). let x : Ticket = record {
-        line = line;
-        pid = pid;
-        nice = nice;
-        place = place_of_sort c.sort;
-        offset = c.v -ℤ d.passes.lifted.floor;
-      } in x) line (λ c. refl) (claim_for (deed_at dest event.entry.act) event.claim)
-      ∙ ap (λ x. came_ticket d.passes.lifted line pid nice (claim_for x event.claim)) arrive in
+      let left = left_is knobs event orig dest pid nice e events (s orig) o.next (end orig) o.passes o.replay
+      (below orig).0 at.rise in
+      let came = came_is knobs event orig dest pid nice e events (s dest) d.next (end dest) ne d.passes d.replay
+      (below dest).1 at.rise in
       let agree : ticket_at line (end orig).page.left ≡ ticket_at line (end dest).page.came = subst
       (TicketsAgree (λ cpu. (end cpu).page) line) e at.agree in
       let w = machine_migrates knobs m event orig dest pid nice o.next.part d.next.part

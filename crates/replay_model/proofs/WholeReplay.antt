@@ -11,7 +11,7 @@ use Rattle.replay_model.specs.Page.{ReplayStateView, IsReplayStep, IsReplay, IsS
 use Rattle.replay_model.specs.Closing.{IsWholePage}
 use Rattle.replay_model.proofs.Replayed.{IsReplay-append}
 use Rattle.replay_model.proofs.Shares.{late_fault, end_left, end_came}
-use Rattle.replay_model.proofs.SwitchClear.{no_some, some_no, same_some}
+use Rattle.replay_model.proofs.SwitchClear.{same_some}
 use Rattle.replay_model.specs.declared.page.StepFault.{StepFault}
 use Rattle.replay_model.specs.declared.step.Step.{Step}
 use Rattle.cfs_model.specs.declared.task.Task.{Task}

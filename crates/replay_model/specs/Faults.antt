@@ -1,7 +1,6 @@
 -- What a fault of a replay says of the machine (this project's profile).
 use Rattle.std.specs.Prelude.{◌≡◌, ℕ, Some, true, ℤ, List, [], ◌∷◌, ◌++◌}
 use Rattle.cfs_model.specs.Settings.{Settings}
-use Rattle.cfs_model.specs.Machine.{Machine}
 use Rattle.cfs_model.specs.Start.{start_machine}
 use Rattle.cfs_model.specs.Claimed.{Claimed}
 use Rattle.cfs_model.specs.Run.{IsRun, IsFirstBad}

@@ -30,7 +30,7 @@ last_time_append : (time : ℕ) (before rest : List Claimed)
 last_time_append time [] rest = refl
 last_time_append time (event ∷ before) rest = last_time_append event.entry.time before rest
 
-rise_back : (time : ℕ) (before rest : List Claimed) → TimesRise time (before ++ rest)
+pub rise_back : (time : ℕ) (before rest : List Claimed) → TimesRise time (before ++ rest)
     → TimesRise (last_time_of time before) rest
 rise_back time [] rest h = h
 rise_back time (event ∷ before) rest h = rise_back event.entry.time before rest h.1

@@ -20,6 +20,7 @@ pub mod OneProcessor
 pub mod OneRunner
 pub mod PageCauses
 pub mod PagesCompose
+pub mod PagesTell
 pub mod PartFacts
 pub mod PartForward
 pub mod PartLift

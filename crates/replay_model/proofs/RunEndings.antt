@@ -46,7 +46,7 @@ idling_ends_run knobs start floors tasks before event cpu last s rise r late run
     ((slack_follows knobs start floors tasks before cpu last event.entry.time s rise front r).1 late)
 
 -- the order and the roll at the end of some steps
-order_after : (knobs : Settings) (m : Machine) (events : List Claimed) (states : List Machine)
+pub order_after : (knobs : Settings) (m : Machine) (events : List Claimed) (states : List Machine)
     → AreSteps knobs m events states → IsInOrder m → IsInOrder (last_of m states)
 order_after knobs m [] [] steps o = o
 order_after knobs m [] (after ∷ states) steps o = absurd steps
@@ -54,7 +54,7 @@ order_after knobs m (event ∷ events) [] steps o = absurd steps
 order_after knobs m (event ∷ events) (after ∷ states) steps o =
     order_after knobs after events states steps.1 (step_in_order knobs m event after o steps.0)
 
-roll_run : (alive : ℕ → Bool) (knobs : Settings) (m : Machine) (events : List Claimed) (states : List Machine)
+pub roll_run : (alive : ℕ → Bool) (knobs : Settings) (m : Machine) (events : List Claimed) (states : List Machine)
     → AreSteps knobs m events states → RollIs alive m → RollIs (roll_of alive events) (last_of m states)
 roll_run alive knobs m [] [] steps h = h
 roll_run alive knobs m [] (after ∷ states) steps h = absurd steps

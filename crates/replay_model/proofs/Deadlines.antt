@@ -32,9 +32,49 @@ late_kinds : (knobs : Settings) (cpu : ℕ) (part : Part) (step : Step)
     → EachKind IsTimeless (late_tests knobs cpu part step)
 late_kinds knobs cpu part step = (
   (λ n o. refl),
-  ((λ n o. refl), ((λ n o. refl), ((λ n o. refl), ((λ n o. refl), ((λ n o. refl), ((λ n o. refl), ((λ n o. refl),
-  ((λ n o. refl), ((λ n o. refl), ((λ n o. refl), ((λ n o. refl), ((λ n o. refl), ((λ n o. refl), ((λ n o. refl),
-  ((λ n o. refl), tt))))))))))))))),
+  (
+    (λ n o. refl),
+    (
+      (λ n o. refl),
+      (
+        (λ n o. refl),
+        (
+          (λ n o. refl),
+          (
+            (λ n o. refl),
+            (
+              (λ n o. refl),
+              (
+                (λ n o. refl),
+                (
+                  (λ n o. refl),
+                  (
+                    (λ n o. refl),
+                    (
+                      (λ n o. refl),
+                      (
+                        (λ n o. refl),
+                        (
+                          (λ n o. refl),
+                          (
+                            (λ n o. refl),
+                            (
+                              (λ n o. refl),
+                              ((λ n o. refl), tt),
+                            ),
+                          ),
+                        ),
+                      ),
+                    ),
+                  ),
+                ),
+              ),
+            ),
+          ),
+        ),
+      ),
+    ),
+  ),
 )
 
 late_timeless : (knobs : Settings) (cpu : ℕ) (part : Part) (step : Step) (kind : Kind) (pid : ℕ)

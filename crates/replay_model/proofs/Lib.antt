@@ -3,6 +3,7 @@ pub mod Clear
 pub mod Compose
 pub mod ComposeAll
 pub mod Deadlines
+pub mod FirstFaults
 pub mod Follow
 pub mod FollowLaws
 pub mod Followed
@@ -12,6 +13,7 @@ pub mod Fronts
 pub mod IdleFaults
 pub mod Idles
 pub mod MigrationSteps
+pub mod OneCause
 pub mod OneFault
 pub mod OneLift
 pub mod OnePage

@@ -41,7 +41,7 @@ idle_one : (slack : ℕ) (since : Option ℕ) (time : ℕ) → OfOne (IsIdleTooL
 idle_one slack None time p q h k = absurd h
 idle_one slack (Some x) time p q h k = both 0 p q h.1 k.1
 
-range_one : (part : Part) (time : ℕ) → OneRunsIn part → OfOne (IsOutOfRange part time)
+pub range_one : (part : Part) (time : ℕ) → OneRunsIn part → OfOne (IsOutOfRange part time)
 range_one part time one p q h k = one p q (runs p h) (runs q k)
   where
     runs : (pid : ℕ) → IsOutOfRange part time pid → IsIn part Run pid

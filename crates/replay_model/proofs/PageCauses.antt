@@ -1,13 +1,13 @@
 -- What a processor's page says of an event behind those against which it says nothing: that the processor had idled for
 -- too long, that a test fails there, or neither, and then the event's step passes. A fault of this line is of this
 -- event's step, since lines rise.
-use Rattle.std.proofs.Common.{◌≡◌, ℕ, ◌<◌, ◌≤◌, Bool, true, false, ◌+◌, Option, Some, None, ◌⊎◌, inl, inr, List, [], ◌∷◌, refl, sym, ap, ◌∙◌, subst, arith}
+use Rattle.std.proofs.Common.{◌≡◌, ℕ, ◌<◌, Bool, true, false, ◌+◌, Option, Some, None, ◌⊎◌, inl, inr, List, [], ◌∷◌, refl, sym, ap, ◌∙◌, subst, arith}
 use Rattle.cfs_model.specs.Settings.{Settings}
 use Rattle.cfs_model.specs.Claimed.{Claimed}
 use Rattle.replay_model.specs.Noted.{PageView}
 use Rattle.replay_model.specs.QueueTests.{IsIdleTooLong}
-use Rattle.replay_model.specs.Cut.{touches, step_at, steps_at, last_time_of}
-use Rattle.replay_model.specs.Page.{ReplayStateView, FailsStep, IsReplay, deadline_of}
+use Rattle.replay_model.specs.Cut.{touches, step_at, steps_at}
+use Rattle.replay_model.specs.Page.{ReplayStateView, FailsStep, IsReplay}
 use Rattle.replay_model.specs.Following.{TimesRise}
 use Rattle.replay_model.specs.Composition.{LinesRise}
 use Rattle.replay_model.specs.Cause.{Cause, FailsOn}

@@ -1,7 +1,7 @@
 -- The first thing that the pages say against an event, behind those against which they say nothing, is what is wrong
 -- with it: the machine's part at each processor is its replay's, so the same test fails on it; and each of the five
 -- things ends the run.
-use Rattle.std.proofs.Common.{◌≡◌, ◌≢◌, ℕ, ◌<◌, ◌≤◌, Bool, true, Some, None, ℤ, ◌↔◌, inl, inr, List, [], ◌∷◌, ◌++◌, refl, sym, ap, ◌∙◌, subst, arith}
+use Rattle.std.proofs.Common.{◌≡◌, ◌≢◌, ℕ, ◌<◌, true, ℤ, ◌↔◌, inl, inr, List, [], ◌∷◌, ◌++◌, refl, sym, ap, ◌∙◌, subst, arith}
 use Rattle.std.proofs.lemmas.Bool.{cases_lt}
 use Rattle.std.specs.List.{AllByRecursion}
 use Rattle.cfs_model.specs.Settings.{Settings}
@@ -39,7 +39,7 @@ use Rattle.replay_model.proofs.StepLines.{lines_back, steps_below}
 use Rattle.replay_model.proofs.TicketLines.{left_of, came_of, left_tickets, came_tickets, more_tickets}
 use Rattle.cfs_model.specs.declared.act.Act.{Act}
 use Rattle.cfs_model.specs.declared.act.Act.TheVariants.{Switch, Wake, Born, Shift}
-use Rattle.cfs_model.specs.declared.kind.Kind.TheVariants.{TicketUnequal, BornTwice}
+use Rattle.cfs_model.specs.declared.kind.Kind.TheVariants.{BornTwice}
 use Rattle.replay_model.specs.declared.page.Ticket.{Ticket}
 use Rattle.cfs_model.specs.declared.task.Task.{Task}
 
@@ -154,9 +154,11 @@ module _ (knobs : Settings) (start : ℕ) (floors : List ℤ) (tasks : List Task
       × PassesAt knobs m cpu event p.passes.lifted
   passes_at cpu k t idles here =
       let p = passes_there knobs start before rest event cpu (pages cpu) (at cpu).mid (at cpu).passes.no_fault
-      ((at cpu).back k) t idles here in
-      (p, subst (λ part. PassesTests knobs cpu part (step_at cpu event) p.passes.lifted) (sym (part_is cpu))
-      p.passes.passes)
+      ((at cpu).back k) t idles here in (
+        p,
+        subst (λ part. PassesTests knobs cpu part (step_at cpu event) p.passes.lifted) (sym (part_is cpu))
+            p.passes.passes,
+      )
 
   -- who is alive by the roll stands somewhere
   stands_somewhere : (pid : ℕ) → roll_of (named tasks) before pid ≡ true → StandsSomewhere m pid
@@ -182,3 +184,82 @@ module _ (knobs : Settings) (start : ℕ) (floors : List ℤ) (tasks : List Task
         record { lifted = p.0.passes.lifted; passes = p.1; place = s.0; other = s.1; stands = s.2; is = is },
         birth_ends_run knobs start floors tasks before event cpu pid nice r.is_start e alive,
       )
+
+  -- the tickets on the pages are those that the parts make
+  unequal : (orig dest pid : ℕ) (nice : ℤ) → event.entry.act ≡ Shift orig dest pid nice → (k : orig < cpus)
+      → (l : dest < cpus) → (o : PassesFirst knobs orig (at orig).mid event rest ((at orig).back k).end)
+      → (d : PassesFirst knobs dest (at dest).mid event rest ((at dest).back l).end)
+      → ticket_at event.entry.line (pages orig).left ≢ ticket_at event.entry.line (pages dest).came
+      → left_ticket o.passes.lifted event.entry.line pid
+      ≢ came_ticket d.passes.lifted event.entry.line pid nice event.claim
+  unequal orig dest pid nice e k l o d differ same =
+      let line = event.entry.line in
+      let left = left_is knobs event orig dest pid nice e rest (at orig).mid o.next ((at orig).back k).end o.passes
+      o.replay (share_below knobs start floors tasks before rest event orig (at orig).mid r.lines_rise
+      (at orig).passes.share).0 later_lines in
+      let came = came_is knobs event orig dest pid nice e rest (at dest).mid d.next ((at dest).back l).end
+      (goes_elsewhere knobs event orig dest pid nice e (at orig).mid o.next o.passes) d.passes d.replay
+      (share_below knobs start floors tasks before rest event dest (at dest).mid r.lines_rise
+      (at dest).passes.share).1 later_lines in
+      differ (ap (ticket_at line) ((at orig).back k).left ∙ left ∙ same ∙ sym came
+      ∙ ap (ticket_at line) (sym ((at dest).back l).came))
+
+  shift_cause : (orig dest pid : ℕ) (nice : ℤ) (cause : Cause) → event.entry.act ≡ Shift orig dest pid nice
+      → orig < cpus → dest < cpus → ((cpu : ℕ) → cpu < cpus → ¬ IdlesBefore event (pages cpu).fault)
+      → IsActCauseOf pages (roll_of (named tasks) before) event (Shift orig dest pid nice) cause
+      → IsActCause knobs m event (Shift orig dest pid nice) cause × Ends
+  shift_cause orig dest pid nice cause e k l idles (inl c) =
+      let f = fails_at orig cause k (touches_first orig event.entry.act (dest ∷ []) (ap touched e)) c in
+      (inl f.0, f.1)
+  shift_cause orig dest pid nice cause e k l idles (inr (inl c)) =
+      let p = passes_at orig k (touches_first orig event.entry.act (dest ∷ []) (ap touched e)) (idles orig k) c.0 in
+      let f = fails_at dest cause l (touches_second dest orig event.entry.act (ap touched e)) c.1 in
+      (inr (inl (record { left = p.0.passes.lifted; leaves = p.1; fails = f.0 })), f.1)
+  shift_cause orig dest pid nice cause e k l idles (inr (inr c)) =
+      let o = passes_at orig k (touches_first orig event.entry.act (dest ∷ []) (ap touched e)) (idles orig k) c.0 in
+      let d = passes_at dest l (touches_second dest orig event.entry.act (ap touched e)) (idles dest l) c.1 in
+      let differ = unequal orig dest pid nice e k l o.0 d.0 c.2 in (
+        inr (inr (record {
+          left = o.0.passes.lifted;
+          came = d.0.passes.lifted;
+          leaves = o.1;
+          arrives = d.1;
+          differ = differ;
+          is = c.3;
+        })),
+        tickets_end_run knobs start floors tasks before event orig dest pid nice (at orig).mid (at dest).mid o.0.next
+            d.0.next r.is_start times e (at orig).passes.share (at dest).passes.share o.0.passes d.0.passes differ,
+      )
+
+  act_cause : (cause : Cause) (act : Act) → event.entry.act ≡ act
+      → AllByRecursion (λ (c : ℕ). c < cpus) (touched act)
+      → ((cpu : ℕ) → cpu < cpus → ¬ IdlesBefore event (pages cpu).fault)
+      → IsActCauseOf pages (roll_of (named tasks) before) event act cause → IsActCause knobs m event act cause × Ends
+  act_cause cause (Switch cpu prev pn way next nn) e within idles c = one_cause cpu cause within (ap touched e) c
+  act_cause cause (Wake cpu pid nice) e within idles c = one_cause cpu cause within (ap touched e) c
+  act_cause cause (Born cpu pid nice) e within idles (inl c) =
+      let f = one_cause cpu cause within (ap touched e) c in (inl f.0, f.1)
+  act_cause cause (Born cpu pid nice) e within idles (inr c) =
+      let f = born_cause cpu pid nice cause e within.0 (idles cpu within.0) c.0 c.1 c.2 in (inr f.0, f.1)
+  act_cause cause (Shift orig dest pid nice) e within idles c =
+      shift_cause orig dest pid nice cause e within.0 within.1.0 idles c
+
+  pub cause_told : (cause : Cause) → IsCauseOf pages cpus (roll_of (named tasks) before) event cause
+      → IsCause knobs start (start_machine start floors tasks) before event cause × Ends
+  cause_told cause (inl c) = let f = idling cause c in (record { run = run; why = inl f.0 }, f.1)
+  cause_told cause (inr c) =
+      let within = all_at (λ x. AllByRecursion (λ cpu. cpu < cpus) (touched x.entry.act)) before rest event
+      r.events_within in
+      let f = act_cause cause event.entry.act refl within c.0 c.1 in
+      (record { run = run; why = inr (none_idle c.0, f.0) }, f.1)
+
+pub pages_tell_fault : PagesTellFault
+pages_tell_fault knobs start floors tasks events before rest event cpus pages cause r whole e say c =
+    let all = subst (λ xs. IsRecord start floors tasks xs cpus) e r in
+    let at : (cpu : ℕ) → AtFront knobs start floors tasks before (event ∷ rest) cpus cpu (pages cpu) = λ cpu.
+    at_front knobs start floors tasks before (event ∷ rest) cpus cpu (pages cpu) all
+    (λ k. subst (λ xs. IsWholePage knobs start floors tasks xs cpu (pages cpu)) e (whole cpu k))
+    (say.no_fault cpu) in
+    let run = front_run knobs start floors tasks before (event ∷ rest) cpus pages all at say in
+    let f = cause_told knobs start floors tasks before rest event cpus pages all at run cause c in
+    record { before = before; event = event; rest = rest; whole = e; line_is = refl; why = f.0; ends = f.1 }

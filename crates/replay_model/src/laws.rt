@@ -1,5 +1,6 @@
 //! The laws of a processor's part, and of the replay of one processor. Each is the contract of a function that does
 //! nothing.
+ghost use Rattle.replay_model.specs.Closing.{FaultIsFirstBad, OneFirstFault, PagesTellFault, PagesTellRun, RunHasNoFault};
 ghost use Rattle.replay_model.specs.Composition.{PagesCompose, SharesCompose};
 ghost use Rattle.replay_model.specs.Endings.{BirthEndsRun, IdlingEndsRun, TicketsEndRun};
 ghost use Rattle.replay_model.specs.Faults.{FaultEndsRun, OneProcessorFaults};
@@ -60,4 +61,18 @@ pub fn composition()
 pub fn one_processor()
     ensures runs { OneProcessorRuns }
     ensures faults { OneProcessorFaults }
+{}
+
+/// Of a record's whole pages: where they say nothing against any event, the events are a run; and the first thing that
+/// they say against one is what is wrong with it, and it is the first event up to which the events are no run.
+pub fn closing()
+    ensures run { PagesTellRun }
+    ensures fault { PagesTellFault }
+{}
+
+/// A first fault is at the first bad line, a run has none, and there is at most one, with one cause.
+pub fn first_faults()
+    ensures first_bad { FaultIsFirstBad }
+    ensures run { RunHasNoFault }
+    ensures one { OneFirstFault }
 {}

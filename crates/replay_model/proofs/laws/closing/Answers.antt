@@ -1,0 +1,9 @@
+use Rattle.replay_model.proofs.FrontRun.{pages_tell_run}
+use Rattle.replay_model.proofs.PagesTell.{pages_tell_fault}
+use Rattle.replay_model.proofs.laws.closing.Goals as goal
+
+pub returns-clause-run : goal.returns-clause-run
+returns-clause-run c = pages_tell_run
+
+pub returns-clause-fault : goal.returns-clause-fault
+returns-clause-fault c = pages_tell_fault

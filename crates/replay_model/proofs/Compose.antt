@@ -1,5 +1,5 @@
 -- Where the replay of the only processor passes every step, the events are a run.
-use Rattle.std.proofs.Common.{◌≡◌, ℕ, zero, suc, ◌+◌, ◌<◌, ◌≤◌, Option, Some, None, IsSome, is_some, IsSomeAnd, option_map, unwrap_or, inl, inr, List, [], ◌∷◌, map, length, slice_get, slice_index, refl, sym, ap, ◌∙◌, subst, arith}
+use Rattle.std.proofs.Common.{◌≡◌, ℕ, zero, suc, ◌+◌, ◌<◌, ◌≤◌, Option, Some, None, IsSomeAnd, unwrap_or, inl, inr, List, [], ◌∷◌, map, length, slice_get, slice_index, refl, sym, ap, ◌∙◌, subst, arith}
 use Rattle.std.proofs.lemmas.Bool.{cases_lt}
 use Rattle.std.specs.List.{AllByRecursion}
 use Rattle.cfs_model.specs.Settings.{Settings}
@@ -9,18 +9,18 @@ use Rattle.cfs_model.specs.Step.{IsStep}
 use Rattle.cfs_model.specs.Idle.{IsIdle, IdlesFrom, KeepsSlack}
 use Rattle.cfs_model.specs.Run.{AreSteps, times_of}
 use Rattle.cfs_model.specs.Order.{IsInOrder}
-use Rattle.replay_model.specs.Part.{Part, part_of, entity_of, IsIdlePart, charged_in}
-use Rattle.replay_model.specs.QueueTests.{IsIdleTooLong, IsAlready}
+use Rattle.replay_model.specs.Part.{Part, part_of, entity_of, IsIdlePart}
+use Rattle.replay_model.specs.QueueTests.{IsIdleTooLong}
 use Rattle.replay_model.specs.Tests.{PassesTests}
-use Rattle.replay_model.specs.Cut.{deed_at, step_at}
+use Rattle.replay_model.specs.Cut.{step_at}
 use Rattle.replay_model.specs.PartStep.{ClaimInRange, TouchesOnly, BornNowhere, OthersStay}
 use Rattle.replay_model.specs.Following.{TimesRise}
 use Rattle.replay_model.specs.Page.{ReplayStateView, IsSince, PassesStep, IsReplay}
 use Rattle.cfs_model.proofs.Moves.{same_or_not}
 use Rattle.cfs_model.proofs.StepOrder.{apart_of}
 use Rattle.replay_model.proofs.PartFacts.{stands_as, values_of}
+use Rattle.replay_model.proofs.BornHere.{not_born_here}
 use Rattle.replay_model.proofs.PartSteps.{machine_steps}
-use Rattle.replay_model.proofs.Clear.{clear_of}
 use Rattle.replay_model.proofs.Replayed.{first_passes}
 use Rattle.replay_model.proofs.Idles.{idle_part}
 use Rattle.cfs_model.specs.declared.act.Act.{Act}
@@ -71,19 +71,12 @@ born_here : (knobs : Settings) (m : Machine) → IsInOrder m → OnlyHere m → 
     → BornNowhere m event.entry.act
 born_here knobs m o only event lifted t p = go event.entry.act refl
   where
-    there : (b : ℕ) (pid : ℕ) (place : Place) (cpu : ℕ) → Stands m place cpu pid → IsSome (lifted.tasks pid)
-    there b pid place cpu h =
-        let s = values_of m (apart_of m o) place 0 pid (subst (λ x. Stands m place x pid) (only place cpu pid h) h) in
-        ap (λ (x : Part). is_some (x.tasks pid)) p.is_lifted.result
-        ∙ ap (λ x. is_some (option_map (charged_in (part_of m 0) event.entry.time) x)) s.2
-
     go : (act : Act) → event.entry.act ≡ act → BornNowhere m act
     go (Switch cpu prev pn way next nn) e = tt
     go (Wake cpu pid nice) e = tt
     go (Shift orig dest pid nice) e = tt
-    go (Born cpu pid nice) e =
-        λ place other h. (clear_of knobs 0 lifted (step_at 0 event) p.none).already pid
-        (subst (λ x. IsAlready lifted (deed_at 0 x) pid) (sym e) (there 0 pid place other h, refl))
+    go (Born cpu pid nice) e = λ place other h. not_born_here knobs m o event 0 cpu pid nice lifted e p place
+        (subst (λ x. Stands m place x pid) (only place other pid h) h)
 
 -- the machine after a step here has everybody here
 still_here : (m after : Machine) → IsInOrder after → OnlyHere m → OthersStay m after 0 → OnlyHere after

@@ -1,7 +1,7 @@
 -- A fault has a deadline just where its processor had idled for too long: no test but that one is of a kind with a
 -- deadline, and it is the first.
-use Rattle.std.proofs.Common.{◌≡◌, ℕ, ◌+◌, ◌<◌, Option, Some, None, inl, inr, List, [], ◌∷◌, refl, sym, ap, ◌∙◌, subst}
-use Rattle.std.specs.Bool.{⊤}
+use Rattle.std.proofs.lemmas.Bool.{and_parts}
+use Rattle.std.proofs.Common.{◌≡◌, ℕ, ◌+◌, ◌<◌, Bool, true, false, ◌&&◌, true≢false, Option, Some, None, inl, inr, List, [], ◌∷◌, refl, sym, ap, ◌∙◌, subst}
 use Rattle.cfs_model.specs.Settings.{Settings}
 use Rattle.replay_model.specs.Part.{Part}
 use Rattle.replay_model.specs.QueueTests.{IsIdleTooLong}
@@ -13,74 +13,33 @@ use Rattle.cfs_model.specs.declared.kind.Kind.{Kind}
 use Rattle.cfs_model.specs.declared.kind.Kind.TheVariants.{IdleTooLong}
 use Rattle.replay_model.specs.declared.step.Step.{Step}
 
--- what holds of the kind of each test
-abbrev EachKind : (Kind → Type 0) → List Test → Type 0
-EachKind P [] = ⊤
-EachKind P (test ∷ tests) = P test.kind × EachKind P tests
-
-first_kind : (P : Kind → Type 0) (tests : List Test) (kind : Kind) (pid : ℕ) → EachKind P tests
-    → FirstHolds tests kind pid → P kind
-first_kind P [] kind pid each h = absurd h
-first_kind P (test ∷ tests) kind pid each (inl h) = subst P (sym h.1) each.0
-first_kind P (test ∷ tests) kind pid each (inr h) = first_kind P tests kind pid each.1 h.1
-
 -- a kind without a deadline
-abbrev IsTimeless : Kind → Type 0
-IsTimeless kind = (slack : ℕ) (since : Option ℕ) → deadline_of kind slack since ≡ None
+abbrev is_timeless : Kind → Bool
+is_timeless IdleTooLong = false
+is_timeless _ = true
 
-late_kinds : (knobs : Settings) (cpu : ℕ) (part : Part) (step : Step)
-    → EachKind IsTimeless (late_tests knobs cpu part step)
-late_kinds knobs cpu part step = (
-  (λ n o. refl),
-  (
-    (λ n o. refl),
-    (
-      (λ n o. refl),
-      (
-        (λ n o. refl),
-        (
-          (λ n o. refl),
-          (
-            (λ n o. refl),
-            (
-              (λ n o. refl),
-              (
-                (λ n o. refl),
-                (
-                  (λ n o. refl),
-                  (
-                    (λ n o. refl),
-                    (
-                      (λ n o. refl),
-                      (
-                        (λ n o. refl),
-                        (
-                          (λ n o. refl),
-                          (
-                            (λ n o. refl),
-                            (
-                              (λ n o. refl),
-                              ((λ n o. refl), tt),
-                            ),
-                          ),
-                        ),
-                      ),
-                    ),
-                  ),
-                ),
-              ),
-            ),
-          ),
-        ),
-      ),
-    ),
-  ),
-)
+timeless : (kind : Kind) → is_timeless kind ≡ true → (slack : ℕ) (since : Option ℕ)
+    → deadline_of kind slack since ≡ None
+timeless IdleTooLong h slack since = absurd (true≢false (sym h))
+timeless _ h slack since = refl
 
-late_timeless : (knobs : Settings) (cpu : ℕ) (part : Part) (step : Step) (kind : Kind) (pid : ℕ)
-    → FirstHolds (late_tests knobs cpu part step) kind pid → IsTimeless kind
-late_timeless knobs cpu part step kind pid h = first_kind IsTimeless (late_tests knobs cpu part step) kind pid
-    (late_kinds knobs cpu part step) h
+-- all tests of a list are of such kinds
+abbrev all_timeless : List Test → Bool
+all_timeless [] = true
+all_timeless (test ∷ tests) = is_timeless test.kind && all_timeless tests
+
+first_timeless : (tests : List Test) (kind : Kind) (pid : ℕ) → all_timeless tests ≡ true → FirstHolds tests kind pid
+    → is_timeless kind ≡ true
+first_timeless [] kind pid all h = absurd h
+first_timeless (test ∷ tests) kind pid all (inl h) =
+    ap is_timeless h.1 ∙ (and_parts (is_timeless test.kind) (all_timeless tests) all).0
+first_timeless (test ∷ tests) kind pid all (inr h) =
+    first_timeless tests kind pid (and_parts (is_timeless test.kind) (all_timeless tests) all).1 h.1
+
+late_timeless : (knobs : Settings) (cpu : ℕ) (part : Part) (step : Step) (kind : Kind) (pid slack : ℕ)
+    (since : Option ℕ) → FirstHolds (late_tests knobs cpu part step) kind pid → deadline_of kind slack since ≡ None
+late_timeless knobs cpu part step kind pid slack since h =
+    timeless kind (first_timeless (late_tests knobs cpu part step) kind pid refl h) slack since
 
 -- a processor has idled since a time, and this long after it is before a step's time
 pub record IsDue (slack : ℕ) (since : Option ℕ) (deadline time : ℕ) : Type 0 where
@@ -106,7 +65,7 @@ with_deadline knobs cpu s step kind pid deadline (inl (inr (h, inl k))) e =
     no_some deadline (ap (λ x. deadline_of x knobs.slack s.since) (sym k.1) ∙ e)
 with_deadline knobs cpu s step kind pid deadline (inl (inr (h, inr k))) e = absurd k.1
 with_deadline knobs cpu s step kind pid deadline (inr h) e =
-    no_some deadline (sym (late_timeless knobs cpu h.0 step kind pid h.3 knobs.slack s.since) ∙ e)
+    no_some deadline (sym (late_timeless knobs cpu h.0 step kind pid knobs.slack s.since h.3) ∙ e)
 
 idle_has_deadline : (slack : ℕ) (since : Option ℕ) (time pid : ℕ) → IsIdleTooLong slack since time pid
     → deadline_of IdleTooLong slack since ≡ None → ⊥

@@ -65,7 +65,7 @@ cut_twice (x ∷ before) (y ∷ other) rest more event that e =
     ]
 
 pub one_first_fault : OneFirstFault
-one_first_fault knobs start floors tasks events line other cause why s rise f g =
+one_first_fault knobs start floors tasks events line other cause why s f g =
     let first = start_machine start floors tasks in
     elim (cut_twice f.before g.before f.rest g.rest f.event g.event (sym f.whole ∙ g.whole)) [
       | inl h ↦ (

@@ -1,5 +1,5 @@
 -- The replay of a record in two: up to some events against which its page says nothing, where no step failed, and on
--- from there. Where a step fails, its fault is the page's, and is either of the step's line or has a deadline before it.
+-- from there. Where a step fails, its fault is the page's: it is of the step's line, or has a deadline before its time.
 use Rattle.std.proofs.Common.{◌≡◌, ℕ, Bool, true, false, Option, Some, None, ◌⊎◌, inl, inr, List, [], ◌∷◌, ◌++◌, refl, sym, ap, ◌∙◌, subst}
 use Rattle.cfs_model.specs.Settings.{Settings}
 use Rattle.cfs_model.specs.Claimed.{Claimed}

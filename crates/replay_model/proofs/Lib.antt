@@ -1,3 +1,4 @@
+pub mod BornHere
 pub mod Bounded
 pub mod Clear
 pub mod Compose

@@ -64,7 +64,8 @@ pub record FailsThere (knobs : Settings) (cpu : ℕ) (mid : ReplayStateView) (ev
   pub here : cause.cpu ≡ cpu
 
 module _ (knobs : Settings) (start : ℕ) (before rest : List Claimed) (event : Claimed) (cpu : ℕ) (page : PageView)
-    (mid : ReplayStateView) (none : mid.page.fault ≡ None) (b : Back knobs start before (event ∷ rest) cpu page mid) where
+    (mid : ReplayStateView) (none : mid.page.fault ≡ None)
+    (b : Back knobs start before (event ∷ rest) cpu page mid) where
   pub idling_of_page : TimesRise event.entry.time rest → IdlesBefore event page.fault
       → IsIdleTooLong knobs.slack mid.since event.entry.time 0
   idling_of_page rise h = go page.fault refl h

@@ -5,7 +5,7 @@ use Rattle.std.proofs.Common.{◌≡◌, ◌≢◌, ℕ, ◌<◌, true, ℤ, ◌
 use Rattle.std.proofs.lemmas.Bool.{cases_lt}
 use Rattle.std.specs.List.{AllByRecursion}
 use Rattle.cfs_model.specs.Settings.{Settings}
-use Rattle.cfs_model.specs.Machine.{Machine}
+use Rattle.cfs_model.specs.Machine.{Machine, Stands}
 use Rattle.cfs_model.specs.Start.{start_machine}
 use Rattle.cfs_model.specs.Claimed.{Claimed}
 use Rattle.cfs_model.specs.Touch.{touched}
@@ -24,6 +24,7 @@ use Rattle.replay_model.specs.Endings.{roll_of}
 use Rattle.replay_model.specs.Cause.{Cause, FailsOn, FailsAt, PassesAt, IsBornTwice, IsActCause, IsIdlingCause, IsCause}
 use Rattle.replay_model.specs.Closing.{IdlesBefore, FailsHere, IsPageCause, IsActCauseOf, IsIdlingCauseOf, IsCauseOf, IsWholePage, PagesTellFault}
 use Rattle.cfs_model.proofs.StartOrder.{start_in_order}
+use Rattle.replay_model.proofs.BornHere.{not_born_here}
 use Rattle.replay_model.proofs.FollowLaws.{replay_follows, slack_follows}
 use Rattle.replay_model.proofs.FrontReplay.{PassesFirst}
 use Rattle.replay_model.proofs.Fronts.{AtFront, rise_back, record_front, at_front}
@@ -160,12 +161,13 @@ module _ (knobs : Settings) (start : ℕ) (floors : List ℤ) (tasks : List Task
             p.passes.passes,
       )
 
+  order : IsInOrder m
+  order = order_after knobs (start_machine start floors tasks) before run.states run.steps
+      (start_in_order start floors tasks r.is_start)
+
   -- who is alive by the roll stands somewhere
   stands_somewhere : (pid : ℕ) → roll_of (named tasks) before pid ≡ true → StandsSomewhere m pid
-  stands_somewhere pid alive =
-      let o : IsInOrder m = order_after knobs (start_machine start floors tasks) before run.states run.steps
-      (start_in_order start floors tasks r.is_start) in
-      (o.nices pid).0
+  stands_somewhere pid alive = (order.nices pid).0
       (roll_run (named tasks) knobs (start_machine start floors tasks) before run.states run.steps
       (start_roll start floors tasks) pid ∙ alive)
 
@@ -181,7 +183,16 @@ module _ (knobs : Settings) (start : ℕ) (floors : List ℤ) (tasks : List Task
   born_cause cpu pid nice cause e k idles here alive is =
       let p = passes_at cpu k (touches_first cpu event.entry.act [] (ap touched e)) idles here in
       let s = stands_somewhere pid alive in (
-        record { lifted = p.0.passes.lifted; passes = p.1; place = s.0; other = s.1; stands = s.2; is = is },
+        record {
+          lifted = p.0.passes.lifted;
+          passes = p.1;
+          place = s.0;
+          other = s.1;
+          elsewhere = λ same. not_born_here knobs m order event cpu cpu pid nice p.0.passes.lifted e p.1 s.0
+              (subst (λ x. Stands m s.0 x pid) same s.2);
+          stands = s.2;
+          is = is;
+        },
         birth_ends_run knobs start floors tasks before event cpu pid nice r.is_start e alive,
       )
 

@@ -147,7 +147,8 @@ past_share knobs start floors tasks events cpus cpu r k =
           );
           page = refl;
         };
-        replay = subst (λ xs. IsReplay knobs cpu first xs first) (sym (no_steps cpus cpu events r.events_within k)) refl;
+        replay = subst (λ xs. IsReplay knobs cpu first xs first)
+            (sym (no_steps cpus cpu events r.events_within k)) refl;
       },
       refl,
       refl,

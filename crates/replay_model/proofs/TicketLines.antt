@@ -79,8 +79,8 @@ module _ (tickets : PageView → List Ticket) (by : Part → Step → List Ticke
           )
 
   -- the ticket of an earlier line stays
-  pub ticket_kept : (n : ℕ) (knobs : Settings) (cpu : ℕ) (s : ReplayStateView) (steps : List Step) (end : ReplayStateView)
-      → IsReplay knobs cpu s steps end → AllByRecursion (λ (step : Step). n < step.line) steps
+  pub ticket_kept : (n : ℕ) (knobs : Settings) (cpu : ℕ) (s : ReplayStateView) (steps : List Step)
+      (end : ReplayStateView) → IsReplay knobs cpu s steps end → AllByRecursion (λ (step : Step). n < step.line) steps
       → ticket_at n (tickets end.page) ≡ ticket_at n (tickets s.page)
   ticket_kept n knobs cpu s steps end r h =
       let more = more_tickets (λ line. n < line) knobs cpu s steps end r h in
@@ -89,8 +89,9 @@ module _ (tickets : PageView → List Ticket) (by : Part → Step → List Ticke
       (all_map (λ t. n < t.line) (λ t. t.line ≢ n) (λ t a k. absurd (omega arith)) more.0 more.2)
 
   -- the ticket of a step's line on the page at the end
-  pub ticket_found : (knobs : Settings) (cpu : ℕ) (s : ReplayStateView) (step : Step) (next : ReplayStateView) (steps : List Step)
-      (end : ReplayStateView) (p : PassesStep knobs cpu s step next) → IsReplay knobs cpu next steps end
+  pub ticket_found : (knobs : Settings) (cpu : ℕ) (s : ReplayStateView) (step : Step) (next : ReplayStateView)
+      (steps : List Step) (end : ReplayStateView) (p : PassesStep knobs cpu s step next)
+      → IsReplay knobs cpu next steps end
       → AllByRecursion (λ (t : Ticket). t.line < step.line) (tickets s.page)
       → AllByRecursion (λ (x : Step). step.line < x.line) steps
       → ticket_at step.line (tickets end.page) ≡ ticket_at step.line (by p.lifted step)

@@ -63,11 +63,12 @@ pub record IsBornTwice (knobs : Settings) (m : Machine) (cpu pid : ℕ) (event :
   pub passes : PassesAt knobs m cpu event lifted
   pub place : Place
   pub other : ℕ
+  pub elsewhere : other ≢ cpu
   pub stands : Stands m place other pid
   pub is : cause ≡ record { cpu = cpu; pid = pid; kind = BornTwice }
 
 -- what is wrong with what the event does: a test that fails where it does it, of a migration first at its origin;
--- then tickets that differ, or a birth of a pid that stands somewhere
+-- then tickets that differ, or a birth of a pid that stands elsewhere
 abbrev pub IsActCause : Settings → Machine → Claimed → Act → Cause → Type 0
 IsActCause knobs m event (Switch cpu prev prev_nice way next next_nice) cause = FailsAt knobs m cpu event cause
 IsActCause knobs m event (Wake cpu pid nice) cause = FailsAt knobs m cpu event cause

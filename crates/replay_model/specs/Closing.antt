@@ -10,7 +10,6 @@ use Rattle.cfs_model.specs.Order.{IsStart}
 use Rattle.replay_model.specs.Cut.{touches, steps_at, cut}
 use Rattle.replay_model.specs.Noted.{PageView}
 use Rattle.replay_model.specs.Page.{IsPageOf}
-use Rattle.replay_model.specs.Following.{TimesRise}
 use Rattle.replay_model.specs.Composition.{IsRecord, TicketsAgree, BirthsAreNew, named, ticket_at}
 use Rattle.replay_model.specs.Endings.{roll_of}
 use Rattle.replay_model.specs.Cause.{Cause, IsFirstFault}
@@ -127,7 +126,7 @@ RunHasNoFault = (knobs : Settings) (start : ℕ) (floors : List ℤ) (tasks : Li
 abbrev pub OneFirstFault : Type 0
 OneFirstFault = (knobs : Settings) (start : ℕ) (floors : List ℤ) (tasks : List Task) (events : List Claimed)
     (line other : ℕ) (cause why : Cause)
-    → IsStart floors tasks → TimesRise start events
+    → IsStart floors tasks
     → IsFirstFault knobs start (start_machine start floors tasks) events line cause
     → IsFirstFault knobs start (start_machine start floors tasks) events other why
     → (line ≡ other) × (cause ≡ why)

@@ -58,6 +58,7 @@ first_step knobs cpu s event events end n t r =
       last = fails_last knobs cpu s (step_at cpu event) next (steps_at cpu events) end p k;
     })
 
+-- an event that touches another processor has no step here
 pub away : (knobs : Settings) (cpu : ℕ) (s : ReplayStateView) (event : Claimed) (events : List Claimed)
     (end : ReplayStateView) → touches cpu event ≡ false
     → IsReplay knobs cpu s (steps_at cpu (event ∷ events)) end → IsReplay knobs cpu s (steps_at cpu events) end
@@ -70,9 +71,6 @@ pub no_fault_here : (knobs : Settings) (cpu : ℕ) (s : ReplayStateView) (event 
     → (¬ IdlesBefore event o) → (¬ FailsHere event o) → ¬ FailsFirst knobs cpu s event end
 no_fault_here knobs cpu s event end o is idles here f = go (deadline_of f.fails.kind knobs.slack s.since) refl
   where
-    fault : StepFault
-    fault = fault_of knobs cpu s (step_at cpu event) f.failed f.fails
-
     same : o ≡ Some (fault_of knobs cpu s (step_at cpu event) f.failed f.fails)
     same = is (fault_of knobs cpu s (step_at cpu event) f.failed f.fails) f.last
 

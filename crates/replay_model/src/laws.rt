@@ -1,5 +1,5 @@
-//! The laws of a processor's part, and of the replay of one processor. Each is the contract of a function that does
-//! nothing.
+//! The laws of a processor's part, of the replay of one processor, and of what the pages of all processors tell. Each is
+//! the contract of a function that does nothing.
 ghost use Rattle.replay_model.specs.Closing.{FaultIsFirstBad, OneFirstFault, PagesTellFault, PagesTellRun, RunHasNoFault};
 ghost use Rattle.replay_model.specs.Composition.{PagesCompose, SharesCompose};
 ghost use Rattle.replay_model.specs.Endings.{BirthEndsRun, IdlingEndsRun, TicketsEndRun};

@@ -1,5 +1,6 @@
--- In a reader's order: the numbers and settings, then what a run is, then the order that it keeps; then the replay of
--- one processor, and the laws that tie it to a run; then the kinds of fault.
+-- In a reader's order: the limits, the numbers and settings; then what a run is, the order that it keeps and its laws;
+-- then the kinds of fault, and the examples.
+pub mod Limits
 pub mod Nice
 pub mod Charge
 pub mod Settings

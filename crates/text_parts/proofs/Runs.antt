@@ -6,6 +6,7 @@ use Rattle.std.specs.List.{prefix_len, list_all, take_while}
 use Rattle.std.proofs.lemmas.Bool.{cases_Bool, and_parts, and_from, eqb-true, eqb-false, eq-eqb, ne_eqb}
 use Rattle.std.proofs.lemmas.List.{take_at, drop_at, take-append-drop, length-take-le}
 use Rattle.std.proofs.lemmas.List.Sums.{prefix_len-le-length}
+use Rattle.std.proofs.lemmas.Option.{same_Some}
 use Rattle.text_parts.specs.Numerals.{is_digit, value_of, many, IsNumeral}
 use Rattle.text_parts.specs.Pieces.{IsRunOf}
 use Rattle.text_parts.specs.Reading.{◌>>=◌, after_text, after_run, numeral_at, front_value}
@@ -37,9 +38,6 @@ pub bind_elim : {A B C : Type 0} (r : Option A) (f : A → Option B) (y : B) →
     ((x : A) → r ≡ Some x → f x ≡ Some y → C) → C
 bind_elim (Some x) f y e k = k x refl e
 bind_elim None f y e k = absurd cc
-
-pub some_is : {A : Type 0} (x y : A) → Some x ≡ Some y → x ≡ y
-some_is x y e = cc
 
 -- a test that let something through
 pub guard_some : {A : Type 0} (b : Bool) (x : Option A) (y : A) → cond b None x ≡ Some y → (b ≡ false) × (x ≡ Some y)
@@ -124,13 +122,13 @@ text_again (c ∷ front) rest = rw (eq-eqb c c refl) (text_again front rest)
 -- ---- numbers
 
 -- what the digits at the front of a text are, where they are so many
-pub record BeginsWith (digits rest text : List ℕ) : Type 0 where
+pub record DigitsInFront (digits rest text : List ℕ) : Type 0 where
   pub length_is : prefix_len is_digit text ≡ length digits
   pub value_is : front_value text ≡ min (value_of digits) many
   pub rest_is : drop (prefix_len is_digit text) text ≡ rest
 
-pub begins_with : (digits rest : List ℕ) → IsNumeral digits → Stops is_digit rest → BeginsWith digits rest (digits ++ rest)
-begins_with digits rest numeral stops =
+pub digits_in_front : (digits rest : List ℕ) → IsNumeral digits → Stops is_digit rest → DigitsInFront digits rest (digits ++ rest)
+digits_in_front digits rest numeral stops =
     let len = prefix_len-run is_digit digits rest numeral.all stops in
     record {
       length_is = len;
@@ -142,7 +140,7 @@ pub numeral_again : (digits rest : List ℕ) → IsNumeral digits → Stops is_d
     numeral_at (digits ++ rest) ≡ Some (min (value_of digits) many, rest)
 unfolding numeral_at
 numeral_again digits rest numeral stops =
-    let b = begins_with digits rest numeral stops in
+    let b = digits_in_front digits rest numeral stops in
     let some : eqb (length digits) 0 ≡ false = ne_eqb (length digits) 0 (λ e. omega (arith, numeral.some)) in
     rw (b.value_is, b.rest_is, b.length_is, some) refl
 
@@ -157,7 +155,7 @@ numeral_taken s value rest e =
     let g = guard_some (prefix_len is_digit s == 0) (Some (front_value s, drop (prefix_len is_digit s) s)) (value, rest) e in
     let some : 0 < prefix_len is_digit s = omega (arith, eqb-false (prefix_len is_digit s) 0 g.0) in
     let found : (front_value s, drop (prefix_len is_digit s) s) ≡ (value, rest) =
-    some_is (front_value s, drop (prefix_len is_digit s) s) (value, rest) g.1 in
+    same_Some (front_value s, drop (prefix_len is_digit s) s) (value, rest) g.1 in
     let value_of_it : front_value s ≡ value = ap (λ (x : ℕ × List ℕ). x.0) found in
     let rest_of_it : drop (prefix_len is_digit s) s ≡ rest = ap (λ (x : ℕ × List ℕ). x.1) found in
     record {

@@ -3,8 +3,8 @@ use Rattle.std.proofs.Common.{◌≡◌, false, eqb, length, refl, rules}
 use Rattle.std.specs.Prelude.{codes}
 use Rattle.sched_event.specs.Texts.{SwitchText}
 use Rattle.sched_event.specs.FieldsView.{prio_fields_view}
-use Rattle.sched_event.specs.Reading.{prio_at, switch_at}
-use Rattle.sched_event.proofs.Keyed.{nothing_left}
+use Rattle.sched_event.specs.Reading.{prio_behind, switch_at}
+use Rattle.sched_event.proofs.Keyed.{nothing_left_behind}
 use Rattle.sched_event.proofs.Switches.{SwitchSteps, switch_from}
 use Rattle.sched_event.proofs.switch.switch_fields.Goals as goal
 
@@ -32,7 +32,7 @@ returns c =
       prev_state = c.in_ok-prev_state.ensures;
       next_name = c.in_ok-next_name.ensures;
       next = c.in_ok-next.ensures;
-      next_prio = nothing_left (prio_at (codes " next_prio=") c.in_ok-next.rest.now) (prio_fields_view c.in_ok-next_prio.next_prio) c.in_ok-next_prio.rest.now c.in_ok-next_prio.ensures (search rules);
+      next_prio = nothing_left_behind (prio_behind (codes " next_prio=") c.in_ok-next.rest.now) (prio_fields_view c.in_ok-next_prio.next_prio) c.in_ok-next_prio.rest.now c.in_ok-next_prio.ensures (search rules);
     } in
     switch_from c.args.text.now read steps
 

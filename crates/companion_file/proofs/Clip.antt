@@ -1,6 +1,6 @@
 -- A number far out of its limits is read as another one out of its limits. So what was read passes the tests that
 -- what is spelled passes, and where it passes them all it is what is spelled.
-use Rattle.std.proofs.Common.{◌≡◌, ℕ, zero, suc, ◌^◌, ◌<◌, ◌≤◌, min, true, ◌&&◌, leb, ltb, ℤ, pos, negsuc, neg_ℤ, None, refl, sym, ap, ◌∙◌, inl, inr, arith}
+use Rattle.std.proofs.Common.{◌≡◌, ℕ, zero, suc, ◌<◌, ◌≤◌, min, true, ◌&&◌, leb, ltb, ℤ, pos, negsuc, neg_ℤ, None, refl, sym, ap, ◌∙◌, inl, inr, arith}
 use Rattle.std.specs.Prelude.{unwrap_or}
 use Rattle.std.proofs.lemmas.Bool.{cases_Bool, and_parts}
 use Rattle.std.proofs.lemmas.Bool.Decides.{nat_tests}

@@ -1,14 +1,14 @@
 -- The fields of a line, both ways: what is spelled is read, and what is read is spelled.
-use Rattle.std.proofs.Common.{◌≡◌, ◌⊎◌, ℕ, true, false, eqb, List, [], ◌∷◌, ◌++◌, length, min, ℤ, pos, neg_ℤ, Option, Some, None, refl, sym, ap, subst, ◌∙◌, inl, inr, arith}
+use Rattle.std.proofs.Common.{◌≡◌, ◌⊎◌, ℕ, true, false, eqb, List, [], ◌∷◌, ◌++◌, min, ℤ, pos, neg_ℤ, Option, Some, None, refl, sym, ap, subst, ◌∙◌, inl, inr, arith}
 use Rattle.std.specs.Prelude.{codes}
 use Rattle.std.specs.List.{list_all}
-use Rattle.std.proofs.lemmas.Bool.{cases_Bool, and_parts, eqb-true, ne_eqb}
-use Rattle.std.proofs.lemmas.List.{append-nil, nil_from_length}
+use Rattle.std.proofs.lemmas.Bool.{and_parts, ne_eqb}
+use Rattle.std.proofs.lemmas.List.{append-nil}
 use Rattle.cfs_model.specs.declared.task.Place.{Place}
 use Rattle.cfs_model.specs.declared.task.Place.TheVariants.{Run, Wait, Rest}
 use Rattle.text_parts.specs.Numerals.{is_digit, many, IsNumeral}
 use Rattle.text_parts.specs.Reading.{◌>>=◌, or_else, after_text, numeral_at}
-use Rattle.text_parts.proofs.Runs.{Stops, bind_some, numeral_again, numeral_taken, text_taken}
+use Rattle.text_parts.proofs.Runs.{Stops, bind_some, at_end_taken, numeral_again, numeral_taken, text_taken}
 use Rattle.text_parts.specs.Reading.{if_at_end}
 use Rattle.std.proofs.lemmas.Option.{same_Some}
 use Rattle.companion_file.specs.VersionOne.{IsNumber, IsInteger, place_word}
@@ -18,14 +18,6 @@ use Rattle.companion_file.proofs.Clip.{clip_integer, clip-neg}
 -- what is behind a space
 abbrev pub spaced_from : List ℕ → List ℕ → List ℕ
 spaced_from word rest = word ++ 32 ∷ rest
-
--- what stands alone has nothing behind it
-alone_is : {A : Type 0} (x : A × List ℕ) (y : A) → if_at_end x.1 x.0 ≡ Some y → (x.1 ≡ []) × (x.0 ≡ y)
-alone_is x y e =
-    elim (cases_Bool (eqb (length x.1) 0)) [
-      | inl end ↦ let found : Some x.0 ≡ Some y = rw end at e in (nil_from_length x.1 (eqb-true (length x.1) 0 end), same_Some x.0 y found)
-      | inr more ↦ let none : None ≡ Some y = rw more at e in absurd cc
-    ]
 
 -- ---- numbers
 
@@ -69,7 +61,7 @@ pub number_whole_taken : (text : List ℕ) (m : ℕ) → number_whole text ≡ S
 unfolding number_whole
 number_whole_taken text m e =
     let a = bind_some (numeral_at text) (λ number. if_at_end number.1 number.0) m e in
-    let end = alone_is a.0 m a.2 in
+    let end = at_end_taken a.0.1 a.0.0 m a.2 in
     let t = number_at_taken text a.0.0 a.0.1 a.1 in
     let whole : t.word ≡ text = sym (t.whole ∙ ap (λ (s : List ℕ). t.word ++ s) end.0 ∙ append-nil t.word) in
     (t.exact, subst (λ w. IsNumber w t.exact) whole t.spelled, sym end.1 ∙ t.value)
@@ -161,7 +153,7 @@ pub integer_whole_taken : (text : List ℕ) (y : ℤ) → integer_whole text ≡
 unfolding integer_whole
 integer_whole_taken text y e =
     let a = bind_some (integer_at text) (λ integer. if_at_end integer.1 integer.0) y e in
-    let end = alone_is a.0 y a.2 in
+    let end = at_end_taken a.0.1 a.0.0 y a.2 in
     let t = integer_at_taken text a.0.0 a.0.1 a.1 in
     let whole : t.word ≡ text = sym (t.whole ∙ ap (λ (s : List ℕ). t.word ++ s) end.0 ∙ append-nil t.word) in
     (t.exact, subst (λ w. IsInteger w t.exact) whole t.spelled, sym end.1 ∙ t.value)

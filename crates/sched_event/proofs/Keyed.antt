@@ -1,16 +1,16 @@
 -- The fields of a text: what was read behind a key is so, and what is so is read.
-use Rattle.std.proofs.Common.{◌≡◌, ℕ, ◌+◌, ◌-◌, ◌≤◌, ◌<◌, min, Bool, true, false, cond, eqb, List, [], ◌∷◌, ◌++◌, length, take, drop, Option, Some, None, refl, sym, ap, subst, ◌∙◌, arith, inl, inr}
+use Rattle.std.proofs.Common.{◌≡◌, ℕ, ◌+◌, ◌-◌, ◌≤◌, ◌<◌, min, Bool, true, false, cond, eqb, List, [], ◌∷◌, ◌++◌, length, take, drop, Some, refl, sym, ap, subst, ◌∙◌, arith}
 use Rattle.std.specs.List.{list_all}
-use Rattle.std.proofs.lemmas.List.{append-nil, nil_from_length, take_at, drop_at, drop-drop, take-append-drop, length-append, length-take}
+use Rattle.std.proofs.lemmas.List.{append-nil, take_at, drop_at, drop-drop, take-append-drop, length-append, length-take}
 use Rattle.std.proofs.lemmas.Bool.{eqb-true, and_parts}
 use Rattle.std.proofs.lemmas.Bool.Decides.{nat_tests}
-use Rattle.std.proofs.lemmas.Option.{some_pair_parts, same_Some}
+use Rattle.std.proofs.lemmas.Option.{some_pair_parts}
 use Rattle.text_parts.specs.Numerals.{IsNumeral, is_digit}
 use Rattle.text_parts.specs.Pieces.{IsRunOf, begins_with}
 use Rattle.sched_event.specs.Texts.{IsName, IsState, is_dark, Prio, prio_text}
-use Rattle.text_parts.specs.Reading.{◌>>=◌, if_at_end, after_text}
+use Rattle.text_parts.specs.Reading.{◌>>=◌, after_text}
 use Rattle.sched_event.specs.Reading.{run_at, sign_at, last_place, numeral_behind, state_behind, prio_behind, name_behind}
-use Rattle.sched_event.proofs.Places.{chosen, place_stands, place_is_last}
+use Rattle.sched_event.proofs.Places.{place_stands, place_is_last}
 use Rattle.text_parts.proofs.Runs.{text_again, text_taken, Stops, bind_some}
 use Rattle.sched_event.proofs.Runs.{run_at_takes, run_at_again}
 use Rattle.sched_event.proofs.Alone.{IsAlone}
@@ -140,17 +140,3 @@ numeral_last key digits numeral = ap (λ (text : List ℕ). numeral_behind key (
 
 pub prio_last : (key : List ℕ) (prio : Prio) → IsNumeral prio.digits → prio_behind key (key ++ prio_text prio) ≡ Some (prio, [])
 prio_last key prio numeral = ap (λ (text : List ℕ). prio_behind key (key ++ text)) (sym (append-nil (prio_text prio))) ∙ prio_behind_again key prio [] numeral tt
-
--- ---- the end
-
--- what was read is the whole text
-pub all_taken : {A : Type 0} (rest : List ℕ) (made read : A) → if_at_end rest made ≡ Some read → (rest ≡ []) × (made ≡ read)
-all_taken rest made read e =
-    elim (chosen (eqb (length rest) 0) (Some made) None (Some read) e) [
-      | inl found ↦ (nil_from_length rest (eqb-true (length rest) 0 found.0), same_Some made read found.1)
-      | inr none ↦ absurd cc
-    ]
-
--- an empty rest in a reader's answer
-pub nothing_left_behind : {A : Type 0} (read : Option (A × List ℕ)) (field : A) (rest : List ℕ) → read ≡ Some (field, rest) → eqb (length rest) 0 ≡ true → read ≡ Some (field, [])
-nothing_left_behind read field rest e none = e ∙ ap (λ (after : List ℕ). Some (field, after)) (nil_from_length rest (eqb-true (length rest) 0 none))

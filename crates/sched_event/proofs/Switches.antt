@@ -5,8 +5,8 @@ use Rattle.sched_event.specs.Texts.{prio_text, SwitchText, IsSwitchText}
 use Rattle.sched_event.specs.Reading.{numeral_behind, state_behind, prio_behind, name_behind, switch_at}
 use Rattle.text_parts.proofs.Fronts.{begins_own}
 use Rattle.sched_event.proofs.Alone.{alone_two}
-use Rattle.text_parts.proofs.Runs.{bind_some}
-use Rattle.sched_event.proofs.Keyed.{numeral_behind_takes, numeral_behind_again, state_behind_takes, state_behind_again, prio_behind_takes, prio_behind_again, prio_last, name_behind_takes, name_behind_again, all_taken, followed_by, ends}
+use Rattle.text_parts.proofs.Runs.{bind_some, at_end_taken}
+use Rattle.sched_event.proofs.Keyed.{numeral_behind_takes, numeral_behind_again, state_behind_takes, state_behind_again, prio_behind_takes, prio_behind_again, prio_last, name_behind_takes, name_behind_again, followed_by, ends}
 
 -- the fields that were read one behind the other, and nothing behind them
 pub record SwitchSteps (text : List ℕ) (t : SwitchText) : Type 0 where
@@ -65,7 +65,7 @@ switch_steps text t e =
     let g = bind_some _ _ t f.2 in
     let h = bind_some _ _ t g.2 in
     let made : SwitchText = record { prev_name = a.0.0; prev = b.0.0; prev_prio = c.0.0; prev_state = d.0.0; next_name = f.0.0; next = g.0.0; next_prio = h.0.0 } in
-    let whole = all_taken h.0.1 made t h.2 in
+    let whole = at_end_taken h.0.1 made t h.2 in
     let last : prio_behind (codes " next_prio=") g.0.1 ≡ Some (h.0.0, []) = h.1 ∙ ap (λ (after : List ℕ). Some (h.0.0, after)) whole.0 in
     subst (SwitchSteps text) whole.1 (record {
       after1 = a.0.1;

@@ -5,10 +5,10 @@ use Rattle.text_parts.specs.Numerals.{IsNumeral, is_digit}
 use Rattle.sched_event.specs.Texts.{Prio, prio_text, WakeupText, IsWakeupText, success_text}
 use Rattle.text_parts.specs.Reading.{after_text}
 use Rattle.sched_event.specs.Reading.{numeral_behind, or_nothing, optional_behind, prio_behind, name_behind, wakeup_at}
-use Rattle.text_parts.proofs.Runs.{Stops, bind_some}
+use Rattle.text_parts.proofs.Runs.{at_end_taken, Stops, bind_some}
 use Rattle.text_parts.proofs.Fronts.{begins_own}
 use Rattle.sched_event.proofs.Alone.{IsAlone, alone_three, prio_dark, prio_some}
-use Rattle.sched_event.proofs.Keyed.{numeral_behind_takes, numeral_behind_again, numeral_last, prio_behind_takes, prio_behind_again, name_behind_takes, name_behind_again, all_taken, followed_by, ends}
+use Rattle.sched_event.proofs.Keyed.{numeral_behind_takes, numeral_behind_again, numeral_last, prio_behind_takes, prio_behind_again, name_behind_takes, name_behind_again, followed_by, ends}
 
 -- ---- the field that may be left out
 
@@ -94,7 +94,7 @@ wakeup_steps text t e =
     let d = bind_some _ _ t c.2 in
     let success = optional_behind (codes " success=") c.0.1 in
     let made : WakeupText = record { name = a.0.0; pid = b.0.0; prio = c.0.0; success = success.0; target = d.0.0 } in
-    let whole = all_taken d.0.1 made t d.2 in
+    let whole = at_end_taken d.0.1 made t d.2 in
     let last : numeral_behind (codes " target_cpu=") success.1 ≡ Some (d.0.0, []) = d.1 ∙ ap (λ (after : List ℕ). Some (d.0.0, after)) whole.0 in
     subst (WakeupSteps text) whole.1 (record {
       after1 = a.0.1;

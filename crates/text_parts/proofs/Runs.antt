@@ -4,12 +4,12 @@ use Rattle.std.proofs.Common.{◌≡◌, ℕ, ◌<◌, ◌≤◌, ◌==◌, Bool
 use Rattle.std.specs.Prelude.{IsTrue, ◌≢◌}
 use Rattle.std.specs.List.{prefix_len, list_all, take_while}
 use Rattle.std.proofs.lemmas.Bool.{cases_Bool, and_parts, and_from, eqb-true, eqb-false, eq-eqb, ne_eqb}
-use Rattle.std.proofs.lemmas.List.{take_at, drop_at, take-append-drop, length-take-le}
+use Rattle.std.proofs.lemmas.List.{take_at, drop_at, take-append-drop, length-take-le, nil_from_length}
 use Rattle.std.proofs.lemmas.List.Sums.{prefix_len-le-length}
 use Rattle.std.proofs.lemmas.Option.{same_Some}
 use Rattle.text_parts.specs.Numerals.{is_digit, value_of, many, IsNumeral}
 use Rattle.text_parts.specs.Pieces.{IsRunOf}
-use Rattle.text_parts.specs.Reading.{◌>>=◌, after_text, after_run, numeral_at, front_value}
+use Rattle.text_parts.specs.Reading.{◌>>=◌, if_at_end, after_text, after_run, numeral_at, front_value}
 
 pub prefix_within : (test : ℕ → Bool) (s : List ℕ) → prefix_len test s ≤ length s
 prefix_within test s = prefix_len-le-length test s
@@ -43,6 +43,16 @@ bind_elim None f y e k = absurd cc
 pub guard_some : {A : Type 0} (b : Bool) (x : Option A) (y : A) → cond b None x ≡ Some y → (b ≡ false) × (x ≡ Some y)
 guard_some true x y e = absurd cc
 guard_some false x y e = (refl, e)
+
+-- what was read to the end of a text leaves nothing
+pub at_end_taken : {A : Type 0} (rest : List ℕ) (made read : A) → if_at_end rest made ≡ Some read → (rest ≡ []) × (made ≡ read)
+at_end_taken rest made read e =
+    elim (cases_Bool (eqb (length rest) 0)) [
+      | inl end ↦
+          let found : Some made ≡ Some read = rw end at e in
+          (nil_from_length rest (eqb-true (length rest) 0 end), same_Some made read found)
+      | inr more ↦ let none : None ≡ Some read = rw more at e in absurd cc
+    ]
 
 -- nothing, where no value can be found
 pub none_from : {A : Type 0} (r : Option A) → ((x : A) → r ≡ Some x → ⊥) → r ≡ None

@@ -3,7 +3,8 @@
 use Rattle.std.proofs.Common.{◌≡◌, ◌≢◌, ℕ, zero, suc, Bool, true, false, cond, Option, Some, None, option_map, option_and_then, IfSome, ℤ, pos, ◌+ℤ◌, ◌-ℤ◌, ◌≤ℤ◌, ◌⊎◌, inl, inr, List, [], ◌∷◌, refl, sym, ap, ◌∙◌, subst, arith}
 use Rattle.std.proofs.lemmas.Int.{ints, clamps}
 use Rattle.std.specs.Int.{int_max}
-use Rattle.cfs_model.specs.Charge.{IsInRange, greatest}
+use Rattle.cfs_model.specs.Charge.{IsInRange}
+use Rattle.cfs_model.specs.Limits.{greatest_runtime}
 use Rattle.cfs_model.specs.Settings.{Settings}
 use Rattle.cfs_model.specs.Machine.{Machine, pairs_of, AreInRange, put, put_pair, without_task, with_move}
 use Rattle.cfs_model.specs.Claimed.{Says}
@@ -19,7 +20,7 @@ use Rattle.cfs_model.specs.declared.act.Way.TheVariants.{Stays, Sleeps, Ends}
 use Rattle.cfs_model.specs.declared.claim.Claim.{Claim}
 use Rattle.cfs_model.specs.declared.claim.ClaimSort.{ClaimSort}
 
-sum_range : (u : ℤ) (cost : ℕ) → IsInRange u → (u +ℤ pos cost) ≤ℤ pos greatest → IsInRange (u +ℤ pos cost)
+sum_range : (u : ℤ) (cost : ℕ) → IsInRange u → (u +ℤ pos cost) ≤ℤ pos greatest_runtime → IsInRange (u +ℤ pos cost)
 sum_range u cost h k = let low = h.0 in (omega (arith, ints), k)
 
 max_range : (u v : ℤ) → IsInRange u → IsInRange v → IsInRange (int_max u v)

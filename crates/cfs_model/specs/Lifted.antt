@@ -4,7 +4,8 @@
 -- (a nice value is a share, here a weight). That only events charge, and the rounding, are this project's profile.
 use Rattle.std.specs.Prelude.{◌≡◌, ℕ, ◌-◌, ◌≤◌, if◌then◌else◌, Option, Some, option_map, option_and_then, ℤ, pos, ◌+ℤ◌, ◌≤ℤ◌, ◌⊎◌, List, [], ◌∷◌}
 use Rattle.std.specs.Int.{int_max}
-use Rattle.cfs_model.specs.Charge.{charge_of, greatest}
+use Rattle.cfs_model.specs.Charge.{charge_of}
+use Rattle.cfs_model.specs.Limits.{greatest_runtime}
 use Rattle.cfs_model.specs.Nice.{weight_of}
 use Rattle.cfs_model.specs.Machine.{Machine, Stands, IsQueued, put, with_floor}
 use Rattle.cfs_model.specs.declared.task.Place.TheVariants.{Run}
@@ -30,7 +31,7 @@ charged m cpu time = record m {
 abbrev pub CanCharge : Machine → ℕ → ℕ → Type 0
 CanCharge m cpu time =
     (pid : ℕ) (nice v : ℤ) → Stands m Run cpu pid → m.nice pid ≡ Some nice → m.runtime pid ≡ Some v
-    → (cost_at m cpu time nice ≤ greatest) × ((v +ℤ pos (cost_at m cpu time nice)) ≤ℤ pos greatest)
+    → (cost_at m cpu time nice ≤ greatest_runtime) × ((v +ℤ pos (cost_at m cpu time nice)) ≤ℤ pos greatest_runtime)
 
 -- v is the least virtual runtime of those who run or wait at the processor
 pub record IsLeast (m : Machine) (cpu : ℕ) (v : ℤ) : Type 0 where

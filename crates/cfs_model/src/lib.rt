@@ -8,6 +8,7 @@ mod examples;
 mod kind;
 mod knobs;
 mod laws;
+mod limits;
 mod memory;
 mod nice;
 mod task;
@@ -21,6 +22,10 @@ pub use examples::{
 pub use kind::Kind;
 pub use knobs::Knobs;
 pub use laws::{floors_rise, marks_move, one_list, places, prefixes};
+pub use limits::{
+    GREATEST_LINE, GREATEST_PID, GREATEST_PROCESSOR, GREATEST_RUNTIME, GREATEST_SECONDS, IDLE_PID,
+    MOST_PROCESSORS, NANOSECONDS_PER_SECOND,
+};
 pub use memory::Memory;
 pub use nice::{Nice, PrioFault};
 pub use task::{Place, Task};

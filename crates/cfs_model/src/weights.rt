@@ -1,7 +1,9 @@
 ghost use Rattle.std.specs.Prelude.{◌≡◌, ℕ, pos, ◌+ℤ◌, nat_abs, ◌*◌, ◌/◌, ◌<◌, ◌≤◌, SomeIff};
-ghost use Rattle.cfs_model.specs.Charge.{charge_of, greatest};
+ghost use Rattle.cfs_model.specs.Charge.{charge_of};
+ghost use Rattle.cfs_model.specs.Limits.{greatest_runtime};
 ghost use Rattle.cfs_model.specs.Nice.{weight_of};
 
+use crate::limits::GREATEST_RUNTIME;
 use crate::nice::Nice;
 
 // The rows of the table, each from the nice value that begins it.
@@ -36,16 +38,13 @@ pub fn weight(nice: Nice) -> u32
     )
 }
 
-/// The greatest charge, in virtual nanoseconds.
-const GREATEST: u128 = 1 << 62;
-
 /// The virtual nanoseconds that `delta` nanoseconds of running time cost at this weight.
 pub fn charge(delta: u64, weight: u32) -> Option<i64>
     requires { 0 < weight }
-    ensures { SomeIff result (charge_of delta weight ≤ greatest) (pos (charge_of delta weight)) }
+    ensures { SomeIff result (charge_of delta weight ≤ greatest_runtime) (pos (charge_of delta weight)) }
 {
     let cost = u128::from(delta) * 1024 / u128::from(weight);
-    if cost <= GREATEST {
+    if cost <= GREATEST_RUNTIME as u128 {
         Some(cost as i64)
     } else {
         None

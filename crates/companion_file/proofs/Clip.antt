@@ -1,10 +1,11 @@
 -- A number far out of its limits is read as another one out of its limits. So what was read passes the tests that
 -- what is spelled passes, and where it passes them all it is what is spelled.
-use Rattle.std.proofs.Common.{◌≡◌, ℕ, zero, suc, ◌^◌, ◌<◌, ◌≤◌, min, true, ◌&&◌, leb, ltb, ℤ, pos, negsuc, neg_ℤ, None, refl, sym, ap, ◌∙◌, inl, inr, arith}
+use Rattle.std.proofs.Common.{◌≡◌, ℕ, zero, suc, ◌<◌, ◌≤◌, min, true, ◌&&◌, leb, ltb, ℤ, pos, negsuc, neg_ℤ, None, refl, sym, ap, ◌∙◌, inl, inr, arith}
 use Rattle.std.specs.Prelude.{unwrap_or}
 use Rattle.std.proofs.lemmas.Bool.{cases_Bool, and_parts}
 use Rattle.std.proofs.lemmas.Bool.Decides.{nat_tests}
 use Rattle.text_parts.specs.Numerals.{many}
+use Rattle.cfs_model.specs.Limits.{greatest_runtime, greatest_pid, greatest_line, greatest_seconds, most_processors}
 use Rattle.companion_file.specs.Shape.{Shape, version_line, cpus_line, start_line, floor_line, task_line, claim_line}
 use Rattle.companion_file.specs.ShapeReading.{beyond_range}
 use Rattle.companion_file.specs.Earlier.{Said}
@@ -14,7 +15,7 @@ use Rattle.companion_file.proofs.Faults.{fault_turn, fault_limits}
 -- an integer as it is read
 abbrev pub clip_integer : ℤ → ℤ
 clip_integer (pos n) = pos (min n beyond_range)
-clip_integer (negsuc n) = negsuc (min n (2 ^ 62))
+clip_integer (negsuc n) = negsuc (min n greatest_runtime)
 
 -- what is read of what is spelled
 abbrev pub clip : Shape → Shape
@@ -28,7 +29,7 @@ clip (claim_line k) = claim_line (record { line = min k.line many; pid = min k.p
 pub clip-neg : (n : ℕ) → clip_integer (neg_ℤ (pos n)) ≡ neg_ℤ (pos (min n beyond_range))
 clip-neg zero = refl
 clip-neg (suc n) =
-    let e : min (suc n) beyond_range ≡ suc (min n (2 ^ 62)) = omega arith in
+    let e : min (suc n) beyond_range ≡ suc (min n greatest_runtime) = omega arith in
     rw e refl
 
 -- ---- one number
@@ -39,13 +40,13 @@ le_clip n limit low = grind (arith, nat_tests)
 one_le_clip : (n : ℕ) → leb 1 (min n many) ≡ leb 1 n
 one_le_clip n = grind (arith, nat_tests)
 
-lt_clip : (n cpus : ℕ) → cpus ≤ 64 → ltb (min n many) cpus ≡ ltb n cpus
+lt_clip : (n cpus : ℕ) → cpus ≤ most_processors → ltb (min n many) cpus ≡ ltb n cpus
 lt_clip n cpus few = grind (arith, nat_tests)
 
 le_same : (n limit : ℕ) → limit < many → leb n limit ≡ true → min n many ≡ n
 le_same n limit low le = grind (arith, nat_tests)
 
-lt_same : (n cpus : ℕ) → cpus ≤ 64 → ltb n cpus ≡ true → min n many ≡ n
+lt_same : (n cpus : ℕ) → cpus ≤ most_processors → ltb n cpus ≡ true → min n many ≡ n
 lt_same n cpus few lt = grind (arith, nat_tests)
 
 value_clip : (z : ℤ) → is_value (clip_integer z) ≡ is_value z
@@ -65,10 +66,10 @@ nice_same (pos n) ok = ap pos (grind (arith, nat_tests))
 nice_same (negsuc n) ok = ap negsuc (grind (arith, nat_tests))
 
 pid_clip : (n : ℕ) → is_pid (min n many) ≡ is_pid n
-pid_clip n = rw (one_le_clip n, le_clip n 4194304 (omega arith)) refl
+pid_clip n = rw (one_le_clip n, le_clip n greatest_pid (omega arith)) refl
 
 pid_same : (n : ℕ) → is_pid n ≡ true → min n many ≡ n
-pid_same n ok = le_same n 4194304 (omega arith) (and_parts (leb 1 n) (leb n 4194304) ok).1
+pid_same n ok = le_same n greatest_pid (omega arith) (and_parts (leb 1 n) (leb n greatest_pid) ok).1
 
 -- ---- what a line says
 
@@ -80,20 +81,20 @@ turn_clip said (floor_line cpu floor) = refl
 turn_clip said (task_line t) = refl
 turn_clip said (claim_line k) = refl
 
-limits_clip : (cpus : ℕ) (x : Shape) → cpus ≤ 64 → is_in_limits cpus (clip x) ≡ is_in_limits cpus x
+limits_clip : (cpus : ℕ) (x : Shape) → cpus ≤ most_processors → is_in_limits cpus (clip x) ≡ is_in_limits cpus x
 limits_clip cpus (version_line n) few = refl
-limits_clip cpus (cpus_line n) few = rw (one_le_clip n, le_clip n 64 (omega arith)) refl
-limits_clip cpus (start_line seconds nanoseconds) few = le_clip seconds 4294967295 (omega arith)
+limits_clip cpus (cpus_line n) few = rw (one_le_clip n, le_clip n most_processors (omega arith)) refl
+limits_clip cpus (start_line seconds nanoseconds) few = le_clip seconds greatest_seconds (omega arith)
 limits_clip cpus (floor_line cpu floor) few = rw (lt_clip cpu cpus few, value_clip floor) refl
 limits_clip cpus (task_line t) few = rw (pid_clip t.pid, nice_clip t.nice, lt_clip t.cpu cpus few, value_clip t.v) refl
-limits_clip cpus (claim_line k) few = rw (one_le_clip k.line, le_clip k.line 4294967295 (omega arith), pid_clip k.pid, value_clip k.v) refl
+limits_clip cpus (claim_line k) few = rw (one_le_clip k.line, le_clip k.line greatest_line (omega arith), pid_clip k.pid, value_clip k.v) refl
 
-same_in_limits : (said : Said) (cpus : ℕ) (x : Shape) → cpus ≤ 64 → is_in_turn said x ≡ true → is_in_limits cpus x ≡ true → clip x ≡ x
+same_in_limits : (said : Said) (cpus : ℕ) (x : Shape) → cpus ≤ most_processors → is_in_turn said x ≡ true → is_in_limits cpus x ≡ true → clip x ≡ x
 same_in_limits said cpus (version_line n) few turn ok = absurd cc
 same_in_limits said cpus (cpus_line n) few turn ok =
-    ap cpus_line (le_same n 64 (omega arith) (and_parts (leb 1 n) (leb n 64) ok).1)
+    ap cpus_line (le_same n most_processors (omega arith) (and_parts (leb 1 n) (leb n most_processors) ok).1)
 same_in_limits said cpus (start_line seconds nanoseconds) few turn ok =
-    ap (λ s. start_line s nanoseconds) (le_same seconds 4294967295 (omega arith) ok)
+    ap (λ s. start_line s nanoseconds) (le_same seconds greatest_seconds (omega arith) ok)
 same_in_limits said cpus (floor_line cpu floor) few turn ok =
     let parts = and_parts (ltb cpu cpus) (is_value floor) ok in
     rw (lt_same cpu cpus few parts.0, value_same floor parts.1) refl
@@ -103,12 +104,12 @@ same_in_limits said cpus (task_line t) few turn ok =
     let first = and_parts (is_pid t.pid) (is_nice t.nice) second.0 in
     rw (pid_same t.pid first.0, nice_same t.nice first.1, lt_same t.cpu cpus few second.1, value_same t.v third.1) refl
 same_in_limits said cpus (claim_line k) few turn ok =
-    let third = and_parts (leb 1 k.line && leb k.line 4294967295 && is_pid k.pid) (is_value k.v) ok in
-    let second = and_parts (leb 1 k.line && leb k.line 4294967295) (is_pid k.pid) third.0 in
-    let first = and_parts (leb 1 k.line) (leb k.line 4294967295) second.0 in
-    rw (le_same k.line 4294967295 (omega arith) first.1, pid_same k.pid second.1, value_same k.v third.1) refl
+    let third = and_parts (leb 1 k.line && leb k.line greatest_line && is_pid k.pid) (is_value k.v) ok in
+    let second = and_parts (leb 1 k.line && leb k.line greatest_line) (is_pid k.pid) third.0 in
+    let first = and_parts (leb 1 k.line) (leb k.line greatest_line) second.0 in
+    rw (le_same k.line greatest_line (omega arith) first.1, pid_same k.pid second.1, value_same k.v third.1) refl
 
-pub fault_clip : (said : Said) (x : Shape) → unwrap_or said.cpus 0 ≤ 64 → fault_of said (clip x) ≡ fault_of said x
+pub fault_clip : (said : Said) (x : Shape) → unwrap_or said.cpus 0 ≤ most_processors → fault_of said (clip x) ≡ fault_of said x
 fault_clip said x few =
     elim (cases_Bool (is_in_turn said x)) [
       | inr late ↦ fault_turn said (clip x) (turn_clip said x ∙ late) ∙ sym (fault_turn said x late)
@@ -118,7 +119,7 @@ fault_clip said x few =
       ]
     ]
 
-pub same_without_fault : (said : Said) (x : Shape) → unwrap_or said.cpus 0 ≤ 64 → fault_of said x ≡ None → clip x ≡ x
+pub same_without_fault : (said : Said) (x : Shape) → unwrap_or said.cpus 0 ≤ most_processors → fault_of said x ≡ None → clip x ≡ x
 same_without_fault said x few none =
     elim (cases_Bool (is_in_turn said x)) [
       | inr late ↦ let fault = fault_turn said x late in absurd cc

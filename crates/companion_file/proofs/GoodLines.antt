@@ -7,9 +7,11 @@ use Rattle.cfs_model.specs.Charge.{IsInRange}
 use Rattle.text_parts.specs.Numerals.{value_of}
 use Rattle.text_parts.specs.Time.{IsFraction}
 use Rattle.text_parts.proofs.Times.{value_below}
+use Rattle.cfs_model.specs.Limits.{nanoseconds_per_second}
 use Rattle.companion_file.specs.declared.fault.CompanionCause.{CompanionCause}
 use Rattle.companion_file.specs.Shape.{Shape, version_line, cpus_line, start_line, floor_line, task_line, claim_line}
-use Rattle.companion_file.specs.VersionOne.{IsComment, IsSpelled}
+use Rattle.text_parts.specs.Lines.{IsComment}
+use Rattle.companion_file.specs.VersionOne.{IsSpelled}
 use Rattle.companion_file.specs.Reading.{IsTaskInLimits, IsClaimInLimits}
 use Rattle.companion_file.specs.Earlier.{Said, summed}
 use Rattle.companion_file.specs.Tests.{fault_of, tested, IsJudgedFirst, IsJudgedLater, IsJudged}
@@ -19,7 +21,7 @@ use Rattle.companion_file.proofs.Summing.{told, summed-push}
 use Rattle.companion_file.proofs.KeptOrder.{all_passed}
 use Rattle.companion_file.proofs.GrowingOrder.{FitsSecond, order_told}
 
-fraction_below : (digits : List ℕ) (n : ℕ) → value_of digits < 10 ^ length digits → IsFraction digits n → n < 1000000000
+fraction_below : (digits : List ℕ) (n : ℕ) → value_of digits < 10 ^ length digits → IsFraction digits n → n < nanoseconds_per_second
 fraction_below digits n below (inl p) = let low : value_of digits < 10 ^ 6 = rw p.0 at below in omega (arith, p.1)
 fraction_below digits n below (inr p) = let low : value_of digits < 10 ^ 9 = rw p.0 at below in omega (arith, p.1)
 

@@ -9,6 +9,7 @@ use Rattle.std.proofs.lemmas.List.Quantifiers.{all_pairs_push}
 use Rattle.cfs_model.specs.declared.task.Task.{Task}
 use Rattle.cfs_model.specs.declared.claim.Claim.{Claim}
 use Rattle.cfs_model.specs.Charge.{IsInRange}
+use Rattle.cfs_model.specs.Limits.{greatest_line, greatest_seconds, most_processors, nanoseconds_per_second}
 use Rattle.companion_file.specs.Shape.{Shape, version_line, cpus_line, start_line, floor_line, task_line, claim_line}
 use Rattle.companion_file.specs.Earlier.{Said, has_all_floors, is_run, is_taken}
 use Rattle.companion_file.specs.Tests.{is_pid, is_value, is_nice}
@@ -22,7 +23,7 @@ use Rattle.companion_file.proofs.Summing.{told}
 abbrev pub FitsSecond : Shape → Type 0
 FitsSecond (version_line n) = Unit {0}
 FitsSecond (cpus_line n) = Unit {0}
-FitsSecond (start_line seconds nanoseconds) = nanoseconds < 1000000000
+FitsSecond (start_line seconds nanoseconds) = nanoseconds < nanoseconds_per_second
 FitsSecond (floor_line cpu floor) = Unit {0}
 FitsSecond (task_line t) = Unit {0}
 FitsSecond (claim_line k) = Unit {0}
@@ -34,9 +35,9 @@ none_is (Some n) e = absurd cc
 order_cpus : (said : Said) (n : ℕ) → KeepsOrder said → Passes said (cpus_line n) → KeepsOrder (told said (cpus_line n))
 order_cpus said n order passes =
     let none : said.cpus ≡ None = none_is said.cpus passes.turn in
-    let parts = and_parts (leb 1 n) (leb n 64) passes.limits in
+    let parts = and_parts (leb 1 n) (leb n most_processors) passes.limits in
     let low : 1 ≤ n = grind (arith, nat_tests) in
-    let high : n ≤ 64 = grind (arith, nat_tests) in
+    let high : n ≤ most_processors = grind (arith, nat_tests) in
     record {
       cpus_kept = λ m e. let same : n ≡ m = cc in (omega arith, omega arith);
       start_kept = order.start_kept;
@@ -50,13 +51,13 @@ order_cpus said n order passes =
       lines_rise = order.lines_rise;
     }
 
-order_start : (said : Said) (seconds nanoseconds : ℕ) → nanoseconds < 1000000000 → KeepsOrder said → Passes said (start_line seconds nanoseconds) → KeepsOrder (told said (start_line seconds nanoseconds))
+order_start : (said : Said) (seconds nanoseconds : ℕ) → nanoseconds < nanoseconds_per_second → KeepsOrder said → Passes said (start_line seconds nanoseconds) → KeepsOrder (told said (start_line seconds nanoseconds))
 order_start said seconds nanoseconds below order passes =
-    let limits : leb seconds 4294967295 ≡ true = passes.limits in
-    let high : seconds ≤ 4294967295 = grind (arith, nat_tests) in
+    let limits : leb seconds greatest_seconds ≡ true = passes.limits in
+    let high : seconds ≤ greatest_seconds = grind (arith, nat_tests) in
     record {
       cpus_kept = order.cpus_kept;
-      start_kept = λ m e. let same : seconds * 1000000000 + nanoseconds ≡ m = cc in omega arith;
+      start_kept = λ m e. let same : seconds * nanoseconds_per_second + nanoseconds ≡ m = cc in omega arith;
       floors_after_start = λ e. absurd cc;
       floors_kept = order.floors_kept;
       tasks_kept = order.tasks_kept;
@@ -118,11 +119,11 @@ order_task said t order passes =
 
 order_claim : (said : Said) (claim : Claim) → KeepsOrder said → Passes said (claim_line claim) → KeepsOrder (told said (claim_line claim))
 order_claim said claim order passes =
-    let third = and_parts (leb 1 claim.line && leb claim.line 4294967295 && is_pid claim.pid) (is_value claim.v) passes.limits in
-    let second = and_parts (leb 1 claim.line && leb claim.line 4294967295) (is_pid claim.pid) third.0 in
-    let first = and_parts (leb 1 claim.line) (leb claim.line 4294967295) second.0 in
+    let third = and_parts (leb 1 claim.line && leb claim.line greatest_line && is_pid claim.pid) (is_value claim.v) passes.limits in
+    let second = and_parts (leb 1 claim.line && leb claim.line greatest_line) (is_pid claim.pid) third.0 in
+    let first = and_parts (leb 1 claim.line) (leb claim.line greatest_line) second.0 in
     let low : 1 ≤ claim.line = grind (arith, nat_tests) in
-    let high : claim.line ≤ 4294967295 = grind (arith, nat_tests) in
+    let high : claim.line ≤ greatest_line = grind (arith, nat_tests) in
     record {
       cpus_kept = order.cpus_kept;
       start_kept = order.start_kept;

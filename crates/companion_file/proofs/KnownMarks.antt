@@ -4,7 +4,8 @@ use Rattle.std.specs.Prelude.{codes}
 use Rattle.std.proofs.lemmas.Bool.{eqb-true, eq-eqb}
 use Rattle.std.proofs.lemmas.List.{nil_from_length}
 use Rattle.text_parts.specs.Reading.{after_text}
-use Rattle.text_parts.proofs.Runs.{some_is, text_taken, text_again}
+use Rattle.text_parts.proofs.Runs.{text_taken, text_again}
+use Rattle.std.proofs.lemmas.Option.{same_Some}
 use Rattle.companion_file.specs.VersionOne.{first_line, IsControlGroup}
 
 pub not_first : (line : List ℕ) → after_text first_line line ≡ None → line ≢ first_line
@@ -15,7 +16,7 @@ first_ends line rest e = (
   λ empty. text_taken first_line line rest e ∙ ap (λ (s : List ℕ). first_line ++ s) (nil_from_length rest (eqb-true (length rest) 0 empty)),
   λ same.
       let found : after_text first_line line ≡ Some [] = ap (after_text first_line) same ∙ text_again first_line [] in
-      let end : rest ≡ [] = some_is rest [] (sym e ∙ found) in
+      let end : rest ≡ [] = same_Some rest [] (sym e ∙ found) in
       ap (λ (s : List ℕ). eqb (length s) 0) end,
 )
 
@@ -37,7 +38,7 @@ group_named line (b ∷ rest) e some = (
   λ group. elim (behind_group line group) [
     | inl p ↦ absurd cc
     | inr p ↦
-        let same : b ∷ rest ≡ 32 ∷ p.0 = some_is (b ∷ rest) (32 ∷ p.0) (sym e ∙ p.1) in
+        let same : b ∷ rest ≡ 32 ∷ p.0 = same_Some (b ∷ rest) (32 ∷ p.0) (sym e ∙ p.1) in
         let head : b ≡ 32 = cc in
         eq-eqb b 32 head
   ],

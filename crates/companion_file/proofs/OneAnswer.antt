@@ -4,9 +4,12 @@ use Rattle.std.proofs.Common.{◌≡◌, ℕ, suc, ◌≤◌, Bool, true, false,
 use Rattle.std.specs.Prelude.{unwrap_or, MatchBool}
 use Rattle.std.specs.Option.{option_map_or}
 use Rattle.std.proofs.lemmas.Option.{same_Some}
+use Rattle.cfs_model.specs.Limits.{most_processors}
+use Rattle.std.proofs.lemmas.Option.{same_Some}
 use Rattle.companion_file.specs.declared.fault.CompanionCause.{CompanionCause}
 use Rattle.companion_file.specs.Shape.{Shape}
-use Rattle.companion_file.specs.VersionOne.{IsComment, IsSpelled}
+use Rattle.text_parts.specs.Lines.{IsComment}
+use Rattle.companion_file.specs.VersionOne.{IsSpelled}
 use Rattle.companion_file.specs.Earlier.{Said, summed}
 use Rattle.companion_file.specs.Tests.{fault_of, tested, IsJudgedFirst, IsJudgedLater, IsJudged}
 use Rattle.companion_file.specs.Draft.{KeepsOrder}
@@ -17,13 +20,13 @@ use Rattle.companion_file.proofs.Taking.{few_cpus}
 use Rattle.companion_file.proofs.GoodLines.{order_judged}
 
 -- so few processors that no number far out of its limits is one of them
-few_of : (said : Said) → KeepsOrder said → unwrap_or said.cpus 0 ≤ 64
+few_of : (said : Said) → KeepsOrder said → unwrap_or said.cpus 0 ≤ most_processors
 few_of said order = few_cpus said.cpus (λ n e. (order.cpus_kept n e).1)
 
 tested_by : (said : Said) (x : Shape) (fault : Option CompanionCause) → fault_of said x ≡ fault → tested said x ≡ option_map_or (λ cause. Err cause) fault (Ok x)
 tested_by said x fault e = ap (λ (f : Option CompanionCause). option_map_or (λ cause. Err cause) f (Ok x)) e
 
-same_outcome : (said : Said) (x y : Shape) (fault : Option CompanionCause) → unwrap_or said.cpus 0 ≤ 64 → clip x ≡ clip y → fault_of said x ≡ fault → fault_of said y ≡ fault → tested said x ≡ tested said y
+same_outcome : (said : Said) (x y : Shape) (fault : Option CompanionCause) → unwrap_or said.cpus 0 ≤ most_processors → clip x ≡ clip y → fault_of said x ≡ fault → fault_of said y ≡ fault → tested said x ≡ tested said y
 same_outcome said x y None few same e f =
     let one : x ≡ y = sym (same_without_fault said x few e) ∙ same ∙ same_without_fault said y few f in
     ap (tested said) one
@@ -84,21 +87,21 @@ good_once earlier (line ∷ lines) said other order (inr p) (inr q) =
 -- ---- a bad line
 
 -- a line that is bad after good ones
-pub record IsBadAfter (earlier : List Shape) (before : List (List ℕ)) (line : List ℕ) (cause : CompanionCause) : Type 0 where
+pub record IsBadBehind (earlier : List Shape) (before : List (List ℕ)) (line : List ℕ) (cause : CompanionCause) : Type 0 where
   pub said : List Shape
   pub good : AreGood earlier before said
   pub content : ¬ IsComment line
   pub bad : IsJudged (summed said) line (Err cause)
 
 -- the same without a comment in front, and without a good line
-past_comment : (earlier : List Shape) (first : List ℕ) (before : List (List ℕ)) (line : List ℕ) (cause : CompanionCause) → IsComment first → IsBadAfter earlier (first ∷ before) line cause → IsBadAfter earlier before line cause
+past_comment : (earlier : List Shape) (first : List ℕ) (before : List (List ℕ)) (line : List ℕ) (cause : CompanionCause) → IsComment first → IsBadBehind earlier (first ∷ before) line cause → IsBadBehind earlier before line cause
 past_comment earlier first before line cause comment b =
     elim b.good [
       | inl p ↦ record { said = b.said; good = p.1; content = b.content; bad = b.bad }
       | inr p ↦ absurd (p.0 comment)
     ]
 
-past_line : (earlier : List Shape) (first : List ℕ) (before : List (List ℕ)) (line : List ℕ) (cause : CompanionCause) (x : Shape) → KeepsOrder (summed earlier) → ¬ IsComment first → IsJudged (summed earlier) first (Ok x) → IsBadAfter earlier (first ∷ before) line cause → IsBadAfter (earlier ++ x ∷ []) before line cause
+past_line : (earlier : List Shape) (first : List ℕ) (before : List (List ℕ)) (line : List ℕ) (cause : CompanionCause) (x : Shape) → KeepsOrder (summed earlier) → ¬ IsComment first → IsJudged (summed earlier) first (Ok x) → IsBadBehind earlier (first ∷ before) line cause → IsBadBehind (earlier ++ x ∷ []) before line cause
 past_line earlier first before line cause x order content judged b =
     elim b.good [
       | inl p ↦ absurd (content p.0)
@@ -108,14 +111,14 @@ past_line earlier first before line cause x order content judged b =
     ]
 
 -- the line is bad where it stands first, so it isn't good there
-bad_here : (earlier : List Shape) (line : List ℕ) (cause : CompanionCause) → IsBadAfter earlier [] line cause → IsJudged (summed earlier) line (Err cause)
+bad_here : (earlier : List Shape) (line : List ℕ) (cause : CompanionCause) → IsBadBehind earlier [] line cause → IsJudged (summed earlier) line (Err cause)
 bad_here earlier line cause b = subst (λ (s : List Shape). IsJudged (summed s) line (Err cause)) b.good b.bad
 
-not_good : (earlier : List Shape) (line : List ℕ) (lines : List (List ℕ)) (said : List Shape) (cause : CompanionCause) → KeepsOrder (summed earlier) → IsBadAfter earlier [] line cause → AreGood earlier (line ∷ lines) said → ⊥
+not_good : (earlier : List Shape) (line : List ℕ) (lines : List (List ℕ)) (said : List Shape) (cause : CompanionCause) → KeepsOrder (summed earlier) → IsBadBehind earlier [] line cause → AreGood earlier (line ∷ lines) said → ⊥
 not_good earlier line lines said cause order b (inl p) = b.content p.0
 not_good earlier line lines said cause order b (inr p) = never_both (summed earlier) line p.1.0 cause order p.1.1 (bad_here earlier line cause b)
 
-pub never_good : (earlier : List Shape) (before : List (List ℕ)) (line : List ℕ) (after : List (List ℕ)) (said : List Shape) (cause : CompanionCause) → KeepsOrder (summed earlier) → IsBadAfter earlier before line cause → AreGood earlier (before ++ line ∷ after) said → ⊥
+pub never_good : (earlier : List Shape) (before : List (List ℕ)) (line : List ℕ) (after : List (List ℕ)) (said : List Shape) (cause : CompanionCause) → KeepsOrder (summed earlier) → IsBadBehind earlier before line cause → AreGood earlier (before ++ line ∷ after) said → ⊥
 never_good earlier [] line after said cause order b good = not_good earlier line after said cause order b good
 never_good earlier (first ∷ before) line after said cause order b (inl p) = never_good earlier before line after said cause order (past_comment earlier first before line cause p.0 b) p.1
 never_good earlier (first ∷ before) line after said cause order b (inr p) =
@@ -123,7 +126,7 @@ never_good earlier (first ∷ before) line after said cause order b (inr p) =
 
 -- two bad lines that are the first ones stand at one place, for one cause
 pub bad_once : (earlier : List Shape) (before others : List (List ℕ)) (line other : List ℕ) (after rest : List (List ℕ)) (cause reason : CompanionCause) → KeepsOrder (summed earlier) → before ++ line ∷ after ≡ others ++ other ∷ rest
-    → IsBadAfter earlier before line cause → IsBadAfter earlier others other reason → (length before ≡ length others) × (cause ≡ reason)
+    → IsBadBehind earlier before line cause → IsBadBehind earlier others other reason → (length before ≡ length others) × (cause ≡ reason)
 bad_once earlier [] [] line other after rest cause reason order e b c =
     let same : other ≡ line = cc in
     (refl, same_cause (summed earlier) line cause reason order (bad_here earlier line cause b) (subst (λ (s : List ℕ). IsJudged (summed earlier) s (Err reason)) same (bad_here earlier other reason c)))
@@ -136,7 +139,7 @@ bad_once earlier (first ∷ before) [] line other after rest cause reason order 
 bad_once earlier (first ∷ before) (second ∷ others) line other after rest cause reason order e b c =
     let same : second ≡ first = cc in
     let tails : before ++ line ∷ after ≡ others ++ other ∷ rest = cc in
-    let moved = subst (λ (s : List ℕ). IsBadAfter earlier (s ∷ others) other reason) same c in
+    let moved = subst (λ (s : List ℕ). IsBadBehind earlier (s ∷ others) other reason) same c in
     elim b.good [
       | inl p ↦
           let r = bad_once earlier before others line other after rest cause reason order tails (past_comment earlier first before line cause p.0 b) (past_comment earlier first others other reason p.0 moved) in

@@ -4,15 +4,16 @@ use Rattle.std.proofs.lemmas.Option.{same_Some}
 use Rattle.cfs_model.specs.declared.task.Task.{Task}
 use Rattle.cfs_model.specs.declared.claim.Claim.{Claim}
 use Rattle.text_parts.specs.Lines.{lines_of}
+use Rattle.std.proofs.lemmas.Option.{same_Some}
 use Rattle.companion_file.specs.declared.fault.CompanionCause.{CompanionCause}
 use Rattle.companion_file.specs.declared.fault.CompanionFault.{CompanionFault}
 use Rattle.companion_file.specs.declared.fault.CompanionFault.TheVariants as faults
 use Rattle.companion_file.specs.declared.companion.Companion.{Companion}
 use Rattle.companion_file.specs.Shape.{Shape}
 use Rattle.companion_file.specs.Earlier.{summed, has_all_floors}
-use Rattle.companion_file.specs.Companion.{CompanionView, AreGood, IsFirstBadCompanionLine, IsShort, IsRead, CompanionAnswer, IsAnswered, Gives, companion_view}
+use Rattle.companion_file.specs.Companion.{CompanionView, AreGood, IsFirstBadCompanionLine, IsShort, IsRead, CompanionAnswer, IsAnswered, IsReturned, companion_view}
 use Rattle.companion_file.proofs.GoodLines.{nothing_order}
-use Rattle.companion_file.proofs.OneAnswer.{good_once, IsBadAfter, never_good, bad_once}
+use Rattle.companion_file.proofs.OneAnswer.{good_once, IsBadBehind, never_good, bad_once}
 
 same_reading : (c d s t : ℕ) (f g : List ℤ) (k l : List Task) (m n : List Claim) → c ≡ d → s ≡ t → f ≡ g → k ≡ l → m ≡ n
     → ◌≡◌ {A = CompanionView} (record { cpus = c; start = s; floors = f; tasks = k; claims = m }) (record { cpus = d; start = t; floors = g; tasks = l; claims = n })
@@ -28,7 +29,7 @@ read_once lines r s p q =
     (p.tasks_is ∙ ap (λ (x : List Shape). (summed x).tasks) same ∙ sym q.tasks_is)
     (p.claims_is ∙ ap (λ (x : List Shape). (summed x).claims) same ∙ sym q.claims_is)
 
-bad_after : (lines : List (List ℕ)) (number : ℕ) (cause : CompanionCause) (b : IsFirstBadCompanionLine lines number cause) → IsBadAfter [] b.before b.line cause
+bad_after : (lines : List (List ℕ)) (number : ℕ) (cause : CompanionCause) (b : IsFirstBadCompanionLine lines number cause) → IsBadBehind [] b.before b.line cause
 bad_after lines number cause b = record { said = b.said; good = b.good; content = b.content; bad = b.bad }
 
 good_or_bad : (lines : List (List ℕ)) (number : ℕ) (cause : CompanionCause) (said : List Shape) → IsFirstBadCompanionLine lines number cause → AreGood [] lines said → ⊥
@@ -62,7 +63,7 @@ one_of text (Err f) (Err g) (inr p) (inl q) = absurd (good_or_bad (lines_of text
 one_of text (Err f) (Err g) (inr p) (inr q) = same_fault f.0 g.0 f.1 g.1 (p.place ∙ sym q.place) (p.name ∙ sym q.name)
 
 -- what the text means was returned, unless a growth was refused
-pub only_this : (text : List ℕ) (result : Result Companion CompanionFault) → IsAnswered text result → (answer : Result CompanionView (ℕ × CompanionCause)) → CompanionAnswer text answer → Gives result answer
+pub only_this : (text : List ℕ) (result : Result Companion CompanionFault) → IsAnswered text result → (answer : Result CompanionView (ℕ × CompanionCause)) → CompanionAnswer text answer → IsReturned result answer
 only_this text (Ok c) answered answer q = one_of text answer (Ok (companion_view c)) q answered
 only_this text (Err (faults.Text line cause)) answered answer q = one_of text answer (Err (line, cause)) q answered
 only_this text (Err faults.Memory) answered answer q = tt

@@ -1,29 +1,23 @@
 -- The fields of a line, both ways: what is spelled is read, and what is read is spelled.
-use Rattle.std.proofs.Common.{◌≡◌, ◌⊎◌, ℕ, true, false, eqb, List, [], ◌∷◌, ◌++◌, length, min, ℤ, pos, neg_ℤ, Option, Some, None, refl, sym, ap, subst, ◌∙◌, inl, inr, arith}
+use Rattle.std.proofs.Common.{◌≡◌, ◌⊎◌, ℕ, true, false, eqb, List, [], ◌∷◌, ◌++◌, min, ℤ, pos, neg_ℤ, Option, Some, None, refl, sym, ap, subst, ◌∙◌, inl, inr, arith}
 use Rattle.std.specs.Prelude.{codes}
 use Rattle.std.specs.List.{list_all}
-use Rattle.std.proofs.lemmas.Bool.{cases_Bool, and_parts, eqb-true, ne_eqb}
-use Rattle.std.proofs.lemmas.List.{append-nil, nil_from_length}
+use Rattle.std.proofs.lemmas.Bool.{and_parts, ne_eqb}
+use Rattle.std.proofs.lemmas.List.{append-nil}
 use Rattle.cfs_model.specs.declared.task.Place.{Place}
 use Rattle.cfs_model.specs.declared.task.Place.TheVariants.{Run, Wait, Rest}
 use Rattle.text_parts.specs.Numerals.{is_digit, many, IsNumeral}
 use Rattle.text_parts.specs.Reading.{◌>>=◌, or_else, after_text, numeral_at}
-use Rattle.text_parts.proofs.Runs.{Stops, bind_some, some_is, numeral_again, numeral_taken, text_taken}
+use Rattle.text_parts.proofs.Runs.{Stops, bind_some, at_end_taken, numeral_again, numeral_taken, text_taken}
+use Rattle.text_parts.specs.Reading.{if_at_end}
+use Rattle.std.proofs.lemmas.Option.{same_Some}
 use Rattle.companion_file.specs.VersionOne.{IsNumber, IsInteger, place_word}
-use Rattle.companion_file.specs.ShapeReading.{beyond_range, alone, place_and_rest, signed_at, number_field, number_whole, integer_at, integer_field, integer_whole, place_field}
+use Rattle.companion_file.specs.ShapeReading.{beyond_range, place_and_rest, signed_at, number_field, number_whole, integer_at, integer_field, integer_whole, place_field}
 use Rattle.companion_file.proofs.Clip.{clip_integer, clip-neg}
 
 -- what is behind a space
 abbrev pub spaced_from : List ℕ → List ℕ → List ℕ
 spaced_from word rest = word ++ 32 ∷ rest
-
--- what stands alone has nothing behind it
-alone_is : {A : Type 0} (x : A × List ℕ) (y : A) → alone x ≡ Some y → (x.1 ≡ []) × (x.0 ≡ y)
-alone_is x y e =
-    elim (cases_Bool (eqb (length x.1) 0)) [
-      | inl end ↦ let found : Some x.0 ≡ Some y = rw end at e in (nil_from_length x.1 (eqb-true (length x.1) 0 end), some_is x.0 y found)
-      | inr more ↦ let none : None ≡ Some y = rw more at e in absurd cc
-    ]
 
 -- ---- numbers
 
@@ -56,7 +50,7 @@ unfolding number_field
 number_field_taken text m rest e =
     let a = bind_some (numeral_at text) (λ number. after_text (codes " ") number.1 >>= λ rest. Some (number.0, rest)) (m, rest) e in
     let b = bind_some (after_text (codes " ") a.0.1) (λ rest. Some (a.0.0, rest)) (m, rest) a.2 in
-    let found = some_is (a.0.0, b.0) (m, rest) b.2 in
+    let found = same_Some (a.0.0, b.0) (m, rest) b.2 in
     let value : a.0.0 ≡ m = ap (λ (x : ℕ × List ℕ). x.0) found in
     let end : b.0 ≡ rest = ap (λ (x : ℕ × List ℕ). x.1) found in
     let behind : a.0.1 ≡ 32 ∷ rest = text_taken (codes " ") a.0.1 b.0 b.1 ∙ ap (λ (s : List ℕ). 32 ∷ s) end in
@@ -66,8 +60,8 @@ number_field_taken text m rest e =
 pub number_whole_taken : (text : List ℕ) (m : ℕ) → number_whole text ≡ Some m → (n : ℕ) × IsNumber text n × (m ≡ min n many)
 unfolding number_whole
 number_whole_taken text m e =
-    let a = bind_some (numeral_at text) (λ number. alone number) m e in
-    let end = alone_is a.0 m a.2 in
+    let a = bind_some (numeral_at text) (λ number. if_at_end number.1 number.0) m e in
+    let end = at_end_taken a.0.1 a.0.0 m a.2 in
     let t = number_at_taken text a.0.0 a.0.1 a.1 in
     let whole : t.word ≡ text = sym (t.whole ∙ ap (λ (s : List ℕ). t.word ++ s) end.0 ∙ append-nil t.word) in
     (t.exact, subst (λ w. IsNumber w t.exact) whole t.spelled, sym end.1 ∙ t.value)
@@ -114,7 +108,7 @@ pub record ReadInteger (text : List ℕ) (y : ℤ) (rest : List ℕ) : Type 0 wh
 signed_at_taken : (text : List ℕ) (behind : Option (List ℕ)) (y : ℤ) (rest : List ℕ) → after_text (codes "-") text ≡ behind → signed_at text behind ≡ Some (y, rest) → ReadInteger text y rest
 signed_at_taken text None y rest unsigned e =
     let a = bind_some (numeral_at text) (λ number. Some (pos (min number.0 beyond_range), number.1)) (y, rest) e in
-    let found = some_is (pos (min a.0.0 beyond_range), a.0.1) (y, rest) a.2 in
+    let found = same_Some (pos (min a.0.0 beyond_range), a.0.1) (y, rest) a.2 in
     let value : pos (min a.0.0 beyond_range) ≡ y = ap (λ (x : ℤ × List ℕ). x.0) found in
     let end : a.0.1 ≡ rest = ap (λ (x : ℤ × List ℕ). x.1) found in
     let t = number_at_taken text a.0.0 a.0.1 a.1 in
@@ -127,7 +121,7 @@ signed_at_taken text None y rest unsigned e =
     }
 signed_at_taken text (Some digits) y rest signed e =
     let a = bind_some (numeral_at digits) (λ number. Some (neg_ℤ (pos (min number.0 beyond_range)), number.1)) (y, rest) e in
-    let found = some_is (neg_ℤ (pos (min a.0.0 beyond_range)), a.0.1) (y, rest) a.2 in
+    let found = same_Some (neg_ℤ (pos (min a.0.0 beyond_range)), a.0.1) (y, rest) a.2 in
     let value : neg_ℤ (pos (min a.0.0 beyond_range)) ≡ y = ap (λ (x : ℤ × List ℕ). x.0) found in
     let end : a.0.1 ≡ rest = ap (λ (x : ℤ × List ℕ). x.1) found in
     let t = number_at_taken digits a.0.0 a.0.1 a.1 in
@@ -148,7 +142,7 @@ unfolding integer_field
 integer_field_taken text y rest e =
     let a = bind_some (integer_at text) (λ integer. after_text (codes " ") integer.1 >>= λ rest. Some (integer.0, rest)) (y, rest) e in
     let b = bind_some (after_text (codes " ") a.0.1) (λ rest. Some (a.0.0, rest)) (y, rest) a.2 in
-    let found = some_is (a.0.0, b.0) (y, rest) b.2 in
+    let found = same_Some (a.0.0, b.0) (y, rest) b.2 in
     let value : a.0.0 ≡ y = ap (λ (x : ℤ × List ℕ). x.0) found in
     let end : b.0 ≡ rest = ap (λ (x : ℤ × List ℕ). x.1) found in
     let behind : a.0.1 ≡ 32 ∷ rest = text_taken (codes " ") a.0.1 b.0 b.1 ∙ ap (λ (s : List ℕ). 32 ∷ s) end in
@@ -158,8 +152,8 @@ integer_field_taken text y rest e =
 pub integer_whole_taken : (text : List ℕ) (y : ℤ) → integer_whole text ≡ Some y → (z : ℤ) × IsInteger text z × (y ≡ clip_integer z)
 unfolding integer_whole
 integer_whole_taken text y e =
-    let a = bind_some (integer_at text) (λ integer. alone integer) y e in
-    let end = alone_is a.0 y a.2 in
+    let a = bind_some (integer_at text) (λ integer. if_at_end integer.1 integer.0) y e in
+    let end = at_end_taken a.0.1 a.0.0 y a.2 in
     let t = integer_at_taken text a.0.0 a.0.1 a.1 in
     let whole : t.word ≡ text = sym (t.whole ∙ ap (λ (s : List ℕ). t.word ++ s) end.0 ∙ append-nil t.word) in
     (t.exact, subst (λ w. IsInteger w t.exact) whole t.spelled, sym end.1 ∙ t.value)
@@ -173,21 +167,21 @@ place_field_again Wait rest = refl
 place_field_again Rest rest = refl
 
 -- which word was found
-place_found : (a b c : Option (List ℕ)) (place : Place) (rest : List ℕ) → or_else (place_and_rest Run a) (or_else (place_and_rest Wait b) (place_and_rest Rest c)) ≡ Some (place, rest)
+place_word_found : (a b c : Option (List ℕ)) (place : Place) (rest : List ℕ) → or_else (place_and_rest Run a) (or_else (place_and_rest Wait b) (place_and_rest Rest c)) ≡ Some (place, rest)
     → ((Run ≡ place) × (a ≡ Some rest)) ⊎ ((Wait ≡ place) × (b ≡ Some rest)) ⊎ ((Rest ≡ place) × (c ≡ Some rest))
-place_found (Some t) b c place rest e =
-    let found = some_is (Run, t) (place, rest) e in inl (ap (λ (x : Place × List ℕ). x.0) found, ap (λ (x : Place × List ℕ). Some x.1) found)
-place_found None (Some t) c place rest e =
-    let found = some_is (Wait, t) (place, rest) e in inr (inl (ap (λ (x : Place × List ℕ). x.0) found, ap (λ (x : Place × List ℕ). Some x.1) found))
-place_found None None (Some t) place rest e =
-    let found = some_is (Rest, t) (place, rest) e in inr (inr (ap (λ (x : Place × List ℕ). x.0) found, ap (λ (x : Place × List ℕ). Some x.1) found))
-place_found None None None place rest e = absurd cc
+place_word_found (Some t) b c place rest e =
+    let found = same_Some (Run, t) (place, rest) e in inl (ap (λ (x : Place × List ℕ). x.0) found, ap (λ (x : Place × List ℕ). Some x.1) found)
+place_word_found None (Some t) c place rest e =
+    let found = same_Some (Wait, t) (place, rest) e in inr (inl (ap (λ (x : Place × List ℕ). x.0) found, ap (λ (x : Place × List ℕ). Some x.1) found))
+place_word_found None None (Some t) place rest e =
+    let found = same_Some (Rest, t) (place, rest) e in inr (inr (ap (λ (x : Place × List ℕ). x.0) found, ap (λ (x : Place × List ℕ). Some x.1) found))
+place_word_found None None None place rest e = absurd cc
 
 pub place_field_taken : (text : List ℕ) (place : Place) (rest : List ℕ) → place_field text ≡ Some (place, rest) → text ≡ spaced_from (place_word place) rest
 unfolding place_field
 place_field_taken text place rest e =
     let P : Place → Type 0 = λ p. text ≡ spaced_from (place_word p) rest in
-    elim (place_found (after_text (codes "run ") text) (after_text (codes "wait ") text) (after_text (codes "rest ") text) place rest e) [
+    elim (place_word_found (after_text (codes "run ") text) (after_text (codes "wait ") text) (after_text (codes "rest ") text) place rest e) [
       | inl p ↦ subst P p.0 (text_taken (codes "run ") text rest p.1)
       | inr later ↦ elim later [
         | inl p ↦ subst P p.0 (text_taken (codes "wait ") text rest p.1)

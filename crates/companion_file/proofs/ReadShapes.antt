@@ -9,8 +9,9 @@ use Rattle.cfs_model.specs.declared.claim.ClaimSort.{ClaimSort}
 use Rattle.cfs_model.specs.declared.claim.ClaimSort.TheVariants.{At, Pass}
 use Rattle.text_parts.specs.Numerals.{many}
 use Rattle.text_parts.specs.Reading.{◌>>=◌, after_text, time_at}
-use Rattle.text_parts.proofs.Runs.{bind_some, some_is, text_taken}
+use Rattle.text_parts.proofs.Runs.{bind_some, text_taken}
 use Rattle.text_parts.proofs.Words.{time_from_word}
+use Rattle.std.proofs.lemmas.Option.{same_Some}
 use Rattle.companion_file.specs.Shape.{Shape, version_line, cpus_line, start_line, floor_line, task_line, claim_line}
 use Rattle.companion_file.specs.VersionOne.{place_word, sort_word, IsSpelled}
 use Rattle.companion_file.specs.ShapeReading.{number_field, number_whole, integer_field, integer_whole, place_field, version_shape_at, cpus_shape_at, start_shape_at, floor_shape_at, task_shape_at, claim_shape_at, front_shape_at, shape_at}
@@ -86,14 +87,14 @@ unfolding version_shape_at
 version_found rest y e =
     let a = bind_some (number_whole rest) (λ n. Some (version_line 0)) y e in
     let t = number_whole_taken rest a.0 a.1 in
-    (version_line t.0, (rest, t.1, refl), sym (some_is (version_line 0) y a.2))
+    (version_line t.0, (rest, t.1, refl), sym (same_Some (version_line 0) y a.2))
 
 cpus_found : (rest : List ℕ) (y : Shape) → cpus_shape_at rest ≡ Some y → IsFound (spaced_from (codes "cpus") rest) y
 unfolding cpus_shape_at
 cpus_found rest y e =
     let a = bind_some (number_whole rest) (λ n. Some (cpus_line n)) y e in
     let t = number_whole_taken rest a.0 a.1 in
-    (cpus_line t.0, (rest, t.1, refl), sym (some_is (cpus_line a.0) y a.2) ∙ ap cpus_line t.2)
+    (cpus_line t.0, (rest, t.1, refl), sym (same_Some (cpus_line a.0) y a.2) ∙ ap cpus_line t.2)
 
 start_found : (rest : List ℕ) (y : Shape) → start_shape_at rest ≡ Some y → IsFound (spaced_from (codes "start") rest) y
 unfolding start_shape_at
@@ -103,7 +104,7 @@ start_found rest y e =
       | inl end ↦
           let t = time_from_word rest a.0.0 a.0.1 a.0.2 a.1 end in
           let found : Some (start_line a.0.0 a.0.1) ≡ Some y = rw end at a.2 in
-          (start_line t.0 a.0.1, (rest, t.1, refl), sym (some_is (start_line a.0.0 a.0.1) y found) ∙ ap (λ (s : ℕ). start_line s a.0.1) t.2)
+          (start_line t.0 a.0.1, (rest, t.1, refl), sym (same_Some (start_line a.0.0 a.0.1) y found) ∙ ap (λ (s : ℕ). start_line s a.0.1) t.2)
       | inr more ↦ let none : None ≡ Some y = rw more at a.2 in absurd cc
     ]
 
@@ -116,7 +117,7 @@ floor_found rest y e =
     let t1 = integer_whole_taken a.0.1 b.0 b.1 in (
       floor_line t0.exact t1.0,
       (t0.word, a.0.1, t0.spelled, t1.1, ap (λ (s : List ℕ). spaced_from (codes "floor") s) t0.whole),
-      sym (some_is (floor_line a.0.0 b.0) y b.2) ∙ same_floor a.0.0 (min t0.exact many) b.0 (clip_integer t1.0) t0.value t1.2,
+      sym (same_Some (floor_line a.0.0 b.0) y b.2) ∙ same_floor a.0.0 (min t0.exact many) b.0 (clip_integer t1.0) t0.value t1.2,
     )
 
 claim_found : (sort : ClaimSort) (rest : List ℕ) (y : Shape) → claim_shape_at sort rest ≡ Some y → IsFound (spaced_from (sort_word sort) rest) y
@@ -130,7 +131,7 @@ claim_found sort rest y e =
     let t2 = integer_whole_taken b.0.1 c.0 c.1 in (
       claim_line (record { line = t0.exact; pid = t1.exact; v = t2.0; sort = sort }),
       (t0.word, t1.word, b.0.1, t0.spelled, t1.spelled, t2.1, ap (λ (s : List ℕ). spaced_from (sort_word sort) s) (t0.whole ∙ ap (λ (s : List ℕ). spaced_from t0.word s) t1.whole)),
-      sym (some_is (claim_line (record { line = a.0.0; pid = b.0.0; v = c.0; sort = sort })) y c.2)
+      sym (same_Some (claim_line (record { line = a.0.0; pid = b.0.0; v = c.0; sort = sort })) y c.2)
           ∙ same_claim a.0.0 (min t0.exact many) b.0.0 (min t1.exact many) c.0 (clip_integer t2.0) sort t0.value t1.value t2.2,
     )
 
@@ -151,7 +152,7 @@ task_found rest y e =
     t0.whole ∙ ap (λ (s : List ℕ). spaced_from t0.word s) (t1.whole ∙ ap (λ (s : List ℕ). spaced_from t1.word s) (t2.whole ∙ ap (λ (s : List ℕ). spaced_from t2.word s) t3)) in (
       task_line (record { pid = t0.exact; nice = t1.exact; cpu = t2.exact; place = d.0.0; v = t4.0 }),
       (t0.word, t1.word, t2.word, d.0.1, t0.spelled, t1.spelled, t2.spelled, t4.1, ap (λ (s : List ℕ). spaced_from (codes "task") s) whole),
-      sym (some_is (task_line (record { pid = a.0.0; nice = b.0.0; cpu = c.0.0; place = d.0.0; v = f.0 })) y f.2)
+      sym (same_Some (task_line (record { pid = a.0.0; nice = b.0.0; cpu = c.0.0; place = d.0.0; v = f.0 })) y f.2)
           ∙ same_task a.0.0 (min t0.exact many) b.0.0 (clip_integer t1.exact) c.0.0 (min t2.exact many) f.0 (clip_integer t4.0) d.0.0 t0.value t1.value t2.value t4.2,
     )
 

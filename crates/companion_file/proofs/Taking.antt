@@ -3,20 +3,22 @@
 use Rattle.std.proofs.Common.{◌≡◌, ℕ, ◌≤◌, Bool, true, false, List, Option, Some, None, Result, Ok, Err, refl, sym, ap, subst, ◌∙◌, inl, inr, arith}
 use Rattle.std.specs.Prelude.{unwrap_or, MatchBool}
 use Rattle.std.specs.Option.{ForSome}
+use Rattle.cfs_model.specs.Limits.{most_processors}
 use Rattle.companion_file.specs.declared.fault.CompanionCause.{CompanionCause}
 use Rattle.companion_file.specs.declared.fault.Refusal.{Refusal}
 use Rattle.companion_file.specs.declared.fault.Refusal.TheVariants as refusals
 use Rattle.companion_file.specs.Shape.{Shape, version_line, cpus_line, start_line, floor_line, task_line, claim_line}
-use Rattle.companion_file.specs.VersionOne.{IsComment, IsControlGroup, IsSpelled}
+use Rattle.text_parts.specs.Lines.{IsComment}
+use Rattle.companion_file.specs.VersionOne.{IsControlGroup, IsSpelled}
 use Rattle.companion_file.specs.ShapeReading.{shape_at}
 use Rattle.companion_file.specs.Earlier.{Said}
 use Rattle.companion_file.specs.Tests.{fault_of, tested, IsJudgedFirst, IsJudgedLater, IsJudged}
-use Rattle.companion_file.specs.Draft.{with_line, Follows, TakesFirst, Takes}
+use Rattle.companion_file.specs.Draft.{with_line, AddsTested, TakesFirst, Takes}
 use Rattle.companion_file.proofs.Clip.{fault_clip, same_without_fault}
 use Rattle.companion_file.proofs.ReadShapes.{shape_again, shape_taken}
 
 -- so few processors that no number far out of its limits is one of them
-pub few_cpus : (cpus : Option ℕ) → ForSome cpus (λ n. n ≤ 64) → unwrap_or cpus 0 ≤ 64
+pub few_cpus : (cpus : Option ℕ) → ForSome cpus (λ n. n ≤ most_processors) → unwrap_or cpus 0 ≤ most_processors
 few_cpus None few = omega arith
 few_cpus (Some n) few = few n refl
 
@@ -47,8 +49,8 @@ first_taken old line (Err (refusals.Bad cause)) new content begun taken =
     (content, judged_at old line (Err cause) false begun (inr (taken.0, ap (λ (c : CompanionCause). Err c) taken.1)))
 first_taken old line (Err refusals.Memory) new content begun taken = tt
 
-pub later_taken : (old : Said) (line : List ℕ) (y : Shape) (r : Result Unit Refusal) (new : Said) → ¬ IsComment line → old.begun ≡ true → ¬ IsControlGroup line → unwrap_or old.cpus 0 ≤ 64
-    → shape_at line ≡ Some y → Follows old y r new → Takes old line r new
+pub later_taken : (old : Said) (line : List ℕ) (y : Shape) (r : Result Unit Refusal) (new : Said) → ¬ IsComment line → old.begun ≡ true → ¬ IsControlGroup line → unwrap_or old.cpus 0 ≤ most_processors
+    → shape_at line ≡ Some y → AddsTested old y r new → Takes old line r new
 later_taken old line y (Ok u) new content begun plain few e follows =
     let found = shape_taken line y e in
     let none : fault_of old found.0 ≡ None = sym (fault_clip old found.0 few) ∙ ap (fault_of old) (sym found.2) ∙ follows.0 in

@@ -5,9 +5,8 @@ use Rattle.companion_file.specs.declared.fault.CompanionCause.TheVariants.{Short
 use Rattle.companion_file.specs.declared.fault.CompanionFault.{CompanionFault}
 use Rattle.companion_file.specs.declared.fault.CompanionFault.TheVariants as faults
 use Rattle.companion_file.specs.declared.companion.Companion.{Companion}
-use Rattle.text_parts.specs.Lines.{lines_of}
+use Rattle.text_parts.specs.Lines.{lines_of, IsComment}
 use Rattle.companion_file.specs.Shape.{Shape}
-use Rattle.companion_file.specs.VersionOne.{IsComment}
 use Rattle.companion_file.specs.Earlier.{summed, has_all_floors}
 use Rattle.companion_file.specs.Tests.{IsJudged}
 pub use Rattle.companion_file.specs.Reading.{CompanionView, IsCompanionInOrder}
@@ -64,10 +63,10 @@ abbrev pub companion_view : Companion → CompanionView
 companion_view c = record { cpus = c.cpus; start = c.start; floors = c.floors; tasks = c.tasks; claims = c.claims }
 
 -- what was returned is this answer; of want of memory nothing is said
-abbrev pub Gives : Result Companion CompanionFault → Result CompanionView (ℕ × CompanionCause) → Type 0
-Gives (Ok c) answer = answer ≡ Ok (companion_view c)
-Gives (Err (faults.Text line cause)) answer = answer ≡ Err (line, cause)
-Gives (Err faults.Memory) answer = Unit {0}
+abbrev pub IsReturned : Result Companion CompanionFault → Result CompanionView (ℕ × CompanionCause) → Type 0
+IsReturned (Ok c) answer = answer ≡ Ok (companion_view c)
+IsReturned (Err (faults.Text line cause)) answer = answer ≡ Err (line, cause)
+IsReturned (Err faults.Memory) answer = Unit {0}
 
 -- what was returned is what the text means; of want of memory nothing is said
 abbrev pub IsAnswered : List ℕ → Result Companion CompanionFault → Type 0

@@ -9,22 +9,24 @@ use Rattle.companion_file.specs.Shape.{Shape, version_line, cpus_line, start_lin
 use Rattle.companion_file.specs.declared.fault.CompanionCause.TheVariants.{Version}
 use Rattle.companion_file.specs.declared.fault.CompanionFault.{CompanionFault}
 use Rattle.companion_file.specs.declared.fault.CompanionFault.TheVariants as faults
-use Rattle.companion_file.specs.VersionOne.{first_line, IsComment}
+use Rattle.companion_file.specs.VersionOne.{first_line}
 use Rattle.companion_file.specs.Earlier.{Said, has_all_floors, is_taken}
+use Rattle.text_parts.specs.Lines.{IsComment}
+use Rattle.cfs_model.specs.Limits.{most_processors, greatest_seconds, nanoseconds_per_second}
 use Rattle.cfs_model.specs.Charge.{IsInRange}
 use Rattle.companion_file.specs.Reading.{CompanionView, IsTaskInLimits, RunApart, IsClaimInLimits}
 use Rattle.companion_file.specs.Tests.{fault_of, IsJudged}
 
 -- the processors are few, and of each it is known whether a task runs there
 pub record KnowsRunning (cpus : Option ℕ) (tasks : List Task) (running : List Bool) : Type 0 where
-  pub few : ForSome cpus (λ n. n ≤ 64)
-  pub known : (cpu : ℕ) → cpu < 64 → slice_index_or running cpu false ≡ is_taken tasks cpu
+  pub few : ForSome cpus (λ n. n ≤ most_processors)
+  pub known : (cpu : ℕ) → cpu < most_processors → slice_index_or running cpu false ≡ is_taken tasks cpu
 
 -- what is said with one more line
 abbrev pub with_line : Said → Shape → Said
 with_line said (version_line n) = said
 with_line said (cpus_line n) = record said { cpus = Some n }
-with_line said (start_line seconds nanoseconds) = record said { start = Some (seconds * 1000000000 + nanoseconds) }
+with_line said (start_line seconds nanoseconds) = record said { start = Some (seconds * nanoseconds_per_second + nanoseconds) }
 with_line said (floor_line cpu floor) = record said { floors = said.floors ++ floor ∷ [] }
 with_line said (task_line task) = record said { tasks = said.tasks ++ task ∷ [] }
 with_line said (claim_line claim) = record said { claims = said.claims ++ claim ∷ [] }
@@ -36,10 +38,10 @@ Adds old x (Err (refusals.Bad cause)) new = ⊥
 Adds old x (Err refusals.Memory) new = Unit {0}
 
 -- the line with this shape was added, or it fails a test
-abbrev pub Follows : Said → Shape → Result Unit Refusal → Said → Type 0
-Follows old x (Ok _) new = (fault_of old x ≡ None) × (new ≡ with_line old x)
-Follows old x (Err (refusals.Bad cause)) new = fault_of old x ≡ Some cause
-Follows old x (Err refusals.Memory) new = Unit {0}
+abbrev pub AddsTested : Said → Shape → Result Unit Refusal → Said → Type 0
+AddsTested old x (Ok _) new = (fault_of old x ≡ None) × (new ≡ with_line old x)
+AddsTested old x (Err (refusals.Bad cause)) new = fault_of old x ≡ Some cause
+AddsTested old x (Err refusals.Memory) new = Unit {0}
 
 -- the first line was taken, or it is bad
 abbrev pub TakesFirst : Said → List ℕ → Result Unit Refusal → Said → Type 0
@@ -57,8 +59,8 @@ Takes old line (Err refusals.Memory) new = Unit {0}
 
 -- what lines say that are all good
 pub record KeepsOrder (said : Said) : Type 0 where
-  pub cpus_kept : ForSome said.cpus (λ n. (1 ≤ n) × (n ≤ 64))
-  pub start_kept : ForSome said.start (λ n. n < 4294967296 * 1000000000)
+  pub cpus_kept : ForSome said.cpus (λ n. (1 ≤ n) × (n ≤ most_processors))
+  pub start_kept : ForSome said.start (λ n. n < (greatest_seconds + 1) * nanoseconds_per_second)
   pub floors_after_start : said.start ≡ None → length said.floors ≡ 0
   pub floors_kept : All IsInRange said.floors
   pub tasks_kept : All (IsTaskInLimits (unwrap_or said.cpus 0)) said.tasks

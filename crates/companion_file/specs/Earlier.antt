@@ -2,6 +2,7 @@
 use Rattle.std.specs.Prelude.{ℕ, ◌+◌, ◌*◌, ℤ, Bool, true, false, ◌==◌, ◌&&◌, List, [], ◌∷◌, length, filter_map, Option, Some, None}
 use Rattle.std.specs.Option.{option_map_or}
 use Rattle.std.specs.List.{last_or, list_any}
+use Rattle.cfs_model.specs.Limits.{nanoseconds_per_second}
 use Rattle.cfs_model.specs.declared.task.Task.{Task}
 use Rattle.cfs_model.specs.declared.task.Place.{Place}
 use Rattle.cfs_model.specs.declared.task.Place.TheVariants.{Run, Wait, Rest}
@@ -15,7 +16,7 @@ cpus_in _ = None
 
 -- the start that a line says, in nanoseconds
 abbrev pub start_in : Shape → Option ℕ
-start_in (start_line seconds nanoseconds) = Some (seconds * 1000000000 + nanoseconds)
+start_in (start_line seconds nanoseconds) = Some (seconds * nanoseconds_per_second + nanoseconds)
 start_in _ = None
 
 -- the floor that a line says

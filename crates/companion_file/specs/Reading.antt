@@ -1,8 +1,9 @@
 -- What a companion says, and the order that each companion keeps (this project's companion format).
-use Rattle.std.specs.Prelude.{◌≡◌, ◌≢◌, ℕ, ◌*◌, ◌<◌, ◌≤◌, ℤ, List, length, All, AllPairs}
+use Rattle.std.specs.Prelude.{◌≡◌, ◌≢◌, ℕ, ◌+◌, ◌*◌, ◌<◌, ◌≤◌, ℤ, List, length, All, AllPairs}
 use Rattle.cfs_model.specs.declared.task.Task.{Task}
 use Rattle.cfs_model.specs.declared.task.Place.TheVariants.{Run}
 use Rattle.cfs_model.specs.declared.claim.Claim.{Claim}
+use Rattle.cfs_model.specs.Limits.{greatest_pid, greatest_line, most_processors, greatest_seconds, nanoseconds_per_second}
 use Rattle.cfs_model.specs.Charge.{IsInRange}
 use Rattle.cfs_model.specs.Nice.{IsNice}
 
@@ -19,7 +20,7 @@ pub record CompanionView : Type 0 where
 
 -- a pid is from 1 to the greatest
 abbrev pub IsPid : ℕ → Type 0
-IsPid n = (1 ≤ n) × (n ≤ 4194304)
+IsPid n = (1 ≤ n) × (n ≤ greatest_pid)
 
 -- a task's numbers are within their limits
 pub record IsTaskInLimits (cpus : ℕ) (task : Task) : Type 0 where
@@ -30,7 +31,7 @@ pub record IsTaskInLimits (cpus : ℕ) (task : Task) : Type 0 where
 
 -- a claim's numbers are within their limits
 pub record IsClaimInLimits (claim : Claim) : Type 0 where
-  pub line : (1 ≤ claim.line) × (claim.line ≤ 4294967295)
+  pub line : (1 ≤ claim.line) × (claim.line ≤ greatest_line)
   pub pid : IsPid claim.pid
   pub v : IsInRange claim.v
 
@@ -40,8 +41,8 @@ RunApart t u = t.place ≡ Run → u.place ≡ Run → t.cpu ≢ u.cpu
 
 -- what every companion keeps
 pub record IsCompanionInOrder (r : CompanionView) : Type 0 where
-  pub cpus_in_limits : (1 ≤ r.cpus) × (r.cpus ≤ 64)
-  pub start_in_limits : r.start < 4294967296 * 1000000000
+  pub cpus_in_limits : (1 ≤ r.cpus) × (r.cpus ≤ most_processors)
+  pub start_in_limits : r.start < (greatest_seconds + 1) * nanoseconds_per_second
   pub floor_for_each_cpu : length r.floors ≡ r.cpus
   pub floors_in_limits : All IsInRange r.floors
   pub tasks_in_limits : All (IsTaskInLimits r.cpus) r.tasks

@@ -1,22 +1,19 @@
 -- How one line of a companion is read from left to right: what each part takes from the front of a text, and what it
 -- leaves. Nothing here is to be believed: it is proved to give what `VersionOne` spells, but for numbers far out of
 -- their limits, which are read as other numbers out of their limits.
-use Rattle.std.specs.Prelude.{ℕ, ◌+◌, ◌^◌, ◌==◌, ℤ, pos, neg_ℤ, min, List, codes, length, Option, None, Some, if◌then◌else◌, option_map}
+use Rattle.std.specs.Prelude.{ℕ, ◌+◌, ℤ, pos, neg_ℤ, min, List, codes, Option, None, Some, option_map}
 use Rattle.std.specs.Option.{option_map_or}
+use Rattle.cfs_model.specs.Limits.{greatest_runtime}
 use Rattle.cfs_model.specs.declared.task.Place.{Place}
 use Rattle.cfs_model.specs.declared.task.Place.TheVariants.{Run, Wait, Rest}
 use Rattle.cfs_model.specs.declared.claim.ClaimSort.{ClaimSort}
 use Rattle.cfs_model.specs.declared.claim.ClaimSort.TheVariants.{At, Pass}
-use Rattle.text_parts.specs.Reading.{◌>>=◌, or_else, after_text, numeral_at, time_at}
+use Rattle.text_parts.specs.Reading.{◌>>=◌, or_else, if_at_end, after_text, numeral_at, time_at}
 use Rattle.companion_file.specs.Shape.{Shape, version_line, cpus_line, start_line, floor_line, task_line, claim_line}
 
 -- a number above each virtual runtime; larger ones are read as this one
 abbrev pub beyond_range : ℕ
-beyond_range = 2 ^ 62 + 1
-
--- what is there, where nothing follows it
-abbrev pub alone : {A : Type 0} → A × List ℕ → Option A
-alone x = if length x.1 == 0 then Some x.0 else None
+beyond_range = greatest_runtime + 1
 
 -- a number and the space behind it
 unfoldable pub number_field : List ℕ → Option (ℕ × List ℕ)
@@ -27,7 +24,7 @@ number_field text = do
 
 -- the whole text is a number
 unfoldable pub number_whole : List ℕ → Option ℕ
-number_whole text = numeral_at text >>= λ number. alone number
+number_whole text = numeral_at text >>= λ number. if_at_end number.1 number.0
 
 -- an integer behind its sign, where there is one
 abbrev pub signed_at : List ℕ → Option (List ℕ) → Option (ℤ × List ℕ)
@@ -46,7 +43,7 @@ integer_field text = do
 
 -- the whole text is an integer
 unfoldable pub integer_whole : List ℕ → Option ℤ
-integer_whole text = integer_at text >>= λ integer. alone integer
+integer_whole text = integer_at text >>= λ integer. if_at_end integer.1 integer.0
 
 -- a place and the space behind it
 abbrev pub place_and_rest : Place → Option (List ℕ) → Option (Place × List ℕ)
@@ -65,7 +62,7 @@ unfoldable pub cpus_shape_at : List ℕ → Option Shape
 cpus_shape_at text = number_whole text >>= λ n. Some (cpus_line n)
 
 unfoldable pub start_shape_at : List ℕ → Option Shape
-start_shape_at text = time_at text >>= λ time. if length time.2 == 0 then Some (start_line time.0 time.1) else None
+start_shape_at text = time_at text >>= λ time. if_at_end time.2 (start_line time.0 time.1)
 
 unfoldable pub floor_shape_at : List ℕ → Option Shape
 floor_shape_at text = do

@@ -1,7 +1,7 @@
 -- The tests of a line of a companion, after what the lines before it say (this project's companion format).
 use Rattle.std.specs.Prelude.{◌≡◌, ◌≢◌, ℕ, ℤ, pos, negsuc, neg_ℤ, int_le, Bool, true, false, not, ◌&&◌, nat_le, nat_lt, ◌==◌, if◌then◌else◌, List, length, Option, Some, None, Result, Ok, Err, unwrap_or, is_some, ◌⊎◌, MatchBool}
 use Rattle.std.specs.Option.{option_map_or, is_none}
-use Rattle.cfs_model.specs.Charge.{greatest}
+use Rattle.cfs_model.specs.Limits.{greatest_runtime, greatest_pid, most_processors, greatest_seconds, greatest_line}
 use Rattle.companion_file.specs.declared.fault.CompanionCause.{CompanionCause}
 use Rattle.companion_file.specs.declared.fault.CompanionCause.TheVariants.{Version, Group, BadLine, Order, NumberRange, TwiceNamed, TwiceRunning, LineOrder}
 use Rattle.companion_file.specs.Shape.{Shape, version_line, cpus_line, start_line, floor_line, task_line, claim_line}
@@ -18,13 +18,13 @@ is_in_turn said (floor_line cpu floor) = is_some said.start && not (has_all_floo
 is_in_turn said (task_line task) = has_all_floors said && (length said.claims == 0)
 is_in_turn said (claim_line claim) = has_all_floors said
 
--- a task's pid is from 1 to 4194304
+-- a task's pid is from 1 to the greatest
 abbrev pub is_pid : ℕ → Bool
-is_pid n = nat_le 1 n && nat_le n 4194304
+is_pid n = nat_le 1 n && nat_le n greatest_pid
 
 -- a virtual runtime or a floor is within its limits
 abbrev pub is_value : ℤ → Bool
-is_value v = int_le (neg_ℤ (pos greatest)) v && int_le v (pos greatest)
+is_value v = int_le (neg_ℤ (pos greatest_runtime)) v && int_le v (pos greatest_runtime)
 
 -- a nice value is from -20 to 19
 abbrev pub is_nice : ℤ → Bool
@@ -33,11 +33,11 @@ is_nice z = int_le (negsuc 19) z && int_le z (pos 19)
 -- each number of the line is within its limits, at this many processors
 abbrev pub is_in_limits : ℕ → Shape → Bool
 is_in_limits cpus (version_line n) = true
-is_in_limits cpus (cpus_line n) = nat_le 1 n && nat_le n 64
-is_in_limits cpus (start_line seconds nanoseconds) = nat_le seconds 4294967295
+is_in_limits cpus (cpus_line n) = nat_le 1 n && nat_le n most_processors
+is_in_limits cpus (start_line seconds nanoseconds) = nat_le seconds greatest_seconds
 is_in_limits cpus (floor_line cpu floor) = nat_lt cpu cpus && is_value floor
 is_in_limits cpus (task_line task) = is_pid task.pid && is_nice task.nice && nat_lt task.cpu cpus && is_value task.v
-is_in_limits cpus (claim_line claim) = nat_le 1 claim.line && nat_le claim.line 4294967295 && is_pid claim.pid && is_value claim.v
+is_in_limits cpus (claim_line claim) = nat_le 1 claim.line && nat_le claim.line greatest_line && is_pid claim.pid && is_value claim.v
 
 -- a floor's processor is the next one, and a task's pid is not less than the last task's
 abbrev pub is_next : Said → Shape → Bool

@@ -13,11 +13,6 @@ use Rattle.companion_file.specs.Shape.{Shape, version_line, cpus_line, start_lin
 abbrev pub first_line : List ℕ
 first_line = codes "cfs-companion 1"
 
--- a comment is empty or begins with `#`
-abbrev pub IsComment : List ℕ → Type 0
-IsComment [] = Unit {0}
-IsComment (b ∷ bs) = b ≡ 35
-
 -- a line about a control group
 abbrev pub IsControlGroup : List ℕ → Type 0
 IsControlGroup line = (line ≡ codes "cgroup") ⊎ ((rest : List ℕ) × (line ≡ codes "cgroup " ++ rest))

@@ -41,7 +41,7 @@ impl Companion {
         }
     }
 
-    /// The number of processors, 1 to 64.
+    /// The number of processors: at least 1, and at most `MOST_PROCESSORS`.
     pub fn cpus(&self) -> u32
         ensures { result ≡ self.now.cpus }
     {

@@ -2,6 +2,7 @@ ghost use Rattle.std.specs.Prelude.{◌≡◌, ◌≤◌, ◌<◌, ℕ, ◌&&◌
 ghost use Rattle.std.specs.Option.{option_map_or};
 ghost use Rattle.cfs_model.specs.declared.task.Task.{Task};
 ghost use Rattle.cfs_model.specs.declared.claim.Claim.{Claim};
+ghost use Rattle.cfs_model.specs.Limits.{most_processors};
 ghost use Rattle.companion_file.specs.Shape.{task_line};
 ghost use Rattle.companion_file.specs.Earlier.{summed, has_all_floors, last_task, last_claim, is_run, is_taken};
 ghost use Rattle.companion_file.specs.Tests.{is_in_limits};
@@ -14,9 +15,9 @@ use crate::claims::Claims;
 use crate::companion::Companion;
 use crate::fault::Refusal;
 use crate::floors::Floors;
-use crate::limits::{MOST_CPUS, is_pid, is_running, is_value, nice_of};
+use crate::limits::{is_pid, is_running, is_value, nice_of};
 use crate::tasks::Tasks;
-use cfs_model::{Claim, Place, Task};
+use cfs_model::{Claim, MOST_PROCESSORS, Place, Task};
 use std::alloc::Global;
 use std::marker::Model;
 
@@ -30,7 +31,7 @@ pub(crate) struct Draft {
     tasks: Vec<Task>,
     claims: Vec<Claim>,
     // By processor, whether a task runs there.
-    running: [bool; MOST_CPUS],
+    running: [bool; MOST_PROCESSORS],
 }
 
 impl Model for Draft {
@@ -44,8 +45,8 @@ impl Model for Draft {
     ghost invariant = { λ d. KnowsRunning d.cpus d.tasks.items d.running };
 }
 
-fn occupy(running: &mut [bool; MOST_CPUS], cpu: u32)
-    requires { cpu < 64 }
+fn occupy(running: &mut [bool; MOST_PROCESSORS], cpu: u32)
+    requires { cpu < most_processors }
     ensures { running.new ≡ slice_set running.old cpu true }
 {
     running[cpu as usize] = true;
@@ -62,7 +63,7 @@ impl Draft {
             floors: Vec::new(alloc),
             tasks: Vec::new(alloc),
             claims: Vec::new(alloc),
-            running: [false; MOST_CPUS],
+            running: [false; MOST_PROCESSORS],
         }
     }
 
@@ -77,7 +78,7 @@ impl Draft {
 
     fn has_cpu(&self, cpu: u64) -> bool
         ensures below { result ≡ nat_lt cpu (unwrap_or self.now.cpus 0) }
-        ensures few { IsTrue result → cpu < 64 }
+        ensures few { IsTrue result → cpu < most_processors }
     {
         cpu < u64::from(self.cpus.unwrap_or(0))
     }

@@ -1,26 +1,13 @@
 ghost use Rattle.std.specs.Prelude.{◌≡◌};
-ghost use Rattle.text_parts.specs.Reading.{Gives, after_text, numeral_at};
+ghost use Rattle.text_parts.specs.Reading.{Gives, after_text};
 ghost use Rattle.companion_file.specs.ShapeReading.{number_field, number_whole, integer_at, integer_field, integer_whole, place_field};
 
-use cfs_model::Place;
-use text_parts::numerals::number_at;
+use cfs_model::{GREATEST_RUNTIME, Place};
+use text_parts::numerals::numeral_at;
 use text_parts::pieces::after_front;
 
 /// A number above each virtual runtime. Larger ones are read as this one.
-const BEYOND: u64 = (1 << 62) + 1;
-
-#[inline(always)]
-#[tactic(auto, unfolding(text_parts::specs::Reading::numeral_at))]
-fn numeral(text: &[u8]) -> Option<(u64, &[u8])>
-    ensures { Gives (λ x. (x.0, x.1.now)) result (numeral_at text.now) }
-{
-    let number = number_at(text);
-    if number.digits == 0 {
-        None
-    } else {
-        Some((number.value, number.rest))
-    }
-}
+const BEYOND: u64 = GREATEST_RUNTIME as u64 + 1;
 
 /// A number and the space behind it.
 #[inline(always)]
@@ -28,7 +15,7 @@ fn numeral(text: &[u8]) -> Option<(u64, &[u8])>
 pub(crate) fn number_field(text: &[u8]) -> Option<(u64, &[u8])>
     ensures { Gives (λ x. (x.0, x.1.now)) result (number_field text.now) }
 {
-    let (number, rest) = numeral(text)?;
+    let (number, rest) = numeral_at(text)?;
     let rest = after_front(rest, b" ")?;
     Some((number, rest))
 }
@@ -39,7 +26,7 @@ pub(crate) fn number_field(text: &[u8]) -> Option<(u64, &[u8])>
 pub(crate) fn number_whole(text: &[u8]) -> Option<u64>
     ensures { Gives (λ n. n) result (number_whole text.now) }
 {
-    let (number, rest) = numeral(text)?;
+    let (number, rest) = numeral_at(text)?;
     if rest.is_empty() { Some(number) } else { None }
 }
 
@@ -50,11 +37,11 @@ fn integer(text: &[u8]) -> Option<(i64, &[u8])>
 {
     match after_front(text, b"-") {
         None => {
-            let (number, rest) = numeral(text)?;
+            let (number, rest) = numeral_at(text)?;
             Some((number.min(BEYOND) as i64, rest))
         }
         Some(digits) => {
-            let (number, rest) = numeral(digits)?;
+            let (number, rest) = numeral_at(digits)?;
             Some((-(number.min(BEYOND) as i64), rest))
         }
     }

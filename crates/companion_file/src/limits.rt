@@ -4,27 +4,12 @@ ghost use Rattle.companion_file.specs.Shape.{claim_line};
 ghost use Rattle.companion_file.specs.Earlier.{is_run};
 ghost use Rattle.companion_file.specs.Tests.{is_value, is_pid, is_nice, is_in_limits};
 
-use cfs_model::{Claim, ClaimSort, Nice, Place};
-
-/// The greatest number of processors.
-pub(crate) const MOST_CPUS: usize = 64;
-
-/// The last second of a start.
-pub(crate) const LAST_SECOND: u64 = 4_294_967_295;
-
-/// The greatest pid of a task.
-const GREATEST_PID: u64 = 4_194_304;
-
-/// The last line of a trace.
-const LAST_LINE: u64 = 4_294_967_295;
-
-/// The greatest virtual runtime, in virtual nanoseconds.
-const GREATEST: i64 = 1 << 62;
+use cfs_model::{Claim, ClaimSort, GREATEST_LINE, GREATEST_PID, GREATEST_RUNTIME, Nice, Place};
 
 pub(crate) fn is_value(v: i64) -> bool
     ensures { result ≡ is_value v }
 {
-    -GREATEST <= v && v <= GREATEST
+    -GREATEST_RUNTIME <= v && v <= GREATEST_RUNTIME
 }
 
 pub(crate) fn is_pid(pid: u64) -> bool
@@ -57,7 +42,7 @@ pub(crate) fn claim_within(line: u64, pid: u64, v: i64, sort: ClaimSort) -> Opti
         MatchOption result ((cpus : ℕ) → is_in_limits cpus (claim_line claim) ≡ false)
         (λ within. (within ≡ claim) × ((cpus : ℕ) → is_in_limits cpus (claim_line claim) ≡ true)) }
 {
-    if 1 <= line && line <= LAST_LINE && is_pid(pid) && is_value(v) {
+    if 1 <= line && line <= GREATEST_LINE && is_pid(pid) && is_value(v) {
         Some(Claim {
             line: line as u32,
             pid: pid as u32,

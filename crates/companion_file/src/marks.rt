@@ -1,18 +1,7 @@
 ghost use Rattle.std.specs.Prelude.{◌≡◌, ◌↔◌, IsTrue};
-ghost use Rattle.companion_file.specs.VersionOne.{first_line, IsComment, IsControlGroup};
+ghost use Rattle.companion_file.specs.VersionOne.{first_line, IsControlGroup};
 
 use text_parts::pieces::after_front;
-
-/// An empty line is a comment, and so is one that begins with `#`.
-#[inline(always)]
-pub(crate) fn is_comment(line: &[u8]) -> bool
-    ensures { IsTrue result ↔ IsComment line.now }
-{
-    match line {
-        [] => true,
-        [first, ..] => *first == b'#',
-    }
-}
 
 /// The line that names the format and its version.
 pub(crate) fn is_first(line: &[u8]) -> bool

@@ -1,7 +1,7 @@
 ghost use Rattle.std.specs.Prelude.{◌≡◌, ℕ, ◌+◌, ◌<◌, ◌^◌, List, Result, IsErrOf, IfOk};
 ghost use Rattle.text_parts.specs.Lines.{lines_of};
 ghost use Rattle.companion_file.specs.declared.fault.CompanionCause.{CompanionCause};
-ghost use Rattle.companion_file.specs.Companion.{CompanionView, CompanionAnswer, IsRefusedCompanion, IsRead, IsAnswered, Gives, companion_view};
+ghost use Rattle.companion_file.specs.Companion.{CompanionView, CompanionAnswer, IsRefusedCompanion, IsRead, IsAnswered, IsReturned, companion_view};
 
 use crate::companion::Companion;
 use crate::draft::Draft;
@@ -18,7 +18,7 @@ pub fn read_companion(alloc: Global, text: &[u8]) -> Result<Companion, Companion
     // What is read is what all lines say.
     ensures read { IfOk result (λ c. IsRead (lines_of text.now) (companion_view c)) }
     // What the text means is answered, unless a growth was refused.
-    ensures only { (answer : Result CompanionView (ℕ × CompanionCause)) → CompanionAnswer text.now answer → Gives result answer }
+    ensures only { (answer : Result CompanionView (ℕ × CompanionCause)) → CompanionAnswer text.now answer → IsReturned result answer }
 {
     companion_of(alloc, text)
 }

@@ -5,13 +5,14 @@ use Rattle.std.specs.Prelude.{IsTrue}
 use Rattle.std.specs.List.{list_all}
 use Rattle.std.proofs.lemmas.Bool.{and_parts, and_from, leb-true, eqb-true, ne_eqb}
 use Rattle.std.proofs.lemmas.List.{length-append}
+use Rattle.std.proofs.lemmas.Option.{same_Some}
 use Rattle.text_parts.specs.Numerals.{is_digit, many}
 use Rattle.text_parts.specs.Pieces.{IsRunOf, is_space, IsGap}
 use Rattle.text_parts.specs.Time.{IsTime}
 use Rattle.ftrace_line.specs.Head.{is_flag, IsFlags}
 use Rattle.text_parts.specs.Reading.{or_else, after_text, after_run, time_at}
 use Rattle.ftrace_line.specs.Meaning.{stamp_at, flagged_stamp_at}
-use Rattle.text_parts.proofs.Runs.{Stops, stops_at_run, run_again, run_taken, text_taken, text_again, bind_elim, some_is, none_from}
+use Rattle.text_parts.proofs.Runs.{Stops, stops_at_run, run_again, run_taken, text_taken, text_again, bind_elim, none_from}
 use Rattle.text_parts.proofs.Times.{time_again, time_taken, TakesTime}
 use Rattle.ftrace_line.proofs.HeadParts.{digit_is_no_space, flag_is_no_space}
 
@@ -29,7 +30,7 @@ stamp_from : (s : List ℕ) (x : ℕ × ℕ × List ℕ) (seconds nanoseconds : 
     TakesTime s x.0 x.1 x.2 → x.2 ≡ 58 ∷ 32 ∷ left → stamp_found x.0 x.1 left ≡ stamp_found seconds nanoseconds text →
     TakesTime s seconds nanoseconds (58 ∷ 32 ∷ text)
 stamp_from s x seconds nanoseconds left text t colon e =
-    subst (λ (y : ℕ × ℕ × List ℕ). TakesTime s y.0 y.1 (58 ∷ 32 ∷ y.2)) (some_is (x.0, x.1, left) (seconds, nanoseconds, text) e) (subst (λ (r : List ℕ). TakesTime s x.0 x.1 r) colon t)
+    subst (λ (y : ℕ × ℕ × List ℕ). TakesTime s y.0 y.1 (58 ∷ 32 ∷ y.2)) (same_Some (x.0, x.1, left) (seconds, nanoseconds, text) e) (subst (λ (r : List ℕ). TakesTime s x.0 x.1 r) colon t)
 
 pub stamp_taken : (s : List ℕ) (seconds nanoseconds : ℕ) (text : List ℕ) →
     stamp_at s ≡ Some (seconds, nanoseconds, text) → TakesTime s seconds nanoseconds (58 ∷ 32 ∷ text)
@@ -85,7 +86,7 @@ no_stamp_at_flags flags gap s run space =
     let by_time : after_run is_flag (t.time ++ (58 ∷ 32 ∷ x.2)) ≡ Some (58 ∷ 32 ∷ x.2) =
     run_again is_flag t.time (58 ∷ 32 ∷ x.2) (time_is_flags t.time t.exact_seconds x.1 t.form) refl in
     let both : Some (58 ∷ 32 ∷ x.2) ≡ Some (gap ++ s) = sym by_time ∙ ap (after_run is_flag) (sym t.whole) ∙ by_flags in
-    gap_is_no_colon gap (32 ∷ x.2) s space (some_is (58 ∷ 32 ∷ x.2) (gap ++ s) both))
+    gap_is_no_colon gap (32 ∷ x.2) s space (same_Some (58 ∷ 32 ∷ x.2) (gap ++ s) both))
 
 -- ---- the time behind flags or not
 

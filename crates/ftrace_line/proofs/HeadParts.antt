@@ -3,12 +3,13 @@ use Rattle.std.proofs.Common.{◌≡◌, ℕ, suc, ◌<◌, ◌≤◌, ◌==◌,
 use Rattle.std.specs.List.{prefix_len, take_while}
 use Rattle.std.proofs.lemmas.Bool.{cases_Bool, and_parts, or_parts, not-true, ltb-true, ltb-false, leb-true, eqb-true, ne_eqb, lt-ltb, le-ltb}
 use Rattle.std.proofs.lemmas.List.{drop_at, drop_more, take-append-drop, length-append, length-take-le, get_or_at}
+use Rattle.std.proofs.lemmas.Option.{same_Some}
 use Rattle.text_parts.specs.Numerals.{is_digit, value_of, many, IsNumeral}
 use Rattle.text_parts.specs.Pieces.{IsRunOf, is_space, IsGap}
 use Rattle.ftrace_line.specs.Head.{is_group_byte, IsThreadGroup, is_flag}
 use Rattle.text_parts.specs.Reading.{or_else, after_text, after_run, front_value}
 use Rattle.ftrace_line.specs.Meaning.{after_name, after_brackets, after_group, processor_at}
-use Rattle.text_parts.proofs.Runs.{Stops, begins_with, BeginsWith, run_again, run_taken, text_taken, text_again, bind_elim, guard_some, some_is, front_is_run, front_and_rest, length_front}
+use Rattle.text_parts.proofs.Runs.{Stops, digits_in_front, DigitsInFront, run_again, run_taken, text_taken, text_again, bind_elim, guard_some, front_is_run, front_and_rest, length_front}
 
 -- ---- bytes that are told apart
 
@@ -25,9 +26,9 @@ flag_is_no_space b e = (or_parts (is_space b) (b == 58) (not-true (is_space b ||
 
 -- ---- the name
 
-pub name_again : (name rest : List ℕ) → length name ≡ 15 → after_name (32 ∷ (name ++ (45 ∷ rest))) ≡ Some rest
+pub head_name_again : (name rest : List ℕ) → length name ≡ 15 → after_name (32 ∷ (name ++ (45 ∷ rest))) ≡ Some rest
 unfolding after_name
-name_again name rest width =
+head_name_again name rest width =
     let text : List ℕ = name ++ (45 ∷ rest) in
     let long : ltb 16 (suc (length text)) ≡ true = lt-ltb 16 (suc (length text)) (omega (arith, length-append name (45 ∷ rest))) in
     let dash : get_or text 15 0 ≡ 45 = get_or_at name 45 rest 0 15 width in
@@ -48,7 +49,7 @@ name_taken (b ∷ s) rest e =
           let long : 16 < suc (length s) = ltb-true 16 (suc (length s)) p.0 in
           let found : Some (drop 16 s) ≡ Some rest = rw fits at e in
           let behind : drop 15 s ≡ 45 ∷ rest =
-          drop_more s 15 0 (omega arith) ∙ ap (λ c. c ∷ drop 16 s) (eqb-true (get_or s 15 0) 45 q.1) ∙ ap (λ (t : List ℕ). 45 ∷ t) (some_is (drop 16 s) rest found) in
+          drop_more s 15 0 (omega arith) ∙ ap (λ c. c ∷ drop 16 s) (eqb-true (get_or s 15 0) 45 q.1) ∙ ap (λ (t : List ℕ). 45 ∷ t) (same_Some (drop 16 s) rest found) in
           (take 15 s, length-take-le 15 s (omega arith), ap (λ c. c ∷ s) (eqb-true b 32 q.0) ∙ ap (λ (t : List ℕ). 32 ∷ t) (sym (take-append-drop 15 s) ∙ ap (λ (t : List ℕ). take 15 s ++ t) behind))
       | inr other ↦ let nothing : None ≡ Some rest = rw other at e in absurd cc
     ]
@@ -88,7 +89,7 @@ brackets_taken s rest e =
 group_from : (s rest : List ℕ) (r : Option (List ℕ)) → (r ≡ Some rest → (g : List ℕ) × IsThreadGroup g × (s ≡ g ++ rest)) →
     or_else r (Some s) ≡ Some rest → (g : List ℕ) × IsThreadGroup g × (s ≡ g ++ rest)
 group_from s rest (Some x) taken e = taken e
-group_from s rest None taken e = ([], inl refl, some_is s rest e)
+group_from s rest None taken e = ([], inl refl, same_Some s rest e)
 
 pub group_taken : (s rest : List ℕ) → after_group s ≡ Some rest → (g : List ℕ) × IsThreadGroup g × (s ≡ g ++ rest)
 unfolding after_group
@@ -100,7 +101,7 @@ pub processor_again : (digits rest : List ℕ) → IsNumeral digits → 3 ≤ le
     processor_at (91 ∷ (digits ++ (93 ∷ rest))) ≡ Some (min (value_of digits) many, rest)
 unfolding processor_at
 processor_again digits rest numeral width =
-    let b : BeginsWith digits (93 ∷ rest) (digits ++ (93 ∷ rest)) = begins_with digits (93 ∷ rest) numeral refl in
+    let b : DigitsInFront digits (93 ∷ rest) (digits ++ (93 ∷ rest)) = digits_in_front digits (93 ∷ rest) numeral refl in
     rw (text_again (codes "[") (digits ++ (93 ∷ rest)), b.value_is, b.rest_is, b.length_is, le-ltb (length digits) 3 width, text_again (codes "]") rest) refl
 
 pub record TakesProcessor (s : List ℕ) (value : ℕ) (rest : List ℕ) : Type 0 where
@@ -119,7 +120,7 @@ processor_from s digits left value rest first found e =
     let g =
     guard_some (ltb (prefix_len is_digit digits) 3) (after_text (codes "]") (drop (prefix_len is_digit digits) digits)) left found in
     let width : 3 ≤ prefix_len is_digit digits = ltb-false (prefix_len is_digit digits) 3 g.0 in
-    let both : (front_value digits, left) ≡ (value, rest) = some_is (front_value digits, left) (value, rest) e in
+    let both : (front_value digits, left) ≡ (value, rest) = same_Some (front_value digits, left) (value, rest) e in
     let front : List ℕ = take_while is_digit digits in
     let bracket : drop (prefix_len is_digit digits) digits ≡ 93 ∷ rest =
     text_taken (codes "]") (drop (prefix_len is_digit digits) digits) left g.1 ∙ ap (λ (x : ℕ × List ℕ). 93 ∷ x.1) both in

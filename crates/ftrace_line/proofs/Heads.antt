@@ -1,12 +1,13 @@
 -- A head, both ways: what was read in front of a line is its head, and a line's head is what is read.
 use Rattle.std.proofs.Common.{◌≡◌, ℕ, List, ◌∷◌, ◌++◌, length, min, Option, Some, refl, ap, subst, ◌∙◌}
+use Rattle.std.proofs.lemmas.Option.{same_Some}
 use Rattle.text_parts.specs.Numerals.{is_digit, value_of, many, IsNumeral}
 use Rattle.ftrace_line.specs.Head.{IsThreadGroup, IsHead}
 use Rattle.text_parts.specs.Pieces.{is_space, IsGap}
 use Rattle.text_parts.specs.Reading.{or_else, after_run}
 use Rattle.ftrace_line.specs.Meaning.{after_name, after_group, processor_at, stamp_at, flagged_stamp_at, HeadParts, head_at}
-use Rattle.text_parts.proofs.Runs.{stops_at_run, run_again, run_taken, bind_elim, some_is}
-use Rattle.ftrace_line.proofs.HeadParts.{space_is_no_digit, name_again, name_taken, group_again, group_stops, group_taken, processor_again, processor_taken, TakesProcessor}
+use Rattle.text_parts.proofs.Runs.{stops_at_run, run_again, run_taken, bind_elim}
+use Rattle.ftrace_line.proofs.HeadParts.{space_is_no_digit, head_name_again, name_taken, group_again, group_stops, group_taken, processor_again, processor_taken, TakesProcessor}
 use Rattle.ftrace_line.proofs.Clocks.{clock_again, clock_stops, clock_taken, TakesClock}
 
 abbrev pub parts_found : ℕ → ℕ → ℕ → List ℕ → Option HeadParts
@@ -23,7 +24,7 @@ head_again line cpu seconds nanoseconds text h =
     let named : List ℕ = h.pid ++ (h.pid_gap ++ (h.group ++ behind)) in
     rw (
       h.whole,
-      name_again h.name named h.name_width,
+      head_name_again h.name named h.name_width,
       run_again is_digit h.pid (h.pid_gap ++ (h.group ++ behind)) h.pid_form (stops_at_run is_digit is_space h.pid_gap (h.group ++ behind) h.pid_gap_form space_is_no_digit),
       run_again is_space h.pid_gap (h.group ++ behind) h.pid_gap_form (group_stops h.group (h.processor ++ (93 ∷ (h.processor_gap ++ clock))) h.group_form),
       group_again h.group (h.processor ++ (93 ∷ (h.processor_gap ++ clock))) h.group_form,
@@ -60,7 +61,7 @@ head_from : (line pid pid_gap group bracket clock : List ℕ) (processor : ℕ �
     parts_found processor.0 stamp.0 stamp.1 stamp.2 ≡ Some parts →
     TakesHead line parts
 head_from line pid pid_gap group bracket clock processor stamp parts (name, width, a) (digits, numeral, b) (gap, gap_form, c) (column, column_form, d) p (space, space_form, f) t e =
-    subst (λ (x : HeadParts). TakesHead line x) (some_is _ parts e) (record {
+    subst (λ (x : HeadParts). TakesHead line x) (same_Some _ parts e) (record {
       cpu = value_of p.digits;
       seconds = t.exact_seconds;
       head = record {

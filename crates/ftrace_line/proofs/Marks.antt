@@ -2,10 +2,11 @@
 use Rattle.std.proofs.Common.{◌≡◌, ◌≤◌, ℕ, Bool, true, false, cond, List, ◌++◌, length, Option, Some, None, refl, ap, arith, length-append}
 use Rattle.ftrace_line.specs.declared.kinds.Which.{Which}
 use Rattle.ftrace_line.specs.declared.kinds.Which.TheVariants.{Switch, Wakeup, WakeupNew, MigrateTask}
+use Rattle.std.proofs.lemmas.Option.{same_Some}
 use Rattle.text_parts.specs.Pieces.{begins_with}
 use Rattle.ftrace_line.specs.Line.{mark_of}
 use Rattle.ftrace_line.specs.Meaning.{kind_at, fields_of}
-use Rattle.text_parts.proofs.Runs.{none_from, some_is}
+use Rattle.text_parts.proofs.Runs.{none_from}
 use Rattle.text_parts.proofs.Fronts.{front_then_rest}
 
 -- a text behind a mark is read as that event
@@ -26,7 +27,7 @@ fields_again MigrateTask rest = refl
 -- a choice that gave this kind was made by its mark, or later
 by_mark : (text : List ℕ) (which found : Which) (later : Option Which) → (later ≡ Some found → begins_with (mark_of found) text ≡ true) →
     (b : Bool) → begins_with (mark_of which) text ≡ b → cond b (Some which) later ≡ Some found → begins_with (mark_of found) text ≡ true
-by_mark text which found later on true there e = rw (← some_is which found e) there
+by_mark text which found later on true there e = rw (← same_Some which found e) there
 by_mark text which found later on false there e = on e
 
 -- what was read as an event begins with its mark

@@ -2,30 +2,22 @@
 -- in one way; and a bounded number is in range where the number itself is.
 use Rattle.std.proofs.Common.{◌≡◌, ℕ, ◌<◌, ◌≤◌, ◌&&◌, ◌⊎◌, true, false, leb, List, [], ◌∷◌, min, None, Result, Ok, Err, refl, sym, ap, ◌∙◌, inl, inr, arith}
 use Rattle.std.proofs.lemmas.Bool.{and_left, and_right, eqb-true, le-leb, lt-leb, false_from_ne_true}
+use Rattle.cfs_model.specs.Limits.{greatest_processor, greatest_seconds}
+use Rattle.text_parts.specs.Lines.{is_comment, IsComment}
 use Rattle.ftrace_line.specs.declared.kinds.Which.{Which}
 use Rattle.ftrace_line.specs.declared.fault.LineFault.{LineFault}
 use Rattle.ftrace_line.specs.declared.fault.LineFault.TheVariants.{BadHead, NumberRange}
 use Rattle.text_parts.specs.Numerals.{many}
 use Rattle.ftrace_line.specs.Head.{IsHead}
-use Rattle.ftrace_line.specs.Line.{LineView, comment, lost, other, sched, IsComment, IsLost, IsEventLine, IsSched, IsOther, IsHeadOutOfRange, IsHeadless, LineAnswer}
+use Rattle.ftrace_line.specs.Line.{LineView, comment, lost, other, sched, IsLost, IsEventLine, IsSched, IsOther, IsHeadOutOfRange, IsHeadless, LineAnswer}
 use Rattle.text_parts.specs.Reading.{after_text}
-use Rattle.ftrace_line.specs.Meaning.{after_loss, is_comment, is_end, kind_at, event_meaning, head_at, head_meaning, meaning_of}
+use Rattle.ftrace_line.specs.Meaning.{after_loss, is_end, kind_at, event_meaning, head_at, head_meaning, meaning_of}
 use Rattle.text_parts.proofs.Runs.{none_from}
 use Rattle.ftrace_line.proofs.Heads.{head_again, head_taken, TakesHead, parts_found}
 use Rattle.ftrace_line.proofs.Losses.{lost_again, lost_taken, end_is}
 use Rattle.ftrace_line.proofs.Marks.{mark_again, fields_again, unmarked_again}
 
 -- ---- the first byte tells the kinds apart
-
-pub comment_again : (line : List ℕ) → IsComment line → is_comment line ≡ true
-unfolding is_comment
-comment_again line (inl none) = rw none refl
-comment_again line (inr (words, whole)) = rw whole refl
-
-pub comment_taken : (line : List ℕ) → is_comment line ≡ true → IsComment line
-unfolding is_comment
-comment_taken [] e = inl refl
-comment_taken (b ∷ line) e = inr (line, ap (λ c. c ∷ line) (eqb-true b 35 e))
 
 lost_is_no_comment : (line : List ℕ) → IsLost line → is_comment line ≡ false
 unfolding is_comment
@@ -54,11 +46,11 @@ head_decides line cpu seconds nanoseconds text h =
 event_only : (line : List ℕ) (cpu time : ℕ) (text : List ℕ) (e : IsEventLine line cpu time text) →
     meaning_of line ≡ Ok (event_meaning (record { cpu = cpu; seconds = e.seconds; nanoseconds = e.nanoseconds; text = text }) (kind_at text))
 event_only line cpu time text e =
-    let low_cpu : cpu ≤ 65535 = e.cpu_in_range in
-    let low_seconds : e.seconds ≤ 4294967295 = e.seconds_in_range in
+    let low_cpu : cpu ≤ greatest_processor = e.cpu_in_range in
+    let low_seconds : e.seconds ≤ greatest_seconds = e.seconds_in_range in
     let cpu_same : min cpu many ≡ cpu = omega arith in
     let seconds_same : min e.seconds many ≡ e.seconds = omega arith in
-    head_decides line cpu e.seconds e.nanoseconds text e.head ∙ rw (cpu_same, seconds_same, le-leb cpu 65535 low_cpu, le-leb e.seconds 4294967295 low_seconds) refl
+    head_decides line cpu e.seconds e.nanoseconds text e.head ∙ rw (cpu_same, seconds_same, le-leb cpu greatest_processor low_cpu, le-leb e.seconds greatest_seconds low_seconds) refl
 
 sched_only : (line : List ℕ) (cpu time : ℕ) (which : Which) (rest : List ℕ) → IsSched line cpu time which rest →
     meaning_of line ≡ Ok (sched cpu time which rest)
@@ -68,10 +60,10 @@ sched_only line cpu time which rest s =
 other_only : (line : List ℕ) → IsOther line → meaning_of line ≡ Ok other
 other_only line o = event_only line o.cpu o.time o.text o.event ∙ rw (unmarked_again o.text o.unmarked) refl
 
-beyond_test : (cpu seconds : ℕ) → (65535 < cpu) ⊎ (4294967295 < seconds) →
-    (leb (min cpu many) 65535 && leb (min seconds many) 4294967295) ≡ false
-beyond_test cpu seconds (inl high) = and_left (leb (min cpu many) 65535) (leb (min seconds many) 4294967295) (lt-leb (min cpu many) 65535 (omega arith))
-beyond_test cpu seconds (inr high) = and_right (leb (min cpu many) 65535) (leb (min seconds many) 4294967295) (lt-leb (min seconds many) 4294967295 (omega arith))
+beyond_test : (cpu seconds : ℕ) → (greatest_processor < cpu) ⊎ (greatest_seconds < seconds) →
+    (leb (min cpu many) greatest_processor && leb (min seconds many) greatest_seconds) ≡ false
+beyond_test cpu seconds (inl high) = and_left (leb (min cpu many) greatest_processor) (leb (min seconds many) greatest_seconds) (lt-leb (min cpu many) greatest_processor (omega arith))
+beyond_test cpu seconds (inr high) = and_right (leb (min cpu many) greatest_processor) (leb (min seconds many) greatest_seconds) (lt-leb (min seconds many) greatest_seconds (omega arith))
 
 beyond_only : (line : List ℕ) → IsHeadOutOfRange line → meaning_of line ≡ Err NumberRange
 beyond_only line b = head_decides line b.cpu b.seconds b.nanoseconds b.text b.head ∙ rw (beyond_test b.cpu b.seconds b.beyond) refl
@@ -79,7 +71,7 @@ beyond_only line b = head_decides line b.cpu b.seconds b.nanoseconds b.text b.he
 headless_only : (line : List ℕ) → IsHeadless line → meaning_of line ≡ Err BadHead
 unfolding meaning_of
 headless_only line h =
-    let plain : is_comment line ≡ false = false_from_ne_true (is_comment line) (λ e. h.no_comment (comment_taken line e)) in
+    let plain : is_comment line ≡ false = false_from_ne_true (is_comment line) (λ e. h.no_comment e) in
     let present : is_end (after_loss line) ≡ false =
     false_from_ne_true (is_end (after_loss line)) (λ e. h.no_loss (lost_taken line (end_is (after_loss line) e))) in
     let none : head_at line ≡ None =
@@ -88,7 +80,7 @@ headless_only line h =
 
 comment_only : (line : List ℕ) → IsComment line → meaning_of line ≡ Ok comment
 unfolding meaning_of
-comment_only line c = rw (comment_again line c) refl
+comment_only line c = rw c refl
 
 lost_only : (line : List ℕ) → IsLost line → meaning_of line ≡ Ok lost
 unfolding meaning_of

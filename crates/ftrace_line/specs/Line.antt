@@ -9,6 +9,8 @@ use Rattle.ftrace_line.specs.declared.fault.LineFault.{LineFault}
 use Rattle.ftrace_line.specs.declared.fault.LineFault.TheVariants.{BadHead, NumberRange}
 use Rattle.text_parts.specs.Numerals.{IsNumeral}
 use Rattle.text_parts.specs.Pieces.{joined}
+use Rattle.text_parts.specs.Lines.{IsComment}
+use Rattle.cfs_model.specs.Limits.{greatest_processor, greatest_seconds, nanoseconds_per_second}
 use Rattle.ftrace_line.specs.Head.{IsHead}
 
 -- what a line means: an event of the scheduler has its head's processor, its time in nanoseconds, its kind, and the
@@ -31,10 +33,6 @@ abbrev pub line_answer_view : Result Line LineFault → Result LineView LineFaul
 line_answer_view (Ok line) = Ok (line_view line)
 line_answer_view (Err fault) = Err fault
 
--- a comment: nothing, or `#` and anything
-abbrev pub IsComment : List ℕ → Type 0
-IsComment line = (line ≡ []) ⊎ ((words : List ℕ) × (line ≡ 35 ∷ words))
-
 -- what is said of lost events: their number, or only that there were some
 abbrev pub IsLoss : List ℕ → Type 0
 IsLoss text =
@@ -56,22 +54,14 @@ mark_of Wakeup = codes "sched_wakeup: "
 mark_of WakeupNew = codes "sched_wakeup_new: "
 mark_of MigrateTask = codes "sched_migrate_task: "
 
--- the greatest number of a processor
-abbrev pub greatest_cpu : ℕ
-greatest_cpu = 65535
-
--- the greatest whole seconds of a time
-abbrev pub greatest_seconds : ℕ
-greatest_seconds = 4294967295
-
 -- an event's head in range: its line is the head and then this text, and its time is in nanoseconds
 pub record IsEventLine (line : List ℕ) (cpu time : ℕ) (text : List ℕ) : Type 0 where
   pub seconds : ℕ
   pub nanoseconds : ℕ
   pub head : IsHead line cpu seconds nanoseconds text
-  pub cpu_in_range : cpu ≤ greatest_cpu
+  pub cpu_in_range : cpu ≤ greatest_processor
   pub seconds_in_range : seconds ≤ greatest_seconds
-  pub time_is : time ≡ seconds * 1000000000 + nanoseconds
+  pub time_is : time ≡ seconds * nanoseconds_per_second + nanoseconds
 
 -- one of the four events
 pub record IsSched (line : List ℕ) (cpu time : ℕ) (which : Which) (rest : List ℕ) : Type 0 where
@@ -94,7 +84,7 @@ pub record IsHeadOutOfRange (line : List ℕ) : Type 0 where
   pub nanoseconds : ℕ
   pub text : List ℕ
   pub head : IsHead line cpu seconds nanoseconds text
-  pub beyond : (greatest_cpu < cpu) ⊎ (greatest_seconds < seconds)
+  pub beyond : (greatest_processor < cpu) ⊎ (greatest_seconds < seconds)
 
 -- no comment, no line of lost events, and no event behind its head
 pub record IsHeadless (line : List ℕ) : Type 0 where

@@ -9,7 +9,9 @@ use Rattle.ftrace_line.specs.declared.fault.LineFault.TheVariants.{BadHead, Numb
 use Rattle.text_parts.specs.Numerals.{is_digit}
 use Rattle.ftrace_line.specs.Head.{is_group_byte, is_flag}
 use Rattle.text_parts.specs.Pieces.{is_space, begins_with}
-use Rattle.ftrace_line.specs.Line.{LineView, comment, lost, other, sched, mark_of, greatest_cpu, greatest_seconds}
+use Rattle.ftrace_line.specs.Line.{LineView, comment, lost, other, sched, mark_of}
+use Rattle.cfs_model.specs.Limits.{greatest_processor, greatest_seconds, nanoseconds_per_second}
+use Rattle.text_parts.specs.Lines.{is_comment}
 use Rattle.text_parts.specs.Reading.{◌>>=◌, or_else, after_text, after_run, front_value, time_at}
 
 -- what follows the space, the name and the `-`
@@ -59,6 +61,7 @@ pub record HeadParts : Type 0 where
   pub nanoseconds : ℕ
   pub text : List ℕ
 
+-- the head at the front of a line
 unfoldable pub head_at : List ℕ → Option HeadParts
 head_at line = do
   pid ← after_name line
@@ -99,24 +102,22 @@ fields_of which text = drop (length (mark_of which)) text
 -- the meaning of a line of this kind
 abbrev pub event_meaning : HeadParts → Option Which → LineView
 event_meaning head None = other
-event_meaning head (Some which) = sched head.cpu (head.seconds * 1000000000 + head.nanoseconds) which (fields_of which head.text)
+event_meaning head (Some which) = sched head.cpu (head.seconds * nanoseconds_per_second + head.nanoseconds) which (fields_of which head.text)
 
+-- the meaning of a line with this head, if it has one
 abbrev pub head_meaning : Option HeadParts → Result LineView LineFault
 head_meaning None = Err BadHead
 head_meaning (Some head) =
-    if nat_le head.cpu greatest_cpu && nat_le head.seconds greatest_seconds
+    if nat_le head.cpu greatest_processor && nat_le head.seconds greatest_seconds
     then Ok (event_meaning head (kind_at head.text)) else Err NumberRange
 
--- the first byte says which kind of line it is
-unfoldable pub is_comment : List ℕ → Bool
-is_comment [] = true
-is_comment (byte ∷ line) = byte == 35
-
+-- nothing is left
 abbrev pub is_end : Option (List ℕ) → Bool
 is_end None = false
 is_end (Some []) = true
 is_end (Some (byte ∷ text)) = false
 
+-- the meaning of a line: the first byte says which kind of line it is
 unfoldable pub meaning_of : List ℕ → Result LineView LineFault
 meaning_of line =
     if is_comment line then Ok comment else

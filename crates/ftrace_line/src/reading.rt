@@ -3,21 +3,14 @@ ghost use Rattle.ftrace_line.specs.declared.kinds.Which.TheVariants.{Switch};
 ghost use Rattle.ftrace_line.specs.declared.fault.LineFault.{LineFault as TheFault};
 ghost use Rattle.ftrace_line.specs.Line.{LineView, LineAnswer, IsHeadless, IsHeadOutOfRange, line_answer_view, mark_of};
 ghost use Rattle.text_parts.specs.Reading.{Gives, after_text};
-ghost use Rattle.ftrace_line.specs.Meaning.{after_count, after_loss, kind_at, fields_of, is_comment, is_end, meaning_of};
+ghost use Rattle.ftrace_line.specs.Meaning.{after_count, after_loss, kind_at, fields_of, is_end, meaning_of};
 
 use crate::fault::LineFault;
 use crate::head::{HeadParts, head_at};
 use crate::kinds::{Line, Sched, Which};
+use cfs_model::{GREATEST_PROCESSOR, GREATEST_SECONDS, NANOSECONDS_PER_SECOND};
+use text_parts::lines::is_comment;
 use text_parts::pieces::{after_digits, after_front, begins_with};
-
-/// The greatest number of a processor.
-const GREATEST_CPU: u64 = 65_535;
-
-/// The greatest whole seconds of a time.
-const GREATEST_SECONDS: u64 = 4_294_967_295;
-
-/// Nanoseconds in a second.
-const NANOSECONDS_A_SECOND: u64 = 1_000_000_000;
 
 /// What a line of a trace means. The line is given without its line feed.
 ///
@@ -37,7 +30,7 @@ pub fn read_line<'a>(line: &'a [u8]) -> Result<Line<'a>, LineFault>
     let Some(head) = head_at(line) else {
         return Err(LineFault::BadHead);
     };
-    if head.cpu > GREATEST_CPU || head.time.seconds > GREATEST_SECONDS {
+    if head.cpu > GREATEST_PROCESSOR || head.time.seconds > GREATEST_SECONDS {
         return Err(LineFault::NumberRange);
     }
     let Some(which) = kind_of(head.text) else {
@@ -45,7 +38,7 @@ pub fn read_line<'a>(line: &'a [u8]) -> Result<Line<'a>, LineFault>
     };
     Ok(Line::Sched(Sched {
         cpu: head.cpu as u32,
-        time: head.time.seconds * NANOSECONDS_A_SECOND + head.time.nanoseconds,
+        time: head.time.seconds * NANOSECONDS_PER_SECOND + head.time.nanoseconds,
         which,
         rest: fields_of(which, head.text),
     }))
@@ -55,18 +48,6 @@ pub fn read_line<'a>(line: &'a [u8]) -> Result<Line<'a>, LineFault>
 pub fn one_reading()
     ensures { (line : List ℕ) (a b : Result LineView TheFault) → LineAnswer line a → LineAnswer line b → a ≡ b }
 {}
-
-/// Whether a line is a comment.
-#[inline(always)]
-#[tactic(auto, unfolding(crate::specs::Meaning::is_comment))]
-fn is_comment(line: &[u8]) -> bool
-    ensures { result ≡ is_comment line.now }
-{
-    match line {
-        [] => true,
-        [first, ..] => *first == b'#',
-    }
-}
 
 /// Whether a line says that a processor lost events.
 #[inline(always)]

@@ -6,8 +6,8 @@ use Rattle.std.specs.List.{list_all}
 use Rattle.std.proofs.lemmas.Bool.Decides.{nat_tests}
 use Rattle.text_parts.specs.Numerals.{is_digit, IsNumeral}
 use Rattle.sched_event.specs.Texts.{is_dark, Prio, prio_text}
-use Rattle.sched_event.specs.Reading.{begins_with}
-use Rattle.sched_event.proofs.Runs.{both_pass}
+use Rattle.text_parts.specs.Pieces.{begins_with}
+use Rattle.std.proofs.lemmas.Bool.{and_parts}
 
 -- the key stands at none of the first places of a text
 abbrev pub Free : ℕ → List ℕ → List ℕ → Type 0
@@ -27,8 +27,8 @@ dark_differs byte dark = by_test (eqb byte 32) dark
 -- no place within a word is a key's, since a key begins with a space
 free_word : (key word text : List ℕ) (count : ℕ) → list_all is_dark word ≡ true → Free count (32 ∷ key) text → Free (length word + count) (32 ∷ key) (word ++ text)
 free_word key [] text count dark free place lt = free place (omega arith)
-free_word key (byte ∷ word) text count dark free zero lt = rw (dark_differs byte (both_pass (is_dark byte) (list_all is_dark word) dark).0) refl
-free_word key (byte ∷ word) text count dark free (suc place) lt = free_word key word text count (both_pass (is_dark byte) (list_all is_dark word) dark).1 free place (omega arith)
+free_word key (byte ∷ word) text count dark free zero lt = rw (dark_differs byte (and_parts (is_dark byte) (list_all is_dark word) dark).0) refl
+free_word key (byte ∷ word) text count dark free (suc place) lt = free_word key word text count (and_parts (is_dark byte) (list_all is_dark word) dark).1 free place (omega arith)
 
 -- nor is a space before another word
 free_space : (key text : List ℕ) (count : ℕ) → begins_with key (32 ∷ text) ≡ false → Free count key text → Free (suc count) key (32 ∷ text)
@@ -50,7 +50,7 @@ digit_dark byte digit = grind (arith, nat_tests)
 pub digits_dark : (digits : List ℕ) → list_all is_digit digits ≡ true → list_all is_dark digits ≡ true
 digits_dark [] all = refl
 digits_dark (byte ∷ digits) all =
-    let both = both_pass (is_digit byte) (list_all is_digit digits) all in
+    let both = and_parts (is_digit byte) (list_all is_digit digits) all in
     rw (digit_dark byte both.0, digits_dark digits both.1) refl
 
 -- ---- two words, or three, behind a name

@@ -24,24 +24,24 @@ map_some : {A B : Type 0} (f : A → B) (o : Option A) (y : B) → option_map f 
 map_some f (Some x) y e = (x, refl, cc)
 map_some f None y e = absurd cc
 
-pub text_takes : (which : Which) (rest : List ℕ) (text : EventText) → text_at which rest ≡ Some text → Reads which rest text
+pub event_text_takes : (which : Which) (rest : List ℕ) (text : EventText) → text_at which rest ≡ Some text → Reads which rest text
 unfolding text_at
-text_takes kinds.Switch rest text e = let read = map_some switch (switch_at rest) text e in subst (Reads kinds.Switch rest) read.2 (switch_takes rest read.0 read.1)
-text_takes kinds.Wakeup rest text e = let read = map_some wakeup (wakeup_at rest) text e in subst (Reads kinds.Wakeup rest) read.2 (wakeup_takes rest read.0 read.1)
-text_takes kinds.WakeupNew rest text e = let read = map_some wakeup_new (wakeup_at rest) text e in subst (Reads kinds.WakeupNew rest) read.2 (wakeup_takes rest read.0 read.1)
-text_takes kinds.MigrateTask rest text e = let read = map_some migration (migration_at rest) text e in subst (Reads kinds.MigrateTask rest) read.2 (migration_takes rest read.0 read.1)
+event_text_takes kinds.Switch rest text e = let read = map_some switch (switch_at rest) text e in subst (Reads kinds.Switch rest) read.2 (switch_takes rest read.0 read.1)
+event_text_takes kinds.Wakeup rest text e = let read = map_some wakeup (wakeup_at rest) text e in subst (Reads kinds.Wakeup rest) read.2 (wakeup_takes rest read.0 read.1)
+event_text_takes kinds.WakeupNew rest text e = let read = map_some wakeup_new (wakeup_at rest) text e in subst (Reads kinds.WakeupNew rest) read.2 (wakeup_takes rest read.0 read.1)
+event_text_takes kinds.MigrateTask rest text e = let read = map_some migration (migration_at rest) text e in subst (Reads kinds.MigrateTask rest) read.2 (migration_takes rest read.0 read.1)
 
-pub text_again : (which : Which) (rest : List ℕ) (text : EventText) → Reads which rest text → text_at which rest ≡ Some text
+pub event_text_again : (which : Which) (rest : List ℕ) (text : EventText) → Reads which rest text → text_at which rest ≡ Some text
 unfolding text_at
-text_again kinds.Switch rest (switch text) reads = ap (option_map switch) (switch_again rest text reads)
-text_again kinds.Wakeup rest (wakeup text) reads = ap (option_map wakeup) (wakeup_again rest text reads)
-text_again kinds.WakeupNew rest (wakeup_new text) reads = ap (option_map wakeup_new) (wakeup_again rest text reads)
-text_again kinds.MigrateTask rest (migration text) reads = ap (option_map migration) (migration_again rest text reads)
-text_again _ rest _ reads = absurd reads
+event_text_again kinds.Switch rest (switch text) reads = ap (option_map switch) (switch_again rest text reads)
+event_text_again kinds.Wakeup rest (wakeup text) reads = ap (option_map wakeup) (wakeup_again rest text reads)
+event_text_again kinds.WakeupNew rest (wakeup_new text) reads = ap (option_map wakeup_new) (wakeup_again rest text reads)
+event_text_again kinds.MigrateTask rest (migration text) reads = ap (option_map migration) (migration_again rest text reads)
+event_text_again _ rest _ reads = absurd reads
 
 -- a text has one reading at most
 pub one_text : (which : Which) (rest : List ℕ) (s t : EventText) → Reads which rest s → Reads which rest t → s ≡ t
-one_text which rest s t p q = let a = text_again which rest s p in let b = text_again which rest t q in cc
+one_text which rest s t p q = let a = event_text_again which rest s p in let b = event_text_again which rest t q in cc
 
 -- ---- the answer
 
@@ -66,14 +66,14 @@ unfolding answer_at
 answers cpu which rest = by_read (text_at which rest) refl
   where
     by_read : (read : Option EventText) → text_at which rest ≡ read → EventAnswer cpu which rest (judged_if_read cpu read)
-    by_read None e = λ text reads. let again = text_again which rest text reads in cc
-    by_read (Some text) e = packed cpu which rest text (text_takes which rest text e) (judged cpu text) (judged_meets cpu text)
+    by_read None e = λ text reads. let again = event_text_again which rest text reads in cc
+    by_read (Some text) e = packed cpu which rest text (event_text_takes which rest text e) (judged cpu text) (judged_meets cpu text)
 
 at_parts : (cpu : ℕ) (which : Which) (rest : List ℕ) (text : EventText) (answer : Result EventView EventFault) → Reads which rest text → MeetsOf cpu text answer → answer ≡ answer_at cpu which rest
 unfolding answer_at
 at_parts cpu which rest text answer reads meets =
     let tested : answer ≡ decided_of cpu text = decided_only (is_out_of_range text) (prios_of text) (names_idle text) (event_of cpu text) answer meets in
-    tested ∙ sym (judged_is_decided cpu text) ∙ ap (judged_if_read cpu) (sym (text_again which rest text reads))
+    tested ∙ sym (judged_is_decided cpu text) ∙ ap (judged_if_read cpu) (sym (event_text_again which rest text reads))
 
 at_none : (cpu : ℕ) (which : Which) (rest : List ℕ) → ((text : EventText) → Reads which rest text → ⊥) → Err BadFields ≡ answer_at cpu which rest
 unfolding answer_at
@@ -81,7 +81,7 @@ at_none cpu which rest none = by_read (text_at which rest) refl
   where
     by_read : (read : Option EventText) → text_at which rest ≡ read → Err BadFields ≡ judged_if_read cpu read
     by_read None e = refl
-    by_read (Some text) e = absurd (none text (text_takes which rest text e))
+    by_read (Some text) e = absurd (none text (event_text_takes which rest text e))
 
 pub only_answer : (cpu : ℕ) (which : Which) (rest : List ℕ) (answer : Result EventView EventFault) → EventAnswer cpu which rest answer → answer ≡ answer_at cpu which rest
 only_answer cpu which rest (Ok event) a = at_parts cpu which rest a.0 (Ok event) a.1 (a.2, (a.3, a.4, a.5))

@@ -2,7 +2,8 @@
 use Rattle.std.proofs.Common.{◌≡◌, ◌≢◌, ℕ, zero, suc, ◌+◌, ◌-◌, ◌≤◌, ◌<◌, ◌⊎◌, Bool, true, false, cond, eqb, min, List, [], ◌∷◌, length, get_or, drop, Some, None, refl, sym, ap, ◌∙◌, arith, inl, inr}
 use Rattle.std.proofs.lemmas.Bool.{cases_lt, ne_eqb}
 use Rattle.std.proofs.lemmas.List.{drop_more, drop_all}
-use Rattle.sched_event.specs.Reading.{begins_with, last_place}
+use Rattle.text_parts.specs.Pieces.{begins_with}
+use Rattle.sched_event.specs.Reading.{last_place}
 
 -- the key stands at the limit
 pub place_found : (limit : ℕ) (key text : List ℕ) → begins_with key (drop limit text) ≡ true → last_place limit key text ≡ Some limit

@@ -2,10 +2,11 @@
 use Rattle.std.proofs.Common.{◌≡◌, ℕ, List, [], ◌++◌, Some, refl, ap, subst, ◌∙◌, lit≤}
 use Rattle.std.specs.Prelude.{codes}
 use Rattle.sched_event.specs.Texts.{prio_text, SwitchText, IsSwitchText}
-use Rattle.sched_event.specs.Reading.{numeral_at, state_at, prio_at, name_at, switch_at}
-use Rattle.sched_event.proofs.Runs.{begins_own}
+use Rattle.sched_event.specs.Reading.{numeral_behind, state_behind, prio_behind, name_behind, switch_at}
+use Rattle.text_parts.proofs.Fronts.{begins_own}
 use Rattle.sched_event.proofs.Alone.{alone_two}
-use Rattle.sched_event.proofs.Keyed.{bind_some, numeral_takes, numeral_again, state_takes, state_again, prio_takes, prio_again, prio_last, name_takes, name_again, at_end_takes, goes_on, ends}
+use Rattle.text_parts.proofs.Runs.{bind_some, at_end_taken}
+use Rattle.sched_event.proofs.Keyed.{numeral_behind_takes, numeral_behind_again, state_behind_takes, state_behind_again, prio_behind_takes, prio_behind_again, prio_last, name_behind_takes, name_behind_again, followed_by, ends}
 
 -- the fields that were read one behind the other, and nothing behind them
 pub record SwitchSteps (text : List ℕ) (t : SwitchText) : Type 0 where
@@ -15,13 +16,13 @@ pub record SwitchSteps (text : List ℕ) (t : SwitchText) : Type 0 where
   pub after4 : List ℕ
   pub after5 : List ℕ
   pub after6 : List ℕ
-  pub prev_name : name_at (codes "prev_comm=") (codes " prev_pid=") text ≡ Some (t.prev_name, after1)
-  pub prev : numeral_at (codes " prev_pid=") after1 ≡ Some (t.prev, after2)
-  pub prev_prio : prio_at (codes " prev_prio=") after2 ≡ Some (t.prev_prio, after3)
-  pub prev_state : state_at (codes " prev_state=") after3 ≡ Some (t.prev_state, after4)
-  pub next_name : name_at (codes " ==> next_comm=") (codes " next_pid=") after4 ≡ Some (t.next_name, after5)
-  pub next : numeral_at (codes " next_pid=") after5 ≡ Some (t.next, after6)
-  pub next_prio : prio_at (codes " next_prio=") after6 ≡ Some (t.next_prio, [])
+  pub prev_name : name_behind (codes "prev_comm=") (codes " prev_pid=") text ≡ Some (t.prev_name, after1)
+  pub prev : numeral_behind (codes " prev_pid=") after1 ≡ Some (t.prev, after2)
+  pub prev_prio : prio_behind (codes " prev_prio=") after2 ≡ Some (t.prev_prio, after3)
+  pub prev_state : state_behind (codes " prev_state=") after3 ≡ Some (t.prev_state, after4)
+  pub next_name : name_behind (codes " ==> next_comm=") (codes " next_pid=") after4 ≡ Some (t.next_name, after5)
+  pub next : numeral_behind (codes " next_pid=") after5 ≡ Some (t.next, after6)
+  pub next_prio : prio_behind (codes " next_prio=") after6 ≡ Some (t.next_prio, [])
 
 pub switch_from : (text : List ℕ) (t : SwitchText) → SwitchSteps text t → switch_at text ≡ Some t
 unfolding switch_at
@@ -42,20 +43,20 @@ switch_again rest t is =
       after4 = after4;
       after5 = after5;
       after6 = after6;
-      prev_name = name_again (codes "prev_comm=") (codes " prev_pid=") t.prev_name after1 is.prev_name (begins_own (codes " prev_pid=") (t.prev ++ after2))
+      prev_name = name_behind_again (codes "prev_comm=") (codes " prev_pid=") t.prev_name after1 is.prev_name (begins_own (codes " prev_pid=") (t.prev ++ after2))
           (alone_two (codes "prev_pid=") t.prev (codes "prev_prio=") (prio_text t.prev_prio ++ after3) refl is.prev refl refl (lit≤ tt));
-      prev = numeral_again (codes " prev_pid=") t.prev after2 is.prev refl;
-      prev_prio = prio_again (codes " prev_prio=") t.prev_prio after3 is.prev_prio refl;
-      prev_state = state_again (codes " prev_state=") t.prev_state after4 is.prev_state refl;
-      next_name = name_again (codes " ==> next_comm=") (codes " next_pid=") t.next_name after5 is.next_name (begins_own (codes " next_pid=") (t.next ++ after6))
+      prev = numeral_behind_again (codes " prev_pid=") t.prev after2 is.prev refl;
+      prev_prio = prio_behind_again (codes " prev_prio=") t.prev_prio after3 is.prev_prio refl;
+      prev_state = state_behind_again (codes " prev_state=") t.prev_state after4 is.prev_state refl;
+      next_name = name_behind_again (codes " ==> next_comm=") (codes " next_pid=") t.next_name after5 is.next_name (begins_own (codes " next_pid=") (t.next ++ after6))
           (alone_two (codes "next_pid=") t.next (codes "next_prio=") (prio_text t.next_prio) refl is.next refl refl (lit≤ tt));
-      next = numeral_again (codes " next_pid=") t.next after6 is.next refl;
+      next = numeral_behind_again (codes " next_pid=") t.next after6 is.next refl;
       next_prio = prio_last (codes " next_prio=") t.next_prio is.next_prio;
     })
 
-steps_of : (text : List ℕ) (t : SwitchText) → switch_at text ≡ Some t → SwitchSteps text t
+switch_steps : (text : List ℕ) (t : SwitchText) → switch_at text ≡ Some t → SwitchSteps text t
 unfolding switch_at
-steps_of text t e =
+switch_steps text t e =
     let a = bind_some _ _ t e in
     let b = bind_some _ _ t a.2 in
     let c = bind_some _ _ t b.2 in
@@ -64,8 +65,8 @@ steps_of text t e =
     let g = bind_some _ _ t f.2 in
     let h = bind_some _ _ t g.2 in
     let made : SwitchText = record { prev_name = a.0.0; prev = b.0.0; prev_prio = c.0.0; prev_state = d.0.0; next_name = f.0.0; next = g.0.0; next_prio = h.0.0 } in
-    let whole = at_end_takes h.0.1 made t h.2 in
-    let last : prio_at (codes " next_prio=") g.0.1 ≡ Some (h.0.0, []) = h.1 ∙ ap (λ (after : List ℕ). Some (h.0.0, after)) whole.0 in
+    let whole = at_end_taken h.0.1 made t h.2 in
+    let last : prio_behind (codes " next_prio=") g.0.1 ≡ Some (h.0.0, []) = h.1 ∙ ap (λ (after : List ℕ). Some (h.0.0, after)) whole.0 in
     subst (SwitchSteps text) whole.1 (record {
       after1 = a.0.1;
       after2 = b.0.1;
@@ -84,14 +85,14 @@ steps_of text t e =
 
 pub switch_takes : (rest : List ℕ) (t : SwitchText) → switch_at rest ≡ Some t → IsSwitchText rest t
 switch_takes rest t e =
-    let steps = steps_of rest t e in
-    let a = name_takes (codes "prev_comm=") (codes " prev_pid=") rest t.prev_name steps.after1 steps.prev_name in
-    let b = numeral_takes (codes " prev_pid=") steps.after1 t.prev steps.after2 steps.prev in
-    let c = prio_takes (codes " prev_prio=") steps.after2 t.prev_prio steps.after3 steps.prev_prio in
-    let d = state_takes (codes " prev_state=") steps.after3 t.prev_state steps.after4 steps.prev_state in
-    let f = name_takes (codes " ==> next_comm=") (codes " next_pid=") steps.after4 t.next_name steps.after5 steps.next_name in
-    let g = numeral_takes (codes " next_pid=") steps.after5 t.next steps.after6 steps.next in
-    let h = prio_takes (codes " next_prio=") steps.after6 t.next_prio [] steps.next_prio in
+    let steps = switch_steps rest t e in
+    let a = name_behind_takes (codes "prev_comm=") (codes " prev_pid=") rest t.prev_name steps.after1 steps.prev_name in
+    let b = numeral_behind_takes (codes " prev_pid=") steps.after1 t.prev steps.after2 steps.prev in
+    let c = prio_behind_takes (codes " prev_prio=") steps.after2 t.prev_prio steps.after3 steps.prev_prio in
+    let d = state_behind_takes (codes " prev_state=") steps.after3 t.prev_state steps.after4 steps.prev_state in
+    let f = name_behind_takes (codes " ==> next_comm=") (codes " next_pid=") steps.after4 t.next_name steps.after5 steps.next_name in
+    let g = numeral_behind_takes (codes " next_pid=") steps.after5 t.next steps.after6 steps.next in
+    let h = prio_behind_takes (codes " next_prio=") steps.after6 t.next_prio [] steps.next_prio in
     record {
       prev_name = a.0;
       prev = b.0;
@@ -100,5 +101,5 @@ switch_takes rest t e =
       next_name = f.0;
       next = g.0;
       next_prio = h.0;
-      whole = goes_on a.1 (goes_on b.1 (goes_on c.1 (goes_on d.1 (goes_on f.1 (goes_on g.1 (ends h.1))))));
+      whole = followed_by a.1 (followed_by b.1 (followed_by c.1 (followed_by d.1 (followed_by f.1 (followed_by g.1 (ends h.1))))));
     }

@@ -61,37 +61,37 @@ decided true prios idle event = Err NumberRange
 decided false prios idle event = past_prios prios idle event
 
 -- what an answer says of the prios and of the idle task
-abbrev Tells : List ℤ → Bool → EventView → Result EventView EventFault → Type 0
-Tells prios idle event (Ok read) = AllByRecursion IsFair prios × IsFalse idle × (read ≡ event)
-Tells prios idle event (Err BadFields) = ⊥
-Tells prios idle event (Err NumberRange) = ⊥
-Tells prios idle event (Err RealTime) = Leftmost (λ prio. prio <ℤ pos 100) prios
-Tells prios idle event (Err PrioRange) = Leftmost (λ prio. pos 139 <ℤ prio) prios
-Tells prios idle event (Err IdleNamed) = AllByRecursion IsFair prios × IsTrue idle
+abbrev MeetsInRange : List ℤ → Bool → EventView → Result EventView EventFault → Type 0
+MeetsInRange prios idle event (Ok read) = AllByRecursion IsFair prios × IsFalse idle × (read ≡ event)
+MeetsInRange prios idle event (Err BadFields) = ⊥
+MeetsInRange prios idle event (Err NumberRange) = ⊥
+MeetsInRange prios idle event (Err RealTime) = Leftmost (λ prio. prio <ℤ pos 100) prios
+MeetsInRange prios idle event (Err PrioRange) = Leftmost (λ prio. pos 139 <ℤ prio) prios
+MeetsInRange prios idle event (Err IdleNamed) = AllByRecursion IsFair prios × IsTrue idle
 
 -- what an answer says of the numbers too
 abbrev pub Meets : Bool → List ℤ → Bool → EventView → Result EventView EventFault → Type 0
-Meets out prios idle event (Ok read) = IsFalse out × Tells prios idle event (Ok read)
+Meets out prios idle event (Ok read) = IsFalse out × MeetsInRange prios idle event (Ok read)
 Meets out prios idle event (Err NumberRange) = IsTrue out
-Meets out prios idle event (Err fault) = IsFalse out × Tells prios idle event (Err fault)
+Meets out prios idle event (Err fault) = IsFalse out × MeetsInRange prios idle event (Err fault)
 
-tells_fair : (prio : ℤ) (prios : List ℤ) (idle : Bool) (event : EventView) (answer : Result EventView EventFault) → IsFair prio → Tells prios idle event answer → Tells (prio ∷ prios) idle event answer
-tells_fair prio prios idle event (Ok read) is tells = ((is, tells.0), tells.1, tells.2)
-tells_fair prio prios idle event (Err BadFields) is tells = tells
-tells_fair prio prios idle event (Err NumberRange) is tells = tells
-tells_fair prio prios idle event (Err RealTime) is tells = inr (is, tells)
-tells_fair prio prios idle event (Err PrioRange) is tells = inr (is, tells)
-tells_fair prio prios idle event (Err IdleNamed) is tells = ((is, tells.0), tells.1)
+meets_fair : (prio : ℤ) (prios : List ℤ) (idle : Bool) (event : EventView) (answer : Result EventView EventFault) → IsFair prio → MeetsInRange prios idle event answer → MeetsInRange (prio ∷ prios) idle event answer
+meets_fair prio prios idle event (Ok read) is tells = ((is, tells.0), tells.1, tells.2)
+meets_fair prio prios idle event (Err BadFields) is tells = tells
+meets_fair prio prios idle event (Err NumberRange) is tells = tells
+meets_fair prio prios idle event (Err RealTime) is tells = inr (is, tells)
+meets_fair prio prios idle event (Err PrioRange) is tells = inr (is, tells)
+meets_fair prio prios idle event (Err IdleNamed) is tells = ((is, tells.0), tells.1)
 
-past_tells : (prios : List ℤ) (idle : Bool) (event : EventView) → Tells prios idle event (past_prios prios idle event)
-past_tells [] true event = (tt, refl)
-past_tells [] false event = (tt, refl, refl)
-past_tells (prio ∷ prios) idle event = on (past_tells prios idle event) (prio_case prio)
+past_meets : (prios : List ℤ) (idle : Bool) (event : EventView) → MeetsInRange prios idle event (past_prios prios idle event)
+past_meets [] true event = (tt, refl)
+past_meets [] false event = (tt, refl, refl)
+past_meets (prio ∷ prios) idle event = on (past_meets prios idle event) (prio_case prio)
   where
-    on : Tells prios idle event (past_prios prios idle event) → PrioCase prio → Tells (prio ∷ prios) idle event (nice_for prio >>= λ nice. past_prios prios idle event)
-    on others (low p e) = subst (λ (r : Result ℤ EventFault). Tells (prio ∷ prios) idle event (r >>= λ nice. past_prios prios idle event)) (sym e) (inl p)
-    on others (high p e) = subst (λ (r : Result ℤ EventFault). Tells (prio ∷ prios) idle event (r >>= λ nice. past_prios prios idle event)) (sym e) (inl p)
-    on others (fair p e) = subst (λ (r : Result ℤ EventFault). Tells (prio ∷ prios) idle event (r >>= λ nice. past_prios prios idle event)) (sym e) (tells_fair prio prios idle event (past_prios prios idle event) p others)
+    on : MeetsInRange prios idle event (past_prios prios idle event) → PrioCase prio → MeetsInRange (prio ∷ prios) idle event (nice_for prio >>= λ nice. past_prios prios idle event)
+    on others (low p e) = subst (λ (r : Result ℤ EventFault). MeetsInRange (prio ∷ prios) idle event (r >>= λ nice. past_prios prios idle event)) (sym e) (inl p)
+    on others (high p e) = subst (λ (r : Result ℤ EventFault). MeetsInRange (prio ∷ prios) idle event (r >>= λ nice. past_prios prios idle event)) (sym e) (inl p)
+    on others (fair p e) = subst (λ (r : Result ℤ EventFault). MeetsInRange (prio ∷ prios) idle event (r >>= λ nice. past_prios prios idle event)) (sym e) (meets_fair prio prios idle event (past_prios prios idle event) p others)
 
 past_fair : (prios : List ℤ) (idle : Bool) (event : EventView) → AllByRecursion IsFair prios → past_prios prios idle event ≡ past_prios [] idle event
 past_fair [] idle event all = refl
@@ -107,7 +107,7 @@ past_high [] idle event left = absurd left
 past_high (prio ∷ prios) idle event (inl p) = rw (high_prio prio p) refl
 past_high (prio ∷ prios) idle event (inr on) = rw (fair_prio prio on.0) (past_high prios idle event on.1)
 
-with_numbers : (prios : List ℤ) (idle : Bool) (event : EventView) (answer : Result EventView EventFault) → Tells prios idle event answer → Meets false prios idle event answer
+with_numbers : (prios : List ℤ) (idle : Bool) (event : EventView) (answer : Result EventView EventFault) → MeetsInRange prios idle event answer → Meets false prios idle event answer
 with_numbers prios idle event (Ok read) tells = (refl, tells)
 with_numbers prios idle event (Err BadFields) tells = absurd tells
 with_numbers prios idle event (Err NumberRange) tells = absurd tells
@@ -118,7 +118,7 @@ with_numbers prios idle event (Err IdleNamed) tells = (refl, tells)
 -- the tests' answer is so
 pub decided_meets : (out : Bool) (prios : List ℤ) (idle : Bool) (event : EventView) → Meets out prios idle event (decided out prios idle event)
 decided_meets true prios idle event = refl
-decided_meets false prios idle event = with_numbers prios idle event (past_prios prios idle event) (past_tells prios idle event)
+decided_meets false prios idle event = with_numbers prios idle event (past_prios prios idle event) (past_meets prios idle event)
 
 -- what is so is the tests' answer
 pub decided_only : (out : Bool) (prios : List ℤ) (idle : Bool) (event : EventView) (answer : Result EventView EventFault) → Meets out prios idle event answer → answer ≡ decided out prios idle event

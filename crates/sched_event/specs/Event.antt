@@ -3,6 +3,7 @@
 use Rattle.std.specs.Prelude.{◌≡◌, ℕ, ◌==◌, if◌then◌else◌, IsTrue, IsFalse, ℤ, pos, ◌-ℤ◌, ◌<ℤ◌, List, Result, Ok, Err}
 use Rattle.std.specs.List.{AllByRecursion}
 use Rattle.ftrace_line.specs.declared.kinds.Which.{Which}
+use Rattle.cfs_model.specs.Limits.{idle_pid}
 use Rattle.text_parts.specs.Numerals.{value_of}
 use Rattle.sched_event.specs.declared.event.Event.{Event}
 use Rattle.sched_event.specs.declared.fault.EventFault.{EventFault}
@@ -12,9 +13,9 @@ use Rattle.sched_event.specs.Ranges.{prio_of, is_out_of_range, prios_of, IsFair,
 pub use Rattle.sched_event.specs.EventView.{SwitchView, WakeupView, MigrationView, EventView, switched, woken, born, migrated, switch_view, wakeup_view, migration_view, event_view}
 pub use Rattle.sched_event.specs.Act.{act_of}
 
--- the nice value that a prio stands for; that of pid 0 is 0, whatever is printed
+-- the nice value that a prio stands for; the idle task's is 0, whatever is printed
 abbrev pub nice_of : List ℕ → Prio → ℤ
-nice_of pid prio = if value_of pid == 0 then pos 0 else prio_of prio -ℤ pos 120
+nice_of pid prio = if value_of pid == idle_pid then pos 0 else prio_of prio -ℤ pos 120
 
 -- a wakeup's parts as names and numbers
 abbrev pub wakeup_of : WakeupText → WakeupView

@@ -2,11 +2,12 @@
 -- project's profile). What is answered so is the relation of Event.
 use Rattle.std.specs.Prelude.{◌≡◌, ℕ, ◌==◌, if◌then◌else◌, nat_lt, int_lt, ℤ, pos, ◌-ℤ◌, List, Option, Some, None, Result, Ok, Err}
 use Rattle.ftrace_line.specs.declared.kinds.Which.{Which}
+use Rattle.cfs_model.specs.Limits.{greatest_pid, greatest_processor, idle_pid}
 use Rattle.text_parts.specs.Numerals.{value_of}
 use Rattle.sched_event.specs.declared.fault.EventFault.{EventFault}
 use Rattle.sched_event.specs.declared.fault.EventFault.TheVariants.{BadFields, NumberRange, RealTime, PrioRange, IdleNamed}
 use Rattle.sched_event.specs.Texts.{Prio, SwitchText, WakeupText, MigrationText, EventText, switch, wakeup, wakeup_new, migration}
-use Rattle.sched_event.specs.Ranges.{prio_of, most_pid, most_cpu}
+use Rattle.sched_event.specs.Ranges.{prio_of}
 use Rattle.sched_event.specs.Event.{SwitchView, WakeupView, MigrationView, EventView, switched, woken, born, migrated}
 use Rattle.sched_event.specs.Reading.{text_at}
 
@@ -29,15 +30,15 @@ number_within most digits = if nat_lt most (value_of digits) then Err NumberRang
 abbrev pub nice_for : ℤ → Result ℤ EventFault
 nice_for prio = if int_lt prio (pos 100) then Err RealTime else if int_lt (pos 139) prio then Err PrioRange else Ok (prio -ℤ pos 120)
 
--- the nice value of a pid's printed prio: that of pid 0 isn't looked at, and counts as 120
+-- the nice value of a pid's printed prio: that of the idle task isn't looked at, and counts as 120
 unfoldable pub nice_at : ℕ → Prio → Result ℤ EventFault
-nice_at pid prio = nice_for (if pid == 0 then pos 120 else prio_of prio)
+nice_at pid prio = nice_for (if pid == idle_pid then pos 120 else prio_of prio)
 
 -- a switch, by its numbers and then by its prios
 unfoldable pub switch_judged : ℕ → SwitchText → Result SwitchView EventFault
 switch_judged cpu text = do
-  prev ← number_within most_pid text.prev
-  next ← number_within most_pid text.next
+  prev ← number_within greatest_pid text.prev
+  next ← number_within greatest_pid text.next
   prev_nice ← nice_at prev text.prev_prio
   next_nice ← nice_at next text.next_prio
   Ok (record {
@@ -54,19 +55,19 @@ switch_judged cpu text = do
 -- a wakeup, by its numbers, then by its prio, then by its pid
 unfoldable pub wakeup_judged : WakeupText → Result WakeupView EventFault
 wakeup_judged text = do
-  pid ← number_within most_pid text.pid
-  target ← number_within most_cpu text.target
+  pid ← number_within greatest_pid text.pid
+  target ← number_within greatest_processor text.target
   nice ← nice_at pid text.prio
-  if pid == 0 then Err IdleNamed else Ok (record { name = text.name; pid = pid; nice = nice; target = target })
+  if pid == idle_pid then Err IdleNamed else Ok (record { name = text.name; pid = pid; nice = nice; target = target })
 
 -- a migration, in the same order
 unfoldable pub migration_judged : MigrationText → Result MigrationView EventFault
 migration_judged text = do
-  pid ← number_within most_pid text.pid
-  orig ← number_within most_cpu text.orig
-  dest ← number_within most_cpu text.dest
+  pid ← number_within greatest_pid text.pid
+  orig ← number_within greatest_processor text.orig
+  dest ← number_within greatest_processor text.dest
   nice ← nice_at pid text.prio
-  if pid == 0 then Err IdleNamed else Ok (record { name = text.name; pid = pid; nice = nice; orig = orig; dest = dest })
+  if pid == idle_pid then Err IdleNamed else Ok (record { name = text.name; pid = pid; nice = nice; orig = orig; dest = dest })
 
 -- the answer for a text's parts
 unfoldable pub judged : ℕ → EventText → Result EventView EventFault

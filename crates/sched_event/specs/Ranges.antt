@@ -2,6 +2,7 @@
 -- the prios of fair tasks are this project's profile).
 use Rattle.std.specs.Prelude.{ℕ, ◌==◌, ◌||◌, Bool, false, if◌then◌else◌, nat_lt, ℤ, pos, neg_ℤ, ◌≤ℤ◌, List, [], ◌∷◌, ◌++◌, ◌⊎◌}
 use Rattle.std.specs.List.{list_any}
+use Rattle.cfs_model.specs.Limits.{greatest_pid, greatest_processor, idle_pid}
 use Rattle.text_parts.specs.Numerals.{value_of}
 use Rattle.sched_event.specs.Texts.{Prio, EventText, switch, wakeup, wakeup_new, migration}
 
@@ -23,21 +24,13 @@ cpus_of (wakeup text) = value_of text.target ∷ []
 cpus_of (wakeup_new text) = value_of text.target ∷ []
 cpus_of (migration text) = value_of text.orig ∷ value_of text.dest ∷ []
 
--- the largest pid of a task
-abbrev pub most_pid : ℕ
-most_pid = 4194304
-
--- the largest number of a processor in a trace
-abbrev pub most_cpu : ℕ
-most_cpu = 65535
-
--- some pid or some processor is above its largest number
+-- some pid or some processor is above its greatest number
 abbrev pub is_out_of_range : EventText → Bool
-is_out_of_range text = list_any (nat_lt most_pid) (pids_of text) || list_any (nat_lt most_cpu) (cpus_of text)
+is_out_of_range text = list_any (nat_lt greatest_pid) (pids_of text) || list_any (nat_lt greatest_processor) (cpus_of text)
 
--- a prio is looked at unless its pid is 0
+-- a prio is looked at unless its pid is the idle task's
 abbrev pub looked_at : List ℕ → Prio → List ℤ
-looked_at pid prio = if value_of pid == 0 then [] else prio_of prio ∷ []
+looked_at pid prio = if value_of pid == idle_pid then [] else prio_of prio ∷ []
 
 -- the prios that are looked at, from the left
 abbrev pub prios_of : EventText → List ℤ
@@ -58,6 +51,6 @@ Leftmost P (prio ∷ prios) = P prio ⊎ (IsFair prio × Leftmost P prios)
 -- the idle task is woken, born or migrated
 abbrev pub names_idle : EventText → Bool
 names_idle (switch text) = false
-names_idle (wakeup text) = value_of text.pid == 0
-names_idle (wakeup_new text) = value_of text.pid == 0
-names_idle (migration text) = value_of text.pid == 0
+names_idle (wakeup text) = value_of text.pid == idle_pid
+names_idle (wakeup_new text) = value_of text.pid == idle_pid
+names_idle (migration text) = value_of text.pid == idle_pid

@@ -2,7 +2,7 @@ ghost use Rattle.std.specs.Prelude.{◌≡◌};
 ghost use Rattle.sched_event.specs.EventView.{event_view};
 ghost use Rattle.sched_event.specs.Act.{act_of, nice_in_switch, is_put_back, is_gone, is_runnable, way_of};
 
-use cfs_model::{Act, Nice, Way};
+use cfs_model::{Act, IDLE_PID, Nice, Way};
 
 /// `sched_switch`: a processor goes from one task to another. Pid 0 is the processor's idle task.
 #[derive(Clone, Copy, Debug, PartialEq, Eq)]
@@ -52,14 +52,11 @@ pub enum Event<'a> {
     Migration(Migration<'a>),
 }
 
-/// The pid of each processor's idle task.
-pub const IDLE: u32 = 0;
-
 /// The nice value of a switch's task: 0 for the idle task.
 fn nice_in_switch(pid: u32, nice: Nice) -> Nice
     ensures { result ≡ nice_in_switch pid nice }
 {
-    if pid == IDLE {
+    if pid == IDLE_PID {
         Nice::new(0).unwrap()
     } else {
         nice
@@ -114,7 +111,7 @@ impl<'a> Event<'a> {
                 cpu: switch.cpu,
                 prev: switch.prev,
                 prev_nice: nice_in_switch(switch.prev, switch.prev_nice),
-                way: if switch.prev == IDLE {
+                way: if switch.prev == IDLE_PID {
                     Way::Stays
                 } else {
                     way_of(switch.prev_state)

@@ -1,13 +1,14 @@
 ghost use Rattle.std.specs.Prelude.{◌≡◌, ◌≢◌, ℕ, ◌+◌, ◌<◌, ◌≤◌, slice_index, length, min, IfSome};
 ghost use Rattle.std.specs.List.{prefix_len};
 ghost use Rattle.sched_event.specs.Texts.{is_dark};
-ghost use Rattle.sched_event.specs.Reading.{Gives, key_at, run_at, sign_at, last_place, numeral_at, state_at, prio_at, name_at, optional_at};
+ghost use Rattle.text_parts.specs.Reading.{Gives};
+ghost use Rattle.sched_event.specs.Reading.{run_at, sign_at, last_place, numeral_behind, state_behind, prio_behind, name_behind, optional_behind};
 ghost use Rattle.sched_event.specs.FieldsView.{pair, numeral_pair, prio_fields_view, prio_pair, optional_pair};
 ghost use Rattle.text_parts.specs.Numerals.{is_digit};
 
 use crate::numeral::Numeral;
 use text_parts::numerals::number_at;
-use text_parts::pieces::begins_with;
+use text_parts::pieces::{after_front, begins_with};
 
 /// A printed prio.
 #[derive(Clone, Copy)]
@@ -18,19 +19,6 @@ pub(crate) struct PrioFields<'a> {
 
 /// The most bytes that a name has.
 const NAME_MAX: usize = 15;
-
-/// What follows the key that the text begins with.
-#[inline(always)]
-#[tactic(auto, unfolding(crate::specs::Reading::key_at))]
-fn after<'a>(text: &'a [u8], key: &[u8]) -> Option<&'a [u8]>
-    ensures { Gives (λ x. x.now) result (key_at key.now text.now) }
-{
-    if begins_with(text, key) {
-        Some(&text[key.len()..])
-    } else {
-        None
-    }
-}
 
 /// The digits that the text begins with, and what follows them.
 #[inline(always)]
@@ -169,31 +157,31 @@ fn last_place(text: &[u8], key: &[u8]) -> Option<usize>
 
 /// The digits behind a key, and what follows them.
 #[inline(always)]
-#[tactic(auto, unfolding(crate::specs::Reading::numeral_at))]
+#[tactic(auto, unfolding(crate::specs::Reading::numeral_behind))]
 pub(crate) fn numeral<'a>(text: &'a [u8], key: &[u8]) -> Option<(Numeral<'a>, &'a [u8])>
-    ensures { Gives numeral_pair result (numeral_at key.now text.now) }
+    ensures { Gives numeral_pair result (numeral_behind key.now text.now) }
 {
-    let after = after(text, key)?;
+    let after = after_front(text, key)?;
     digits(after)
 }
 
 /// The letters of a state behind a key, and what follows them.
 #[inline(always)]
-#[tactic(auto, unfolding(crate::specs::Reading::state_at))]
+#[tactic(auto, unfolding(crate::specs::Reading::state_behind))]
 pub(crate) fn state<'a>(text: &'a [u8], key: &[u8]) -> Option<(&'a [u8], &'a [u8])>
-    ensures { Gives pair result (state_at key.now text.now) }
+    ensures { Gives pair result (state_behind key.now text.now) }
 {
-    let after = after(text, key)?;
+    let after = after_front(text, key)?;
     letters(after)
 }
 
 /// The prio behind a key, and what follows it.
 #[inline(always)]
-#[tactic(auto, unfolding(crate::specs::Reading::prio_at))]
+#[tactic(auto, unfolding(crate::specs::Reading::prio_behind))]
 pub(crate) fn prio<'a>(text: &'a [u8], key: &[u8]) -> Option<(PrioFields<'a>, &'a [u8])>
-    ensures { Gives prio_pair result (prio_at key.now text.now) }
+    ensures { Gives prio_pair result (prio_behind key.now text.now) }
 {
-    let after = after(text, key)?;
+    let after = after_front(text, key)?;
     let (minus, unsigned) = sign(after);
     let (numeral, rest) = digits(unsigned)?;
     Some((PrioFields { minus, numeral }, rest))
@@ -201,21 +189,21 @@ pub(crate) fn prio<'a>(text: &'a [u8], key: &[u8]) -> Option<(PrioFields<'a>, &'
 
 /// The name behind a key, up to the next key, and the text from that key on.
 #[inline(always)]
-#[tactic(auto, unfolding(crate::specs::Reading::name_at))]
+#[tactic(auto, unfolding(crate::specs::Reading::name_behind))]
 pub(crate) fn name<'a>(text: &'a [u8], key: &[u8], next: &[u8]) -> Option<(&'a [u8], &'a [u8])>
     requires { 0 < length next.now }
-    ensures { Gives pair result (name_at key.now next.now text.now) }
+    ensures { Gives pair result (name_behind key.now next.now text.now) }
 {
-    let after = after(text, key)?;
+    let after = after_front(text, key)?;
     let place = last_place(after, next)?;
     Some(after.split_at(place))
 }
 
 /// The digits behind a key where they stand there, and what follows them.
 #[inline(always)]
-#[tactic(auto, unfolding(crate::specs::Reading::optional_at))]
+#[tactic(auto, unfolding(crate::specs::Reading::optional_behind))]
 pub(crate) fn optional_numeral<'a>(text: &'a [u8], key: &[u8]) -> (Option<Numeral<'a>>, &'a [u8])
-    ensures { optional_pair result ≡ optional_at key.now text.now }
+    ensures { optional_pair result ≡ optional_behind key.now text.now }
 {
     match numeral(text, key) {
         Some((digits, rest)) => (Some(digits), rest),

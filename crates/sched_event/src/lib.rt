@@ -11,6 +11,6 @@ mod read;
 mod switch;
 mod wakeup;
 
-pub use event::{Event, IDLE, Migration, Switch, Wakeup};
+pub use event::{Event, Migration, Switch, Wakeup};
 pub use fault::EventFault;
 pub use read::{one_answer, one_reading, read_event};

@@ -1,19 +1,12 @@
 ghost use Rattle.std.specs.Prelude.{◌≡◌, ◌<◌, ◌^◌};
-ghost use Rattle.sched_event.specs.Ranges.{most_pid, most_cpu};
+ghost use Rattle.cfs_model.specs.Limits.{greatest_pid, greatest_processor};
 ghost use Rattle.sched_event.specs.Judging.{Judges, number_within, nice_at};
 ghost use Rattle.sched_event.specs.FieldsView.{prio_fields_view};
 
-use crate::event::IDLE;
 use crate::fault::EventFault;
 use crate::fields::PrioFields;
 use crate::numeral::Numeral;
-use cfs_model::{Nice, PrioFault};
-
-/// The largest pid of a task.
-const PID_MAX: u64 = 4194304;
-
-/// The largest number of a processor in a trace.
-const CPU_MAX: u64 = 65535;
+use cfs_model::{GREATEST_PID, GREATEST_PROCESSOR, IDLE_PID, Nice, PrioFault};
 
 /// The prio of nice 0.
 const PRIO_MIDDLE: i64 = 120;
@@ -37,17 +30,17 @@ fn number_within(numeral: &Numeral, most: u64) -> Result<u32, EventFault>
 /// The pid that a numeral stands for.
 #[inline(always)]
 pub(crate) fn pid_of(numeral: &Numeral) -> Result<u32, EventFault>
-    ensures { result ≡ number_within most_pid numeral.now.digits.now }
+    ensures { result ≡ number_within greatest_pid numeral.now.digits.now }
 {
-    number_within(numeral, PID_MAX)
+    number_within(numeral, GREATEST_PID)
 }
 
 /// The processor that a numeral stands for.
 #[inline(always)]
 pub(crate) fn cpu_of(numeral: &Numeral) -> Result<u32, EventFault>
-    ensures { result ≡ number_within most_cpu numeral.now.digits.now }
+    ensures { result ≡ number_within greatest_processor numeral.now.digits.now }
 {
-    number_within(numeral, CPU_MAX)
+    number_within(numeral, GREATEST_PROCESSOR)
 }
 
 /// The nice value of a printed prio. That of the idle task isn't looked at: its nice value is 0.
@@ -57,7 +50,7 @@ pub(crate) fn nice_of(pid: u32, prio: &PrioFields) -> Result<Nice, EventFault>
     ensures { result ≡ nice_at pid (prio_fields_view prio.now) }
 {
     let number = prio.numeral.value.min(PRIO_BEYOND) as i64;
-    let printed = if pid == IDLE {
+    let printed = if pid == IDLE_PID {
         PRIO_MIDDLE
     } else if prio.minus {
         -number

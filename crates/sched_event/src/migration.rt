@@ -1,13 +1,15 @@
-ghost use Rattle.sched_event.specs.Reading.{Gives, migration_at};
+ghost use Rattle.text_parts.specs.Reading.{Gives};
+ghost use Rattle.sched_event.specs.Reading.{migration_at};
 ghost use Rattle.sched_event.specs.Judging.{Judges, migration_judged};
 ghost use Rattle.sched_event.specs.Event.{migration_view};
 ghost use Rattle.sched_event.specs.FieldsView.{migration_fields_view};
 
-use crate::event::{IDLE, Migration};
+use crate::event::Migration;
 use crate::fault::EventFault;
 use crate::fields::{PrioFields, fields, name, numeral, prio};
 use crate::limits::{cpu_of, nice_of, pid_of};
 use crate::numeral::Numeral;
+use cfs_model::IDLE_PID;
 
 /// The parts of a migration's text.
 #[derive(Clone, Copy)]
@@ -55,7 +57,7 @@ pub(crate) fn migration_of<'a>(text: &MigrationFields<'a>) -> Result<Migration<'
     let orig = cpu_of(&text.orig)?;
     let dest = cpu_of(&text.dest)?;
     let nice = nice_of(pid, &text.prio)?;
-    if pid == IDLE {
+    if pid == IDLE_PID {
         return Err(EventFault::IdleNamed);
     }
     Ok(Migration {

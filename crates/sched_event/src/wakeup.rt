@@ -1,13 +1,15 @@
-ghost use Rattle.sched_event.specs.Reading.{Gives, wakeup_at};
+ghost use Rattle.text_parts.specs.Reading.{Gives};
+ghost use Rattle.sched_event.specs.Reading.{wakeup_at};
 ghost use Rattle.sched_event.specs.Judging.{Judges, wakeup_judged};
 ghost use Rattle.sched_event.specs.Event.{wakeup_view};
 ghost use Rattle.sched_event.specs.FieldsView.{wakeup_fields_view};
 
-use crate::event::{IDLE, Wakeup};
+use crate::event::Wakeup;
 use crate::fault::EventFault;
 use crate::fields::{PrioFields, fields, name, numeral, optional_numeral, prio};
 use crate::limits::{cpu_of, nice_of, pid_of};
 use crate::numeral::Numeral;
+use cfs_model::IDLE_PID;
 
 /// The parts of a wakeup's text.
 #[derive(Clone, Copy)]
@@ -54,7 +56,7 @@ pub(crate) fn wakeup_of<'a>(text: &WakeupFields<'a>) -> Result<Wakeup<'a>, Event
     let pid = pid_of(&text.pid)?;
     let target = cpu_of(&text.target)?;
     let nice = nice_of(pid, &text.prio)?;
-    if pid == IDLE {
+    if pid == IDLE_PID {
         return Err(EventFault::IdleNamed);
     }
     Ok(Wakeup {

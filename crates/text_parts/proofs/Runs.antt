@@ -4,11 +4,12 @@ use Rattle.std.proofs.Common.{◌≡◌, ℕ, ◌<◌, ◌≤◌, ◌==◌, Bool
 use Rattle.std.specs.Prelude.{IsTrue, ◌≢◌}
 use Rattle.std.specs.List.{prefix_len, list_all, take_while}
 use Rattle.std.proofs.lemmas.Bool.{cases_Bool, and_parts, and_from, eqb-true, eqb-false, eq-eqb, ne_eqb}
-use Rattle.std.proofs.lemmas.List.{take_at, drop_at, take-append-drop, length-take-le}
+use Rattle.std.proofs.lemmas.List.{take_at, drop_at, take-append-drop, length-take-le, nil_from_length}
 use Rattle.std.proofs.lemmas.List.Sums.{prefix_len-le-length}
+use Rattle.std.proofs.lemmas.Option.{same_Some}
 use Rattle.text_parts.specs.Numerals.{is_digit, value_of, many, IsNumeral}
 use Rattle.text_parts.specs.Pieces.{IsRunOf}
-use Rattle.text_parts.specs.Reading.{◌>>=◌, after_text, after_run, numeral_at, front_value}
+use Rattle.text_parts.specs.Reading.{◌>>=◌, if_at_end, after_text, after_run, numeral_at, front_value}
 
 pub prefix_within : (test : ℕ → Bool) (s : List ℕ) → prefix_len test s ≤ length s
 prefix_within test s = prefix_len-le-length test s
@@ -38,13 +39,20 @@ pub bind_elim : {A B C : Type 0} (r : Option A) (f : A → Option B) (y : B) →
 bind_elim (Some x) f y e k = k x refl e
 bind_elim None f y e k = absurd cc
 
-pub some_is : {A : Type 0} (x y : A) → Some x ≡ Some y → x ≡ y
-some_is x y e = cc
-
 -- a test that let something through
 pub guard_some : {A : Type 0} (b : Bool) (x : Option A) (y : A) → cond b None x ≡ Some y → (b ≡ false) × (x ≡ Some y)
 guard_some true x y e = absurd cc
 guard_some false x y e = (refl, e)
+
+-- what was read to the end of a text leaves nothing
+pub at_end_taken : {A : Type 0} (rest : List ℕ) (made read : A) → if_at_end rest made ≡ Some read → (rest ≡ []) × (made ≡ read)
+at_end_taken rest made read e =
+    elim (cases_Bool (eqb (length rest) 0)) [
+      | inl end ↦
+          let found : Some made ≡ Some read = rw end at e in
+          (nil_from_length rest (eqb-true (length rest) 0 end), same_Some made read found)
+      | inr more ↦ let none : None ≡ Some read = rw more at e in absurd cc
+    ]
 
 -- nothing, where no value can be found
 pub none_from : {A : Type 0} (r : Option A) → ((x : A) → r ≡ Some x → ⊥) → r ≡ None
@@ -124,13 +132,13 @@ text_again (c ∷ front) rest = rw (eq-eqb c c refl) (text_again front rest)
 -- ---- numbers
 
 -- what the digits at the front of a text are, where they are so many
-pub record BeginsWith (digits rest text : List ℕ) : Type 0 where
+pub record DigitsInFront (digits rest text : List ℕ) : Type 0 where
   pub length_is : prefix_len is_digit text ≡ length digits
   pub value_is : front_value text ≡ min (value_of digits) many
   pub rest_is : drop (prefix_len is_digit text) text ≡ rest
 
-pub begins_with : (digits rest : List ℕ) → IsNumeral digits → Stops is_digit rest → BeginsWith digits rest (digits ++ rest)
-begins_with digits rest numeral stops =
+pub digits_in_front : (digits rest : List ℕ) → IsNumeral digits → Stops is_digit rest → DigitsInFront digits rest (digits ++ rest)
+digits_in_front digits rest numeral stops =
     let len = prefix_len-run is_digit digits rest numeral.all stops in
     record {
       length_is = len;
@@ -142,7 +150,7 @@ pub numeral_again : (digits rest : List ℕ) → IsNumeral digits → Stops is_d
     numeral_at (digits ++ rest) ≡ Some (min (value_of digits) many, rest)
 unfolding numeral_at
 numeral_again digits rest numeral stops =
-    let b = begins_with digits rest numeral stops in
+    let b = digits_in_front digits rest numeral stops in
     let some : eqb (length digits) 0 ≡ false = ne_eqb (length digits) 0 (λ e. omega (arith, numeral.some)) in
     rw (b.value_is, b.rest_is, b.length_is, some) refl
 
@@ -157,7 +165,7 @@ numeral_taken s value rest e =
     let g = guard_some (prefix_len is_digit s == 0) (Some (front_value s, drop (prefix_len is_digit s) s)) (value, rest) e in
     let some : 0 < prefix_len is_digit s = omega (arith, eqb-false (prefix_len is_digit s) 0 g.0) in
     let found : (front_value s, drop (prefix_len is_digit s) s) ≡ (value, rest) =
-    some_is (front_value s, drop (prefix_len is_digit s) s) (value, rest) g.1 in
+    same_Some (front_value s, drop (prefix_len is_digit s) s) (value, rest) g.1 in
     let value_of_it : front_value s ≡ value = ap (λ (x : ℕ × List ℕ). x.0) found in
     let rest_of_it : drop (prefix_len is_digit s) s ≡ rest = ap (λ (x : ℕ × List ℕ). x.1) found in
     record {

@@ -51,20 +51,20 @@ pub first_line_is : (s : List ℕ) (k : ℕ) → k ≤ length s → ((i : ℕ) �
 first_line_is s k le before here = position_or_len_is is_line_feed s k 0 le (λ i lt. false_from_ne_true (is_line_feed (get_or s i 0)) (before i lt)) here
 
 -- a line and what follows it are the first line and the rest of a text
-pub record IsCut (text line rest : List ℕ) : Type 0 where
+pub record CutsLine (text line rest : List ℕ) : Type 0 where
   pub line_is : line ≡ before_first is_line_feed text
   pub rest_is : rest ≡ after_first is_line_feed text
   pub lines_are : 0 < length text → lines_of text ≡ line ∷ lines_of rest
   pub shorter : 0 < length text → length rest < length text
 
 cut_from : (text line rest : List ℕ) → line ≡ before_first is_line_feed text → rest ≡ after_first is_line_feed text →
-    (0 < length text → length rest < length text) → IsCut text line rest
+    (0 < length text → length rest < length text) → CutsLine text line rest
 cut_from text line rest l r less = record { line_is = l; rest_is = r; lines_are = λ some. rw (l, r) (lines_of_next text some); shorter = less }
 
 -- cut at the first line feed
 pub cut_at_feed : (text : List ℕ) (k : ℕ) → k < length text →
     ((i : ℕ) → 0 ≤ i → i < k → is_line_feed (get_or text i 0) ≡ true → ⊥) → is_line_feed (get_or text k 0) ≡ true →
-    IsCut text (take k text) (drop 1 (drop k text))
+    CutsLine text (take k text) (drop 1 (drop k text))
 cut_at_feed text k lt before here =
     let end : position_or_len is_line_feed text ≡ k =
     first_line_is text k (omega arith) (λ i below. before i (omega arith) below) (λ _. here) in
@@ -72,7 +72,7 @@ cut_at_feed text k lt before here =
 
 -- a text without a line feed is one line
 pub cut_at_end : (text : List ℕ) → ((i : ℕ) → 0 ≤ i → i < length text → is_line_feed (get_or text i 0) ≡ true → ⊥) →
-    IsCut text text []
+    CutsLine text text []
 cut_at_end text before =
     let end : position_or_len is_line_feed text ≡ length text =
     first_line_is text (length text) (omega arith) (λ i below. before i (omega arith) below) (λ lt. absurd (omega arith)) in

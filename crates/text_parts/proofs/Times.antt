@@ -3,10 +3,11 @@ use Rattle.std.proofs.Common.{◌≡◌, ℕ, suc, ◌+◌, ◌*◌, ◌^◌, �
 use Rattle.std.specs.Prelude.{IsTrue}
 use Rattle.std.specs.List.{prefix_len, list_all, take_while}
 use Rattle.std.proofs.lemmas.Bool.{cases_Bool, and_parts, leb-true, eqb-true}
+use Rattle.std.proofs.lemmas.Option.{same_Some}
 use Rattle.text_parts.specs.Numerals.{is_digit, value_of, many, IsNumeral}
 use Rattle.text_parts.specs.Time.{IsFraction, IsTime}
 use Rattle.text_parts.specs.Reading.{◌>>=◌, after_text, numeral_at, front_value, nanoseconds_of, time_at}
-use Rattle.text_parts.proofs.Runs.{Stops, begins_with, numeral_again, numeral_taken, TakesNumeral, text_taken, text_again, bind_some, some_is, run_passes, front_and_rest, length_front}
+use Rattle.text_parts.proofs.Runs.{Stops, digits_in_front, numeral_again, numeral_taken, TakesNumeral, text_taken, text_again, bind_some, run_passes, front_and_rest, length_front}
 
 value_below_from : (k v : ℕ) (s : List ℕ) → v < 10 ^ k → IsTrue (list_all is_digit s) →
     fold (λ value digit. value * 10 + (digit - 48)) v s < 10 ^ (k + length s)
@@ -45,7 +46,7 @@ is_fraction digits nanoseconds all e =
           let six_of : length digits ≡ 6 = eqb-true (length digits) 6 six in
           let below : value_of digits < 10 ^ 6 = subst (λ n. value_of digits < 10 ^ n) six_of (value_below digits all) in
           let found : Some (min (value_of digits) many * 1000) ≡ Some nanoseconds = rw six at e in
-          let same = some_is (min (value_of digits) many * 1000) nanoseconds found in
+          let same = same_Some (min (value_of digits) many * 1000) nanoseconds found in
           inl (six_of, omega arith)
       | inr other ↦
           elim (cases_Bool (eqb (length digits) 9)) [
@@ -53,7 +54,7 @@ is_fraction digits nanoseconds all e =
                 let nine_of : length digits ≡ 9 = eqb-true (length digits) 9 nine in
                 let below : value_of digits < 10 ^ 9 = subst (λ n. value_of digits < 10 ^ n) nine_of (value_below digits all) in
                 let found : Some (min (value_of digits) many) ≡ Some nanoseconds = rw (other, nine) at e in
-                let same = some_is (min (value_of digits) many) nanoseconds found in
+                let same = same_Some (min (value_of digits) many) nanoseconds found in
                 inr (nine_of, omega arith)
             | inr none ↦ let nothing : None ≡ Some nanoseconds = rw (other, none) at e in absurd cc
           ]
@@ -114,7 +115,7 @@ time_behind_point : (s text fraction : List ℕ) (whole seconds nanoseconds : �
 time_behind_point s text fraction whole seconds nanoseconds rest w point e =
     let n =
     bind_some (nanoseconds_of (prefix_len is_digit fraction) (front_value fraction)) (with_fraction whole fraction) (seconds, nanoseconds, rest) e in
-    subst (λ (t : ℕ × ℕ × List ℕ). TakesTime s t.0 t.1 t.2) (some_is (whole, n.0, drop (prefix_len is_digit fraction) fraction) (seconds, nanoseconds, rest) n.2) (time_from s text fraction whole n.0 w point n.1)
+    subst (λ (t : ℕ × ℕ × List ℕ). TakesTime s t.0 t.1 t.2) (same_Some (whole, n.0, drop (prefix_len is_digit fraction) fraction) (seconds, nanoseconds, rest) n.2) (time_from s text fraction whole n.0 w point n.1)
 
 time_behind_seconds : (s : List ℕ) (whole : ℕ) (text : List ℕ) (seconds nanoseconds : ℕ) (rest : List ℕ) →
     TakesNumeral s whole text → behind_seconds (whole, text) ≡ Some (seconds, nanoseconds, rest) →
@@ -136,5 +137,5 @@ unfolding time_at
 time_again time seconds nanoseconds rest t stops =
     let regrouped : time ++ rest ≡ t.whole_digits ++ (46 ∷ (t.fraction_digits ++ rest)) =
     ap (λ (w : List ℕ). w ++ rest) t.whole ∙ append_assoc t.whole_digits (46 ∷ t.fraction_digits) rest in
-    let fraction = begins_with t.fraction_digits rest t.fraction_numeral stops in
+    let fraction = digits_in_front t.fraction_digits rest t.fraction_numeral stops in
     rw (regrouped, numeral_again t.whole_digits (46 ∷ (t.fraction_digits ++ rest)) t.whole_numeral refl, text_again (codes ".") (t.fraction_digits ++ rest), fraction.value_is, fraction.rest_is, fraction.length_is, fraction_nanoseconds t.fraction_digits nanoseconds t.fraction_numeral t.fraction_value, t.whole_value) refl

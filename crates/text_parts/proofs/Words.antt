@@ -1,41 +1,15 @@
--- A word is a numeral or a time where nothing is left behind what was taken from its front.
+-- A word is a time where nothing is left behind the time at its front.
 use Rattle.std.proofs.Common.{◌≡◌, ℕ, ◌==◌, true, false, List, [], ◌++◌, length, min, Some, None, sym, ap, subst, ◌∙◌}
-use Rattle.std.specs.List.{take_while}
 use Rattle.std.proofs.lemmas.Bool.{eqb-true, eqb-false}
 use Rattle.std.proofs.lemmas.List.{append-nil, nil_from_length}
-use Rattle.text_parts.specs.Numerals.{is_digit, value_of, many, IsNumeral}
+use Rattle.std.proofs.lemmas.Option.{same_Some}
+use Rattle.text_parts.specs.Numerals.{many}
 use Rattle.text_parts.specs.Time.{IsTime}
-use Rattle.text_parts.specs.Reading.{numeral_at, time_at}
-use Rattle.text_parts.proofs.Runs.{some_is, numeral_again, numeral_taken}
+use Rattle.text_parts.specs.Reading.{time_at}
 use Rattle.text_parts.proofs.Times.{time_again, time_taken}
 
 nothing_left : (s : List ℕ) → (length s == 0) ≡ true → s ≡ []
 nothing_left s e = nil_from_length s (eqb-true (length s) 0 e)
-
--- ---- numerals
-
-numeral_word : (w : List ℕ) → IsNumeral w → numeral_at w ≡ Some (min (value_of w) many, [])
-numeral_word w numeral = rw append-nil at (numeral_again w [] numeral tt)
-
-pub numeral_from_word : (w : List ℕ) (value : ℕ) (rest : List ℕ) → numeral_at w ≡ Some (value, rest) →
-    (length rest == 0) ≡ true → IsNumeral w × (value ≡ min (value_of w) many)
-numeral_from_word w value rest e end =
-    let t = numeral_taken w value rest e in
-    let whole : take_while is_digit w ≡ w =
-    sym (t.whole ∙ ap (λ (s : List ℕ). take_while is_digit w ++ s) (nothing_left rest end) ∙ append-nil (take_while is_digit w)) in
-    (subst IsNumeral whole t.digits_form, t.value_is ∙ ap (λ (s : List ℕ). min (value_of s) many) whole)
-
-pub no_numeral : (w : List ℕ) → numeral_at w ≡ None → IsNumeral w → ⊥
-no_numeral w e numeral = let f = numeral_word w numeral in cc
-
-pub no_numeral_word : (w : List ℕ) (value : ℕ) (rest : List ℕ) → numeral_at w ≡ Some (value, rest) →
-    (length rest == 0) ≡ false → IsNumeral w → ⊥
-no_numeral_word w value rest e more numeral =
-    let both = some_is (value, rest) (min (value_of w) many, []) (sym e ∙ numeral_word w numeral) in
-    let end : rest ≡ [] = ap (λ (x : ℕ × List ℕ). x.1) both in
-    eqb-false (length rest) 0 more (ap length end)
-
--- ---- times
 
 pub time_word : (w : List ℕ) (seconds nanoseconds : ℕ) → IsTime w seconds nanoseconds →
     time_at w ≡ Some (min seconds many, nanoseconds, [])
@@ -53,7 +27,7 @@ time_from_word w seconds nanoseconds rest e end =
 pub one_time : (w : List ℕ) (seconds nanoseconds : ℕ) (rest : List ℕ) → time_at w ≡ Some (seconds, nanoseconds, rest) →
     (s n : ℕ) → IsTime w s n → (seconds ≡ min s many) × (nanoseconds ≡ n)
 one_time w seconds nanoseconds rest e s n time =
-    let both = some_is (seconds, nanoseconds, rest) (min s many, n, []) (sym e ∙ time_word w s n time) in
+    let both = same_Some (seconds, nanoseconds, rest) (min s many, n, []) (sym e ∙ time_word w s n time) in
     (ap (λ (x : ℕ × ℕ × List ℕ). x.0) both, ap (λ (x : ℕ × ℕ × List ℕ). x.1) both)
 
 pub no_time : (w : List ℕ) → time_at w ≡ None → (s n : ℕ) → IsTime w s n → ⊥
@@ -62,6 +36,6 @@ no_time w e s n time = let f = time_word w s n time in cc
 pub no_time_word : (w : List ℕ) (seconds nanoseconds : ℕ) (rest : List ℕ) →
     time_at w ≡ Some (seconds, nanoseconds, rest) → (length rest == 0) ≡ false → (s n : ℕ) → IsTime w s n → ⊥
 no_time_word w seconds nanoseconds rest e more s n time =
-    let both = some_is (seconds, nanoseconds, rest) (min s many, n, []) (sym e ∙ time_word w s n time) in
+    let both = same_Some (seconds, nanoseconds, rest) (min s many, n, []) (sym e ∙ time_word w s n time) in
     let end : rest ≡ [] = ap (λ (x : ℕ × ℕ × List ℕ). x.2) both in
     eqb-false (length rest) 0 more (ap length end)

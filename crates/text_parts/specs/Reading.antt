@@ -1,9 +1,10 @@
 -- Reading from the front of a text: what a part takes, and what it leaves. Nothing here is to be believed: it is proved
--- to give the one reading that `Time` and `Line` state.
-use Rattle.std.specs.Prelude.{◌≡◌, ℕ, ◌*◌, ◌==◌, Bool, List, [], ◌∷◌, codes, take_while, drop, min, Option, None, Some, if◌then◌else◌}
+-- to give the one reading that `Time`, and the relations of the crates above, state.
+use Rattle.std.specs.Prelude.{◌≡◌, ℕ, ◌*◌, ◌==◌, Bool, List, [], ◌∷◌, codes, length, take_while, drop, min, Option, None, Some, if◌then◌else◌}
 use Rattle.std.specs.List.{prefix_len}
 use Rattle.text_parts.specs.Numerals.{is_digit, value_of, many}
 
+-- a reader, and another at what it found
 infixl 10 ◌>>=◌
 abbrev pub ◌>>=◌ : {A B : Type 0} → Option A → (A → Option B) → Option B
 (Some x) >>= f = f x
@@ -18,6 +19,10 @@ or_else None later = later
 abbrev pub Gives : {X Y : Type 0} → (X → Y) → Option X → Option Y → Type 0
 Gives view (Some x) read = read ≡ Some (view x)
 Gives view None read = read ≡ None
+
+-- what was read, where nothing is left behind it
+abbrev pub if_at_end : {A : Type 0} → List ℕ → A → Option A
+if_at_end rest read = if length rest == 0 then Some read else None
 
 -- what follows these bytes
 unfoldable pub after_text : List ℕ → List ℕ → Option (List ℕ)

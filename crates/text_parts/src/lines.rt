@@ -1,6 +1,6 @@
 ghost use Rattle.std.specs.Prelude.{◌≡◌, ◌<◌, ◌≤◌, ◌∷◌, ◌++◌, ℕ, List, false, length, take, drop};
 ghost use Rattle.std.specs.List.{before_first, after_first, list_any};
-ghost use Rattle.text_parts.specs.Lines.{is_line_feed, lines_of, IsWhole};
+ghost use Rattle.text_parts.specs.Lines.{is_line_feed, lines_of, IsWhole, is_comment};
 
 use bstr::ByteSlice;
 
@@ -31,6 +31,18 @@ pub fn whole_lines(text: &[u8]) -> usize
     match text.rfind_byte(b'\n') {
         Some(last) => last + 1,
         None => 0,
+    }
+}
+
+/// Whether a line is a comment: it is empty, or it begins with `#`.
+#[inline(always)]
+#[tactic(auto, unfolding(crate::specs::Lines::is_comment))]
+pub fn is_comment(line: &[u8]) -> bool
+    ensures { result ≡ is_comment line.now }
+{
+    match line {
+        [] => true,
+        [first, ..] => *first == b'#',
     }
 }
 

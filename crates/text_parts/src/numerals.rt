@@ -1,6 +1,6 @@
-ghost use Rattle.std.specs.Prelude.{◌≡◌, ◌+◌, ◌*◌, ◌-◌, ◌<◌, ◌^◌, min, length, take_while, drop, MatchOption, ◌≤◌};
+ghost use Rattle.std.specs.Prelude.{◌≡◌, ◌+◌, ◌*◌, ◌-◌, ◌<◌, ◌^◌, min, length, take_while, drop, ◌≤◌};
 ghost use Rattle.std.specs.List.{prefix_len};
-ghost use Rattle.text_parts.specs.Numerals.{is_digit, value_of, IsNumeral};
+ghost use Rattle.text_parts.specs.Numerals.{is_digit, value_of};
 ghost use Rattle.text_parts.specs.Reading.{Gives, numeral_at};
 
 /// The value that stands for itself and for all larger ones. No range of this project reaches it.
@@ -99,18 +99,9 @@ pub fn numeral_at(text: &[u8]) -> Option<(u64, &[u8])>
     }
 }
 
-/// The value of a word of one or more digits, or `MANY` where it is larger.
-pub fn read_number(word: &[u8]) -> Option<u64>
-    ensures { MatchOption result (IsNumeral word.now → ⊥)
-        (λ n. IsNumeral word.now × (n ≡ min (value_of word.now) MANY)) }
-{
-    let (value, rest) = numeral_at(word)?;
-    if rest.is_empty() { Some(value) } else { None }
-}
-
 /// The value of digits, or `MANY` where it is larger.
 #[inline(never)]
-pub fn number_of(digits: &[u8]) -> u64
+fn number_of(digits: &[u8]) -> u64
     ensures { result ≡ min (value_of digits.now) MANY }
 {
     let mut value = 0;

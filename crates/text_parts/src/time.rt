@@ -12,7 +12,7 @@ pub struct Time {
     pub seconds: u64,
     /// The nanoseconds beyond them.
     pub nanoseconds: u64,
-    pub ghost below: { nanoseconds < 1000000000 },
+    pub ghost below: { nanoseconds < 10 ^ 9 },
 }
 
 /// The time that a word is: seconds, a point, and six digits of microseconds or nine of nanoseconds.
@@ -51,7 +51,7 @@ pub fn time_at(text: &[u8]) -> Option<(Time, &[u8])>
 fn nanoseconds_of(digits: usize, value: u64) -> Option<u64>
     requires { value < 10 ^ digits }
     ensures value { Gives (λ n. n) result (nanoseconds_of digits value) }
-    ensures below { IfSome result (λ n. n < 1000000000) }
+    ensures below { IfSome result (λ n. n < 10 ^ 9) }
 {
     match digits {
         6 => Some(value * 1000),

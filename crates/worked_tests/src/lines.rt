@@ -1,6 +1,7 @@
 use ftrace_line::{Line, LineFault, Sched, Which, one_reading, read_line};
+use sched_event::{EventFault, read_event};
 use text_parts::lines::next_line;
-use text_parts::numerals::{MANY, digit_count, number_at, number_of, read_number};
+use text_parts::numerals::{MANY, digit_count, number_at, numeral_at};
 use text_parts::time::read_time;
 
 /// One event of each kind that is looked at, with its head in ftrace's plain format.
@@ -181,11 +182,12 @@ fn numbers_and_times_are_read(rt: HostRuntime) {
         (4, 42, b"]".as_slice())
     );
     assert_eq!(rt;
-        number_of(b"4611686018427387905"),
+        number_at(b"4611686018427387905").value,
         4_611_686_018_427_387_905
     );
-    assert_eq!(rt; read_number(b"99999999999999999999"), Some(MANY));
-    assert_eq!(rt; read_number(b"7 "), None);
+    assert_eq!(rt; numeral_at(b"99999999999999999999"), Some((MANY, b"".as_slice())));
+    assert_eq!(rt; numeral_at(b"7 "), Some((7, b" ".as_slice())));
+    assert_eq!(rt; numeral_at(b" 7"), None);
     let times = [
         (b"100.004000".as_slice(), Some((100, 4_000_000))),
         (b"0.000000001".as_slice(), Some((0, 1))),
@@ -208,4 +210,23 @@ fn lines_end_at_line_feeds(rt: HostRuntime) {
         (b"a b".as_slice(), b"\nc".as_slice())
     );
     assert_eq!(rt; next_line(b"c"), (b"c".as_slice(), b"".as_slice()));
+}
+
+/// A carriage return ends no line: it is a byte of its line, where no comment, head or field has a place for it.
+#[test]
+fn a_carriage_return_belongs_to_its_line(rt: HostRuntime) {
+    assert_eq!(rt;
+        next_line(b"# tracer: nop\r\n#\r\n"),
+        (b"# tracer: nop\r".as_slice(), b"#\r\n".as_slice())
+    );
+    assert_eq!(rt; read_line(b"# tracer: nop\r"), Ok(Line::Comment));
+    assert_eq!(rt; read_line(b"\r"), Err(LineFault::BadHead));
+    let event = read_line(
+        b"            t101-101     [000] d..2.   100.004000: sched_wakeup: comm=t101 pid=101 prio=120 target_cpu=000\r",
+    );
+    let Ok(Line::Sched(wakeup)) = event else {
+        panic!(rt; "the head of a line that ends in a carriage return");
+    };
+    assert_eq!(rt; wakeup.rest.last(), Some(&b'\r'));
+    assert_eq!(rt; read_event(wakeup), Err(EventFault::BadFields));
 }

@@ -1,25 +1,26 @@
 ghost use Rattle.std.specs.Prelude.{◌≡◌};
 ghost use Rattle.companion_file.specs.Shape.{cpus_line, start_line, floor_line, task_line, claim_line};
-ghost use Rattle.companion_file.specs.Draft.{Follows, TakesFirst, Takes};
+ghost use Rattle.companion_file.specs.Draft.{AddsTested, TakesFirst, Takes};
 ghost use Rattle.companion_file.specs.Statement.{stated};
 
 use crate::draft::Draft;
 use crate::fault::{CompanionCause, Refusal};
-use crate::limits::{LAST_SECOND, MOST_CPUS, claim_within, is_value};
-use crate::marks::{is_comment, is_first, is_group};
+use crate::limits::{claim_within, is_value};
+use crate::marks::{is_first, is_group};
 use crate::statement::Statement;
 use crate::version_one::statement_of;
-use cfs_model::{ClaimSort, Place};
+use cfs_model::{ClaimSort, GREATEST_SECONDS, MOST_PROCESSORS, NANOSECONDS_PER_SECOND, Place};
+use text_parts::lines::is_comment;
 use text_parts::time::Time;
 
 impl Draft {
     fn say_cpus(&mut self, count: u64) -> Result<(), Refusal>
-        ensures { Follows self.old (cpus_line count) result self.new }
+        ensures { AddsTested self.old (cpus_line count) result self.new }
     {
         if self.cpus.is_some() {
             return Err(Refusal::Bad(CompanionCause::Order));
         }
-        if count < 1 || count > MOST_CPUS as u64 {
+        if count < 1 || count > MOST_PROCESSORS as u64 {
             return Err(Refusal::Bad(CompanionCause::NumberRange));
         }
         self.cpus = Some(count as u32);
@@ -27,20 +28,20 @@ impl Draft {
     }
 
     fn say_start(&mut self, time: Time) -> Result<(), Refusal>
-        ensures { Follows self.old (start_line time.seconds time.nanoseconds) result self.new }
+        ensures { AddsTested self.old (start_line time.seconds time.nanoseconds) result self.new }
     {
         if self.cpus.is_none() || self.start.is_some() {
             return Err(Refusal::Bad(CompanionCause::Order));
         }
-        if time.seconds > LAST_SECOND {
+        if time.seconds > GREATEST_SECONDS {
             return Err(Refusal::Bad(CompanionCause::NumberRange));
         }
-        self.start = Some(time.seconds * 1_000_000_000 + time.nanoseconds);
+        self.start = Some(time.seconds * NANOSECONDS_PER_SECOND + time.nanoseconds);
         Ok(())
     }
 
     fn say_floor(&mut self, cpu: u64, floor: i64) -> Result<(), Refusal>
-        ensures { Follows self.old (floor_line cpu floor) result self.new }
+        ensures { AddsTested self.old (floor_line cpu floor) result self.new }
     {
         if self.start.is_none() || self.has_all_floors() {
             return Err(Refusal::Bad(CompanionCause::Order));
@@ -63,7 +64,7 @@ impl Draft {
         place: Place,
         v: i64,
     ) -> Result<(), Refusal>
-        ensures { Follows self.old (task_line (record { pid = pid; nice = nice; cpu = cpu; place = place; v = v })) result self.new }
+        ensures { AddsTested self.old (task_line (record { pid = pid; nice = nice; cpu = cpu; place = place; v = v })) result self.new }
     {
         if !self.has_all_floors() || !self.claims.is_empty() {
             return Err(Refusal::Bad(CompanionCause::Order));
@@ -85,7 +86,7 @@ impl Draft {
 
     #[inline(always)]
     fn say_claim(&mut self, line: u64, pid: u64, v: i64, sort: ClaimSort) -> Result<(), Refusal>
-        ensures { Follows self.old (claim_line (record { line = line; pid = pid; v = v; sort = sort })) result self.new }
+        ensures { AddsTested self.old (claim_line (record { line = line; pid = pid; v = v; sort = sort })) result self.new }
     {
         if !self.has_all_floors() {
             return Err(Refusal::Bad(CompanionCause::Order));
@@ -101,7 +102,7 @@ impl Draft {
     }
 
     fn say(&mut self, statement: Statement) -> Result<(), Refusal>
-        ensures { Follows self.old (stated statement) result self.new }
+        ensures { AddsTested self.old (stated statement) result self.new }
     {
         match statement {
             Statement::Version => Err(Refusal::Bad(CompanionCause::Order)),

@@ -8,6 +8,7 @@ use Rattle.ftrace_line.specs.declared.fault.LineFault.{LineFault}
 use Rattle.ftrace_line.specs.declared.fault.LineFault.TheVariants.{BadHead, NumberRange}
 use Rattle.ftrace_line.specs.Line.{LineAnswer, IsHeadless, IsHeadOutOfRange, line_answer_view}
 use Rattle.ftrace_line.specs.Meaning.{meaning_of}
+use Rattle.cfs_model.specs.Limits.{nanoseconds_per_second}
 use Rattle.ftrace_line.proofs.OneReading.{answer_only}
 use Rattle.ftrace_line.proofs.Answered.{answer_so}
 use Rattle.ftrace_line.proofs.Marks.{mark_within}
@@ -58,9 +59,9 @@ returns-in_default c =
     let t = told c.args.line.now (Err BadHead) (search rules) in
     record { answers = t.answers; bad = t.bad; range = t.range }
 
-pub returns-then-head-gt-GREATEST_CPU : goal.returns-then-head-gt-GREATEST_CPU
+pub returns-then-head-gt-GREATEST_PROCESSOR : goal.returns-then-head-gt-GREATEST_PROCESSOR
 unfolding meaning_of
-returns-then-head-gt-GREATEST_CPU c =
+returns-then-head-gt-GREATEST_PROCESSOR c =
     let t = told c.args.line.now (Err NumberRange) (search rules) in
     record { answers = t.answers; bad = t.bad; range = t.range }
 
@@ -74,6 +75,6 @@ pub returns : goal.returns
 unfolding meaning_of
 returns c =
     let head = c.in-Some.head in
-    let event : Sched = record { cpu = head.cpu; which = c.in-Some-kind_of.which; time = head.time.seconds * 1000000000 + head.time.nanoseconds; rest = c.fields_of.result } in
+    let event : Sched = record { cpu = head.cpu; which = c.in-Some-kind_of.which; time = head.time.seconds * nanoseconds_per_second + head.time.nanoseconds; rest = c.fields_of.result } in
     let t = told c.args.line.now (Ok (line_variants.Sched event)) (search rules) in
     record { answers = t.answers; bad = t.bad; range = t.range }

@@ -2,7 +2,7 @@
 use Rattle.std.proofs.Common.{◌≡◌, ◌-◌, ◌<◌, eqb, true, false, [], min, length, drop, refl, sym, ap, ◌∙◌, arith, rules}
 use Rattle.std.proofs.lemmas.Bool.{eqb-true}
 use Rattle.std.proofs.lemmas.List.{take_rest, nil_from_length}
-use Rattle.sched_event.specs.Reading.{begins_with}
+use Rattle.text_parts.specs.Pieces.{begins_with}
 use Rattle.sched_event.proofs.Places.{place_found, place_below, place_none, none_in_empty, passed_over, from_last}
 use Rattle.sched_event.proofs.fields.last_place.Goals as goal
 

@@ -1,44 +1,103 @@
--- Seven fields in a row are more than the search takes at once: the steps are handed over one by one.
-use Rattle.std.proofs.Common.{◌≡◌, false, eqb, length, refl, rules}
-use Rattle.std.specs.Prelude.{codes}
-use Rattle.sched_event.specs.Texts.{SwitchText}
-use Rattle.sched_event.specs.FieldsView.{prio_fields_view}
-use Rattle.sched_event.specs.Reading.{prio_at, switch_at}
-use Rattle.sched_event.proofs.Keyed.{nothing_left}
-use Rattle.sched_event.proofs.Switches.{SwitchSteps, switch_from}
+-- Where a field is missing the reading ends there: the fields before it are handed over one by one.
+use Rattle.std.proofs.Common.{◌≡◌, true, false, eqb, length, refl, rules}
+use Rattle.sched_event.specs.Reading.{switch_at}
 use Rattle.sched_event.proofs.switch.switch_fields.Goals as goal
 
-pub returns : goal.returns
-returns c =
-    let read : SwitchText = record {
-      prev_name = c.in_ok-prev_name.prev_name.now;
-      prev = c.in_ok-prev.prev.digits.now;
-      prev_prio = prio_fields_view c.in_ok-prev_prio.prev_prio;
-      prev_state = c.in_ok-prev_state.prev_state.now;
-      next_name = c.in_ok-next_name.next_name.now;
-      next = c.in_ok-next.next.digits.now;
-      next_prio = prio_fields_view c.in_ok-next_prio.next_prio;
-    } in
-    let steps : SwitchSteps c.args.text.now read = record {
-      after1 = c.in_ok-prev_name.rest.now;
-      after2 = c.in_ok-prev.rest.now;
-      after3 = c.in_ok-prev_prio.rest.now;
-      after4 = c.in_ok-prev_state.rest.now;
-      after5 = c.in_ok-next_name.rest.now;
-      after6 = c.in_ok-next.rest.now;
-      prev_name = c.in_ok-prev_name.ensures;
-      prev = c.in_ok-prev.ensures;
-      prev_prio = c.in_ok-prev_prio.ensures;
-      prev_state = c.in_ok-prev_state.ensures;
-      next_name = c.in_ok-next_name.ensures;
-      next = c.in_ok-next.ensures;
-      next_prio = nothing_left (prio_at (codes " next_prio=") c.in_ok-next.rest.now) (prio_fields_view c.in_ok-next_prio.next_prio) c.in_ok-next_prio.rest.now c.in_ok-next_prio.ensures (search rules);
-    } in
-    switch_from c.args.text.now read steps
+pub returns-in_err-prev_name : goal.returns-in_err-prev_name
+unfolding switch_at
+returns-in_err-prev_name c = rw (c.from_residual.ensures, c.in_err-prev_name.ensures) refl
+
+pub returns-in_err-prev : goal.returns-in_err-prev
+unfolding switch_at
+returns-in_err-prev c =
+    rw (c.from_residual-in_err-prev.ensures, c.in_ok-prev_name.ensures, c.in_err-prev.ensures) refl
+
+pub returns-in_err-prev_prio : goal.returns-in_err-prev_prio
+unfolding switch_at
+returns-in_err-prev_prio c =
+    rw (
+      c.from_residual-in_err-prev_prio.ensures,
+      c.in_ok-prev_name.ensures,
+      c.in_ok-prev.ensures,
+      c.in_err-prev_prio.ensures,
+    ) refl
+
+pub returns-in_err-prev_state : goal.returns-in_err-prev_state
+unfolding switch_at
+returns-in_err-prev_state c =
+    rw (
+      c.from_residual-in_err-prev_state.ensures,
+      c.in_ok-prev_name.ensures,
+      c.in_ok-prev.ensures,
+      c.in_ok-prev_prio.ensures,
+      c.in_err-prev_state.ensures,
+    ) refl
+
+pub returns-in_err-next_name : goal.returns-in_err-next_name
+unfolding switch_at
+returns-in_err-next_name c =
+    rw (
+      c.from_residual-in_err-next_name.ensures,
+      c.in_ok-prev_name.ensures,
+      c.in_ok-prev.ensures,
+      c.in_ok-prev_prio.ensures,
+      c.in_ok-prev_state.ensures,
+      c.in_err-next_name.ensures,
+    ) refl
+
+pub returns-in_err-next : goal.returns-in_err-next
+unfolding switch_at
+returns-in_err-next c =
+    rw (
+      c.from_residual-in_err-next.ensures,
+      c.in_ok-prev_name.ensures,
+      c.in_ok-prev.ensures,
+      c.in_ok-prev_prio.ensures,
+      c.in_ok-prev_state.ensures,
+      c.in_ok-next_name.ensures,
+      c.in_err-next.ensures,
+    ) refl
+
+pub returns-in_err-next_prio : goal.returns-in_err-next_prio
+unfolding switch_at
+returns-in_err-next_prio c =
+    rw (
+      c.from_residual-in_err-next_prio.ensures,
+      c.in_ok-prev_name.ensures,
+      c.in_ok-prev.ensures,
+      c.in_ok-prev_prio.ensures,
+      c.in_ok-prev_state.ensures,
+      c.in_ok-next_name.ensures,
+      c.in_ok-next.ensures,
+      c.in_err-next_prio.ensures,
+    ) refl
 
 pub returns-then-not-is_empty : goal.returns-then-not-is_empty
 unfolding switch_at
 returns-then-not-is_empty c =
-    let after = c.in_ok-next_prio.rest.now in
-    let more : eqb (length after) 0 ≡ false = search rules in
-    rw (c.in_ok-prev_name.ensures, c.in_ok-prev.ensures, c.in_ok-prev_prio.ensures, c.in_ok-prev_state.ensures, c.in_ok-next_name.ensures, c.in_ok-next.ensures, c.in_ok-next_prio.ensures, more) refl
+    let more : eqb (length c.in_ok-next_prio.rest.now) 0 ≡ false = search rules in
+    rw (
+      c.in_ok-prev_name.ensures,
+      c.in_ok-prev.ensures,
+      c.in_ok-prev_prio.ensures,
+      c.in_ok-prev_state.ensures,
+      c.in_ok-next_name.ensures,
+      c.in_ok-next.ensures,
+      c.in_ok-next_prio.ensures,
+      more,
+    ) refl
+
+pub returns : goal.returns
+unfolding switch_at
+returns c =
+    let end : eqb (length c.in_ok-next_prio.rest.now) 0 ≡ true = search rules in
+    rw (
+      c.in_ok-prev_name.ensures,
+      c.in_ok-prev.ensures,
+      c.in_ok-prev_prio.ensures,
+      c.in_ok-prev_state.ensures,
+      c.in_ok-next_name.ensures,
+      c.in_ok-next.ensures,
+      c.in_ok-next_prio.ensures,
+      end,
+    ) refl

@@ -8,12 +8,12 @@ use Rattle.companion_file.proofs.draft.Draft.take.Goals as goal
 pub returns-then-not-self : goal.returns-then-not-self
 returns-then-not-self c =
     first_taken c.args.self.now c.args.line.now c.take_first.result c.take_first.new.self
-    (λ comment. let test = c.is_comment.ensures.1 comment in absurd cc)
+    (λ comment. let test = c.is_comment.ensures in absurd cc)
     (sym (ap (λ (s : Said). s.begun) c.self.view_is) ∙ c.if-not-self.true) c.take_first.ensures
 
 pub returns-in_default : goal.returns-in_default
 returns-in_default c = (
-  λ comment. let test = c.is_comment.ensures.1 comment in absurd cc,
+  λ comment. let test = c.is_comment.ensures in absurd cc,
   later_refused c.args.self.now c.args.line.now BadLine (sym (ap (λ (s : Said). s.begun) c.self.view_is) ∙ c.if-not-self.false)
       (inr (inl (λ group. let test = c.is_group.ensures.1 group in absurd cc, no_shape c.args.line.now c.in_default.ensures, refl))),
 )
@@ -21,7 +21,7 @@ returns-in_default c = (
 pub returns : goal.returns
 returns c =
     later_taken c.args.self.now c.args.line.now (stated c.in-Some.statement) c.say.result c.say.new.self
-    (λ comment. let test = c.is_comment.ensures.1 comment in absurd cc)
+    (λ comment. let test = c.is_comment.ensures in absurd cc)
     (sym (ap (λ (s : Said). s.begun) c.self.view_is) ∙ c.if-not-self.false)
     (λ group. let test = c.is_group.ensures.1 group in absurd cc)
     (rw (← c.self.view_is) (few_cpus c.self.inside.cpus c.self.invariant.few))

@@ -10,12 +10,10 @@ ghost use Rattle.companion_file.specs.Companion.{companion_view};
 
 mod saying;
 
-use crate::claims::Claims;
 use crate::companion::Companion;
 use crate::fault::Refusal;
-use crate::floors::Floors;
 use crate::limits::{MOST_CPUS, is_pid, is_running, is_value, nice_of};
-use crate::tasks::Tasks;
+use crate::lists::{Claims, Floors, Tasks};
 use cfs_model::{Claim, Place, Task};
 use std::alloc::Global;
 use std::marker::Model;
@@ -180,9 +178,9 @@ impl Draft {
         Some(Companion::new(
             cpus?,
             start?,
-            Floors::new(floors),
-            Tasks::new(tasks),
-            Claims::new(claims),
+            Floors::from_vec(floors),
+            Tasks::from_vec(tasks),
+            Claims::from_vec(claims),
         ))
     }
 }

@@ -4,14 +4,12 @@ ghost use Rattle.queue_replay.specs.Counting.{page_draft_view};
 ghost use Rattle.queue_replay.specs.Made.{IsAt, IsCut, GoesOn, state_of};
 ghost use Rattle.sched_record.specs.Stream.{stream_view};
 
+use crate::lists::{LifeEvents, Tallies, Tickets};
 use crate::page::Page;
 use crate::page_draft::PageDraft;
 use crate::replay_state::ReplayState;
-use crate::roll::Roll;
 use crate::running::{run, start};
 use crate::state::State;
-use crate::tallies::Tallies;
-use crate::tickets::Tickets;
 use cfs_model::{Knobs, Memory};
 use sched_record::Stream;
 use std::alloc::Global;
@@ -126,8 +124,8 @@ impl Replay {
             fault,
             left: Tickets::from_vec(left),
             came: Tickets::from_vec(came),
-            births: Roll::from_vec(births),
-            deaths: Roll::from_vec(deaths),
+            births: LifeEvents::from_vec(births),
+            deaths: LifeEvents::from_vec(deaths),
             tallies: Tallies::from_vec(tallies),
         }
     }

@@ -5,8 +5,8 @@ ghost use Rattle.replay_model.specs.Cut.{claim_for, deed_at as deed_here, steps_
 ghost use Rattle.cfs_model.specs.Touch.{touched};
 ghost use Rattle.cfs_model.specs.declared.claim.Claim.{Claim};
 
+use crate::lists::Steps;
 use crate::record::Record;
-use crate::steps::Steps;
 use crate::stream::Stream;
 use cfs_model::{Act, Claim, Entry, Memory, Task};
 use companion_file::Tasks;
@@ -55,7 +55,7 @@ fn tasks_of(alloc: Global, tasks: &[Task], cpu: u32) -> Result<Tasks, Memory>
             here.push(*task)?;
         }
     }
-    Ok(Tasks::new(here))
+    Ok(Tasks::from_vec(here))
 }
 
 /// The steps of the events that touch a processor. Events and claims are walked side by side.

@@ -1,9 +1,13 @@
 ghost use Rattle.std.specs.Prelude.{◌≡◌};
 ghost use Rattle.sched_record.specs.Kept.{AreInOrder};
 
-use crate::events::Events;
+use crate::lists::Events;
 use cfs_model::Entry;
 use std::alloc::Global;
+use std::mem::size_of;
+
+// What a trace keeps for an event.
+const _: () = prove!(size_of::<Entry>() <= 64);
 
 /// A trace that was read: its events.
 #[derive(Debug, Drop)]

@@ -4,7 +4,7 @@ ghost use Rattle.sched_record.specs.Said.{last_number};
 
 use crate::cause::{TraceCause, TraceFault};
 use crate::entry::line_entry;
-use crate::events::Events;
+use crate::lists::Events;
 use crate::trace::Trace;
 use cfs_model::{Entry, Memory};
 use std::alloc::Global;

@@ -4,8 +4,8 @@ ghost use Rattle.replay_model.specs.Part.{Entity, IsIn};
 ghost use Rattle.cfs_model.specs.Start.{task_of};
 ghost use Rattle.cfs_model.specs.declared.task.Place.TheVariants.{Rest};
 ghost use Rattle.queue_replay.specs.Queue.{runqueue_view, IdlesBeside, IsAboveGranularity, IsSubject, IsNext};
-ghost use Rattle.queue_replay.specs.TaskList.{standing, EachOnce};
-ghost use Rattle.queue_replay.specs.Sifting.{Decides};
+ghost use Rattle.queue_replay.specs.TaskList.{entity_of, EachOnce};
+ghost use Rattle.queue_replay.specs.FirstTest.{Decides};
 
 use crate::queue_tests::waits_here;
 use crate::runqueue::Runqueue;
@@ -225,7 +225,7 @@ pub(crate) fn not_least(
     granularity: u64,
 ) -> Option<u32>
     requires { EachOnce moved.now.tasks.items }
-    ensures { Decides result (IsAboveGranularity granularity (option_map standing own) (runqueue_view moved.now) next) }
+    ensures { Decides result (IsAboveGranularity granularity (option_map entity_of own) (runqueue_view moved.now) next) }
 {
     if next == 0 {
         return None;
@@ -242,11 +242,11 @@ pub(crate) fn not_least(
     }
 }
 
-fn rests_here(queue: &Runqueue, pid: u32, row: Option<Task>) -> bool
-    requires { row ≡ task_of queue.now.tasks.items pid }
+fn rests_here(queue: &Runqueue, pid: u32, task: Option<Task>) -> bool
+    requires { task ≡ task_of queue.now.tasks.items pid }
     ensures { IsTrue result ↔ IsIn (runqueue_view queue.now) Rest pid }
 {
-    match row {
+    match task {
         Some(task) => {
             let place = task.place;
             match place {
@@ -259,11 +259,11 @@ fn rests_here(queue: &Runqueue, pid: u32, row: Option<Task>) -> bool
 }
 
 /// The pid stands here at another virtual runtime than the claimed one.
-fn stands_at_other(queue: &Runqueue, pid: u32, claim: Claim, row: Option<Task>) -> bool
-    requires { row ≡ task_of queue.now.tasks.items pid }
+fn stands_at_other(queue: &Runqueue, pid: u32, claim: Claim, task: Option<Task>) -> bool
+    requires { task ≡ task_of queue.now.tasks.items pid }
     ensures { IsTrue result ↔ ((s : Entity) × ((runqueue_view queue.now).tasks pid ≡ Some s) × (claim.v ≢ s.runtime)) }
 {
-    match row {
+    match task {
         Some(task) => is_at_other(task, claim),
         None => false,
     }
@@ -276,11 +276,11 @@ fn is_at_other(task: Task, claim: Claim) -> bool
 }
 
 /// The pid rests here, and is claimed outside the bounds of its wakeup.
-fn rests_outside(queue: &Runqueue, pid: u32, claim: Claim, credit: u64, row: Option<Task>) -> bool
-    requires { row ≡ task_of queue.now.tasks.items pid }
+fn rests_outside(queue: &Runqueue, pid: u32, claim: Claim, credit: u64, task: Option<Task>) -> bool
+    requires { task ≡ task_of queue.now.tasks.items pid }
     ensures { IsTrue result ↔ ((s : Entity) × ((runqueue_view queue.now).tasks pid ≡ Some s) × (s.place ≡ Rest) × (¬ IsInWakeBounds credit queue.now.floor s.runtime claim.v)) }
 {
-    match row {
+    match task {
         Some(task) => {
             let place = task.place;
             match place {

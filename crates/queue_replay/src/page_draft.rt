@@ -2,14 +2,14 @@ ghost use Rattle.std.specs.Prelude.{◌≡◌, ℕ, ℤ, ◌+◌, ◌-◌, ◌^�
 ghost use Rattle.cfs_model.specs.Charge.{greatest};
 ghost use Rattle.replay_model.specs.Noted.{births_of, deaths_of, tallied};
 ghost use Rattle.replay_model.specs.declared.step.Deed.TheVariants.{Switch};
-ghost use Rattle.queue_replay.specs.Counting.{HasNoteRoom, if_left, if_came, stretched, IsWithin};
+ghost use Rattle.queue_replay.specs.Counting.{HasDraftRoom, if_left, if_came, stretched, IsWithin};
 ghost use Rattle.queue_replay.specs.TaskList.{cost_of};
 
 use crate::counting::{add_pick, add_stretch, add_tally};
 use cfs_model::{Task, Way};
 use replay_model::{Deed, LifeEvent, Step, StepFault, Tally, Ticket};
 
-/// What a replay has noted of its steps.
+/// What the page of a replay will show, so far.
 #[derive(Drop)]
 pub(crate) struct PageDraft {
     /// The line of the last step that passed, 0 if none did.
@@ -43,7 +43,7 @@ impl PageDraft {
     /// Notes a step that passed, with its ticket if it has one. Takes no memory. Each tally is that of at most so many
     /// steps.
     pub fn note(&mut self, step: &Step, ticket: Option<Ticket>, steps: usize)
-        requires room { HasNoteRoom step.now.deed self.old }
+        requires room { HasDraftRoom step.now.deed self.old }
         requires few { steps < 2 ^ 64 - 1 }
         requires within { All (λ tally. tally.picks ≤ steps) self.old.tallies.items }
         ensures line { self.new.line ≡ step.now.line }

@@ -5,7 +5,7 @@ ghost use Rattle.cfs_model.specs.Start.{task_of};
 ghost use Rattle.cfs_model.specs.declared.task.Place.TheVariants.{Run, Wait};
 ghost use Rattle.queue_replay.specs.Queue.{runqueue_view, IsSubject, IsNext};
 ghost use Rattle.queue_replay.specs.TaskList.{EachOnce};
-ghost use Rattle.queue_replay.specs.Sifting.{Decides};
+ghost use Rattle.queue_replay.specs.FirstTest.{Decides};
 
 use crate::runqueue::Runqueue;
 use crate::task_list::{somebody_runs, task_at};
@@ -164,23 +164,23 @@ pub(crate) fn wrong_prio(
 }
 
 /// The pid is what runs here; pid 0 where nobody does.
-fn is_runner(queue: &Runqueue, pid: u32, row: Option<Task>) -> bool
+fn is_runner(queue: &Runqueue, pid: u32, task: Option<Task>) -> bool
     requires once { EachOnce queue.now.tasks.items }
-    requires row { row ≡ task_of queue.now.tasks.items pid }
+    requires task { task ≡ task_of queue.now.tasks.items pid }
     ensures { IsTrue result ↔ IsRunner (runqueue_view queue.now) pid }
 {
     if pid == 0 {
         !somebody_runs(queue.tasks.as_slice())
     } else {
-        runs_here(queue, pid, row)
+        runs_here(queue, pid, task)
     }
 }
 
-fn runs_here(queue: &Runqueue, pid: u32, row: Option<Task>) -> bool
-    requires { row ≡ task_of queue.now.tasks.items pid }
+fn runs_here(queue: &Runqueue, pid: u32, task: Option<Task>) -> bool
+    requires { task ≡ task_of queue.now.tasks.items pid }
     ensures { IsTrue result ↔ IsIn (runqueue_view queue.now) Run pid }
 {
-    match row {
+    match task {
         Some(task) => {
             let place = task.place;
             match place {
@@ -193,11 +193,11 @@ fn runs_here(queue: &Runqueue, pid: u32, row: Option<Task>) -> bool
 }
 
 /// The pid waits here.
-pub(crate) fn waits_here(queue: &Runqueue, pid: u32, row: Option<Task>) -> bool
-    requires { row ≡ task_of queue.now.tasks.items pid }
+pub(crate) fn waits_here(queue: &Runqueue, pid: u32, task: Option<Task>) -> bool
+    requires { task ≡ task_of queue.now.tasks.items pid }
     ensures { IsTrue result ↔ IsIn (runqueue_view queue.now) Wait pid }
 {
-    match row {
+    match task {
         Some(task) => {
             let place = task.place;
             match place {
@@ -210,25 +210,25 @@ pub(crate) fn waits_here(queue: &Runqueue, pid: u32, row: Option<Task>) -> bool
 }
 
 /// The pid stands here with another nice value than the printed one.
-fn has_other_nice(queue: &Runqueue, pid: u32, nice: Nice, row: Option<Task>) -> bool
-    requires { row ≡ task_of queue.now.tasks.items pid }
+fn has_other_nice(queue: &Runqueue, pid: u32, nice: Nice, task: Option<Task>) -> bool
+    requires { task ≡ task_of queue.now.tasks.items pid }
     ensures { IsTrue result ↔ HasOtherNice (runqueue_view queue.now) pid nice }
 {
-    match row {
+    match task {
         Some(task) => differ(task.nice, nice),
         None => false,
     }
 }
 
 /// The same at a switch, where that of pid 0 isn't looked at.
-fn has_other_prio(queue: &Runqueue, pid: u32, nice: Nice, row: Option<Task>) -> bool
-    requires { row ≡ task_of queue.now.tasks.items pid }
+fn has_other_prio(queue: &Runqueue, pid: u32, nice: Nice, task: Option<Task>) -> bool
+    requires { task ≡ task_of queue.now.tasks.items pid }
     ensures { IsTrue result ↔ HasOtherPrio (runqueue_view queue.now) pid nice }
 {
     if pid == 0 {
         false
     } else {
-        has_other_nice(queue, pid, nice, row)
+        has_other_nice(queue, pid, nice, task)
     }
 }
 

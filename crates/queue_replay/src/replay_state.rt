@@ -3,7 +3,7 @@ ghost use Rattle.replay_model.specs.Deeds.{place_of_sort};
 ghost use Rattle.replay_model.specs.Page.{IsSince, deadline_of};
 ghost use Rattle.replay_model.specs.QueueTests.{IsIdleTooLong};
 ghost use Rattle.cfs_model.specs.declared.kind.Kind.TheVariants.{IdleTooLong};
-ghost use Rattle.queue_replay.specs.Counting.{HasNoteRoom, page_draft_view, ticket_by};
+ghost use Rattle.queue_replay.specs.Counting.{HasDraftRoom, page_draft_view, ticket_by};
 ghost use Rattle.queue_replay.specs.Queue.{runqueue_view, HasRoom, IsSubject};
 ghost use Rattle.queue_replay.specs.TaskList.{EachOnce};
 
@@ -28,7 +28,7 @@ impl ReplayState {
     /// Makes the growths that a step can need.
     pub fn make_room(&mut self, step: &Step) -> Result<(), Memory>
         ensures queue { OnOk result (HasRoom step.now.deed self.new.queue) }
-        ensures draft { OnOk result (HasNoteRoom step.now.deed self.new.draft) }
+        ensures draft { OnOk result (HasDraftRoom step.now.deed self.new.draft) }
         ensures made { self.new.made ≡ self.old.made }
         ensures tasks { self.new.queue.tasks.items ≡ self.old.queue.tasks.items }
         ensures floor { self.new.queue.floor ≡ self.old.queue.floor }
@@ -104,11 +104,11 @@ pub(crate) fn ticket_of(queue: &Runqueue, step: &Step, subject: &Option<Task>) -
     requires { IsSubject queue.now.tasks.items step.now.deed subject.now }
     ensures { result ≡ ticket_by (runqueue_view queue.now) step.now step.now.deed }
 {
-    let row = *subject;
+    let task = *subject;
     let deed = step.deed;
     match deed {
         Deed::Switch { .. } | Deed::Wake { .. } | Deed::Born { .. } => None,
-        Deed::Leave { pid, .. } => match row {
+        Deed::Leave { pid, .. } => match task {
             Some(task) => Some(Ticket {
                 line: step.line,
                 pid,

@@ -83,10 +83,10 @@ fn end_test(stream: &Stream, knobs: Knobs, state: &mut ReplayState)
     }
 }
 
-/// The course before the first step; on a stream without steps, after the end test.
+/// The state before the first step; on a stream without steps, after the end test.
 pub(crate) fn start(alloc: Global, stream: &Stream, knobs: Knobs) -> Result<ReplayState, Memory>
-    ensures at { IfOk result (λ c. IsAt (stream_view stream.now) knobs c) }
-    ensures made { IfOk result (λ c. c.made ≡ 0) }
+    ensures at { IfOk result (λ state. IsAt (stream_view stream.now) knobs state) }
+    ensures made { IfOk result (λ state. state.made ≡ 0) }
 {
     let mut state = before_steps(alloc, stream)?;
     if stream.steps().is_empty() {
@@ -95,10 +95,10 @@ pub(crate) fn start(alloc: Global, stream: &Stream, knobs: Knobs) -> Result<Repl
     Ok(state)
 }
 
-/// The course before the first step.
+/// The state before the first step.
 fn before_steps(alloc: Global, stream: &Stream) -> Result<ReplayState, Memory>
-    ensures made { IfOk result (λ c. c.made ≡ 0) }
-    ensures start { IfOk result (λ c. IsStartOf (stream_view stream.now) (replay_state_view c)) }
+    ensures made { IfOk result (λ state. state.made ≡ 0) }
+    ensures start { IfOk result (λ state. IsStartOf (stream_view stream.now) (replay_state_view state)) }
     ensures going { IfOk result IsGoing }
 {
     let queue = Runqueue {
@@ -124,7 +124,7 @@ fn before_steps(alloc: Global, stream: &Stream) -> Result<ReplayState, Memory>
 
 /// A tally for each task, of one that has done nothing yet.
 fn new_tallies(alloc: Global, tasks: &[Task]) -> Result<Vec<Tally>, Memory>
-    ensures { IfOk result (λ v. v.items ≡ map (λ t. new_tally t.pid) tasks.now) }
+    ensures { IfOk result (λ tallies. tallies.items ≡ map (λ task. new_tally task.pid) tasks.now) }
 {
     Ok(tasks.iter().map(|t| new_tally(t)).collect(alloc)?)
 }

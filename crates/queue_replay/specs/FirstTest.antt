@@ -1,4 +1,4 @@
--- What a test answers: the pid of which it holds, or none. What a row of tests answers: the first that holds, by its
+-- What a test answers: the pid of which it holds, or none. What tests in their order answer: the first that holds, by its
 -- kind and its pid, or none (this project's profile).
 use Rattle.std.specs.Prelude.{ℕ, Option, Some, None, List, [], ◌∷◌}
 use Rattle.replay_model.specs.Part.{Part}
@@ -21,9 +21,9 @@ IsFirst None tests = NoneHolds tests
 IsFirst (Some failed) tests = FirstHolds tests failed.kind failed.pid
 
 -- the first of the tests that holds, if one does before the rest; else what is first among the rest is first
-abbrev pub Sifts : Option FailedTest → List Test → List Test → Type 0
-Sifts None rest tests = (first : Option FailedTest) → IsFirst first rest → IsFirst first tests
-Sifts (Some failed) rest tests = FirstHolds tests failed.kind failed.pid
+abbrev pub FindsFirst : Option FailedTest → List Test → List Test → Type 0
+FindsFirst None rest tests = (first : Option FailedTest) → IsFirst first rest → IsFirst first tests
+FindsFirst (Some failed) rest tests = FirstHolds tests failed.kind failed.pid
 
 -- the tests of a switch's pick, the last two of a step's
 abbrev pub pick_tests : Settings → Part → Step → List Test

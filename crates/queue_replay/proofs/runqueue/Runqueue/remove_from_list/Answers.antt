@@ -1,7 +1,7 @@
 use Rattle.std.proofs.Common.{eqb, not, rules, tests}
 use Rattle.std.proofs.lemmas.Fn.{filter_same}
 use Rattle.cfs_model.specs.declared.task.Task.{Task}
-use Rattle.queue_replay.proofs.runqueue.Runqueue.drop_row.Goals as goal
+use Rattle.queue_replay.proofs.runqueue.Runqueue.remove_from_list.Goals as goal
 
 pub returns-clause-tasks : goal.returns-clause-tasks
 returns-clause-tasks c =

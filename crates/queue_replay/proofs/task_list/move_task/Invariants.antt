@@ -1,6 +1,6 @@
 use Rattle.std.proofs.Common.{◌≡◌, map, take, drop, ◌++◌}
 use Rattle.queue_replay.specs.TaskList.{moved_to}
-use Rattle.queue_replay.proofs.task_list.put_in.Given as goal
+use Rattle.queue_replay.proofs.task_list.move_task.Given as goal
 
 abbrev pub invariant-loop-task : goal.invariant-loop-task
 invariant-loop-task l =

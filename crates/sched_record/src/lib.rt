@@ -7,6 +7,7 @@ mod entry;
 mod joining;
 mod laws;
 mod lists;
+mod on_line;
 mod reading;
 mod record;
 mod stream;

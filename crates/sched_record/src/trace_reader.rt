@@ -1,5 +1,5 @@
 ghost use Rattle.std.specs.Prelude.{◌≤◌};
-ghost use Rattle.sched_record.specs.Progress.{AreKept};
+ghost use Rattle.sched_record.specs.ReadLines.{AreKept};
 ghost use Rattle.sched_record.specs.Said.{last_number};
 
 use crate::cause::{TraceCause, TraceFault};

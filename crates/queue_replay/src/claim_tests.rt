@@ -7,7 +7,7 @@ ghost use Rattle.queue_replay.specs.Queue.{runqueue_view, IdlesBeside, IsAboveGr
 ghost use Rattle.queue_replay.specs.TaskList.{entity_of, EachOnce};
 ghost use Rattle.queue_replay.specs.FirstTest.{Decides};
 
-use crate::queue_tests::waits_here;
+use crate::queue_tests::stands_in;
 use crate::runqueue::Runqueue;
 use crate::task_list::{somebody_below, somebody_waits};
 use cfs_model::{Claim, ClaimSort, Place, Task, Way};
@@ -25,7 +25,7 @@ fn claimant(queue: &Runqueue, step: &Step, subject: &Option<Task>) -> Option<u32
             Way::Sleeps | Way::Ends => None,
         },
         Deed::Wake { pid, .. } => {
-            if rests_here(queue, pid, *subject) {
+            if stands_in(*subject, Place::Rest) {
                 Some(pid)
             } else {
                 None
@@ -191,7 +191,7 @@ pub(crate) fn next_not_waiting(queue: &Runqueue, step: &Step, next: &Option<Task
     let deed = step.deed;
     match deed {
         Deed::Switch { next: pid, .. } => {
-            if pid == 0 || waits_here(queue, pid, *next) {
+            if pid == 0 || stands_in(*next, Place::Wait) {
                 None
             } else {
                 Some(pid)
@@ -239,22 +239,6 @@ pub(crate) fn not_least(
             }
         }
         None => None,
-    }
-}
-
-fn rests_here(queue: &Runqueue, pid: u32, task: Option<Task>) -> bool
-    requires { task ≡ task_of queue.now.tasks.items pid }
-    ensures { IsTrue result ↔ IsIn (runqueue_view queue.now) Rest pid }
-{
-    match task {
-        Some(task) => {
-            let place = task.place;
-            match place {
-                Place::Rest => true,
-                Place::Run | Place::Wait => false,
-            }
-        }
-        None => false,
     }
 }
 

@@ -1,8 +1,8 @@
-ghost use Rattle.std.specs.Prelude.{◌≡◌, ◌≢◌, IsTrue, ◌↔◌};
+ghost use Rattle.std.specs.Prelude.{◌≡◌, ◌≢◌, ℕ, IsTrue, ◌↔◌};
 ghost use Rattle.replay_model.specs.Part.{IsIn};
 ghost use Rattle.replay_model.specs.QueueTests.{IsMoveHome, IsSelfSwitch, IsRunner, IsPrevNotRunning, IsStrange, IsAlready, IsMoveRunning, HasOtherNice, HasOtherPrio, IsWrongPrio};
 ghost use Rattle.cfs_model.specs.Start.{task_of};
-ghost use Rattle.cfs_model.specs.declared.task.Place.TheVariants.{Run, Wait};
+ghost use Rattle.queue_replay.specs.declared.runqueue.Runqueue.{Runqueue as Queue};
 ghost use Rattle.queue_replay.specs.Queue.{runqueue_view, IsSubject, IsNext};
 ghost use Rattle.queue_replay.specs.TaskList.{EachOnce};
 ghost use Rattle.queue_replay.specs.FirstTest.{Decides};
@@ -114,7 +114,7 @@ pub(crate) fn move_running(queue: &Runqueue, step: &Step, subject: &Option<Task>
     let deed = step.deed;
     match deed {
         Deed::Leave { pid, .. } => {
-            if runs_here(queue, pid, *subject) {
+            if stands_in(*subject, Place::Run) {
                 Some(pid)
             } else {
                 None
@@ -172,41 +172,15 @@ fn is_runner(queue: &Runqueue, pid: u32, task: Option<Task>) -> bool
     if pid == 0 {
         !somebody_runs(queue.tasks.as_slice())
     } else {
-        runs_here(queue, pid, task)
+        stands_in(task, Place::Run)
     }
 }
 
-fn runs_here(queue: &Runqueue, pid: u32, task: Option<Task>) -> bool
-    requires { task ≡ task_of queue.now.tasks.items pid }
-    ensures { IsTrue result ↔ IsIn (runqueue_view queue.now) Run pid }
+/// The task stands here, in this place.
+pub(crate) fn stands_in(task: Option<Task>, place: Place) -> bool
+    ensures { (queue : Queue) (pid : ℕ) → task ≡ task_of queue.tasks.items pid → (IsTrue result ↔ IsIn (runqueue_view queue) place pid) }
 {
-    match task {
-        Some(task) => {
-            let place = task.place;
-            match place {
-                Place::Run => true,
-                Place::Wait | Place::Rest => false,
-            }
-        }
-        None => false,
-    }
-}
-
-/// The pid waits here.
-pub(crate) fn waits_here(queue: &Runqueue, pid: u32, task: Option<Task>) -> bool
-    requires { task ≡ task_of queue.now.tasks.items pid }
-    ensures { IsTrue result ↔ IsIn (runqueue_view queue.now) Wait pid }
-{
-    match task {
-        Some(task) => {
-            let place = task.place;
-            match place {
-                Place::Wait => true,
-                Place::Run | Place::Rest => false,
-            }
-        }
-        None => false,
-    }
+    matches!(task, Some(task) if task.place == place)
 }
 
 /// The pid stands here with another nice value than the printed one.

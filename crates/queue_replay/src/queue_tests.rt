@@ -144,16 +144,16 @@ pub(crate) fn wrong_prio(
             next_nice,
             ..
         } => {
-            if has_other_prio(queue, prev, prev_nice, *subject) {
+            if has_other_prio(*subject, prev, prev_nice) {
                 Some(prev)
-            } else if has_other_prio(queue, pid, next_nice, *next) {
+            } else if has_other_prio(*next, pid, next_nice) {
                 Some(pid)
             } else {
                 None
             }
         }
         Deed::Wake { pid, nice } | Deed::Leave { pid, nice, .. } => {
-            if has_other_nice(queue, pid, nice, *subject) {
+            if has_other_nice(*subject, nice) {
                 Some(pid)
             } else {
                 None
@@ -183,31 +183,19 @@ pub(crate) fn stands_in(task: Option<Task>, place: Place) -> bool
     matches!(task, Some(task) if task.place == place)
 }
 
-/// The pid stands here with another nice value than the printed one.
-fn has_other_nice(queue: &Runqueue, pid: u32, nice: Nice, task: Option<Task>) -> bool
-    requires { task ≡ task_of queue.now.tasks.items pid }
-    ensures { IsTrue result ↔ HasOtherNice (runqueue_view queue.now) pid nice }
+/// The task stands here, with another nice value than the printed one.
+fn has_other_nice(task: Option<Task>, nice: Nice) -> bool
+    ensures { (queue : Queue) (pid : ℕ) → task ≡ task_of queue.tasks.items pid → (IsTrue result ↔ HasOtherNice (runqueue_view queue) pid nice) }
 {
     match task {
-        Some(task) => differ(task.nice, nice),
+        Some(task) => task.nice != nice,
         None => false,
     }
 }
 
 /// The same at a switch, where that of pid 0 isn't looked at.
-fn has_other_prio(queue: &Runqueue, pid: u32, nice: Nice, task: Option<Task>) -> bool
-    requires { task ≡ task_of queue.now.tasks.items pid }
-    ensures { IsTrue result ↔ HasOtherPrio (runqueue_view queue.now) pid nice }
+fn has_other_prio(task: Option<Task>, pid: u32, nice: Nice) -> bool
+    ensures { (queue : Queue) → task ≡ task_of queue.tasks.items pid → (IsTrue result ↔ HasOtherPrio (runqueue_view queue) pid nice) }
 {
-    if pid == 0 {
-        false
-    } else {
-        has_other_nice(queue, pid, nice, task)
-    }
-}
-
-fn differ(nice: Nice, other: Nice) -> bool
-    ensures { IsTrue result ↔ (nice ≢ other) }
-{
-    nice != other
+    pid != 0 && has_other_nice(task, nice)
 }

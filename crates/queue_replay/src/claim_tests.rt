@@ -92,7 +92,8 @@ pub(crate) fn wrong_put_back(queue: &Runqueue, step: &Step, subject: &Option<Tas
         prev,
         way: Way::Stays,
         ..
-    } = step.deed else {
+    } = step.deed
+    else {
         return None;
     };
     let claim = step.claim?;

@@ -10,6 +10,7 @@ mod page_draft;
 mod queue_tests;
 mod replay;
 mod replay_state;
+mod room;
 mod running;
 mod runqueue;
 mod state;

@@ -6,6 +6,7 @@ ghost use Rattle.queue_replay.specs.Counting.{HasDraftRoom, if_left, if_came, st
 ghost use Rattle.queue_replay.specs.TaskList.{cost_of};
 
 use crate::counting::{add_pick, add_stretch, add_tally};
+use crate::room::push_in;
 use cfs_model::{Task, Way};
 use replay_model::{Deed, LifeEvent, Step, StepFault, Tally, Ticket};
 
@@ -34,9 +35,8 @@ impl PageDraft {
         ensures room { (vec_len self.new.tallies ≡ vec_len self.old.tallies) × (vec_capacity self.new.tallies ≡ vec_capacity self.old.tallies) }
         ensures same { (self.new.line ≡ self.old.line) × (self.new.fault ≡ self.old.fault) × (self.new.left ≡ self.old.left) × (self.new.came ≡ self.old.came) × (self.new.births ≡ self.old.births) × (self.new.deaths ≡ self.old.deaths) }
     {
-        match runner {
-            Some(task) => add_stretch(self.tallies.as_mut_slice(), task, time, steps),
-            None => {}
+        if let Some(task) = runner {
+            add_stretch(self.tallies.as_mut_slice(), task, time, steps);
         }
     }
 
@@ -107,15 +107,5 @@ impl PageDraft {
                 }
             }
         }
-    }
-}
-
-/// Puts an item at the end of a list that has room for it.
-fn push_in<T: Drop>(list: &mut Vec<T>, item: T)
-    requires { vec_len list.old < vec_capacity list.old }
-    ensures { list.new.items ≡ list.old.items ++ item ∷ [] }
-{
-    if list.push(item).is_err() {
-        unreachable!();
     }
 }

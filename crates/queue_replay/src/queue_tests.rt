@@ -41,22 +41,20 @@ pub(crate) fn next_of(queue: &Runqueue, step: &Step) -> Option<Task>
 pub(crate) fn move_home(cpu: u32, step: &Step) -> Option<u32>
     ensures { Decides result (IsMoveHome cpu step.now.deed) }
 {
-    let deed = step.deed;
-    match deed {
-        Deed::Leave { pid, dest, .. } => { if dest == cpu { Some(pid) } else { None } }
-        Deed::Switch { .. } | Deed::Wake { .. } | Deed::Born { .. } | Deed::Arrive { .. } => None,
-    }
+    let Deed::Leave { pid, dest, .. } = step.deed else {
+        return None;
+    };
+    (dest == cpu).then_some(pid)
 }
 
 /// A switch goes from a task to itself.
 pub(crate) fn self_switch(step: &Step) -> Option<u32>
     ensures { Decides result (IsSelfSwitch step.now.deed) }
 {
-    let deed = step.deed;
-    match deed {
-        Deed::Switch { prev, next, .. } => { if prev == next { Some(prev) } else { None } }
-        Deed::Wake { .. } | Deed::Born { .. } | Deed::Leave { .. } | Deed::Arrive { .. } => None,
-    }
+    let Deed::Switch { prev, next, .. } = step.deed else {
+        return None;
+    };
+    (prev == next).then_some(prev)
 }
 
 /// The previous task of a switch isn't what runs here.
@@ -65,16 +63,13 @@ pub(crate) fn prev_not_running(queue: &Runqueue, step: &Step, subject: &Option<T
     requires subject { IsSubject queue.now.tasks.items step.now.deed subject.now }
     ensures { Decides result (IsPrevNotRunning (runqueue_view queue.now) step.now.deed) }
 {
-    let deed = step.deed;
-    match deed {
-        Deed::Switch { prev, .. } => {
-            if is_runner(queue, prev, *subject) {
-                None
-            } else {
-                Some(prev)
-            }
-        }
-        Deed::Wake { .. } | Deed::Born { .. } | Deed::Leave { .. } | Deed::Arrive { .. } => None,
+    let Deed::Switch { prev, .. } = step.deed else {
+        return None;
+    };
+    if is_runner(queue, prev, *subject) {
+        None
+    } else {
+        Some(prev)
     }
 }
 
@@ -111,16 +106,13 @@ pub(crate) fn move_running(queue: &Runqueue, step: &Step, subject: &Option<Task>
     requires { IsSubject queue.now.tasks.items step.now.deed subject.now }
     ensures { Decides result (IsMoveRunning (runqueue_view queue.now) step.now.deed) }
 {
-    let deed = step.deed;
-    match deed {
-        Deed::Leave { pid, .. } => {
-            if stands_in(*subject, Place::Run) {
-                Some(pid)
-            } else {
-                None
-            }
-        }
-        Deed::Switch { .. } | Deed::Wake { .. } | Deed::Born { .. } | Deed::Arrive { .. } => None,
+    let Deed::Leave { pid, .. } = step.deed else {
+        return None;
+    };
+    if stands_in(*subject, Place::Run) {
+        Some(pid)
+    } else {
+        None
     }
 }
 

@@ -6,6 +6,7 @@ ghost use Rattle.queue_replay.specs.ReplayState.{IsGoing, replay_state_view};
 ghost use Rattle.queue_replay.specs.Made.{IsAt, IsCut, GoesOn};
 ghost use Rattle.sched_record.specs.Stream.{stream_view};
 
+use crate::counting::new_tally;
 use crate::page_draft::PageDraft;
 use crate::replay_state::{ReplayState, idle_deadline, since_after};
 use crate::runqueue::Runqueue;
@@ -42,10 +43,7 @@ fn is_going(stream: &Stream, state: &ReplayState) -> bool
     ensures going { result ≡ true → (state.now.draft.fault ≡ None) × (state.now.made < length (stream_view stream.now).steps) }
     ensures over { result ≡ false → IsSome state.now.draft.fault ⊎ (length (stream_view stream.now).steps ≤ state.now.made) }
 {
-    match state.draft.fault {
-        Some(_) => false,
-        None => state.made < stream.steps().len(),
-    }
+    state.draft.fault.is_none() && state.made < stream.steps().len()
 }
 
 /// Makes the next step, and the end test where none is then left.
@@ -126,16 +124,5 @@ fn before_steps(alloc: Global, stream: &Stream) -> Result<ReplayState, Memory>
 fn new_tallies(alloc: Global, tasks: &[Task]) -> Result<Vec<Tally>, Memory>
     ensures { IfOk result (λ tallies. tallies.items ≡ map (λ task. new_tally task.pid) tasks.now) }
 {
-    Ok(tasks.iter().map(|t| new_tally(t)).collect(alloc)?)
-}
-
-fn new_tally(task: &Task) -> Tally
-    ensures { result ≡ new_tally task.now.pid }
-{
-    Tally {
-        pid: task.pid,
-        ran: 0,
-        charged: 0,
-        picks: 0,
-    }
+    Ok(tasks.iter().map(|task| new_tally(task.pid)).collect(alloc)?)
 }

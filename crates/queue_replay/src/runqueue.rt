@@ -6,6 +6,7 @@ ghost use Rattle.cfs_model.specs.declared.task.Task.{Task as TaskOf};
 ghost use Rattle.queue_replay.specs.TaskList.{CanBeCharged, charged_task, queued_runtimes, IsRaisedBy, moved_to, woken_task, without, entity_of, EachOnce};
 ghost use Rattle.queue_replay.specs.Queue.{runqueue_view};
 
+use crate::room::push_in;
 use crate::task_list::{charge_running, least_queued, move_task, wake_task};
 use cfs_model::{Claim, Place, Task, Way};
 
@@ -113,9 +114,7 @@ impl Runqueue {
         ensures part { runqueue_view self.new ≡ with_entity (runqueue_view self.old) task.pid (Some (entity_of task)) }
         ensures once { EachOnce self.new.tasks.items }
     {
-        if self.tasks.push(task).is_err() {
-            unreachable!();
-        }
+        push_in(&mut self.tasks, task);
     }
 
     fn move_in_list(&mut self, pid: u32, place: Place)

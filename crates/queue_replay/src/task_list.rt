@@ -28,11 +28,7 @@ pub(crate) fn runner_of(tasks: &[Task]) -> Option<Task>
 fn is_running(task: &Task) -> bool
     ensures { result ≡ runs task.now }
 {
-    let place = task.place;
-    match place {
-        Place::Run => true,
-        Place::Wait | Place::Rest => false,
-    }
+    matches!(task.place, Place::Run)
 }
 
 pub(crate) fn somebody_runs(tasks: &[Task]) -> bool
@@ -65,10 +61,7 @@ pub(crate) fn least_queued(tasks: &[Task]) -> Option<i64>
 fn is_queued(task: Task) -> bool
     ensures { result ≡ is_queued task }
 {
-    match task.place {
-        Place::Run | Place::Wait => true,
-        Place::Rest => false,
-    }
+    matches!(task.place, Place::Run | Place::Wait)
 }
 
 // Without a branch, since who is queued can't be foreseen.
@@ -191,9 +184,5 @@ fn is_lower(other: Task, task: Task, granularity: u64) -> bool
 fn waits(task: &Task) -> bool
     ensures { result ≡ waits task.now }
 {
-    let place = task.place;
-    match place {
-        Place::Wait => true,
-        Place::Run | Place::Rest => false,
-    }
+    matches!(task.place, Place::Wait)
 }

@@ -1,9 +1,7 @@
 ghost use Rattle.std.specs.Prelude.{◌≡◌};
 ghost use Rattle.companion_file.specs.Reading.{IsCompanionInOrder};
 
-use crate::claims::Claims;
-use crate::floors::Floors;
-use crate::tasks::Tasks;
+use crate::lists::{Claims, Floors, Tasks};
 use cfs_model::{Claim, Task};
 
 /// The start state of a schedule, and the virtual runtimes that are claimed of it.

@@ -11,12 +11,10 @@ ghost use Rattle.companion_file.specs.Companion.{companion_view};
 
 mod saying;
 
-use crate::claims::Claims;
 use crate::companion::Companion;
 use crate::fault::Refusal;
-use crate::floors::Floors;
 use crate::limits::{is_pid, is_running, is_value, nice_of};
-use crate::tasks::Tasks;
+use crate::lists::{Claims, Floors, Tasks};
 use cfs_model::{Claim, MOST_PROCESSORS, Place, Task};
 use std::alloc::Global;
 use std::marker::Model;
@@ -181,9 +179,9 @@ impl Draft {
         Some(Companion::new(
             cpus?,
             start?,
-            Floors::new(floors),
-            Tasks::new(tasks),
-            Claims::new(claims),
+            Floors::from_vec(floors),
+            Tasks::from_vec(tasks),
+            Claims::from_vec(claims),
         ))
     }
 }

@@ -1,4 +1,4 @@
--- What the rows answer of a pid, and what the part says.
+-- What the tasks answer of a pid, and what the part says.
 use Rattle.std.proofs.Common.{◌≡◌, ◌≢◌, ◌↔◌, ℕ, zero, suc, Bool, true, false, not, IsTrue, List, [], ◌∷◌, All, Contains, Some, None, option_map, ℤ, pos, ◌+ℤ◌, ◌-ℤ◌, ◌≤ℤ◌, ◌<ℤ◌, inl, inr, refl, sym, ap, ◌∙◌, subst, arith}
 use Rattle.std.specs.Int.{int_max}
 use Rattle.std.specs.List.{list_any, Any}
@@ -15,8 +15,8 @@ use Rattle.cfs_model.specs.declared.task.Place.{Place}
 use Rattle.cfs_model.specs.declared.task.Place.TheVariants.{Run, Wait, Rest}
 use Rattle.cfs_model.specs.declared.task.Task.{Task}
 use Rattle.queue_replay.specs.Queue.{IdlesBeside, IsAboveGranularity}
-use Rattle.queue_replay.specs.TaskList.{standing, EachOnce, IsBelow, runs, waits}
-use Rattle.queue_replay.proofs.Parts.{stands, row_of, stands_row, stands_each}
+use Rattle.queue_replay.specs.TaskList.{entity_of, EachOnce, IsBelow, runs, waits}
+use Rattle.queue_replay.proofs.Parts.{stands, task_standing, stands_task, stands_each}
 use Rattle.queue_replay.proofs.TaskOf.{task_of-each, task_of-first, task_of-later, option_cases}
 
 pub place_eq-true : (a b : Place) → place_eq a b ≡ true → a ≡ b
@@ -35,54 +35,54 @@ place_eq-same Run = refl
 place_eq-same Wait = refl
 place_eq-same Rest = refl
 
--- a row of this pid, where one has it
-pub some_row : (tasks : List Task) (pid : ℕ) (t : Task) (P : Entity → Type 0) (b : Bool) → task_of tasks pid ≡ Some t
-    → (IsTrue b ↔ P (standing t)) → (IsTrue b ↔ ((s : Entity) × (stands tasks pid ≡ Some s) × P s))
-some_row tasks pid t P b e same = (
-  (λ h. (standing t, stands_row tasks pid t e, same.0 h)),
-  (λ h. same.1 (subst P (same_Some h.0 (standing t) (sym h.1 ∙ stands_row tasks pid t e)) h.2)),
+-- a task of this pid, where one has it
+pub some_task : (tasks : List Task) (pid : ℕ) (t : Task) (P : Entity → Type 0) (b : Bool) → task_of tasks pid ≡ Some t
+    → (IsTrue b ↔ P (entity_of t)) → (IsTrue b ↔ ((s : Entity) × (stands tasks pid ≡ Some s) × P s))
+some_task tasks pid t P b e same = (
+  (λ h. (entity_of t, stands_task tasks pid t e, same.0 h)),
+  (λ h. same.1 (subst P (same_Some h.0 (entity_of t) (sym h.1 ∙ stands_task tasks pid t e)) h.2)),
 )
 
 -- another nice value
 pub other_nice : (tasks : List Task) (floor : ℤ) (mark pid : ℕ) (t : Task) (nice : ℤ) (b : Bool) → task_of tasks pid ≡ Some t
     → (IsTrue b ↔ (t.nice ≢ nice)) → (IsTrue b ↔ HasOtherNice (start_part tasks floor mark) pid nice)
 other_nice tasks floor mark pid t nice b e same = (
-  (λ h. record { task = standing t; stands = stands_row tasks pid t e; other = same.0 h }),
-  (λ h. same.1 (subst (λ (s : Entity). s.nice ≢ nice) (same_Some h.task (standing t) (sym h.stands ∙ stands_row tasks pid t e)) h.other)),
+  (λ h. record { task = entity_of t; stands = stands_task tasks pid t e; other = same.0 h }),
+  (λ h. same.1 (subst (λ (s : Entity). s.nice ≢ nice) (same_Some h.task (entity_of t) (sym h.stands ∙ stands_task tasks pid t e)) h.other)),
 )
 
--- a row outside its wakeup's bounds
+-- a task outside its wakeup's bounds
 pub outside : (tasks : List Task) (credit : ℕ) (floor v : ℤ) (pid : ℕ) (t : Task) (b : Bool) → task_of tasks pid ≡ Some t → t.place ≡ Rest
     → (IsTrue b ↔ IsInWakeBounds credit floor t.v v)
     → (IsTrue (not b) ↔ ((s : Entity) × (stands tasks pid ≡ Some s) × (s.place ≡ Rest) × (¬ IsInWakeBounds credit floor s.runtime v)))
 outside tasks credit floor v pid t b e rests same = (
-  (λ h. (standing t, stands_row tasks pid t e, rests, λ k. false≢true (sym (not-true b h) ∙ same.1 k))),
+  (λ h. (entity_of t, stands_task tasks pid t e, rests, λ k. false≢true (sym (not-true b h) ∙ same.1 k))),
   (λ h. not_from_false b (false_or b (λ k. h.3 (subst (λ (s : Entity). IsInWakeBounds credit floor s.runtime v)
-      (same_Some (standing t) h.0 (sym (stands_row tasks pid t e) ∙ h.1)) (same.0 k))))),
+      (same_Some (entity_of t) h.0 (sym (stands_task tasks pid t e) ∙ h.1)) (same.0 k))))),
 )
   where
     false_or : (c : Bool) → (c ≡ true → ⊥) → c ≡ false
     false_or true f = absurd (f refl)
     false_or false f = refl
 
--- a pid that is in a place has a row there
+-- a pid that is in a place has a task there
 pub row_in : (tasks : List Task) (floor : ℤ) (mark : ℕ) (place : Place) (pid : ℕ) → IsIn (start_part tasks floor mark) place pid
     → (t : Task) × (task_of tasks pid ≡ Some t) × (t.place ≡ place)
 row_in tasks floor mark place pid h =
     elim (option_cases (task_of tasks pid)) [
-      | inl none ↦ let f : None ≡ Some place = sym (ap (λ o. option_map (λ (s : Entity). s.place) (option_map standing o)) none) ∙ h in absurd cc
-      | inr some ↦ (some.0, some.1, same_Some some.0.place place (sym (ap (λ o. option_map (λ (s : Entity). s.place) (option_map standing o)) some.1) ∙ h))
+      | inl none ↦ let f : None ≡ Some place = sym (ap (λ o. option_map (λ (s : Entity). s.place) (option_map entity_of o)) none) ∙ h in absurd cc
+      | inr some ↦ (some.0, some.1, same_Some some.0.place place (sym (ap (λ o. option_map (λ (s : Entity). s.place) (option_map entity_of o)) some.1) ∙ h))
     ]
 
-pub in_row : (tasks : List Task) (floor : ℤ) (mark : ℕ) (place : Place) (pid : ℕ) (t : Task) → task_of tasks pid ≡ Some t → t.place ≡ place
+pub in_place : (tasks : List Task) (floor : ℤ) (mark : ℕ) (place : Place) (pid : ℕ) (t : Task) → task_of tasks pid ≡ Some t → t.place ≡ place
     → IsIn (start_part tasks floor mark) place pid
-in_row tasks floor mark place pid t e p = ap (λ o. option_map (λ (s : Entity). s.place) (option_map standing o)) e ∙ ap Some p
+in_place tasks floor mark place pid t e p = ap (λ o. option_map (λ (s : Entity). s.place) (option_map entity_of o)) e ∙ ap Some p
 
 none_passes : (p : Task → Bool) (tasks : List Task) → list_any p tasks ≡ false → All (λ t. p t ≡ false) tasks
 none_passes p [] e = All-nil (λ t. p t ≡ false)
 none_passes p (x ∷ xs) e = let h = or_parts (p x) (list_any p xs) e in All-cons (λ t. p t ≡ false) x xs h.0 (none_passes p xs h.1)
 
--- the row of a pid is in the list
+-- the task of a pid is in the list
 pub contains : (tasks : List Task) (pid : ℕ) (t : Task) → task_of tasks pid ≡ Some t → Contains tasks t
 contains [] pid t e = cc
 contains (x ∷ xs) pid t e =
@@ -129,21 +129,21 @@ idles_not tasks floor mark (suc n) any pid h = h
 idles_not tasks floor mark zero any pid h = nobody tasks floor mark Wait (any refl) h.0.0 h.0.1
 
 pub beyond : (tasks : List Task) (floor : ℤ) (mark granularity next : ℕ) (own : Task) → EachOnce tasks → next ≢ 0
-    → Any (IsBelow granularity own.v) tasks → IsAboveGranularity granularity (Some (standing own)) (start_part tasks floor mark) next next
+    → Any (IsBelow granularity own.v) tasks → IsAboveGranularity granularity (Some (entity_of own)) (start_part tasks floor mark) next next
 beyond tasks floor mark granularity zero own once ne any = absurd (ne refl)
 beyond tasks floor mark granularity (suc n) own once ne any =
     let t = any.1 in
-    ((standing own, standing t, t.pid, refl, stands_each tasks once t (any.0, any.2, any.3), place_eq-true t.place Wait any.4.0, any.4.1), refl)
+    ((entity_of own, entity_of t, t.pid, refl, stands_each tasks once t (any.0, any.2, any.3), place_eq-true t.place Wait any.4.0, any.4.1), refl)
 
 pub beyond_not : (tasks : List Task) (floor : ℤ) (mark granularity next : ℕ) (own : Task) → EachOnce tasks
     → (next ≢ 0 → Any (IsBelow granularity own.v) tasks → ⊥)
-    → (pid : ℕ) → ¬ IsAboveGranularity granularity (Some (standing own)) (start_part tasks floor mark) next pid
+    → (pid : ℕ) → ¬ IsAboveGranularity granularity (Some (entity_of own)) (start_part tasks floor mark) next pid
 beyond_not tasks floor mark granularity zero own once none pid h = h
 beyond_not tasks floor mark granularity (suc n) own once none pid h =
     let s = h.0.0 in
     let t = h.0.1 in
-    let r = row_of tasks h.0.2 t h.0.4 in
-    let same : s ≡ standing own = sym (same_Some (standing own) s h.0.3) in
+    let r = task_standing tasks h.0.2 t h.0.4 in
+    let same : s ≡ entity_of own = sym (same_Some (entity_of own) s h.0.3) in
     let low : (t.runtime +ℤ pos granularity) <ℤ own.v = subst (λ (x : Entity). (t.runtime +ℤ pos granularity) <ℤ x.runtime) same h.0.6 in
     let low' : (r.0.v +ℤ pos granularity) <ℤ own.v = subst (λ (x : Entity). (x.runtime +ℤ pos granularity) <ℤ own.v) (sym r.2) low in
     let waiting : place_eq r.0.place Wait ≡ true = ap (λ (x : Entity). place_eq x.place Wait) r.2 ∙ ap (λ p. place_eq p Wait) h.0.5 in

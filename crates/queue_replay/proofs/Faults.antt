@@ -1,4 +1,4 @@
--- The fault that a step leaves on the page, and a course whose lists have grown.
+-- The fault that a step leaves on the page, and a state whose lists have grown.
 use Rattle.std.proofs.Common.{◌≡◌, ◌≢◌, ℕ, ◌+◌, Option, None, inl, inr, refl, sym, ap, ◌∙◌, subst, All, List}
 use Rattle.replay_model.specs.Noted.{PageView}
 use Rattle.replay_model.specs.Page.{ReplayStateView, FailsTest, deadline_of, with_fault}
@@ -9,7 +9,7 @@ use Rattle.cfs_model.specs.declared.kind.Kind.TheVariants.{IdleTooLong}
 use Rattle.replay_model.specs.declared.page.StepFault.{StepFault}
 use Rattle.replay_model.specs.declared.page.Tally.{Tally}
 use Rattle.replay_model.specs.declared.step.Step.{Step}
-use Rattle.queue_replay.specs.Counting.{IsWithin, page_draft_view, with_note}
+use Rattle.queue_replay.specs.Counting.{IsWithin, page_draft_view, faulted_page}
 use Rattle.queue_replay.specs.ReplayState.{replay_state_view, IsGoing, IsPassed, IsStepped}
 use Rattle.queue_replay.specs.Queue.{runqueue_view, OneRunsHere}
 use Rattle.queue_replay.specs.TaskList.{EachOnce}
@@ -23,7 +23,7 @@ no_deadline _ slack since ne = refl
 -- a step that fails
 pub failed : (knobs : Settings) (cpu : ℕ) (before : ReplayStateView) (step : Step) (kind : Kind) (pid : ℕ) (deadline : Option ℕ) (page : PageView) (new : ReplayState)
     → FailsTest knobs cpu before step kind pid → deadline ≡ deadline_of kind knobs.slack before.since → page ≡ before.page
-    → page_draft_view new.draft ≡ with_note page (record { line = step.line; kind = kind; pid = pid; deadline = deadline })
+    → page_draft_view new.draft ≡ faulted_page page (record { line = step.line; kind = kind; pid = pid; deadline = deadline })
     → IsStepped knobs cpu before step new
 failed knobs cpu before step kind pid deadline page new fails is same noted =
     let fault : StepFault = record { line = step.line; kind = kind; pid = pid; deadline = deadline } in
@@ -35,7 +35,7 @@ failed knobs cpu before step kind pid deadline page new fails is same noted =
         fails = fails;
         result = ap (λ d. with_fault before (record { line = step.line; kind = kind; pid = pid; deadline = d })) is;
       },
-      noted ∙ ap (λ p. with_note p fault) same,
+      noted ∙ ap (λ p. faulted_page p fault) same,
     )
 
 -- a step that passes
@@ -45,7 +45,7 @@ passed knobs cpu old between new step p e =
     subst (λ (c : ReplayState). IsStepped knobs cpu (replay_state_view old) step c) (sym e)
     (inl (p.passes, record { fault = ap (λ x. x.fault) p.passes.page; kept = p.kept; within = p.within }))
 
--- a course whose lists have grown stands where it did
+-- a state whose lists have grown stands where it did
 pub record IsGrown (old new : ReplayState) : Type 0 where
   pub made : new.made ≡ old.made
   pub tasks : new.queue.tasks.items ≡ old.queue.tasks.items

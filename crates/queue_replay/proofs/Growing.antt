@@ -14,7 +14,7 @@ use Rattle.cfs_model.specs.declared.task.Place.TheVariants.{Run}
 use Rattle.cfs_model.specs.declared.task.Task.{Task}
 use Rattle.queue_replay.specs.Counting.{ran_tally, picked_tally, stretched, IsWithin}
 use Rattle.queue_replay.specs.Queue.{OneRunsHere}
-use Rattle.queue_replay.specs.TaskList.{runs, cost_of, standing, EachOnce}
+use Rattle.queue_replay.specs.TaskList.{runs, cost_of, entity_of, EachOnce}
 use Rattle.queue_replay.proofs.Answered.{place_eq-true}
 use Rattle.queue_replay.proofs.Counts.{find_some}
 use Rattle.queue_replay.proofs.Parts.{stands_each}
@@ -82,7 +82,7 @@ runner_fits tasks floor mark time once in_range (Some t) e =
     let f = find_some runs tasks t (sym e) in
     elim (cases_lt greatest (cost_of (time - mark) t)) [
       | inl far ↦ absurd (in_range t.pid (record {
-        task = standing t;
+        task = entity_of t;
         stands = stands_each tasks once t f.0;
         runs = place_eq-true t.place Run f.1;
         above = inl far;

@@ -1,4 +1,4 @@
--- Charging the rows and raising the floor is the charge and the lift of the part.
+-- Charging the tasks and raising the floor is the charge and the lift of the part.
 use Rattle.std.proofs.Common.{◌≡◌, ◌≢◌, ℕ, zero, suc, ◌-◌, ◌<◌, ◌≤◌, Bool, true, false, not, cond, List, [], ◌∷◌, map, All, Contains, Option, Some, None, option_map, ℤ, pos, ◌+ℤ◌, ◌≤ℤ◌, ◌<ℤ◌, ◌⊎◌, inl, inr, refl, sym, ap, ◌∙◌, subst, arith}
 use Rattle.std.specs.List.{filter}
 use Rattle.std.proofs.lemmas.Bool.{cond-true, cond-false, cases_Bool, cases_lt}
@@ -11,8 +11,8 @@ use Rattle.cfs_model.specs.Start.{place_eq, task_of}
 use Rattle.cfs_model.specs.declared.task.Place.{Place}
 use Rattle.cfs_model.specs.declared.task.Place.TheVariants.{Run, Wait, Rest}
 use Rattle.cfs_model.specs.declared.task.Task.{Task}
-use Rattle.queue_replay.specs.TaskList.{runs, is_queued, queued_runtimes, cost_of, charged_task, CanBeCharged, IsRaisedBy, standing, EachOnce}
-use Rattle.queue_replay.proofs.Parts.{stands, row_of, same_tasks, stands_each}
+use Rattle.queue_replay.specs.TaskList.{runs, is_queued, queued_runtimes, cost_of, charged_task, CanBeCharged, IsRaisedBy, entity_of, EachOnce}
+use Rattle.queue_replay.proofs.Parts.{stands, task_standing, same_tasks, stands_each}
 use Rattle.queue_replay.proofs.TaskOf.{task_of-map, task_of-each, EachOnce-map}
 
 queued-first : (t : Task) (tasks : List Task) → is_queued t ≡ true → queued_runtimes (t ∷ tasks) ≡ t.v ∷ queued_runtimes tasks
@@ -51,7 +51,7 @@ found Q (x ∷ xs) v each has =
       | inr no' ↦ found Q xs v (All-tail Q x xs each) (subst (λ (l : List ℤ). Contains l v) (queued-later x xs no') has)
     ]
 
--- a row is queued where its place isn't rest
+-- a task is queued where its place isn't rest
 queued_place : (p : Place) → p ≢ Rest → not (place_eq p Rest) ≡ true
 queued_place Run e = refl
 queued_place Wait e = refl
@@ -62,12 +62,12 @@ place_queued Run e = λ f. cc
 place_queued Wait e = λ f. cc
 place_queued Rest e = absurd cc
 
--- one row, charged
-charged_row : (part : Part) (time : ℕ) (t : Task) (p : Place)
-    → standing (charged_task (time - part.mark) (record t { place = p })) ≡ charged_in part time (standing (record t { place = p }))
-charged_row part time t Run = refl
-charged_row part time t Wait = refl
-charged_row part time t Rest = refl
+-- one task, charged
+charged_entity : (part : Part) (time : ℕ) (t : Task) (p : Place)
+    → entity_of (charged_task (time - part.mark) (record t { place = p })) ≡ charged_in part time (entity_of (record t { place = p }))
+charged_entity part time t Run = refl
+charged_entity part time t Wait = refl
+charged_entity part time t Rest = refl
 
 pub charged-pid : (delta : ℕ) (t : Task) → (charged_task delta t).pid ≡ t.pid
 charged-pid delta t = go (runs t)
@@ -80,77 +80,77 @@ module _ (tasks : List Task) (floor : ℤ) (mark time : ℕ) (once : EachOnce ta
   part : Part
   part = start_part tasks floor mark
 
-  abbrev rows : List Task
-  rows = map (charged_task (time - mark)) tasks
+  abbrev charged_tasks : List Task
+  charged_tasks = map (charged_task (time - mark)) tasks
 
-  pub charged_once : EachOnce rows
+  pub charged_once : EachOnce charged_tasks
   charged_once = EachOnce-map (charged_task (time - mark)) (charged-pid (time - mark)) tasks once
 
-  -- the rows stand as the charged part has them
-  pub charged_stands : (pid : ℕ) → stands rows pid ≡ (charged_part (start_part tasks floor mark) time).tasks pid
+  -- the charged tasks stand as the charged part has them
+  pub charged_stands : (pid : ℕ) → stands charged_tasks pid ≡ (charged_part (start_part tasks floor mark) time).tasks pid
   charged_stands pid =
-      ap (option_map standing) (task_of-map (charged_task (time - mark)) (charged-pid (time - mark)) tasks pid)
+      ap (option_map entity_of) (task_of-map (charged_task (time - mark)) (charged-pid (time - mark)) tasks pid)
       ∙ go (task_of tasks pid)
     where
-      go : (o : Option Task) → option_map standing (option_map (charged_task (time - mark)) o)
-          ≡ option_map (charged_in (start_part tasks floor mark) time) (option_map standing o)
+      go : (o : Option Task) → option_map entity_of (option_map (charged_task (time - mark)) o)
+          ≡ option_map (charged_in (start_part tasks floor mark) time) (option_map entity_of o)
       go None = refl
-      go (Some t) = ap Some (charged_row (start_part tasks floor mark) time t t.place)
+      go (Some t) = ap Some (charged_entity (start_part tasks floor mark) time t t.place)
 
-  by_queued : (P : ℤ → Type 0) → All P (queued_runtimes rows) → (pid : ℕ) (s : Entity)
+  by_queued : (P : ℤ → Type 0) → All P (queued_runtimes charged_tasks) → (pid : ℕ) (s : Entity)
       → (charged_part (start_part tasks floor mark) time).tasks pid ≡ Some s → IsQueuedHere s → P s.runtime
   by_queued P each pid s e queued =
-      let r = row_of rows pid s (charged_stands pid ∙ e) in
+      let r = task_standing charged_tasks pid s (charged_stands pid ∙ e) in
       let q : is_queued r.0 ≡ true = queued_place r.0.place (λ f. queued (ap (λ x. x.place) (sym r.2) ∙ f)) in
-      subst (λ (x : Entity). P x.runtime) r.2 (task_of-each (λ t. is_queued t ≡ true → P t.v) rows pid r.0 (each_queued P rows each) r.1 q)
+      subst (λ (x : Entity). P x.runtime) r.2 (task_of-each (λ t. is_queued t ≡ true → P t.v) charged_tasks pid r.0 (each_queued P charged_tasks each) r.1 q)
 
-  is_least : (v : ℤ) → Contains (queued_runtimes rows) v → All (λ w. v ≤ℤ w) (queued_runtimes rows)
+  is_least : (v : ℤ) → Contains (queued_runtimes charged_tasks) v → All (λ w. v ≤ℤ w) (queued_runtimes charged_tasks)
       → IsLeastHere (charged_part (start_part tasks floor mark) time) v
   is_least v has each =
-      let f = found (λ t. task_of rows t.pid ≡ Some t) rows v charged_once has in
+      let f = found (λ t. task_of charged_tasks t.pid ≡ Some t) charged_tasks v charged_once has in
       let t = f.0 in
       record {
         pid = t.pid;
-        task = standing t;
-        stands = sym (charged_stands t.pid) ∙ ap (option_map standing) f.3;
+        task = entity_of t;
+        stands = sym (charged_stands t.pid) ∙ ap (option_map entity_of) f.3;
         queued = place_queued t.place f.1;
         runtime = f.2;
         least = by_queued (λ w. v ≤ℤ w) each;
       }
 
-  raised : (new : ℤ) → IsRaisedBy (queued_runtimes rows) floor new → IsRaisedHere (charged_part (start_part tasks floor mark) time) new
+  raised : (new : ℤ) → IsRaisedBy (queued_runtimes charged_tasks) floor new → IsRaisedHere (charged_part (start_part tasks floor mark) time) new
   raised new (inl none) =
       let P : ℤ → Type 0 = λ _. ⊥ in
-      inl ((λ pid s e queued. by_queued P (All-same P (queued_runtimes rows) [] none.0 (All-nil P)) pid s e queued), none.1)
+      inl ((λ pid s e queued. by_queued P (All-same P (queued_runtimes charged_tasks) [] none.0 (All-nil P)) pid s e queued), none.1)
   raised new (inr least) = inr (least.0, is_least least.0 least.1.0 least.1.1, least.2)
 
   -- the whole lift
-  pub lifted : (new : ℤ) → IsRaisedBy (queued_runtimes rows) floor new
+  pub lifted : (new : ℤ) → IsRaisedBy (queued_runtimes charged_tasks) floor new
       → IsLiftedPart time (start_part tasks floor mark) (start_part (map (charged_task (time - mark)) tasks) new time)
   lifted new by = record {
     floor = new;
     raised = raised new by;
-    result = same_tasks (stands rows) (charged_part (start_part tasks floor mark) time).tasks new time charged_stands;
+    result = same_tasks (stands charged_tasks) (charged_part (start_part tasks floor mark) time).tasks new time charged_stands;
   }
 
-  runs_row : (t : Task) (s : Entity) → standing t ≡ s → s.place ≡ Run → runs t ≡ true
-  runs_row t s e r = ap (λ (x : Entity). place_eq x.place Run) e ∙ ap (λ p. place_eq p Run) r
+  runs_task : (t : Task) (s : Entity) → entity_of t ≡ s → s.place ≡ Run → runs t ≡ true
+  runs_task t s e r = ap (λ (x : Entity). place_eq x.place Run) e ∙ ap (λ p. place_eq p Run) r
 
-  -- where each row can be charged, none is out of range
+  -- where each task can be charged, none is out of range
   pub none_above : All (CanBeCharged (time - mark)) tasks → (pid : ℕ) → ¬ IsOutOfRange (start_part tasks floor mark) time pid
   none_above can pid o =
-      let r = row_of tasks pid o.task o.stands in
-      let fits = task_of-each (CanBeCharged (time - mark)) tasks pid r.0 can r.1 (runs_row r.0 o.task r.2 o.runs) in
+      let r = task_standing tasks pid o.task o.stands in
+      let fits = task_of-each (CanBeCharged (time - mark)) tasks pid r.0 can r.1 (runs_task r.0 o.task r.2 o.runs) in
       let above : (greatest < cost_of (time - mark) r.0) ⊎ (pos greatest <ℤ (r.0.v +ℤ pos (cost_of (time - mark) r.0)))
       = subst (λ (s : Entity). (greatest < cost_in (start_part tasks floor mark) time s) ⊎ (pos greatest <ℤ (s.runtime +ℤ pos (cost_in (start_part tasks floor mark) time s)))) (sym r.2) o.above in
       elim above [ inl far ↦ absurd (omega (arith, fits.0)) | inr far ↦ absurd (omega (arith, ints, fits.1)) ]
 
-  -- a row that can't be charged is out of range
+  -- a task that can't be charged is out of range
   pub above : (pid : ℕ) (t : Task) → Contains tasks t → t.pid ≡ pid → (CanBeCharged (time - mark) t → ⊥)
       → IsOutOfRange (start_part tasks floor mark) time pid
   above pid t has is cannot =
       subst (λ x. IsOutOfRange (start_part tasks floor mark) time x) is (record {
-        task = standing t;
+        task = entity_of t;
         stands = stands_each tasks once t has;
         runs = running t.place refl;
         above = far (cases_lt greatest (cost_of (time - mark) t));

@@ -1,4 +1,4 @@
--- What a row's change makes of the part.
+-- What the change of one task makes of the part.
 use Rattle.std.proofs.Common.{◌≡◌, ◌≢◌, ℕ, zero, suc, Bool, true, false, ◌&&◌, cond, eqb, List, [], ◌∷◌, ◌++◌, map, Option, Some, None, is_some, option_map, ℤ, inl, inr, refl, sym, ap, ◌∙◌, subst}
 use Rattle.std.proofs.lemmas.Bool.{eq-eqb, ne_eqb, cond-true, cond-false, and_left, cases_eq}
 use Rattle.replay_model.specs.Deeds.{with_entity, goes, part_after_prev, part_after_next, woken, wakes}
@@ -18,16 +18,16 @@ use Rattle.cfs_model.specs.declared.task.Place.TheVariants.{Run, Wait, Rest}
 use Rattle.cfs_model.specs.declared.task.Task.{Task}
 use Rattle.queue_replay.specs.Queue.{runqueue_view, IdlesBeside, IsAboveGranularity}
 use Rattle.queue_replay.specs.declared.runqueue.Runqueue.{Runqueue}
-use Rattle.queue_replay.specs.TaskList.{standing, moved_to, roused, without, EachOnce}
-use Rattle.queue_replay.specs.Sifting.{IsCleared}
+use Rattle.queue_replay.specs.TaskList.{entity_of, moved_to, woken_task, without, EachOnce}
+use Rattle.queue_replay.specs.FirstTest.{IsCleared}
 use Rattle.queue_replay.proofs.Parts.{stands, same_tasks, stands_changed, stands_gone, stands_pushed, put-same, put-other, EachOnce-push, row_none}
 use Rattle.queue_replay.proofs.TaskOf.{EachOnce-map, EachOnce-without}
 
--- a runqueue with these rows, and the floor and the mark of another
-pub part_is : (q new : Runqueue) (rows : List Task) → new.tasks.items ≡ rows → new.floor ≡ q.floor → new.mark ≡ q.mark
-    → runqueue_view new ≡ start_part rows q.floor q.mark
-part_is q new rows e f g =
-    ap (λ l. start_part l new.floor new.mark) e ∙ ap (λ x. start_part rows x new.mark) f ∙ ap (λ x. start_part rows q.floor x) g
+-- a runqueue with these tasks, and the floor and the mark of another
+pub part_is : (q new : Runqueue) (tasks : List Task) → new.tasks.items ≡ tasks → new.floor ≡ q.floor → new.mark ≡ q.mark
+    → runqueue_view new ≡ start_part tasks q.floor q.mark
+part_is q new tasks e f g =
+    ap (λ l. start_part l new.floor new.mark) e ∙ ap (λ x. start_part tasks x new.mark) f ∙ ap (λ x. start_part tasks q.floor x) g
 
 -- to another place
 placed_here : (pid : ℕ) (place : Place) (t : Task) → t.pid ≡ pid → moved_to pid place t ≡ record t { place = place }
@@ -48,7 +48,7 @@ pub placed_part : (tasks : List Task) (floor : ℤ) (mark pid : ℕ) (place : Pl
 placed_part tasks floor mark pid place =
     same_tasks (stands (map (moved_to pid place) tasks)) _ floor mark
     (stands_changed (moved_to pid place) (moved_to-pid pid place) (λ (s : Entity). record s { place = place }) pid
-    (λ t e. ap standing (placed_here pid place t e)) (placed_there pid place) tasks)
+    (λ t e. ap entity_of (placed_here pid place t e)) (placed_there pid place) tasks)
 
 pub placed_once : (tasks : List Task) (pid : ℕ) (place : Place) → EachOnce tasks → EachOnce (map (moved_to pid place) tasks)
 placed_once tasks pid place once = EachOnce-map (moved_to pid place) (moved_to-pid pid place) tasks once
@@ -62,41 +62,41 @@ pub gone_once : (tasks : List Task) (pid : ℕ) → EachOnce tasks → EachOnce 
 gone_once tasks pid once = EachOnce-without tasks pid once
 
 -- awake
-roused_row : (claim : Claim) (t : Task) (p : Place)
-    → standing (cond (true && place_eq p Rest) (record t { place = Wait; v = claim.v }) (record t { place = p }))
-    ≡ woken (Some claim) p (standing (record t { place = p }))
-roused_row claim t Run = refl
-roused_row claim t Wait = refl
-roused_row claim t Rest = refl
+woken_entity : (claim : Claim) (t : Task) (p : Place)
+    → entity_of (cond (true && place_eq p Rest) (record t { place = Wait; v = claim.v }) (record t { place = p }))
+    ≡ woken (Some claim) p (entity_of (record t { place = p }))
+woken_entity claim t Run = refl
+woken_entity claim t Wait = refl
+woken_entity claim t Rest = refl
 
-roused_here : (pid : ℕ) (claim : Claim) (t : Task) → t.pid ≡ pid → standing (roused pid claim.v t) ≡ woken (Some claim) t.place (standing t)
-roused_here pid claim t e =
-    ap (λ b. standing (cond (b && place_eq t.place Rest) (record t { place = Wait; v = claim.v }) t)) (eq-eqb t.pid pid e)
-    ∙ roused_row claim t t.place
+woken_here : (pid : ℕ) (claim : Claim) (t : Task) → t.pid ≡ pid → entity_of (woken_task pid claim.v t) ≡ woken (Some claim) t.place (entity_of t)
+woken_here pid claim t e =
+    ap (λ b. entity_of (cond (b && place_eq t.place Rest) (record t { place = Wait; v = claim.v }) t)) (eq-eqb t.pid pid e)
+    ∙ woken_entity claim t t.place
 
-roused_there : (pid : ℕ) (v : ℤ) (t : Task) → t.pid ≢ pid → roused pid v t ≡ t
-roused_there pid v t ne = cond-false _ (record t { place = Wait; v = v }) t (and_left (eqb t.pid pid) (place_eq t.place Rest) (ne_eqb _ _ ne))
+woken_there : (pid : ℕ) (v : ℤ) (t : Task) → t.pid ≢ pid → woken_task pid v t ≡ t
+woken_there pid v t ne = cond-false _ (record t { place = Wait; v = v }) t (and_left (eqb t.pid pid) (place_eq t.place Rest) (ne_eqb _ _ ne))
 
-roused-pid : (pid : ℕ) (v : ℤ) (t : Task) → (roused pid v t).pid ≡ t.pid
-roused-pid pid v t = go (eqb t.pid pid && place_eq t.place Rest)
+woken_task-pid : (pid : ℕ) (v : ℤ) (t : Task) → (woken_task pid v t).pid ≡ t.pid
+woken_task-pid pid v t = go (eqb t.pid pid && place_eq t.place Rest)
   where
     go : (b : Bool) → (cond b (record t { place = Wait; v = v }) t).pid ≡ t.pid
     go true = refl
     go false = refl
 
-pub roused_part : (tasks : List Task) (floor : ℤ) (mark pid : ℕ) (claim : Claim)
-    → start_part (map (roused pid claim.v) tasks) floor mark ≡ wakes (start_part tasks floor mark) pid (Some claim)
-roused_part tasks floor mark pid claim =
-    same_tasks (stands (map (roused pid claim.v) tasks)) _ floor mark
-    (stands_changed (roused pid claim.v) (roused-pid pid claim.v) (λ (s : Entity). woken (Some claim) s.place s) pid
-    (roused_here pid claim) (roused_there pid claim.v) tasks)
+pub woken_part : (tasks : List Task) (floor : ℤ) (mark pid : ℕ) (claim : Claim)
+    → start_part (map (woken_task pid claim.v) tasks) floor mark ≡ wakes (start_part tasks floor mark) pid (Some claim)
+woken_part tasks floor mark pid claim =
+    same_tasks (stands (map (woken_task pid claim.v) tasks)) _ floor mark
+    (stands_changed (woken_task pid claim.v) (woken_task-pid pid claim.v) (λ (s : Entity). woken (Some claim) s.place s) pid
+    (woken_here pid claim) (woken_there pid claim.v) tasks)
 
-pub roused_once : (tasks : List Task) (pid : ℕ) (v : ℤ) → EachOnce tasks → EachOnce (map (roused pid v) tasks)
-roused_once tasks pid v once = EachOnce-map (roused pid v) (roused-pid pid v) tasks once
+pub woken_once : (tasks : List Task) (pid : ℕ) (v : ℤ) → EachOnce tasks → EachOnce (map (woken_task pid v) tasks)
+woken_once tasks pid v once = EachOnce-map (woken_task pid v) (woken_task-pid pid v) tasks once
 
 -- one more
 pub pushed_part : (tasks : List Task) (floor : ℤ) (mark : ℕ) (t : Task) → stands tasks t.pid ≡ None
-    → start_part (tasks ++ t ∷ []) floor mark ≡ with_entity (start_part tasks floor mark) t.pid (Some (standing t))
+    → start_part (tasks ++ t ∷ []) floor mark ≡ with_entity (start_part tasks floor mark) t.pid (Some (entity_of t))
 pushed_part tasks floor mark t none =
     same_tasks (stands (tasks ++ t ∷ [])) _ floor mark (stands_pushed tasks t (row_none tasks t.pid none))
 

@@ -37,7 +37,7 @@ came_is lifted step (Born pid nice) = refl
 came_is lifted step (Leave pid nice dest) = refl
 came_is lifted step (Arrive pid nice orig) = refl
 
--- notes that differ in their tallies alone
+-- pages that differ in their tallies alone
 pub record IsStretch (old mid : PageDraft) : Type 0 where
   pub line : mid.line ≡ old.line
   pub fault : mid.fault ≡ old.fault
@@ -46,7 +46,7 @@ pub record IsStretch (old mid : PageDraft) : Type 0 where
   pub births : mid.births ≡ old.births
   pub deaths : mid.deaths ≡ old.deaths
 
--- the notes with a step more
+-- the draft with a step more
 pub record IsNote (mid : PageDraft) (step : Step) (ticket : Option Ticket) (new : PageDraft) : Type 0 where
   pub line : new.line ≡ step.line
   pub fault : new.fault ≡ mid.fault

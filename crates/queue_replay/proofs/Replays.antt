@@ -109,7 +109,7 @@ at_end s knobs c after r last made noted = record {
         ap (λ o. end_page knobs.slack s c.since o (page_draft_view c.draft)) e ∙ end_faulted knobs.slack s c.since f (page_draft_view c.draft) ∙ r.page
         ∙ sym (end_faulted knobs.slack s r.end.since f r.end.page) ∙ ap (λ o. end_page knobs.slack s r.end.since o r.end.page) (sym g)
 
--- a course before its first step
+-- a state before the first step
 pub reached_start : (s : StreamView) (knobs : Settings) (c : ReplayState) → c.made ≡ 0 → IsStartOf s (replay_state_view c) → IsGoing c → IsReached s knobs c
 reached_start s knobs c e start going = record {
   start = replay_state_view c;

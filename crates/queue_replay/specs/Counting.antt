@@ -26,16 +26,16 @@ picked_tally pid tally = if tally.pid == pid then record tally { picks = tally.p
 abbrev pub IsWithin : ℕ → Tally → Type 0
 IsWithin steps tally = (tally.ran ≤ steps * 2 ^ 64) × (tally.charged ≤ steps * 2 ^ 64) × (tally.picks ≤ steps)
 
--- the notes as a page shows them
+-- the draft as a page shows it
 abbrev pub page_draft_view : PageDraft → PageView
-page_draft_view n = record {
-  line = n.line;
-  fault = n.fault;
-  left = n.left.items;
-  came = n.came.items;
-  births = n.births.items;
-  deaths = n.deaths.items;
-  tallies = n.tallies.items;
+page_draft_view draft = record {
+  line = draft.line;
+  fault = draft.fault;
+  left = draft.left.items;
+  came = draft.came.items;
+  births = draft.births.items;
+  deaths = draft.deaths.items;
+  tallies = draft.tallies.items;
 }
 
 -- the ticket of a step, if it has one
@@ -53,13 +53,13 @@ abbrev pub if_came : Deed → Option Ticket → List Ticket
 if_came (Arrive pid nice orig) ticket = option_to_list ticket
 if_came _ ticket = []
 
--- the lists of the notes have room for what a deed adds
-abbrev pub HasNoteRoom : Deed → PageDraft → Type 0
-HasNoteRoom (Switch prev prev_nice way next next_nice) n = vec_len n.deaths < vec_capacity n.deaths
-HasNoteRoom (Wake pid nice) n = ⊤
-HasNoteRoom (Born pid nice) n = (vec_len n.births < vec_capacity n.births) × (vec_len n.tallies < vec_capacity n.tallies)
-HasNoteRoom (Leave pid nice dest) n = vec_len n.left < vec_capacity n.left
-HasNoteRoom (Arrive pid nice orig) n = (vec_len n.came < vec_capacity n.came) × (vec_len n.tallies < vec_capacity n.tallies)
+-- the lists of the draft have room for what a deed adds
+abbrev pub HasDraftRoom : Deed → PageDraft → Type 0
+HasDraftRoom (Switch prev prev_nice way next next_nice) draft = vec_len draft.deaths < vec_capacity draft.deaths
+HasDraftRoom (Wake pid nice) draft = ⊤
+HasDraftRoom (Born pid nice) draft = (vec_len draft.births < vec_capacity draft.births) × (vec_len draft.tallies < vec_capacity draft.tallies)
+HasDraftRoom (Leave pid nice dest) draft = vec_len draft.left < vec_capacity draft.left
+HasDraftRoom (Arrive pid nice orig) draft = (vec_len draft.came < vec_capacity draft.came) × (vec_len draft.tallies < vec_capacity draft.tallies)
 
 -- the tallies after the runner, if there is one, ran for so long
 abbrev pub stretched : Option Task → ℕ → List Tally → List Tally
@@ -67,5 +67,5 @@ stretched None time tallies = tallies
 stretched (Some t) time tallies = map (ran_tally t.pid time (cost_of time t)) tallies
 
 -- a page with a fault
-abbrev pub with_note : PageView → StepFault → PageView
-with_note page fault = record page { fault = Some fault }
+abbrev pub faulted_page : PageView → StepFault → PageView
+faulted_page page fault = record page { fault = Some fault }

@@ -1,6 +1,6 @@
 pub mod TaskList
 pub mod Queue
-pub mod Sifting
+pub mod FirstTest
 pub mod Counting
 pub mod ReplayState
 pub mod Made

@@ -13,18 +13,18 @@ use Rattle.queue_replay.specs.declared.state.State.TheVariants as states
 use Rattle.queue_replay.specs.declared.tag.Reached.{Reached}
 use Rattle.queue_replay.specs.declared.tag.Reached.TheVariants.{Stopped, Done, Faulted}
 
--- the course is that of the stream's replay by its first steps, none of which failed
-pub record IsUnderWay (stream : StreamView) (knobs : Settings) (c : ReplayState) : Type 0 where
+-- the state is that of the stream's replay by its first steps, none of which failed
+pub record IsUnderWay (stream : StreamView) (knobs : Settings) (state : ReplayState) : Type 0 where
   pub start : ReplayStateView
   pub is_start : IsStartOf stream start
-  pub replay : IsReplay knobs stream.cpu start (take c.made stream.steps) (replay_state_view c)
-  pub going : IsGoing c
+  pub replay : IsReplay knobs stream.cpu start (take state.made stream.steps) (replay_state_view state)
+  pub going : IsGoing state
 
--- the course has the page of the steps made, and can go on where none has failed and some are left
-pub record IsAt (stream : StreamView) (knobs : Settings) (c : ReplayState) : Type 0 where
-  pub within : c.made ≤ length stream.steps
-  pub is_page : IsPageOf stream knobs c.made (page_draft_view c.draft)
-  pub under_way : c.draft.fault ≡ None → c.made < length stream.steps → IsUnderWay stream knobs c
+-- the state has the page of the steps made, and can go on where none has failed and some are left
+pub record IsAt (stream : StreamView) (knobs : Settings) (state : ReplayState) : Type 0 where
+  pub within : state.made ≤ length stream.steps
+  pub is_page : IsPageOf stream knobs state.made (page_draft_view state.draft)
+  pub under_way : state.draft.fault ≡ None → state.made < length stream.steps → IsUnderWay stream knobs state
 
 -- a replay with this page, after so many steps of so many
 abbrev pub state_of : Option StepFault → ℕ → ℕ → State

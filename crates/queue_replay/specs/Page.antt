@@ -4,12 +4,12 @@ use Rattle.queue_replay.specs.declared.page.Page.{Page}
 
 -- what the page tells of the steps replayed
 abbrev pub page_view : Page → PageView
-page_view p = record {
-  line = p.line;
-  fault = p.fault;
-  left = p.left;
-  came = p.came;
-  births = p.births;
-  deaths = p.deaths;
-  tallies = p.tallies;
+page_view page = record {
+  line = page.line;
+  fault = page.fault;
+  left = page.left;
+  came = page.came;
+  births = page.births;
+  deaths = page.deaths;
+  tallies = page.tallies;
 }

@@ -11,16 +11,16 @@ use Rattle.queue_replay.specs.declared.runqueue.Runqueue.{Runqueue}
 
 -- the part of a machine that the runqueue stands for
 abbrev pub runqueue_view : Runqueue → Part
-runqueue_view q = start_part q.tasks.items q.floor q.mark
+runqueue_view queue = start_part queue.tasks.items queue.floor queue.mark
 
 -- at most one runs
 abbrev pub OneRunsHere : Part → Type 0
 OneRunsHere part = (pid other : ℕ) → IsIn part Run pid → IsIn part Run other → pid ≡ other
 
 -- a runqueue in order
-pub record IsKept (q : Runqueue) : Type 0 where
-  pub once : EachOnce q.tasks.items
-  pub one_runs : OneRunsHere (runqueue_view q)
+pub record IsKept (queue : Runqueue) : Type 0 where
+  pub once : EachOnce queue.tasks.items
+  pub one_runs : OneRunsHere (runqueue_view queue)
 
 -- the processor goes idle, and somebody waits here
 abbrev pub IdlesBeside : Part → ℕ → ℕ → Type 0
@@ -36,19 +36,19 @@ IsAboveGranularity granularity own part (suc n) pid =
 
 -- the runqueue's list has room for the task that a deed brings, if it brings one
 abbrev pub HasRoom : Deed → Runqueue → Type 0
-HasRoom (Born pid nice) q = vec_len q.tasks < vec_capacity q.tasks
-HasRoom (Arrive pid nice orig) q = vec_len q.tasks < vec_capacity q.tasks
-HasRoom _ q = ⊤
+HasRoom (Born pid nice) queue = vec_len queue.tasks < vec_capacity queue.tasks
+HasRoom (Arrive pid nice orig) queue = vec_len queue.tasks < vec_capacity queue.tasks
+HasRoom _ queue = ⊤
 
--- the row of the task that a deed is of, if it stands here; of a switch's two that is the previous one
+-- the task that a deed is of, if it stands here; of a switch's two that is the previous one
 abbrev pub IsSubject : List Task → Deed → Option Task → Type 0
-IsSubject tasks (Switch prev prev_nice way next next_nice) row = row ≡ task_of tasks prev
-IsSubject tasks (Wake pid nice) row = row ≡ task_of tasks pid
-IsSubject tasks (Born pid nice) row = row ≡ task_of tasks pid
-IsSubject tasks (Leave pid nice dest) row = row ≡ task_of tasks pid
-IsSubject tasks (Arrive pid nice orig) row = row ≡ task_of tasks pid
+IsSubject tasks (Switch prev prev_nice way next next_nice) task = task ≡ task_of tasks prev
+IsSubject tasks (Wake pid nice) task = task ≡ task_of tasks pid
+IsSubject tasks (Born pid nice) task = task ≡ task_of tasks pid
+IsSubject tasks (Leave pid nice dest) task = task ≡ task_of tasks pid
+IsSubject tasks (Arrive pid nice orig) task = task ≡ task_of tasks pid
 
--- the row of a switch's next task, if it stands here
+-- a switch's next task, if it stands here
 abbrev pub IsNext : List Task → Deed → Option Task → Type 0
-IsNext tasks (Switch prev prev_nice way next next_nice) row = row ≡ task_of tasks next
-IsNext tasks _ row = ⊤
+IsNext tasks (Switch prev prev_nice way next next_nice) task = task ≡ task_of tasks next
+IsNext tasks _ task = ⊤

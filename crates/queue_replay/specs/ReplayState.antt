@@ -9,13 +9,13 @@ use Rattle.queue_replay.specs.Queue.{runqueue_view, IsKept}
 use Rattle.queue_replay.specs.declared.replay_state.ReplayState.{ReplayState}
 
 abbrev pub replay_state_view : ReplayState → ReplayStateView
-replay_state_view c = record { part = runqueue_view c.queue; since = c.since; page = page_draft_view c.draft }
+replay_state_view state = record { part = runqueue_view state.queue; since = state.since; page = page_draft_view state.draft }
 
 -- no step has failed so far
-pub record IsGoing (c : ReplayState) : Type 0 where
-  pub fault : c.draft.fault ≡ None
-  pub kept : IsKept c.queue
-  pub within : All (IsWithin c.made) c.draft.tallies.items
+pub record IsGoing (state : ReplayState) : Type 0 where
+  pub fault : state.draft.fault ≡ None
+  pub kept : IsKept state.queue
+  pub within : All (IsWithin state.made) state.draft.tallies.items
 
 -- the step passed, and was noted
 pub record IsPassed (knobs : Settings) (cpu : ℕ) (old : ReplayState) (step : Step) (new : ReplayState) : Type 0 where

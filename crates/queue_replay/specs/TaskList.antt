@@ -43,8 +43,8 @@ abbrev pub moved_to : ℕ → Place → Task → Task
 moved_to pid place t = if t.pid == pid then record t { place = place } else t
 
 -- the task after the one of this pid was woken at a virtual runtime: one that rests waits
-abbrev pub roused : ℕ → ℤ → Task → Task
-roused pid v t = if (t.pid == pid) && place_eq t.place Rest then record t { place = Wait; v = v } else t
+abbrev pub woken_task : ℕ → ℤ → Task → Task
+woken_task pid v t = if (t.pid == pid) && place_eq t.place Rest then record t { place = Wait; v = v } else t
 
 -- the tasks but for one pid
 abbrev pub without : ℕ → List Task → List Task
@@ -67,8 +67,8 @@ abbrev pub IsBelow : ℕ → ℤ → Task → Type 0
 IsBelow granularity v t = IsTrue (waits t) × ((t.v +ℤ pos granularity) <ℤ v)
 
 -- a task as a part of a machine has it
-abbrev pub standing : Task → Entity
-standing t = record { place = t.place; nice = t.nice; runtime = t.v }
+abbrev pub entity_of : Task → Entity
+entity_of t = record { place = t.place; nice = t.nice; runtime = t.v }
 
 -- each pid once
 abbrev pub EachOnce : List Task → Type 0

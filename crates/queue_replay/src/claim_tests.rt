@@ -1,13 +1,14 @@
-ghost use Rattle.std.specs.Prelude.{◌≡◌, ◌≢◌, IsTrue, ◌↔◌, Some, option_map, pos, ◌-ℤ◌, ◌≤ℤ◌};
+ghost use Rattle.std.specs.Prelude.{◌≡◌, ◌≢◌, ℕ, IsTrue, ◌↔◌, Some, option_map, pos, ◌-ℤ◌, ◌≤ℤ◌};
 ghost use Rattle.replay_model.specs.ClaimTests.{claimant, HasClaim, IsClaimMissing, IsClaimExtra, IsClaimPid, IsWrongPutBack, IsInWakeBounds, IsWakeOutside, IsInForkBounds, IsForkOutside, IsNextNotWaiting};
 ghost use Rattle.replay_model.specs.Part.{Entity, IsIn};
 ghost use Rattle.cfs_model.specs.Start.{task_of};
 ghost use Rattle.cfs_model.specs.declared.task.Place.TheVariants.{Rest};
+ghost use Rattle.queue_replay.specs.declared.runqueue.Runqueue.{Runqueue as Queue};
 ghost use Rattle.queue_replay.specs.Queue.{runqueue_view, IdlesBeside, IsAboveGranularity, IsSubject, IsNext};
-ghost use Rattle.queue_replay.specs.TaskList.{standing, EachOnce};
-ghost use Rattle.queue_replay.specs.Sifting.{Decides};
+ghost use Rattle.queue_replay.specs.TaskList.{entity_of, EachOnce};
+ghost use Rattle.queue_replay.specs.FirstTest.{Decides};
 
-use crate::queue_tests::waits_here;
+use crate::queue_tests::stands_in;
 use crate::runqueue::Runqueue;
 use crate::task_list::{somebody_below, somebody_waits};
 use cfs_model::{Claim, ClaimSort, Place, Task, Way};
@@ -25,7 +26,7 @@ fn claimant(queue: &Runqueue, step: &Step, subject: &Option<Task>) -> Option<u32
             Way::Sleeps | Way::Ends => None,
         },
         Deed::Wake { pid, .. } => {
-            if rests_here(queue, pid, *subject) {
+            if stands_in(*subject, Place::Rest) {
                 Some(pid)
             } else {
                 None
@@ -40,22 +41,8 @@ fn claimant(queue: &Runqueue, step: &Step, subject: &Option<Task>) -> Option<u32
 fn has_claim(step: &Step) -> bool
     ensures { IsTrue result ↔ HasClaim step.now.deed step.now.claim }
 {
-    let claim = step.claim;
-    match claim {
-        Some(claim) => {
-            let sort = claim.sort;
-            let deed = step.deed;
-            match deed {
-                Deed::Arrive { .. } => true,
-                Deed::Switch { .. } | Deed::Wake { .. } | Deed::Born { .. } | Deed::Leave { .. } =>
-                    {
-                        match sort {
-                            ClaimSort::At => true,
-                            ClaimSort::Pass => false,
-                        }
-                    }
-            }
-        }
+    match step.claim {
+        Some(claim) => matches!(step.deed, Deed::Arrive { .. }) || claim.sort == ClaimSort::At,
         None => false,
     }
 }
@@ -65,11 +52,8 @@ pub(crate) fn claim_missing(queue: &Runqueue, step: &Step, subject: &Option<Task
     requires { IsSubject queue.now.tasks.items step.now.deed subject.now }
     ensures { Decides result (IsClaimMissing (runqueue_view queue.now) step.now.deed step.now.claim) }
 {
-    let served = has_claim(step);
-    match claimant(queue, step, subject) {
-        Some(pid) => { if served { None } else { Some(pid) } }
-        None => None,
-    }
+    let pid = claimant(queue, step, subject)?;
+    if has_claim(step) { None } else { Some(pid) }
 }
 
 /// No claim is needed, and the line has one.
@@ -77,18 +61,11 @@ pub(crate) fn claim_extra(queue: &Runqueue, step: &Step, subject: &Option<Task>)
     requires { IsSubject queue.now.tasks.items step.now.deed subject.now }
     ensures { Decides result (IsClaimExtra (runqueue_view queue.now) step.now.deed step.now.claim) }
 {
-    let deed = step.deed;
-    let claim = step.claim;
-    match claim {
-        Some(claim) => match claimant(queue, step, subject) {
-            Some(_) => None,
-            None => match deed {
-                Deed::Leave { .. } => None,
-                Deed::Switch { .. } | Deed::Wake { .. } | Deed::Born { .. } | Deed::Arrive { .. } =>
-                    Some(claim.pid),
-            },
-        },
-        None => None,
+    let claim = step.claim?;
+    if claimant(queue, step, subject).is_some() || matches!(step.deed, Deed::Leave { .. }) {
+        None
+    } else {
+        Some(claim.pid)
     }
 }
 
@@ -97,19 +74,12 @@ pub(crate) fn claim_pid(queue: &Runqueue, step: &Step, subject: &Option<Task>) -
     requires { IsSubject queue.now.tasks.items step.now.deed subject.now }
     ensures { Decides result (IsClaimPid (runqueue_view queue.now) step.now.deed step.now.claim) }
 {
-    let claim = step.claim;
-    match claim {
-        Some(claim) => match claimant(queue, step, subject) {
-            Some(pid) => {
-                if claim.pid != pid {
-                    Some(claim.pid)
-                } else {
-                    None
-                }
-            }
-            None => None,
-        },
-        None => None,
+    let claim = step.claim?;
+    let pid = claimant(queue, step, subject)?;
+    if claim.pid != pid {
+        Some(claim.pid)
+    } else {
+        None
     }
 }
 
@@ -118,22 +88,19 @@ pub(crate) fn wrong_put_back(queue: &Runqueue, step: &Step, subject: &Option<Tas
     requires { IsSubject queue.now.tasks.items step.now.deed subject.now }
     ensures { Decides result (IsWrongPutBack (runqueue_view queue.now) step.now.deed step.now.claim) }
 {
-    let deed = step.deed;
-    match deed {
-        Deed::Switch { prev, way, .. } => match way {
-            Way::Stays => match step.claim {
-                Some(claim) => {
-                    if prev != 0 && stands_at_other(queue, prev, claim, *subject) {
-                        Some(prev)
-                    } else {
-                        None
-                    }
-                }
-                None => None,
-            },
-            Way::Sleeps | Way::Ends => None,
-        },
-        Deed::Wake { .. } | Deed::Born { .. } | Deed::Leave { .. } | Deed::Arrive { .. } => None,
+    let Deed::Switch {
+        prev,
+        way: Way::Stays,
+        ..
+    } = step.deed
+    else {
+        return None;
+    };
+    let claim = step.claim?;
+    if prev != 0 && is_at_other(*subject, claim) {
+        Some(prev)
+    } else {
+        None
     }
 }
 
@@ -147,19 +114,14 @@ pub(crate) fn wake_outside(
     requires { IsSubject queue.now.tasks.items step.now.deed subject.now }
     ensures { Decides result (IsWakeOutside credit (runqueue_view queue.now) step.now.deed step.now.claim) }
 {
-    let deed = step.deed;
-    match deed {
-        Deed::Wake { pid, .. } => match step.claim {
-            Some(claim) => {
-                if rests_outside(queue, pid, claim, credit, *subject) {
-                    Some(pid)
-                } else {
-                    None
-                }
-            }
-            None => None,
-        },
-        Deed::Switch { .. } | Deed::Born { .. } | Deed::Leave { .. } | Deed::Arrive { .. } => None,
+    let Deed::Wake { pid, .. } = step.deed else {
+        return None;
+    };
+    let claim = step.claim?;
+    if rests_outside(queue, claim, credit, *subject) {
+        Some(pid)
+    } else {
+        None
     }
 }
 
@@ -167,19 +129,14 @@ pub(crate) fn wake_outside(
 pub(crate) fn fork_outside(queue: &Runqueue, step: &Step, debit: u64) -> Option<u32>
     ensures { Decides result (IsForkOutside debit (runqueue_view queue.now) step.now.deed step.now.claim) }
 {
-    let deed = step.deed;
-    match deed {
-        Deed::Born { pid, .. } => match step.claim {
-            Some(claim) => {
-                if is_in_fork_bounds(queue, claim, debit) {
-                    None
-                } else {
-                    Some(pid)
-                }
-            }
-            None => None,
-        },
-        Deed::Switch { .. } | Deed::Wake { .. } | Deed::Leave { .. } | Deed::Arrive { .. } => None,
+    let Deed::Born { pid, .. } = step.deed else {
+        return None;
+    };
+    let claim = step.claim?;
+    if is_in_fork_bounds(queue, claim, debit) {
+        None
+    } else {
+        Some(pid)
     }
 }
 
@@ -188,16 +145,13 @@ pub(crate) fn next_not_waiting(queue: &Runqueue, step: &Step, next: &Option<Task
     requires { IsNext queue.now.tasks.items step.now.deed next.now }
     ensures { Decides result (IsNextNotWaiting (runqueue_view queue.now) step.now.deed) }
 {
-    let deed = step.deed;
-    match deed {
-        Deed::Switch { next: pid, .. } => {
-            if pid == 0 || waits_here(queue, pid, *next) {
-                None
-            } else {
-                Some(pid)
-            }
-        }
-        Deed::Wake { .. } | Deed::Born { .. } | Deed::Leave { .. } | Deed::Arrive { .. } => None,
+    let Deed::Switch { next: pid, .. } = step.deed else {
+        return None;
+    };
+    if pid == 0 || stands_in(*next, Place::Wait) {
+        None
+    } else {
+        Some(pid)
     }
 }
 
@@ -225,69 +179,37 @@ pub(crate) fn not_least(
     granularity: u64,
 ) -> Option<u32>
     requires { EachOnce moved.now.tasks.items }
-    ensures { Decides result (IsAboveGranularity granularity (option_map standing own) (runqueue_view moved.now) next) }
+    ensures { Decides result (IsAboveGranularity granularity (option_map entity_of own) (runqueue_view moved.now) next) }
 {
     if next == 0 {
         return None;
     }
-    match own {
-        Some(task) => {
-            if somebody_below(moved.tasks.as_slice(), task, granularity) {
-                Some(next)
-            } else {
-                None
-            }
-        }
-        None => None,
+    let task = own?;
+    if somebody_below(moved.tasks.as_slice(), task, granularity) {
+        Some(next)
+    } else {
+        None
     }
 }
 
-fn rests_here(queue: &Runqueue, pid: u32, row: Option<Task>) -> bool
-    requires { row ≡ task_of queue.now.tasks.items pid }
-    ensures { IsTrue result ↔ IsIn (runqueue_view queue.now) Rest pid }
+/// The task stands here, at another virtual runtime than the claimed one.
+fn is_at_other(task: Option<Task>, claim: Claim) -> bool
+    ensures { (queue : Queue) (pid : ℕ) → task ≡ task_of queue.tasks.items pid
+        → (IsTrue result ↔ ((s : Entity) × ((runqueue_view queue).tasks pid ≡ Some s) × (claim.v ≢ s.runtime))) }
 {
-    match row {
-        Some(task) => {
-            let place = task.place;
-            match place {
-                Place::Rest => true,
-                Place::Run | Place::Wait => false,
-            }
-        }
+    match task {
+        Some(task) => claim.v != task.v,
         None => false,
     }
 }
 
-/// The pid stands here at another virtual runtime than the claimed one.
-fn stands_at_other(queue: &Runqueue, pid: u32, claim: Claim, row: Option<Task>) -> bool
-    requires { row ≡ task_of queue.now.tasks.items pid }
-    ensures { IsTrue result ↔ ((s : Entity) × ((runqueue_view queue.now).tasks pid ≡ Some s) × (claim.v ≢ s.runtime)) }
+/// The task rests here, and is claimed outside the bounds of its wakeup.
+fn rests_outside(queue: &Runqueue, claim: Claim, credit: u64, task: Option<Task>) -> bool
+    ensures { (pid : ℕ) → task ≡ task_of queue.now.tasks.items pid
+        → (IsTrue result ↔ ((s : Entity) × ((runqueue_view queue.now).tasks pid ≡ Some s) × (s.place ≡ Rest) × (¬ IsInWakeBounds credit queue.now.floor s.runtime claim.v))) }
 {
-    match row {
-        Some(task) => is_at_other(task, claim),
-        None => false,
-    }
-}
-
-fn is_at_other(task: Task, claim: Claim) -> bool
-    ensures { IsTrue result ↔ (claim.v ≢ task.v) }
-{
-    if claim.v == task.v { false } else { true }
-}
-
-/// The pid rests here, and is claimed outside the bounds of its wakeup.
-fn rests_outside(queue: &Runqueue, pid: u32, claim: Claim, credit: u64, row: Option<Task>) -> bool
-    requires { row ≡ task_of queue.now.tasks.items pid }
-    ensures { IsTrue result ↔ ((s : Entity) × ((runqueue_view queue.now).tasks pid ≡ Some s) × (s.place ≡ Rest) × (¬ IsInWakeBounds credit queue.now.floor s.runtime claim.v)) }
-{
-    match row {
-        Some(task) => {
-            let place = task.place;
-            match place {
-                Place::Rest => !is_in_wake_bounds(queue, task, claim, credit),
-                Place::Run | Place::Wait => false,
-            }
-        }
+    match task {
+        Some(task) => task.place == Place::Rest && !is_in_wake_bounds(queue, task, claim, credit),
         None => false,
     }
 }

@@ -1,10 +1,11 @@
 ghost use Rattle.std.specs.Prelude.{◌≡◌, ℕ, ◌+◌, ◌-◌, ◌*◌, ◌^◌, ◌<◌, ◌≤◌, ◌==◌, map, All, vec_len, vec_capacity};
 ghost use Rattle.std.specs.List.{list_any};
 ghost use Rattle.cfs_model.specs.Charge.{greatest};
-ghost use Rattle.replay_model.specs.Noted.{picked, with_tally};
+ghost use Rattle.replay_model.specs.Noted.{new_tally, picked, with_tally};
 ghost use Rattle.queue_replay.specs.Counting.{ran_tally, picked_tally, IsWithin};
 ghost use Rattle.queue_replay.specs.TaskList.{cost_of};
 
+use crate::room::push_in;
 use cfs_model::{Task, charge, weight};
 use replay_model::Tally;
 
@@ -77,14 +78,18 @@ pub(crate) fn add_tally(tallies: &mut Vec<Tally>, pid: u32)
     if has_tally(tallies.as_slice(), pid) {
         return;
     }
-    let new = Tally {
+    push_in(tallies, new_tally(pid));
+}
+
+/// The tally of one who has done nothing yet.
+pub(crate) fn new_tally(pid: u32) -> Tally
+    ensures { result ≡ new_tally pid }
+{
+    Tally {
         pid,
         ran: 0,
         charged: 0,
         picks: 0,
-    };
-    if tallies.push(new).is_err() {
-        unreachable!();
     }
 }
 

@@ -4,25 +4,22 @@
 mod claim_tests;
 mod counting;
 mod failed_test;
+mod lists;
 mod page;
 mod page_draft;
 mod queue_tests;
 mod replay;
 mod replay_state;
-mod roll;
+mod room;
 mod running;
 mod runqueue;
 mod state;
 mod step_table;
 mod tag;
-mod tallies;
 mod task_list;
-mod tickets;
 
+pub use lists::{LifeEvents, Tallies, Tickets};
 pub use page::Page;
 pub use replay::Replay;
-pub use roll::Roll;
 pub use state::State;
 pub use tag::{Reached, Tag};
-pub use tallies::Tallies;
-pub use tickets::Tickets;

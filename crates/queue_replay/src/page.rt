@@ -3,10 +3,8 @@ ghost use Rattle.replay_model.specs.Page.{IsPageOf};
 ghost use Rattle.queue_replay.specs.Made.{reached_of};
 ghost use Rattle.sched_record.specs.Stream.{stream_view};
 
-use crate::roll::Roll;
+use crate::lists::{LifeEvents, Tallies, Tickets};
 use crate::tag::{Reached, Tag};
-use crate::tallies::Tallies;
-use crate::tickets::Tickets;
 use cfs_model::Knobs;
 use replay_model::{LifeEvent, StepFault, Tally, Ticket};
 use sched_record::Stream;
@@ -21,8 +19,8 @@ pub struct Page {
     pub(crate) fault: Option<StepFault>,
     pub(crate) left: Tickets,
     pub(crate) came: Tickets,
-    pub(crate) births: Roll,
-    pub(crate) deaths: Roll,
+    pub(crate) births: LifeEvents,
+    pub(crate) deaths: LifeEvents,
     pub(crate) tallies: Tallies,
     pub ghost is_page: { ∥ IsPageOf (stream_view stream) knobs made (record { line = line; fault = fault; left = left; came = came; births = births; deaths = deaths; tallies = tallies }) ∥₁ },
 }

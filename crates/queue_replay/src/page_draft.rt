@@ -2,14 +2,15 @@ ghost use Rattle.std.specs.Prelude.{◌≡◌, ℕ, ℤ, ◌+◌, ◌-◌, ◌^�
 ghost use Rattle.cfs_model.specs.Charge.{greatest};
 ghost use Rattle.replay_model.specs.Noted.{births_of, deaths_of, tallied};
 ghost use Rattle.replay_model.specs.declared.step.Deed.TheVariants.{Switch};
-ghost use Rattle.queue_replay.specs.Counting.{HasNoteRoom, if_left, if_came, stretched, IsWithin};
+ghost use Rattle.queue_replay.specs.Counting.{HasDraftRoom, if_left, if_came, stretched, IsWithin};
 ghost use Rattle.queue_replay.specs.TaskList.{cost_of};
 
 use crate::counting::{add_pick, add_stretch, add_tally};
+use crate::room::push_in;
 use cfs_model::{Task, Way};
 use replay_model::{Deed, LifeEvent, Step, StepFault, Tally, Ticket};
 
-/// What a replay has noted of its steps.
+/// What the page of a replay will show, so far.
 #[derive(Drop)]
 pub(crate) struct PageDraft {
     /// The line of the last step that passed, 0 if none did.
@@ -34,16 +35,15 @@ impl PageDraft {
         ensures room { (vec_len self.new.tallies ≡ vec_len self.old.tallies) × (vec_capacity self.new.tallies ≡ vec_capacity self.old.tallies) }
         ensures same { (self.new.line ≡ self.old.line) × (self.new.fault ≡ self.old.fault) × (self.new.left ≡ self.old.left) × (self.new.came ≡ self.old.came) × (self.new.births ≡ self.old.births) × (self.new.deaths ≡ self.old.deaths) }
     {
-        match runner {
-            Some(task) => add_stretch(self.tallies.as_mut_slice(), task, time, steps),
-            None => {}
+        if let Some(task) = runner {
+            add_stretch(self.tallies.as_mut_slice(), task, time, steps);
         }
     }
 
     /// Notes a step that passed, with its ticket if it has one. Takes no memory. Each tally is that of at most so many
     /// steps.
     pub fn note(&mut self, step: &Step, ticket: Option<Ticket>, steps: usize)
-        requires room { HasNoteRoom step.now.deed self.old }
+        requires room { HasDraftRoom step.now.deed self.old }
         requires few { steps < 2 ^ 64 - 1 }
         requires within { All (λ tally. tally.picks ≤ steps) self.old.tallies.items }
         ensures line { self.new.line ≡ step.now.line }
@@ -107,15 +107,5 @@ impl PageDraft {
                 }
             }
         }
-    }
-}
-
-/// Puts an item at the end of a list that has room for it.
-fn push_in<T: Drop>(list: &mut Vec<T>, item: T)
-    requires { vec_len list.old < vec_capacity list.old }
-    ensures { list.new.items ≡ list.old.items ++ item ∷ [] }
-{
-    if list.push(item).is_err() {
-        unreachable!();
     }
 }

@@ -1,11 +1,11 @@
-ghost use Rattle.std.specs.Prelude.{◌≡◌, ◌≢◌, IsTrue, ◌↔◌};
+ghost use Rattle.std.specs.Prelude.{◌≡◌, ◌≢◌, ℕ, IsTrue, ◌↔◌};
 ghost use Rattle.replay_model.specs.Part.{IsIn};
 ghost use Rattle.replay_model.specs.QueueTests.{IsMoveHome, IsSelfSwitch, IsRunner, IsPrevNotRunning, IsStrange, IsAlready, IsMoveRunning, HasOtherNice, HasOtherPrio, IsWrongPrio};
 ghost use Rattle.cfs_model.specs.Start.{task_of};
-ghost use Rattle.cfs_model.specs.declared.task.Place.TheVariants.{Run, Wait};
+ghost use Rattle.queue_replay.specs.declared.runqueue.Runqueue.{Runqueue as Queue};
 ghost use Rattle.queue_replay.specs.Queue.{runqueue_view, IsSubject, IsNext};
 ghost use Rattle.queue_replay.specs.TaskList.{EachOnce};
-ghost use Rattle.queue_replay.specs.Sifting.{Decides};
+ghost use Rattle.queue_replay.specs.FirstTest.{Decides};
 
 use crate::runqueue::Runqueue;
 use crate::task_list::{somebody_runs, task_at};
@@ -41,22 +41,20 @@ pub(crate) fn next_of(queue: &Runqueue, step: &Step) -> Option<Task>
 pub(crate) fn move_home(cpu: u32, step: &Step) -> Option<u32>
     ensures { Decides result (IsMoveHome cpu step.now.deed) }
 {
-    let deed = step.deed;
-    match deed {
-        Deed::Leave { pid, dest, .. } => { if dest == cpu { Some(pid) } else { None } }
-        Deed::Switch { .. } | Deed::Wake { .. } | Deed::Born { .. } | Deed::Arrive { .. } => None,
-    }
+    let Deed::Leave { pid, dest, .. } = step.deed else {
+        return None;
+    };
+    (dest == cpu).then_some(pid)
 }
 
 /// A switch goes from a task to itself.
 pub(crate) fn self_switch(step: &Step) -> Option<u32>
     ensures { Decides result (IsSelfSwitch step.now.deed) }
 {
-    let deed = step.deed;
-    match deed {
-        Deed::Switch { prev, next, .. } => { if prev == next { Some(prev) } else { None } }
-        Deed::Wake { .. } | Deed::Born { .. } | Deed::Leave { .. } | Deed::Arrive { .. } => None,
-    }
+    let Deed::Switch { prev, next, .. } = step.deed else {
+        return None;
+    };
+    (prev == next).then_some(prev)
 }
 
 /// The previous task of a switch isn't what runs here.
@@ -65,16 +63,13 @@ pub(crate) fn prev_not_running(queue: &Runqueue, step: &Step, subject: &Option<T
     requires subject { IsSubject queue.now.tasks.items step.now.deed subject.now }
     ensures { Decides result (IsPrevNotRunning (runqueue_view queue.now) step.now.deed) }
 {
-    let deed = step.deed;
-    match deed {
-        Deed::Switch { prev, .. } => {
-            if is_runner(queue, prev, *subject) {
-                None
-            } else {
-                Some(prev)
-            }
-        }
-        Deed::Wake { .. } | Deed::Born { .. } | Deed::Leave { .. } | Deed::Arrive { .. } => None,
+    let Deed::Switch { prev, .. } = step.deed else {
+        return None;
+    };
+    if is_runner(queue, prev, *subject) {
+        None
+    } else {
+        Some(prev)
     }
 }
 
@@ -111,16 +106,13 @@ pub(crate) fn move_running(queue: &Runqueue, step: &Step, subject: &Option<Task>
     requires { IsSubject queue.now.tasks.items step.now.deed subject.now }
     ensures { Decides result (IsMoveRunning (runqueue_view queue.now) step.now.deed) }
 {
-    let deed = step.deed;
-    match deed {
-        Deed::Leave { pid, .. } => {
-            if runs_here(queue, pid, *subject) {
-                Some(pid)
-            } else {
-                None
-            }
-        }
-        Deed::Switch { .. } | Deed::Wake { .. } | Deed::Born { .. } | Deed::Arrive { .. } => None,
+    let Deed::Leave { pid, .. } = step.deed else {
+        return None;
+    };
+    if stands_in(*subject, Place::Run) {
+        Some(pid)
+    } else {
+        None
     }
 }
 
@@ -144,16 +136,16 @@ pub(crate) fn wrong_prio(
             next_nice,
             ..
         } => {
-            if has_other_prio(queue, prev, prev_nice, *subject) {
+            if has_other_prio(*subject, prev, prev_nice) {
                 Some(prev)
-            } else if has_other_prio(queue, pid, next_nice, *next) {
+            } else if has_other_prio(*next, pid, next_nice) {
                 Some(pid)
             } else {
                 None
             }
         }
         Deed::Wake { pid, nice } | Deed::Leave { pid, nice, .. } => {
-            if has_other_nice(queue, pid, nice, *subject) {
+            if has_other_nice(*subject, nice) {
                 Some(pid)
             } else {
                 None
@@ -164,76 +156,38 @@ pub(crate) fn wrong_prio(
 }
 
 /// The pid is what runs here; pid 0 where nobody does.
-fn is_runner(queue: &Runqueue, pid: u32, row: Option<Task>) -> bool
+fn is_runner(queue: &Runqueue, pid: u32, task: Option<Task>) -> bool
     requires once { EachOnce queue.now.tasks.items }
-    requires row { row ≡ task_of queue.now.tasks.items pid }
+    requires task { task ≡ task_of queue.now.tasks.items pid }
     ensures { IsTrue result ↔ IsRunner (runqueue_view queue.now) pid }
 {
     if pid == 0 {
         !somebody_runs(queue.tasks.as_slice())
     } else {
-        runs_here(queue, pid, row)
+        stands_in(task, Place::Run)
     }
 }
 
-fn runs_here(queue: &Runqueue, pid: u32, row: Option<Task>) -> bool
-    requires { row ≡ task_of queue.now.tasks.items pid }
-    ensures { IsTrue result ↔ IsIn (runqueue_view queue.now) Run pid }
+/// The task stands here, in this place.
+pub(crate) fn stands_in(task: Option<Task>, place: Place) -> bool
+    ensures { (queue : Queue) (pid : ℕ) → task ≡ task_of queue.tasks.items pid → (IsTrue result ↔ IsIn (runqueue_view queue) place pid) }
 {
-    match row {
-        Some(task) => {
-            let place = task.place;
-            match place {
-                Place::Run => true,
-                Place::Wait | Place::Rest => false,
-            }
-        }
-        None => false,
-    }
+    matches!(task, Some(task) if task.place == place)
 }
 
-/// The pid waits here.
-pub(crate) fn waits_here(queue: &Runqueue, pid: u32, row: Option<Task>) -> bool
-    requires { row ≡ task_of queue.now.tasks.items pid }
-    ensures { IsTrue result ↔ IsIn (runqueue_view queue.now) Wait pid }
+/// The task stands here, with another nice value than the printed one.
+fn has_other_nice(task: Option<Task>, nice: Nice) -> bool
+    ensures { (queue : Queue) (pid : ℕ) → task ≡ task_of queue.tasks.items pid → (IsTrue result ↔ HasOtherNice (runqueue_view queue) pid nice) }
 {
-    match row {
-        Some(task) => {
-            let place = task.place;
-            match place {
-                Place::Wait => true,
-                Place::Run | Place::Rest => false,
-            }
-        }
-        None => false,
-    }
-}
-
-/// The pid stands here with another nice value than the printed one.
-fn has_other_nice(queue: &Runqueue, pid: u32, nice: Nice, row: Option<Task>) -> bool
-    requires { row ≡ task_of queue.now.tasks.items pid }
-    ensures { IsTrue result ↔ HasOtherNice (runqueue_view queue.now) pid nice }
-{
-    match row {
-        Some(task) => differ(task.nice, nice),
+    match task {
+        Some(task) => task.nice != nice,
         None => false,
     }
 }
 
 /// The same at a switch, where that of pid 0 isn't looked at.
-fn has_other_prio(queue: &Runqueue, pid: u32, nice: Nice, row: Option<Task>) -> bool
-    requires { row ≡ task_of queue.now.tasks.items pid }
-    ensures { IsTrue result ↔ HasOtherPrio (runqueue_view queue.now) pid nice }
+fn has_other_prio(task: Option<Task>, pid: u32, nice: Nice) -> bool
+    ensures { (queue : Queue) → task ≡ task_of queue.tasks.items pid → (IsTrue result ↔ HasOtherPrio (runqueue_view queue) pid nice) }
 {
-    if pid == 0 {
-        false
-    } else {
-        has_other_nice(queue, pid, nice, row)
-    }
-}
-
-fn differ(nice: Nice, other: Nice) -> bool
-    ensures { IsTrue result ↔ (nice ≢ other) }
-{
-    nice != other
+    pid != 0 && has_other_nice(task, nice)
 }

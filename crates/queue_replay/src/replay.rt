@@ -4,14 +4,12 @@ ghost use Rattle.queue_replay.specs.Counting.{page_draft_view};
 ghost use Rattle.queue_replay.specs.Made.{IsAt, IsCut, GoesOn, state_of};
 ghost use Rattle.sched_record.specs.Stream.{stream_view};
 
+use crate::lists::{LifeEvents, Tallies, Tickets};
 use crate::page::Page;
 use crate::page_draft::PageDraft;
 use crate::replay_state::ReplayState;
-use crate::roll::Roll;
 use crate::running::{run, start};
 use crate::state::State;
-use crate::tallies::Tallies;
-use crate::tickets::Tickets;
 use cfs_model::{Knobs, Memory};
 use sched_record::Stream;
 use std::alloc::Global;
@@ -47,6 +45,7 @@ impl Replay {
         ensures stream { IfOk result (λ r. r.stream ≡ stream_view stream) }
         ensures knobs { IfOk result (λ r. r.knobs ≡ knobs) }
         ensures made { IfOk result (λ r. r.made ≡ 0) }
+        ensures page { IfOk result (λ r. IsPageOf r.stream r.knobs r.made r.page) }
         ensures back { IfErr result (λ e. e.0 ≡ stream) }
     {
         match start(alloc, &stream, knobs) {
@@ -65,6 +64,7 @@ impl Replay {
     pub fn go_on(&mut self, steps: u64) -> Result<State, Memory>
         ensures stream { self.new.stream ≡ self.old.stream }
         ensures knobs { self.new.knobs ≡ self.old.knobs }
+        ensures page { IsPageOf self.new.stream self.new.knobs self.new.made self.new.page }
         ensures state { IfOk result (λ answer. answer ≡ state_of self.new.page.fault self.new.made (length self.new.stream.steps)) }
         ensures made { OnOk result (GoesOn self.old.stream self.old.knobs self.old.made self.old.page steps self.new.made self.new.page) }
         ensures memory { OnErr result (IsCut self.old.stream self.old.knobs self.old.made steps self.new.made self.new.page) }
@@ -90,7 +90,8 @@ impl Replay {
 
     /// The line of the last step that passed, from 1, comments counted; 0 if none did.
     pub fn line(&self) -> u32
-        ensures { result ≡ self.now.page.line }
+        ensures line { result ≡ self.now.page.line }
+        ensures page { IsPageOf self.now.stream self.now.knobs self.now.made self.now.page }
     {
         self.state.draft.line
     }
@@ -126,8 +127,8 @@ impl Replay {
             fault,
             left: Tickets::from_vec(left),
             came: Tickets::from_vec(came),
-            births: Roll::from_vec(births),
-            deaths: Roll::from_vec(deaths),
+            births: LifeEvents::from_vec(births),
+            deaths: LifeEvents::from_vec(deaths),
             tallies: Tallies::from_vec(tallies),
         }
     }

@@ -3,7 +3,7 @@ ghost use Rattle.replay_model.specs.Deeds.{place_of_sort};
 ghost use Rattle.replay_model.specs.Page.{IsSince, deadline_of};
 ghost use Rattle.replay_model.specs.QueueTests.{IsIdleTooLong};
 ghost use Rattle.cfs_model.specs.declared.kind.Kind.TheVariants.{IdleTooLong};
-ghost use Rattle.queue_replay.specs.Counting.{HasNoteRoom, page_draft_view, ticket_by};
+ghost use Rattle.queue_replay.specs.Counting.{HasDraftRoom, page_draft_view, ticket_by};
 ghost use Rattle.queue_replay.specs.Queue.{runqueue_view, HasRoom, IsSubject};
 ghost use Rattle.queue_replay.specs.TaskList.{EachOnce};
 
@@ -28,7 +28,7 @@ impl ReplayState {
     /// Makes the growths that a step can need.
     pub fn make_room(&mut self, step: &Step) -> Result<(), Memory>
         ensures queue { OnOk result (HasRoom step.now.deed self.new.queue) }
-        ensures draft { OnOk result (HasNoteRoom step.now.deed self.new.draft) }
+        ensures draft { OnOk result (HasDraftRoom step.now.deed self.new.draft) }
         ensures made { self.new.made ≡ self.old.made }
         ensures tasks { self.new.queue.tasks.items ≡ self.old.queue.tasks.items }
         ensures floor { self.new.queue.floor ≡ self.old.queue.floor }
@@ -69,15 +69,11 @@ pub(crate) fn idle_deadline(since: Option<u64>, time: u64, slack: u64) -> Option
     ensures fails { result ≢ None → IsIdleTooLong slack since time 0 }
     ensures deadline { result ≢ None → result ≡ deadline_of IdleTooLong slack since }
 {
-    match since {
-        Some(since) => {
-            if time.saturating_sub(since) > slack {
-                Some(since + slack)
-            } else {
-                None
-            }
-        }
-        None => None,
+    let since = since?;
+    if time.saturating_sub(since) > slack {
+        Some(since + slack)
+    } else {
+        None
     }
 }
 
@@ -90,10 +86,7 @@ pub(crate) fn since_after(before: Option<u64>, time: u64, queue: &Runqueue) -> O
         return None;
     }
     if somebody_waits(queue.tasks.as_slice()) {
-        match before {
-            Some(since) => Some(since),
-            None => Some(time),
-        }
+        Some(before.unwrap_or(time))
     } else {
         None
     }
@@ -104,30 +97,28 @@ pub(crate) fn ticket_of(queue: &Runqueue, step: &Step, subject: &Option<Task>) -
     requires { IsSubject queue.now.tasks.items step.now.deed subject.now }
     ensures { result ≡ ticket_by (runqueue_view queue.now) step.now step.now.deed }
 {
-    let row = *subject;
-    let deed = step.deed;
-    match deed {
+    match step.deed {
         Deed::Switch { .. } | Deed::Wake { .. } | Deed::Born { .. } => None,
-        Deed::Leave { pid, .. } => match row {
-            Some(task) => Some(Ticket {
+        Deed::Leave { pid, .. } => {
+            let task = (*subject)?;
+            Some(Ticket {
                 line: step.line,
                 pid,
                 nice: task.nice,
                 place: task.place,
                 offset: i128::from(task.v) - i128::from(queue.floor),
-            }),
-            None => None,
-        },
-        Deed::Arrive { pid, nice, .. } => match step.claim {
-            Some(claim) => Some(Ticket {
+            })
+        }
+        Deed::Arrive { pid, nice, .. } => {
+            let claim = step.claim?;
+            Some(Ticket {
                 line: step.line,
                 pid,
                 nice,
                 place: place_of(claim),
                 offset: i128::from(claim.v) - i128::from(queue.floor),
-            }),
-            None => None,
-        },
+            })
+        }
     }
 }
 

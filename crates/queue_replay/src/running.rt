@@ -6,6 +6,7 @@ ghost use Rattle.queue_replay.specs.ReplayState.{IsGoing, replay_state_view};
 ghost use Rattle.queue_replay.specs.Made.{IsAt, IsCut, GoesOn};
 ghost use Rattle.sched_record.specs.Stream.{stream_view};
 
+use crate::counting::new_tally;
 use crate::page_draft::PageDraft;
 use crate::replay_state::{ReplayState, idle_deadline, since_after};
 use crate::runqueue::Runqueue;
@@ -42,10 +43,7 @@ fn is_going(stream: &Stream, state: &ReplayState) -> bool
     ensures going { result ≡ true → (state.now.draft.fault ≡ None) × (state.now.made < length (stream_view stream.now).steps) }
     ensures over { result ≡ false → IsSome state.now.draft.fault ⊎ (length (stream_view stream.now).steps ≤ state.now.made) }
 {
-    match state.draft.fault {
-        Some(_) => false,
-        None => state.made < stream.steps().len(),
-    }
+    state.draft.fault.is_none() && state.made < stream.steps().len()
 }
 
 /// Makes the next step, and the end test where none is then left.
@@ -83,10 +81,10 @@ fn end_test(stream: &Stream, knobs: Knobs, state: &mut ReplayState)
     }
 }
 
-/// The course before the first step; on a stream without steps, after the end test.
+/// The state before the first step; on a stream without steps, after the end test.
 pub(crate) fn start(alloc: Global, stream: &Stream, knobs: Knobs) -> Result<ReplayState, Memory>
-    ensures at { IfOk result (λ c. IsAt (stream_view stream.now) knobs c) }
-    ensures made { IfOk result (λ c. c.made ≡ 0) }
+    ensures at { IfOk result (λ state. IsAt (stream_view stream.now) knobs state) }
+    ensures made { IfOk result (λ state. state.made ≡ 0) }
 {
     let mut state = before_steps(alloc, stream)?;
     if stream.steps().is_empty() {
@@ -95,10 +93,10 @@ pub(crate) fn start(alloc: Global, stream: &Stream, knobs: Knobs) -> Result<Repl
     Ok(state)
 }
 
-/// The course before the first step.
+/// The state before the first step.
 fn before_steps(alloc: Global, stream: &Stream) -> Result<ReplayState, Memory>
-    ensures made { IfOk result (λ c. c.made ≡ 0) }
-    ensures start { IfOk result (λ c. IsStartOf (stream_view stream.now) (replay_state_view c)) }
+    ensures made { IfOk result (λ state. state.made ≡ 0) }
+    ensures start { IfOk result (λ state. IsStartOf (stream_view stream.now) (replay_state_view state)) }
     ensures going { IfOk result IsGoing }
 {
     let queue = Runqueue {
@@ -124,18 +122,7 @@ fn before_steps(alloc: Global, stream: &Stream) -> Result<ReplayState, Memory>
 
 /// A tally for each task, of one that has done nothing yet.
 fn new_tallies(alloc: Global, tasks: &[Task]) -> Result<Vec<Tally>, Memory>
-    ensures { IfOk result (λ v. v.items ≡ map (λ t. new_tally t.pid) tasks.now) }
+    ensures { IfOk result (λ tallies. tallies.items ≡ map (λ task. new_tally task.pid) tasks.now) }
 {
-    Ok(tasks.iter().map(|t| new_tally(t)).collect(alloc)?)
-}
-
-fn new_tally(task: &Task) -> Tally
-    ensures { result ≡ new_tally task.now.pid }
-{
-    Tally {
-        pid: task.pid,
-        ran: 0,
-        charged: 0,
-        picks: 0,
-    }
+    Ok(tasks.iter().map(|task| new_tally(task.pid)).collect(alloc)?)
 }

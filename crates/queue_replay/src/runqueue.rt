@@ -3,10 +3,11 @@ ghost use Rattle.replay_model.specs.Deeds.{goes, part_after_next, part_after_pre
 ghost use Rattle.replay_model.specs.Part.{IsLiftedPart};
 ghost use Rattle.replay_model.specs.QueueTests.{IsOutOfRange};
 ghost use Rattle.cfs_model.specs.declared.task.Task.{Task as TaskOf};
-ghost use Rattle.queue_replay.specs.TaskList.{CanBeCharged, charged_task, queued_runtimes, IsRaisedBy, moved_to, roused, without, standing, EachOnce};
+ghost use Rattle.queue_replay.specs.TaskList.{CanBeCharged, charged_task, queued_runtimes, IsRaisedBy, moved_to, woken_task, without, entity_of, EachOnce};
 ghost use Rattle.queue_replay.specs.Queue.{runqueue_view};
 
-use crate::task_list::{charge_running, least_queued, put_in, rouse};
+use crate::room::push_in;
+use crate::task_list::{charge_running, least_queued, move_task, wake_task};
 use cfs_model::{Claim, Place, Task, Way};
 
 /// Those who stand at the processor, and what the processor keeps.
@@ -33,7 +34,7 @@ impl Runqueue {
         self.charge(time)
     }
 
-    /// The same, row by row.
+    /// The same, task by task.
     fn charge(&mut self, time: u64) -> Result<(), u32>
         ensures in_range { OnOk result (All (CanBeCharged (time - self.old.mark)) self.old.tasks.items) }
         ensures charged { OnOk result (self.new.tasks.items ≡ map (charged_task (time - self.old.mark)) self.old.tasks.items) }
@@ -51,7 +52,7 @@ impl Runqueue {
     }
 
     /// The previous task of a switch waits, rests or is gone.
-    pub fn take_off(&mut self, prev: u32, way: Way)
+    pub fn put_prev(&mut self, prev: u32, way: Way)
         requires { EachOnce self.old.tasks.items }
         ensures part { runqueue_view self.new ≡ part_after_prev (runqueue_view self.old) prev way }
         ensures once { EachOnce self.new.tasks.items }
@@ -60,14 +61,14 @@ impl Runqueue {
             return;
         }
         match way {
-            Way::Stays => self.put_in(prev, Place::Wait),
-            Way::Sleeps => self.put_in(prev, Place::Rest),
+            Way::Stays => self.move_task(prev, Place::Wait),
+            Way::Sleeps => self.move_task(prev, Place::Rest),
             Way::Ends => self.remove(prev),
         }
     }
 
     /// The next task of a switch runs.
-    pub fn put_on(&mut self, next: u32)
+    pub fn set_next(&mut self, next: u32)
         requires { EachOnce self.old.tasks.items }
         ensures part { runqueue_view self.new ≡ part_after_next (runqueue_view self.old) next }
         ensures once { EachOnce self.new.tasks.items }
@@ -75,16 +76,16 @@ impl Runqueue {
         if next == 0 {
             return;
         }
-        self.put_in(next, Place::Run);
+        self.move_task(next, Place::Run);
     }
 
     /// The task of this pid goes to another place.
-    pub fn put_in(&mut self, pid: u32, place: Place)
+    pub fn move_task(&mut self, pid: u32, place: Place)
         requires { EachOnce self.old.tasks.items }
         ensures part { runqueue_view self.new ≡ goes (runqueue_view self.old) pid place }
         ensures once { EachOnce self.new.tasks.items }
     {
-        self.change_place(pid, place);
+        self.move_in_list(pid, place);
     }
 
     /// The task of this pid stands here no more.
@@ -93,7 +94,7 @@ impl Runqueue {
         ensures part { runqueue_view self.new ≡ with_entity (runqueue_view self.old) pid None }
         ensures once { EachOnce self.new.tasks.items }
     {
-        self.drop_row(pid);
+        self.remove_from_list(pid);
     }
 
     /// The task of this pid waits at the claimed virtual runtime, if it rests.
@@ -102,7 +103,7 @@ impl Runqueue {
         ensures part { runqueue_view self.new ≡ wakes (runqueue_view self.old) pid (Some claim) }
         ensures once { EachOnce self.new.tasks.items }
     {
-        self.rouse_row(pid, claim);
+        self.wake_in_list(pid, claim);
     }
 
     /// One more task stands here. Takes no memory.
@@ -110,23 +111,21 @@ impl Runqueue {
         requires once { EachOnce self.old.tasks.items }
         requires room { vec_len self.old.tasks < vec_capacity self.old.tasks }
         requires apart { (runqueue_view self.old).tasks task.pid ≡ None }
-        ensures part { runqueue_view self.new ≡ with_entity (runqueue_view self.old) task.pid (Some (standing task)) }
+        ensures part { runqueue_view self.new ≡ with_entity (runqueue_view self.old) task.pid (Some (entity_of task)) }
         ensures once { EachOnce self.new.tasks.items }
     {
-        if self.tasks.push(task).is_err() {
-            unreachable!();
-        }
+        push_in(&mut self.tasks, task);
     }
 
-    fn change_place(&mut self, pid: u32, place: Place)
+    fn move_in_list(&mut self, pid: u32, place: Place)
         ensures tasks { self.new.tasks.items ≡ map (moved_to pid place) self.old.tasks.items }
         ensures floor { self.new.floor ≡ self.old.floor }
         ensures mark { self.new.mark ≡ self.old.mark }
     {
-        put_in(self.tasks.as_mut_slice(), pid, place);
+        move_task(self.tasks.as_mut_slice(), pid, place);
     }
 
-    fn drop_row(&mut self, pid: u32)
+    fn remove_from_list(&mut self, pid: u32)
         ensures tasks { self.new.tasks.items ≡ without pid self.old.tasks.items }
         ensures floor { self.new.floor ≡ self.old.floor }
         ensures mark { self.new.mark ≡ self.old.mark }
@@ -134,11 +133,11 @@ impl Runqueue {
         self.tasks.retain(|t| t.pid != pid);
     }
 
-    fn rouse_row(&mut self, pid: u32, claim: Claim)
-        ensures tasks { self.new.tasks.items ≡ map (roused pid claim.v) self.old.tasks.items }
+    fn wake_in_list(&mut self, pid: u32, claim: Claim)
+        ensures tasks { self.new.tasks.items ≡ map (woken_task pid claim.v) self.old.tasks.items }
         ensures floor { self.new.floor ≡ self.old.floor }
         ensures mark { self.new.mark ≡ self.old.mark }
     {
-        rouse(self.tasks.as_mut_slice(), pid, claim);
+        wake_task(self.tasks.as_mut_slice(), pid, claim);
     }
 }

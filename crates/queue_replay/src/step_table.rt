@@ -5,11 +5,11 @@ ghost use Rattle.replay_model.specs.Page.{FailsTest};
 ghost use Rattle.replay_model.specs.QueueTests.{IsIdleTooLong, IsPrevNotRunning, IsAlready};
 ghost use Rattle.replay_model.specs.Tests.{late_tests};
 ghost use Rattle.cfs_model.specs.declared.kind.Kind.TheVariants.{IdleTooLong};
-ghost use Rattle.queue_replay.specs.Counting.{HasNoteRoom, page_draft_view, with_note};
+ghost use Rattle.queue_replay.specs.Counting.{HasDraftRoom, page_draft_view, faulted_page};
 ghost use Rattle.queue_replay.specs.ReplayState.{IsGoing, IsPassed, IsStepped, replay_state_view};
 ghost use Rattle.queue_replay.specs.Queue.{runqueue_view, HasRoom, IsSubject, IsNext};
-ghost use Rattle.queue_replay.specs.TaskList.{EachOnce, standing};
-ghost use Rattle.queue_replay.specs.Sifting.{Sifts, pick_tests, claim_tests, IsFirst, IsCleared};
+ghost use Rattle.queue_replay.specs.TaskList.{EachOnce, entity_of};
+ghost use Rattle.queue_replay.specs.FirstTest.{FindsFirst, pick_tests, claim_tests, IsFirst, IsCleared};
 
 use crate::claim_tests::{
     claim_extra, claim_missing, claim_pid, fork_outside, idle_beside_waiting, next_not_waiting,
@@ -53,10 +53,10 @@ macro_rules! lift {
 // A move of a task between places: waiting, running, resting and none.
 macro_rules! moves {
     ($queue:ident: $pid:ident leaves by $way:ident) => {
-        $queue.take_off($pid, $way)
+        $queue.put_prev($pid, $way)
     };
     ($queue:ident: $pid:ident runs) => {
-        $queue.put_on($pid)
+        $queue.set_next($pid)
     };
     ($queue:ident: $pid:ident wakes at $claim:ident) => {
         $queue.wake($pid, $claim)
@@ -84,7 +84,7 @@ fn first_queue_test(
     ensures later { IfSome result (λ failed. failed.kind ≢ IdleTooLong) }
     ensures runner { result ≡ None → (pid : ℕ) → IsPrevNotRunning (runqueue_view queue.now) step.now.deed pid → ⊥ }
     ensures apart { result ≡ None → (pid : ℕ) → IsAlready (runqueue_view queue.now) step.now.deed pid → ⊥ }
-    ensures first { Sifts result (claim_tests knobs (runqueue_view queue.now) step.now) (late_tests knobs cpu (runqueue_view queue.now) step.now) }
+    ensures first { FindsFirst result (claim_tests knobs (runqueue_view queue.now) step.now) (late_tests knobs cpu (runqueue_view queue.now) step.now) }
 {
     guard!(
         MoveHome: move_home(cpu, step),
@@ -110,7 +110,7 @@ fn first_claim_test(
     requires next { IsNext queue.now.tasks.items step.now.deed next.now }
     ensures later { IfSome result (λ failed. failed.kind ≢ IdleTooLong) }
     ensures claimed { result ≡ None → (pid : ℕ) → IsClaimMissing (runqueue_view queue.now) step.now.deed step.now.claim pid → ⊥ }
-    ensures first { Sifts result (pick_tests knobs (runqueue_view queue.now) step.now) (claim_tests knobs (runqueue_view queue.now) step.now) }
+    ensures first { FindsFirst result (pick_tests knobs (runqueue_view queue.now) step.now) (claim_tests knobs (runqueue_view queue.now) step.now) }
 {
     guard!(
         ClaimMissing: claim_missing(queue, step, subject),
@@ -167,14 +167,14 @@ fn make(
         }
         Deed::Born { pid, nice } => {
             match claim {
-                Some(claim) => queue.add(standing_at(Place::Wait, pid, nice, cpu, claim)),
+                Some(claim) => queue.add(claimed_task(Place::Wait, pid, nice, cpu, claim)),
                 None => unreachable!(),
             }
             None
         }
         Deed::Arrive { pid, nice, .. } => {
             match claim {
-                Some(claim) => queue.add(standing_at(place_of(claim), pid, nice, cpu, claim)),
+                Some(claim) => queue.add(claimed_task(place_of(claim), pid, nice, cpu, claim)),
                 None => unreachable!(),
             }
             None
@@ -187,9 +187,9 @@ fn make(
 }
 
 /// A task at the claimed virtual runtime.
-fn standing_at(place: Place, pid: u32, nice: Nice, cpu: u32, claim: Claim) -> Task
+fn claimed_task(place: Place, pid: u32, nice: Nice, cpu: u32, claim: Claim) -> Task
     ensures pid { result.pid ≡ pid }
-    ensures standing { standing result ≡ record { place = place; nice = nice; runtime = claim.v } }
+    ensures entity { entity_of result ≡ record { place = place; nice = nice; runtime = claim.v } }
 {
     Task {
         pid,
@@ -219,7 +219,7 @@ impl ReplayState {
         requires going { IsGoing self.old }
         requires few { self.old.made < 2 ^ 64 - 1 }
         requires queue { HasRoom step.now.deed self.old.queue }
-        requires draft { HasNoteRoom step.now.deed self.old.draft }
+        requires draft { HasDraftRoom step.now.deed self.old.draft }
         ensures made { self.new.made ≡ self.old.made + 1 }
         ensures stepped { IsStepped knobs cpu (replay_state_view self.old) step.now self.new }
     {
@@ -242,7 +242,7 @@ impl ReplayState {
     fn fail(&mut self, line: u32, failed: FailedTest, deadline: Option<u64>)
         requires { self.old.made < 2 ^ 64 - 1 }
         ensures made { self.new.made ≡ self.old.made + 1 }
-        ensures noted { page_draft_view self.new.draft ≡ with_note (page_draft_view self.old.draft) (record { line = line; kind = failed.kind; pid = failed.pid; deadline = deadline }) }
+        ensures noted { page_draft_view self.new.draft ≡ faulted_page (page_draft_view self.old.draft) (record { line = line; kind = failed.kind; pid = failed.pid; deadline = deadline }) }
     {
         self.draft.fault = Some(StepFault {
             line,
@@ -258,7 +258,7 @@ impl ReplayState {
         requires going { IsGoing self.old }
         requires few { self.old.made < 2 ^ 64 - 1 }
         requires queue { HasRoom step.now.deed self.old.queue }
-        requires draft { HasNoteRoom step.now.deed self.old.draft }
+        requires draft { HasDraftRoom step.now.deed self.old.draft }
         requires in_time { (pid : ℕ) → IsIdleTooLong knobs.slack self.old.since step.now.time pid → ⊥ }
         ensures made { self.new.made ≡ self.old.made }
         ensures passes { result ≡ None → IsPassed knobs cpu self.old step.now self.new }

@@ -4,7 +4,7 @@ ghost use Rattle.std.specs.List.{list_any, find};
 ghost use Rattle.cfs_model.specs.Start.{place_eq, task_of};
 ghost use Rattle.cfs_model.specs.declared.task.Place.TheVariants.{Run};
 ghost use Rattle.cfs_model.specs.declared.task.Task.{Task as TaskOf};
-ghost use Rattle.queue_replay.specs.TaskList.{waits, runs, is_queued, queued_runtimes, IsLeastOf, CanBeCharged, charged_task, moved_to, roused, IsBelow};
+ghost use Rattle.queue_replay.specs.TaskList.{waits, runs, is_queued, queued_runtimes, IsLeastOf, CanBeCharged, charged_task, moved_to, woken_task, IsBelow};
 
 use cfs_model::{Claim, Place, Task, charge, weight};
 
@@ -28,11 +28,7 @@ pub(crate) fn runner_of(tasks: &[Task]) -> Option<Task>
 fn is_running(task: &Task) -> bool
     ensures { result ≡ runs task.now }
 {
-    let place = task.place;
-    match place {
-        Place::Run => true,
-        Place::Wait | Place::Rest => false,
-    }
+    matches!(task.place, Place::Run)
 }
 
 pub(crate) fn somebody_runs(tasks: &[Task]) -> bool
@@ -65,10 +61,7 @@ pub(crate) fn least_queued(tasks: &[Task]) -> Option<i64>
 fn is_queued(task: Task) -> bool
     ensures { result ≡ is_queued task }
 {
-    match task.place {
-        Place::Run | Place::Wait => true,
-        Place::Rest => false,
-    }
+    matches!(task.place, Place::Run | Place::Wait)
 }
 
 // Without a branch, since who is queued can't be foreseen.
@@ -129,17 +122,17 @@ pub(crate) fn charge_running(tasks: &mut [Task], delta: u64) -> Result<(), u32>
 }
 
 /// Puts the task of this pid into another place.
-pub(crate) fn put_in(tasks: &mut [Task], pid: u32, place: Place)
+pub(crate) fn move_task(tasks: &mut [Task], pid: u32, place: Place)
     ensures { tasks.new ≡ map (moved_to pid place) tasks.old }
 {
     for task in tasks.iter_mut() {
-        go_to(task, pid, place);
+        move_if_named(task, pid, place);
     }
 }
 
 /// Puts the task into another place, if it is of this pid.
 #[inline(always)]
-fn go_to(task: &mut Task, pid: u32, place: Place)
+fn move_if_named(task: &mut Task, pid: u32, place: Place)
     ensures { task.new ≡ moved_to pid place task.old }
 {
     if task.pid == pid {
@@ -148,18 +141,18 @@ fn go_to(task: &mut Task, pid: u32, place: Place)
 }
 
 /// Lets the task of this pid wait at the claimed virtual runtime, if it rests.
-pub(crate) fn rouse(tasks: &mut [Task], pid: u32, claim: Claim)
-    ensures { tasks.new ≡ map (roused pid claim.v) tasks.old }
+pub(crate) fn wake_task(tasks: &mut [Task], pid: u32, claim: Claim)
+    ensures { tasks.new ≡ map (woken_task pid claim.v) tasks.old }
 {
     for task in tasks.iter_mut() {
-        get_up(task, pid, claim);
+        wake_if_named(task, pid, claim);
     }
 }
 
 /// Lets the task wait at the claimed virtual runtime, if it is of this pid and rests.
 #[inline(always)]
-fn get_up(task: &mut Task, pid: u32, claim: Claim)
-    ensures { task.new ≡ roused pid claim.v task.old }
+fn wake_if_named(task: &mut Task, pid: u32, claim: Claim)
+    ensures { task.new ≡ woken_task pid claim.v task.old }
 {
     if task.pid == pid && matches!(task.place, Place::Rest) {
         task.place = Place::Wait;
@@ -191,9 +184,5 @@ fn is_lower(other: Task, task: Task, granularity: u64) -> bool
 fn waits(task: &Task) -> bool
     ensures { result ≡ waits task.now }
 {
-    let place = task.place;
-    match place {
-        Place::Wait => true,
-        Place::Run | Place::Rest => false,
-    }
+    matches!(task.place, Place::Wait)
 }

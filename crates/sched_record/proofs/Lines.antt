@@ -10,7 +10,7 @@ use Rattle.cfs_model.specs.declared.act.Entry.{Entry}
 use Rattle.sched_record.specs.declared.cause.TraceCause.{TraceCause}
 use Rattle.sched_record.specs.declared.cause.TraceCause.TheVariants.{TooManyLines, Line, LostEvents, Event, TimeBack}
 use Rattle.sched_record.specs.Said.{LineSays}
-use Rattle.sched_record.specs.Progress.{AreRead, IsLastTime}
+use Rattle.sched_record.specs.ReadLines.{AreRead, IsLastTime}
 use Rattle.sched_record.specs.Trace.{AreEventsOf, IsTimeBack, IsBadAfter, IsFirstBadTraceLine}
 
 enumerate_push : {X : Type 0} (n : ℕ) (xs : List X) (x : X)

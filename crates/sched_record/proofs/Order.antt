@@ -4,7 +4,7 @@ use Rattle.std.proofs.lemmas.List.Elements.{All-nil, All-push, All-weaker}
 use Rattle.std.proofs.lemmas.List.Quantifiers.{all_pairs_push}
 use Rattle.cfs_model.specs.declared.act.Entry.{Entry}
 use Rattle.sched_record.specs.Kept.{IsNamed}
-use Rattle.sched_record.specs.Progress.{AreKept}
+use Rattle.sched_record.specs.ReadLines.{AreKept}
 use Rattle.sched_record.specs.Said.{LineSays}
 use Rattle.sched_record.proofs.Named.{says_named}
 

@@ -6,5 +6,5 @@ pub mod Same
 pub mod Share
 pub mod Stream
 pub mod Trace
-pub mod Progress
+pub mod ReadLines
 pub mod Reader

@@ -1,7 +1,7 @@
 -- A trace that is read some lines at a time (this project's profile: what is read in parts means what the whole means).
 use Rattle.std.specs.Prelude.{◌≡◌, ℕ, List, ◌++◌, MatchOption}
 use Rattle.sched_record.specs.declared.trace_reader.TraceReader.{TraceReader}
-use Rattle.sched_record.specs.Progress.{AreRead}
+use Rattle.sched_record.specs.ReadLines.{AreRead}
 use Rattle.sched_record.specs.Trace.{IsFirstBadTraceLine}
 
 -- a reader has read these lines: it keeps their events, or the first bad one and why it is bad

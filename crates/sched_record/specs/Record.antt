@@ -9,13 +9,13 @@ use Rattle.sched_record.specs.declared.joining.JoinFault.{JoinFault}
 use Rattle.sched_record.specs.declared.record.Record.{Record}
 use Rattle.sched_record.specs.declared.trace.Trace.{Trace}
 use Rattle.sched_record.specs.Join.{joined_record}
-use Rattle.sched_record.specs.Trace.{events_of}
+use Rattle.sched_record.specs.Trace.{trace_view}
 pub use Rattle.sched_record.specs.Join.{RecordAnswer}
 pub use Rattle.sched_record.specs.Kept.{RecordView, IsRecordInOrder}
 
 -- the record, without where it lies in memory
 abbrev pub record_view : Record → RecordView
-record_view r = joined_record (events_of r.trace) (companion_view r.companion)
+record_view r = joined_record (trace_view r.trace) (companion_view r.companion)
 
 -- the answer of a joining: the record, or the line and the cause of a refusal
 abbrev pub join_answer_view : Result Record (Trace × Companion × JoinFault) → Result RecordView (ℕ × JoinCause)

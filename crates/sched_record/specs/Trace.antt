@@ -57,11 +57,11 @@ abbrev pub TraceAnswer : List ℕ → Result (List Entry) (ℕ × TraceCause) �
 TraceAnswer text = LinesAnswer (lines_of text)
 
 -- the events of a trace that was read
-abbrev pub events_of : Trace → List Entry
-events_of trace = trace.events
+abbrev pub trace_view : Trace → List Entry
+trace_view trace = trace.events
 
 -- what a reading says of the trace meets the fact; want of memory says nothing of it
 abbrev pub Tells : Result Trace TraceFault → (Result (List Entry) (ℕ × TraceCause) → Type 0) → Type 0
-Tells (Ok trace) Fact = Fact (Ok (events_of trace))
+Tells (Ok trace) Fact = Fact (Ok (trace_view trace))
 Tells (Err (Text line cause)) Fact = Fact (Err (line, cause))
 Tells (Err Memory) Fact = Unit {0}

@@ -5,8 +5,9 @@ ghost use Rattle.replay_model.specs.Cut.{claim_for, deed_at as deed_here, steps_
 ghost use Rattle.cfs_model.specs.Touch.{touched};
 ghost use Rattle.cfs_model.specs.declared.claim.Claim.{Claim};
 
+use crate::lists::Steps;
+use crate::on_line::place_from;
 use crate::record::Record;
-use crate::steps::Steps;
 use crate::stream::Stream;
 use cfs_model::{Act, Claim, Entry, Memory, Task};
 use companion_file::Tasks;
@@ -55,7 +56,7 @@ fn tasks_of(alloc: Global, tasks: &[Task], cpu: u32) -> Result<Tasks, Memory>
             here.push(*task)?;
         }
     }
-    Ok(Tasks::new(here))
+    Ok(Tasks::from_vec(here))
 }
 
 /// The steps of the events that touch a processor. Events and claims are walked side by side.
@@ -67,7 +68,7 @@ fn steps_of(alloc: Global, events: &[Entry], claims: &[Claim], cpu: u32) -> Resu
     let mut steps = Vec::new(alloc);
     let mut place = 0;
     for event in events {
-        place = claim_from(claims, place, event.line);
+        place = place_from(claims, place, event.line);
         if touches(event.act, cpu) {
             let deed = deed_at(event.act, cpu);
             let claim = claim_for(&deed, claim_on(claims, place, event.line));
@@ -155,18 +156,4 @@ fn claim_on(claims: &[Claim], place: usize, line: u32) -> Option<Claim>
     } else {
         None
     }
-}
-
-/// The place of the first claim, from a place on, that stands on this line or below it.
-fn claim_from(claims: &[Claim], from: usize, line: u32) -> usize
-    requires { from ≤ length claims.now }
-    ensures within { (from ≤ result) × (result ≤ length claims.now) }
-    ensures below { (k : ℕ) (d : Claim) → from ≤ k → k < result → (slice_index_or claims.now k d).line < line }
-    ensures reached { (d : Claim) → result < length claims.now → line ≤ (slice_index_or claims.now result d).line }
-{
-    let mut place = from;
-    while place < claims.len() && claims[place].line < line {
-        place += 1;
-    }
-    place
 }

@@ -1,14 +1,14 @@
-ghost use Rattle.std.specs.Prelude.{◌≡◌, ◌↔◌, ℕ, ◌<◌, ◌≤◌, Result, length, All, Any, IfErr, IfNone, IfSome, IsTrue, slice_index_or};
+ghost use Rattle.std.specs.Prelude.{◌≡◌, ◌↔◌, ℕ, ◌<◌, ◌≤◌, Result, All, Any, IfErr, IfNone, IfSome, IsTrue};
 ghost use Rattle.std.specs.Bool.{OnFalse, OnTrue};
 ghost use Rattle.std.specs.List.{AllPairs};
 ghost use Rattle.cfs_model.specs.Touch.{touched};
-ghost use Rattle.cfs_model.specs.declared.act.Entry.{Entry};
 ghost use Rattle.companion_file.specs.Companion.{companion_view};
 ghost use Rattle.sched_record.specs.Join.{BeginsInTime, GoTogether, IsBeforeStart, IsFirstOutside, IsFirstStray, Refuses};
 ghost use Rattle.sched_record.specs.Kept.{AreInOrder, IsInside, is_event_line};
 ghost use Rattle.sched_record.specs.Record.{RecordAnswer, RecordView, join_answer_view};
-ghost use Rattle.sched_record.specs.Trace.{events_of};
+ghost use Rattle.sched_record.specs.Trace.{trace_view};
 
+use crate::on_line::place_from;
 use crate::record::Record;
 use crate::trace::Trace;
 use cfs_model::{Act, Claim, Entry};
@@ -36,17 +36,17 @@ pub struct JoinFault {
 /// The record of a trace and its companion. A refusal hands both back as they were.
 pub fn join(trace: Trace, companion: Companion) -> Result<Record, (Trace, Companion, JoinFault)>
     // What is answered is what joining them gives.
-    ensures answered { RecordAnswer (events_of trace) (companion_view companion) (join_answer_view result) }
+    ensures answered { RecordAnswer (trace_view trace) (companion_view companion) (join_answer_view result) }
     // What joining them gives is answered.
     ensures only { (answer : Result RecordView (ℕ × JoinCause)) →
-        RecordAnswer (events_of trace) (companion_view companion) answer → join_answer_view result ≡ answer }
+        RecordAnswer (trace_view trace) (companion_view companion) answer → join_answer_view result ≡ answer }
     // Each refusal, with its line, exactly where it is due.
     ensures cpu_outside { (line : ℕ) → (join_answer_view result ≡ Err (line, JoinCause.CpuOutside))
-        ↔ Refuses (events_of trace) (companion_view companion) line JoinCause.CpuOutside }
+        ↔ Refuses (trace_view trace) (companion_view companion) line JoinCause.CpuOutside }
     ensures start_late { (line : ℕ) → (join_answer_view result ≡ Err (line, JoinCause.StartLate))
-        ↔ Refuses (events_of trace) (companion_view companion) line JoinCause.StartLate }
+        ↔ Refuses (trace_view trace) (companion_view companion) line JoinCause.StartLate }
     ensures claim_no_event { (line : ℕ) → (join_answer_view result ≡ Err (line, JoinCause.ClaimNoEvent))
-        ↔ Refuses (events_of trace) (companion_view companion) line JoinCause.ClaimNoEvent }
+        ↔ Refuses (trace_view trace) (companion_view companion) line JoinCause.ClaimNoEvent }
     // A refusal gives both back.
     ensures back { IfErr result (λ back. (back.0 ≡ trace) × (back.1 ≡ companion)) }
 {
@@ -55,7 +55,7 @@ pub fn join(trace: Trace, companion: Companion) -> Result<Record, (Trace, Compan
 
 /// The record, or the first reason to refuse.
 fn record_of(trace: Trace, companion: Companion) -> Result<Record, (Trace, Companion, JoinFault)>
-    ensures answered { RecordAnswer (events_of trace) (companion_view companion) (join_answer_view result) }
+    ensures answered { RecordAnswer (trace_view trace) (companion_view companion) (join_answer_view result) }
     ensures back { IfErr result (λ back. (back.0 ≡ trace) × (back.1 ≡ companion)) }
 {
     match refusal_of(trace.events(), &companion) {
@@ -140,18 +140,4 @@ fn stray_line(events: &[Entry], claims: &[Claim]) -> Option<u32>
         }
     }
     None
-}
-
-/// The place of the first event, from a place on, whose line isn't above this one's front.
-fn place_from(events: &[Entry], from: usize, line: u32) -> usize
-    requires { from ≤ length events.now }
-    ensures within { (from ≤ result) × (result ≤ length events.now) }
-    ensures below { (k : ℕ) (d : Entry) → from ≤ k → k < result → (slice_index_or events.now k d).line < line }
-    ensures reached { (d : Entry) → result < length events.now → line ≤ (slice_index_or events.now result d).line }
-{
-    let mut place = from;
-    while place < events.len() && events[place].line < line {
-        place += 1;
-    }
-    place
 }

@@ -19,11 +19,11 @@ pub struct Record {
 impl Record {
     ghost use Rattle.sched_record.specs.Join.{GoTogether};
     ghost use Rattle.sched_record.specs.Record.{record_view, record_last_time, record_last_line};
-    ghost use Rattle.sched_record.specs.Trace.{events_of};
+    ghost use Rattle.sched_record.specs.Trace.{trace_view};
 
     pub(crate) fn new(trace: Trace, companion: Companion) -> Record
-        requires { GoTogether (events_of trace) (companion_view companion) }
-        ensures { record_view result ≡ joined_record (events_of trace) (companion_view companion) }
+        requires { GoTogether (trace_view trace) (companion_view companion) }
+        ensures { record_view result ≡ joined_record (trace_view trace) (companion_view companion) }
     {
         Record { trace, companion }
     }

@@ -1,7 +1,7 @@
 ghost use Rattle.std.specs.Prelude.{◌≡◌};
 ghost use Rattle.sched_record.specs.Share.{IsShare};
 
-use crate::steps::Steps;
+use crate::lists::Steps;
 use cfs_model::Task;
 use companion_file::Tasks;
 use replay_model::Step;

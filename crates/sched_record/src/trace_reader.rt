@@ -1,10 +1,10 @@
 ghost use Rattle.std.specs.Prelude.{◌≤◌};
-ghost use Rattle.sched_record.specs.Progress.{AreKept};
+ghost use Rattle.sched_record.specs.ReadLines.{AreKept};
 ghost use Rattle.sched_record.specs.Said.{last_number};
 
 use crate::cause::{TraceCause, TraceFault};
 use crate::entry::line_entry;
-use crate::events::Events;
+use crate::lists::Events;
 use crate::trace::Trace;
 use cfs_model::{Entry, Memory};
 use std::alloc::Global;

@@ -1,4 +1,4 @@
-use Rattle.std.proofs.Common.{◌∙◌, sym, ap, inl, inr, refl, Some, unwrap_or}
+use Rattle.std.proofs.Common.{◌∙◌, sym, ap, inl, inr, refl, Some}
 use Rattle.std.specs.List.{list_any}
 use Rattle.queue_replay.specs.TaskList.{runs, waits}
 use Rattle.queue_replay.proofs.Answered.{idles, busy, unwaited}
@@ -13,24 +13,14 @@ returns-then-somebody_runs c =
       refl,
     )
 
-pub returns-in-Some : goal.returns-in-Some
-returns-in-Some c =
+pub returns-then-somebody_waits : goal.returns-then-somebody_waits
+returns-then-somebody_waits c =
     let q = c.args.queue.now in
     inl (
       idles q.tasks.items q.floor q.mark c.requires
           (sym (c.somebody_runs.ensures ∙ ap (list_any runs) c.as_slice.ensures.value) ∙ c.if-somebody_runs.false)
           (sym (c.somebody_waits.ensures ∙ ap (list_any waits) c.as_slice-2.ensures.value) ∙ c.if-somebody_waits.true),
-      ap (λ o. Some (unwrap_or o c.args.time)) (sym c.in-Some.is),
-    )
-
-pub returns-in-None : goal.returns-in-None
-returns-in-None c =
-    let q = c.args.queue.now in
-    inl (
-      idles q.tasks.items q.floor q.mark c.requires
-          (sym (c.somebody_runs.ensures ∙ ap (list_any runs) c.as_slice.ensures.value) ∙ c.if-somebody_runs.false)
-          (sym (c.somebody_waits.ensures ∙ ap (list_any waits) c.as_slice-2.ensures.value) ∙ c.if-somebody_waits.true),
-      ap (λ o. Some (unwrap_or o c.args.time)) (sym c.in-None.is),
+      ap Some c.unwrap_or.ensures,
     )
 
 pub returns-else-somebody_waits : goal.returns-else-somebody_waits

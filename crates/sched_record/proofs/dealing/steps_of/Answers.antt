@@ -21,10 +21,10 @@ loop-event-preserved c =
     let event = c.event-item.result in
     let Dealt : List Step → Type 0 = λ steps. steps ≡ steps_at c.args.cpu (claimed c.args.claims.now (take (i + 1) c.args.events.now)) in
     record {
-      within = c.claim_from-place.ensures.within.1;
+      within = c.place_from-place.ensures.within.1;
       passed =
           passed_more line_of_claim line_of_event _ _ c.loop-event.place _ i event.line event c.requires.events_rise (ap line_of_event c.event-item.is) c.loop-event-test.true
-          c.loop-event.invariant.passed c.claim_from-place.ensures.below;
+          c.loop-event.invariant.passed c.place_from-place.ensures.below;
       dealt =
           elim c.if-touches.branch [
             | then-touches+in_ok-push w ↦

@@ -4,9 +4,9 @@ use Rattle.companion_file.specs.Draft.{KeepsOrder}
 use Rattle.companion_file.proofs.Finishing.{in_order}
 use Rattle.companion_file.proofs.draft.Draft.finish.Goals as goal
 
-pub new-requires-4 : goal.new-requires-4
-new-requires-4 c =
+pub new-requires : goal.new-requires
+new-requires c =
     let said : Said = record { begun = c.self.inside.begun; cpus = c.self.inside.cpus; start = c.self.inside.start; floors = c.self.inside.floors.items; tasks = c.self.inside.tasks.items; claims = c.self.inside.claims.items } in
     let order : KeepsOrder said = subst KeepsOrder (sym c.self.view_is) c.requires in
     let whole : has_all_floors said ≡ true = subst (λ (s : Said). has_all_floors s ≡ true) (sym c.self.view_is) (sym c.has_all_floors.ensures ∙ c.if-not-has_all_floors.false) in
-    rw (c.new.ensures, c.new-2.ensures, c.new-3.ensures) (in_order said c.in_ok-cpus.field-0 c.in_ok-start.field-0 order c.in_ok-cpus.was c.in_ok-start.was whole)
+    rw (c.from_vec.ensures, c.from_vec-2.ensures, c.from_vec-3.ensures) (in_order said c.in_ok-cpus.field-0 c.in_ok-start.field-0 order c.in_ok-cpus.was c.in_ok-start.was whole)

@@ -18,14 +18,14 @@ returns c =
     record {
       in_range = on_ok r (none_above tasks old.floor old.mark c.args.time c.requires) e.in_range;
       lifted = on_ok3 r
-          (λ rows mark floor.
+          (λ charged mark floor.
           let P : List Task → ℕ → Type 0 = λ items m. IsLiftedPart c.args.time (runqueue_view old) (start_part items new.floor m) in
           let Q : List Task → Type 0 = λ items. IsRaisedBy (queued_runtimes items) old.floor new.floor in
           subst (λ m. P new.tasks.items m) (sym mark)
-          (subst (λ items. P items c.args.time) (sym rows)
-          (lifted tasks old.floor old.mark c.args.time c.requires new.floor (subst Q rows floor))))
+          (subst (λ items. P items c.args.time) (sym charged)
+          (lifted tasks old.floor old.mark c.args.time c.requires new.floor (subst Q charged floor))))
           e.charged e.mark e.floor;
-      once = on_ok r (λ rows. subst EachOnce (sym rows) (charged_once tasks old.floor old.mark c.args.time c.requires)) e.charged;
+      once = on_ok r (λ charged. subst EachOnce (sym charged) (charged_once tasks old.floor old.mark c.args.time c.requires)) e.charged;
       room = e.room;
       above = if_err _ (IsOutOfRange (runqueue_view old) c.args.time) r
           (λ pid h. above tasks old.floor old.mark c.args.time c.requires pid h.0 h.1 h.2 h.3) e.above;

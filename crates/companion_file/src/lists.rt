@@ -1,0 +1,11 @@
+use cfs_model::{Claim, Task};
+use plain_list::PlainList;
+
+/// Claims of virtual runtimes at lines of the trace.
+pub type Claims = PlainList<Claim>;
+
+/// The tasks of a start state.
+pub type Tasks = PlainList<Task>;
+
+/// The floor of each processor, from processor 0 on, in virtual nanoseconds, signed.
+pub type Floors = PlainList<i64>;

@@ -1,2 +1,4 @@
+pub mod Book
+pub mod BookView
 pub mod Verdict
 pub mod Whole

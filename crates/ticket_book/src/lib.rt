@@ -3,9 +3,11 @@
 
 mod book;
 mod closed;
+mod cursor;
 mod post_fault;
 mod summary;
 mod verdict;
+mod walking;
 
 pub use book::{Book, NO_FAULT};
 pub use closed::Closed;

@@ -1,3 +1,4 @@
+pub mod Beside
 pub mod Pairs
 pub mod Shares
 pub mod Dealt

@@ -69,13 +69,13 @@ deed_decides (Arrive pid nice orig) (Arrive pid' nice' orig') =
     (Decides-and _ _ (Decides-eqb pid pid') (Decides-and _ _ (Decides-int_eq nice nice') (Decides-eqb orig orig')))
 deed_decides a b = (λ h. cc, λ h. cc)
 
-task_decides : (a b : Task) → Decides ((task_eq.ghosts).eq a b) (a ≡ b)
+pub task_decides : (a b : Task) → Decides ((task_eq.ghosts).eq a b) (a ≡ b)
 task_decides a b =
     Decides-like _ (λ h i. record { pid = h.0 i; nice = h.1.0 i; cpu = h.1.1.0 i; place = h.1.1.1.0 i; v = h.1.1.1.1 i }) (λ e. (cc, (cc, (cc, (cc, cc)))))
     (Decides-and _ _ (Decides-eqb a.pid b.pid) (Decides-and _ _ (Decides-int_eq a.nice b.nice)
     (Decides-and _ _ (Decides-eqb a.cpu b.cpu) (Decides-and _ _ (place_decides a.place b.place) (Decides-int_eq a.v b.v)))))
 
-step_decides : (a b : Step) → Decides ((step_eq.ghosts).eq a b) (a ≡ b)
+pub step_decides : (a b : Step) → Decides ((step_eq.ghosts).eq a b) (a ≡ b)
 step_decides a b =
     Decides-like _ (λ h i. record { line = h.0 i; time = h.1.0 i; deed = h.1.1.0 i; claim = h.1.1.1 i }) (λ e. (cc, (cc, (cc, cc))))
     (Decides-and _ _ (Decides-eqb a.line b.line) (Decides-and _ _ (Decides-eqb a.time b.time)

@@ -1,3 +1,4 @@
+pub mod Beside
 pub mod Join
 pub mod Kept
 pub mod Record

@@ -1,7 +1,7 @@
 ghost use Rattle.std.specs.Prelude.{◌≡◌, ◌==◌, ℕ, ◌<◌, ◌≤◌, length, pos, IfOk, slice_index_or};
 ghost use Rattle.std.specs.List.{AllPairs, list_any};
 ghost use Rattle.cfs_model.specs.Claimed.{claim_at, claimed};
-ghost use Rattle.replay_model.specs.Cut.{claim_for, deed_at as deed_here, steps_at, tasks_at};
+ghost use Rattle.replay_model.specs.Cut.{claim_for, deed_at as deed_here, step_at as step_here, steps_at, tasks_at};
 ghost use Rattle.cfs_model.specs.Touch.{touched};
 ghost use Rattle.cfs_model.specs.declared.claim.Claim.{Claim};
 
@@ -15,6 +15,9 @@ use replay_model::{Deed, Step};
 use std::alloc::Global;
 
 impl Record {
+    ghost use Rattle.std.specs.Prelude.{◌+◌};
+    ghost use Rattle.cfs_model.specs.declared.act.Entry.{Entry};
+    ghost use Rattle.sched_record.specs.Beside.{IsClaimPlace};
     ghost use Rattle.sched_record.specs.Record.{record_view};
     ghost use Rattle.sched_record.specs.Stream.{cut_of, stream_view};
 
@@ -35,6 +38,20 @@ impl Record {
             last_time: self.last_time(),
             last_line: self.last_line(),
         })
+    }
+
+    /// The claim on an event's line, sought from a place in the claims on, and the place for the next event. The walk
+    /// begins at place 0.
+    pub fn claim_beside(&self, event: usize, from: usize) -> (Option<Claim>, usize)
+        requires event { event < length (record_view self.now).events }
+        requires from { IsClaimPlace (record_view self.now) event from }
+        ensures claim { (entry : Entry) → result.0 ≡ claim_at (record_view self.now).claims (slice_index_or (record_view self.now).events event entry).line }
+        ensures next { IsClaimPlace (record_view self.now) (event + 1) result.1 }
+    {
+        let claims = self.claims();
+        let line = self.events()[event].line;
+        let place = claim_from(claims, from, line);
+        (claim_on(claims, place, line), place)
     }
 }
 
@@ -92,6 +109,19 @@ fn touches(act: Act, cpu: u32) -> bool
         Act::Wake { cpu: here, .. } => here == cpu,
         Act::Born { cpu: here, .. } => here == cpu,
         Act::Shift { orig, dest, .. } => orig == cpu || dest == cpu,
+    }
+}
+
+/// An event with the claim on its line, as a processor that it touches sees it.
+pub fn step_at(event: Entry, claim: Option<Claim>, cpu: u32) -> Step
+    ensures { result ≡ step_here cpu (record { entry = event; claim = claim }) }
+{
+    let deed = deed_at(event.act, cpu);
+    Step {
+        line: event.line,
+        time: event.time,
+        deed,
+        claim: claim_for(&deed, claim),
     }
 }
 

@@ -16,6 +16,7 @@ mod trace;
 mod trace_reader;
 
 pub use cause::{TraceCause, TraceFault};
+pub use dealing::step_at;
 pub use joining::{JoinCause, JoinFault, join};
 pub use laws::{one_record_answer, one_trace_answer};
 pub use lists::{Events, Steps};

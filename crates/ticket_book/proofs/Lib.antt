@@ -1,0 +1,3 @@
+mod Cursors
+mod Following
+mod Places

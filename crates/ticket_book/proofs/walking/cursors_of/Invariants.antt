@@ -1,0 +1,14 @@
+use Rattle.std.proofs.Common.{◌≡◌, vec_len, take}
+use Rattle.cfs_model.specs.Claimed.{claimed}
+use Rattle.sched_record.specs.Beside.{IsClaimPlace}
+use Rattle.sched_record.specs.Record.{record_view}
+use Rattle.ticket_book.specs.Cursor.{AreFollowed}
+use Rattle.ticket_book.proofs.walking.cursors_of.Given as goal
+
+abbrev pub invariant-loop-index : goal.invariant-loop-index
+invariant-loop-index l = record {
+  count : vec_len l.cursors ≡ (record_view l.joined).cpus;
+  at : IsClaimPlace (record_view l.joined) l.index l.place;
+  followed : AreFollowed l.places l.cursors.items
+      (claimed (record_view l.joined).claims (take l.index (record_view l.joined).events));
+}

@@ -1,0 +1,86 @@
+ghost use Rattle.std.specs.Prelude.{◌≡◌, ◌<◌, ◌≤◌, None, Some, IfOk, IfErr, OnOk, OnErr, replicate, slice_set};
+ghost use Rattle.sched_record.specs.Stream.{stream_view};
+ghost use Rattle.ticket_book.specs.Book.{IsBook, fault_line, greatest_cpus, least_line, refusal_in, refusal_of};
+
+use crate::PostFault;
+use cfs_model::Memory;
+use queue_replay::Page;
+use replay_model::StepFault;
+use std::alloc::Global;
+
+/// The line that is told where no page has a fault.
+pub const NO_FAULT: u64 = u64::MAX;
+
+/// The pages of a record's processors, at most one for each.
+#[derive(Drop)]
+pub struct Book {
+    places: Vec<Option<Page>>,
+    least: u64,
+    pub ghost kept: { IsBook places.items least },
+}
+
+impl Book {
+    ghost use Rattle.ticket_book.specs.BookView.{book_view};
+
+    /// A book without pages for so many processors, 1 to 64, with the room for all their pages.
+    pub fn new(alloc: Global, cpus: u32) -> Result<Book, Memory>
+        requires some { 0 < cpus }
+        requires at_most { cpus ≤ greatest_cpus }
+        ensures { IfOk result (λ book. book_view book ≡ replicate cpus None) }
+    {
+        let mut places = Vec::with_capacity(alloc, cpus as usize)?;
+        for _cpu in 0..cpus {
+            places.push(None)?;
+        }
+        Ok(Book {
+            places,
+            least: NO_FAULT,
+        })
+    }
+
+    /// Adds a page, and tells the least line of a fault on the book's pages: `NO_FAULT` where none has one. A page that
+    /// is refused comes back. Takes no memory.
+    pub fn post(&mut self, page: Page) -> Result<u64, (Page, PostFault)>
+        ensures refused { refusal_in result ≡ refusal_of (book_view self.old) (stream_view page.stream).cpu }
+        ensures added { OnOk result (book_view self.new ≡ slice_set (book_view self.old) (stream_view page.stream).cpu (Some page)) }
+        ensures told { IfOk result (λ line. line ≡ least_line (book_view self.new)) }
+        ensures back { IfErr result (λ e. e.0 ≡ page) }
+        ensures unchanged { OnErr result (self.new ≡ self.old) }
+    {
+        let cpu = page.stream().cpu();
+        if let Some(fault) = self.refusal(cpu) {
+            return Err((page, fault));
+        }
+        self.least = self.least.min(line_of(page.fault()));
+        self.places[cpu as usize] = Some(page);
+        Ok(self.least)
+    }
+
+    /// Why a page of a processor is refused.
+    fn refusal(&self, cpu: u32) -> Option<PostFault>
+        ensures { result ≡ refusal_of (book_view self.now) cpu }
+    {
+        match self.places.get(cpu as usize) {
+            None => Some(PostFault::Outside),
+            Some(Some(_)) => Some(PostFault::Twice),
+            Some(None) => None,
+        }
+    }
+
+    /// The least line of a fault on the book's pages, `NO_FAULT` where none has one. Takes no memory.
+    pub fn least(&self) -> u64
+        ensures { result ≡ least_line (book_view self.now) }
+    {
+        self.least
+    }
+}
+
+/// The line of a page's fault.
+fn line_of(fault: Option<StepFault>) -> u64
+    ensures { result ≡ fault_line fault }
+{
+    match fault {
+        Some(fault) => u64::from(fault.line),
+        None => NO_FAULT,
+    }
+}

@@ -1,0 +1,83 @@
+//! All events of a record dealt once, past the pages of all processors.
+ghost use Rattle.std.specs.Prelude.{◌≡◌, ◌≢◌, ◌==◌, ◌||◌, ℕ, List, [], ◌∷◌, ◌++◌, IfOk, slice_get, vec_len};
+ghost use Rattle.std.specs.List.{list_any};
+ghost use Rattle.cfs_model.specs.Claimed.{Claimed, claimed};
+ghost use Rattle.cfs_model.specs.Touch.{touched};
+ghost use Rattle.replay_model.specs.declared.step.Step.{Step};
+ghost use Rattle.sched_record.specs.Record.{record_view};
+ghost use Rattle.ticket_book.specs.Book.{place_of};
+ghost use Rattle.ticket_book.specs.Cursor.{AreFollowed, IsFollowed, steps_in};
+
+use crate::cursor::Cursor;
+use cfs_model::{Act, Claim, Entry, Memory};
+use queue_replay::Page;
+use replay_model::Step;
+use sched_record::{Record, step_at};
+use std::alloc::Global;
+
+/// For each of the record's processors the cursor of the page at its place, with all events dealt.
+pub(crate) fn cursors_of(
+    alloc: Global,
+    places: &[Option<Page>],
+    joined: &Record,
+) -> Result<Vec<Cursor>, Memory>
+    ensures count { IfOk result (λ cursors. vec_len cursors ≡ (record_view joined.now).cpus) }
+    ensures followed { IfOk result (λ cursors. AreFollowed places.now cursors.items
+        (claimed (record_view joined.now).claims (record_view joined.now).events)) }
+{
+    let mut cursors = Vec::from_elem(alloc, Cursor::At(0), joined.cpus() as usize)?;
+    let mut place = 0;
+    for (index, event) in joined.events().iter().enumerate() {
+        let (claim, next) = joined.claim_beside(index, place);
+        follow(&mut cursors, places, event, claim);
+        place = next;
+    }
+    Ok(cursors)
+}
+
+/// Deals one more event, with the claim on its line.
+fn follow(cursors: &mut [Cursor], places: &[Option<Page>], event: &Entry, claim: Option<Claim>)
+    ensures { (events : List Claimed) → AreFollowed places.now cursors.old events
+        → AreFollowed places.now cursors.new (events ++ record { entry = event.now; claim = claim } ∷ []) }
+{
+    let (first, second) = ends_of(event);
+    follow_at(cursors, places, first, step_at(*event, claim, first));
+    if second != first {
+        follow_at(cursors, places, second, step_at(*event, claim, second));
+    }
+}
+
+/// Deals one more step to a processor.
+fn follow_at(cursors: &mut [Cursor], places: &[Option<Page>], cpu: u32, step: Step)
+    ensures here { (dealt : List Step) → IsFollowed places.now cursors.old cpu dealt
+        → IsFollowed places.now cursors.new cpu (dealt ++ step ∷ []) }
+    ensures others { (other : ℕ) → other ≢ cpu → slice_get cursors.new other ≡ slice_get cursors.old other }
+{
+    let place = cpu as usize;
+    if place < cursors.len() {
+        cursors[place] = cursors[place].after(steps_of(places, cpu), step);
+    }
+}
+
+/// The steps of a processor's page, none where it has no page.
+fn steps_of(places: &[Option<Page>], cpu: u32) -> &[Step]
+    ensures { result.now ≡ steps_in (place_of places.now cpu) }
+{
+    match places.get(cpu as usize) {
+        Some(Some(page)) => page.stream().steps(),
+        _ => &[],
+    }
+}
+
+/// The processors that an event touches: twice the same where it is one.
+fn ends_of(event: &Entry) -> (u32, u32)
+    ensures { (cpu : ℕ) → list_any (λ other. other == cpu) (touched event.now.act) ≡ (result.0 == cpu || result.1 == cpu) }
+{
+    let act = event.act;
+    match act {
+        Act::Switch { cpu, .. } => (cpu, cpu),
+        Act::Wake { cpu, .. } => (cpu, cpu),
+        Act::Born { cpu, .. } => (cpu, cpu),
+        Act::Shift { orig, dest, .. } => (orig, dest),
+    }
+}

@@ -50,7 +50,7 @@ impl Record {
     {
         let claims = self.claims();
         let line = self.events()[event].line;
-        let place = claim_from(claims, from, line);
+        let place = place_from(claims, from, line);
         (claim_on(claims, place, line), place)
     }
 }

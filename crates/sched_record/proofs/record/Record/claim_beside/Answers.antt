@@ -6,4 +6,4 @@ pub returns-clause-next : goal.returns-clause-next
 returns-clause-next c =
     next_place (record_view c.args.self.now) c.events.result.now c.claims-claims.result.now c.args.event c.args.from _ c.index-events-event.result
     c.args.self.now.in_order.events.lines_rise c.events.ensures c.claims-claims.ensures c.requires.event c.requires.from
-    c.claim_from-place.ensures.within.1 c.claim_from-place.ensures.below
+    c.place_from-place.ensures.within.1 c.place_from-place.ensures.below

@@ -62,9 +62,9 @@ pub fn run<T: Feed, C: Feed, S: Sink>(
     ensures read_companion { IsErrOf result Fault.ReadCompanion
         → IsCutShort (C.has_failed companion.new) (C.calls companion.new) }
 
-    // Memory is wanted only where no read or write failed.
-    ensures memory { IsErrOf result Fault.Memory → (T.has_failed trace.new ≡ false)
-        × (C.has_failed companion.new ≡ false) × (S.has_failed out.new ≡ false) }
+    // Memory is wanted only where no read failed.
+    ensures memory { IsErrOf result Fault.Memory
+        → (T.has_failed trace.new ≡ false) × (C.has_failed companion.new ≡ false) }
 
     // A write fault comes only where a write failed or took no byte, and a front of the report was written.
     ensures write { IsErrOf result Fault.Write → S.has_failed out.new ≡ true }
@@ -72,9 +72,9 @@ pub fn run<T: Feed, C: Feed, S: Sink>(
         → WritesFront (T.left trace.old) (C.left companion.old) knobs
         (S.taken out.old) (S.taken out.new) }
 
-    // At any other fault nothing was written.
+    // At any other fault nothing was written, and no write failed.
     ensures unwritten { IfErr result (λ fault. fault ≢ Fault.Write
-        → Keeps (S.taken out.old) (S.taken out.new)) }
+        → Keeps (S.taken out.old) (S.taken out.new) × (S.has_failed out.new ≡ false)) }
 
     // Each input is read by at most the most reads, and the companion only after the trace.
     ensures bounded { (T.calls trace.new ≤ most_reads) × (C.calls companion.new ≤ most_reads) }

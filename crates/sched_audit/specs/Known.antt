@@ -1,5 +1,5 @@
 -- What is known of the bytes of readers and writers, and how their calls are counted (this project's profile).
-use Rattle.std.specs.Prelude.{◌≡◌, ℕ, ◌+◌, ◌-◌, ◌^◌, ◌⊎◌, min, List, ◌++◌, length, nat_lt, ◌==◌, ◌&&◌, ⊤, Option, None, Some, Result, Ok, Err, Bool, true}
+use Rattle.std.specs.Prelude.{◌≡◌, ℕ, ◌+◌, ◌-◌, ◌^◌, ◌⊎◌, min, List, ◌++◌, length, nat_lt, ◌==◌, ◌&&◌, ⊤, Option, None, Some, Result, Ok, Err, Bool, true, false}
 use Rattle.std.specs.Io.KnownBytes.{Appends}
 
 -- where bytes are known, they are these
@@ -18,6 +18,11 @@ most_reads = 2 ^ 32
 -- a read failed, or the most reads were made
 abbrev pub IsCutShort : Bool → ℕ → Type 0
 IsCutShort has_failed calls = (has_failed ≡ true) ⊎ (calls ≡ most_reads)
+
+-- the read gave no byte where there was room for some: the end
+abbrev pub gives_nothing : {E : Type 0} → Result ℕ E → List ℕ → Bool
+gives_nothing (Ok count) room = (count == 0) && nat_lt 0 (length room)
+gives_nothing (Err failed) room = false
 
 -- the write failed, or took no byte of some
 abbrev pub takes_nothing : {E : Type 0} → Result ℕ E → List ℕ → Bool

@@ -1,6 +1,6 @@
 ghost use Rattle.std.specs.Prelude.{◌≡◌, ◌≤◌, ℕ, List, Option, Bool, false, length, is_err, ◌||◌, IfOk};
 ghost use Rattle.std.specs.Io.KnownBytes.{ReadConsumes};
-ghost use Rattle.sched_audit.specs.Known.{one_more};
+ghost use Rattle.sched_audit.specs.Known.{one_more, gives_nothing};
 
 use crate::Failed;
 
@@ -15,13 +15,19 @@ pub trait Feed {
     /// Whether a read failed.
     ghost has_failed: { Self → Bool };
 
-    /// Gives bytes to the front of the buffer, and says how many. None, into a buffer with room, is the end.
+    /// Whether a read into a buffer with room gave none: its end.
+    ghost has_ended: { Self → Bool };
+
+    /// Gives bytes to the front of the buffer, and says how many. None, into a buffer with room, is the end: no read
+    /// follows it, since a terminal would go on behind its end.
     fn read(&mut self, buf: &mut [u8]) -> Result<usize, Failed>
+        requires { has_ended self.old ≡ false }
         ensures within { IfOk result (λ count. count ≤ length buf.new) }
         ensures bytes { ReadConsumes (left self.old) (left self.new) result buf.new }
         ensures counted { calls self.new ≡ one_more (calls self.old) }
-        ensures failed { has_failed self.new ≡ (has_failed self.old || is_err result) };
+        ensures failed { has_failed self.new ≡ (has_failed self.old || is_err result) }
+        ensures ended { has_ended self.new ≡ (has_ended self.old || gives_nothing result buf.new) };
 
-    /// Where no read was made none failed.
-    ghost untouched: { (feed : Self) → calls feed ≡ 0 → has_failed feed ≡ false };
+    /// Where no read was made none failed and none ended.
+    ghost untouched: { (feed : Self) → calls feed ≡ 0 → (has_failed feed ≡ false) × (has_ended feed ≡ false) };
 }

@@ -11,7 +11,8 @@ pub struct FeedOf<R> {
     reader: R,
     calls: u64,
     has_failed: bool,
-    ghost untouched: { calls ≡ 0 → has_failed ≡ false },
+    has_ended: bool,
+    ghost untouched: { calls ≡ 0 → (has_failed ≡ false) × (has_ended ≡ false) },
 }
 
 impl<R: Read> FeedOf<R> {
@@ -19,11 +20,13 @@ impl<R: Read> FeedOf<R> {
         ensures left { ⟦<FeedOf<R> as Feed>⟧.left result ≡ R.remaining reader }
         ensures calls { ⟦<FeedOf<R> as Feed>⟧.calls result ≡ 0 }
         ensures failed { ⟦<FeedOf<R> as Feed>⟧.has_failed result ≡ false }
+        ensures ended { ⟦<FeedOf<R> as Feed>⟧.has_ended result ≡ false }
     {
         FeedOf {
             reader,
             calls: 0,
             has_failed: false,
+            has_ended: false,
         }
     }
 }
@@ -35,10 +38,17 @@ impl<R: Read> Feed for FeedOf<R> {
 
     ghost has_failed = { λ feed. feed.has_failed };
 
+    ghost has_ended = { λ feed. feed.has_ended };
+
     fn read(&mut self, buf: &mut [u8]) -> Result<usize, Failed> {
         self.calls = self.calls.saturating_add(1);
         match self.reader.read(buf) {
-            Ok(count) => Ok(count),
+            Ok(count) => {
+                if count == 0 && !buf.is_empty() {
+                    self.has_ended = true;
+                }
+                Ok(count)
+            }
             Err(_) => {
                 self.has_failed = true;
                 Err(Failed)

@@ -1,7 +1,7 @@
 //! The theorems: what the audit of two texts answers, and what a run over two inputs writes.
 
 ghost use Rattle.std.specs.Prelude.{◌≡◌, ◌≢◌, ◌≤◌, true, false, IfOk, IfErr, OnOk, IsErrOf};
-ghost use Rattle.std.specs.Io.KnownBytes.{Keeps};
+ghost use Rattle.std.specs.Io.KnownBytes.{IsAtEnd, Keeps};
 ghost use Rattle.sched_audit.specs.Answer.{IsAnswer};
 ghost use Rattle.sched_audit.specs.Known.{IsCutShort, most_reads};
 ghost use Rattle.sched_audit.specs.Run.{WritesReport, WritesFront};
@@ -48,6 +48,10 @@ pub fn run<T: Feed, C: Feed, S: Sink>(
         WritesReport (T.left trace.old) (C.left companion.old) knobs status
         (S.taken out.old) (S.taken out.new)) }
 
+    // Both inputs were read to their ends, a refused trace and its companion too: nothing is left of them.
+    ensures ended { OnOk result ((T.has_ended trace.new ≡ true) × (C.has_ended companion.new ≡ true)) }
+    ensures left { OnOk result (IsAtEnd (T.left trace.new) × IsAtEnd (C.left companion.new)) }
+
     // And no read or write failed.
     ensures heard { OnOk result ((T.has_failed trace.new ≡ false)
         × (C.has_failed companion.new ≡ false) × (S.has_failed out.new ≡ false)) }
@@ -58,15 +62,19 @@ pub fn run<T: Feed, C: Feed, S: Sink>(
     ensures read_companion { IsErrOf result Fault.ReadCompanion
         → IsCutShort (C.has_failed companion.new) (C.calls companion.new) }
 
+    // Memory is wanted only where no read failed.
+    ensures memory { IsErrOf result Fault.Memory
+        → (T.has_failed trace.new ≡ false) × (C.has_failed companion.new ≡ false) }
+
     // A write fault comes only where a write failed or took no byte, and a front of the report was written.
     ensures write { IsErrOf result Fault.Write → S.has_failed out.new ≡ true }
     ensures front { IsErrOf result Fault.Write
         → WritesFront (T.left trace.old) (C.left companion.old) knobs
         (S.taken out.old) (S.taken out.new) }
 
-    // At any other fault nothing was written.
+    // At any other fault nothing was written, and no write failed.
     ensures unwritten { IfErr result (λ fault. fault ≢ Fault.Write
-        → Keeps (S.taken out.old) (S.taken out.new)) }
+        → Keeps (S.taken out.old) (S.taken out.new) × (S.has_failed out.new ≡ false)) }
 
     // Each input is read by at most the most reads, and the companion only after the trace.
     ensures bounded { (T.calls trace.new ≤ most_reads) × (C.calls companion.new ≤ most_reads) }

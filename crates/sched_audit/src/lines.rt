@@ -1,4 +1,5 @@
-ghost use Rattle.std.specs.Prelude.{◌≡◌, ◌+◌, ◌≤◌, ◌⊎◌, IfOk, IfErr, OnOk, take, vec_len};
+ghost use Rattle.std.specs.Prelude.{◌≡◌, ◌+◌, ◌≤◌, ◌⊎◌, true, false, IfOk, IfErr, OnOk, take, vec_len};
+ghost use Rattle.std.specs.Io.KnownBytes.{IsAtEnd};
 ghost use Rattle.sched_audit.specs.Known.{IsCutShort, most_reads};
 ghost use Rattle.sched_audit.specs.Run.{IsReadFrom, PassesWhole};
 
@@ -14,8 +15,10 @@ use text_parts::lines::{lines_after_whole, whole_lines};
 pub(crate) fn read_lines<F: Feed>(alloc: Global, feed: &mut F) -> Result<TraceReader, Fault>
     requires { F.calls feed.old ≡ 0 }
     ensures all { IfOk result (λ reader. IsReadFrom reader (F.left feed.old)) }
-    ensures heard { OnOk result (F.has_failed feed.new ≡ F.has_failed feed.old) }
-    ensures cut_short { IfErr result (λ e. (e ≡ Fault.Memory)
+    ensures end { OnOk result (IsAtEnd (F.left feed.new)) }
+    ensures ended { OnOk result (F.has_ended feed.new ≡ true) }
+    ensures heard { OnOk result (F.has_failed feed.new ≡ false) }
+    ensures cut_short { IfErr result (λ e. ((e ≡ Fault.Memory) × (F.has_failed feed.new ≡ false))
         ⊎ ((e ≡ Fault.ReadTrace) × IsCutShort (F.has_failed feed.new) (F.calls feed.new))) }
     ensures bounded { F.calls feed.new ≤ most_reads }
 {

@@ -1,4 +1,4 @@
-ghost use Rattle.std.specs.Prelude.{◌≡◌, ◌⊎◌, ◌+◌, ◌<◌, ◌≤◌, ◌||◌, true, take, drop, length, is_err, vec_len, IfOk, IfErr, OnOk, OnErr};
+ghost use Rattle.std.specs.Prelude.{◌≡◌, ◌⊎◌, ◌+◌, ◌<◌, ◌≤◌, ◌||◌, ◌==◌, true, false, take, drop, length, is_err, vec_len, IfOk, IfErr, OnOk, OnErr};
 ghost use Rattle.std.specs.Io.KnownBytes.{Consumes, IsAtEnd};
 ghost use Rattle.sched_audit.specs.Known.{Agrees, one_more, most_reads, IsCutShort};
 
@@ -15,8 +15,10 @@ pub(crate) const MOST_READS: u64 = 1 << 32;
 pub(crate) fn read_all<F: Feed>(alloc: Global, feed: &mut F, fault: Fault) -> Result<Vec<u8>, Fault>
     requires { F.calls feed.old ≡ 0 }
     ensures all { IfOk result (λ bytes. Agrees (F.left feed.old) bytes.items) }
-    ensures heard { OnOk result (F.has_failed feed.new ≡ F.has_failed feed.old) }
-    ensures cut_short { IfErr result (λ e. (e ≡ Fault.Memory)
+    ensures end { OnOk result (IsAtEnd (F.left feed.new)) }
+    ensures ended { OnOk result (F.has_ended feed.new ≡ true) }
+    ensures heard { OnOk result (F.has_failed feed.new ≡ false) }
+    ensures cut_short { IfErr result (λ e. ((e ≡ Fault.Memory) × (F.has_failed feed.new ≡ false))
         ⊎ ((e ≡ fault) × IsCutShort (F.has_failed feed.new) (F.calls feed.new))) }
     ensures bounded { F.calls feed.new ≤ most_reads }
 {
@@ -40,16 +42,18 @@ pub(crate) fn read_chunk<F: Feed>(
     filled: usize,
     fault: Fault,
 ) -> Result<usize, Fault>
-    requires { filled ≤ vec_len bytes.old }
+    requires unended { F.has_ended feed.old ≡ false }
+    requires filled { filled ≤ vec_len bytes.old }
     ensures front { OnOk result (take filled bytes.new.items ≡ take filled bytes.old.items) }
     ensures fits { IfOk result (λ count. filled + count ≤ vec_len bytes.new) }
     ensures read { IfOk result (λ count. Consumes (F.left feed.old) (F.left feed.new)
         (take count (drop filled bytes.new.items))) }
     ensures end { IfOk result (λ count. count ≡ 0 → IsAtEnd (F.left feed.new)) }
+    ensures ended { IfOk result (λ count. F.has_ended feed.new ≡ (count == 0)) }
     ensures counted { OnOk result (F.calls feed.new ≡ one_more (F.calls feed.old)) }
     ensures bounded { OnErr result (F.calls feed.new ≤ F.calls feed.old + 1) }
     ensures heard { OnOk result (F.has_failed feed.new ≡ F.has_failed feed.old) }
-    ensures failed { IfErr result (λ e. (e ≡ Fault.Memory)
+    ensures failed { IfErr result (λ e. ((e ≡ Fault.Memory) × (F.has_failed feed.new ≡ F.has_failed feed.old))
         ⊎ ((e ≡ fault) × (F.has_failed feed.new ≡ true))) }
 {
     if make_room(bytes, filled).is_err() {
@@ -76,12 +80,14 @@ fn make_room(bytes: &mut Vec<u8>, filled: usize) -> Result<(), AllocError>
 }
 
 fn read_behind<F: Feed>(feed: &mut F, bytes: &mut [u8], filled: usize) -> Result<usize, Failed>
-    requires { filled < length bytes.old }
+    requires unended { F.has_ended feed.old ≡ false }
+    requires room { filled < length bytes.old }
     ensures front { take filled bytes.new ≡ take filled bytes.old }
     ensures fits { IfOk result (λ count. filled + count ≤ length bytes.new) }
     ensures read { IfOk result (λ count. Consumes (F.left feed.old) (F.left feed.new)
         (take count (drop filled bytes.new))) }
     ensures end { IfOk result (λ count. count ≡ 0 → IsAtEnd (F.left feed.new)) }
+    ensures ended { IfOk result (λ count. F.has_ended feed.new ≡ (count == 0)) }
     ensures counted { F.calls feed.new ≡ one_more (F.calls feed.old) }
     ensures failed { F.has_failed feed.new ≡ (F.has_failed feed.old || is_err result) }
 {

@@ -3,6 +3,7 @@
 
 mod command;
 mod ending;
+mod names;
 
 use ending::Ending;
 use std::process::ExitCode;

@@ -6,6 +6,7 @@ use sched_audit::{
     Cause, Failed, Fault, Feed, FeedOf, Outcome, Refused, Sink, SinkOf, Source, Status, Summary,
     Verdict, audit_texts, report, run,
 };
+use std::io::ErrorKind;
 use std::test::Fail;
 
 /// One processor: task 101 runs for 4 ms and is put back, and task 102 runs next.
@@ -278,21 +279,74 @@ fn a_failed_write_leaves_a_front_of_the_report(rt: HostRuntime) -> Result<(), Fa
 #[test]
 fn a_call_is_one_call_of_the_end_below(rt: HostRuntime) {
     let mut buf = [0; 4];
-    let mut reader = Broken { calls: 0 };
-    let mut feed = FeedOf::new(&mut reader);
-    assert_eq!(rt; feed.read(&mut buf), Err(Failed));
-    assert_eq!(rt; feed.read(&mut buf), Err(Failed));
-    assert_eq!(rt; reader.calls, 2);
+    for kind in [ErrorKind::Other, ErrorKind::Interrupted] {
+        let mut reader = Broken { kind, calls: 0 };
+        let mut feed = FeedOf::new(&mut reader);
+        assert_eq!(rt; feed.read(&mut buf), Err(Failed));
+        assert_eq!(rt; feed.read(&mut buf), Err(Failed));
+        assert_eq!(rt; reader.calls, 2);
 
-    let mut writer = Broken { calls: 0 };
-    let mut sink = SinkOf::new(&mut writer);
-    assert_eq!(rt; sink.write(b"run"), Err(Failed));
-    assert_eq!(rt; writer.calls, 1);
+        let mut writer = Broken { kind, calls: 0 };
+        let mut sink = SinkOf::new(&mut writer);
+        assert_eq!(rt; sink.write(b"run"), Err(Failed));
+        assert_eq!(rt; writer.calls, 1);
+    }
 
     let mut feed = FeedOf::new(REPORT);
     assert_eq!(rt; feed.read(&mut buf[..3]), Ok(3));
     assert_eq!(rt; feed.read(&mut buf), Ok(1));
     assert_eq!(rt; feed.read(&mut buf), Ok(0));
+}
+
+/// An end of std that a signal interrupts.
+fn interrupted() -> Broken {
+    Broken {
+        kind: ErrorKind::Interrupted,
+        calls: 0,
+    }
+}
+
+#[test]
+fn an_interrupted_read_is_made_once_and_told(rt: HostRuntime) {
+    let mut trace = interrupted();
+    let mut out = Narrow::new(rt.alloc(), usize::MAX, false);
+    let status = run(
+        rt.alloc(),
+        &mut FeedOf::new(&mut trace),
+        &mut FeedOf::new(COMPANION),
+        Knobs::standard(),
+        &mut out,
+    );
+    assert_eq!(rt; status, Err(Fault::ReadTrace));
+    assert_eq!(rt; trace.calls, 1);
+    assert!(rt; out.taken.is_empty());
+
+    let mut companion = interrupted();
+    let mut out = Narrow::new(rt.alloc(), usize::MAX, false);
+    let status = run(
+        rt.alloc(),
+        &mut FeedOf::new(TRACE),
+        &mut FeedOf::new(&mut companion),
+        Knobs::standard(),
+        &mut out,
+    );
+    assert_eq!(rt; status, Err(Fault::ReadCompanion));
+    assert_eq!(rt; companion.calls, 1);
+    assert!(rt; out.taken.is_empty());
+}
+
+#[test]
+fn an_interrupted_write_is_made_once_and_told(rt: HostRuntime) {
+    let mut writer = interrupted();
+    let status = run(
+        rt.alloc(),
+        &mut FeedOf::new(TRACE),
+        &mut FeedOf::new(COMPANION),
+        Knobs::standard(),
+        &mut SinkOf::new(&mut writer),
+    );
+    assert_eq!(rt; status, Err(Fault::Write));
+    assert_eq!(rt; writer.calls, 1);
 }
 
 fn ran(events: u64) -> Result<Verdict, Refused> {

@@ -14,8 +14,9 @@ pub struct Pieces<'a> {
     fails_at: u64,
     calls: u64,
     has_failed: bool,
+    has_ended: bool,
     ghost some: { 0 < piece },
-    ghost untouched: { calls ≡ 0 → has_failed ≡ false },
+    ghost untouched: { calls ≡ 0 → (has_failed ≡ false) × (has_ended ≡ false) },
 }
 
 impl<'a> Pieces<'a> {
@@ -29,6 +30,7 @@ impl<'a> Pieces<'a> {
             fails_at,
             calls: 0,
             has_failed: false,
+            has_ended: false,
         }
     }
 }
@@ -40,6 +42,8 @@ impl Feed for Pieces<'_> {
 
     ghost has_failed = { λ pieces. pieces.has_failed };
 
+    ghost has_ended = { λ pieces. pieces.has_ended };
+
     fn read(&mut self, buf: &mut [u8]) -> Result<usize, Failed> {
         self.calls = self.calls.saturating_add(1);
         if self.calls == self.fails_at {
@@ -50,6 +54,9 @@ impl Feed for Pieces<'_> {
         let (front, rest) = self.bytes.split_at(count);
         buf[..count].copy_from_slice(front);
         self.bytes = rest;
+        if count == 0 && !buf.is_empty() {
+            self.has_ended = true;
+        }
         Ok(count)
     }
 
@@ -101,23 +108,24 @@ impl Sink for Narrow {
     }
 }
 
-/// A reader and a writer of std that fail, and count how often they were called.
+/// A reader and a writer of std that fail in this way, and count how often they were called.
 #[derive(Drop)]
 pub struct Broken {
+    pub kind: ErrorKind,
     pub calls: u32,
 }
 
 impl Read for Broken {
     fn read(&mut self, _buf: &mut [u8]) -> io::Result<usize> {
         self.calls = self.calls.saturating_add(1);
-        Err(io::Error::from(ErrorKind::Other))
+        Err(io::Error::from(self.kind))
     }
 }
 
 impl Write for Broken {
     fn write(&mut self, _buf: &[u8]) -> io::Result<usize> {
         self.calls = self.calls.saturating_add(1);
-        Err(io::Error::from(ErrorKind::Other))
+        Err(io::Error::from(self.kind))
     }
 
     fn flush(&mut self) -> io::Result<()> {

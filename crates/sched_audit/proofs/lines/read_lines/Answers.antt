@@ -1,4 +1,4 @@
-use Rattle.std.proofs.Common.{◌++◌, [], take, refl, sym, ap, ◌∙◌, inl, subst, arith}
+use Rattle.std.proofs.Common.{◌++◌, [], take, refl, sym, ap, ◌∙◌, inl, subst, arith, ne_eqb}
 use Rattle.std.proofs.lemmas.List.{append_assoc}
 use Rattle.std.specs.Io.KnownBytes.{Consumes}
 use Rattle.text_parts.specs.Lines.{lines_of}
@@ -11,7 +11,8 @@ pub loop-init : goal.loop-init
 loop-init g c = record {
   within = omega arith;
   counted = c.requires;
-  heard = refl;
+  heard = (g.met.F.Feed.untouched c.args.feed.now c.requires).0;
+  unended = (g.met.F.Feed.untouched c.args.feed.now c.requires).1;
   done = [];
   whole = inl refl;
   has_read = subst (HasRead c.new-reader.result) (sym lines_of_none) c.new-reader.ensures;
@@ -45,6 +46,7 @@ loop-preserved g c =
       within = let fits = c.in_ok-count.ensures.fits in let left = c.in_ok-filled.ensures.within in let same = c.in_ok-filled.ensures.length in omega (arith, fits, left, same);
       counted = c.in_ok-count.ensures.counted ∙ one_more-below _ _ before.counted c.loop-test.true;
       heard = c.in_ok-count.ensures.heard ∙ before.heard;
+      unended = c.in_ok-count.ensures.ended ∙ ne_eqb c.in_ok-count.count 0 c.if-count-eq0.false;
       done = before.done ++ whole;
       whole = whole_and_whole before.done whole before.whole passed.2;
       has_read = subst (HasRead c.read_whole.new.reader) (sym (c.lines_after_whole.ensures before.done whole before.whole))

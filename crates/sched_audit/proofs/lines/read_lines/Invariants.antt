@@ -1,5 +1,5 @@
--- What was consumed is whole lines, which were read, and what is filled; a call a turn, and none has failed.
-use Rattle.std.proofs.Common.{◌≡◌, ◌≤◌, ◌++◌, List, ℕ, take, vec_len}
+-- What was consumed is whole lines, which were read, and what is filled; a call a turn, and none has failed or ended.
+use Rattle.std.proofs.Common.{◌≡◌, ◌≤◌, false, ◌++◌, List, ℕ, take, vec_len}
 use Rattle.std.specs.Io.KnownBytes.{Consumes}
 use Rattle.text_parts.specs.Lines.{lines_of, IsWhole}
 use Rattle.sched_record.specs.Reader.{HasRead}
@@ -11,7 +11,8 @@ invariant-loop g l =
     record {
       within : l.filled ≤ vec_len l.bytes;
       counted : feed.calls l.feed ≡ l.counter;
-      heard : feed.has_failed l.feed ≡ feed.has_failed l.initial.feed;
+      heard : feed.has_failed l.feed ≡ false;
+      unended : feed.has_ended l.feed ≡ false;
       done : List ℕ;
       whole : IsWhole done;
       has_read : HasRead l.reader (lines_of done);

@@ -1,4 +1,4 @@
-use Rattle.std.proofs.Common.{◌∙◌, ap, ◌++◌, take, drop, subst, sym}
+use Rattle.std.proofs.Common.{◌∙◌, ap, ◌++◌, take, drop, subst, sym, ne_eqb}
 use Rattle.std.proofs.Math.Seq.{take-add}
 use Rattle.std.proofs.KnownBytes.{Consumes-trans}
 use Rattle.std.specs.Io.KnownBytes.{Consumes}
@@ -16,6 +16,7 @@ loop-preserved g c =
       within = read.fits;
       counted = read.counted ∙ one_more-below _ _ before.counted c.loop-test.true;
       heard = read.heard ∙ before.heard;
+      unended = read.ended ∙ ne_eqb count 0 c.if-count-eq0.false;
       read = subst (Consumes _ _) (sym (take-add filled count items ∙ ap (λ front. front ++ take count (drop filled items)) read.front))
           (Consumes-trans _ _ _ _ _ before.read read.read);
     }

@@ -1,5 +1,5 @@
--- What is filled was consumed, a call a turn, and none has failed.
-use Rattle.std.proofs.Common.{◌≡◌, ◌≤◌, take, vec_len}
+-- What is filled was consumed, a call a turn, and none has failed or ended.
+use Rattle.std.proofs.Common.{◌≡◌, ◌≤◌, false, take, vec_len}
 use Rattle.std.specs.Io.KnownBytes.{Consumes}
 use Rattle.sched_audit.proofs.reading.read_all.Given as goal
 
@@ -9,6 +9,7 @@ invariant-loop g l =
     record {
       within : l.filled ≤ vec_len l.bytes;
       counted : feed.calls l.feed ≡ l.counter;
-      heard : feed.has_failed l.feed ≡ feed.has_failed l.initial.feed;
+      heard : feed.has_failed l.feed ≡ false;
+      unended : feed.has_ended l.feed ≡ false;
       read : Consumes (feed.left l.initial.feed) (feed.left l.feed) (take l.filled l.bytes.items);
     }

@@ -1,6 +1,3 @@
 mod Counting
 mod Outcomes
 mod Passing
-mod Firsts
-mod OneProcessor
-mod Judged

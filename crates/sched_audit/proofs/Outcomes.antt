@@ -1,18 +1,17 @@
 -- The outcome of the bytes that two inputs gave, from what the calls on the way said.
-use Rattle.std.proofs.Common.{◌≡◌, refl, ap, subst, inr, ℕ, List, Option, Some, IfSome, Result, Ok, Err}
+use Rattle.std.proofs.Common.{◌≡◌, ap, subst, ℕ, List, Option, Some, IfSome, Result, Ok, Err}
 use Rattle.std.specs.Result.{IsErrAnd}
 use Rattle.cfs_model.specs.Settings.{Settings}
 use Rattle.sched_record.specs.Record.{record_view}
+use Rattle.ticket_book.specs.Verdict.{IsVerdict}
 use Rattle.sched_record.specs.declared.record.Record.{Record}
-use Rattle.sched_audit.specs.declared.cause.Cause.TheVariants.{Later}
 use Rattle.sched_audit.specs.declared.outcome.Outcome.{Outcome}
 use Rattle.sched_audit.specs.declared.outcome.Outcome.TheVariants as outcomes
 use Rattle.sched_audit.specs.declared.refused.Refused.{Refused}
 use Rattle.sched_audit.specs.declared.refused.Refused.TheVariants as refusals
-use Rattle.sched_audit.specs.declared.source.Source.TheVariants.{Join}
-use Rattle.sched_audit.specs.declared.verdict.Verdict.{Verdict}
-use Rattle.sched_audit.specs.Answer.{OutcomeAnswer, outcome_told, IsAnswer, IsVerdict}
-use Rattle.sched_audit.specs.Texts.{IsTexts, IsLater}
+use Rattle.ticket_book.specs.declared.verdict.Verdict.{Verdict}
+use Rattle.sched_audit.specs.Answer.{OutcomeAnswer, outcome_told, IsAnswer}
+use Rattle.sched_audit.specs.Texts.{IsTexts}
 use Rattle.sched_audit.specs.Known.{Agrees}
 use Rattle.sched_audit.specs.Run.{IsOutcomeOf}
 
@@ -43,17 +42,6 @@ pub refused_answer : (trace companion : List ℕ) (settings : Settings) (refused
 unfolding OutcomeAnswer
 refused_answer trace companion settings (refusals.Text source line cause) texts = texts
 refused_answer trace companion settings refusals.Memory texts = tt
-
--- the answer where the record has what isn't audited yet
-pub later_answer : (trace companion : List ℕ) (settings : Settings) (joined : Record) (line : ℕ) → IsTexts trace companion (Ok joined)
-    → IsLater (record_view joined) line → OutcomeAnswer trace companion settings (outcomes.Text Join line Later)
-unfolding OutcomeAnswer
-later_answer trace companion settings joined line texts later = record {
-  events = texts.events;
-  start = texts.start;
-  are_read = texts.are_read;
-  why = inr (record_view joined, texts.joined, later, refl);
-}
 
 -- the answer where the record was judged
 pub judged_answer : (trace companion : List ℕ) (settings : Settings) (joined : Record) (verdict : Verdict) → IsTexts trace companion (Ok joined)

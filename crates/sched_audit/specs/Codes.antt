@@ -6,7 +6,7 @@ use Rattle.sched_audit.specs.declared.fault.Fault.{Fault}
 use Rattle.sched_audit.specs.declared.fault.Fault.TheVariants.{ReadTrace, ReadCompanion, Write, Memory}
 use Rattle.sched_audit.specs.declared.outcome.Outcome.{Outcome}
 use Rattle.sched_audit.specs.declared.outcome.Outcome.TheVariants.{Judged, Text}
-use Rattle.sched_audit.specs.declared.verdict.Verdict.TheVariants as verdicts
+use Rattle.ticket_book.specs.declared.verdict.Verdict.TheVariants as verdicts
 
 -- yes, no, and a refused text
 abbrev pub code_of_status : Status → ℕ

@@ -3,10 +3,10 @@ use Rattle.std.specs.Prelude.{ℕ, List, [], ◌∷◌, ◌++◌, codes, decimal
 use Rattle.sched_audit.specs.declared.source.Source.{Source}
 use Rattle.sched_audit.specs.declared.source.Source.TheVariants.{Trace, Companion, Join}
 use Rattle.sched_audit.specs.declared.cause.Cause.{Cause}
-use Rattle.sched_audit.specs.declared.cause.Cause.TheVariants.{BadHead, NumberRange, LostEvents, BadFields, RealTime, PrioRange, IdleNamed, TimeBack, TooManyLines, Version, Group, BadLine, Order, TwiceNamed, TwiceRunning, LineOrder, Short, CpuOutside, StartLate, ClaimNoEvent, Later}
+use Rattle.sched_audit.specs.declared.cause.Cause.TheVariants.{BadHead, NumberRange, LostEvents, BadFields, RealTime, PrioRange, IdleNamed, TimeBack, TooManyLines, Version, Group, BadLine, Order, TwiceNamed, TwiceRunning, LineOrder, Short, CpuOutside, StartLate, ClaimNoEvent}
 use Rattle.sched_audit.specs.declared.outcome.Outcome.{Outcome}
 use Rattle.sched_audit.specs.declared.outcome.Outcome.TheVariants.{Judged, Text}
-use Rattle.sched_audit.specs.declared.verdict.Verdict.TheVariants as verdicts
+use Rattle.ticket_book.specs.declared.verdict.Verdict.TheVariants as verdicts
 
 -- which text is refused
 abbrev pub source_word : Source → List ℕ
@@ -36,7 +36,6 @@ cause_word Short = codes "Short"
 cause_word CpuOutside = codes "CpuOutside"
 cause_word StartLate = codes "StartLate"
 cause_word ClaimNoEvent = codes "ClaimNoEvent"
-cause_word Later = codes "Later"
 
 -- a text, and then a line feed
 abbrev pub line_of : List ℕ → List ℕ

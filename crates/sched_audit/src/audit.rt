@@ -2,10 +2,9 @@ ghost use Rattle.std.specs.Prelude.{ℕ, List};
 ghost use Rattle.sched_record.specs.Trace.{TraceAnswer, Tells};
 ghost use Rattle.sched_audit.specs.Answer.{IsAnswer, OutcomeAnswer};
 
-use crate::judging::judge;
-use crate::taken::untaken;
 use crate::texts::record_of;
-use crate::{Cause, Refused, Source, Verdict};
+use crate::{Refused, Verdict};
+use audit_crew::audit_serial;
 use cfs_model::Knobs;
 use sched_record::{Trace, TraceFault};
 use std::alloc::Global;
@@ -21,12 +20,6 @@ pub(crate) fn audit(
     ensures { (text : List ℕ) → Tells trace (TraceAnswer text) → IsAnswer text companion.now knobs result }
 {
     let record = record_of(alloc, trace, companion)?;
-    if let Some(line) = untaken(&record) {
-        return Err(Refused::Text {
-            source: Source::Join,
-            line,
-            cause: Cause::Later,
-        });
-    }
-    Ok(judge(alloc, &record, knobs)?)
+    let closed = audit_serial(alloc, &record, knobs)?;
+    Ok(closed.verdict)
 }

@@ -30,8 +30,6 @@ pub enum Cause {
     CpuOutside,
     StartLate,
     ClaimNoEvent,
-    /// What this version doesn't take yet.
-    Later,
 }
 
 // The table of causes: each is printed by its own name.
@@ -98,7 +96,6 @@ impl Cause {
             BadHead NumberRange LostEvents BadFields RealTime PrioRange IdleNamed TimeBack TooManyLines
             Version Group BadLine Order TwiceNamed TwiceRunning LineOrder Short
             CpuOutside StartLate ClaimNoEvent
-            Later
         )
     }
 }

@@ -1,5 +1,5 @@
 use Rattle.std.proofs.Common.{subst, sym}
-use Rattle.sched_audit.proofs.Outcomes.{error_is, refused_answer, later_answer}
+use Rattle.sched_audit.proofs.Outcomes.{error_is, refused_answer}
 use Rattle.sched_audit.specs.Answer.{IsAnswer}
 use Rattle.sched_audit.proofs.audit.audit.Goals as goal
 
@@ -8,6 +8,3 @@ returns-in_err-record c text told =
     subst (IsAnswer text c.args.companion.now c.args.knobs) (sym (error_is c.from_residual.result c.in_err-record.field-0.0 c.from_residual.ensures.1))
     (refused_answer text c.args.companion.now c.args.knobs c.in_err-record.field-0.0 (c.in_err-record.ensures text told))
 
-pub returns-in-Some : goal.returns-in-Some
-returns-in-Some c text told =
-    later_answer text c.args.companion.now c.args.knobs c.in_ok-record.record c.in-Some.line (c.in_ok-record.ensures text told) c.in-Some.ensures.later

@@ -23,9 +23,10 @@ pub keeps_up : {X : Type 0} (xs front : List X) (place : ℕ) (x : X) → place 
     → place < length xs → get_or xs place x ≡ x
     → (place + 1 ≡ length (front ++ x ∷ [])) × (front ++ x ∷ [] ≡ take (place + 1) xs)
 keeps_up xs front place x count same within here =
-    let pushed_count = length_push front x in
-    (omega (arith, pushed_count),
-    ap (λ ys. ys ++ x ∷ []) same ∙ ap (λ y. take place xs ++ y ∷ []) (sym here) ∙ sym (take_more xs place x within))
+    let pushed_count = length_push front x in (
+      omega (arith, pushed_count),
+      ap (λ ys. ys ++ x ∷ []) same ∙ ap (λ y. take place xs ++ y ∷ []) (sym here) ∙ sym (take_more xs place x within),
+    )
 
 -- one more that differs, or that is one too many
 pub falls_apart : {X : Type 0} (xs front : List X) (place : ℕ) (x : X) → place ≡ length front

@@ -1,7 +1,6 @@
 -- A stream is a record's cut for a processor where its steps, its tasks and all else are.
 use Rattle.std.proofs.Common.{◌≡◌, ◌↔◌, ℕ, Bool, ◌&&◌, Decides, IsTrue, List, sym, ap, ◌∙◌, subst}
-use Rattle.std.specs.Prelude.{ℤ, pos, slice_index_or}
-use Rattle.std.specs.Ordering.{int_eq}
+use Rattle.std.specs.Prelude.{pos, slice_index_or}
 use Rattle.std.proofs.lemmas.Bool.Decides.{Decides-and, Decides-at, Decides-eqb, Decides-int_eq, Decides-like}
 use Rattle.cfs_model.specs.Claimed.{claimed}
 use Rattle.cfs_model.specs.declared.task.Task.{Task}

@@ -1,6 +1,6 @@
 -- Pages are gathered processor by processor, each from its place in the book where it suffices there, else made again. The
 -- places of later processors are as they were.
-use Rattle.std.proofs.Common.{◌≡◌, ◌≢◌, ℕ, zero, suc, ◌+◌, ◌<◌, ◌≤◌, List, [], ◌∷◌, ◌++◌, length, Option, Some, None, refl, sym, ap, ◌∙◌, subst, arith, add-one, inl, inr, ◌⊎◌}
+use Rattle.std.proofs.Common.{◌≡◌, ◌≢◌, ℕ, zero, suc, ◌+◌, ◌<◌, ◌≤◌, List, [], ◌∷◌, ◌++◌, length, Option, Some, refl, sym, ap, ◌∙◌, subst, arith, add-one, inl, inr, ◌⊎◌}
 use Rattle.std.specs.Prelude.{slice_get}
 use Rattle.std.proofs.lemmas.Bool.{cases_lt}
 use Rattle.std.proofs.lemmas.List.{length_push}
@@ -9,8 +9,8 @@ use Rattle.cfs_model.specs.Settings.{Settings}
 use Rattle.queue_replay.specs.declared.page.Page.{Page}
 use Rattle.sched_record.specs.Record.{RecordView}
 use Rattle.ticket_book.specs.Book.{place_of}
-use Rattle.ticket_book.specs.Remade.{AreRemade, AreRemadeBelow, Suffices}
-use Rattle.ticket_book.specs.Whole.{AreWhole, IsWholePageOf}
+use Rattle.ticket_book.specs.Remade.{AreRemadeBelow, Suffices}
+use Rattle.ticket_book.specs.Whole.{IsWholePageOf}
 
 -- so many processors have their page, of what is left of a book's places; and so many of the pages were made again
 pub record AreGathered (knobs : Settings) (r : RecordView) (places left : List (Option Page)) (pages : List Page) (cpu remade : ℕ)
@@ -83,12 +83,3 @@ module _ (knobs : Settings) (r : RecordView) (places left after : List (Option P
       let short : ¬ Suffices knobs r cpu (place_of places cpu) =
       subst (λ place. ¬ Suffices knobs r cpu place) (gathered.left_are cpu (omega arith)) lacks in
       more (remade + 1) (inr (short, (remade, add-one remade, gathered.remade_are))) (let few = gathered.few in omega (arith, few))
-
--- all processors have their page
-pub all_gathered : (knobs : Settings) (r : RecordView) (places left : List (Option Page)) (pages : List Page) (cpu remade : ℕ)
-    → AreGathered knobs r places left pages cpu remade → cpu ≡ r.cpus
-    → AreWhole knobs r pages × AreRemade knobs r places remade
-all_gathered knobs r places left pages cpu remade gathered all = (
-  record { count = gathered.count ∙ all; each = gathered.whole },
-  subst (λ n. AreRemadeBelow knobs r places n remade) all gathered.remade_are,
-)

@@ -1,5 +1,5 @@
 -- What a stream holds beside its tasks and steps (this project's profile).
-use Rattle.std.specs.Prelude.{◌≡◌, ℕ, ◌==◌, Bool, ◌&&◌, pos, slice_index_or}
+use Rattle.std.specs.Prelude.{ℕ, ◌==◌, Bool, ◌&&◌, pos, slice_index_or}
 use Rattle.std.specs.Ordering.{int_eq}
 use Rattle.sched_record.specs.Record.{RecordView, record_last_time, record_last_line}
 use Rattle.sched_record.specs.Stream.{StreamView}

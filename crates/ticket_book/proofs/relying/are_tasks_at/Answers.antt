@@ -1,4 +1,4 @@
-use Rattle.std.proofs.Common.{◌≡◌, ◌<◌, sym, ap, ◌∙◌, subst, length, take, ◌+◌, arith}
+use Rattle.std.proofs.Common.{◌<◌, sym, ◌∙◌, subst, length, take, ◌+◌, arith}
 use Rattle.std.proofs.lemmas.Bool.{eq-eqb, ne_eqb}
 use Rattle.std.proofs.lemmas.List.{get_or_default}
 use Rattle.ticket_book.proofs.Tasks.{HasWalked, other_task, same_task, tasks_differ, walked_here, walked_past}

@@ -1,4 +1,3 @@
-use Rattle.std.proofs.Common.{ℕ}
 use Rattle.ticket_book.specs.declared.cursor.Cursor.TheVariants.{At}
 use Rattle.ticket_book.proofs.Following.{followed_here, followed_past, set_elsewhere}
 use Rattle.ticket_book.proofs.walking.follow_at.Goals as goal

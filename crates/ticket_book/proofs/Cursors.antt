@@ -1,7 +1,7 @@
 -- A list that is compared with another, which comes item by item: while all were equal, what came is the first of it.
 -- Once one differed, what came never is again, whatever comes.
 use Rattle.std.proofs.Common.{◌≡◌, ◌≢◌, ℕ, ◌+◌, ◌<◌, List, [], ◌∷◌, ◌++◌, length, take, get_or, sym, ap, ◌∙◌, arith}
-use Rattle.std.proofs.lemmas.List.{length_push, length-take, same_from_push, take_all, take_more}
+use Rattle.std.proofs.lemmas.List.{length_push, length-take, same_from_push, take_more}
 
 -- what was pushed lies within the list, and is what stands there
 record IsPushed {X : Type 0} (xs front : List X) (x : X) : Type 0 where
@@ -23,26 +23,12 @@ pub keeps_up : {X : Type 0} (xs front : List X) (place : ℕ) (x : X) → place 
     → place < length xs → get_or xs place x ≡ x
     → (place + 1 ≡ length (front ++ x ∷ [])) × (front ++ x ∷ [] ≡ take (place + 1) xs)
 keeps_up xs front place x count same within here =
-    let pushed_count = length_push front x in
-    (omega (arith, pushed_count),
-    ap (λ ys. ys ++ x ∷ []) same ∙ ap (λ y. take place xs ++ y ∷ []) (sym here) ∙ sym (take_more xs place x within))
-
--- one more that differs, or that is one too many
-pub falls_apart : {X : Type 0} (xs front : List X) (place : ℕ) (x : X) → place ≡ length front
-    → (place < length xs → get_or xs place x ≡ x → ⊥) → front ++ x ∷ [] ≢ take (length (front ++ x ∷ [])) xs
-falls_apart xs front place x count other e =
-    let is = pushed xs front x e in
-    other (let within = is.within in omega (arith, within)) (ap (λ n. get_or xs n x) count ∙ sym is.last_is)
+    let pushed_count = length_push front x in (
+      omega (arith, pushed_count),
+      ap (λ ys. ys ++ x ∷ []) same ∙ ap (λ y. take place xs ++ y ∷ []) (sym here) ∙ sym (take_more xs place x within),
+    )
 
 -- one more, where one differed
 pub stays_apart : {X : Type 0} (xs front : List X) (x : X) → front ≢ take (length front) xs
     → front ++ x ∷ [] ≢ take (length (front ++ x ∷ [])) xs
 stays_apart xs front x apart e = apart (pushed xs front x e).front_is
-
--- all came
-pub all_came : {X : Type 0} (xs front : List X) (place : ℕ) → front ≡ take place xs → place ≡ length xs → xs ≡ front
-all_came xs front place same all = sym (same ∙ ap (λ n. take n xs) all ∙ take_all (length xs) xs (omega arith))
-
--- the same list never differs
-pub never_apart : {X : Type 0} (xs front : List X) → xs ≡ front → front ≡ take (length front) xs
-never_apart xs front same = sym same ∙ sym (take_all (length front) xs (let count = ap length same in omega (arith, count)))

@@ -1,3 +1,6 @@
 mod Cursors
 mod Following
+mod Framed
+mod Gathering
 mod Places
+mod Tasks

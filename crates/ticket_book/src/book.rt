@@ -73,6 +73,13 @@ impl Book {
     {
         self.least
     }
+
+    /// The places of the book's processors.
+    pub(crate) fn into_places(self) -> Vec<Option<Page>>
+        ensures { result.items ≡ book_view self }
+    {
+        self.places
+    }
 }
 
 /// The line of a page's fault.

@@ -5,6 +5,8 @@ mod book;
 mod closed;
 mod cursor;
 mod post_fault;
+mod relying;
+mod remaking;
 mod summary;
 mod verdict;
 mod walking;

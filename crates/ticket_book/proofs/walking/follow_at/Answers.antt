@@ -1,12 +1,11 @@
-use Rattle.std.proofs.Common.{ℕ}
 use Rattle.ticket_book.specs.declared.cursor.Cursor.TheVariants.{At}
 use Rattle.ticket_book.proofs.Following.{followed_here, followed_past, set_elsewhere}
 use Rattle.ticket_book.proofs.walking.follow_at.Goals as goal
 
 pub returns-then-place-cursors-clause-here : goal.returns-then-place-cursors-clause-here
 returns-then-place-cursors-clause-here c = λ dealt.
-  followed_here c.args.places.now c.args.cursors.now c.args.cpu c.steps_of.result.now dealt (At 0) c.after.result c.args.step c.steps_of.ensures
-  c.if-place-cursors.true (c.after.ensures dealt)
+    followed_here c.args.places.now c.args.cursors.now c.args.cpu c.steps_of.result.now dealt (At 0) c.after.result c.args.step c.steps_of.ensures
+    c.if-place-cursors.true (c.after.ensures dealt)
 
 pub returns-then-place-cursors-clause-others : goal.returns-then-place-cursors-clause-others
 returns-then-place-cursors-clause-others c = λ other ne. set_elsewhere c.args.cursors.now c.args.cpu other c.after.result ne

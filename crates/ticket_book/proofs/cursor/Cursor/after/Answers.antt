@@ -9,10 +9,10 @@ use Rattle.ticket_book.proofs.cursor.Cursor.after.Goals as goal
 
 pub returns-then-eq : goal.returns-then-eq
 returns-then-eq c = λ dealt at.
-  (let here : IsCursor c.args.steps.now dealt (At c.in-At.place) = rw c.in-At.is at at in
-  let same = (Decides-at c.eq.result _ (search rules) (step_decides c.index-steps-place.result c.args.step)).0 c.if-eq.true in
-  keeps_up c.args.steps.now dealt c.in-At.place c.args.step here.0 here.1 c.if-place-steps.true
-  (get_or_default c.args.steps.now c.in-At.place c.args.step c.index-steps-place.result c.if-place-steps.true ∙ sym c.index-steps-place.is ∙ same))
+    (let here : IsCursor c.args.steps.now dealt (At c.in-At.place) = rw c.in-At.is at at in
+    let same = (Decides-at c.eq.result _ (search rules) (step_decides c.index-steps-place.result c.args.step)).0 c.if-eq.true in
+    keeps_up c.args.steps.now dealt c.in-At.place c.args.step here.0 here.1 c.if-place-steps.true
+    (get_or_default c.args.steps.now c.in-At.place c.args.step c.index-steps-place.result c.if-place-steps.true ∙ sym c.index-steps-place.is ∙ same))
 
 pub returns-in-Apart : goal.returns-in-Apart
 returns-in-Apart c = λ dealt apart. stays_apart c.args.steps.now dealt c.args.step (rw c.in-Apart.is at apart)

@@ -1,0 +1,79 @@
+//! Whether a verdict can rest on a page.
+ghost use Rattle.std.specs.Prelude.{◌≡◌, ◌<◌, ◌≤◌, ◌⊎◌, ◌↔◌, IsSome, IsTrue, length};
+ghost use Rattle.replay_model.specs.Cut.{tasks_at};
+ghost use Rattle.sched_record.specs.Record.{record_view};
+ghost use Rattle.sched_record.specs.Stream.{cut_of, stream_view};
+ghost use Rattle.ticket_book.specs.Cursor.{IsCursor};
+ghost use Rattle.ticket_book.specs.Framed.{is_framed};
+ghost use Rattle.ticket_book.specs.Whole.{IsWholePageOf};
+
+use crate::cursor::Cursor;
+use cfs_model::{Knobs, Task};
+use queue_replay::{Page, Reached};
+use sched_record::{Record, Stream};
+
+/// Whether a page is whole, of the record's stream for a processor and with these settings. The cursor is that of the
+/// page's stream, with all events dealt.
+pub(crate) fn is_whole_page_of(
+    page: &Page,
+    joined: &Record,
+    cpu: u32,
+    knobs: Knobs,
+    cursor: Cursor,
+) -> bool
+    requires below { cpu < (record_view joined.now).cpus }
+    requires followed { IsCursor (stream_view page.now.stream).steps (cut_of (record_view joined.now) cpu).steps cursor }
+    ensures { IsTrue result ↔ IsWholePageOf knobs (record_view joined.now) cpu page.now }
+{
+    page.knobs() == knobs && is_whole(page) && is_cut_of(page.stream(), joined, cpu, cursor)
+}
+
+/// Whether a page's replay went to its first fault or to the end.
+fn is_whole(page: &Page) -> bool
+    ensures { IsTrue result ↔ (IsSome page.now.fault ⊎ (length (stream_view page.now.stream).steps ≤ page.now.made)) }
+{
+    match page.tag().reached {
+        Reached::Done | Reached::Faulted(_) => true,
+        Reached::Stopped(_) => false,
+    }
+}
+
+/// Whether a stream is what a processor sees of the record. The cursor is the stream's, with all events dealt.
+fn is_cut_of(stream: &Stream, joined: &Record, cpu: u32, cursor: Cursor) -> bool
+    requires below { cpu < (record_view joined.now).cpus }
+    requires followed { IsCursor (stream_view stream.now).steps (cut_of (record_view joined.now) cpu).steps cursor }
+    ensures { IsTrue result ↔ (stream_view stream.now ≡ cut_of (record_view joined.now) cpu) }
+{
+    let same_steps = cursor.is_at_end(stream.steps());
+    let same_tasks = are_tasks_at(stream.tasks(), joined.tasks(), cpu);
+    let same_frame = is_framed(stream, joined, cpu);
+    same_steps && same_tasks && same_frame
+}
+
+/// Whether a stream's processor, floor and times are those of the record for a processor.
+fn is_framed(stream: &Stream, joined: &Record, cpu: u32) -> bool
+    requires { cpu < (record_view joined.now).cpus }
+    ensures { result ≡ is_framed (record_view joined.now) cpu (stream_view stream.now) }
+{
+    stream.cpu() == cpu
+        && stream.floor() == joined.floors()[cpu as usize]
+        && stream.start() == joined.start()
+        && stream.last_time() == joined.last_time()
+        && stream.last_line() == joined.last_line()
+}
+
+/// Whether some tasks are those of a record that stand at a processor.
+fn are_tasks_at(here: &[Task], tasks: &[Task], cpu: u32) -> bool
+    ensures { IsTrue result ↔ (here.now ≡ tasks_at cpu tasks.now) }
+{
+    let mut place = 0;
+    for task in tasks {
+        if task.cpu == cpu {
+            if place == here.len() || here[place] != *task {
+                return false;
+            }
+            place += 1;
+        }
+    }
+    place == here.len()
+}

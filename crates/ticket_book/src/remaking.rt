@@ -1,0 +1,101 @@
+//! A whole page for each processor: of a book's pages those that a verdict can rest on, and the others made again.
+ghost use Rattle.std.specs.Prelude.{◌≡◌, ◌≢◌, ℕ, None, Some, ◌<◌, IfOk, IfSome};
+ghost use Rattle.sched_record.specs.Record.{record_view};
+ghost use Rattle.sched_record.specs.Stream.{cut_of};
+ghost use Rattle.ticket_book.specs.Book.{place_of};
+ghost use Rattle.ticket_book.specs.BookView.{book_view};
+ghost use Rattle.ticket_book.specs.Cursor.{IsCursor, steps_in};
+ghost use Rattle.ticket_book.specs.Remade.{AreRemade, Suffices};
+ghost use Rattle.ticket_book.specs.Whole.{AreWhole, IsWholePageOf};
+
+use crate::Book;
+use crate::cursor::Cursor;
+use crate::relying::is_whole_page_of;
+use crate::walking::cursors_of;
+use cfs_model::{Knobs, Memory};
+use queue_replay::{Page, Replay};
+use sched_record::Record;
+use std::alloc::Global;
+
+/// A whole page for each of the record's processors, and how many had to be made again for it.
+pub(crate) fn whole_pages(
+    alloc: Global,
+    book: Book,
+    joined: &Record,
+    knobs: Knobs,
+) -> Result<(Vec<Page>, u32), Memory>
+    ensures whole { IfOk result (λ made. AreWhole knobs (record_view joined.now) made.0.items) }
+    ensures remade { IfOk result (λ made. AreRemade knobs (record_view joined.now) (book_view book) made.1) }
+{
+    let mut places = book.into_places();
+    let cursors = cursors_of(alloc, &places, joined)?;
+    let left = places.as_mut_slice();
+    let mut pages = Vec::with_capacity(alloc, joined.cpus() as usize)?;
+    let mut remade = 0;
+    for cpu in 0..joined.cpus() {
+        let place = take_page(left, cpu);
+        let page = match relied_on(place, joined, cpu, knobs, cursors[cpu as usize]) {
+            Some(page) => page,
+            None => {
+                remade += 1;
+                made_again(alloc, joined, cpu, knobs)?
+            }
+        };
+        pages.push(page)?;
+    }
+    Ok((pages, remade))
+}
+
+/// Takes a processor's page out of its place.
+fn take_page(places: &mut [Option<Page>], cpu: u32) -> Option<Page>
+    ensures page { result ≡ place_of places.old cpu }
+    ensures others { (other : ℕ) → other ≢ cpu → place_of places.new other ≡ place_of places.old other }
+{
+    let place = cpu as usize;
+    if place < places.len() {
+        places[place].take()
+    } else {
+        None
+    }
+}
+
+/// The page from a processor's place, where a verdict can rest on it. The cursor is that of the page's stream, with all
+/// events dealt.
+fn relied_on(
+    place: Option<Page>,
+    joined: &Record,
+    cpu: u32,
+    knobs: Knobs,
+    cursor: Cursor,
+) -> Option<Page>
+    requires below { cpu < (record_view joined.now).cpus }
+    requires followed { IsCursor (steps_in place) (cut_of (record_view joined.now) cpu).steps cursor }
+    ensures whole { IfSome result (IsWholePageOf knobs (record_view joined.now) cpu) }
+    ensures same { IfSome result (λ page. place ≡ Some page) }
+    ensures none { result ≡ None → ¬ Suffices knobs (record_view joined.now) cpu place }
+{
+    match place {
+        Some(page) => {
+            if is_whole_page_of(&page, joined, cpu, knobs, cursor) {
+                Some(page)
+            } else {
+                None
+            }
+        }
+        None => None,
+    }
+}
+
+/// The page of the record's stream for a processor, replayed to its first fault or to the end.
+fn made_again(alloc: Global, joined: &Record, cpu: u32, knobs: Knobs) -> Result<Page, Memory>
+    requires { cpu < (record_view joined.now).cpus }
+    ensures { IfOk result (IsWholePageOf knobs (record_view joined.now) cpu) }
+{
+    let stream = joined.deal(cpu)?;
+    let mut replay = match Replay::new(alloc, stream, knobs) {
+        Ok(replay) => replay,
+        Err((_stream, memory)) => return Err(memory),
+    };
+    let _state = replay.go_on(u64::MAX)?;
+    Ok(replay.page())
+}

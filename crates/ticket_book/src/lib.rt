@@ -1,6 +1,7 @@
 //! The book in which the pages of all processors meet, and the verdict that they come to together.
 #![tactic(auto)]
 
+mod alive;
 mod closed;
 mod post_fault;
 mod summary;

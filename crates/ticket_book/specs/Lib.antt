@@ -1,3 +1,4 @@
 pub mod Alive
+pub mod Places
 pub mod Verdict
 pub mod Whole

@@ -3,6 +3,7 @@
 
 mod alive;
 mod closed;
+mod places;
 mod post_fault;
 mod summary;
 mod verdict;

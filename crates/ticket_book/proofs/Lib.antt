@@ -1,2 +1,4 @@
+pub mod Deadlines
 pub mod Living
 pub mod TicketsPassed
+pub mod Views

@@ -1,4 +1,6 @@
 pub mod Alive
+pub mod Idling
 pub mod Places
+pub mod Told
 pub mod Verdict
 pub mod Whole

@@ -2,7 +2,9 @@
 #![tactic(auto)]
 
 mod alive;
+mod cause;
 mod closed;
+mod idling;
 mod places;
 mod post_fault;
 mod summary;

@@ -33,6 +33,18 @@ pub(crate) fn first_deadline(pages: &[Page]) -> Option<u64>
     first
 }
 
+/// The lowest processor whose deadline is before a time, where the first of all is known.
+pub(crate) fn late(pages: &[Page], first: Option<u64>, time: u64) -> Option<usize>
+    requires { NoneFirst pages.now first (length pages.now) }
+    ensures none { IfNone result (NoneLate pages.now time (length pages.now)) }
+    ensures found { IfSome result (λ cpu. IsFirstLate pages.now time cpu) }
+{
+    match first {
+        Some(deadline) if deadline < time => first_late(pages, time),
+        _ => None,
+    }
+}
+
 /// The lowest processor whose deadline is before a time.
 fn first_late(pages: &[Page], time: u64) -> Option<usize>
     ensures none { IfNone result (NoneLate pages.now time (length pages.now)) }

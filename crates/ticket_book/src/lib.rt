@@ -9,6 +9,7 @@ mod places;
 mod post_fault;
 mod summary;
 mod verdict;
+mod walk;
 
 pub use closed::Closed;
 pub use post_fault::PostFault;

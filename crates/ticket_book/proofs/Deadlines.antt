@@ -1,6 +1,6 @@
 -- Deadlines along a list of pages: the first, and the lowest processor that is late.
-use Rattle.std.proofs.Common.{◌≡◌, ℕ, ◌+◌, ◌<◌, ◌≤◌, nat_lt, Bool, true, false, cond, Option, Some, None, List, length, get_or, refl, sym, ap, ◌∙◌, subst, below_more, arith, inl, inr, ◌⊎◌}
-use Rattle.std.proofs.lemmas.Bool.{ltb-false, ltb-true, le-ltb, cases_lt, lt-ltb}
+use Rattle.std.proofs.Common.{◌≡◌, ℕ, ◌+◌, ◌<◌, ◌≤◌, nat_lt, true, false, cond, Option, Some, None, List, length, get_or, refl, sym, ap, ◌∙◌, subst, below_more, arith, inl, inr}
+use Rattle.std.proofs.lemmas.Bool.{ltb-false, le-ltb, cases_lt, lt-ltb}
 use Rattle.queue_replay.specs.Page.{page_view}
 use Rattle.queue_replay.specs.declared.page.Page.{Page}
 use Rattle.ticket_book.specs.Told.{view_at}

@@ -3,5 +3,7 @@ pub mod Living
 pub mod SameTicket
 pub mod Saying
 pub mod Standing
+pub mod TicketOrder
 pub mod TicketsPassed
 pub mod Views
+pub mod Walked

@@ -1,21 +1,21 @@
 -- What the walk's answer at one event says in the words of the closing: by what the event does, and whether a page's
 -- fault is of it.
-use Rattle.std.proofs.Common.{◌≡◌, ◌≢◌, ℕ, suc, ◌<◌, nat_eq, nat_lt, Bool, true, false, ◌||◌, cond, Option, Some, None, is_none, option_and_then, MatchOption, ℤ, inl, inr, ◌⊎◌, List, [], ◌∷◌, length, All, refl, sym, ap, ◌∙◌, subst, ◌&&◌, lit<, arith, true≢false}
+use Rattle.std.proofs.Common.{◌≡◌, ◌≢◌, ℕ, ◌<◌, nat_eq, Bool, true, false, ◌||◌, cond, Option, Some, None, is_none, option_and_then, MatchOption, ℤ, inl, inr, List, [], ◌∷◌, length, refl, sym, ap, ◌∙◌, subst, ◌&&◌, true≢false}
 use Rattle.std.specs.List.{AllByRecursion, list_any}
 use Rattle.std.specs.Option.{option_or}
-use Rattle.std.proofs.lemmas.Bool.{eqb-true, eq-eqb, ne_eqb, ltb-true, lt-ltb}
+use Rattle.std.proofs.lemmas.Bool.{eqb-true, eq-eqb, ltb-true, lt-ltb}
 use Rattle.cfs_model.specs.Claimed.{Claimed}
 use Rattle.cfs_model.specs.Touch.{touched}
 use Rattle.cfs_model.specs.declared.act.Act.{Act}
 use Rattle.cfs_model.specs.declared.act.Act.TheVariants.{Switch, Wake, Born, Shift}
 use Rattle.cfs_model.specs.declared.act.Way.{Way}
 use Rattle.cfs_model.specs.declared.kind.Kind.TheVariants.{IdleTooLong, TicketUnequal}
-use Rattle.replay_model.specs.Closing.{IdlesBefore, FailsHere, IsPageCause, IsActCauseOf, IsCauseOf, IsIdlingCauseOf}
+use Rattle.replay_model.specs.Closing.{IdlesBefore, FailsHere, IsPageCause, IsActCauseOf, IsCauseOf}
 use Rattle.replay_model.specs.Composition.{BirthIsNew, TicketsAgree, ticket_at}
 use Rattle.replay_model.specs.Noted.{PageView}
 use Rattle.replay_model.specs.declared.page.StepFault.{StepFault}
 use Rattle.queue_replay.specs.declared.page.Page.{Page}
-use Rattle.ticket_book.specs.Idling.{IsFirstLate, NoneLate, deadline_on, is_past}
+use Rattle.ticket_book.specs.Idling.{IsFirstLate, NoneLate, is_past}
 use Rattle.ticket_book.specs.Told.{Allow, AllowAct, cause_view, view_at}
 use Rattle.ticket_book.specs.Walk.{AllowShift, IsShiftCause, born_twice_on, failed_on}
 use Rattle.ticket_book.specs.declared.cause.Cause.{Cause}

@@ -1,7 +1,5 @@
 -- What is told of the page at a place in a list of pages.
-use Rattle.std.proofs.Common.{◌≡◌, ℕ, zero, suc, ◌<◌, List, [], ◌∷◌, Some, length, get_or, ap, refl, sym, ◌∙◌, subst, arith}
-use Rattle.std.specs.Prelude.{slice_get}
-use Rattle.std.proofs.lemmas.List.{get_or_default}
+use Rattle.std.proofs.Common.{◌≡◌, ℕ, zero, suc, ◌<◌, List, [], ◌∷◌, length, get_or, ap, sym, arith}
 use Rattle.queue_replay.specs.Page.{page_view}
 use Rattle.queue_replay.specs.declared.page.Page.{Page}
 use Rattle.ticket_book.specs.Told.{view_at}

@@ -2,7 +2,6 @@
 use Rattle.std.specs.Prelude.{◌≡◌, ℕ, ◌≤◌, ◌⊎◌, IsSome, Some, List, length, slice_get}
 use Rattle.cfs_model.specs.Settings.{Settings}
 use Rattle.queue_replay.specs.declared.page.Page.{Page}
-use Rattle.queue_replay.specs.Page.{page_view}
 use Rattle.sched_record.specs.Record.{RecordView}
 use Rattle.sched_record.specs.Stream.{cut_of, stream_view}
 

@@ -4,6 +4,7 @@
 mod alive;
 mod cause;
 mod closed;
+mod closing;
 mod idling;
 mod places;
 mod post_fault;

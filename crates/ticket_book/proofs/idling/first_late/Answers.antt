@@ -1,4 +1,4 @@
-use Rattle.std.proofs.Common.{◌≡◌, ◌+◌, ap, sym, subst, arith}
+use Rattle.std.proofs.Common.{sym}
 use Rattle.ticket_book.proofs.Deadlines.{one_in_time, first_late}
 use Rattle.ticket_book.proofs.idling.first_late.Goals as goal
 

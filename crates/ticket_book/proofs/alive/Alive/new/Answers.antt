@@ -1,4 +1,4 @@
-use Rattle.std.proofs.Common.{take, get_or, ◌++◌, ◌+◌, ◌∷◌, [], ◌≡◌, ap, sym, subst, ◌∙◌, arith}
+use Rattle.std.proofs.Common.{take, ◌++◌, ◌+◌, ◌∷◌, [], ◌≡◌, ap, sym, ◌∙◌}
 use Rattle.std.proofs.lemmas.List.{take_more}
 use Rattle.replay_model.specs.Composition.{named}
 use Rattle.ticket_book.specs.Alive.{alive_view}

@@ -1,4 +1,4 @@
-use Rattle.std.proofs.Common.{sym, ap, subst, ◌∙◌}
+use Rattle.std.proofs.Common.{sym, ap, subst}
 use Rattle.ticket_book.specs.Alive.{alive_view}
 use Rattle.std.specs.Option.{MatchOption}
 use Rattle.replay_model.specs.Closing.{IsActCauseOf}

@@ -7,3 +7,4 @@ pub mod TicketOrder
 pub mod TicketsPassed
 pub mod Views
 pub mod Walked
+pub mod Verdicts

@@ -1,14 +1,48 @@
-ghost use Rattle.std.specs.Prelude.{◌≡◌, IfOk, length};
+ghost use Rattle.std.specs.Prelude.{◌≡◌, ℕ, IfOk, length, slice_get};
 ghost use Rattle.cfs_model.specs.Claimed.{claimed};
+ghost use Rattle.replay_model.specs.Closing.{PagesTellFault, PagesTellRun};
+ghost use Rattle.replay_model.specs.Page.{IsPageOf};
+ghost use Rattle.queue_replay.specs.Page.{page_view};
+ghost use Rattle.queue_replay.specs.declared.page.Page.{Page};
 ghost use Rattle.sched_record.specs.Record.{record_view};
+ghost use Rattle.sched_record.specs.Stream.{stream_view};
 ghost use Rattle.ticket_book.specs.Told.{Tell, view_at};
+ghost use Rattle.ticket_book.specs.Verdict.{IsVerdict};
+ghost use Rattle.ticket_book.specs.Whole.{AreWhole};
 
 use crate::walk::Walk;
 use crate::{Summary, Verdict};
-use cfs_model::Memory;
+use cfs_model::{Knobs, Memory};
 use queue_replay::Page;
 use sched_record::Record;
 use std::alloc::Global;
+
+/// The verdict on a record to which whole pages come together.
+pub(crate) fn verdict_on(
+    alloc: Global,
+    pages: &[Page],
+    joined: &Record,
+    knobs: Knobs,
+) -> Result<Verdict, Memory>
+    requires { AreWhole knobs (record_view joined.now) pages.now }
+    ensures { IfOk result (IsVerdict knobs (record_view joined.now)) }
+{
+    closing();
+    own_pages(pages);
+    told_by(alloc, pages, joined)
+}
+
+/// What the pages of all processors tell of a record.
+fn closing()
+    ensures run { PagesTellRun }
+    ensures fault { PagesTellFault }
+{}
+
+/// Each page is the page of its stream by the steps made.
+fn own_pages(pages: &[Page])
+    ensures { (cpu : ℕ) (page : Page) → slice_get pages.now cpu ≡ Some page
+        → IsPageOf (stream_view page.stream) page.knobs page.made (page_view page) }
+{}
 
 /// What the pages of a record's processors tell of its events, which are walked once.
 pub(crate) fn told_by(alloc: Global, pages: &[Page], joined: &Record) -> Result<Verdict, Memory>

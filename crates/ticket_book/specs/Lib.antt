@@ -3,5 +3,10 @@ pub mod BookView
 pub mod Cursor
 pub mod Framed
 pub mod Remade
+pub mod Alive
+pub mod Idling
+pub mod Places
+pub mod Told
 pub mod Verdict
+pub mod Walk
 pub mod Whole

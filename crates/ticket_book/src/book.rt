@@ -2,10 +2,13 @@ ghost use Rattle.std.specs.Prelude.{◌≡◌, ◌<◌, ◌≤◌, None, Some, I
 ghost use Rattle.sched_record.specs.Stream.{stream_view};
 ghost use Rattle.ticket_book.specs.Book.{IsBook, fault_line, greatest_cpus, least_line, refusal_in, refusal_of};
 
-use crate::PostFault;
-use cfs_model::Memory;
+use crate::closing::verdict_on;
+use crate::remaking::whole_pages;
+use crate::{Closed, PostFault};
+use cfs_model::{Knobs, Memory};
 use queue_replay::Page;
 use replay_model::StepFault;
+use sched_record::Record;
 use std::alloc::Global;
 
 /// The line that is told where no page has a fault.
@@ -20,7 +23,10 @@ pub struct Book {
 }
 
 impl Book {
+    ghost use Rattle.sched_record.specs.Record.{record_view};
     ghost use Rattle.ticket_book.specs.BookView.{book_view};
+    ghost use Rattle.ticket_book.specs.Remade.{AreRemade};
+    ghost use Rattle.ticket_book.specs.Verdict.{IsVerdict};
 
     /// A book without pages for so many processors, 1 to 64, with the room for all their pages.
     pub fn new(alloc: Global, cpus: u32) -> Result<Book, Memory>
@@ -72,6 +78,18 @@ impl Book {
         ensures { result ≡ least_line (book_view self.now) }
     {
         self.least
+    }
+
+    /// The verdict on a record: of the book's pages those that it can rest on are relied on, and the others are made again.
+    /// The book may have been made for another number of processors.
+    pub fn close(self, joined: &Record, knobs: Knobs) -> Result<Closed, Memory>
+        ensures verdict { IfOk result (λ closed. IsVerdict knobs (record_view joined.now) closed.verdict) }
+        ensures remade { IfOk result (λ closed. AreRemade knobs (record_view joined.now) (book_view self) closed.remade) }
+    {
+        let alloc = *self.places.allocator();
+        let (pages, remade) = whole_pages(alloc, self, joined, knobs)?;
+        let verdict = verdict_on(alloc, &pages, joined, knobs)?;
+        Ok(Closed { verdict, remade })
     }
 
     /// The places of the book's processors.

@@ -1,18 +1,25 @@
 //! The book in which the pages of all processors meet, and the verdict that they come to together.
 #![tactic(auto)]
 
+mod alive;
 mod book;
+mod cause;
 mod closed;
+mod closing;
 mod cursor;
+mod following;
+mod idling;
+mod places;
 mod post_fault;
 mod relying;
 mod remaking;
 mod summary;
 mod verdict;
-mod walking;
+mod walk;
 
 pub use book::{Book, NO_FAULT};
 pub use closed::Closed;
 pub use post_fault::PostFault;
+pub use remaking::whole_page;
 pub use summary::Summary;
 pub use verdict::Verdict;

@@ -11,7 +11,7 @@ ghost use Rattle.ticket_book.specs.Whole.{AreWhole, IsWholePageOf};
 use crate::Book;
 use crate::cursor::Cursor;
 use crate::relying::is_whole_page_of;
-use crate::walking::cursors_of;
+use crate::following::cursors_of;
 use cfs_model::{Knobs, Memory};
 use queue_replay::{Page, Replay};
 use sched_record::Record;
@@ -38,7 +38,7 @@ pub(crate) fn whole_pages(
             Some(page) => page,
             None => {
                 remade += 1;
-                made_again(alloc, joined, cpu, knobs)?
+                whole_page(alloc, joined, cpu, knobs)?
             }
         };
         pages.push(page)?;
@@ -86,8 +86,8 @@ fn relied_on(
     }
 }
 
-/// The page of the record's stream for a processor, replayed to its first fault or to the end.
-fn made_again(alloc: Global, joined: &Record, cpu: u32, knobs: Knobs) -> Result<Page, Memory>
+/// The page of a record's processor, replayed to its first fault or to the end.
+pub fn whole_page(alloc: Global, joined: &Record, cpu: u32, knobs: Knobs) -> Result<Page, Memory>
     requires { cpu < (record_view joined.now).cpus }
     ensures { IfOk result (IsWholePageOf knobs (record_view joined.now) cpu) }
 {

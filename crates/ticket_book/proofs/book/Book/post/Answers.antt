@@ -1,7 +1,7 @@
 use Rattle.std.proofs.Common.{◌≡◌, ◌∙◌, sym, ap, subst, set, Some, min}
 use Rattle.ticket_book.specs.Book.{IsBook, fault_line}
 use Rattle.sched_record.specs.declared.stream.Stream.{Stream}
-use Rattle.ticket_book.proofs.Places.{book_put, room}
+use Rattle.ticket_book.proofs.BookPlaces.{book_put, room}
 use Rattle.ticket_book.proofs.book.Book.post.Goals as goal
 
 pub invariant_of-self : goal.invariant_of-self

@@ -1,6 +1,6 @@
 use Rattle.ticket_book.specs.declared.cursor.Cursor.TheVariants.{At}
-use Rattle.ticket_book.proofs.Following.{followed_here, followed_past, set_elsewhere}
-use Rattle.ticket_book.proofs.walking.follow_at.Goals as goal
+use Rattle.ticket_book.proofs.StreamsFollowed.{followed_here, followed_past, set_elsewhere}
+use Rattle.ticket_book.proofs.following.follow_at.Goals as goal
 
 pub returns-then-place-cursors-clause-here : goal.returns-then-place-cursors-clause-here
 returns-then-place-cursors-clause-here c = λ dealt.

@@ -3,7 +3,7 @@ use Rattle.cfs_model.specs.Claimed.{claimed}
 use Rattle.sched_record.specs.Beside.{IsClaimPlace}
 use Rattle.sched_record.specs.Record.{record_view}
 use Rattle.ticket_book.specs.Cursor.{AreFollowed}
-use Rattle.ticket_book.proofs.walking.cursors_of.Given as goal
+use Rattle.ticket_book.proofs.following.cursors_of.Given as goal
 
 abbrev pub invariant-loop-index : goal.invariant-loop-index
 invariant-loop-index l = record {

@@ -4,7 +4,7 @@ use Rattle.cfs_model.specs.Claimed.{claimed}
 use Rattle.cfs_model.specs.declared.act.Entry.{Entry}
 use Rattle.sched_record.specs.Record.{record_view}
 use Rattle.ticket_book.specs.Cursor.{AreFollowed}
-use Rattle.ticket_book.proofs.walking.cursors_of.Goals as goal
+use Rattle.ticket_book.proofs.following.cursors_of.Goals as goal
 
 pub returns-clause-followed : goal.returns-clause-followed
 returns-clause-followed c =

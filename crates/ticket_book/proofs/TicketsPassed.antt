@@ -1,0 +1,56 @@
+-- Of tickets whose lines rise, the ticket of a line is at the first place that isn't below it.
+use Rattle.std.proofs.Common.{◌≡◌, ℕ, zero, suc, ◌<◌, ◌≤◌, cond, inl, inr, ◌⊎◌, Some, None, List, [], ◌∷◌, length, get_or, take, refl, sym, ap, subst, ◌∙◌, suc-le-suc, arith}
+use Rattle.std.specs.Prelude.{All, slice_get}
+use Rattle.std.specs.List.{AllPairs}
+use Rattle.std.proofs.lemmas.Bool.{eq-eqb, ne_eqb, cases_lt}
+use Rattle.std.proofs.lemmas.List.{get_or-take, length-take}
+use Rattle.cfs_model.proofs.Moves.{same_or_not}
+use Rattle.replay_model.specs.Composition.{ticket_at}
+use Rattle.replay_model.specs.declared.page.Ticket.{Ticket}
+use Rattle.ticket_book.specs.Places.{AreBelow, if_of_line}
+
+-- no ticket is of a line below all
+none_above : (line : ℕ) (ts : List Ticket) → All (λ t. line < t.line) ts → ticket_at line ts ≡ None
+none_above line [] above = refl
+none_above line (t ∷ ts) above =
+    let here = above 0 t (omega arith) in
+    ap (λ b. cond b (Some t) (ticket_at line ts)) (ne_eqb t.line line (λ e. absurd (omega arith)))
+    ∙ none_above line ts (λ k d h. above (suc k) d (suc-le-suc h))
+
+-- the ticket at the first place that isn't below the line, or none
+pub ticket_here : (line : ℕ) (ts : List Ticket) (place : ℕ) → AllPairs (λ t u. t.line ≤ u.line) ts
+    → AreBelow line (take place ts) → ((d : Ticket) → place < length ts → line ≤ (get_or ts place d).line)
+    → if_of_line line (slice_get ts place) ≡ ticket_at line ts
+ticket_here line [] zero rise below reached = refl
+ticket_here line [] (suc place) rise below reached = refl
+ticket_here line (t ∷ ts) zero rise below reached = elim (same_or_not t.line line) [
+  | inl same ↦ ap (λ b. cond b (Some t) None) (eq-eqb t.line line same)
+      ∙ sym (ap (λ b. cond b (Some t) (ticket_at line ts)) (eq-eqb t.line line same))
+  | inr ne ↦ let at : line ≤ t.line = reached t (omega arith) in
+      ap (λ b. cond b (Some t) None) (ne_eqb t.line line ne)
+      ∙ sym (none_above line ts (λ k d h. let later = rise 0 (suc k) d (omega arith) (suc-le-suc h) in omega arith))
+      ∙ sym (ap (λ b. cond b (Some t) (ticket_at line ts)) (ne_eqb t.line line ne))
+]
+ticket_here line (t ∷ ts) (suc place) rise below reached =
+    let first = below 0 t (omega arith) in
+    ticket_here line ts place (λ i j d lt h. rise (suc i) (suc j) d (suc-le-suc lt) (suc-le-suc h))
+    (λ k d h. below (suc k) d (suc-le-suc h)) (λ d h. reached d (suc-le-suc h))
+    ∙ sym (ap (λ b. cond b (Some t) (ticket_at line ts)) (ne_eqb t.line line (λ e. absurd (omega arith))))
+
+-- what stands before a place that moved on
+pub passed_to : (line : ℕ) (ts : List Ticket) (from place : ℕ) → AreBelow line (take from ts) → from ≤ place
+    → ((k : ℕ) (d : Ticket) → from ≤ k → k < place → (get_or ts k d).line < line) → AreBelow line (take place ts)
+passed_to line ts from place before le below k d h =
+    let size = length-take place ts in
+    let within : k < place = omega arith in
+    subst (λ (t : Ticket). t.line < line) (sym (get_or-take place ts k d within)) (go (cases_lt k from))
+  where
+    go : (k < from) ⊎ (from ≤ k) → (get_or ts k d).line < line
+    go (inl early) =
+        let size = length-take place ts in
+        let cut = length-take from ts in
+        let short : k < length (take from ts) = omega arith in
+        subst (λ (t : Ticket). t.line < line) (get_or-take from ts k d early) (before k d short)
+    go (inr late) =
+        let size = length-take place ts in
+        below k d late (omega arith)

@@ -1,0 +1,7 @@
+use Rattle.sched_record.specs.Record.{record_view}
+use Rattle.ticket_book.proofs.Walked.{HasCome}
+use Rattle.ticket_book.proofs.closing.told_by.Given as goal
+
+abbrev pub invariant-loop-event : goal.invariant-loop-event
+invariant-loop-event l =
+    HasCome l.pages (record_view l.joined).tasks (record_view l.joined).claims l.event-items l.event-index l.walk

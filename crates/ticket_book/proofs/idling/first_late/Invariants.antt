@@ -1,0 +1,5 @@
+use Rattle.ticket_book.specs.Idling.{NoneLate}
+use Rattle.ticket_book.proofs.idling.first_late.Given as goal
+
+abbrev pub invariant-loop-cpu : goal.invariant-loop-cpu
+invariant-loop-cpu l = NoneLate l.pages l.time l.cpu

@@ -1,0 +1,59 @@
+-- What the pages of a record's processors tell of its events (this project's profile): the words of replay_model's
+-- Closing, of a list of pages and of one event.
+use Rattle.std.specs.Prelude.{◌≡◌, ℕ, zero, suc, ◌<◌, true, Bool, None, List, [], ◌∷◌, ◌++◌, length}
+use Rattle.cfs_model.specs.Claimed.{Claimed}
+use Rattle.replay_model.specs.Cause.{Cause}
+use Rattle.replay_model.specs.Closing.{IdlesBefore, FailsHere, SayNothing, IsCauseOf}
+use Rattle.replay_model.specs.Composition.{named, TicketsAgree, BirthIsNew}
+use Rattle.replay_model.specs.Cut.{touches}
+use Rattle.replay_model.specs.Endings.{roll_of}
+use Rattle.replay_model.specs.Noted.{PageView}
+use Rattle.queue_replay.specs.Page.{page_view}
+use Rattle.queue_replay.specs.declared.page.Page.{Page}
+use Rattle.cfs_model.specs.declared.task.Task.{Task}
+use Rattle.ticket_book.specs.declared.cause.Cause.{Cause as FoundCause}
+use Rattle.ticket_book.specs.declared.verdict.Verdict.{Verdict}
+use Rattle.ticket_book.specs.declared.verdict.Verdict.TheVariants.{Run, Fault}
+
+-- a page that tells nothing
+abbrev pub empty_view : PageView
+empty_view = record { line = 0; fault = None; left = []; came = []; births = []; deaths = []; tallies = [] }
+
+-- the page of a processor, of some pages in the order of their numbers
+abbrev pub view_at : List Page → ℕ → PageView
+view_at [] cpu = empty_view
+view_at (page ∷ pages) zero = page_view page
+view_at (page ∷ pages) (suc cpu) = view_at pages cpu
+
+-- the cause as the model sees it
+abbrev pub cause_view : FoundCause → Cause
+cause_view c = record { cpu = c.cpu; pid = c.pid; kind = c.kind }
+
+-- the pages say nothing against what an event does
+pub record AllowAct (pages : ℕ → PageView) (alive : ℕ → Bool) (event : Claimed) : Type 0 where
+  pub no_fault : (cpu : ℕ) → touches cpu event ≡ true → ¬ FailsHere event (pages cpu).fault
+  pub tickets : TicketsAgree pages event.entry.line event.entry.act
+  pub birth : BirthIsNew alive event.entry.act
+
+-- nor does any of them say that a processor had idled for too long before it
+pub record Allow (pages : ℕ → PageView) (cpus : ℕ) (alive : ℕ → Bool) (event : Claimed) : Type 0 where
+  pub no_idling : (cpu : ℕ) → cpu < cpus → ¬ IdlesBefore event (pages cpu).fault
+  pub act : AllowAct pages alive event
+
+-- the pages say nothing against the events before the one on this line, and this is the first thing that they say
+-- against that one
+pub record TellFault (pages : ℕ → PageView) (cpus : ℕ) (tasks : List Task) (events : List Claimed) (line : ℕ)
+    (cause : Cause) : Type 0 where
+  pub before : List Claimed
+  pub event : Claimed
+  pub rest : List Claimed
+  pub whole : events ≡ before ++ event ∷ rest
+  pub line_is : event.entry.line ≡ line
+  pub nothing : SayNothing pages cpus tasks before
+  pub why : IsCauseOf pages cpus (roll_of (named tasks) before) event cause
+
+-- what the pages tell of all events: nothing against them, or what they say first
+abbrev pub Tell : (ℕ → PageView) → ℕ → List Task → List Claimed → Verdict → Type 0
+Tell pages cpus tasks events (Run summary) = SayNothing pages cpus tasks events × (summary.events ≡ length events)
+Tell pages cpus tasks events (Fault line cpu pid kind) =
+    TellFault pages cpus tasks events line (record { cpu = cpu; pid = pid; kind = kind })

@@ -1,0 +1,60 @@
+-- A walk along a record's events (this project's profile).
+use Rattle.std.specs.Prelude.{◌≡◌, ℕ, ◌<◌, ◌≤◌, ◌==◌, ◌&&◌, ◌≢◌, ◌⊎◌, Bool, if◌then◌else◌, is_none, Option, Some, None, List, AllPairs, length, slice_index, take}
+use Rattle.cfs_model.specs.Claimed.{Claimed}
+use Rattle.cfs_model.specs.declared.kind.Kind.TheVariants.{BornTwice, TicketUnequal}
+use Rattle.replay_model.specs.Cause.{Cause as SpecCause}
+use Rattle.replay_model.specs.Closing.{FailsHere, IsPageCause}
+use Rattle.replay_model.specs.Composition.{ticket_at}
+use Rattle.replay_model.specs.Noted.{PageView}
+use Rattle.replay_model.specs.declared.page.StepFault.{StepFault}
+use Rattle.replay_model.specs.declared.page.Ticket.{Ticket}
+use Rattle.queue_replay.specs.declared.page.Page.{Page}
+use Rattle.ticket_book.specs.Idling.{NoneFirst}
+use Rattle.ticket_book.specs.Places.{AreBelow}
+use Rattle.ticket_book.specs.Told.{view_at}
+use Rattle.ticket_book.specs.declared.cause.Cause.{Cause}
+use Rattle.ticket_book.specs.declared.walk.Walk.{Walk}
+
+-- the lines of the tickets on each page never fall
+pub record TicketsRise (pages : List Page) : Type 0 where
+  pub left : (cpu : ℕ) → AllPairs (λ t u. t.line ≤ u.line) (view_at pages cpu).left
+  pub came : (cpu : ℕ) → AllPairs (λ t u. t.line ≤ u.line) (view_at pages cpu).came
+
+-- a place in each processor's tickets: those before it are of lines below this one
+pub record AreBehind (tickets : PageView → List Ticket) (pages : List Page) (line : ℕ) (places : List ℕ) : Type 0 where
+  pub count : length places ≡ length pages
+  pub below : (cpu : ℕ) → cpu < length pages
+      → AreBelow line (take (slice_index places cpu) (tickets (view_at pages cpu)))
+
+-- the walk stands before an event on this line
+pub record StandsAt (pages : List Page) (line : ℕ) (walk : Walk) : Type 0 where
+  pub deadline : NoneFirst pages walk.deadline (length pages)
+  pub left : AreBehind (λ page. page.left) pages line walk.left
+  pub came : AreBehind (λ page. page.came) pages line walk.came
+
+-- the cause by a page's fault, where it is of a test that failed at this line
+abbrev pub failed_on : ℕ → ℕ → Option StepFault → Option Cause
+failed_on cpu line None = None
+failed_on cpu line (Some fault) =
+    if is_none fault.deadline && (fault.line == line)
+    then Some (record { cpu = cpu; pid = fault.pid; kind = fault.kind })
+    else None
+
+-- the cause of a birth of a pid that is alive
+abbrev pub born_twice_on : ℕ → ℕ → Bool → Option Cause
+born_twice_on cpu pid alive = if alive then Some (record { cpu = cpu; pid = pid; kind = BornTwice }) else None
+
+-- the pages say nothing against a migration
+pub record AllowShift (pages : ℕ → PageView) (orig dest : ℕ) (event : Claimed) : Type 0 where
+  pub leaves : ¬ FailsHere event (pages orig).fault
+  pub comes : ¬ FailsHere event (pages dest).fault
+  pub agree : ticket_at event.entry.line (pages orig).left ≡ ticket_at event.entry.line (pages dest).came
+
+-- the first thing that they say against a migration
+abbrev pub IsShiftCause : (ℕ → PageView) → ℕ → ℕ → ℕ → Claimed → SpecCause → Type 0
+IsShiftCause pages orig dest pid event cause =
+    IsPageCause event orig (pages orig) cause
+    ⊎ ((¬ FailsHere event (pages orig).fault) × IsPageCause event dest (pages dest) cause)
+    ⊎ ((¬ FailsHere event (pages orig).fault) × (¬ FailsHere event (pages dest).fault)
+    × (ticket_at event.entry.line (pages orig).left ≢ ticket_at event.entry.line (pages dest).came)
+    × (cause ≡ record { cpu = dest; pid = pid; kind = TicketUnequal }))

@@ -1,0 +1,53 @@
+ghost use Rattle.std.specs.Prelude.{◌≡◌, ℕ, IfOk, OnOk};
+ghost use Rattle.replay_model.specs.Composition.{named, roll_after};
+ghost use Rattle.ticket_book.specs.Alive.{alive_view};
+
+use cfs_model::{Act, Memory, Task, Way};
+use std::alloc::Global;
+use std::collections::BTreeSet;
+
+/// Who is alive: the pids that have begun and not ended.
+#[derive(Drop)]
+pub(crate) struct Alive {
+    // In order and not by a hash: the pids come from a file that isn't trusted.
+    pids: BTreeSet<u32>,
+}
+
+impl Alive {
+    /// Who is alive at the start.
+    pub(crate) fn new(alloc: Global, tasks: &[Task]) -> Result<Alive, Memory>
+        ensures { IfOk result (λ alive. (pid : ℕ) → alive_view alive pid ≡ named tasks.now pid) }
+    {
+        let mut pids = BTreeSet::new(alloc);
+        for task in tasks {
+            pids.insert(task.pid)?;
+        }
+        Ok(Alive { pids })
+    }
+
+    /// Whether the pid is alive.
+    pub(crate) fn has(&self, pid: u32) -> bool
+        ensures { result ≡ alive_view self.now pid }
+    {
+        self.pids.contains(&pid)
+    }
+
+    /// A birth begins a pid, and a switch away from a task that ends ends it.
+    pub(crate) fn pass(&mut self, act: Act) -> Result<(), Memory>
+        ensures { OnOk result ((pid : ℕ) → alive_view self.new pid ≡ roll_after (alive_view self.old) act pid) }
+    {
+        match act {
+            Act::Born { pid, .. } => {
+                self.pids.insert(pid)?;
+                Ok(())
+            }
+            Act::Switch { prev, way, .. } => {
+                if prev != 0 && matches!(way, Way::Ends) {
+                    self.pids.remove(&prev);
+                }
+                Ok(())
+            }
+            Act::Wake { .. } | Act::Shift { .. } => Ok(()),
+        }
+    }
+}

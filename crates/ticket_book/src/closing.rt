@@ -1,0 +1,62 @@
+ghost use Rattle.std.specs.Prelude.{◌≡◌, ℕ, IfOk, length, slice_get};
+ghost use Rattle.cfs_model.specs.Claimed.{claimed};
+ghost use Rattle.replay_model.specs.Page.{IsPageOf};
+ghost use Rattle.queue_replay.specs.Page.{page_view};
+ghost use Rattle.queue_replay.specs.declared.page.Page.{Page};
+ghost use Rattle.sched_record.specs.Record.{record_view};
+ghost use Rattle.sched_record.specs.Stream.{stream_view};
+ghost use Rattle.ticket_book.specs.Told.{Tell, view_at};
+ghost use Rattle.ticket_book.specs.Verdict.{IsVerdict};
+ghost use Rattle.ticket_book.specs.Whole.{AreWhole};
+
+use crate::walk::Walk;
+use crate::{Summary, Verdict};
+use cfs_model::{Knobs, Memory};
+use queue_replay::Page;
+use replay_model::closing;
+use sched_record::Record;
+use std::alloc::Global;
+
+/// The verdict on a record to which whole pages come together.
+pub(crate) fn verdict_on(
+    alloc: Global,
+    pages: &[Page],
+    joined: &Record,
+    knobs: Knobs,
+) -> Result<Verdict, Memory>
+    requires { AreWhole knobs (record_view joined.now) pages.now }
+    ensures { IfOk result (IsVerdict knobs (record_view joined.now)) }
+{
+    closing();
+    own_pages(pages);
+    told_by(alloc, pages, joined)
+}
+
+/// Each page is the page of its stream by the steps made.
+fn own_pages(pages: &[Page])
+    ensures { (cpu : ℕ) (page : Page) → slice_get pages.now cpu ≡ Some page
+        → IsPageOf (stream_view page.stream) page.knobs page.made (page_view page) }
+{}
+
+/// What the pages of a record's processors tell of its events, which are walked once.
+pub(crate) fn told_by(alloc: Global, pages: &[Page], joined: &Record) -> Result<Verdict, Memory>
+    requires { length pages.now ≡ (record_view joined.now).cpus }
+    ensures { IfOk result (Tell (view_at pages.now) (length pages.now) (record_view joined.now).tasks
+        (claimed (record_view joined.now).claims (record_view joined.now).events)) }
+{
+    let mut walk = Walk::new(alloc, pages, joined.tasks())?;
+    for event in joined.events() {
+        if let Some(cause) = walk.cause(pages, event) {
+            return Ok(Verdict::Fault {
+                line: event.line,
+                cpu: cause.cpu,
+                pid: cause.pid,
+                kind: cause.kind,
+            });
+        }
+        walk.pass(event.act)?;
+    }
+    Ok(Verdict::Run(Summary {
+        events: joined.events().len() as u64,
+    }))
+}

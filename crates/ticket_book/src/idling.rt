@@ -1,0 +1,69 @@
+ghost use Rattle.std.specs.Prelude.{◌≡◌, IfNone, IfSome, length};
+ghost use Rattle.queue_replay.specs.Page.{page_view};
+ghost use Rattle.ticket_book.specs.Idling.{IsFirstLate, NoneFirst, NoneLate, deadline_on, earlier_of, is_past};
+
+use queue_replay::Page;
+
+/// Until when the page's processor could idle, where its fault is that it idled for longer.
+fn deadline_of(page: &Page) -> Option<u64>
+    ensures { result ≡ deadline_on (page_view page.now) }
+{
+    page.fault().and_then(|fault| fault.deadline)
+}
+
+/// The earlier of two deadlines.
+fn earlier(one: Option<u64>, other: Option<u64>) -> Option<u64>
+    ensures { result ≡ earlier_of one other }
+{
+    match (one, other) {
+        (Some(one), Some(other)) => Some(if one < other { one } else { other }),
+        (Some(one), None) => Some(one),
+        (None, other) => other,
+    }
+}
+
+/// The first deadline on the pages.
+pub(crate) fn first_deadline(pages: &[Page]) -> Option<u64>
+    ensures { NoneFirst pages.now result (length pages.now) }
+{
+    let mut first = None;
+    for page in pages {
+        first = earlier(first, deadline_of(page));
+    }
+    first
+}
+
+/// The lowest processor whose deadline is before a time, where the first of all is known.
+pub(crate) fn late(pages: &[Page], first: Option<u64>, time: u64) -> Option<usize>
+    requires { NoneFirst pages.now first (length pages.now) }
+    ensures none { IfNone result (NoneLate pages.now time (length pages.now)) }
+    ensures found { IfSome result (λ cpu. IsFirstLate pages.now time cpu) }
+{
+    match first {
+        Some(deadline) if deadline < time => first_late(pages, time),
+        _ => None,
+    }
+}
+
+/// The lowest processor whose deadline is before a time.
+fn first_late(pages: &[Page], time: u64) -> Option<usize>
+    ensures none { IfNone result (NoneLate pages.now time (length pages.now)) }
+    ensures found { IfSome result (λ cpu. IsFirstLate pages.now time cpu) }
+{
+    for (cpu, page) in pages.iter().enumerate() {
+        if is_late(page, time) {
+            return Some(cpu);
+        }
+    }
+    None
+}
+
+/// Whether the page's deadline is before a time.
+fn is_late(page: &Page, time: u64) -> bool
+    ensures { result ≡ is_past time (deadline_on (page_view page.now)) }
+{
+    match deadline_of(page) {
+        Some(deadline) => deadline < time,
+        None => false,
+    }
+}

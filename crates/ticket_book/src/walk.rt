@@ -1,0 +1,207 @@
+ghost use Rattle.std.specs.Prelude.{◌≡◌, ◌≢◌, ◌<◌, ◌^◌, ℕ, All, IfOk, MatchOption, OnOk, length};
+ghost use Rattle.std.specs.Bool.{OnFalse, OnTrue};
+ghost use Rattle.std.specs.Option.{option_or};
+ghost use Rattle.cfs_model.specs.Claimed.{Claimed};
+ghost use Rattle.cfs_model.specs.Touch.{touched};
+ghost use Rattle.replay_model.specs.Closing.{IsActCauseOf, IsCauseOf};
+ghost use Rattle.replay_model.specs.Composition.{named, roll_after, ticket_at};
+ghost use Rattle.ticket_book.specs.Alive.{alive_view};
+ghost use Rattle.ticket_book.specs.Told.{Allow, AllowAct, cause_view, view_at};
+ghost use Rattle.ticket_book.specs.Walk.{AllowShift, IsShiftCause, StandsAt, TicketsRise, born_twice_on, failed_on};
+
+use crate::alive::Alive;
+use crate::cause::Cause;
+use crate::idling::{first_deadline, late};
+use crate::places::Places;
+use cfs_model::{Act, Entry, Kind, Memory, Task};
+use queue_replay::Page;
+use replay_model::{StepFault, Ticket};
+use std::alloc::Global;
+
+/// A walk along a record's events, which asks the pages about each in turn.
+#[derive(Drop)]
+pub(crate) struct Walk {
+    /// The first deadline on the pages.
+    deadline: Option<u64>,
+    /// How far the walk has come in the tickets of the tasks that left, and of those that came.
+    left: Places,
+    came: Places,
+    /// Who is alive before the next event.
+    alive: Alive,
+}
+
+impl Walk {
+    /// The walk before the first event.
+    pub(crate) fn new(alloc: Global, pages: &[Page], tasks: &[Task]) -> Result<Walk, Memory>
+        ensures stands { IfOk result (λ walk. (line : ℕ) → StandsAt pages.now line walk) }
+        ensures alive { IfOk result (λ walk. (pid : ℕ) → alive_view walk.alive pid ≡ named tasks.now pid) }
+    {
+        Ok(Walk {
+            deadline: first_deadline(pages),
+            left: Places::new(alloc, pages.len())?,
+            came: Places::new(alloc, pages.len())?,
+            alive: Alive::new(alloc, tasks)?,
+        })
+    }
+
+    /// The first thing that the pages say against the next event.
+    pub(crate) fn cause(&mut self, pages: &[Page], event: &Entry) -> Option<Cause>
+        requires few { length pages.now < 2 ^ 32 }
+        requires inside { All (λ cpu. cpu < length pages.now) (touched event.now.act) }
+        requires rise { TicketsRise pages.now }
+        requires stands { StandsAt pages.now event.now.line self.old }
+        ensures said { (said : Claimed) → said.entry ≡ event.now → MatchOption result
+            (Allow (view_at pages.now) (length pages.now) (alive_view self.old.alive) said)
+            (λ cause. IsCauseOf (view_at pages.now) (length pages.now) (alive_view self.old.alive) said (cause_view cause)) }
+        ensures stands { StandsAt pages.now event.now.line self.new }
+        ensures alive { self.new.alive ≡ self.old.alive }
+    {
+        if let Some(cpu) = late(pages, self.deadline, event.time) {
+            return Some(Cause {
+                cpu: cpu as u32,
+                pid: 0,
+                kind: Kind::IdleTooLong,
+            });
+        }
+        self.act_cause(pages, event.line, event.act)
+    }
+
+    /// The first thing that they say against what it does.
+    fn act_cause(&mut self, pages: &[Page], line: u32, act: Act) -> Option<Cause>
+        requires inside { All (λ cpu. cpu < length pages.now) (touched act) }
+        requires rise { TicketsRise pages.now }
+        requires stands { StandsAt pages.now line self.old }
+        ensures said { (said : Claimed) → said.entry.line ≡ line → said.entry.act ≡ act → MatchOption result
+            (AllowAct (view_at pages.now) (alive_view self.old.alive) said)
+            (λ cause. IsActCauseOf (view_at pages.now) (alive_view self.old.alive) said act (cause_view cause)) }
+        ensures stands { StandsAt pages.now line self.new }
+        ensures alive { self.new.alive ≡ self.old.alive }
+    {
+        match act {
+            Act::Switch { cpu, .. } => failed_at(pages, cpu, line),
+            Act::Wake { cpu, .. } => failed_at(pages, cpu, line),
+            Act::Born { cpu, pid, .. } => self.birth_cause(pages, cpu, pid, line),
+            Act::Shift {
+                orig,
+                dest,
+                pid,
+                ..
+            } => self.shift_cause(pages, orig, dest, pid, line),
+        }
+    }
+
+    /// The first thing that they say against a birth.
+    fn birth_cause(&self, pages: &[Page], cpu: u32, pid: u32, line: u32) -> Option<Cause>
+        requires { cpu < length pages.now }
+        ensures { result ≡ option_or (failed_on cpu line (view_at pages.now cpu).fault) (born_twice_on cpu pid (alive_view self.now.alive pid)) }
+    {
+        if let Some(cause) = failed_at(pages, cpu, line) {
+            return Some(cause);
+        }
+        if self.alive.has(pid) {
+            Some(Cause {
+                cpu,
+                pid,
+                kind: Kind::BornTwice,
+            })
+        } else {
+            None
+        }
+    }
+
+    /// The first thing that they say against a migration.
+    fn shift_cause(
+        &mut self,
+        pages: &[Page],
+        orig: u32,
+        dest: u32,
+        pid: u32,
+        line: u32,
+    ) -> Option<Cause>
+        requires orig { orig < length pages.now }
+        requires dest { dest < length pages.now }
+        requires rise { TicketsRise pages.now }
+        requires stands { StandsAt pages.now line self.old }
+        ensures said { (event : Claimed) → event.entry.line ≡ line → MatchOption result
+            (AllowShift (view_at pages.now) orig dest event)
+            (λ cause. IsShiftCause (view_at pages.now) orig dest pid event (cause_view cause)) }
+        ensures stands { StandsAt pages.now line self.new }
+        ensures alive { self.new.alive ≡ self.old.alive }
+    {
+        if let Some(cause) = failed_at(pages, orig, line) {
+            return Some(cause);
+        }
+        if let Some(cause) = failed_at(pages, dest, line) {
+            return Some(cause);
+        }
+        if self.tickets_differ(pages, orig, dest, line) {
+            Some(Cause {
+                cpu: dest,
+                pid,
+                kind: Kind::TicketUnequal,
+            })
+        } else {
+            None
+        }
+    }
+
+    /// Whether the tickets of a migration differ: the one on its origin's page and the one on its destination's.
+    fn tickets_differ(&mut self, pages: &[Page], orig: u32, dest: u32, line: u32) -> bool
+        requires orig { orig < length pages.now }
+        requires dest { dest < length pages.now }
+        requires rise { TicketsRise pages.now }
+        requires stands { StandsAt pages.now line self.old }
+        ensures differ { OnTrue result (ticket_at line (view_at pages.now orig).left ≢ ticket_at line (view_at pages.now dest).came) }
+        ensures same { OnFalse result (ticket_at line (view_at pages.now orig).left ≡ ticket_at line (view_at pages.now dest).came) }
+        ensures stands { StandsAt pages.now line self.new }
+        ensures alive { self.new.alive ≡ self.old.alive }
+    {
+        let left = pages[orig as usize].left();
+        let came = pages[dest as usize].came();
+        let leaves = self.left.ticket(orig as usize, left, line);
+        let comes = self.came.ticket(dest as usize, came, line);
+        differ(leaves, comes)
+    }
+
+    /// Goes past an event.
+    pub(crate) fn pass(&mut self, act: Act) -> Result<(), Memory>
+        ensures alive { OnOk result ((pid : ℕ) → alive_view self.new.alive pid ≡ roll_after (alive_view self.old.alive) act pid) }
+        ensures deadline { self.new.deadline ≡ self.old.deadline }
+        ensures left { self.new.left ≡ self.old.left }
+        ensures came { self.new.came ≡ self.old.came }
+    {
+        self.alive.pass(act)
+    }
+}
+
+/// The fault on a processor's page, where it is of a test that failed at this line.
+fn failed_at(pages: &[Page], cpu: u32, line: u32) -> Option<Cause>
+    requires { cpu < length pages.now }
+    ensures { result ≡ failed_on cpu line (view_at pages.now cpu).fault }
+{
+    failed_by(pages[cpu as usize].fault(), cpu, line)
+}
+
+/// A fault, where it is of a test that failed at this line.
+fn failed_by(fault: Option<StepFault>, cpu: u32, line: u32) -> Option<Cause>
+    ensures { result ≡ failed_on cpu line fault }
+{
+    let fault = fault?;
+    if fault.deadline.is_none() && fault.line == line {
+        Some(Cause {
+            cpu,
+            pid: fault.pid,
+            kind: fault.kind,
+        })
+    } else {
+        None
+    }
+}
+
+/// Whether two tickets of a migration differ.
+fn differ(leaves: Option<Ticket>, comes: Option<Ticket>) -> bool
+    ensures differ { OnTrue result (leaves ≢ comes) }
+    ensures same { OnFalse result (leaves ≡ comes) }
+{
+    leaves != comes
+}

@@ -66,9 +66,9 @@ outside tasks credit floor v pid t b e rests same = (
     false_or false f = refl
 
 -- a pid that is in a place has a task there
-pub row_in : (tasks : List Task) (floor : ℤ) (mark : ℕ) (place : Place) (pid : ℕ) → IsIn (start_part tasks floor mark) place pid
+pub task_in : (tasks : List Task) (floor : ℤ) (mark : ℕ) (place : Place) (pid : ℕ) → IsIn (start_part tasks floor mark) place pid
     → (t : Task) × (task_of tasks pid ≡ Some t) × (t.place ≡ place)
-row_in tasks floor mark place pid h =
+task_in tasks floor mark place pid h =
     elim (option_cases (task_of tasks pid)) [
       | inl none ↦ let f : None ≡ Some place = sym (ap (λ o. option_map (λ (s : Entity). s.place) (option_map entity_of o)) none) ∙ h in absurd cc
       | inr some ↦ (some.0, some.1, same_Some some.0.place place (sym (ap (λ o. option_map (λ (s : Entity). s.place) (option_map entity_of o)) some.1) ∙ h))
@@ -95,7 +95,7 @@ contains (x ∷ xs) pid t e =
 pub nobody : (tasks : List Task) (floor : ℤ) (mark : ℕ) (place : Place) → list_any (λ t. place_eq t.place place) tasks ≡ false
     → NobodyIn (start_part tasks floor mark) place
 nobody tasks floor mark place e pid h =
-    let r = row_in tasks floor mark place pid h in
+    let r = task_in tasks floor mark place pid h in
     let f = task_of-each (λ t. place_eq t.place place ≡ false) tasks pid r.0 (none_passes (λ t. place_eq t.place place) tasks e) r.1 in
     false≢true (sym f ∙ ap (λ p. place_eq p place) r.2 ∙ place_eq-same place)
 

@@ -15,7 +15,7 @@ use Rattle.cfs_model.specs.declared.task.Task.{Task}
 use Rattle.queue_replay.specs.Counting.{ran_tally, stretched, IsWithin}
 use Rattle.queue_replay.specs.Queue.{OneRunsHere}
 use Rattle.queue_replay.specs.TaskList.{runs, cost_of, EachOnce}
-use Rattle.queue_replay.proofs.Answered.{place_eq-true, row_in}
+use Rattle.queue_replay.proofs.Answered.{place_eq-true, task_in}
 use Rattle.queue_replay.proofs.Parts.{stands, stands_each}
 use Rattle.queue_replay.proofs.TaskOf.{task_of-each}
 
@@ -100,7 +100,7 @@ module _ (tasks : List Task) (floor : ℤ) (mark time : ℕ) (once : EachOnce ta
   charged_same None e tallies =
       map_none (λ tally. charged_tally (start_part tasks floor mark) time (stands tasks tally.pid) tally)
       (λ tally. unrun (start_part tasks floor mark) time (stands tasks tally.pid) tally (λ h.
-      let r = row_in tasks floor mark Run tally.pid h in
+      let r = task_in tasks floor mark Run tally.pid h in
       let f = task_of-each (λ t. runs t ≡ false) tasks tally.pid r.0 (find_nothing runs tasks (sym e)) r.1 in
       false≢true (sym f ∙ ap (λ p. place_eq p Run) r.2))) tallies
   charged_same (Some t) e tallies =

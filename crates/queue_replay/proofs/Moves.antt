@@ -20,7 +20,7 @@ use Rattle.queue_replay.specs.Queue.{runqueue_view, IdlesBeside, IsAboveGranular
 use Rattle.queue_replay.specs.declared.runqueue.Runqueue.{Runqueue}
 use Rattle.queue_replay.specs.TaskList.{entity_of, moved_to, woken_task, without, EachOnce}
 use Rattle.queue_replay.specs.FirstTest.{IsCleared}
-use Rattle.queue_replay.proofs.Parts.{stands, same_tasks, stands_changed, stands_gone, stands_pushed, put-same, put-other, EachOnce-push, row_none}
+use Rattle.queue_replay.proofs.Parts.{stands, same_tasks, stands_changed, stands_gone, stands_pushed, put-same, put-other, EachOnce-push, no_task}
 use Rattle.queue_replay.proofs.TaskOf.{EachOnce-map, EachOnce-without}
 
 -- a runqueue with these tasks, and the floor and the mark of another
@@ -98,10 +98,10 @@ woken_once tasks pid v once = EachOnce-map (woken_task pid v) (woken_task-pid pi
 pub pushed_part : (tasks : List Task) (floor : ℤ) (mark : ℕ) (t : Task) → stands tasks t.pid ≡ None
     → start_part (tasks ++ t ∷ []) floor mark ≡ with_entity (start_part tasks floor mark) t.pid (Some (entity_of t))
 pushed_part tasks floor mark t none =
-    same_tasks (stands (tasks ++ t ∷ [])) _ floor mark (stands_pushed tasks t (row_none tasks t.pid none))
+    same_tasks (stands (tasks ++ t ∷ [])) _ floor mark (stands_pushed tasks t (no_task tasks t.pid none))
 
 pub pushed_once : (tasks : List Task) (t : Task) → stands tasks t.pid ≡ None → EachOnce tasks → EachOnce (tasks ++ t ∷ [])
-pushed_once tasks t none once = EachOnce-push tasks t (row_none tasks t.pid none) once
+pushed_once tasks t none once = EachOnce-push tasks t (no_task tasks t.pid none) once
 
 -- a switch's two tasks, where they aren't pid 0
 pub after_stays : (part : Part) (prev : ℕ) → prev ≢ 0 → goes part prev Wait ≡ part_after_prev part prev Stays

@@ -30,8 +30,8 @@ stands_task tasks pid t e = ap (option_map entity_of) e
 pub stands_none : (tasks : List Task) (pid : ℕ) → task_of tasks pid ≡ None → stands tasks pid ≡ None
 stands_none tasks pid e = ap (option_map entity_of) e
 
-pub row_none : (tasks : List Task) (pid : ℕ) → stands tasks pid ≡ None → task_of tasks pid ≡ None
-row_none tasks pid e =
+pub no_task : (tasks : List Task) (pid : ℕ) → stands tasks pid ≡ None → task_of tasks pid ≡ None
+no_task tasks pid e =
     elim (option_cases (task_of tasks pid)) [
       | inl none ↦ none
       | inr some ↦ let f : Some (entity_of some.0) ≡ None = sym (ap (option_map entity_of) some.1) ∙ e in absurd cc

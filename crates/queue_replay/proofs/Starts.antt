@@ -11,7 +11,7 @@ use Rattle.queue_replay.specs.Counting.{IsWithin}
 use Rattle.queue_replay.specs.Queue.{OneRunsHere, IsKept}
 use Rattle.queue_replay.specs.TaskList.{EachOnce}
 use Rattle.queue_replay.specs.declared.runqueue.Runqueue.{Runqueue}
-use Rattle.queue_replay.proofs.Answered.{row_in, contains}
+use Rattle.queue_replay.proofs.Answered.{task_in, contains}
 use Rattle.queue_replay.proofs.TaskOf.{task_of-pid}
 
 -- one that passes, where those before it don't
@@ -39,8 +39,8 @@ get_same (x ∷ xs) (suc i) d e h = get_same xs i d e (omega arith)
 pub one_from : (tasks : List Task) (floor : ℤ) (mark : ℕ) → AllPairs (λ t u. t.place ≡ Run → u.place ≡ Run → ⊥) tasks
     → OneRunsHere (start_part tasks floor mark)
 one_from tasks floor mark pairs p q h k =
-    let t = row_in tasks floor mark Run p h in
-    let u = row_in tasks floor mark Run q k in
+    let t = task_in tasks floor mark Run p h in
+    let u = task_in tasks floor mark Run q k in
     let a = contains tasks p t.0 t.1 in
     let b = contains tasks q u.0 u.1 in
     let e : get_or tasks b.0 t.0 ≡ u.0 = get_same tasks b.0 t.0 u.0 b.1 ∙ b.2 in

@@ -15,9 +15,9 @@ use cfs_model::{Claim, ClaimSort, Place, Task, Way};
 use replay_model::{Deed, Step};
 
 /// The pid of which the deed needs a claim, if it needs one.
-fn claimant(queue: &Runqueue, step: &Step, subject: &Option<Task>) -> Option<u32>
-    requires { IsSubject queue.now.tasks.items step.now.deed subject.now }
-    ensures { result ≡ claimant (runqueue_view queue.now) step.now.deed }
+fn claimant(step: &Step, subject: &Option<Task>) -> Option<u32>
+    ensures { (queue : Queue) → IsSubject queue.tasks.items step.now.deed subject.now
+        → result ≡ claimant (runqueue_view queue) step.now.deed }
 {
     let deed = step.deed;
     match deed {
@@ -48,21 +48,21 @@ fn has_claim(step: &Step) -> bool
 }
 
 /// A claim is needed, and the line has none that serves.
-pub(crate) fn claim_missing(queue: &Runqueue, step: &Step, subject: &Option<Task>) -> Option<u32>
-    requires { IsSubject queue.now.tasks.items step.now.deed subject.now }
-    ensures { Decides result (IsClaimMissing (runqueue_view queue.now) step.now.deed step.now.claim) }
+pub(crate) fn claim_missing(step: &Step, subject: &Option<Task>) -> Option<u32>
+    ensures { (queue : Queue) → IsSubject queue.tasks.items step.now.deed subject.now
+        → Decides result (IsClaimMissing (runqueue_view queue) step.now.deed step.now.claim) }
 {
-    let pid = claimant(queue, step, subject)?;
+    let pid = claimant(step, subject)?;
     if has_claim(step) { None } else { Some(pid) }
 }
 
 /// No claim is needed, and the line has one.
-pub(crate) fn claim_extra(queue: &Runqueue, step: &Step, subject: &Option<Task>) -> Option<u32>
-    requires { IsSubject queue.now.tasks.items step.now.deed subject.now }
-    ensures { Decides result (IsClaimExtra (runqueue_view queue.now) step.now.deed step.now.claim) }
+pub(crate) fn claim_extra(step: &Step, subject: &Option<Task>) -> Option<u32>
+    ensures { (queue : Queue) → IsSubject queue.tasks.items step.now.deed subject.now
+        → Decides result (IsClaimExtra (runqueue_view queue) step.now.deed step.now.claim) }
 {
     let claim = step.claim?;
-    if claimant(queue, step, subject).is_some() || matches!(step.deed, Deed::Leave { .. }) {
+    if claimant(step, subject).is_some() || matches!(step.deed, Deed::Leave { .. }) {
         None
     } else {
         Some(claim.pid)
@@ -70,12 +70,12 @@ pub(crate) fn claim_extra(queue: &Runqueue, step: &Step, subject: &Option<Task>)
 }
 
 /// A claim is needed, and the line's names another task.
-pub(crate) fn claim_pid(queue: &Runqueue, step: &Step, subject: &Option<Task>) -> Option<u32>
-    requires { IsSubject queue.now.tasks.items step.now.deed subject.now }
-    ensures { Decides result (IsClaimPid (runqueue_view queue.now) step.now.deed step.now.claim) }
+pub(crate) fn claim_pid(step: &Step, subject: &Option<Task>) -> Option<u32>
+    ensures { (queue : Queue) → IsSubject queue.tasks.items step.now.deed subject.now
+        → Decides result (IsClaimPid (runqueue_view queue) step.now.deed step.now.claim) }
 {
     let claim = step.claim?;
-    let pid = claimant(queue, step, subject)?;
+    let pid = claimant(step, subject)?;
     if claim.pid != pid {
         Some(claim.pid)
     } else {
@@ -84,9 +84,9 @@ pub(crate) fn claim_pid(queue: &Runqueue, step: &Step, subject: &Option<Task>) -
 }
 
 /// A previous task that stays is claimed at another virtual runtime than its own.
-pub(crate) fn wrong_put_back(queue: &Runqueue, step: &Step, subject: &Option<Task>) -> Option<u32>
-    requires { IsSubject queue.now.tasks.items step.now.deed subject.now }
-    ensures { Decides result (IsWrongPutBack (runqueue_view queue.now) step.now.deed step.now.claim) }
+pub(crate) fn wrong_put_back(step: &Step, subject: &Option<Task>) -> Option<u32>
+    ensures { (queue : Queue) → IsSubject queue.tasks.items step.now.deed subject.now
+        → Decides result (IsWrongPutBack (runqueue_view queue) step.now.deed step.now.claim) }
 {
     let Deed::Switch {
         prev,
@@ -141,9 +141,9 @@ pub(crate) fn fork_outside(queue: &Runqueue, step: &Step, debit: u64) -> Option<
 }
 
 /// The next task of a switch doesn't wait here.
-pub(crate) fn next_not_waiting(queue: &Runqueue, step: &Step, next: &Option<Task>) -> Option<u32>
-    requires { IsNext queue.now.tasks.items step.now.deed next.now }
-    ensures { Decides result (IsNextNotWaiting (runqueue_view queue.now) step.now.deed) }
+pub(crate) fn next_not_waiting(step: &Step, next: &Option<Task>) -> Option<u32>
+    ensures { (queue : Queue) → IsNext queue.tasks.items step.now.deed next.now
+        → Decides result (IsNextNotWaiting (runqueue_view queue) step.now.deed) }
 {
     let Deed::Switch { next: pid, .. } = step.deed else {
         return None;

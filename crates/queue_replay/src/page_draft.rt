@@ -1,13 +1,13 @@
-ghost use Rattle.std.specs.Prelude.{◌≡◌, ℕ, ℤ, ◌+◌, ◌-◌, ◌^◌, ◌<◌, ◌≤◌, [], ◌∷◌, ◌++◌, All, IfSome, vec_len, vec_capacity};
+ghost use Rattle.std.specs.Prelude.{◌≡◌, ℕ, ℤ, ◌+◌, ◌-◌, ◌^◌, ◌<◌, ◌≤◌, [], ◌∷◌, ◌++◌, All, IfSome, OnOk, vec_len, vec_capacity};
 ghost use Rattle.cfs_model.specs.Charge.{greatest};
 ghost use Rattle.replay_model.specs.Noted.{births_of, deaths_of, tallied};
 ghost use Rattle.replay_model.specs.declared.step.Deed.TheVariants.{Switch};
-ghost use Rattle.queue_replay.specs.Counting.{HasDraftRoom, if_left, if_came, stretched, IsWithin};
+ghost use Rattle.queue_replay.specs.Counting.{HasDraftRoom, page_draft_view, if_left, if_came, stretched, IsWithin};
 ghost use Rattle.queue_replay.specs.TaskList.{cost_of};
 
 use crate::counting::{add_pick, add_stretch, add_tally};
 use crate::room::push_in;
-use cfs_model::{Task, Way};
+use cfs_model::{Memory, Task, Way};
 use replay_model::{Deed, LifeEvent, Step, StepFault, Tally, Ticket};
 
 /// What the page of a replay will show, so far.
@@ -26,6 +26,27 @@ pub(crate) struct PageDraft {
 }
 
 impl PageDraft {
+    /// Makes the growths that a deed can need.
+    pub fn make_room(&mut self, deed: Deed) -> Result<(), Memory>
+        ensures room { OnOk result (HasDraftRoom deed self.new) }
+        ensures same { page_draft_view self.new ≡ page_draft_view self.old }
+    {
+        match deed {
+            Deed::Switch { .. } => self.deaths.reserve(1)?,
+            Deed::Wake { .. } => {}
+            Deed::Born { .. } => {
+                self.births.reserve(1)?;
+                self.tallies.reserve(1)?;
+            }
+            Deed::Leave { .. } => self.left.reserve(1)?,
+            Deed::Arrive { .. } => {
+                self.came.reserve(1)?;
+                self.tallies.reserve(1)?;
+            }
+        }
+        Ok(())
+    }
+
     /// Adds a stretch of the runner, in nanoseconds, to its tally. Each tally is that of at most so many steps.
     pub fn note_stretch(&mut self, runner: Option<Task>, time: u64, steps: usize)
         requires fits { IfSome runner (λ t. cost_of time t ≤ greatest) }

@@ -74,9 +74,9 @@ pub(crate) fn prev_not_running(queue: &Runqueue, step: &Step, subject: &Option<T
 }
 
 /// A wakeup or a leave names a pid that doesn't stand here.
-pub(crate) fn strange(queue: &Runqueue, step: &Step, subject: &Option<Task>) -> Option<u32>
-    requires { IsSubject queue.now.tasks.items step.now.deed subject.now }
-    ensures { Decides result (IsStrange (runqueue_view queue.now) step.now.deed) }
+pub(crate) fn strange(step: &Step, subject: &Option<Task>) -> Option<u32>
+    ensures { (queue : Queue) → IsSubject queue.tasks.items step.now.deed subject.now
+        → Decides result (IsStrange (runqueue_view queue) step.now.deed) }
 {
     let deed = step.deed;
     match deed {
@@ -88,9 +88,9 @@ pub(crate) fn strange(queue: &Runqueue, step: &Step, subject: &Option<Task>) -> 
 }
 
 /// A birth or an arrival names a pid that stands here.
-pub(crate) fn already(queue: &Runqueue, step: &Step, subject: &Option<Task>) -> Option<u32>
-    requires { IsSubject queue.now.tasks.items step.now.deed subject.now }
-    ensures { Decides result (IsAlready (runqueue_view queue.now) step.now.deed) }
+pub(crate) fn already(step: &Step, subject: &Option<Task>) -> Option<u32>
+    ensures { (queue : Queue) → IsSubject queue.tasks.items step.now.deed subject.now
+        → Decides result (IsAlready (runqueue_view queue) step.now.deed) }
 {
     let deed = step.deed;
     match deed {
@@ -102,9 +102,9 @@ pub(crate) fn already(queue: &Runqueue, step: &Step, subject: &Option<Task>) -> 
 }
 
 /// The task that runs here leaves.
-pub(crate) fn move_running(queue: &Runqueue, step: &Step, subject: &Option<Task>) -> Option<u32>
-    requires { IsSubject queue.now.tasks.items step.now.deed subject.now }
-    ensures { Decides result (IsMoveRunning (runqueue_view queue.now) step.now.deed) }
+pub(crate) fn move_running(step: &Step, subject: &Option<Task>) -> Option<u32>
+    ensures { (queue : Queue) → IsSubject queue.tasks.items step.now.deed subject.now
+        → Decides result (IsMoveRunning (runqueue_view queue) step.now.deed) }
 {
     let Deed::Leave { pid, .. } = step.deed else {
         return None;
@@ -117,15 +117,9 @@ pub(crate) fn move_running(queue: &Runqueue, step: &Step, subject: &Option<Task>
 }
 
 /// A task that the step names stands here with another nice value; of a switch's two the previous one first.
-pub(crate) fn wrong_prio(
-    queue: &Runqueue,
-    step: &Step,
-    subject: &Option<Task>,
-    next: &Option<Task>,
-) -> Option<u32>
-    requires subject { IsSubject queue.now.tasks.items step.now.deed subject.now }
-    requires next { IsNext queue.now.tasks.items step.now.deed next.now }
-    ensures { Decides result (IsWrongPrio (runqueue_view queue.now) step.now.deed) }
+pub(crate) fn wrong_prio(step: &Step, subject: &Option<Task>, next: &Option<Task>) -> Option<u32>
+    ensures { (queue : Queue) → IsSubject queue.tasks.items step.now.deed subject.now → IsNext queue.tasks.items step.now.deed next.now
+        → Decides result (IsWrongPrio (runqueue_view queue) step.now.deed) }
 {
     let deed = step.deed;
     match deed {

@@ -31,9 +31,9 @@ impl Model for Replay {
 
     ghost Value = { ReplayView };
 
-    ghost view = { λ r. record { stream = stream_view r.stream; knobs = r.knobs; made = r.state.made; page = page_draft_view r.state.draft } };
+    ghost view = { λ replay. record { stream = stream_view replay.stream; knobs = replay.knobs; made = replay.state.made; page = page_draft_view replay.state.draft } };
 
-    ghost invariant = { λ r. IsAt (stream_view r.stream) r.knobs r.state };
+    ghost invariant = { λ replay. IsAt (stream_view replay.stream) replay.knobs replay.state };
 }
 
 impl Replay {
@@ -42,11 +42,11 @@ impl Replay {
     /// The replay before its first step; on a stream without steps, after the end test. Where memory is wanted the
     /// stream comes back.
     pub fn new(alloc: Global, stream: Stream, knobs: Knobs) -> Result<Replay, (Stream, Memory)>
-        ensures stream { IfOk result (λ r. r.stream ≡ stream_view stream) }
-        ensures knobs { IfOk result (λ r. r.knobs ≡ knobs) }
-        ensures made { IfOk result (λ r. r.made ≡ 0) }
-        ensures page { IfOk result (λ r. IsPageOf r.stream r.knobs r.made r.page) }
-        ensures back { IfErr result (λ e. e.0 ≡ stream) }
+        ensures stream { IfOk result (λ replay. replay.stream ≡ stream_view stream) }
+        ensures knobs { IfOk result (λ replay. replay.knobs ≡ knobs) }
+        ensures made { IfOk result (λ replay. replay.made ≡ 0) }
+        ensures page { IfOk result (λ replay. IsPageOf replay.stream replay.knobs replay.made replay.page) }
+        ensures back { IfErr result (λ back. back.0 ≡ stream) }
     {
         match start(alloc, &stream, knobs) {
             Ok(state) => Ok(Replay {

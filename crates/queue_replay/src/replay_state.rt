@@ -36,30 +36,8 @@ impl ReplayState {
         ensures since { self.new.since ≡ self.old.since }
         ensures noted { page_draft_view self.new.draft ≡ page_draft_view self.old.draft }
     {
-        let deed = step.deed;
-        match deed {
-            Deed::Switch { .. } => {
-                self.draft.deaths.reserve(1)?;
-                Ok(())
-            }
-            Deed::Wake { .. } => Ok(()),
-            Deed::Born { .. } => {
-                self.queue.tasks.reserve(1)?;
-                self.draft.births.reserve(1)?;
-                self.draft.tallies.reserve(1)?;
-                Ok(())
-            }
-            Deed::Leave { .. } => {
-                self.draft.left.reserve(1)?;
-                Ok(())
-            }
-            Deed::Arrive { .. } => {
-                self.queue.tasks.reserve(1)?;
-                self.draft.came.reserve(1)?;
-                self.draft.tallies.reserve(1)?;
-                Ok(())
-            }
-        }
+        self.queue.make_room(step.deed)?;
+        self.draft.make_room(step.deed)
     }
 }
 

@@ -4,11 +4,12 @@ ghost use Rattle.replay_model.specs.Part.{IsLiftedPart};
 ghost use Rattle.replay_model.specs.QueueTests.{IsOutOfRange};
 ghost use Rattle.cfs_model.specs.declared.task.Task.{Task as TaskOf};
 ghost use Rattle.queue_replay.specs.TaskList.{CanBeCharged, charged_task, queued_runtimes, IsRaisedBy, moved_to, woken_task, without, entity_of, EachOnce};
-ghost use Rattle.queue_replay.specs.Queue.{runqueue_view};
+ghost use Rattle.queue_replay.specs.Queue.{HasRoom, runqueue_view};
 
 use crate::room::push_in;
 use crate::task_list::{charge_running, least_queued, move_task, wake_task};
-use cfs_model::{Claim, Place, Task, Way};
+use cfs_model::{Claim, Memory, Place, Task, Way};
+use replay_model::Deed;
 
 /// Those who stand at the processor, and what the processor keeps.
 #[derive(Drop)]
@@ -22,6 +23,18 @@ pub(crate) struct Runqueue {
 }
 
 impl Runqueue {
+    /// Makes the growth that a deed can need.
+    pub fn make_room(&mut self, deed: Deed) -> Result<(), Memory>
+        ensures room { OnOk result (HasRoom deed self.new) }
+        ensures same { (self.new.tasks.items ≡ self.old.tasks.items) × (self.new.floor ≡ self.old.floor) × (self.new.mark ≡ self.old.mark) }
+    {
+        match deed {
+            Deed::Switch { .. } | Deed::Wake { .. } | Deed::Leave { .. } => {}
+            Deed::Born { .. } | Deed::Arrive { .. } => self.tasks.reserve(1)?,
+        }
+        Ok(())
+    }
+
     /// Charges who runs, up to this time, and raises the floor. Else the pid of one whom that takes out of range.
     pub fn lift(&mut self, time: u64) -> Result<(), u32>
         requires { EachOnce self.old.tasks.items }

@@ -90,10 +90,10 @@ fn first_queue_test(
         MoveHome: move_home(cpu, step),
         SelfSwitch: self_switch(step),
         PrevNotRunning: prev_not_running(queue, step, subject),
-        Strange: strange(queue, step, subject),
-        Already: already(queue, step, subject),
-        MoveRunning: move_running(queue, step, subject),
-        WrongPrio: wrong_prio(queue, step, subject, next),
+        Strange: strange(step, subject),
+        Already: already(step, subject),
+        MoveRunning: move_running(step, subject),
+        WrongPrio: wrong_prio(step, subject, next),
     );
     None
 }
@@ -113,13 +113,13 @@ fn first_claim_test(
     ensures first { FindsFirst result (pick_tests knobs (runqueue_view queue.now) step.now) (claim_tests knobs (runqueue_view queue.now) step.now) }
 {
     guard!(
-        ClaimMissing: claim_missing(queue, step, subject),
-        ClaimExtra: claim_extra(queue, step, subject),
-        ClaimPid: claim_pid(queue, step, subject),
-        WrongPutBack: wrong_put_back(queue, step, subject),
+        ClaimMissing: claim_missing(step, subject),
+        ClaimExtra: claim_extra(step, subject),
+        ClaimPid: claim_pid(step, subject),
+        WrongPutBack: wrong_put_back(step, subject),
         WakeBounds: wake_outside(queue, step, subject, knobs.credit()),
         ForkBounds: fork_outside(queue, step, knobs.debit()),
-        NextNotWaiting: next_not_waiting(queue, step, next),
+        NextNotWaiting: next_not_waiting(step, next),
     );
     None
 }

@@ -105,9 +105,8 @@ fn touches(act: Act, cpu: u32) -> bool
     ensures { result ≡ list_any (λ other. other == cpu) (touched act) }
 {
     match act {
-        Act::Switch { cpu: here, .. } => here == cpu,
-        Act::Wake { cpu: here, .. } => here == cpu,
-        Act::Born { cpu: here, .. } => here == cpu,
+        Act::Switch { cpu: here, .. } | Act::Wake { cpu: here, .. } | Act::Born { cpu: here, .. } =>
+            here == cpu,
         Act::Shift { orig, dest, .. } => orig == cpu || dest == cpu,
     }
 }
@@ -167,10 +166,7 @@ fn claim_for(deed: &Deed, claim: Option<Claim>) -> Option<Claim>
 {
     match *deed {
         Deed::Leave { .. } => None,
-        Deed::Switch { .. } => claim,
-        Deed::Wake { .. } => claim,
-        Deed::Born { .. } => claim,
-        Deed::Arrive { .. } => claim,
+        Deed::Switch { .. } | Deed::Wake { .. } | Deed::Born { .. } | Deed::Arrive { .. } => claim,
     }
 }
 

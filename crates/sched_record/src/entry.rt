@@ -15,8 +15,7 @@ pub fn line_entry(number: u64, line: &[u8]) -> Result<Option<Entry>, TraceCause>
     };
     let sched = match read_line(line) {
         Err(fault) => return Err(TraceCause::Line(fault)),
-        Ok(Line::Comment) => return Ok(None),
-        Ok(Line::Other) => return Ok(None),
+        Ok(Line::Comment | Line::Other) => return Ok(None),
         Ok(Line::Lost) => return Err(TraceCause::LostEvents),
         Ok(Line::Sched(sched)) => sched,
     };

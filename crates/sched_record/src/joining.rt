@@ -94,9 +94,7 @@ fn is_inside(act: Act, cpus: u32) -> bool
     ensures outside { OnFalse result (Any (λ cpu. cpus ≤ cpu) (touched act)) }
 {
     match act {
-        Act::Switch { cpu, .. } => cpu < cpus,
-        Act::Wake { cpu, .. } => cpu < cpus,
-        Act::Born { cpu, .. } => cpu < cpus,
+        Act::Switch { cpu, .. } | Act::Wake { cpu, .. } | Act::Born { cpu, .. } => cpu < cpus,
         Act::Shift { orig, dest, .. } => orig < cpus && dest < cpus,
     }
 }

@@ -4,5 +4,4 @@ pub mod FirstTest
 pub mod Counting
 pub mod ReplayState
 pub mod Made
-pub mod Page
 pub mod Replay

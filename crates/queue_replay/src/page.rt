@@ -8,6 +8,7 @@ use crate::tag::{Reached, Tag};
 use cfs_model::Knobs;
 use replay_model::{LifeEvent, StepFault, Tally, Ticket};
 use sched_record::Stream;
+use std::marker::Model;
 
 /// What the replay of one processor found, by its first steps.
 #[derive(Debug, Drop)]
@@ -22,17 +23,54 @@ pub struct Page {
     pub(crate) births: LifeEvents,
     pub(crate) deaths: LifeEvents,
     pub(crate) tallies: Tallies,
-    pub ghost is_page: { ∥ IsPageOf (stream_view stream) knobs made (record { line = line; fault = fault; left = left; came = came; births = births; deaths = deaths; tallies = tallies }) ∥₁ },
+}
+
+impl Model for Page {
+    ghost use Rattle.queue_replay.specs.Replay.{ReplayView};
+    ghost use Rattle.replay_model.specs.Page.{IsPageOf};
+    ghost use Rattle.sched_record.specs.Stream.{stream_view};
+
+    ghost Value = { ReplayView };
+
+    ghost view = { λ p. record {
+      stream = stream_view p.stream;
+      knobs = p.knobs;
+      made = p.made;
+      page = record {
+        line = p.line;
+        fault = p.fault;
+        left = p.left;
+        came = p.came;
+        births = p.births;
+        deaths = p.deaths;
+        tallies = p.tallies;
+      };
+    } };
+
+    ghost invariant = { λ p. IsPageOf (stream_view p.stream) p.knobs p.made (record {
+      line = p.line;
+      fault = p.fault;
+      left = p.left;
+      came = p.came;
+      births = p.births;
+      deaths = p.deaths;
+      tallies = p.tallies;
+    }) };
 }
 
 impl Page {
-    ghost use Rattle.queue_replay.specs.Page.{page_view};
-
     /// The stream that was replayed.
     pub fn stream(&self) -> &Stream
-        ensures { result.now ≡ self.now.stream }
+        ensures { stream_view result.now ≡ self.now.stream }
     {
         &self.stream
+    }
+
+    /// A law: the page is that of its stream by the steps made.
+    pub fn replayed(&self)
+        ensures { IsPageOf self.now.stream self.now.knobs self.now.made self.now.page }
+    {
+        let _stream = &self.stream;
     }
 
     /// The settings that it was replayed by.
@@ -51,57 +89,57 @@ impl Page {
 
     /// The line of the last step that passed, from 1, comments counted; 0 if none did.
     pub fn line(&self) -> u32
-        ensures { result ≡ (page_view self.now).line }
+        ensures { result ≡ self.now.page.line }
     {
         self.line
     }
 
     /// The first fault, of a step or of the end test.
     pub fn fault(&self) -> Option<StepFault>
-        ensures { result ≡ (page_view self.now).fault }
+        ensures { result ≡ self.now.page.fault }
     {
         self.fault
     }
 
     /// The tickets of the tasks that left, in the order of their lines.
     pub fn left(&self) -> &[Ticket]
-        ensures { result.now ≡ (page_view self.now).left }
+        ensures { result.now ≡ self.now.page.left }
     {
         self.left.as_slice()
     }
 
     /// The tickets of the tasks that came, in the order of their lines.
     pub fn came(&self) -> &[Ticket]
-        ensures { result.now ≡ (page_view self.now).came }
+        ensures { result.now ≡ self.now.page.came }
     {
         self.came.as_slice()
     }
 
     /// The births, in the order of their lines.
     pub fn births(&self) -> &[LifeEvent]
-        ensures { result.now ≡ (page_view self.now).births }
+        ensures { result.now ≡ self.now.page.births }
     {
         self.births.as_slice()
     }
 
     /// The deaths, in the order of their lines.
     pub fn deaths(&self) -> &[LifeEvent]
-        ensures { result.now ≡ (page_view self.now).deaths }
+        ensures { result.now ≡ self.now.page.deaths }
     {
         self.deaths.as_slice()
     }
 
     /// One for each pid that stood here, in the order in which they first did.
     pub fn tallies(&self) -> &[Tally]
-        ensures { result.now ≡ (page_view self.now).tallies }
+        ensures { result.now ≡ self.now.page.tallies }
     {
         self.tallies.as_slice()
     }
 
     /// The processor, and how far the replay went.
     pub fn tag(&self) -> Tag
-        ensures cpu { result.cpu ≡ (stream_view self.now.stream).cpu }
-        ensures reached { result.reached ≡ reached_of (page_view self.now) self.now.made (length (stream_view self.now.stream).steps) }
+        ensures cpu { result.cpu ≡ self.now.stream.cpu }
+        ensures reached { result.reached ≡ reached_of self.now.page self.now.made (length self.now.stream.steps) }
     {
         Tag {
             cpu: self.stream.cpu(),
@@ -110,7 +148,7 @@ impl Page {
     }
 
     fn reached(&self) -> Reached
-        ensures { result ≡ reached_of (page_view self.now) self.now.made (length (stream_view self.now.stream).steps) }
+        ensures { result ≡ reached_of self.now.page self.now.made (length self.now.stream.steps) }
     {
         match self.fault {
             Some(fault) => Reached::Faulted(fault.line),

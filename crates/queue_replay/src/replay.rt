@@ -37,8 +37,6 @@ impl Model for Replay {
 }
 
 impl Replay {
-    ghost use Rattle.queue_replay.specs.Page.{page_view};
-
     /// The replay before its first step; on a stream without steps, after the end test. Where memory is wanted the
     /// stream comes back.
     pub fn new(alloc: Global, stream: Stream, knobs: Knobs) -> Result<Replay, (Stream, Memory)>
@@ -98,11 +96,8 @@ impl Replay {
 
     /// What the replay found so far.
     pub fn page(self) -> Page
-        ensures stream { stream_view result.stream ≡ self.stream }
-        ensures knobs { result.knobs ≡ self.knobs }
-        ensures made { result.made ≡ self.made }
-        ensures page { page_view result ≡ self.page }
-        ensures is_page { IsPageOf self.stream self.knobs self.made self.page }
+        ensures same { result ≡ self }
+        ensures is_page { IsPageOf result.stream result.knobs result.made result.page }
     {
         let Replay {
             stream,

@@ -5,30 +5,29 @@ use Rattle.std.specs.Prelude.{slice_get}
 use Rattle.std.proofs.lemmas.Bool.{cases_eq}
 use Rattle.std.proofs.lemmas.List.{get_or-set_same, get_or-set_other, length-replicate, length-set}
 use Rattle.std.proofs.lemmas.Option.{slice_get_within, none-some, same_Some}
-use Rattle.queue_replay.specs.declared.page.Page.{Page}
-use Rattle.sched_record.specs.Stream.{stream_view}
+use Rattle.queue_replay.specs.Replay.{ReplayView}
 use Rattle.ticket_book.specs.Book.{IsBook, fault_line, least_line, no_fault, place_line, place_of, refusal_at, refusal_of}
 
-room_at : (found : Option (Option Page)) → None ≡ refusal_at found → found ≡ Some None
+room_at : (found : Option (Option ReplayView)) → None ≡ refusal_at found → found ≡ Some None
 room_at None e = absurd cc
 room_at (Some (Some page)) e = absurd cc
 room_at (Some None) e = refl
 
 -- a page that isn't refused finds an empty place
-pub room : (places : List (Option Page)) (cpu : ℕ) → None ≡ refusal_of places cpu → slice_get places cpu ≡ Some None
+pub room : (places : List (Option ReplayView)) (cpu : ℕ) → None ≡ refusal_of places cpu → slice_get places cpu ≡ Some None
 room places cpu e = room_at (slice_get places cpu) e
 
 least_of_empty : (n : ℕ) → least_line (replicate n None) ≡ no_fault
 least_of_empty zero = refl
 least_of_empty (suc n) = ap (λ line. min no_fault line) (least_of_empty n)
 
-least_within : (places : List (Option Page)) → least_line places ≤ no_fault
+least_within : (places : List (Option ReplayView)) → least_line places ≤ no_fault
 least_within [] = omega arith
 least_within (place ∷ places) = omega (arith, least_within places)
 
 -- the least line with one more page
-pub least_put : (places : List (Option Page)) (cpu : ℕ) (page : Page) → slice_get places cpu ≡ Some None
-    → least_line (set places cpu (Some page)) ≡ min (least_line places) (fault_line page.fault)
+pub least_put : (places : List (Option ReplayView)) (cpu : ℕ) (page : ReplayView) → slice_get places cpu ≡ Some None
+    → least_line (set places cpu (Some page)) ≡ min (least_line places) (fault_line page.page.fault)
 least_put [] cpu page e = absurd cc
 least_put (place ∷ places) zero page e =
     let is_empty : place ≡ None = same_Some place None e in
@@ -36,23 +35,23 @@ least_put (place ∷ places) zero page e =
     omega (arith, least_within places, empty)
 least_put (place ∷ places) (suc cpu) page e = omega (arith, least_put places cpu page e)
 
-own_put : (places : List (Option Page)) (cpu : ℕ) (page : Page) → cpu < length places → (stream_view page.stream).cpu ≡ cpu
-    → ((other : ℕ) (p : Page) → place_of places other ≡ Some p → (stream_view p.stream).cpu ≡ other)
-    → (other : ℕ) (p : Page) → place_of (set places cpu (Some page)) other ≡ Some p → (stream_view p.stream).cpu ≡ other
+own_put : (places : List (Option ReplayView)) (cpu : ℕ) (page : ReplayView) → cpu < length places → page.stream.cpu ≡ cpu
+    → ((other : ℕ) (p : ReplayView) → place_of places other ≡ Some p → p.stream.cpu ≡ other)
+    → (other : ℕ) (p : ReplayView) → place_of (set places cpu (Some page)) other ≡ Some p → p.stream.cpu ≡ other
 own_put places cpu page h is own other p e = go (cases_eq other cpu)
   where
-    go : (other ≡ cpu) ⊎ (other ≢ cpu) → (stream_view p.stream).cpu ≡ other
+    go : (other ≡ cpu) ⊎ (other ≢ cpu) → p.stream.cpu ≡ other
     go (inl same) =
         let here : place_of (set places cpu (Some page)) other ≡ Some page =
         ap (place_of (set places cpu (Some page))) same ∙ get_or-set_same places cpu (Some page) None h in
         let same_page : page ≡ p = same_Some page p (sym here ∙ e) in
-        ap (λ (q : Page). (stream_view q.stream).cpu) (sym same_page) ∙ is ∙ sym same
+        ap (λ (q : ReplayView). q.stream.cpu) (sym same_page) ∙ is ∙ sym same
     go (inr not) = own other p (sym (get_or-set_other places cpu other (Some page) None not) ∙ e)
 
 -- a book with one more page
-pub book_put : (places : List (Option Page)) (least cpu : ℕ) (page : Page) → IsBook places least
-    → slice_get places cpu ≡ Some None → (stream_view page.stream).cpu ≡ cpu
-    → IsBook (set places cpu (Some page)) (min least (fault_line page.fault))
+pub book_put : (places : List (Option ReplayView)) (least cpu : ℕ) (page : ReplayView) → IsBook places least
+    → slice_get places cpu ≡ Some None → page.stream.cpu ≡ cpu
+    → IsBook (set places cpu (Some page)) (min least (fault_line page.page.fault))
 book_put places least cpu page book empty is =
     let h = slice_get_within places cpu None empty in
     let same = length-set places cpu (Some page) in
@@ -60,7 +59,7 @@ book_put places least cpu page book empty is =
       some = let some = book.some in omega (arith, some, same);
       at_most = let most = book.at_most in omega (arith, most, same);
       own = own_put places cpu page h is book.own;
-      least_is = ap (λ line. min line (fault_line page.fault)) book.least_is ∙ sym (least_put places cpu page empty);
+      least_is = ap (λ line. min line (fault_line page.page.fault)) book.least_is ∙ sym (least_put places cpu page empty);
     }
 
 none_there : (cpus cpu : ℕ) → place_of (replicate cpus None) cpu ≡ None
@@ -71,7 +70,7 @@ none_there (suc cpus) (suc cpu) = none_there cpus cpu
 -- a book without pages
 pub empty_book : (cpus : ℕ) → 0 < cpus → cpus ≤ 64 → IsBook (replicate cpus None) no_fault
 empty_book cpus some most =
-    let empty : Option Page = None in
+    let empty : Option ReplayView = None in
     let count = length-replicate cpus empty in
     record {
       some = omega (arith, some, count);

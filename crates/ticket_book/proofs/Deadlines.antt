@@ -1,8 +1,7 @@
 -- Deadlines along a list of pages: the first, and the lowest processor that is late.
 use Rattle.std.proofs.Common.{◌≡◌, ℕ, ◌+◌, ◌<◌, ◌≤◌, nat_lt, true, false, cond, Option, Some, None, List, length, get_or, refl, sym, ap, ◌∙◌, subst, below_more, arith, inl, inr}
 use Rattle.std.proofs.lemmas.Bool.{ltb-false, le-ltb, cases_lt, lt-ltb}
-use Rattle.queue_replay.specs.Page.{page_view}
-use Rattle.queue_replay.specs.declared.page.Page.{Page}
+use Rattle.queue_replay.specs.Replay.{ReplayView}
 use Rattle.ticket_book.specs.Told.{view_at}
 use Rattle.ticket_book.specs.Idling.{IsFrom, IsFirstLate, NoneFirst, NoneLate, deadline_on, earlier_of, is_past}
 use Rattle.ticket_book.proofs.Views.{view_here}
@@ -26,24 +25,24 @@ from_other None (Some other) = omega arith
 from_other (Some one) (Some other) = (smaller one other).1
 
 -- one more page
-pub one_deadline : (pages : List Page) (first : Option ℕ) (k : ℕ) (page : Page) → k < length pages
+pub one_deadline : (pages : List ReplayView) (first : Option ℕ) (k : ℕ) (page : ReplayView) → k < length pages
     → page ≡ get_or pages k page → NoneFirst pages first k
-    → NoneFirst pages (earlier_of first (deadline_on (page_view page))) (k + 1)
+    → NoneFirst pages (earlier_of first (deadline_on page.page)) (k + 1)
 one_deadline pages first k page h e before =
     below_more _ _
-    (λ cpu lt. from_earlier first (deadline_on (page_view page)) (deadline_on (view_at pages cpu)) (before cpu lt))
-    (subst (λ view. IsFrom (earlier_of first (deadline_on (page_view page))) (deadline_on view)) (sym (view_here pages k page h e))
-    (from_other first (deadline_on (page_view page))))
+    (λ cpu lt. from_earlier first (deadline_on page.page) (deadline_on (view_at pages cpu)) (before cpu lt))
+    (subst (λ view. IsFrom (earlier_of first (deadline_on page.page)) (deadline_on view)) (sym (view_here pages k page h e))
+    (from_other first (deadline_on page.page)))
 
 -- one more page that isn't late
-pub one_in_time : (pages : List Page) (time k : ℕ) (page : Page) → k < length pages → page ≡ get_or pages k page
-    → is_past time (deadline_on (page_view page)) ≡ false → NoneLate pages time k → NoneLate pages time (k + 1)
+pub one_in_time : (pages : List ReplayView) (time k : ℕ) (page : ReplayView) → k < length pages → page ≡ get_or pages k page
+    → is_past time (deadline_on page.page) ≡ false → NoneLate pages time k → NoneLate pages time (k + 1)
 one_in_time pages time k page h e late before =
     below_more _ _ before (ap (λ view. is_past time (deadline_on view)) (view_here pages k page h e) ∙ late)
 
 -- the first that is
-pub first_late : (pages : List Page) (time k : ℕ) (page : Page) → k < length pages → page ≡ get_or pages k page
-    → is_past time (deadline_on (page_view page)) ≡ true → NoneLate pages time k → IsFirstLate pages time k
+pub first_late : (pages : List ReplayView) (time k : ℕ) (page : ReplayView) → k < length pages → page ≡ get_or pages k page
+    → is_past time (deadline_on page.page) ≡ true → NoneLate pages time k → IsFirstLate pages time k
 first_late pages time k page h e late before = record {
   within = h;
   late = ap (λ view. is_past time (deadline_on view)) (view_here pages k page h e) ∙ late;
@@ -57,6 +56,6 @@ past_from time None (Some d) h k = absurd h
 past_from time (Some first) (Some d) h k = let a = ltb-false first time k in le-ltb d time (omega (arith, a, h))
 
 -- where the first deadline isn't before a time, none is
-pub none_late : (pages : List Page) (time count : ℕ) (first : Option ℕ) → NoneFirst pages first count
+pub none_late : (pages : List ReplayView) (time count : ℕ) (first : Option ℕ) → NoneFirst pages first count
     → is_past time first ≡ false → NoneLate pages time count
 none_late pages time count first from h cpu lt = past_from time first (deadline_on (view_at pages cpu)) (from cpu lt) h

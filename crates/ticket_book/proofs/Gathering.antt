@@ -6,22 +6,22 @@ use Rattle.std.proofs.lemmas.Bool.{cases_lt}
 use Rattle.std.proofs.lemmas.List.{length_push}
 use Rattle.std.proofs.lemmas.Option.{same_Some, slice_get_within}
 use Rattle.cfs_model.specs.Settings.{Settings}
-use Rattle.queue_replay.specs.declared.page.Page.{Page}
+use Rattle.queue_replay.specs.Replay.{ReplayView}
 use Rattle.sched_record.specs.Record.{RecordView}
 use Rattle.ticket_book.specs.Book.{place_of}
 use Rattle.ticket_book.specs.Remade.{AreRemadeBelow, Suffices}
 use Rattle.ticket_book.specs.Whole.{IsWholePageOf}
 
 -- so many processors have their page, of what is left of a book's places; and so many of the pages were made again
-pub record AreGathered (knobs : Settings) (r : RecordView) (places left : List (Option Page)) (pages : List Page) (cpu remade : ℕ)
+pub record AreGathered (knobs : Settings) (r : RecordView) (places left : List (Option ReplayView)) (pages : List ReplayView) (cpu remade : ℕ)
     : Type 0 where
   pub count : length pages ≡ cpu
-  pub whole : (other : ℕ) (page : Page) → slice_get pages other ≡ Some page → IsWholePageOf knobs r other page
+  pub whole : (other : ℕ) (page : ReplayView) → slice_get pages other ≡ Some page → IsWholePageOf knobs r other page
   pub left_are : (other : ℕ) → cpu ≤ other → place_of left other ≡ place_of places other
   pub remade_are : AreRemadeBelow knobs r places cpu remade
   pub few : remade ≤ cpu
 
-pub none_gathered : (knobs : Settings) (r : RecordView) (places : List (Option Page)) → AreGathered knobs r places places [] 0 0
+pub none_gathered : (knobs : Settings) (r : RecordView) (places : List (Option ReplayView)) → AreGathered knobs r places places [] 0 0
 none_gathered knobs r places = record {
   count = refl;
   whole = λ other page e. absurd cc;
@@ -40,10 +40,10 @@ push_last [] x = refl
 push_last (y ∷ ys) x = push_last ys x
 
 -- one more page, of the next processor
-module _ (knobs : Settings) (r : RecordView) (places left after : List (Option Page)) (pages : List Page) (cpu remade : ℕ) (page : Page)
+module _ (knobs : Settings) (r : RecordView) (places left after : List (Option ReplayView)) (pages : List ReplayView) (cpu remade : ℕ) (page : ReplayView)
     (gathered : AreGathered knobs r places left pages cpu remade) (whole : IsWholePageOf knobs r cpu page)
     (others : (other : ℕ) → other ≢ cpu → place_of after other ≡ place_of left other) where
-  whole_more : (other : ℕ) (p : Page) → slice_get (pages ++ page ∷ []) other ≡ Some p → IsWholePageOf knobs r other p
+  whole_more : (other : ℕ) (p : ReplayView) → slice_get (pages ++ page ∷ []) other ≡ Some p → IsWholePageOf knobs r other p
   whole_more other p e = go (cases_lt other (length pages))
     where
       go : (other < length pages) ⊎ (length pages ≤ other) → IsWholePageOf knobs r other p
@@ -54,7 +54,7 @@ module _ (knobs : Settings) (r : RecordView) (places left after : List (Option P
           let within = slice_get_within (pages ++ page ∷ []) other p e in
           let last : length pages ≡ other = omega (arith, ge, pushed, within) in
           let same : page ≡ p = same_Some page p (sym (push_last pages page) ∙ ap (slice_get (pages ++ page ∷ [])) last ∙ e) in
-          subst (λ (q : Page). IsWholePageOf knobs r other q) same
+          subst (λ (q : ReplayView). IsWholePageOf knobs r other q) same
           (subst (λ n. IsWholePageOf knobs r n page) (sym count ∙ last) whole)
 
   left_more : (other : ℕ) → cpu + 1 ≤ other → place_of after other ≡ place_of places other

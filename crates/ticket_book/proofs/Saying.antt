@@ -14,7 +14,7 @@ use Rattle.replay_model.specs.Closing.{IdlesBefore, FailsHere, IsPageCause, IsAc
 use Rattle.replay_model.specs.Composition.{BirthIsNew, TicketsAgree, ticket_at}
 use Rattle.replay_model.specs.Noted.{PageView}
 use Rattle.replay_model.specs.declared.page.StepFault.{StepFault}
-use Rattle.queue_replay.specs.declared.page.Page.{Page}
+use Rattle.queue_replay.specs.Replay.{ReplayView}
 use Rattle.ticket_book.specs.Idling.{IsFirstLate, NoneLate, is_past}
 use Rattle.ticket_book.specs.Told.{Allow, AllowAct, cause_view, view_at}
 use Rattle.ticket_book.specs.Walk.{AllowShift, IsShiftCause, born_twice_on, failed_on}
@@ -137,7 +137,7 @@ no_idling event time None on late = λ h. h
 no_idling event time (Some fault) on late = λ h.
     true≢false (sym (ap (is_past time) h.1 ∙ lt-ltb h.0 time (subst (λ n. h.0 < n) on h.2)) ∙ late)
 
-module _ (pages : List Page) (alive : ℕ → Bool) (event : Claimed) (time : ℕ) (on : event.entry.time ≡ time) where
+module _ (pages : List ReplayView) (alive : ℕ → Bool) (event : Claimed) (time : ℕ) (on : event.entry.time ≡ time) where
   -- the lowest processor that is late
   pub idling_said : (cpu : ℕ) → IsFirstLate pages time cpu
       → IsCauseOf (view_at pages) (length pages) alive event (record { cpu = cpu; pid = 0; kind = IdleTooLong })

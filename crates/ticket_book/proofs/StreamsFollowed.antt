@@ -4,7 +4,7 @@ use Rattle.std.proofs.Common.{◌≡◌, ◌≢◌, ℕ, zero, suc, ◌<◌, ◌
 use Rattle.std.specs.Prelude.{slice_get}
 use Rattle.std.proofs.lemmas.Option.{same_Some, slice_get-get_or, slice_get_past}
 use Rattle.replay_model.specs.declared.step.Step.{Step}
-use Rattle.queue_replay.specs.declared.page.Page.{Page}
+use Rattle.queue_replay.specs.Replay.{ReplayView}
 use Rattle.ticket_book.specs.Book.{place_of}
 use Rattle.ticket_book.specs.Cursor.{IsCursor, IsFollowed, steps_in}
 use Rattle.ticket_book.specs.declared.cursor.Cursor.{Cursor}
@@ -22,7 +22,7 @@ set_elsewhere (y ∷ ys) (suc i) zero x ne = refl
 set_elsewhere (y ∷ ys) (suc i) (suc j) x ne = set_elsewhere ys i j x (λ e. ne (ap suc e))
 
 -- one more step at a processor that has a cursor
-pub followed_here : (places : List (Option Page)) (cursors : List Cursor) (cpu : ℕ) (steps dealt : List Step) (start new : Cursor) (step : Step)
+pub followed_here : (places : List (Option ReplayView)) (cursors : List Cursor) (cpu : ℕ) (steps dealt : List Step) (start new : Cursor) (step : Step)
     → steps ≡ steps_in (place_of places cpu) → cpu < length cursors
     → (IsCursor steps dealt (get_or cursors cpu start) → IsCursor steps (dealt ++ step ∷ []) new)
     → IsFollowed places cursors cpu dealt → IsFollowed places (set cursors cpu new) cpu (dealt ++ step ∷ [])
@@ -35,6 +35,6 @@ followed_here places cursors cpu steps dealt start new step same h after followe
     (subst (λ (s : List Step). IsCursor s (dealt ++ step ∷ []) new) same now)
 
 -- a processor without a cursor
-pub followed_past : (places : List (Option Page)) (cursors : List Cursor) (cpu : ℕ) (dealt : List Step) → length cursors ≤ cpu
+pub followed_past : (places : List (Option ReplayView)) (cursors : List Cursor) (cpu : ℕ) (dealt : List Step) → length cursors ≤ cpu
     → IsFollowed places cursors cpu dealt
 followed_past places cursors cpu dealt past cursor e = absurd (let none = slice_get_past cursors cpu past in cc)

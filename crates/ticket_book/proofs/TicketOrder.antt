@@ -1,9 +1,8 @@
 -- The lines of the tickets on a page never fall: each step that passes adds at most one, of its own line, and the lines
 -- of a stream's steps rise.
 use Rattle.std.proofs.Common.{◌≡◌, ℕ, zero, suc, ◌+◌, ◌<◌, ◌≤◌, nat_lt, nat_le, Bool, true, false, cond, Option, Some, None, inl, inr, List, [], ◌∷◌, ◌++◌, length, take, All, refl, sym, ap, ◌∙◌, subst, arith}
+use Rattle.std.specs.Prelude.{slice_get}
 use Rattle.std.specs.List.{AllByRecursion, AllPairs}
-use Rattle.std.proofs.Math.Logic.{∥∥₁_elim}
-use Rattle.std.proofs.Props.{props}
 use Rattle.std.proofs.lemmas.List.Elements.{All-from_recursion}
 use Rattle.cfs_model.specs.Settings.{Settings}
 use Rattle.replay_model.specs.Cut.{StreamView}
@@ -15,12 +14,15 @@ use Rattle.cfs_model.specs.declared.kind.Kind.TheVariants.{IdleTooLong}
 use Rattle.replay_model.specs.declared.page.StepFault.{StepFault}
 use Rattle.replay_model.specs.declared.page.Ticket.{Ticket}
 use Rattle.replay_model.specs.declared.step.Step.{Step}
-use Rattle.queue_replay.specs.Page.{page_view}
-use Rattle.queue_replay.specs.declared.page.Page.{Page}
+use Rattle.queue_replay.specs.Replay.{ReplayView}
 use Rattle.sched_record.proofs.Pairs.{pairs_head, pairs_tail}
-use Rattle.sched_record.specs.Stream.{stream_view}
 use Rattle.ticket_book.specs.Told.{view_at}
 use Rattle.ticket_book.specs.Walk.{TicketsRise}
+
+-- the page of its stream by the steps made, and the lines of the stream's steps rise
+pub record IsOwn (page : ReplayView) : Type 0 where
+  pub is_page : IsPageOf page.stream page.knobs page.made page.page
+  pub lines : AllPairs (λ a b. a.line < b.line) page.stream.steps
 
 -- the lines never fall
 abbrev Rise : List Ticket → Type 0
@@ -139,27 +141,33 @@ module _ (tickets : PageView → List Ticket) (by : Part → Step → List Ticke
       go true = end_kept knobs.slack stream is_page.end.since is_page.end.page.fault is_page.end.page
       go false = refl
 
-  rise_of : (page : Page) → ((s : ReplayStateView) → IsStartOf (stream_view page.stream) s → tickets s.page ≡ [])
-      → AllPairs (λ t u. t.line ≤ u.line) (tickets (page_view page))
-  rise_of page start =
-      ∥∥₁_elim page.is_page (hlevel props)
-      (λ is_page. pairs_from (tickets (page_view page))
-      (rise_on (stream_view page.stream) page.knobs page.made (page_view page)
-      (steps_from 0 page.stream.steps (λ k d lt. omega arith) page.stream.share.lines_rise)
-      (λ view none. subst (λ ts. Rise ts × AllByRecursion (λ (t : Ticket). t.line ≤ 0) ts) (sym none) (tt, tt)) start is_page))
+  rise_of : (page : ReplayView) → IsOwn page → ((s : ReplayStateView) → IsStartOf page.stream s → tickets s.page ≡ [])
+      → AllPairs (λ t u. t.line ≤ u.line) (tickets page.page)
+  rise_of page own start =
+      pairs_from (tickets page.page)
+      (rise_on page.stream page.knobs page.made page.page
+      (steps_from 0 page.stream.steps (λ k d lt. omega arith) own.lines)
+      (λ view none. subst (λ ts. Rise ts × AllByRecursion (λ (t : Ticket). t.line ≤ 0) ts) (sym none) (tt, tt)) start own.is_page)
+
+-- each of the pages is the page of its stream
+abbrev pub AreOwn : List ReplayView → Type 0
+AreOwn pages = (cpu : ℕ) (page : ReplayView) → slice_get pages cpu ≡ Some page → IsOwn page
+
+others : (page : ReplayView) (pages : List ReplayView) → AreOwn (page ∷ pages) → AreOwn pages
+others page pages own cpu p is = own (suc cpu) p is
 
 -- those that left, and those that came
-all_left : (pages : List Page) (cpu : ℕ) → AllPairs (λ t u. t.line ≤ u.line) (view_at pages cpu).left
-all_left [] cpu = λ i j d lt within. absurd (omega arith)
-all_left (page ∷ pages) zero =
-    rise_of (λ view. view.left) left_of left_tickets (λ view o. refl) page (λ s start. ap (λ view. view.left) start.page)
-all_left (page ∷ pages) (suc cpu) = all_left pages cpu
+all_left : (pages : List ReplayView) → AreOwn pages → (cpu : ℕ) → AllPairs (λ t u. t.line ≤ u.line) (view_at pages cpu).left
+all_left [] own cpu = λ i j d lt within. absurd (omega arith)
+all_left (page ∷ pages) own zero =
+    rise_of (λ view. view.left) left_of left_tickets (λ view o. refl) page (own 0 page refl) (λ s start. ap (λ view. view.left) start.page)
+all_left (page ∷ pages) own (suc cpu) = all_left pages (others page pages own) cpu
 
-all_came : (pages : List Page) (cpu : ℕ) → AllPairs (λ t u. t.line ≤ u.line) (view_at pages cpu).came
-all_came [] cpu = λ i j d lt within. absurd (omega arith)
-all_came (page ∷ pages) zero =
-    rise_of (λ view. view.came) came_of came_tickets (λ view o. refl) page (λ s start. ap (λ view. view.came) start.page)
-all_came (page ∷ pages) (suc cpu) = all_came pages cpu
+all_came : (pages : List ReplayView) → AreOwn pages → (cpu : ℕ) → AllPairs (λ t u. t.line ≤ u.line) (view_at pages cpu).came
+all_came [] own cpu = λ i j d lt within. absurd (omega arith)
+all_came (page ∷ pages) own zero =
+    rise_of (λ view. view.came) came_of came_tickets (λ view o. refl) page (own 0 page refl) (λ s start. ap (λ view. view.came) start.page)
+all_came (page ∷ pages) own (suc cpu) = all_came pages (others page pages own) cpu
 
-pub tickets_rise : (pages : List Page) → TicketsRise pages
-tickets_rise pages = record { left = all_left pages; came = all_came pages }
+pub own_tickets_rise : (pages : List ReplayView) → AreOwn pages → TicketsRise pages
+own_tickets_rise pages own = record { left = all_left pages own; came = all_came pages own }

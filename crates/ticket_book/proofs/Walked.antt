@@ -14,7 +14,7 @@ use Rattle.replay_model.specs.Composition.{named, roll_after, BirthIsNew, Births
 use Rattle.replay_model.specs.Cut.{touches}
 use Rattle.replay_model.specs.Endings.{roll_of}
 use Rattle.replay_model.specs.Noted.{PageView}
-use Rattle.queue_replay.specs.declared.page.Page.{Page}
+use Rattle.queue_replay.specs.Replay.{ReplayView}
 use Rattle.sched_record.proofs.Rising.{split_at}
 use Rattle.ticket_book.specs.Alive.{alive_view}
 use Rattle.ticket_book.specs.Idling.{NoneFirst}
@@ -28,7 +28,7 @@ abbrev pub with_claim : List Claim → Entry → Claimed
 with_claim claims event = record { entry = event; claim = claim_at claims event.line }
 
 -- how far a walk has come
-pub record HasCome (pages : List Page) (tasks : List Task) (claims : List Claim) (events : List Entry) (i : ℕ) (walk : Walk)
+pub record HasCome (pages : List ReplayView) (tasks : List Task) (claims : List Claim) (events : List Entry) (i : ℕ) (walk : Walk)
     : Type 0 where
   pub nothing : SayNothing (view_at pages) (length pages) tasks (claimed claims (take i events))
   pub alive : (pid : ℕ) → alive_view walk.alive pid ≡ roll_of (named tasks) (claimed claims (take i events)) pid
@@ -61,7 +61,7 @@ say_push pages cpus tasks xs x nothing allow = record {
   births = births_push (named tasks) xs x nothing.births allow.act.birth;
 }
 
-module _ (pages : List Page) (tasks : List Task) (claims : List Claim) (events : List Entry) where
+module _ (pages : List ReplayView) (tasks : List Task) (claims : List Claim) (events : List Entry) where
   -- before the first event
   pub walk_starts : (walk : Walk) → ((pid : ℕ) → alive_view walk.alive pid ≡ named tasks pid)
       → ((line : ℕ) → StandsAt pages line walk) → HasCome pages tasks claims events 0 walk

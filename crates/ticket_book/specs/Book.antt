@@ -1,8 +1,7 @@
 -- A book of pages, as contracts see it (this project's profile).
 use Rattle.std.specs.Prelude.{◌≡◌, ℕ, ◌<◌, ◌≤◌, min, Option, Some, None, Result, Ok, Err, List, [], ◌∷◌, length, slice_get, slice_index_or}
 use Rattle.replay_model.specs.declared.page.StepFault.{StepFault}
-use Rattle.queue_replay.specs.declared.page.Page.{Page}
-use Rattle.sched_record.specs.Stream.{stream_view}
+use Rattle.queue_replay.specs.Replay.{ReplayView}
 use Rattle.ticket_book.specs.declared.post_fault.PostFault.{PostFault}
 use Rattle.ticket_book.specs.declared.post_fault.PostFault.TheVariants.{Outside, Twice}
 
@@ -20,38 +19,38 @@ fault_line None = no_fault
 fault_line (Some fault) = fault.line
 
 -- the line of the fault of the page at a place, if there is a page and it has a fault
-abbrev pub place_line : Option Page → ℕ
+abbrev pub place_line : Option ReplayView → ℕ
 place_line None = no_fault
-place_line (Some page) = fault_line page.fault
+place_line (Some page) = fault_line page.page.fault
 
 -- the least line of a fault on the pages at some places
-abbrev pub least_line : List (Option Page) → ℕ
+abbrev pub least_line : List (Option ReplayView) → ℕ
 least_line [] = no_fault
 least_line (place ∷ places) = min (place_line place) (least_line places)
 
 -- the place of a processor; behind the last there is no page
-abbrev pub place_of : List (Option Page) → ℕ → Option Page
+abbrev pub place_of : List (Option ReplayView) → ℕ → Option ReplayView
 place_of places cpu = slice_index_or places cpu None
 
 -- what every book keeps: it has a place for each of its processors, where a page of that processor alone can stand, and
 -- the least line is the one over its pages
-pub record IsBook (places : List (Option Page)) (least : ℕ) : Type 0 where
+pub record IsBook (places : List (Option ReplayView)) (least : ℕ) : Type 0 where
   pub some : 0 < length places
   pub at_most : length places ≤ greatest_cpus
-  pub own : (cpu : ℕ) (page : Page) → place_of places cpu ≡ Some page → (stream_view page.stream).cpu ≡ cpu
+  pub own : (cpu : ℕ) (page : ReplayView) → place_of places cpu ≡ Some page → page.stream.cpu ≡ cpu
   pub least_is : least ≡ least_line places
 
 -- why no page can be posted to a place, if so: there is no such place, or it has a page
-abbrev pub refusal_at : Option (Option Page) → Option PostFault
+abbrev pub refusal_at : Option (Option ReplayView) → Option PostFault
 refusal_at None = Some Outside
 refusal_at (Some (Some page)) = Some Twice
 refusal_at (Some None) = None
 
 -- why a page of a processor can't be posted, if so
-abbrev pub refusal_of : List (Option Page) → ℕ → Option PostFault
+abbrev pub refusal_of : List (Option ReplayView) → ℕ → Option PostFault
 refusal_of places cpu = refusal_at (slice_get places cpu)
 
 -- why a post was refused, if it was
-abbrev pub refusal_in : Result ℕ (Page × PostFault) → Option PostFault
+abbrev pub refusal_in : Result ℕ (ReplayView × PostFault) → Option PostFault
 refusal_in (Ok line) = None
 refusal_in (Err back) = Some back.1

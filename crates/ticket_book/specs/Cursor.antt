@@ -3,16 +3,15 @@ use Rattle.std.specs.Prelude.{◌≡◌, ◌≢◌, ℕ, Option, Some, None, Lis
 use Rattle.cfs_model.specs.Claimed.{Claimed}
 use Rattle.replay_model.specs.Cut.{steps_at}
 use Rattle.replay_model.specs.declared.step.Step.{Step}
-use Rattle.queue_replay.specs.declared.page.Page.{Page}
-use Rattle.sched_record.specs.Stream.{stream_view}
+use Rattle.queue_replay.specs.Replay.{ReplayView}
 use Rattle.ticket_book.specs.Book.{place_of}
 use Rattle.ticket_book.specs.declared.cursor.Cursor.{Cursor}
 use Rattle.ticket_book.specs.declared.cursor.Cursor.TheVariants.{At, Apart}
 
 -- the steps of the page at a place; where there is no page there are none
-abbrev pub steps_in : Option Page → List Step
+abbrev pub steps_in : Option ReplayView → List Step
 steps_in None = []
-steps_in (Some page) = (stream_view page.stream).steps
+steps_in (Some page) = page.stream.steps
 
 -- the steps dealt so far are the first of these, up to the place; or they aren't the first of these
 abbrev pub IsCursor : List Step → List Step → Cursor → Type 0
@@ -20,10 +19,10 @@ IsCursor steps dealt (At place) = (place ≡ length dealt) × (dealt ≡ take pl
 IsCursor steps dealt Apart = dealt ≢ take (length dealt) steps
 
 -- the cursor of a processor, if it has one, is that of the page at its place
-abbrev pub IsFollowed : List (Option Page) → List Cursor → ℕ → List Step → Type 0
+abbrev pub IsFollowed : List (Option ReplayView) → List Cursor → ℕ → List Step → Type 0
 IsFollowed places cursors cpu dealt =
     (cursor : Cursor) → slice_get cursors cpu ≡ Some cursor → IsCursor (steps_in (place_of places cpu)) dealt cursor
 
 -- so is each, with these events dealt
-abbrev pub AreFollowed : List (Option Page) → List Cursor → List Claimed → Type 0
+abbrev pub AreFollowed : List (Option ReplayView) → List Cursor → List Claimed → Type 0
 AreFollowed places cursors events = (cpu : ℕ) → IsFollowed places cursors cpu (steps_at cpu events)

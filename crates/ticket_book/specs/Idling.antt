@@ -1,7 +1,7 @@
 -- Until when the pages' processors could idle (this project's profile).
 use Rattle.std.specs.Prelude.{◌≡◌, ℕ, ◌<◌, ◌≤◌, true, List, length, nat_lt, Bool, false, if◌then◌else◌, Option, Some, None, option_and_then, ⊤}
 use Rattle.replay_model.specs.Noted.{PageView}
-use Rattle.queue_replay.specs.declared.page.Page.{Page}
+use Rattle.queue_replay.specs.Replay.{ReplayView}
 use Rattle.ticket_book.specs.Told.{view_at}
 
 -- until when the processor could idle, where its page's fault is that it idled for longer
@@ -26,15 +26,15 @@ earlier_of (Some one) None = Some one
 earlier_of (Some one) (Some other) = Some (if nat_lt one other then one else other)
 
 -- of the first so many processors none has an earlier deadline
-abbrev pub NoneFirst : List Page → Option ℕ → ℕ → Type 0
+abbrev pub NoneFirst : List ReplayView → Option ℕ → ℕ → Type 0
 NoneFirst pages first count = (cpu : ℕ) → cpu < count → IsFrom first (deadline_on (view_at pages cpu))
 
 -- of the first so many processors none has its deadline before this time
-abbrev pub NoneLate : List Page → ℕ → ℕ → Type 0
+abbrev pub NoneLate : List ReplayView → ℕ → ℕ → Type 0
 NoneLate pages time count = (cpu : ℕ) → cpu < count → is_past time (deadline_on (view_at pages cpu)) ≡ false
 
 -- this is the lowest processor that has
-pub record IsFirstLate (pages : List Page) (time cpu : ℕ) : Type 0 where
+pub record IsFirstLate (pages : List ReplayView) (time cpu : ℕ) : Type 0 where
   pub within : cpu < length pages
   pub late : is_past time (deadline_on (view_at pages cpu)) ≡ true
   pub lowest : NoneLate pages time cpu

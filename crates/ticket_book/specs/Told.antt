@@ -8,8 +8,7 @@ use Rattle.replay_model.specs.Composition.{named, TicketsAgree, BirthIsNew}
 use Rattle.replay_model.specs.Cut.{touches}
 use Rattle.replay_model.specs.Endings.{roll_of}
 use Rattle.replay_model.specs.Noted.{PageView}
-use Rattle.queue_replay.specs.Page.{page_view}
-use Rattle.queue_replay.specs.declared.page.Page.{Page}
+use Rattle.queue_replay.specs.Replay.{ReplayView}
 use Rattle.cfs_model.specs.declared.task.Task.{Task}
 use Rattle.ticket_book.specs.declared.cause.Cause.{Cause as FoundCause}
 use Rattle.ticket_book.specs.declared.verdict.Verdict.{Verdict}
@@ -20,9 +19,9 @@ abbrev pub empty_view : PageView
 empty_view = record { line = 0; fault = None; left = []; came = []; births = []; deaths = []; tallies = [] }
 
 -- the page of a processor, of some pages in the order of their numbers
-abbrev pub view_at : List Page → ℕ → PageView
+abbrev pub view_at : List ReplayView → ℕ → PageView
 view_at [] cpu = empty_view
-view_at (page ∷ pages) zero = page_view page
+view_at (page ∷ pages) zero = page.page
 view_at (page ∷ pages) (suc cpu) = view_at pages cpu
 
 -- the cause as the model sees it

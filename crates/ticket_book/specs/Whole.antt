@@ -1,18 +1,20 @@
 -- Pages on which a verdict can rest (this project's profile).
 use Rattle.std.specs.Prelude.{◌≡◌, ℕ, ◌≤◌, ◌⊎◌, IsSome, Some, List, length, slice_get}
 use Rattle.cfs_model.specs.Settings.{Settings}
-use Rattle.queue_replay.specs.declared.page.Page.{Page}
+use Rattle.replay_model.specs.Page.{IsPageOf}
+use Rattle.queue_replay.specs.Replay.{ReplayView}
 use Rattle.sched_record.specs.Record.{RecordView}
-use Rattle.sched_record.specs.Stream.{cut_of, stream_view}
+use Rattle.sched_record.specs.Stream.{cut_of}
 
 -- the page is of the record's stream for a processor, with these settings, and its replay went to its first fault or to
 -- the end
-pub record IsWholePageOf (knobs : Settings) (r : RecordView) (cpu : ℕ) (page : Page) : Type 0 where
-  pub stream : stream_view page.stream ≡ cut_of r cpu
+pub record IsWholePageOf (knobs : Settings) (r : RecordView) (cpu : ℕ) (page : ReplayView) : Type 0 where
+  pub stream : page.stream ≡ cut_of r cpu
   pub knobs_are : page.knobs ≡ knobs
-  pub whole : IsSome page.fault ⊎ (length (cut_of r cpu).steps ≤ page.made)
+  pub is_page : IsPageOf page.stream page.knobs page.made page.page
+  pub whole : IsSome page.page.fault ⊎ (length (cut_of r cpu).steps ≤ page.made)
 
 -- one whole page for each processor of the record, in the order of their numbers
-pub record AreWhole (knobs : Settings) (r : RecordView) (pages : List Page) : Type 0 where
+pub record AreWhole (knobs : Settings) (r : RecordView) (pages : List ReplayView) : Type 0 where
   pub count : length pages ≡ r.cpus
-  pub each : (cpu : ℕ) (page : Page) → slice_get pages cpu ≡ Some page → IsWholePageOf knobs r cpu page
+  pub each : (cpu : ℕ) (page : ReplayView) → slice_get pages cpu ≡ Some page → IsWholePageOf knobs r cpu page

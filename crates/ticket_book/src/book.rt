@@ -1,5 +1,4 @@
 ghost use Rattle.std.specs.Prelude.{◌≡◌, ◌<◌, ◌≤◌, None, Some, IfOk, IfErr, OnOk, OnErr, replicate, slice_set};
-ghost use Rattle.sched_record.specs.Stream.{stream_view};
 ghost use Rattle.ticket_book.specs.Book.{IsBook, fault_line, greatest_cpus, least_line, refusal_in, refusal_of};
 
 use crate::closing::verdict_on;
@@ -47,8 +46,8 @@ impl Book {
     /// Adds a page, and tells the least line of a fault on the book's pages: `NO_FAULT` where none has one. A page that
     /// is refused comes back. Takes no memory.
     pub fn post(&mut self, page: Page) -> Result<u64, (Page, PostFault)>
-        ensures refused { refusal_in result ≡ refusal_of (book_view self.old) (stream_view page.stream).cpu }
-        ensures added { OnOk result (book_view self.new ≡ slice_set (book_view self.old) (stream_view page.stream).cpu (Some page)) }
+        ensures refused { refusal_in result ≡ refusal_of (book_view self.old) page.stream.cpu }
+        ensures added { OnOk result (book_view self.new ≡ slice_set (book_view self.old) page.stream.cpu (Some page)) }
         ensures told { IfOk result (λ line. line ≡ least_line (book_view self.new)) }
         ensures back { IfErr result (λ e. e.0 ≡ page) }
         ensures unchanged { OnErr result (self.new ≡ self.old) }

@@ -1,12 +1,9 @@
-ghost use Rattle.std.specs.Prelude.{◌≡◌, ℕ, IfOk, length, slice_get};
+ghost use Rattle.std.specs.Prelude.{◌≡◌, IfOk, length};
 ghost use Rattle.cfs_model.specs.Claimed.{claimed};
-ghost use Rattle.replay_model.specs.Page.{IsPageOf};
-ghost use Rattle.queue_replay.specs.Page.{page_view};
-ghost use Rattle.queue_replay.specs.declared.page.Page.{Page};
 ghost use Rattle.sched_record.specs.Record.{record_view};
-ghost use Rattle.sched_record.specs.Stream.{stream_view};
 ghost use Rattle.ticket_book.specs.Told.{Tell, view_at};
 ghost use Rattle.ticket_book.specs.Verdict.{IsVerdict};
+ghost use Rattle.ticket_book.specs.Walk.{TicketsRise};
 ghost use Rattle.ticket_book.specs.Whole.{AreWhole};
 
 use crate::walk::Walk;
@@ -28,19 +25,13 @@ pub(crate) fn verdict_on(
     ensures { IfOk result (IsVerdict knobs (record_view joined.now)) }
 {
     closing();
-    own_pages(pages);
     told_by(alloc, pages, joined)
 }
 
-/// Each page is the page of its stream by the steps made.
-fn own_pages(pages: &[Page])
-    ensures { (cpu : ℕ) (page : Page) → slice_get pages.now cpu ≡ Some page
-        → IsPageOf (stream_view page.stream) page.knobs page.made (page_view page) }
-{}
-
 /// What the pages of a record's processors tell of its events, which are walked once.
 pub(crate) fn told_by(alloc: Global, pages: &[Page], joined: &Record) -> Result<Verdict, Memory>
-    requires { length pages.now ≡ (record_view joined.now).cpus }
+    requires count { length pages.now ≡ (record_view joined.now).cpus }
+    requires rise { TicketsRise pages.now }
     ensures { IfOk result (Tell (view_at pages.now) (length pages.now) (record_view joined.now).tasks
         (claimed (record_view joined.now).claims (record_view joined.now).events)) }
 {

@@ -1,12 +1,11 @@
 ghost use Rattle.std.specs.Prelude.{◌≡◌, IfNone, IfSome, length};
-ghost use Rattle.queue_replay.specs.Page.{page_view};
 ghost use Rattle.ticket_book.specs.Idling.{IsFirstLate, NoneFirst, NoneLate, deadline_on, earlier_of, is_past};
 
 use queue_replay::Page;
 
 /// Until when the page's processor could idle, where its fault is that it idled for longer.
 fn deadline_of(page: &Page) -> Option<u64>
-    ensures { result ≡ deadline_on (page_view page.now) }
+    ensures { result ≡ deadline_on page.now.page }
 {
     page.fault().and_then(|fault| fault.deadline)
 }
@@ -60,7 +59,7 @@ fn first_late(pages: &[Page], time: u64) -> Option<usize>
 
 /// Whether the page's deadline is before a time.
 fn is_late(page: &Page, time: u64) -> bool
-    ensures { result ≡ is_past time (deadline_on (page_view page.now)) }
+    ensures { result ≡ is_past time (deadline_on page.now.page) }
 {
     match deadline_of(page) {
         Some(deadline) => deadline < time,

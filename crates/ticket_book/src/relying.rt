@@ -22,15 +22,16 @@ pub(crate) fn is_whole_page_of(
     cursor: Cursor,
 ) -> bool
     requires below { cpu < (record_view joined.now).cpus }
-    requires followed { IsCursor (stream_view page.now.stream).steps (cut_of (record_view joined.now) cpu).steps cursor }
+    requires followed { IsCursor page.now.stream.steps (cut_of (record_view joined.now) cpu).steps cursor }
     ensures { IsTrue result ↔ IsWholePageOf knobs (record_view joined.now) cpu page.now }
 {
+    page.replayed();
     page.knobs() == knobs && is_whole(page) && is_cut_of(page.stream(), joined, cpu, cursor)
 }
 
 /// Whether a page's replay went to its first fault or to the end.
 fn is_whole(page: &Page) -> bool
-    ensures { IsTrue result ↔ (IsSome page.now.fault ⊎ (length (stream_view page.now.stream).steps ≤ page.now.made)) }
+    ensures { IsTrue result ↔ (IsSome page.now.page.fault ⊎ (length page.now.stream.steps ≤ page.now.made)) }
 {
     match page.tag().reached {
         Reached::Done | Reached::Faulted(_) => true,

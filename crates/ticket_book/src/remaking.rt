@@ -10,8 +10,8 @@ ghost use Rattle.ticket_book.specs.Whole.{AreWhole, IsWholePageOf};
 
 use crate::Book;
 use crate::cursor::Cursor;
-use crate::relying::is_whole_page_of;
 use crate::following::cursors_of;
+use crate::relying::is_whole_page_of;
 use cfs_model::{Knobs, Memory};
 use queue_replay::{Page, Replay};
 use sched_record::Record;

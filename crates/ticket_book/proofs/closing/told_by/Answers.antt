@@ -8,7 +8,6 @@ use Rattle.replay_model.specs.Composition.{named}
 use Rattle.sched_record.specs.Record.{record_view}
 use Rattle.ticket_book.specs.Told.{TellFault, cause_view, view_at}
 use Rattle.ticket_book.specs.Walk.{StandsAt}
-use Rattle.ticket_book.proofs.TicketOrder.{tickets_rise}
 use Rattle.ticket_book.proofs.Walked.{with_claim, walk_starts, walk_goes_on, walk_ends, walk_is_done}
 use Rattle.ticket_book.proofs.closing.told_by.Goals as goal
 
@@ -19,7 +18,7 @@ loop-event-init c =
     (λ pid. c.in_ok-walk.ensures.alive pid ∙ ap (λ tasks. named tasks pid) c.tasks.ensures) c.in_ok-walk.ensures.stands
 
 pub cause-requires-clause-rise : goal.cause-requires-clause-rise
-cause-requires-clause-rise c = tickets_rise c.args.pages.now
+cause-requires-clause-rise c = c.requires.rise
 
 pub cause-requires-clause-stands : goal.cause-requires-clause-stands
 cause-requires-clause-stands c =

@@ -1,5 +1,4 @@
 use Rattle.std.proofs.Common.{◌≡◌, ◌+◌, ap, sym, subst, ◌∙◌, arith}
-use Rattle.queue_replay.specs.Page.{page_view}
 use Rattle.ticket_book.specs.Idling.{NoneFirst, deadline_on, earlier_of}
 use Rattle.ticket_book.proofs.Deadlines.{one_deadline}
 use Rattle.ticket_book.proofs.idling.first_deadline.Goals as goal
@@ -8,7 +7,7 @@ pub loop-page-preserved : goal.loop-page-preserved
 loop-page-preserved c =
     let pages = c.args.pages.now in
     let page = c.page-item.result in
-    let result : earlier_of c.loop-page.first (deadline_on (page_view page)) ≡ c.earlier-first.result =
+    let result : earlier_of c.loop-page.first (deadline_on page.page) ≡ c.earlier-first.result =
     sym (c.earlier-first.ensures ∙ ap (earlier_of c.loop-page.first) c.deadline_of.ensures) in
     subst (λ first. NoneFirst pages first (c.loop-page.page-index + 1)) result
     (one_deadline pages c.loop-page.first c.loop-page.page-index page c.loop-page-test.true c.page-item.is

@@ -1,5 +1,5 @@
 use Rattle.std.proofs.Common.{◌≡◌, [], ◌∷◌, ◌++◌, refl, sym, ap, ◌∙◌, subst}
-use Rattle.queue_replay.specs.declared.page.Page.{Page}
+use Rattle.queue_replay.specs.Replay.{ReplayView}
 use Rattle.sched_record.specs.Record.{record_view}
 use Rattle.ticket_book.specs.BookView.{book_view}
 use Rattle.ticket_book.specs.Remade.{Suffices}
@@ -15,7 +15,7 @@ loop-cpu-preserved c =
     let left = c.loop-cpu.left in
     let cpu = c.loop-cpu.cpu in
     let taken = c.take_page-place.ensures in
-    let pushed = λ (p : Page). c.loop-cpu.pages.items ++ p ∷ [] in
+    let pushed = λ (p : ReplayView). c.loop-cpu.pages.items ++ p ∷ [] in
     elim c.match-relied_on.branch [
       | in-Some w ↦
           (let page = w.in-Some.page in

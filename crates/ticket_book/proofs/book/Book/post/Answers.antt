@@ -1,6 +1,6 @@
 use Rattle.std.proofs.Common.{◌≡◌, ◌∙◌, sym, ap, subst, set, Some, min}
 use Rattle.ticket_book.specs.Book.{IsBook, fault_line}
-use Rattle.sched_record.specs.declared.stream.Stream.{Stream}
+use Rattle.replay_model.specs.Cut.{StreamView}
 use Rattle.ticket_book.proofs.BookPlaces.{book_put, room}
 use Rattle.ticket_book.proofs.book.Book.post.Goals as goal
 
@@ -9,9 +9,9 @@ invariant_of-self c =
     let places = c.args.self.now.places.items in
     let cpu = c.cpu-cpu.result in
     let page = c.args.page in
-    let line : c.min-self.result ≡ min c.args.self.now.least (fault_line page.fault) =
+    let line : c.min-self.result ≡ min c.args.self.now.least (fault_line page.page.fault) =
     c.min-self.ensures ∙ ap (min c.args.self.now.least) (c.line_of.ensures ∙ ap fault_line c.fault.ensures) in
-    let own = sym (c.cpu-cpu.ensures ∙ ap (λ (s : Stream). s.cpu) c.stream.ensures) in
+    let own = sym (c.cpu-cpu.ensures ∙ ap (λ (s : StreamView). s.cpu) c.stream.ensures) in
     record {
       kept = subst (IsBook (set places cpu (Some page))) (sym line)
           (book_put places c.args.self.now.least cpu page c.args.self.now.kept (room places cpu c.in_default.ensures) own);

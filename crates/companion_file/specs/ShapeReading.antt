@@ -31,6 +31,7 @@ abbrev pub signed_at : List ℕ → Option (List ℕ) → Option (ℤ × List �
 signed_at text None = numeral_at text >>= λ number. Some (pos (min number.0 beyond_range), number.1)
 signed_at text (Some digits) = numeral_at digits >>= λ number. Some (neg_ℤ (pos (min number.0 beyond_range)), number.1)
 
+-- an integer at the front, and what follows it
 unfoldable pub integer_at : List ℕ → Option (ℤ × List ℕ)
 integer_at text = signed_at text (after_text (codes "-") text)
 
@@ -45,31 +46,36 @@ integer_field text = do
 unfoldable pub integer_whole : List ℕ → Option ℤ
 integer_whole text = integer_at text >>= λ integer. if_at_end integer.1 integer.0
 
--- a place and the space behind it
+-- a place, where its word was found, and what follows it
 abbrev pub place_and_rest : Place → Option (List ℕ) → Option (Place × List ℕ)
 place_and_rest place rest = option_map (λ text. (place, text)) rest
 
+-- a place and the space behind it
 unfoldable pub place_field : List ℕ → Option (Place × List ℕ)
 place_field text =
     or_else (place_and_rest Run (after_text (codes "run ") text))
     (or_else (place_and_rest Wait (after_text (codes "wait ") text)) (place_and_rest Rest (after_text (codes "rest ") text)))
 
--- what follows the first word of each shape
+-- what follows the word `cfs-companion`; its number is looked at in the first line alone
 unfoldable pub version_shape_at : List ℕ → Option Shape
 version_shape_at text = number_whole text >>= λ n. Some (version_line 0)
 
+-- what follows the word `cpus`
 unfoldable pub cpus_shape_at : List ℕ → Option Shape
 cpus_shape_at text = number_whole text >>= λ n. Some (cpus_line n)
 
+-- what follows the word `start`
 unfoldable pub start_shape_at : List ℕ → Option Shape
 start_shape_at text = time_at text >>= λ time. if_at_end time.2 (start_line time.0 time.1)
 
+-- what follows the word `floor`
 unfoldable pub floor_shape_at : List ℕ → Option Shape
 floor_shape_at text = do
   cpu ← number_field text
   floor ← integer_whole cpu.1
   Some (floor_line cpu.0 floor)
 
+-- what follows the word `task`
 unfoldable pub task_shape_at : List ℕ → Option Shape
 task_shape_at text = do
   pid ← number_field text
@@ -79,6 +85,7 @@ task_shape_at text = do
   v ← integer_whole place.1
   Some (task_line (record { pid = pid.0; nice = nice.0; cpu = cpu.0; place = place.0; v = v }))
 
+-- what follows the word of a claim
 unfoldable pub claim_shape_at : ClaimSort → List ℕ → Option Shape
 claim_shape_at sort text = do
   line ← number_field text
@@ -86,13 +93,14 @@ claim_shape_at sort text = do
   v ← integer_whole pid.1
   Some (claim_line (record { line = line.0; pid = pid.0; v = v; sort = sort }))
 
--- the first word decides the shape
+-- the first word decides the shape: of those that stand before the floors
 unfoldable pub front_shape_at : List ℕ → Option Shape
 front_shape_at line =
     option_map_or start_shape_at (after_text (codes "start ") line)
     (option_map_or cpus_shape_at (after_text (codes "cpus ") line)
     (option_map_or version_shape_at (after_text (codes "cfs-companion ") line) None))
 
+-- and of all
 unfoldable pub shape_at : List ℕ → Option Shape
 shape_at line =
     option_map_or (claim_shape_at At) (after_text (codes "at ") line)

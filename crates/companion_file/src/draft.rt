@@ -1,4 +1,4 @@
-ghost use Rattle.std.specs.Prelude.{◌≡◌, ◌≤◌, ◌<◌, ℕ, ◌&&◌, nat_le, nat_lt, not, true, false, ◌==◌, length, unwrap_or, Some, MatchOption, [], IsTrue, slice_set};
+ghost use Rattle.std.specs.Prelude.{◌≡◌, ◌≤◌, ◌<◌, ◌&&◌, nat_le, nat_lt, not, true, false, ◌==◌, unwrap_or, Some, MatchOption, [], IsTrue, slice_set};
 ghost use Rattle.std.specs.Option.{option_map_or};
 ghost use Rattle.cfs_model.specs.declared.task.Task.{Task};
 ghost use Rattle.cfs_model.specs.declared.claim.Claim.{Claim};

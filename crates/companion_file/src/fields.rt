@@ -1,5 +1,5 @@
 ghost use Rattle.std.specs.Prelude.{◌≡◌};
-ghost use Rattle.text_parts.specs.Reading.{Gives, after_text};
+ghost use Rattle.text_parts.specs.Reading.{Gives};
 ghost use Rattle.companion_file.specs.ShapeReading.{number_field, number_whole, integer_at, integer_field, integer_whole, place_field};
 
 use cfs_model::{GREATEST_RUNTIME, Place};

@@ -1,7 +1,7 @@
 -- A line's meaning, both ways. The kinds of line differ in their first byte, so at most one kind fits; a head is read
 -- in one way; and a bounded number is in range where the number itself is.
-use Rattle.std.proofs.Common.{◌≡◌, ℕ, ◌<◌, ◌≤◌, ◌&&◌, ◌⊎◌, true, false, leb, List, [], ◌∷◌, min, None, Result, Ok, Err, refl, sym, ap, ◌∙◌, inl, inr, arith}
-use Rattle.std.proofs.lemmas.Bool.{and_left, and_right, eqb-true, le-leb, lt-leb, false_from_ne_true}
+use Rattle.std.proofs.Common.{◌≡◌, ℕ, ◌<◌, ◌≤◌, ◌&&◌, ◌⊎◌, false, leb, List, min, None, Result, Ok, Err, refl, sym, ◌∙◌, inl, inr, arith}
+use Rattle.std.proofs.lemmas.Bool.{and_left, and_right, le-leb, lt-leb, false_from_ne_true}
 use Rattle.cfs_model.specs.Limits.{greatest_processor, greatest_seconds}
 use Rattle.text_parts.specs.Lines.{is_comment, IsComment}
 use Rattle.ftrace_line.specs.declared.kinds.Which.{Which}

@@ -1,9 +1,8 @@
-ghost use Rattle.std.specs.Prelude.{◌≡◌, ◌≤◌, length, ◌∷◌, [], List, ℕ, ◌↔◌, IsErrOf, codes, Result};
-ghost use Rattle.ftrace_line.specs.declared.kinds.Which.TheVariants.{Switch};
+ghost use Rattle.std.specs.Prelude.{◌≡◌, ◌≤◌, length, List, ℕ, ◌↔◌, IsErrOf, Result};
 ghost use Rattle.ftrace_line.specs.declared.fault.LineFault.{LineFault as TheFault};
 ghost use Rattle.ftrace_line.specs.Line.{LineView, LineAnswer, IsHeadless, IsHeadOutOfRange, line_answer_view, mark_of};
-ghost use Rattle.text_parts.specs.Reading.{Gives, after_text};
-ghost use Rattle.ftrace_line.specs.Meaning.{after_count, after_loss, kind_at, fields_of, is_end, meaning_of};
+ghost use Rattle.text_parts.specs.Reading.{Gives};
+ghost use Rattle.ftrace_line.specs.Meaning.{after_count, after_loss, kind_at, fields_of, is_end};
 
 use crate::fault::LineFault;
 use crate::head::{HeadParts, head_at};

@@ -3,7 +3,7 @@ ghost use Rattle.std.specs.List.{prefix_len};
 ghost use Rattle.sched_event.specs.Texts.{is_dark};
 ghost use Rattle.text_parts.specs.Reading.{Gives};
 ghost use Rattle.sched_event.specs.Reading.{run_at, sign_at, last_place, numeral_behind, state_behind, prio_behind, name_behind, optional_behind};
-ghost use Rattle.sched_event.specs.FieldsView.{pair, numeral_pair, prio_fields_view, prio_pair, optional_pair};
+ghost use Rattle.sched_event.specs.FieldsView.{pair, numeral_pair, prio_pair, optional_pair};
 ghost use Rattle.text_parts.specs.Numerals.{is_digit};
 
 use crate::numeral::Numeral;

@@ -1,6 +1,6 @@
 ghost use Rattle.std.specs.Prelude.{◌≡◌, ◌<◌, ◌^◌};
 ghost use Rattle.cfs_model.specs.Limits.{greatest_pid, greatest_processor};
-ghost use Rattle.sched_event.specs.Judging.{Judges, number_within, nice_at};
+ghost use Rattle.sched_event.specs.Judging.{number_within, nice_at};
 ghost use Rattle.sched_event.specs.FieldsView.{prio_fields_view};
 
 use crate::fault::EventFault;

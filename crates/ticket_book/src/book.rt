@@ -14,7 +14,7 @@ use std::alloc::Global;
 pub const NO_FAULT: u64 = u64::MAX;
 
 /// The pages of a record's processors, at most one for each.
-#[derive(Drop)]
+#[derive(Debug, Drop)]
 pub struct Book {
     places: Vec<Option<Page>>,
     least: u64,

@@ -1,6 +1,8 @@
 -- What whole pages tell of a record is the verdict on it.
 use Rattle.std.proofs.Common.{◌≡◌, ℕ, zero, suc, ◌<◌, ◌≤◌, Option, Some, None, IsSome, inl, inr, ◌⊎◌, List, [], ◌∷◌, length, get_or, All, refl, sym, ap, ◌∙◌, subst, arith}
 use Rattle.std.specs.Prelude.{slice_get}
+use Rattle.std.proofs.Math.Logic.{∥∥₁_elim, ∥∥₁_map, ∥∥₁_prop}
+use Rattle.std.proofs.lemmas.Bool.{cases_lt}
 use Rattle.std.proofs.lemmas.List.{length-map}
 use Rattle.cfs_model.specs.Claimed.{claimed}
 use Rattle.cfs_model.specs.Settings.{Settings}
@@ -82,3 +84,27 @@ module _ (knobs : Settings) (r : RecordView) (pages : List Page) (whole : AreWho
       (record { cpu = cpu; pid = pid; kind = kind })) tell.line_is
       (faults knobs r.start r.floors r.tasks (claimed r.claims r.events) tell.before tell.rest tell.event (length pages) (view_at pages)
       (record { cpu = cpu; pid = pid; kind = kind }) kept told tell.whole tell.nothing tell.why)
+
+-- a fact of each of the first so many numbers that is only known to have a proof
+all_merely : (P : ℕ → Type 0) (n : ℕ) → ((k : ℕ) → k < n → ∥ P k ∥₁) → ∥ ((k : ℕ) → k < n → P k) ∥₁
+all_merely P zero each = ∣ (λ k h. absurd (omega arith)) ∣₁
+all_merely P (suc n) each =
+    ∥∥₁_elim (all_merely P n (λ k h. each k (omega arith))) ∥∥₁_prop
+    (λ below. ∥∥₁_map (each n (omega arith)) (λ here k h. one_more P n below here k h))
+  where
+    one_more : (P : ℕ → Type 0) (n : ℕ) → ((k : ℕ) → k < n → P k) → P n → (k : ℕ) → k < suc n → P k
+    one_more P n below here k h = elim (cases_lt k n) [
+      | inl low ↦ below k low
+      | inr high ↦ subst P (let e : n ≡ k = omega arith in e) here
+    ]
+
+-- that the pages of all processors are whole has a proof, since each page's type keeps that there is one of its own
+pub merely_told : (knobs : Settings) (r : RecordView) (pages : List Page) (whole : AreWhole knobs r pages)
+    → ∥ AreTold knobs r pages whole ∥₁
+merely_told knobs r pages whole =
+    all_merely (λ cpu. IsWholePage knobs r.start r.floors r.tasks (claimed r.claims r.events) cpu (view_at pages cpu))
+    (length pages) (λ cpu h.
+    let p = page_at pages cpu h in
+    ∥∥₁_map p.0.is_page (λ own.
+    subst (IsWholePage knobs r.start r.floors r.tasks (claimed r.claims r.events) cpu) (sym p.2)
+    (whole_page knobs r cpu p.0 (whole.each cpu p.0 p.1) own)))

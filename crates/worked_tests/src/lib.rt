@@ -15,8 +15,12 @@ mod events;
 #[cfg(test)]
 mod lines;
 #[cfg(test)]
+mod machines;
+#[cfg(test)]
 mod recordings;
 #[cfg(test)]
 mod records;
 #[cfg(test)]
 mod replays;
+#[cfg(test)]
+mod verdicts;

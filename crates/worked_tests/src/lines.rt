@@ -185,7 +185,10 @@ fn numbers_and_times_are_read(rt: HostRuntime) {
         number_at(b"4611686018427387905").value,
         4_611_686_018_427_387_905
     );
-    assert_eq!(rt; numeral_at(b"99999999999999999999"), Some((MANY, b"".as_slice())));
+    assert_eq!(rt;
+        numeral_at(b"99999999999999999999"),
+        Some((MANY, b"".as_slice()))
+    );
     assert_eq!(rt; numeral_at(b"7 "), Some((7, b" ".as_slice())));
     assert_eq!(rt; numeral_at(b" 7"), None);
     let times = [

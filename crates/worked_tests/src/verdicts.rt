@@ -8,7 +8,7 @@ use queue_replay::Page;
 use sched_record::{Record, join, read_trace};
 use std::alloc::Global;
 use std::test::Fail;
-use ticket_book::{Book, Closed, NO_FAULT, PostFault, Verdict, whole_page};
+use ticket_book::{Book, Closed, PostFault, Verdict, whole_page};
 
 /// A trace with these lines, and comments between them.
 fn trace_of(alloc: Global, lines: Lines) -> Result<Vec<u8>, Fail> {
@@ -78,98 +78,119 @@ fn the_first_line_is_named_with_its_cause(rt: HostRuntime) -> Result<(), Fail> {
     Ok(())
 }
 
+/// What two posts to a new book tell, and what it is then closed with.
+struct Posts {
+    first: Result<u64, PostFault>,
+    second: Result<u64, PostFault>,
+    book: Book,
+}
+
+/// A book of so many processors, to which two pages were posted.
+fn book_of(alloc: Global, cpus: u32, first: Page, second: Page) -> Result<Posts, Fail> {
+    if cpus != 1 && cpus != 2 {
+        return Err(Fail::from("one processor or two"));
+    }
+    let mut book = Book::new(alloc, cpus)?;
+    let first = posted(&mut book, first);
+    let second = posted(&mut book, second);
+    Ok(Posts {
+        first,
+        second,
+        book,
+    })
+}
+
+/// The whole page of processor 0 or of processor 1.
+fn page_of(alloc: Global, record: &Record, cpu: u32) -> Result<Page, Fail> {
+    let (zero, one) = pages_of(alloc, record)?;
+    Ok(if cpu == 0 { zero } else { one })
+}
+
+/// What two posts told, how many pages were then made again, and the fault of the verdict.
+#[derive(Debug, PartialEq, Eq, Drop)]
+struct Case {
+    first: Result<u64, PostFault>,
+    second: Result<u64, PostFault>,
+    remade: u32,
+    fault: Option<(u32, u32, u32, Kind)>,
+}
+
+/// A book of so many processors, with the pages of two posted in this order, and closed by these settings.
+fn case_of(
+    alloc: Global,
+    recording: &Recording,
+    cpus: u32,
+    posts: (u32, u32),
+    knobs: Knobs,
+) -> Result<Case, Fail> {
+    let record = record_of(alloc, recording)?;
+    let first = page_of(alloc, &record, posts.0)?;
+    let second = page_of(alloc, &record, posts.1)?;
+    let Posts {
+        first,
+        second,
+        book,
+    } = book_of(alloc, cpus, first, second)?;
+    let (remade, fault) = told(book.close(&record, knobs)?);
+    Ok(Case {
+        first,
+        second,
+        remade,
+        fault,
+    })
+}
+
 #[test]
-fn two_faults_in_either_order_of_posts(rt: HostRuntime) -> Result<(), Fail> {
-    let recording = &RECORDINGS[TWO_FAULTS];
-    let record = record_of(rt.alloc(), recording)?;
-    for (zero_first, tells) in [(true, (4, 4)), (false, (9, 4))] {
-        let (zero, one) = pages_of(rt.alloc(), &record)?;
-        let mut book = Book::new(rt.alloc(), 2)?;
-        assert_eq!(rt; book.least(), NO_FAULT);
-        let (first, second) = if zero_first { (zero, one) } else { (one, zero) };
+fn the_order_of_posts_changes_no_verdict(rt: HostRuntime) -> Result<(), Fail> {
+    for (row, posts, first, second) in [
+        (TWO_FAULTS, (0, 1), 4, 4),
+        (TWO_FAULTS, (1, 0), 9, 4),
+        (IDLE_FOUND_LATE, (0, 1), 80, 80),
+        (IDLE_FOUND_LATE, (1, 0), 100, 80),
+    ] {
+        let recording = &RECORDINGS[row];
+        let want = Case {
+            first: Ok(first),
+            second: Ok(second),
+            remade: 0,
+            fault: recording.fault,
+        };
         assert_eq!(rt;
-            (posted(&mut book, first), posted(&mut book, second)),
-            (Ok(tells.0), Ok(tells.1))
+            case_of(rt.alloc(), recording, 2, posts, Knobs::standard())?,
+            want,
+            "{posts:?}"
         );
-        let closed = book.close(&record, Knobs::standard())?;
-        assert_eq!(rt; told(closed), (0, recording.fault));
     }
     Ok(())
 }
 
 #[test]
-fn a_book_refuses_a_second_page_and_one_from_outside(rt: HostRuntime) -> Result<(), Fail> {
-    let record = record_of(rt.alloc(), &RECORDINGS[TWO_FAULTS])?;
-    let (zero, one) = pages_of(rt.alloc(), &record)?;
-    let (again, _one) = pages_of(rt.alloc(), &record)?;
-    let mut book = Book::new(rt.alloc(), 1)?;
-    assert_eq!(rt; posted(&mut book, zero), Ok(4));
-    assert_eq!(rt; posted(&mut book, again), Err(PostFault::Twice));
-    assert_eq!(rt; posted(&mut book, one), Err(PostFault::Outside));
-    assert_eq!(rt; book.least(), 4);
+fn a_page_that_is_refused_is_made_again(rt: HostRuntime) -> Result<(), Fail> {
+    let recording = &RECORDINGS[TWO_FAULTS];
+    for (cpus, posts, second) in [
+        (2, (0, 0), PostFault::Twice),
+        (1, (0, 1), PostFault::Outside),
+    ] {
+        let want = Case {
+            first: Ok(4),
+            second: Err(second),
+            remade: 1,
+            fault: recording.fault,
+        };
+        assert_eq!(rt;
+            case_of(rt.alloc(), recording, cpus, posts, Knobs::standard())?,
+            want,
+            "{posts:?}"
+        );
+    }
     Ok(())
 }
 
 #[test]
-fn pages_that_are_missing_are_made_again(rt: HostRuntime) -> Result<(), Fail> {
+fn pages_of_other_settings_are_made_again(rt: HostRuntime) -> Result<(), Fail> {
     let recording = &RECORDINGS[TWO_FAULTS];
-    let record = record_of(rt.alloc(), recording)?;
-    let (zero, _one) = pages_of(rt.alloc(), &record)?;
-    let empty = Book::new(rt.alloc(), 2)?;
-    assert_eq!(rt;
-        told(empty.close(&record, Knobs::standard())?),
-        (2, recording.fault)
-    );
-    let mut small = Book::new(rt.alloc(), 1)?;
-    assert_eq!(rt; posted(&mut small, zero), Ok(4));
-    assert_eq!(rt;
-        told(small.close(&record, Knobs::standard())?),
-        (1, recording.fault)
-    );
-    Ok(())
-}
-
-#[test]
-fn pages_that_are_foreign_or_of_other_settings_are_made_again(rt: HostRuntime) -> Result<(), Fail> {
-    let recording = &RECORDINGS[TWO_FAULTS];
-    let record = record_of(rt.alloc(), recording)?;
-    let other = record_of(rt.alloc(), &RECORDINGS[IDLE_FOUND_LATE])?;
-    let (foreign, _one) = pages_of(rt.alloc(), &other)?;
-    let (_zero, own) = pages_of(rt.alloc(), &record)?;
-    let mut book = Book::new(rt.alloc(), 2)?;
-    let _told = posted(&mut book, foreign);
-    let _told = posted(&mut book, own);
-    assert_eq!(rt;
-        told(book.close(&record, Knobs::standard())?),
-        (1, recording.fault)
-    );
     let knobs = Knobs::new(1_000_000, 3_000_000, 3_000_000, 0).ok_or("in range")?;
-    let (zero, one) = pages_of(rt.alloc(), &record)?;
-    let mut book = Book::new(rt.alloc(), 2)?;
-    let _told = posted(&mut book, zero);
-    let _told = posted(&mut book, one);
-    assert_eq!(rt; told(book.close(&record, knobs)?).0, 2);
-    Ok(())
-}
-
-#[test]
-fn an_idle_fault_that_is_found_late_is_named_at_its_first_line(
-    rt: HostRuntime,
-) -> Result<(), Fail> {
-    let recording = &RECORDINGS[IDLE_FOUND_LATE];
-    let record = record_of(rt.alloc(), recording)?;
-    for (zero_first, tells) in [(true, (80, 80)), (false, (100, 80))] {
-        let (zero, one) = pages_of(rt.alloc(), &record)?;
-        let (first, second) = if zero_first { (zero, one) } else { (one, zero) };
-        let mut book = Book::new(rt.alloc(), 2)?;
-        assert_eq!(rt;
-            (posted(&mut book, first), posted(&mut book, second)),
-            (Ok(tells.0), Ok(tells.1))
-        );
-        assert_eq!(rt;
-            told(book.close(&record, Knobs::standard())?),
-            (0, recording.fault)
-        );
-    }
+    let case = case_of(rt.alloc(), recording, 2, (0, 1), knobs)?;
+    assert_eq!(rt; (case.remade, case.fault), (2, recording.fault));
     Ok(())
 }

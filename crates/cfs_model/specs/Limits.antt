@@ -26,6 +26,10 @@ greatest_processor = 65535
 abbrev pub greatest_line : ℕ
 greatest_line = 4294967295
 
+-- stands in for the line of an event where there is none
+abbrev pub no_line : ℕ
+no_line = 0
+
 -- the greatest whole seconds of a time
 abbrev pub greatest_seconds : ℕ
 greatest_seconds = 4294967295

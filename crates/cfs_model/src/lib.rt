@@ -24,7 +24,7 @@ pub use knobs::Knobs;
 pub use laws::{floors_rise, marks_move, one_list, places, prefixes};
 pub use limits::{
     GREATEST_LINE, GREATEST_PID, GREATEST_PROCESSOR, GREATEST_RUNTIME, GREATEST_SECONDS, IDLE_PID,
-    MOST_PROCESSORS, NANOSECONDS_PER_SECOND,
+    MOST_PROCESSORS, NANOSECONDS_PER_SECOND, NO_LINE,
 };
 pub use memory::Memory;
 pub use nice::{Nice, PrioFault};

@@ -16,6 +16,9 @@ pub const GREATEST_PROCESSOR: u64 = 65_535;
 /// The greatest number of a line, from 1.
 pub const GREATEST_LINE: u64 = 4_294_967_295;
 
+/// Stands in for the line of an event where there is none.
+pub const NO_LINE: u32 = 0;
+
 /// The greatest whole seconds of a time.
 pub const GREATEST_SECONDS: u64 = 4_294_967_295;
 

@@ -18,7 +18,6 @@ use Rattle.replay_model.specs.Closing.{IdlesBefore, ComesAfter, IsWholePage}
 use Rattle.replay_model.proofs.FollowLaws.{starts_at}
 use Rattle.replay_model.proofs.FrontReplay.{front_replay}
 use Rattle.replay_model.proofs.IdleFaults.{HasDeadline, idling_is_told}
-use Rattle.replay_model.proofs.OneFault.{all_front, rise_front}
 use Rattle.replay_model.proofs.Shares.{past_share, never_too_long}
 use Rattle.replay_model.proofs.WholeReplay.{PageFault, WholeReplay, whole_replay}
 use Rattle.replay_model.specs.declared.page.StepFault.{StepFault}
@@ -38,6 +37,14 @@ rise_back time (event ∷ before) rest h = rise_back event.entry.time before res
 lines_front : (line : ℕ) (before rest : List Claimed) → LinesRise line (before ++ rest) → LinesRise line before
 lines_front line [] rest h = tt
 lines_front line (event ∷ before) rest h = (h.0, lines_front event.entry.line before rest h.1)
+
+all_front : (P : Claimed → Type 0) (xs ys : List Claimed) → AllByRecursion P (xs ++ ys) → AllByRecursion P xs
+all_front P [] ys h = tt
+all_front P (x ∷ xs) ys h = (h.0, all_front P xs ys h.1)
+
+rise_front : (time : ℕ) (xs ys : List Claimed) → TimesRise time (xs ++ ys) → TimesRise time xs
+rise_front time [] ys h = tt
+rise_front time (x ∷ xs) ys h = (h.0, rise_front x.entry.time xs ys h.1)
 
 -- a record's first events
 pub record_front : (start : ℕ) (floors : List ℤ) (tasks : List Task) (before rest : List Claimed) (cpus : ℕ)

@@ -1,7 +1,6 @@
 pub mod BornHere
 pub mod Bounded
 pub mod Clear
-pub mod Compose
 pub mod ComposeAll
 pub mod Deadlines
 pub mod FirstFaults
@@ -15,11 +14,9 @@ pub mod IdleFaults
 pub mod Idles
 pub mod MigrationSteps
 pub mod OneCause
-pub mod OneFault
 pub mod OneLift
 pub mod OnePage
 pub mod OnePid
-pub mod OneProcessor
 pub mod OneRunner
 pub mod PageCauses
 pub mod PagesCompose

@@ -13,7 +13,6 @@ use Rattle.replay_model.specs.Noted.{PageView}
 use Rattle.replay_model.specs.Page.{ReplayStateView, IsReplay, IsStartOf, start_page, end_page}
 use Rattle.replay_model.specs.Following.{IsShareReplay}
 use Rattle.replay_model.specs.Composition.{IsRecord, IsDone, PassesShare}
-use Rattle.replay_model.proofs.OneProcessor.{fault_free}
 use Rattle.replay_model.proofs.SwitchClear.{no_some, some_no}
 use Rattle.cfs_model.specs.declared.kind.Kind.TheVariants.{IdleTooLong}
 use Rattle.replay_model.specs.declared.page.StepFault.{StepFault}
@@ -33,6 +32,22 @@ pub record IsShareDone (knobs : Settings) (start : ℕ) (floors : List ℤ) (tas
 -- the fault of the end test
 abbrev pub late_fault : ℕ → StreamView → ℕ → StepFault
 late_fault slack stream x = record { line = stream.last_line; kind = IdleTooLong; pid = 0; deadline = Some (x + slack) }
+
+-- a page without a fault after the end test had none before it
+none_before : (slack : ℕ) (stream : StreamView) (since : Option ℕ) (page : PageView)
+    → (end_page slack stream since page.fault page).fault ≡ None → page.fault ≡ None
+none_before slack stream since page h = go since page.fault refl h
+  where
+    go : (since : Option ℕ) (o : Option StepFault) → page.fault ≡ o → (end_page slack stream since o page).fault ≡ None
+        → page.fault ≡ None
+    go since None e h = e
+    go None (Some fault) e h = h
+    go (Some x) (Some fault) e h = h
+
+fault_free : (b : Bool) (slack : ℕ) (stream : StreamView) (since : Option ℕ) (page : PageView)
+    → (cond b (end_page slack stream since page.fault page) page).fault ≡ None → page.fault ≡ None
+fault_free true slack stream since page h = none_before slack stream since page h
+fault_free false slack stream since page h = h
 
 -- the end test changes no ticket, and where it adds no fault the processor is in time
 pub end_left : (slack : ℕ) (stream : StreamView) (since : Option ℕ) (o : Option StepFault) (page : PageView)

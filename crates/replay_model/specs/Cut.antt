@@ -1,5 +1,6 @@
 -- The share of a record that one processor sees (this project's profile).
 use Rattle.std.specs.Prelude.{ℕ, ◌==◌, Bool, if◌then◌else◌, Option, None, ℤ, pos, List, [], ◌∷◌, map, filter, slice_index_or}
+use Rattle.cfs_model.specs.Limits.{no_line}
 use Rattle.cfs_model.specs.Claimed.{Claimed}
 use Rattle.cfs_model.specs.Touch.{touched}
 use Rattle.std.specs.List.{list_any}
@@ -56,7 +57,7 @@ abbrev pub last_time_of : ℕ → List Claimed → ℕ
 last_time_of start [] = start
 last_time_of start (event ∷ events) = last_time_of event.entry.time events
 
--- the line of the last event, or 0 where there is none
+-- the line of the last event, or the one before where there is none
 abbrev pub last_line_after : ℕ → List Claimed → ℕ
 last_line_after line [] = line
 last_line_after line (event ∷ events) = last_line_after event.entry.line events
@@ -74,5 +75,5 @@ cut start floors tasks events cpu = record {
   start = start;
   steps = steps_at cpu events;
   last_time = last_time_of start events;
-  last_line = last_line_after 0 events;
+  last_line = last_line_after no_line events;
 }

@@ -1,16 +1,13 @@
 -- What a fault of a replay says of the machine (this project's profile).
-use Rattle.std.specs.Prelude.{◌≡◌, ℕ, Some, true, ℤ, List, [], ◌∷◌, ◌++◌}
+use Rattle.std.specs.Prelude.{◌≡◌, ℕ, true, ℤ, List, [], ◌∷◌, ◌++◌}
 use Rattle.cfs_model.specs.Settings.{Settings}
 use Rattle.cfs_model.specs.Start.{start_machine}
 use Rattle.cfs_model.specs.Claimed.{Claimed}
-use Rattle.cfs_model.specs.Run.{IsRun, IsFirstBad}
+use Rattle.cfs_model.specs.Run.{IsRun}
 use Rattle.cfs_model.specs.Order.{IsStart}
-use Rattle.replay_model.specs.Cut.{touches, step_at, cut}
+use Rattle.replay_model.specs.Cut.{touches, step_at}
 use Rattle.replay_model.specs.Following.{TimesRise, IsShareReplay}
-use Rattle.replay_model.specs.Noted.{PageView}
-use Rattle.replay_model.specs.Page.{ReplayStateView, FailsStep, IsPageOf}
-use Rattle.replay_model.specs.OneProcessor.{IsOneProcessor}
-use Rattle.replay_model.specs.declared.page.StepFault.{StepFault}
+use Rattle.replay_model.specs.Page.{ReplayStateView, FailsStep}
 use Rattle.cfs_model.specs.declared.task.Task.{Task}
 
 -- where a step of a processor's replay fails, the events up to its own are no run
@@ -20,11 +17,3 @@ FaultEndsRun = (knobs : Settings) (start : ℕ) (floors : List ℤ) (tasks : Lis
     → IsStart floors tasks → TimesRise start before → touches cpu event ≡ true
     → IsShareReplay knobs start floors tasks before cpu last → FailsStep knobs cpu last (step_at cpu event) failed
     → ¬ IsRun knobs start (start_machine start floors tasks) (before ++ event ∷ [])
-
--- the fault on the page of the only processor is at the first line up to which the events are no run
-abbrev pub OneProcessorFaults : Type 0
-OneProcessorFaults = (knobs : Settings) (start : ℕ) (floors : List ℤ) (tasks : List Task) (events : List Claimed)
-    (made : ℕ) (page : PageView) (fault : StepFault)
-    → IsOneProcessor start floors tasks events
-    → IsPageOf (cut start floors tasks events 0) knobs made page → page.fault ≡ Some fault
-    → IsFirstBad knobs start (start_machine start floors tasks) events fault.line

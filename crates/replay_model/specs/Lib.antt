@@ -10,7 +10,6 @@ pub mod OnePage
 pub mod PartStep
 pub mod Migration
 pub mod Following
-pub mod OneProcessor
 pub mod Faults
 pub mod Composition
 pub mod Endings

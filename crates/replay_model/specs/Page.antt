@@ -1,5 +1,6 @@
 -- The replay of one processor alone, by its first steps (this project's profile).
 use Rattle.std.specs.Prelude.{◌≡◌, ℕ, ◌+◌, if◌then◌else◌, nat_lt, nat_le, Option, Some, None, unwrap_or, ◌⊎◌, List, [], ◌∷◌, map, length, take}
+use Rattle.cfs_model.specs.Limits.{no_line}
 use Rattle.cfs_model.specs.Settings.{Settings}
 use Rattle.replay_model.specs.Part.{Part, IsIdlePart, IsLiftedPart, start_part}
 use Rattle.replay_model.specs.Deeds.{after_deed}
@@ -77,7 +78,7 @@ IsReplay knobs cpu before (step ∷ steps) after =
 -- the page of a processor before its first step
 abbrev pub start_page : StreamView → PageView
 start_page stream = record {
-  line = 0;
+  line = no_line;
   fault = None;
   left = [];
   came = [];

@@ -3,12 +3,11 @@
 ghost use Rattle.replay_model.specs.Closing.{FaultIsFirstBad, OneFirstFault, PagesTellFault, PagesTellRun, RunHasNoFault};
 ghost use Rattle.replay_model.specs.Composition.{PagesCompose, SharesCompose};
 ghost use Rattle.replay_model.specs.Endings.{BirthEndsRun, IdlingEndsRun, TicketsEndRun};
-ghost use Rattle.replay_model.specs.Faults.{FaultEndsRun, OneProcessorFaults};
+ghost use Rattle.replay_model.specs.Faults.{FaultEndsRun};
 ghost use Rattle.replay_model.specs.Following.{ReplayFollows, SlackFollows};
 ghost use Rattle.replay_model.specs.Migration.{MachineMigrates, PartsMigrate};
 ghost use Rattle.replay_model.specs.OnePage.{OnePage};
 ghost use Rattle.replay_model.specs.PartStep.{MachineSteps, PartSteps};
-ghost use Rattle.replay_model.specs.OneProcessor.{OneProcessorRuns};
 
 /// A stream has at most one page by its first steps.
 pub fn pages()
@@ -54,13 +53,6 @@ pub fn endings()
 pub fn composition()
     ensures shares { SharesCompose }
     ensures pages { PagesCompose }
-{}
-
-/// Of a record of one processor without migrations: where the page has no fault, all steps made, the events are a run;
-/// where it has one, the events before its line are a run, and those up to it and including it are none.
-pub fn one_processor()
-    ensures runs { OneProcessorRuns }
-    ensures faults { OneProcessorFaults }
 {}
 
 /// Of a record's whole pages: where they say nothing against any event, the events are a run; and the first thing that

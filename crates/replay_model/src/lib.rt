@@ -7,8 +7,8 @@ mod page;
 mod step;
 
 pub use laws::{
-    closing, composition, endings, faults_end_runs, first_faults, migrations, one_processor, pages,
-    part_steps, replays,
+    closing, composition, endings, faults_end_runs, first_faults, migrations, pages, part_steps,
+    replays,
 };
 pub use page::{LifeEvent, StepFault, Tally, Ticket};
 pub use step::{Deed, Step};

@@ -1,5 +1,6 @@
 -- A line of a number says one thing, since it reads in one way, and the text behind a head reads in one way.
 use Rattle.std.proofs.Common.{◌≡◌, ℕ, ◌<◌, ◌≤◌, List, Option, Some, None, Result, Ok, Err, ◌⊎◌, inl, inr, refl, sym, ap, ◌∙◌, subst, arith}
+use Rattle.cfs_model.specs.Limits.{greatest_line}
 use Rattle.cfs_model.specs.declared.act.Act.{Act}
 use Rattle.cfs_model.specs.declared.act.Entry.{Entry}
 use Rattle.ftrace_line.specs.declared.kinds.Which.{Which}
@@ -9,7 +10,7 @@ use Rattle.sched_event.specs.declared.fault.EventFault.{EventFault}
 use Rattle.sched_event.specs.Event.{EventAnswer, EventView, act_of}
 use Rattle.sched_record.specs.declared.cause.TraceCause.{TraceCause}
 use Rattle.sched_record.specs.declared.cause.TraceCause.TheVariants.{TooManyLines, Line, LostEvents, Event, TimeBack}
-use Rattle.sched_record.specs.Said.{LineSays, last_number}
+use Rattle.sched_record.specs.Said.{LineSays}
 
 -- a line reads in one way, and so does an event's text
 pub record ReadOnce : Type 0 where
@@ -41,7 +42,7 @@ entry_is entry number act line_is act_is =
     ap (λ n. record entry { line = n }) line_is ∙ ap (λ a. record entry { line = number; act = a }) act_is
 
 path : (number : ℕ) (line : List ℕ) (say : Result (Option Entry) TraceCause) → LineSays number line say
-    → ((last_number < number) × (say ≡ Err TooManyLines)) ⊎ ((number ≤ last_number) × Path number line say)
+    → ((greatest_line < number) × (say ≡ Err TooManyLines)) ⊎ ((number ≤ greatest_line) × Path number line say)
 unfolding of_event
 path number line (Ok (Some entry)) says =
     let s = says.1 in

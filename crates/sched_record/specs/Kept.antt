@@ -6,12 +6,9 @@ use Rattle.cfs_model.specs.declared.act.Act.TheVariants.{Switch, Wake, Born, Shi
 use Rattle.cfs_model.specs.declared.act.Entry.{Entry}
 use Rattle.cfs_model.specs.declared.claim.Claim.{Claim}
 use Rattle.cfs_model.specs.declared.task.Task.{Task}
+use Rattle.cfs_model.specs.Limits.{greatest_pid}
 use Rattle.cfs_model.specs.Touch.{touched}
 use Rattle.companion_file.specs.Companion.{CompanionView, IsCompanionInOrder}
-
--- the greatest pid
-abbrev pub greatest_pid : ℕ
-greatest_pid = 4194304
 
 -- the pids that an event prints
 abbrev pub pids_of : Act → List ℕ

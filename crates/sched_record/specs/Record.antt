@@ -1,6 +1,7 @@
 -- A record, as contracts see it (this project's profile).
 use Rattle.std.specs.Prelude.{ℕ, ◌-◌, List, length, slice_get, Option, Result, Ok, Err}
 use Rattle.std.specs.Option.{option_map_or}
+use Rattle.cfs_model.specs.Limits.{no_line}
 use Rattle.cfs_model.specs.declared.act.Entry.{Entry}
 use Rattle.companion_file.specs.declared.companion.Companion.{Companion}
 use Rattle.companion_file.specs.Companion.{companion_view}
@@ -30,10 +31,6 @@ last_event events = slice_get events (length events - 1)
 abbrev pub record_last_time : RecordView → ℕ
 record_last_time r = option_map_or (λ event. event.time) (last_event r.events) r.start
 
--- the word for the line of an event where there is none
-abbrev pub no_line : ℕ
-no_line = 0
-
--- the line of a record's last event
+-- the line of a record's last event, and the stand-in where it has none
 abbrev pub record_last_line : RecordView → ℕ
 record_last_line r = option_map_or (λ event. event.line) (last_event r.events) no_line

@@ -1,7 +1,7 @@
 ghost use Rattle.sched_record.specs.Said.{LineSays};
 
 use crate::cause::TraceCause;
-use cfs_model::Entry;
+use cfs_model::{Entry, GREATEST_LINE};
 use ftrace_line::{Line, read_line};
 use sched_event::read_event;
 
@@ -10,9 +10,9 @@ use sched_event::read_event;
 pub fn line_entry(number: u64, line: &[u8]) -> Result<Option<Entry>, TraceCause>
     ensures { LineSays number line.now result }
 {
-    let Ok(place) = u32::try_from(number) else {
+    if number > GREATEST_LINE {
         return Err(TraceCause::TooManyLines);
-    };
+    }
     let sched = match read_line(line) {
         Err(fault) => return Err(TraceCause::Line(fault)),
         Ok(Line::Comment | Line::Other) => return Ok(None),
@@ -23,7 +23,7 @@ pub fn line_entry(number: u64, line: &[u8]) -> Result<Option<Entry>, TraceCause>
     match read_event(sched) {
         Err(fault) => Err(TraceCause::Event(fault)),
         Ok(event) => Ok(Some(Entry {
-            line: place,
+            line: number as u32,
             time,
             act: event.act(),
         })),

@@ -4,7 +4,7 @@ ghost use Rattle.sched_record.specs.Join.{joined_record};
 ghost use Rattle.sched_record.specs.Kept.{IsRecordInOrder};
 
 use crate::trace::Trace;
-use cfs_model::{Claim, Entry, Task};
+use cfs_model::{Claim, Entry, NO_LINE, Task};
 use companion_file::Companion;
 use std::alloc::Global;
 
@@ -28,7 +28,7 @@ impl Record {
         Record { trace, companion }
     }
 
-    /// The number of processors, 1 to 64.
+    /// The number of processors: at least 1, and at most `MOST_PROCESSORS`.
     pub fn cpus(&self) -> u32
         ensures { result ≡ (record_view self.now).cpus }
     {
@@ -79,11 +79,11 @@ impl Record {
             .map_or(self.start(), |event| event.time)
     }
 
-    /// The line of the last event in the trace, from 1, comments counted; 0 where there is none.
+    /// The line of the last event in the trace, from 1, comments counted; `NO_LINE` where there is none.
     pub fn last_line(&self) -> u32
         ensures { result ≡ record_last_line (record_view self.now) }
     {
-        self.events().last().map_or(0, |event| event.line)
+        self.events().last().map_or(NO_LINE, |event| event.line)
     }
 
     pub(crate) fn allocator(&self) -> Global {

@@ -1,6 +1,6 @@
 ghost use Rattle.std.specs.Prelude.{◌≤◌};
+ghost use Rattle.cfs_model.specs.Limits.{greatest_line};
 ghost use Rattle.sched_record.specs.ReadLines.{AreKept};
-ghost use Rattle.sched_record.specs.Said.{last_number};
 
 use crate::cause::{TraceCause, TraceFault};
 use crate::entry::line_entry;
@@ -26,7 +26,7 @@ pub struct TraceReader {
     /// The time of the last event in nanoseconds, and 0 before the first.
     last: u64,
     bad: Option<BadLine>,
-    ghost few: { count ≤ last_number },
+    ghost few: { count ≤ greatest_line },
     ghost kept: { AreKept entries.items count last },
 }
 

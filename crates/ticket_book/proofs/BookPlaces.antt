@@ -5,6 +5,7 @@ use Rattle.std.specs.Prelude.{slice_get}
 use Rattle.std.proofs.lemmas.Bool.{cases_eq}
 use Rattle.std.proofs.lemmas.List.{get_or-set_same, get_or-set_other, length-replicate, length-set}
 use Rattle.std.proofs.lemmas.Option.{slice_get_within, none-some, same_Some}
+use Rattle.cfs_model.specs.Limits.{most_processors}
 use Rattle.queue_replay.specs.Replay.{ReplayView}
 use Rattle.ticket_book.specs.Book.{IsBook, fault_line, least_line, no_fault, place_line, place_of, refusal_at, refusal_of}
 
@@ -68,7 +69,7 @@ none_there (suc cpus) zero = refl
 none_there (suc cpus) (suc cpu) = none_there cpus cpu
 
 -- a book without pages
-pub empty_book : (cpus : ℕ) → 0 < cpus → cpus ≤ 64 → IsBook (replicate cpus None) no_fault
+pub empty_book : (cpus : ℕ) → 0 < cpus → cpus ≤ most_processors → IsBook (replicate cpus None) no_fault
 empty_book cpus some most =
     let empty : Option ReplayView = None in
     let count = length-replicate cpus empty in

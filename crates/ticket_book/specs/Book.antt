@@ -1,13 +1,10 @@
 -- A book of pages, as contracts see it (this project's profile).
 use Rattle.std.specs.Prelude.{◌≡◌, ℕ, ◌<◌, ◌≤◌, min, Option, Some, None, Result, Ok, Err, List, [], ◌∷◌, length, slice_get, slice_index_or}
+use Rattle.cfs_model.specs.Limits.{most_processors}
 use Rattle.replay_model.specs.declared.page.StepFault.{StepFault}
 use Rattle.queue_replay.specs.Replay.{ReplayView}
 use Rattle.ticket_book.specs.declared.post_fault.PostFault.{PostFault}
 use Rattle.ticket_book.specs.declared.post_fault.PostFault.TheVariants.{Outside, Twice}
-
--- the greatest number of processors
-abbrev pub greatest_cpus : ℕ
-greatest_cpus = 64
 
 -- the word for the line of a fault where there is none
 abbrev pub no_fault : ℕ
@@ -36,7 +33,7 @@ place_of places cpu = slice_index_or places cpu None
 -- the least line is the one over its pages
 pub record IsBook (places : List (Option ReplayView)) (least : ℕ) : Type 0 where
   pub some : 0 < length places
-  pub at_most : length places ≤ greatest_cpus
+  pub at_most : length places ≤ most_processors
   pub own : (cpu : ℕ) (page : ReplayView) → place_of places cpu ≡ Some page → page.stream.cpu ≡ cpu
   pub least_is : least ≡ least_line places
 

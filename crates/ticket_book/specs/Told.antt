@@ -1,6 +1,7 @@
 -- What the pages of a record's processors tell of its events (this project's profile): the words of replay_model's
 -- Closing, of a list of pages and of one event.
 use Rattle.std.specs.Prelude.{◌≡◌, ℕ, zero, suc, ◌<◌, true, Bool, None, List, [], ◌∷◌, ◌++◌, length}
+use Rattle.cfs_model.specs.Limits.{no_line}
 use Rattle.cfs_model.specs.Claimed.{Claimed}
 use Rattle.replay_model.specs.Cause.{Cause}
 use Rattle.replay_model.specs.Closing.{IdlesBefore, FailsHere, SayNothing, IsCauseOf}
@@ -16,7 +17,7 @@ use Rattle.ticket_book.specs.declared.verdict.Verdict.TheVariants.{Run, Fault}
 
 -- a page that tells nothing
 abbrev pub empty_view : PageView
-empty_view = record { line = 0; fault = None; left = []; came = []; births = []; deaths = []; tallies = [] }
+empty_view = record { line = no_line; fault = None; left = []; came = []; births = []; deaths = []; tallies = [] }
 
 -- the page of a processor, of some pages in the order of their numbers
 abbrev pub view_at : List ReplayView → ℕ → PageView

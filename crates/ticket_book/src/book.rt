@@ -1,5 +1,6 @@
 ghost use Rattle.std.specs.Prelude.{◌≡◌, ◌<◌, ◌≤◌, None, Some, IfOk, IfErr, OnOk, OnErr, replicate, slice_set};
-ghost use Rattle.ticket_book.specs.Book.{IsBook, fault_line, greatest_cpus, least_line, refusal_in, refusal_of};
+ghost use Rattle.cfs_model.specs.Limits.{most_processors};
+ghost use Rattle.ticket_book.specs.Book.{IsBook, fault_line, least_line, refusal_in, refusal_of};
 
 use crate::closing::verdict_on;
 use crate::remaking::whole_pages;
@@ -27,10 +28,10 @@ impl Book {
     ghost use Rattle.ticket_book.specs.Remade.{AreRemade};
     ghost use Rattle.ticket_book.specs.Verdict.{IsVerdict};
 
-    /// A book without pages for so many processors, 1 to 64, with the room for all their pages.
+    /// A book without pages for so many processors, at most `MOST_PROCESSORS`, with the room for all their pages.
     pub fn new(alloc: Global, cpus: u32) -> Result<Book, Memory>
         requires some { 0 < cpus }
-        requires at_most { cpus ≤ greatest_cpus }
+        requires at_most { cpus ≤ most_processors }
         ensures { IfOk result (λ book. book_view book ≡ replicate cpus None) }
     {
         let mut places = Vec::with_capacity(alloc, cpus as usize)?;

@@ -4,7 +4,8 @@ use cfs_model::{
     wake_example, weight,
 };
 use replay_model::{
-    composition, endings, faults_end_runs, migrations, one_processor, pages, part_steps, replays,
+    closing, composition, endings, faults_end_runs, first_faults, migrations, pages, part_steps,
+    replays,
 };
 use std::test::Fail;
 
@@ -162,7 +163,8 @@ fn laws_and_examples() {
     faults_end_runs();
     composition();
     endings();
-    one_processor();
+    closing();
+    first_faults();
     put_back_example();
     pick_example();
     migration_example();

@@ -1,4 +1,4 @@
-ghost use Rattle.std.specs.Prelude.{◌≡◌, None, [], length};
+ghost use Rattle.std.specs.Prelude.{◌≡◌, None, if◌then◌else◌, length};
 ghost use Rattle.std.specs.Option.{option_to_list};
 ghost use Rattle.audit_crew.specs.Tags.{tag_of};
 
@@ -42,6 +42,15 @@ impl<'b, L: Ledger, R: Wait> Desk<'b, L, R> {
             told: NO_FAULT,
             refused: None,
         }
+    }
+
+    /// The share of the ledger, and whether a page was accepted.
+    pub(crate) fn leave(self) -> (Share<L>, bool)
+        ensures part { result.0.parts ≡ 1 }
+        ensures counted { result.0.amount ≡ (if result.1 then 1 else 0) }
+    {
+        let Desk { share, posted, .. } = self;
+        (share, posted.is_some())
     }
 }
 

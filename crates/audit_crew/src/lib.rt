@@ -6,12 +6,18 @@ mod auditing;
 mod auditor_fault;
 mod desk;
 mod gate;
+mod gathered;
+mod seat;
+mod seats;
 mod serial;
 mod shared_book;
 mod shelf;
+mod threads;
 
 pub use auditing::auditor;
 pub use auditor_fault::AuditorFault;
 pub use gate::{Gate, OpenGate};
+pub use gathered::Gathered;
 pub use serial::audit_serial;
 pub use shelf::Shelf;
+pub use threads::{audit, crew};

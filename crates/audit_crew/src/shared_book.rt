@@ -2,6 +2,7 @@ ghost use Rattle.std.specs.Prelude.{◌≡◌, ◌+◌, ◌<◌, [], IfErr, OnOk
 ghost use Rattle.audit_crew.specs.Filled.{filled};
 ghost use Rattle.ticket_book.specs.BookView.{book_view};
 
+use crate::Gathered;
 use queue_replay::Page;
 use std::sync::ledger;
 use std::sync::ledger::{Ledger, Share};
@@ -44,5 +45,15 @@ impl<L: Ledger> SharedBook<L> {
     /// The least line of a fault on the pages so far.
     pub(crate) fn least(&self) -> u64 {
         self.book.least()
+    }
+    /// What a crew gathered: the book, and the number of its posts, for who has all shares of the ledger again.
+    pub(crate) fn gathered(self, mut all: Share<L>, posted: u32) -> Gathered
+        requires whole { all.parts ≡ L.parts }
+        requires posted { all.amount ≡ posted }
+        ensures { filled (book_view result.book) ≡ result.posted }
+    {
+        let SharedBook { book, mut posts } = self;
+        posts.audit(&mut all);
+        Gathered { book, posted }
     }
 }

@@ -1,6 +1,23 @@
-//! The audit of a record: the replays of its processors, and the book in which they meet.
+//! Auditors on threads: each replays the stream of one processor alone, and posts its page in the one book. What an
+//! auditor needs of the book is a `Shelf`, and where it pauses between stretches is a `Gate`.
 #![tactic(auto)]
 
+mod auditing;
+mod auditor_fault;
+mod desk;
+mod gate;
+mod gathered;
+mod seat;
+mod seats;
 mod serial;
+mod shared_book;
+mod shelf;
+mod threads;
 
+pub use auditing::auditor;
+pub use auditor_fault::AuditorFault;
+pub use gate::{Gate, OpenGate};
+pub use gathered::Gathered;
 pub use serial::audit_serial;
+pub use shelf::Shelf;
+pub use threads::{audit, crew};

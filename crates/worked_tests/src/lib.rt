@@ -7,6 +7,8 @@ mod audits;
 #[cfg(test)]
 mod companions;
 #[cfg(test)]
+mod crews;
+#[cfg(test)]
 mod definitions;
 #[cfg(test)]
 mod ends;

@@ -18,6 +18,8 @@ pub(crate) const TWO_FAULTS: usize = 0;
 
 pub(crate) const IDLE_FOUND_LATE: usize = 1;
 
+pub(crate) const DEATH_THEN_BIRTH: usize = 10;
+
 pub(crate) const RECORDINGS: [Recording; 12] = [
     // Each processor switches from a task that does not run there: processor 0 at line 4, processor 1 at line 9.
     Recording {

@@ -25,7 +25,7 @@ fn trace_of(alloc: Global, lines: Lines) -> Result<Vec<u8>, Fail> {
     Ok(text)
 }
 
-fn record_of(alloc: Global, recording: &Recording) -> Result<Record, Fail> {
+pub(crate) fn record_of(alloc: Global, recording: &Recording) -> Result<Record, Fail> {
     let text = trace_of(alloc, recording.lines)?;
     let trace = read_trace(alloc, &text)?;
     let companion = read_companion(alloc, recording.companion.as_bytes())?;
@@ -56,7 +56,7 @@ fn fault_of(verdict: Verdict) -> Option<(u32, u32, u32, Kind)> {
 }
 
 /// What a book is closed with: how many pages were made again, and the fault.
-fn told(closed: Closed) -> (u32, Option<(u32, u32, u32, Kind)>) {
+pub(crate) fn told(closed: Closed) -> (u32, Option<(u32, u32, u32, Kind)>) {
     (closed.remade, fault_of(closed.verdict))
 }
 

@@ -1,0 +1,29 @@
+-- A page that a book accepts finds its place empty, so the book has just one page more.
+use Rattle.std.proofs.Common.{◌≡◌, ℕ, zero, suc, ◌+◌, List, [], ◌∷◌, set, replicate, Option, Some, None, refl, ap}
+use Rattle.std.specs.Prelude.{slice_get}
+use Rattle.queue_replay.specs.Replay.{ReplayView}
+use Rattle.ticket_book.specs.Book.{refusal_at, refusal_of}
+use Rattle.audit_crew.specs.Filled.{filled}
+
+room_at : (found : Option (Option ReplayView)) → None ≡ refusal_at found → found ≡ Some None
+room_at None e = absurd cc
+room_at (Some (Some page)) e = absurd cc
+room_at (Some None) e = refl
+
+fills : (places : List (Option ReplayView)) (cpu : ℕ) (page : ReplayView) → slice_get places cpu ≡ Some None
+    → filled (set places cpu (Some page)) ≡ filled places + 1
+fills [] cpu page e = absurd cc
+fills (None ∷ places) zero page e = refl
+fills (Some other ∷ places) zero page e = absurd cc
+fills (None ∷ places) (suc cpu) page e = fills places cpu page e
+fills (Some other ∷ places) (suc cpu) page e = ap (λ n. n + 1) (fills places cpu page e)
+
+-- a page that isn't refused is one page more
+pub one_more : (places : List (Option ReplayView)) (cpu : ℕ) (page : ReplayView) → None ≡ refusal_of places cpu
+    → filled (set places cpu (Some page)) ≡ filled places + 1
+one_more places cpu page e = fills places cpu page (room_at (slice_get places cpu) e)
+
+-- a new book has none
+pub none_filled : (cpus : ℕ) → filled (replicate cpus None) ≡ 0
+none_filled zero = refl
+none_filled (suc cpus) = none_filled cpus

@@ -1,0 +1,11 @@
+use Rattle.std.proofs.Common.{◌≡◌, ◌-◌, length}
+use Rattle.audit_crew.proofs.auditing.go_through.Given as goal
+
+abbrev pub invariant-stretches : goal.invariant-stretches
+invariant-stretches g l = record {
+  stream : l.replay.stream ≡ l.initial.replay.stream;
+  knobs : l.replay.knobs ≡ l.initial.replay.knobs;
+}
+
+abbrev pub decreases-stretches : goal.decreases-stretches
+decreases-stretches g l = length l.replay.stream.steps - l.replay.made

@@ -1,0 +1,9 @@
+-- How many pages a book has (this project's profile).
+use Rattle.std.specs.Prelude.{ℕ, ◌+◌, Option, Some, None, List, [], ◌∷◌}
+use Rattle.queue_replay.specs.Replay.{ReplayView}
+
+-- the number of places at which a page stands
+abbrev pub filled : List (Option ReplayView) → ℕ
+filled [] = 0
+filled (None ∷ places) = filled places
+filled (Some page ∷ places) = filled places + 1

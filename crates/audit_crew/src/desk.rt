@@ -1,0 +1,92 @@
+ghost use Rattle.std.specs.Prelude.{◌≡◌, None, if◌then◌else◌, length};
+ghost use Rattle.std.specs.Option.{option_to_list};
+ghost use Rattle.audit_crew.specs.Tags.{tag_of};
+
+use crate::Shelf;
+use crate::shared_book::SharedBook;
+use queue_replay::{Page, Tag};
+use std::sync::ledger::{Ledger, Share};
+use std::sync::{Mutex, Wait};
+use ticket_book::{NO_FAULT, PostFault};
+
+/// One auditor's shelf: the shared book, which is locked within one call alone, and what the auditor did there.
+#[derive(Drop)]
+pub(crate) struct Desk<'b, L: Ledger, R: Wait> {
+    rt: &'b R,
+    shared: &'b Mutex<SharedBook<L>>,
+    share: Share<L>,
+    posted: Option<Tag>,
+    told: u64,
+    refused: Option<(Tag, PostFault)>,
+    ghost part: { share.parts ≡ 1 },
+    ghost counted: { share.amount ≡ length (option_to_list posted) },
+}
+
+impl<'b, L: Ledger, R: Wait> Desk<'b, L, R> {
+    /// The desk of an auditor that has posted nothing.
+    pub(crate) fn new(
+        rt: &'b R,
+        shared: &'b Mutex<SharedBook<L>>,
+        share: Share<L>,
+    ) -> Desk<'b, L, R>
+        requires part { share.parts ≡ 1 }
+        requires none { share.amount ≡ 0 }
+        ensures posted { result.posted ≡ None }
+        ensures refused { result.refused ≡ None }
+    {
+        Desk {
+            rt,
+            shared,
+            share,
+            posted: None,
+            told: NO_FAULT,
+            refused: None,
+        }
+    }
+
+    /// The share of the ledger, and whether a page was accepted.
+    pub(crate) fn leave(self) -> (Share<L>, bool)
+        ensures part { result.0.parts ≡ 1 }
+        ensures counted { result.0.amount ≡ (if result.1 then 1 else 0) }
+    {
+        let Desk { share, posted, .. } = self;
+        (share, posted.is_some())
+    }
+}
+
+impl<L: Ledger, R: Wait> Shelf for Desk<'_, L, R> {
+    ghost accepted = { λ desk. option_to_list desk.posted };
+
+    ghost told = { λ desk. desk.told };
+
+    ghost refused = { λ desk. desk.refused };
+
+    fn post(&mut self, page: Page) -> Result<(), (Page, PostFault)> {
+        let tag = page.tag();
+        let Desk {
+            rt,
+            shared,
+            share,
+            posted,
+            refused,
+            ..
+        } = self;
+        let answer = shared.lock(*rt).post(page, share);
+        match answer {
+            Ok(()) => {
+                *posted = Some(tag);
+                Ok(())
+            }
+            Err((page, fault)) => {
+                *refused = Some((tag, fault));
+                Err((page, fault))
+            }
+        }
+    }
+
+    fn least(&mut self) -> u64 {
+        let line = self.shared.lock(self.rt).least();
+        self.told = line;
+        line
+    }
+}

@@ -1,0 +1,72 @@
+//! The seats of a crew: made, filled by the auditors of all processors at once, and gathered.
+ghost use Rattle.std.specs.Prelude.{◌≡◌, ◌+◌, ◌<◌, ◌≤◌, false, length, vec_len, All, IfOk, OnOk};
+ghost use Rattle.sched_record.specs.Record.{record_view};
+
+use crate::Gate;
+use crate::seat::Seat;
+use crate::shared_book::SharedBook;
+use cfs_model::{Knobs, Memory};
+use sched_record::Record;
+use std::alloc::Global;
+use std::sync::ledger::{Ledger, Share};
+use std::sync::{Mutex, Wait};
+use std::thread;
+use std::thread::Threads;
+
+/// A free seat for each of so many processors, each with one part of the ledger.
+pub(crate) fn seats_of<L: Ledger>(
+    alloc: Global,
+    all: &mut Share<L>,
+    cpus: u32,
+) -> Result<Vec<Seat<L>>, Memory>
+    requires parts { all.old.parts ≡ cpus }
+    requires none { all.old.amount ≡ 0 }
+    ensures count { IfOk result (λ seats. vec_len seats ≡ cpus) }
+    ensures free { IfOk result (λ seats. All (λ seat. seat.posted ≡ false) seats.items) }
+    ensures rest { OnOk result (all.new.parts ≡ 0) }
+    ensures none { OnOk result (all.new.amount ≡ 0) }
+{
+    let mut seats = Vec::with_capacity(alloc, cpus as usize)?;
+    for _cpu in 0..cpus {
+        seats.push(Seat::new(all.split_off(1, 0)))?;
+    }
+    Ok(seats)
+}
+
+/// Runs the auditors of all seats at once, and waits for their ends.
+pub(crate) fn audit_all<L: Ledger + Send + Sync, R: Threads + Wait + Sync, G: Gate>(
+    rt: &R,
+    alloc: Global,
+    seats: &mut [Seat<L>],
+    shared: &Mutex<SharedBook<L>>,
+    joined: &Record,
+    knobs: Knobs,
+    gate: &G,
+)
+    requires one_each { length seats.old ≡ (record_view joined.now).cpus }
+    requires free { All (λ seat. seat.posted ≡ false) seats.old }
+{
+    let threads = seats.len();
+    thread::for_each_mut(
+        rt,
+        seats,
+        threads,
+        &|cpu: usize, seat: &mut Seat<L>|
+            requires { (cpu < (record_view joined.now).cpus) × (seat.old.posted ≡ false) }
+        { seat.audit(rt, alloc, shared, joined, cpu as u32, knobs, gate) },
+    );
+}
+
+/// Merges the shares of all seats, and counts their posts.
+pub(crate) fn gather<L: Ledger>(seats: Vec<Seat<L>>, all: &mut Share<L>) -> Result<u32, Memory>
+    requires few { vec_len seats ≤ 64 }
+    requires none { all.old.amount ≡ 0 }
+    ensures parts { OnOk result (all.new.parts ≡ all.old.parts + vec_len seats) }
+    ensures amount { IfOk result (λ posted. all.new.amount ≡ posted) }
+{
+    let mut posted = 0;
+    for seat in seats {
+        posted += seat.leave(all)?;
+    }
+    Ok(posted)
+}

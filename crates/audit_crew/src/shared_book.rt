@@ -1,0 +1,59 @@
+ghost use Rattle.std.specs.Prelude.{◌≡◌, ◌+◌, ◌<◌, [], IfErr, OnOk, OnErr};
+ghost use Rattle.audit_crew.specs.Filled.{filled};
+ghost use Rattle.ticket_book.specs.BookView.{book_view};
+
+use crate::Gathered;
+use queue_replay::Page;
+use std::sync::ledger;
+use std::sync::ledger::{Ledger, Share};
+use ticket_book::{Book, PostFault};
+
+/// What the auditors share under their one lock: the book, and the ledger of the posts that it accepted.
+#[derive(Drop)]
+pub(crate) struct SharedBook<L: Ledger> {
+    book: Book,
+    posts: ledger::Book<L>,
+    ghost counted: { filled (book_view book) ≡ posts.total },
+}
+
+impl<L: Ledger> SharedBook<L> {
+    /// A book without pages, and its ledger without posts.
+    pub(crate) fn new(book: Book, posts: ledger::Book<L>) -> SharedBook<L>
+        requires { filled (book_view book) ≡ posts.total }
+    {
+        SharedBook { book, posts }
+    }
+
+    /// Posts a page, and counts it where it is accepted.
+    pub(crate) fn post(&mut self, page: Page, share: &mut Share<L>) -> Result<(), (Page, PostFault)>
+        requires { 0 < share.old.parts }
+        ensures parts { share.new.parts ≡ share.old.parts }
+        ensures counted { OnOk result (share.new.amount ≡ share.old.amount + 1) }
+        ensures uncounted { OnErr result (share.new.amount ≡ share.old.amount) }
+        ensures back { IfErr result (λ e. e.0 ≡ page) }
+    {
+        let SharedBook { book, posts } = self;
+        match book.post(page) {
+            Ok(_least) => {
+                posts.add(share, 1);
+                Ok(())
+            }
+            Err(back) => Err(back),
+        }
+    }
+
+    /// The least line of a fault on the pages so far.
+    pub(crate) fn least(&self) -> u64 {
+        self.book.least()
+    }
+    /// What a crew gathered: the book, and the number of its posts, for who has all shares of the ledger again.
+    pub(crate) fn gathered(self, mut all: Share<L>, posted: u32) -> Gathered
+        requires whole { all.parts ≡ L.parts }
+        requires posted { all.amount ≡ posted }
+        ensures { filled (book_view result.book) ≡ result.posted }
+    {
+        let SharedBook { book, mut posts } = self;
+        posts.audit(&mut all);
+        Gathered { book, posted }
+    }
+}

@@ -1,0 +1,35 @@
+ghost use Rattle.std.specs.Prelude.{◌≡◌, ℕ, Option, Some, List, [], ◌∷◌, IfErr, OnOk, OnErr};
+ghost use Rattle.audit_crew.specs.Tags.{tag_of};
+ghost use Rattle.queue_replay.specs.declared.tag.Tag.{Tag};
+ghost use Rattle.ticket_book.specs.declared.post_fault.PostFault.{PostFault};
+
+use queue_replay::Page;
+use ticket_book::PostFault;
+
+/// Where one auditor posts its page, and what it is told of the pages of all.
+pub trait Shelf {
+    /// The tags of the pages that were accepted through it.
+    ghost accepted: { Self → List Tag };
+
+    /// The line that its `least` last told; before the first, that of no fault.
+    ghost told: { Self → ℕ };
+
+    /// The tag of the page that its `post` last refused, and why.
+    ghost refused: { Self → Option (Tag × PostFault) };
+
+    /// Posts a page. One that is refused comes back.
+    fn post(&mut self, page: Page) -> Result<(), (Page, PostFault)>
+        requires { accepted self.old ≡ [] }
+        ensures added { OnOk result (accepted self.new ≡ tag_of page ∷ []) }
+        ensures kept { OnErr result (accepted self.new ≡ accepted self.old) }
+        ensures back { IfErr result (λ e. e.0 ≡ page) }
+        ensures refused { IfErr result (λ e. refused self.new ≡ Some (tag_of page, e.1)) }
+        ensures none_refused { OnOk result (refused self.new ≡ refused self.old) }
+        ensures told { told self.new ≡ told self.old };
+
+    /// The least line of a fault on the pages of all auditors.
+    fn least(&mut self) -> u64
+        ensures told { told self.new ≡ result }
+        ensures accepted { accepted self.new ≡ accepted self.old }
+        ensures refused { refused self.new ≡ refused self.old };
+}

@@ -1,0 +1,79 @@
+//! The audit of a record by threads, one for each of its processors.
+ghost use Rattle.std.specs.Prelude.{◌≡◌, IfOk};
+ghost use Rattle.audit_crew.specs.Filled.{filled};
+ghost use Rattle.sched_record.specs.Record.{record_view};
+ghost use Rattle.ticket_book.specs.BookView.{book_view};
+ghost use Rattle.ticket_book.specs.Verdict.{IsVerdict};
+
+use crate::seats::{audit_all, gather, seats_of};
+use crate::shared_book::SharedBook;
+use crate::{Gate, Gathered};
+use cfs_model::{Knobs, Memory};
+use sched_record::Record;
+use std::alloc::Global;
+use std::marker::Brand;
+use std::sync::ledger::{Blank, Ledger};
+use std::sync::{Mutex, Wait};
+use std::thread::Threads;
+use ticket_book::{Book, Closed};
+
+/// The audit of a record by a crew: its auditors' pages in one book, which is then closed.
+pub fn audit<R: Threads + Wait + Sync, G: Gate>(
+    rt: &R,
+    alloc: Global,
+    joined: &Record,
+    knobs: Knobs,
+    gate: &G,
+) -> Result<Closed, Memory>
+    ensures { IfOk result (λ closed. IsVerdict knobs (record_view joined.now) closed.verdict) }
+{
+    crew(rt, alloc, joined, knobs, gate)?
+        .book
+        .close(joined, knobs)
+}
+
+/// Audits each processor of a record in a thread of its own, all at once, and gathers their pages in one book. Where a
+/// thread can't be started its auditor runs in another, after that one's own.
+pub fn crew<R: Threads + Wait + Sync, G: Gate>(
+    rt: &R,
+    alloc: Global,
+    joined: &Record,
+    knobs: Knobs,
+    gate: &G,
+) -> Result<Gathered, Memory>
+    ensures pages { IfOk result (λ gathered. filled (book_view gathered.book) ≡ gathered.posted) }
+{
+    let blank = Blank::new(u64::from(joined.cpus()));
+    crew_of::<Brand, R, G>(rt, alloc, blank, joined, knobs, gate)
+}
+
+/// The crew, whose accepted posts this ledger counts.
+fn crew_of<L: Ledger + Send + Sync, R: Threads + Wait + Sync, G: Gate>(
+    rt: &R,
+    alloc: Global,
+    blank: Blank,
+    joined: &Record,
+    knobs: Knobs,
+    gate: &G,
+) -> Result<Gathered, Memory>
+    requires name { blank.name ≡ L.name }
+    requires parts { blank.parts ≡ L.parts }
+    requires one_each { blank.parts ≡ (record_view joined.now).cpus }
+    ensures { IfOk result (λ gathered. filled (book_view gathered.book) ≡ gathered.posted) }
+{
+    let cpus = joined.cpus();
+    let (posts, mut all) = blank.open::<L>();
+    let mut seats = seats_of(alloc, &mut all, cpus)?;
+    let shared = Mutex::new(SharedBook::new(Book::new(alloc, cpus)?, posts));
+    audit_all(
+        rt,
+        alloc,
+        seats.as_mut_slice(),
+        &shared,
+        joined,
+        knobs,
+        gate,
+    );
+    let posted = gather(seats, &mut all)?;
+    Ok(shared.into_inner().gathered(all, posted))
+}

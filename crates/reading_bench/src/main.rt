@@ -1,98 +1,68 @@
-//! Times the readers on a file, for the benchmark: `reading_bench events|trace|companion FILE ROUNDS`.
+//! Times the readers on a file, `reading_bench events|trace|companion FILE ROUNDS`, and the stages of an audit,
+//! `reading_bench stages TRACE COMPANION ROUNDS`.
 #![tactic(auto)]
 
-use companion_file::read_companion;
-use ftrace_line::{Line, read_line};
-use sched_event::{Event, read_event};
-use sched_record::read_trace;
-use std::alloc::Global;
+mod readings;
+mod stages;
+
+use crate::readings::found_by;
+use crate::stages::stages_of;
 use std::process::ExitCode;
+use std::rt::{Clock, Files};
 use std::time::Instant;
 use std::{env, fs, io};
-use text_parts::lines::next_line;
 
 /// The exit status of a bad command line.
 const BAD_WORDS: u8 = 5;
 
-/// What a reading found, so that none of it can be left out.
-#[derive(Clone, Copy, Debug, PartialEq, Eq)]
-enum Found {
-    /// How many events there are, and a sum over them.
-    Events { count: u64, sum: u64 },
-    /// How many events or claims a record keeps.
-    Kept { count: usize },
-    /// The line at which the text is refused.
-    Refused,
+/// Times a reading of a file so many times.
+fn time_reading<R: AllocGlobal + Clock + Files + Print>(
+    rt: &R,
+    what: &str,
+    file: &str,
+    rounds: u32,
+) -> io::Result<ExitCode> {
+    let text = fs::read(rt, file)?;
+    for _ in 0..rounds {
+        let began = Instant::now(rt)?;
+        let Some(found) = found_by(rt.alloc(), what, &text) else {
+            return Ok(ExitCode::from(BAD_WORDS));
+        };
+        let nanoseconds = began.elapsed(rt)?.as_nanos();
+        println!(rt; "{nanoseconds} {found:?}")?;
+    }
+    Ok(ExitCode::SUCCESS)
 }
 
-/// The task of an event; of a switch the previous one.
-fn pid_of(event: &Event) -> u32 {
-    match event {
-        Event::Switch(switch) => switch.prev,
-        Event::Wakeup(wakeup) => wakeup.pid,
-        Event::WakeupNew(birth) => birth.pid,
-        Event::Migration(migration) => migration.pid,
+/// Times the stages of an audit so many times.
+fn time_stages<R: AllocGlobal + Clock + Files + Print>(
+    rt: &R,
+    trace: &str,
+    companion: &str,
+    rounds: u32,
+) -> io::Result<ExitCode> {
+    let trace = fs::read(rt, trace)?;
+    let companion = fs::read(rt, companion)?;
+    for _ in 0..rounds {
+        let (times, closed) = stages_of(rt, rt.alloc(), &trace, &companion)?;
+        println!(rt;
+            "{} {} {} {} {} {closed:?}",
+            times.reading, times.joining, times.dealing, times.replaying, times.closing
+        )?;
     }
-}
-
-/// Reads each line of a trace, and the event on it, and keeps nothing.
-fn events_of(text: &[u8]) -> Found {
-    let mut count = 0u64;
-    let mut sum = 0u64;
-    let mut rest = text;
-    while !rest.is_empty() {
-        let (line, after) = next_line(rest);
-        if let Ok(Line::Sched(sched)) = read_line(line) {
-            let time = sched.time;
-            if let Ok(event) = read_event(sched) {
-                count = count.wrapping_add(1);
-                sum = sum.wrapping_add(time ^ u64::from(pid_of(&event)));
-            }
-        }
-        rest = after;
-    }
-    Found::Events { count, sum }
-}
-
-/// Reads a trace into what a record keeps.
-fn trace_of(alloc: Global, text: &[u8]) -> Found {
-    match read_trace(alloc, text) {
-        Ok(trace) => Found::Kept {
-            count: trace.events().len(),
-        },
-        Err(_) => Found::Refused,
-    }
-}
-
-/// Reads a companion into what a record keeps.
-fn companion_of(alloc: Global, text: &[u8]) -> Found {
-    match read_companion(alloc, text) {
-        Ok(companion) => Found::Kept {
-            count: companion.claims().len(),
-        },
-        Err(_) => Found::Refused,
-    }
+    Ok(ExitCode::SUCCESS)
 }
 
 fn main(rt: HostRuntime) -> io::Result<ExitCode> {
     let words: Vec<String> = env::args(&rt)?.collect(rt.alloc())?;
-    let [_, what, file, rounds] = words.as_slice() else {
+    let Some(rounds) = words.last().and_then(|word| word.parse::<u32>().ok()) else {
         return Ok(ExitCode::from(BAD_WORDS));
     };
-    let Ok(rounds) = rounds.parse::<u32>() else {
-        return Ok(ExitCode::from(BAD_WORDS));
-    };
-    let text = fs::read(&rt, file.as_str())?;
-    for _ in 0..rounds {
-        let began = Instant::now(&rt)?;
-        let found = match what.as_str() {
-            "events" => events_of(&text),
-            "trace" => trace_of(rt.alloc(), &text),
-            "companion" => companion_of(rt.alloc(), &text),
-            _ => return Ok(ExitCode::from(BAD_WORDS)),
-        };
-        let nanoseconds = began.elapsed(&rt)?.as_nanos();
-        println!(rt; "{nanoseconds} {found:?}")?;
+    match words.as_slice() {
+        [_, what, file, _] => time_reading(&rt, what.as_str(), file.as_str(), rounds),
+        [_, what, trace, companion, _] if what.as_str() == "stages" => {
+            time_stages(&rt, trace.as_str(), companion.as_str(), rounds)
+        }
+        _ => Ok(ExitCode::from(BAD_WORDS)),
     }
-    Ok(ExitCode::SUCCESS)
 }

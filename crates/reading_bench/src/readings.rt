@@ -1,0 +1,76 @@
+use companion_file::read_companion;
+use ftrace_line::{Line, read_line};
+use sched_event::{Event, read_event};
+use sched_record::read_trace;
+use std::alloc::Global;
+use text_parts::lines::next_line;
+
+/// What a reading found, so that none of it can be left out.
+#[derive(Clone, Copy, Debug, PartialEq, Eq)]
+pub enum Found {
+    /// How many events there are, and a sum over them.
+    Events { count: u64, sum: u64 },
+    /// How many events or claims a record keeps.
+    Kept { count: usize },
+    /// The text is refused, or memory ran out.
+    Refused,
+}
+
+/// What a reading of this name finds in a text.
+pub fn found_by(alloc: Global, what: &str, text: &[u8]) -> Option<Found> {
+    match what {
+        "events" => Some(events_of(text)),
+        "trace" => Some(trace_of(alloc, text)),
+        "companion" => Some(companion_of(alloc, text)),
+        _ => None,
+    }
+}
+
+/// The task of an event; of a switch the previous one.
+fn pid_of(event: &Event) -> u32 {
+    match event {
+        Event::Switch(switch) => switch.prev,
+        Event::Wakeup(wakeup) => wakeup.pid,
+        Event::WakeupNew(birth) => birth.pid,
+        Event::Migration(migration) => migration.pid,
+    }
+}
+
+/// Reads each line of a trace, and the event on it, and keeps nothing.
+fn events_of(text: &[u8]) -> Found {
+    let mut count = 0u64;
+    let mut sum = 0u64;
+    let mut rest = text;
+    while !rest.is_empty() {
+        let (line, after) = next_line(rest);
+        if let Ok(Line::Sched(sched)) = read_line(line) {
+            let time = sched.time;
+            if let Ok(event) = read_event(sched) {
+                count = count.wrapping_add(1);
+                sum = sum.wrapping_add(time ^ u64::from(pid_of(&event)));
+            }
+        }
+        rest = after;
+    }
+    Found::Events { count, sum }
+}
+
+/// Reads a trace into what a record keeps.
+fn trace_of(alloc: Global, text: &[u8]) -> Found {
+    match read_trace(alloc, text) {
+        Ok(trace) => Found::Kept {
+            count: trace.events().len(),
+        },
+        Err(_) => Found::Refused,
+    }
+}
+
+/// Reads a companion into what a record keeps.
+fn companion_of(alloc: Global, text: &[u8]) -> Found {
+    match read_companion(alloc, text) {
+        Ok(companion) => Found::Kept {
+            count: companion.claims().len(),
+        },
+        Err(_) => Found::Refused,
+    }
+}

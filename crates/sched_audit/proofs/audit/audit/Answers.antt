@@ -7,4 +7,3 @@ pub returns-in_err-record : goal.returns-in_err-record
 returns-in_err-record c text told =
     subst (IsAnswer text c.args.companion.now c.args.knobs) (sym (error_is c.from_residual.result c.in_err-record.field-0.0 c.from_residual.ensures.1))
     (refused_answer text c.args.companion.now c.args.knobs c.in_err-record.field-0.0 (c.in_err-record.ensures text told))
-

@@ -5,3 +5,4 @@ pub mod Codes
 pub mod Report
 pub mod Known
 pub mod Run
+pub mod CommandLine

@@ -1,11 +1,15 @@
 -- The report (this project's format): its lines, each ended by a line feed, with numbers in plain decimal.
-use Rattle.std.specs.Prelude.{ℕ, List, [], ◌∷◌, ◌++◌, codes, decimal}
+use Rattle.std.specs.Prelude.{ℕ, List, [], ◌∷◌, ◌++◌, codes, decimal, map}
+use Rattle.std.specs.List.{concat}
 use Rattle.sched_audit.specs.declared.source.Source.{Source}
 use Rattle.sched_audit.specs.declared.source.Source.TheVariants.{Trace, Companion, Join}
 use Rattle.sched_audit.specs.declared.cause.Cause.{Cause}
 use Rattle.sched_audit.specs.declared.cause.Cause.TheVariants.{BadHead, NumberRange, LostEvents, BadFields, RealTime, PrioRange, IdleNamed, TimeBack, TooManyLines, Version, Group, BadLine, Order, TwiceNamed, TwiceRunning, LineOrder, Short, CpuOutside, StartLate, ClaimNoEvent}
 use Rattle.sched_audit.specs.declared.outcome.Outcome.{Outcome}
 use Rattle.sched_audit.specs.declared.outcome.Outcome.TheVariants.{Judged, Text}
+use Rattle.cfs_model.specs.Kinds.{name_of, text_of}
+use Rattle.cfs_model.specs.declared.kind.Kind.{Kind}
+use Rattle.replay_model.specs.declared.page.Tally.{Tally}
 use Rattle.ticket_book.specs.declared.verdict.Verdict.TheVariants as verdicts
 
 -- which text is refused
@@ -41,8 +45,39 @@ cause_word ClaimNoEvent = codes "ClaimNoEvent"
 abbrev pub line_of : List ℕ → List ℕ
 line_of text = text ++ 10 ∷ []
 
+-- a number and what it counts
+abbrev pub count_line : List ℕ → ℕ → List ℕ
+count_line what count = line_of (what ++ (codes " " ++ decimal count))
+
+-- what a task did, in nanoseconds, virtual nanoseconds and switches to it
+abbrev pub tally_line : Tally → List ℕ
+tally_line t =
+    line_of (codes "task " ++ (decimal t.pid ++ (codes " ran " ++ (decimal t.ran
+    ++ (codes " charged " ++ (decimal t.charged ++ (codes " picks " ++ decimal t.picks)))))))
+
+-- a run, and how often each thing happened in it
+abbrev pub counts_of_run : ℕ → ℕ → ℕ → ℕ → ℕ → List ℕ
+counts_of_run events switches migrations births deaths =
+    line_of (codes "run") ++ (count_line (codes "events") events ++ (count_line (codes "switches") switches
+    ++ (count_line (codes "migrations") migrations ++ (count_line (codes "births") births
+    ++ count_line (codes "deaths") deaths))))
+
+-- what each task did
+abbrev pub tally_lines : List Tally → List ℕ
+tally_lines tallies = concat (map tally_line tallies)
+
+-- what is wrong, by the kind's name and text
+abbrev pub words_of : Kind → List ℕ
+words_of kind = name_of kind ++ (codes ": " ++ text_of kind)
+
+-- the line of a fault
+abbrev pub fault_line : ℕ → ℕ → ℕ → Kind → List ℕ
+fault_line line cpu pid kind =
+    line_of (codes "fault line " ++ (decimal line ++ (codes " cpu " ++ (decimal cpu
+    ++ (codes " pid " ++ (decimal pid ++ (codes " " ++ words_of kind)))))))
+
 -- what is written for an outcome
 abbrev pub report_of : Outcome → List ℕ
 report_of (Judged (verdicts.Run summary)) = line_of (codes "run")
-report_of (Judged (verdicts.Fault line cpu pid kind)) = line_of (codes "fault line " ++ decimal line)
+report_of (Judged (verdicts.Fault line cpu pid kind)) = fault_line line cpu pid kind
 report_of (Text source line cause) = line_of (codes "refused " ++ (source_word source ++ (codes " line " ++ (decimal line ++ (codes " " ++ cause_word cause)))))

@@ -3,6 +3,7 @@
 
 mod audit;
 mod cause;
+mod command_words;
 mod failed;
 mod fault;
 mod feed;
@@ -13,6 +14,7 @@ mod outcome;
 mod reading;
 mod refused;
 mod reporting;
+mod request;
 mod sink;
 mod sink_of;
 mod source;
@@ -21,6 +23,7 @@ mod texts;
 mod writing;
 
 pub use cause::Cause;
+pub use command_words::command_line;
 pub use failed::Failed;
 pub use fault::Fault;
 pub use feed::Feed;
@@ -29,6 +32,7 @@ pub use headline::{audit_texts, run};
 pub use outcome::Outcome;
 pub use refused::Refused;
 pub use reporting::report;
+pub use request::Request;
 pub use sink::Sink;
 pub use sink_of::SinkOf;
 pub use source::Source;

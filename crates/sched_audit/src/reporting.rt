@@ -1,8 +1,9 @@
-ghost use Rattle.std.specs.Prelude.{◌≡◌, IfOk, string_bytes};
-ghost use Rattle.sched_audit.specs.Report.{report_of};
+ghost use Rattle.std.specs.Prelude.{◌≡◌, ◌++◌, IfOk, OnOk, string_bytes};
+ghost use Rattle.sched_audit.specs.Report.{report_of, counts_of_run, tally_lines};
 
 use crate::{Outcome, Verdict};
 use cfs_model::Memory;
+use replay_model::Tally;
 use std::alloc::{AllocError, Global};
 
 // Writes lines at the end of a text, each with its line feed.
@@ -26,7 +27,17 @@ fn text_of(alloc: Global, outcome: &Outcome) -> Result<String, AllocError>
     let mut text = String::new(alloc);
     match outcome {
         Outcome::Judged(Verdict::Run(_)) => lines!(text; "run"),
-        Outcome::Judged(Verdict::Fault { line, .. }) => lines!(text; "fault line {line}"),
+        Outcome::Judged(
+            Verdict::Fault {
+                line,
+                cpu,
+                pid,
+                kind,
+            },
+        ) => {
+            let (name, words) = kind.words();
+            lines!(text; "fault line {line} cpu {cpu} pid {pid} {name}: {words}");
+        }
         Outcome::Text {
             source,
             line,
@@ -38,4 +49,38 @@ fn text_of(alloc: Global, outcome: &Outcome) -> Result<String, AllocError>
         }
     }
     Ok(text)
+}
+
+/// Writes that it is a run, and how often each thing happened in it.
+fn push_counts(
+    text: &mut String,
+    events: u64,
+    switches: u64,
+    migrations: u64,
+    births: u64,
+    deaths: u64,
+) -> Result<(), AllocError>
+    ensures { OnOk result (string_bytes text.new
+        ≡ string_bytes text.old ++ counts_of_run events switches migrations births deaths) }
+{
+    lines!(text;
+        "run", "events {events}", "switches {switches}", "migrations {migrations}", "births {births}", "deaths {deaths}"
+    );
+    Ok(())
+}
+
+/// Writes each task's tally.
+fn push_tallies(text: &mut String, tallies: &[Tally]) -> Result<(), AllocError>
+    ensures { OnOk result (string_bytes text.new ≡ string_bytes text.old ++ tally_lines tallies.now) }
+{
+    for tally in tallies {
+        let Tally {
+            pid,
+            ran,
+            charged,
+            picks,
+        } = tally;
+        lines!(text; "task {pid} ran {ran} charged {charged} picks {picks}");
+    }
+    Ok(())
 }

@@ -10,7 +10,9 @@ pub enum Ending {
     Answered(Status),
     /// An input or the output failed, or memory ran out.
     Failed(Fault),
-    /// The command line isn't two words.
+    /// Help or the version was printed.
+    Told,
+    /// The command line makes no sense; the reason was printed.
     Misused,
 }
 
@@ -22,6 +24,7 @@ impl Ending {
         match self {
             Ending::Answered(status) => status.code(),
             Ending::Failed(fault) => fault.code(),
+            Ending::Told => 0,
             Ending::Misused => 5,
         }
     }

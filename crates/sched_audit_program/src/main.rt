@@ -1,9 +1,8 @@
-//! `sched_audit TRACE COMPANION`: judges a recorded schedule and prints the report.
+//! `sched_audit TRACE COMPANION`, with options: judges a recorded schedule and prints the report.
 #![tactic(auto)]
 
 mod command;
 mod ending;
-mod names;
 
 use ending::Ending;
 use std::process::ExitCode;

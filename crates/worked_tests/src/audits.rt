@@ -86,7 +86,7 @@ fn reports_are_lines(rt: HostRuntime) -> Result<(), Fail> {
     let fault = |line: u32| {
         Outcome::Judged(Verdict::Fault {
             line,
-            cpu: 0,
+            cpu: 63,
             pid: 201,
             kind: Kind::PrevNotRunning,
         })
@@ -101,8 +101,14 @@ fn reports_are_lines(rt: HostRuntime) -> Result<(), Fail> {
             Outcome::Judged(Verdict::Run(Summary { events: 1 })),
             "run\n",
         ),
-        (fault(4), "fault line 4\n"),
-        (fault(4294967295), "fault line 4294967295\n"),
+        (
+            fault(4),
+            "fault line 4 cpu 63 pid 201 PrevNotRunning: previous task is not the running one\n",
+        ),
+        (
+            fault(4294967295),
+            "fault line 4294967295 cpu 63 pid 201 PrevNotRunning: previous task is not the running one\n",
+        ),
         (
             refused(Source::Trace, 1, Cause::BadHead),
             "refused trace line 1 BadHead\n",
@@ -189,7 +195,10 @@ fn a_line_may_be_longer_than_a_read(rt: HostRuntime) -> Result<(), Fail> {
     // The switch now stands on line 2, where the companion claims line 1; and task 102 waits for 4 ms before it.
     for (companion, text) in [
         (COMPANION, "refused join line 1 ClaimNoEvent\n"),
-        (WAITING, "fault line 2\n"),
+        (
+            WAITING,
+            "fault line 2 cpu 0 pid 0 IdleTooLong: idle beside a waiting task\n",
+        ),
     ] {
         let mut out = Narrow::new(rt.alloc(), usize::MAX, false);
         let _status = run(

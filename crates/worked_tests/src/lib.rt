@@ -5,6 +5,8 @@
 #[cfg(test)]
 mod audits;
 #[cfg(test)]
+mod command_lines;
+#[cfg(test)]
 mod companions;
 #[cfg(test)]
 mod crews;

@@ -1,0 +1,20 @@
+-- Each call adds its rule behind those that were there.
+use Rattle.std.proofs.Common.{◌∙◌, ap, ap₂, true}
+use Rattle.std.proofs.lemmas.Result.{IfOk-weaker}
+use Rattle.clap.specs.Words.{App, with_rule}
+use Rattle.clap.specs.Simple.{app_of_fields, on_top}
+use Rattle.sched_audit.proofs.command_words.command.Goals as goal
+
+abbrev versioned : App → App
+versioned a = on_top (λ s. record s { has_version = true }) a
+
+pub returns : goal.returns
+returns c =
+    let start = ap app_of_fields c.in_ok-bin_name.ensures.0 ∙ (ap app_of_fields c.about.ensures ∙ (ap app_of_fields c.version.ensures ∙ ap versioned c.new.ensures.app)) in
+    let trace = c.in_ok-arg.ensures.shape c.name.ensures.local ∙ ap₂ with_rule start c.name.ensures.rule in
+    let companion = c.in_ok-arg-2.ensures.shape c.name-2.ensures.local ∙ ap₂ with_rule trace c.name-2.ensures.rule in
+    let granularity = c.in_ok-arg-3.ensures.shape c.setting.ensures.local ∙ ap₂ with_rule companion c.setting.ensures.rule in
+    let credit = c.in_ok-arg-4.ensures.shape c.setting-2.ensures.local ∙ ap₂ with_rule granularity c.setting-2.ensures.rule in
+    let debit = c.in_ok-arg-5.ensures.shape c.setting-3.ensures.local ∙ ap₂ with_rule credit c.setting-3.ensures.rule in
+    IfOk-weaker c.arg-6.result _ _
+    (λ command added. added.shape c.setting-4.ensures.local ∙ ap₂ with_rule debit c.setting-4.ensures.rule) c.arg-6.ensures

@@ -1,0 +1,15 @@
+# Completions of sched_audit for bash.
+_sched_audit() {
+  local word=${COMP_WORDS[COMP_CWORD]} before=${COMP_WORDS[COMP_CWORD - 1]}
+  case $before in
+    --granularity-ns | --credit-ns | --debit-ns | --slack-ns) return ;;
+  esac
+  if [[ $word == -* ]]; then
+    mapfile -t COMPREPLY < <(compgen -W \
+      "--granularity-ns --credit-ns --debit-ns --slack-ns -h --help -V --version" -- "$word")
+  else
+    compopt -o filenames
+    mapfile -t COMPREPLY < <(compgen -f -- "$word")
+  fi
+}
+complete -F _sched_audit sched_audit

@@ -1,0 +1,7 @@
+# Completions of sched_audit for fish.
+complete -c sched_audit -l granularity-ns -x -d 'How far above the least a picked task may be [default: 1000000]'
+complete -c sched_audit -l credit-ns -x -d 'How far below the floor a woken task may be placed [default: 3000000]'
+complete -c sched_audit -l debit-ns -x -d 'How far above the floor a new task may be placed [default: 3000000]'
+complete -c sched_audit -l slack-ns -x -d 'How long a processor may idle beside a waiting task [default: 100000]'
+complete -c sched_audit -s h -l help -d 'Print help'
+complete -c sched_audit -s V -l version -d 'Print version'

@@ -5,6 +5,7 @@ pub mod Parts
 pub mod Lifts
 pub mod Answered
 pub mod Moves
+pub mod PlacedBy
 pub mod Placed
 pub mod Counts
 pub mod OneRunner

@@ -31,7 +31,7 @@ returns-in-Some-clause-room c pid room =
     room_ran pid book.list _ book.places c.args.task.pid c.args.time c.cost_of-cost.result
     (ran_there book.list.items book.places book.placed c.args.task.pid c.args.time c.cost_of-cost.result c.in-Some.place c.index_mut.result.now c.add_run.new.tally f.0 (f.1 _)
     (c.add_run.ensures ∙ ap (ran_tally c.args.task.pid c.args.time c.cost_of-cost.result) c.index_mut.ensures.value))
-    refl room
+    refl refl room
 
 pub returns-in_default-clause-tallies : goal.returns-in_default-clause-tallies
 returns-in_default-clause-tallies c =

@@ -12,7 +12,8 @@ use Rattle.replay_model.specs.declared.page.Tally.{Tally}
 use Rattle.cfs_model.specs.declared.task.Place.{Place}
 use Rattle.cfs_model.specs.declared.task.Place.TheVariants.{Run, Wait, Rest}
 use Rattle.cfs_model.specs.declared.task.Task.{Task}
-use Rattle.queue_replay.specs.Counting.{ran_tally, stretched, IsWithin}
+use Rattle.queue_replay.specs.Counting.{stretched}
+use Rattle.queue_replay.specs.Stretches.{ran_tally, IsWithin}
 use Rattle.queue_replay.specs.Queue.{OneRunsHere}
 use Rattle.queue_replay.specs.TaskList.{runs, cost_of, EachOnce}
 use Rattle.queue_replay.proofs.Answered.{place_eq-true, task_in}

@@ -9,7 +9,8 @@ use Rattle.cfs_model.specs.declared.kind.Kind.TheVariants.{IdleTooLong}
 use Rattle.replay_model.specs.declared.page.StepFault.{StepFault}
 use Rattle.replay_model.specs.declared.page.Tally.{Tally}
 use Rattle.replay_model.specs.declared.step.Step.{Step}
-use Rattle.queue_replay.specs.Counting.{IsWithin, page_draft_view, faulted_page}
+use Rattle.queue_replay.specs.Counting.{page_draft_view, faulted_page}
+use Rattle.queue_replay.specs.Stretches.{IsWithin}
 use Rattle.queue_replay.specs.ReplayState.{replay_state_view, IsGoing, IsPassed, IsStepped}
 use Rattle.queue_replay.specs.Queue.{runqueue_view, OneRunsHere}
 use Rattle.queue_replay.specs.TaskList.{EachOnce}
@@ -75,5 +76,5 @@ grown_going old new g h =
         once = subst EachOnce (sym g.tasks) h.kept.once;
         one_runs = subst OneRunsHere (sym (grown_part old new g)) h.kept.one_runs;
       };
-      within = subst (λ n. W n new.draft.tallies.items) (sym g.made) (subst (W old.made) (sym (ap (λ p. p.tallies) g.noted)) h.within);
+      within = subst (λ n. W n new.draft.tallies.list.items) (sym g.made) (subst (W old.made) (sym (ap (λ p. p.tallies) g.noted)) h.within);
     }

@@ -12,7 +12,8 @@ use Rattle.replay_model.specs.declared.step.Deed.{Deed}
 use Rattle.replay_model.specs.declared.step.Deed.TheVariants.{Switch, Wake, Born, Leave, Arrive}
 use Rattle.cfs_model.specs.declared.task.Place.TheVariants.{Run}
 use Rattle.cfs_model.specs.declared.task.Task.{Task}
-use Rattle.queue_replay.specs.Counting.{ran_tally, picked_tally, stretched, IsWithin}
+use Rattle.queue_replay.specs.Counting.{stretched}
+use Rattle.queue_replay.specs.Stretches.{ran_tally, picked_tally, IsWithin}
 use Rattle.queue_replay.specs.Queue.{OneRunsHere}
 use Rattle.queue_replay.specs.TaskList.{runs, cost_of, entity_of, EachOnce}
 use Rattle.queue_replay.proofs.Answered.{place_eq-true}

@@ -5,6 +5,8 @@ pub mod Parts
 pub mod Lifts
 pub mod Answered
 pub mod Moves
+pub mod PlacedBy
+pub mod Placed
 pub mod Counts
 pub mod OneRunner
 pub mod Growing

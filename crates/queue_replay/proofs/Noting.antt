@@ -54,10 +54,10 @@ pub record IsNote (mid : PageDraft) (step : Step) (ticket : Option Ticket) (new 
   pub came : new.came.items ≡ mid.came.items ++ if_came step.deed ticket
   pub births : new.births.items ≡ mid.births.items ++ births_of step.line step.deed
   pub deaths : new.deaths.items ≡ mid.deaths.items ++ deaths_of step.line step.deed
-  pub tallies : new.tallies.items ≡ tallied step.deed mid.tallies.items
+  pub tallies : new.tallies.list.items ≡ tallied step.deed mid.tallies.list.items
 
 pub page_is : (old mid new : PageDraft) (part lifted : Part) (step : Step) (ticket : Option Ticket) → old.fault ≡ None
-    → IsStretch old mid → mid.tallies.items ≡ charged_tallies part step.time old.tallies.items
+    → IsStretch old mid → mid.tallies.list.items ≡ charged_tallies part step.time old.tallies.list.items
     → ticket ≡ ticket_by lifted step step.deed → IsNote mid step ticket new
     → page_draft_view new ≡ noted (page_draft_view old) part lifted step
 page_is old mid new part lifted step ticket none same tallies is n =

@@ -7,7 +7,7 @@ use Rattle.replay_model.specs.Noted.{new_tally}
 use Rattle.replay_model.specs.Part.{start_part}
 use Rattle.cfs_model.specs.declared.task.Place.TheVariants.{Run}
 use Rattle.cfs_model.specs.declared.task.Task.{Task}
-use Rattle.queue_replay.specs.Counting.{IsWithin}
+use Rattle.queue_replay.specs.Stretches.{IsWithin}
 use Rattle.queue_replay.specs.Queue.{OneRunsHere, IsKept}
 use Rattle.queue_replay.specs.TaskList.{EachOnce}
 use Rattle.queue_replay.specs.declared.runqueue.Runqueue.{Runqueue}

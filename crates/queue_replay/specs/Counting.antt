@@ -1,5 +1,5 @@
--- The tallies of a processor, task by task, and how far they can have grown (this project's profile).
-use Rattle.std.specs.Prelude.{ℕ, ◌<◌, ⊤, vec_len, vec_capacity, option_to_list, Option, Some, None, [], ◌+◌, ◌*◌, ◌^◌, ◌≤◌, ◌==◌, if◌then◌else◌, List, map}
+-- What the page of a replay under way shows, and what a step adds to it (this project's profile).
+use Rattle.std.specs.Prelude.{ℕ, ◌<◌, ⊤, vec_len, vec_capacity, option_to_list, Option, Some, None, [], List, map}
 use Rattle.replay_model.specs.Deeds.{left_ticket, came_ticket}
 use Rattle.replay_model.specs.Part.{Part}
 use Rattle.replay_model.specs.declared.page.StepFault.{StepFault}
@@ -10,21 +10,10 @@ use Rattle.replay_model.specs.declared.step.Deed.TheVariants.{Switch, Wake, Born
 use Rattle.replay_model.specs.declared.step.Step.{Step}
 use Rattle.replay_model.specs.Noted.{PageView}
 use Rattle.cfs_model.specs.declared.task.Task.{Task}
+use Rattle.queue_replay.specs.Places.{HasTallyRoom}
+use Rattle.queue_replay.specs.Stretches.{ran_tally}
 use Rattle.queue_replay.specs.TaskList.{cost_of}
 use Rattle.queue_replay.specs.declared.page_draft.PageDraft.{PageDraft}
-
--- a tally after the task of this pid ran for so long and was charged so much
-abbrev pub ran_tally : ℕ → ℕ → ℕ → Tally → Tally
-ran_tally pid time cost tally =
-    if tally.pid == pid then record tally { ran = tally.ran + time; charged = tally.charged + cost } else tally
-
--- a tally after a switch to the task of this pid
-abbrev pub picked_tally : ℕ → Tally → Tally
-picked_tally pid tally = if tally.pid == pid then record tally { picks = tally.picks + 1 } else tally
-
--- what so many steps can have made of a tally at most
-abbrev pub IsWithin : ℕ → Tally → Type 0
-IsWithin steps tally = (tally.ran ≤ steps * 2 ^ 64) × (tally.charged ≤ steps * 2 ^ 64) × (tally.picks ≤ steps)
 
 -- the draft as a page shows it
 abbrev pub page_draft_view : PageDraft → PageView
@@ -35,7 +24,7 @@ page_draft_view draft = record {
   came = draft.came.items;
   births = draft.births.items;
   deaths = draft.deaths.items;
-  tallies = draft.tallies.items;
+  tallies = draft.tallies.list.items;
 }
 
 -- the ticket of a step, if it has one
@@ -57,9 +46,9 @@ if_came _ ticket = []
 abbrev pub HasDraftRoom : Deed → PageDraft → Type 0
 HasDraftRoom (Switch prev prev_nice way next next_nice) draft = vec_len draft.deaths < vec_capacity draft.deaths
 HasDraftRoom (Wake pid nice) draft = ⊤
-HasDraftRoom (Born pid nice) draft = (vec_len draft.births < vec_capacity draft.births) × (vec_len draft.tallies < vec_capacity draft.tallies)
+HasDraftRoom (Born pid nice) draft = (vec_len draft.births < vec_capacity draft.births) × HasTallyRoom pid draft.tallies.list draft.tallies.places
 HasDraftRoom (Leave pid nice dest) draft = vec_len draft.left < vec_capacity draft.left
-HasDraftRoom (Arrive pid nice orig) draft = (vec_len draft.came < vec_capacity draft.came) × (vec_len draft.tallies < vec_capacity draft.tallies)
+HasDraftRoom (Arrive pid nice orig) draft = (vec_len draft.came < vec_capacity draft.came) × HasTallyRoom pid draft.tallies.list draft.tallies.places
 
 -- the tallies after the runner, if there is one, ran for so long
 abbrev pub stretched : Option Task → ℕ → List Tally → List Tally

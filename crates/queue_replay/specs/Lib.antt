@@ -1,6 +1,8 @@
 pub mod TaskList
 pub mod Queue
 pub mod FirstTest
+pub mod Places
+pub mod Stretches
 pub mod Counting
 pub mod ReplayState
 pub mod Made

@@ -4,8 +4,9 @@ use Rattle.cfs_model.specs.Settings.{Settings}
 use Rattle.replay_model.specs.Page.{ReplayStateView, PassesStep, FailsStep, with_fault}
 use Rattle.replay_model.specs.declared.page.StepFault.{StepFault}
 use Rattle.replay_model.specs.declared.step.Step.{Step}
-use Rattle.queue_replay.specs.Counting.{IsWithin, page_draft_view}
+use Rattle.queue_replay.specs.Counting.{page_draft_view}
 use Rattle.queue_replay.specs.Queue.{runqueue_view, IsKept}
+use Rattle.queue_replay.specs.Stretches.{IsWithin}
 use Rattle.queue_replay.specs.declared.replay_state.ReplayState.{ReplayState}
 
 abbrev pub replay_state_view : ReplayState → ReplayStateView
@@ -15,13 +16,13 @@ replay_state_view state = record { part = runqueue_view state.queue; since = sta
 pub record IsGoing (state : ReplayState) : Type 0 where
   pub fault : state.draft.fault ≡ None
   pub kept : IsKept state.queue
-  pub within : All (IsWithin state.made) state.draft.tallies.items
+  pub within : All (IsWithin state.made) state.draft.tallies.list.items
 
 -- the step passed, and was noted
 pub record IsPassed (knobs : Settings) (cpu : ℕ) (old : ReplayState) (step : Step) (new : ReplayState) : Type 0 where
   pub passes : PassesStep knobs cpu (replay_state_view old) step (replay_state_view new)
   pub kept : IsKept new.queue
-  pub within : All (IsWithin (old.made + 1)) new.draft.tallies.items
+  pub within : All (IsWithin (old.made + 1)) new.draft.tallies.list.items
 
 -- a step was made, which passed, or failed
 abbrev pub IsStepped : Settings → ℕ → ReplayStateView → Step → ReplayState → Type 0

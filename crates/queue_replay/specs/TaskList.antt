@@ -1,6 +1,7 @@
 -- The tasks that stand at one processor, as a list, and what an event does to them (this project's profile).
-use Rattle.std.specs.Prelude.{◌≡◌, ℕ, ◌≤◌, ◌==◌, Bool, not, ◌&&◌, if◌then◌else◌, IsTrue, Option, Some, None, ℤ, pos, ◌+ℤ◌, ◌≤ℤ◌, ◌<ℤ◌, ◌⊎◌, List, [], map, filter, All, Contains}
+use Rattle.std.specs.Prelude.{◌≡◌, ℕ, ◌<◌, ◌≤◌, ◌==◌, Bool, not, ◌&&◌, if◌then◌else◌, IsTrue, Option, Some, None, ℤ, pos, ◌+ℤ◌, ◌≤ℤ◌, ◌<ℤ◌, ◌⊎◌, List, [], map, filter, All, Contains}
 use Rattle.std.specs.Int.{int_max}
+use Rattle.std.specs.List.{AllPairs}
 use Rattle.cfs_model.specs.Charge.{charge_of, greatest}
 use Rattle.cfs_model.specs.Nice.{weight_of}
 use Rattle.replay_model.specs.Part.{Entity}
@@ -73,3 +74,7 @@ entity_of t = record { place = t.place; nice = t.nice; runtime = t.v }
 -- each pid once
 abbrev pub EachOnce : List Task → Type 0
 EachOnce tasks = All (λ t. task_of tasks t.pid ≡ Some t) tasks
+
+-- the pids rise
+abbrev pub RisesByPid : List Task → Type 0
+RisesByPid tasks = AllPairs (λ t u. t.pid < u.pid) tasks

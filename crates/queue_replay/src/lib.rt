@@ -16,6 +16,7 @@ mod runqueue;
 mod state;
 mod step_table;
 mod tag;
+mod tally_book;
 mod task_list;
 
 pub use lists::{LifeEvents, Tallies, Tickets};

@@ -1,14 +1,16 @@
 ghost use Rattle.std.specs.Prelude.{◌≡◌, ℕ, ℤ, ◌+◌, ◌-◌, ◌^◌, ◌<◌, ◌≤◌, [], ◌∷◌, ◌++◌, All, IfSome, OnOk, vec_len, vec_capacity};
 ghost use Rattle.cfs_model.specs.Charge.{greatest};
 ghost use Rattle.replay_model.specs.Noted.{births_of, deaths_of, tallied};
+ghost use Rattle.replay_model.specs.declared.step.Deed.{Deed as DeedOf};
 ghost use Rattle.replay_model.specs.declared.step.Deed.TheVariants.{Switch};
-ghost use Rattle.queue_replay.specs.Counting.{HasDraftRoom, page_draft_view, if_left, if_came, stretched, IsWithin};
+ghost use Rattle.queue_replay.specs.Counting.{HasDraftRoom, page_draft_view, if_left, if_came, stretched};
+ghost use Rattle.queue_replay.specs.Stretches.{IsWithin};
 ghost use Rattle.queue_replay.specs.TaskList.{cost_of};
 
-use crate::counting::{add_pick, add_stretch, add_tally};
 use crate::room::push_in;
+use crate::tally_book::TallyBook;
 use cfs_model::{Memory, Task, Way};
-use replay_model::{Deed, LifeEvent, Step, StepFault, Tally, Ticket};
+use replay_model::{Deed, LifeEvent, Step, StepFault, Ticket};
 
 /// What the page of a replay will show, so far.
 #[derive(Drop)]
@@ -22,7 +24,7 @@ pub(crate) struct PageDraft {
     pub births: Vec<LifeEvent>,
     pub deaths: Vec<LifeEvent>,
     /// One for each pid that stood here, in the order in which they first did.
-    pub tallies: Vec<Tally>,
+    pub tallies: TallyBook,
 }
 
 impl PageDraft {
@@ -34,14 +36,14 @@ impl PageDraft {
         match deed {
             Deed::Switch { .. } => self.deaths.reserve(1)?,
             Deed::Wake { .. } => {}
-            Deed::Born { .. } => {
+            Deed::Born { pid, .. } => {
                 self.births.reserve(1)?;
-                self.tallies.reserve(1)?;
+                self.tallies.make_room(pid)?;
             }
             Deed::Leave { .. } => self.left.reserve(1)?,
-            Deed::Arrive { .. } => {
+            Deed::Arrive { pid, .. } => {
                 self.came.reserve(1)?;
-                self.tallies.reserve(1)?;
+                self.tallies.make_room(pid)?;
             }
         }
         Ok(())
@@ -51,13 +53,13 @@ impl PageDraft {
     pub fn note_stretch(&mut self, runner: Option<Task>, time: u64, steps: usize)
         requires fits { IfSome runner (λ t. cost_of time t ≤ greatest) }
         requires few { steps < 2 ^ 64 - 1 }
-        requires within { All (IsWithin steps) self.old.tallies.items }
-        ensures tallies { self.new.tallies.items ≡ stretched runner time self.old.tallies.items }
-        ensures room { (vec_len self.new.tallies ≡ vec_len self.old.tallies) × (vec_capacity self.new.tallies ≡ vec_capacity self.old.tallies) }
+        requires within { All (IsWithin steps) self.old.tallies.list.items }
+        ensures tallies { self.new.tallies.list.items ≡ stretched runner time self.old.tallies.list.items }
+        ensures room { (deed : DeedOf) → HasDraftRoom deed self.old → HasDraftRoom deed self.new }
         ensures same { (self.new.line ≡ self.old.line) × (self.new.fault ≡ self.old.fault) × (self.new.left ≡ self.old.left) × (self.new.came ≡ self.old.came) × (self.new.births ≡ self.old.births) × (self.new.deaths ≡ self.old.deaths) }
     {
         if let Some(task) = runner {
-            add_stretch(self.tallies.as_mut_slice(), task, time, steps);
+            self.tallies.add_stretch(task, time, steps);
         }
     }
 
@@ -66,14 +68,14 @@ impl PageDraft {
     pub fn note(&mut self, step: &Step, ticket: Option<Ticket>, steps: usize)
         requires room { HasDraftRoom step.now.deed self.old }
         requires few { steps < 2 ^ 64 - 1 }
-        requires within { All (λ tally. tally.picks ≤ steps) self.old.tallies.items }
+        requires within { All (λ tally. tally.picks ≤ steps) self.old.tallies.list.items }
         ensures line { self.new.line ≡ step.now.line }
         ensures fault { self.new.fault ≡ self.old.fault }
         ensures left { self.new.left.items ≡ self.old.left.items ++ if_left step.now.deed ticket }
         ensures came { self.new.came.items ≡ self.old.came.items ++ if_came step.now.deed ticket }
         ensures births { self.new.births.items ≡ self.old.births.items ++ births_of step.now.line step.now.deed }
         ensures deaths { self.new.deaths.items ≡ self.old.deaths.items ++ deaths_of step.now.line step.now.deed }
-        ensures tallies { self.new.tallies.items ≡ tallied step.now.deed self.old.tallies.items }
+        ensures tallies { self.new.tallies.list.items ≡ tallied step.now.deed self.old.tallies.list.items }
     {
         self.line = step.line;
         let deed = step.deed;
@@ -86,7 +88,7 @@ impl PageDraft {
             } => {
                 self.note_end(step.line, prev, way);
                 if next != 0 {
-                    add_pick(self.tallies.as_mut_slice(), next, steps);
+                    self.tallies.add_pick(next, steps);
                 }
             }
             Deed::Wake { .. } => {}
@@ -98,7 +100,7 @@ impl PageDraft {
                         pid,
                     },
                 );
-                add_tally(&mut self.tallies, pid);
+                self.tallies.add(pid);
             }
             Deed::Leave { .. } => {
                 if let Some(ticket) = ticket {
@@ -109,7 +111,7 @@ impl PageDraft {
                 if let Some(ticket) = ticket {
                     push_in(&mut self.came, ticket);
                 }
-                add_tally(&mut self.tallies, pid);
+                self.tallies.add(pid);
             }
         }
     }

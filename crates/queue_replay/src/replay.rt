@@ -10,6 +10,7 @@ use crate::page_draft::PageDraft;
 use crate::replay_state::ReplayState;
 use crate::running::{run, start};
 use crate::state::State;
+use crate::tally_book::TallyBook;
 use cfs_model::{Knobs, Memory};
 use sched_record::Stream;
 use std::alloc::Global;
@@ -114,6 +115,7 @@ impl Replay {
             deaths,
             tallies,
         } = draft;
+        let TallyBook { list, .. } = tallies;
         Page {
             stream,
             knobs,
@@ -124,7 +126,7 @@ impl Replay {
             came: Tickets::from_vec(came),
             births: LifeEvents::from_vec(births),
             deaths: LifeEvents::from_vec(deaths),
-            tallies: Tallies::from_vec(tallies),
+            tallies: Tallies::from_vec(list),
         }
     }
 }

@@ -1,17 +1,16 @@
 ghost use Rattle.std.specs.Prelude.{◌≡◌, ◌+◌, ◌<◌, ◌≤◌, true, false, None, IsSome, ◌⊎◌, map, length, OnOk, OnErr, IfOk};
-ghost use Rattle.replay_model.specs.Noted.{new_tally};
 ghost use Rattle.replay_model.specs.Page.{IsStartOf, end_page};
 ghost use Rattle.queue_replay.specs.Counting.{page_draft_view};
 ghost use Rattle.queue_replay.specs.ReplayState.{IsGoing, replay_state_view};
 ghost use Rattle.queue_replay.specs.Made.{IsAt, IsCut, GoesOn};
 ghost use Rattle.sched_record.specs.Stream.{stream_view};
 
-use crate::counting::new_tally;
 use crate::page_draft::PageDraft;
 use crate::replay_state::{ReplayState, idle_deadline, since_after};
 use crate::runqueue::Runqueue;
-use cfs_model::{Kind, Knobs, Memory, Task};
-use replay_model::{StepFault, Tally};
+use crate::tally_book::TallyBook;
+use cfs_model::{Kind, Knobs, Memory};
+use replay_model::StepFault;
 use sched_record::Stream;
 use std::alloc::Global;
 
@@ -115,14 +114,7 @@ fn before_steps(alloc: Global, stream: &Stream) -> Result<ReplayState, Memory>
             came: Vec::new(alloc),
             births: Vec::new(alloc),
             deaths: Vec::new(alloc),
-            tallies: new_tallies(alloc, stream.tasks())?,
+            tallies: TallyBook::of_tasks(alloc, stream.tasks())?,
         },
     })
-}
-
-/// A tally for each task, of one that has done nothing yet.
-fn new_tallies(alloc: Global, tasks: &[Task]) -> Result<Vec<Tally>, Memory>
-    ensures { IfOk result (λ tallies. tallies.items ≡ map (λ task. new_tally task.pid) tasks.now) }
-{
-    Ok(tasks.iter().map(|task| new_tally(task.pid)).collect(alloc)?)
 }

@@ -1,6 +1,6 @@
 use Rattle.std.proofs.Common.{◌≡◌, List, All, sym, subst, refl, rules}
 use Rattle.replay_model.specs.declared.page.Tally.{Tally}
-use Rattle.queue_replay.specs.Counting.{IsWithin}
+use Rattle.queue_replay.specs.Stretches.{IsWithin}
 use Rattle.queue_replay.specs.TaskList.{EachOnce}
 use Rattle.queue_replay.proofs.Starts.{once_from, kept_from, new_within}
 use Rattle.queue_replay.proofs.running.before_steps.Goals as goal
@@ -19,5 +19,5 @@ returns-clause-going c =
     record {
       fault = refl;
       kept = kept_from _ stream.tasks e stream.share.pids_rise stream.share.one_runs;
-      within = subst W (sym c.in_ok-new_tallies.ensures) (new_within c.tasks-2.result.now);
+      within = subst W (sym c.in_ok-of_tasks.ensures) (new_within c.tasks-2.result.now);
     }

@@ -1,7 +1,8 @@
 use Rattle.std.proofs.Common.{◌≡◌, ◌∙◌, ◌+◌, List, All, Some, None, sym, ap, subst, inr, refl}
 use Rattle.std.specs.List.{find}
 use Rattle.replay_model.specs.declared.page.Tally.{Tally}
-use Rattle.queue_replay.specs.Counting.{IsWithin, stretched}
+use Rattle.queue_replay.specs.Counting.{stretched}
+use Rattle.queue_replay.specs.Stretches.{IsWithin}
 use Rattle.queue_replay.specs.Queue.{runqueue_view, OneRunsHere}
 use Rattle.queue_replay.specs.TaskList.{runs}
 use Rattle.queue_replay.proofs.Counts.{charged_same}
@@ -42,7 +43,7 @@ note_stretch-requires-clause-fits c =
     let q = old.queue in
     (noted_ran q.tasks.items q.floor q.mark c.args.step.now.time c.saturating_sub-time.result old.made c.requires.going.kept.once
     c.in_default.ensures.in_range c.saturating_sub-time.ensures c.saturating_sub-time.type_inv c.runner_of-runner.result
-    (c.runner_of-runner.ensures ∙ ap (find runs) c.as_slice.ensures.value) old.draft.tallies.items c.requires.going.within).0
+    (c.runner_of-runner.ensures ∙ ap (find runs) c.as_slice.ensures.value) old.draft.tallies.list.items c.requires.going.within).0
 
 pub note-requires-clause-within : goal.note-requires-clause-within
 note-requires-clause-within c =
@@ -50,9 +51,9 @@ note-requires-clause-within c =
     let q = old.queue in
     let ran = (noted_ran q.tasks.items q.floor q.mark c.args.step.now.time c.saturating_sub-time.result old.made c.requires.going.kept.once
     c.in_default.ensures.in_range c.saturating_sub-time.ensures c.saturating_sub-time.type_inv c.runner_of-runner.result
-    (c.runner_of-runner.ensures ∙ ap (find runs) c.as_slice.ensures.value) old.draft.tallies.items c.requires.going.within).1 in
+    (c.runner_of-runner.ensures ∙ ap (find runs) c.as_slice.ensures.value) old.draft.tallies.list.items c.requires.going.within).1 in
     let P : List Tally → Type 0 = λ l. All (IsRan old.made) l in
-    ran_picks old.made c.note_stretch.new.self.tallies.items (subst P (sym c.note_stretch.ensures.tallies) ran)
+    ran_picks old.made c.note_stretch.new.self.tallies.list.items (subst P (sym c.note_stretch.ensures.tallies) ran)
 
 pub returns-clause-passes : goal.returns-clause-passes
 returns-clause-passes c _ =
@@ -66,7 +67,7 @@ returns-clause-passes c _ =
     let mid = c.note_stretch.new.self in
     let s = c.note_stretch.ensures.same in
     let ran = (noted_ran q.tasks.items q.floor q.mark step.time c.saturating_sub-time.result old.made c.requires.going.kept.once
-    l.in_range c.saturating_sub-time.ensures c.saturating_sub-time.type_inv c.runner_of-runner.result e old.draft.tallies.items c.requires.going.within).1 in
+    l.in_range c.saturating_sub-time.ensures c.saturating_sub-time.type_inv c.runner_of-runner.result e old.draft.tallies.list.items c.requires.going.within).1 in
     let P : List Tally → Type 0 = λ x. All (IsRan old.made) x in
     let W : List Tally → Type 0 = λ x. All (IsWithin (old.made + 1)) x in
     let changed : runqueue_view c.make.new.queue ≡ _ = m.part refl in
@@ -84,9 +85,9 @@ returns-clause-passes c _ =
         page = page_is old.draft mid c.note.new.self (runqueue_view q) lifted step c.ticket_of-ticket.result c.requires.going.fault
             (record { line = s.0; fault = s.1; left = s.2; came = s.3; births = s.4; deaths = s.5 })
             (c.note_stretch.ensures.tallies
-            ∙ ap (λ n. stretched c.runner_of-runner.result n old.draft.tallies.items) c.saturating_sub-time.ensures
+            ∙ ap (λ n. stretched c.runner_of-runner.result n old.draft.tallies.list.items) c.saturating_sub-time.ensures
             ∙ sym (charged_same q.tasks.items q.floor q.mark step.time c.requires.going.kept.once c.requires.going.kept.one_runs
-            c.runner_of-runner.result e old.draft.tallies.items))
+            c.runner_of-runner.result e old.draft.tallies.list.items))
             c.ticket_of-ticket.ensures
             (let n = c.note.ensures in record {
               line = n.line;
@@ -104,5 +105,5 @@ returns-clause-passes c _ =
             (one_after lifted step.deed step.claim (lifted_one step.time (runqueue_view q) lifted l.lifted c.requires.going.kept.one_runs)
             (c.in_default-first_queue_test.ensures.runner refl));
       };
-      within = subst W (sym c.note.ensures.tallies) (tallied_within old.made step.deed mid.tallies.items (subst P (sym c.note_stretch.ensures.tallies) ran));
+      within = subst W (sym c.note.ensures.tallies) (tallied_within old.made step.deed mid.tallies.list.items (subst P (sym c.note_stretch.ensures.tallies) ran));
     }

@@ -1,0 +1,119 @@
+ghost use Rattle.std.specs.Prelude.{◌≡◌, ◌≢◌, ℕ, ◌-◌, ◌^◌, ◌<◌, ◌≤◌, None, Some, IfOk, OnOk, [], map, get_or, length, All};
+ghost use Rattle.cfs_model.specs.Charge.{greatest};
+ghost use Rattle.replay_model.specs.Noted.{new_tally, with_tally};
+ghost use Rattle.replay_model.specs.declared.page.Tally.{Tally as TallyOf};
+ghost use Rattle.queue_replay.specs.Places.{IsPlaced, IsPlaced-prop, HasTallyRoom};
+ghost use Rattle.queue_replay.specs.Stretches.{ran_tally, picked_tally, IsWithin};
+ghost use Rattle.queue_replay.specs.TaskList.{cost_of, RisesByPid};
+
+use crate::counting::{add_run, cost_of, new_tally, pick};
+use crate::room::push_in;
+use cfs_model::{Memory, Task};
+use replay_model::Tally;
+use std::alloc::Global;
+use std::collections::BTreeMap;
+
+/// What each task did at a processor, found by its pid.
+#[derive(Drop)]
+pub(crate) struct TallyBook {
+    /// One for each pid that stood here, in the order in which they first did.
+    pub list: Vec<Tally>,
+    /// Where in the list the tally of a pid is; at its end that of a pid for which room is made.
+    pub places: BTreeMap<u32, usize>,
+    pub ghost placed: { IsPlaced list.items places } by { IsPlaced-prop list.items places },
+}
+
+impl TallyBook {
+    /// A tally for each task, of one that has done nothing yet.
+    pub fn of_tasks(alloc: Global, tasks: &[Task]) -> Result<TallyBook, Memory>
+        requires { RisesByPid tasks.now }
+        ensures { IfOk result (λ book. book.list.items ≡ map (λ task. new_tally task.pid) tasks.now) }
+    {
+        let mut book = TallyBook::empty(alloc);
+        for task in tasks {
+            book.make_room(task.pid)?;
+            book.add(task.pid);
+        }
+        Ok(book)
+    }
+
+    /// No tally.
+    fn empty(alloc: Global) -> TallyBook
+        ensures { result.list.items ≡ [] }
+    {
+        TallyBook {
+            list: Vec::new(alloc),
+            places: BTreeMap::new(alloc),
+        }
+    }
+
+    /// Makes the growth that a tally of the pid needs, if it has none.
+    pub fn make_room(&mut self, pid: u32) -> Result<(), Memory>
+        ensures room { OnOk result (HasTallyRoom pid self.new.list self.new.places) }
+        ensures same { self.new.list.items ≡ self.old.list.items }
+    {
+        self.list.reserve(1)?;
+        match self.place_of(pid) {
+            Some(_) => {}
+            None => {
+                let place = self.list.len();
+                self.places.insert(pid, place)?;
+            }
+        }
+        Ok(())
+    }
+
+    /// Where in the list the tally of the pid is, if it has one.
+    fn place_of(&self, pid: u32) -> Option<usize>
+        ensures found { (place : ℕ) → result ≡ Some place → (place < length self.now.list.items) × ((d : TallyOf) → (get_or self.now.list.items place d).pid ≡ pid) }
+        ensures none { result ≡ None → All (λ tally. tally.pid ≢ pid) self.now.list.items }
+    {
+        let place = *self.places.get(&pid)?;
+        if place >= self.list.len() {
+            return None;
+        }
+        if self.list[place].pid == pid {
+            Some(place)
+        } else {
+            None
+        }
+    }
+
+    /// Lets the pid have a tally. Takes no memory.
+    pub fn add(&mut self, pid: u32)
+        requires { HasTallyRoom pid self.old.list self.old.places }
+        ensures { self.new.list.items ≡ with_tally pid self.old.list.items }
+    {
+        match self.place_of(pid) {
+            Some(_) => {}
+            None => push_in(&mut self.list, new_tally(pid)),
+        }
+    }
+
+    /// Adds a stretch of running, in nanoseconds, and its charge to the tally of the task. Each tally is that of at
+    /// most so many steps.
+    pub fn add_stretch(&mut self, task: Task, time: u64, steps: usize)
+        requires fits { cost_of time task ≤ greatest }
+        requires few { steps < 2 ^ 64 - 1 }
+        requires within { All (IsWithin steps) self.old.list.items }
+        ensures tallies { self.new.list.items ≡ map (ran_tally task.pid time (cost_of time task)) self.old.list.items }
+        ensures room { (pid : ℕ) → HasTallyRoom pid self.old.list self.old.places → HasTallyRoom pid self.new.list self.new.places }
+    {
+        let pid = task.pid;
+        let cost = cost_of(task, time);
+        if let Some(place) = self.place_of(pid) {
+            add_run(&mut self.list[place], pid, time, cost);
+        }
+    }
+
+    /// Adds a switch to the tally of the pid. Each tally is that of at most so many steps.
+    pub fn add_pick(&mut self, pid: u32, steps: usize)
+        requires few { steps < 2 ^ 64 - 1 }
+        requires within { All (λ tally. tally.picks ≤ steps) self.old.list.items }
+        ensures { self.new.list.items ≡ map (picked_tally pid) self.old.list.items }
+    {
+        if let Some(place) = self.place_of(pid) {
+            pick(&mut self.list[place], pid);
+        }
+    }
+}

@@ -1,17 +1,18 @@
 //! Crews of auditors: they run at once, hold no lock while they replay, and come to the verdict of one thread.
 
-use crate::machines::{DEATH_THEN_BIRTH, RECORDINGS};
+use crate::machines::{DEATH_THEN_BIRTH, IDLE_FOUND_LATE, RECORDINGS};
 use crate::verdicts::{record_of, told};
-use audit_crew::{Gate, OpenGate, audit, audit_serial, crew};
+use audit_crew::{Gate, OpenGate, Shelf, audit, audit_serial, auditor, crew};
 use cfs_model::Knobs;
 use companion_file::read_companion;
+use queue_replay::{Page, Reached, Tag};
 use sched_record::{Record, join, read_trace};
 use std::alloc::Global;
 use std::sync::atomic::{AtomicBool, AtomicU64, Ordering};
 use std::test::Fail;
 use std::thread;
 use std::time::{Clock, Duration};
-use ticket_book::Verdict;
+use ticket_book::{Book, NO_FAULT, PostFault, Verdict, whole_page};
 
 /// The number of turns, each of a millisecond, for which an auditor waits for the other.
 const LIMIT: u32 = 10000;
@@ -63,6 +64,60 @@ impl<C: Clock + Sync> Gate for Turnstile<'_, C> {
     }
 }
 
+/// A shelf over a book of its own.
+#[derive(Drop)]
+struct OwnShelf {
+    book: Book,
+    posted: Option<Tag>,
+    told: u64,
+    refused: Option<(Tag, PostFault)>,
+}
+
+impl OwnShelf {
+    ghost use Rattle.std.specs.Prelude.{◌≡◌, None};
+
+    fn new(book: Book) -> OwnShelf
+        ensures posted { result.posted ≡ None }
+        ensures refused { result.refused ≡ None }
+    {
+        OwnShelf {
+            book,
+            posted: None,
+            told: NO_FAULT,
+            refused: None,
+        }
+    }
+}
+
+impl Shelf for OwnShelf {
+    ghost use Rattle.std.specs.Option.{option_to_list};
+
+    ghost accepted = { λ shelf. option_to_list shelf.posted };
+
+    ghost told = { λ shelf. shelf.told };
+
+    ghost refused = { λ shelf. shelf.refused };
+
+    fn post(&mut self, page: Page) -> Result<(), (Page, PostFault)> {
+        let tag = page.tag();
+        match self.book.post(page) {
+            Ok(_least) => {
+                self.posted = Some(tag);
+                Ok(())
+            }
+            Err((page, fault)) => {
+                self.refused = Some((tag, fault));
+                Err((page, fault))
+            }
+        }
+    }
+
+    fn least(&mut self) -> u64 {
+        self.told = self.book.least();
+        self.told
+    }
+}
+
 /// Both processors run a task each from the start on, and either is woken 5000 times.
 fn ten_thousand_wakeups(alloc: Global) -> Result<Record, Fail> {
     let mut text = Vec::new(alloc);
@@ -77,6 +132,31 @@ fn ten_thousand_wakeups(alloc: Global) -> Result<Record, Fail> {
         b"cfs-companion 1\ncpus 2\nstart 100.000000\nfloor 0 0\nfloor 1 0\ntask 101 0 0 run 0\ntask 102 0 1 run 0\n",
     )?;
     Ok(join(trace, companion).ok().ok_or("they go together")?)
+}
+
+#[test]
+fn an_auditor_goes_on_to_its_fault(rt: HostRuntime) -> Result<(), Fail> {
+    let record = record_of(rt.alloc(), &RECORDINGS[IDLE_FOUND_LATE])?;
+    if record.cpus() != 2 {
+        return Err(Fail::from("two processors"));
+    }
+    let mut book = Book::new(rt.alloc(), 2)?;
+    let first = whole_page(rt.alloc(), &record, 0, Knobs::standard())?;
+    assert!(rt; book.post(first).is_ok());
+    let mut shelf = OwnShelf::new(book);
+    let stream = record.deal(1)?;
+    let answer = auditor(
+        rt.alloc(),
+        &mut shelf,
+        &OpenGate,
+        stream,
+        Knobs::standard(),
+        1,
+    );
+    assert!(rt; answer.is_ok());
+    let reached = Reached::Faulted(100);
+    assert_eq!(rt; shelf.posted, Some(Tag { cpu: 1, reached }));
+    Ok(())
 }
 
 #[test]

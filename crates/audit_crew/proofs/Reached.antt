@@ -1,7 +1,8 @@
 -- How far a replay went tells where its stream's replay has its first fault: past a fault no step changes anything, so
--- the page of the steps made is that of all steps.
-use Rattle.std.proofs.Common.{◌≡◌, ℕ, nat_le, nat_lt, if◌then◌else◌, Bool, true, false, Option, Some, None, IsSome, ◌⊎◌, inl, inr, List, [], ◌∷◌, length, take, drop, refl, sym, ap, ◌∙◌, subst, arith, rules, take-append-drop}
-use Rattle.std.proofs.lemmas.Bool.{false≢true, leb-true, le-leb}
+-- the page of the steps made is that of all steps. One that stopped did so at its last step's line.
+use Rattle.std.proofs.Common.{◌≡◌, ℕ, zero, suc, ◌<◌, ◌≤◌, nat_le, nat_lt, if◌then◌else◌, Bool, true, false, Option, Some, None, IsSome, ◌⊎◌, inl, inr, List, [], ◌∷◌, ◌++◌, length, take, drop, refl, sym, ap, ◌∙◌, subst, arith, rules, add-one, take-append-drop}
+use Rattle.std.specs.Prelude.{slice_get}
+use Rattle.std.proofs.lemmas.Bool.{false≢true, leb-true, le-leb, lt-ltb}
 use Rattle.std.proofs.lemmas.List.{take_all}
 use Rattle.cfs_model.specs.Settings.{Settings}
 use Rattle.replay_model.specs.Cut.{StreamView}
@@ -9,11 +10,11 @@ use Rattle.replay_model.specs.Noted.{PageView}
 use Rattle.replay_model.specs.Page.{ReplayStateView, IsReplayStep, IsReplay, IsPageOf, end_page}
 use Rattle.replay_model.specs.declared.page.StepFault.{StepFault}
 use Rattle.replay_model.specs.declared.step.Step.{Step}
-use Rattle.replay_model.proofs.Replayed.{IsReplay-append}
-use Rattle.queue_replay.specs.Made.{reached_at, reached_of}
+use Rattle.replay_model.proofs.Replayed.{IsReplay-append, first_passes}
+use Rattle.queue_replay.specs.Made.{IsFaultless, reached_at}
 use Rattle.queue_replay.specs.declared.tag.Reached.TheVariants.{Stopped, Done}
 use Rattle.queue_replay.specs.Replay.{ReplayView}
-use Rattle.audit_crew.specs.Tags.{IsReached, IsTagOf, IsThrough, tag_of}
+use Rattle.audit_crew.specs.Tags.{IsReached, IsStoppedAt, IsTagOf, IsThrough, tag_of}
 
 -- after a fault a replay goes on by any steps
 stays : (knobs : Settings) (cpu : ℕ) (s : ReplayStateView) (fault : StepFault) → s.page.fault ≡ Some fault
@@ -73,31 +74,83 @@ faulted_is_whole stream knobs made page fault is f = go (nat_le (length stream.s
               ∙ end_test knobs.slack stream is.end.since fault is.end.page);
         }
 
-reached : (stream : StreamView) (knobs : Settings) (made : ℕ) (page : PageView) (o : Option StepFault)
-    → IsPageOf stream knobs made page → page.fault ≡ o → IsSome o ⊎ (made ≡ length stream.steps)
-    → IsReached stream knobs (reached_at o page.line made (length stream.steps))
-reached stream knobs made page (Some fault) is f through = record {
+-- the last of some steps that a replay makes without a fault gives the line
+last_line : (knobs : Settings) (cpu : ℕ) (before : ReplayStateView) (steps : List Step) (step : Step)
+    (end : ReplayStateView) → IsReplay knobs cpu before (steps ++ step ∷ []) end → before.page.fault ≡ None
+    → end.page.fault ≡ None → end.page.line ≡ step.line
+last_line knobs cpu before [] step end r n e =
+    let p = first_passes knobs cpu before step r.0 [] end n r.1 r.2 e in
+    ap (λ y. y.page.line) r.2 ∙ ap (λ y. y.line) p.0.page
+last_line knobs cpu before (first ∷ steps) step end r n e =
+    let p = first_passes knobs cpu before first r.0 (steps ++ step ∷ []) end n r.1 r.2 e in
+    last_line knobs cpu r.0 steps step end r.2 p.1 e
+
+-- the first steps end with the one at the last of their places
+take_last : (steps : List Step) (place : ℕ) → place < length steps
+    → (step : Step) × (slice_get steps place ≡ Some step) × (take (suc place) steps ≡ take place steps ++ step ∷ [])
+take_last [] place h = absurd (omega arith)
+take_last (step ∷ steps) zero h = (step, refl, refl)
+take_last (first ∷ steps) (suc place) h =
+    let t = take_last steps place (omega arith) in (t.0, t.1, ap (λ xs. first ∷ xs) t.2)
+
+not_all : (n made : ℕ) → made < n → nat_le n made ≡ false
+not_all n made h = search rules
+
+-- a replay that stopped has passed its last step and each before it
+stopped : (stream : StreamView) (knobs : Settings) (made told : ℕ) (page : PageView)
+    → IsPageOf stream knobs made page → page.fault ≡ None → 0 < made → made < length stream.steps → told ≤ page.line
+    → IsStoppedAt stream knobs told page.line
+stopped stream knobs zero told page is f some left past = absurd (omega arith)
+stopped stream knobs (suc place) told page is f some left past =
+    let t = take_last stream.steps place (omega arith) in
+    let same : page ≡ is.end.page =
+    is.result ∙ ap (λ (b : Bool). if b then end_page knobs.slack stream is.end.since is.end.page.fault is.end.page
+    else is.end.page) (not_all (length stream.steps) (suc place) left) in
+    let replay = subst (λ steps. IsReplay knobs stream.cpu is.start steps is.end) t.2 is.replay in
+    record {
+      place = place;
+      step = t.0;
+      is_step = t.1;
+      at_line = sym (ap (λ p. p.line) same ∙ last_line knobs stream.cpu is.start (take place stream.steps) t.0 is.end
+          replay (ap (λ p. p.fault) is.is_start.page) (ap (λ p. p.fault) (sym same) ∙ f));
+      passes = subst (IsFaultless stream knobs) (sym (add-one place)) (page, is, f);
+      past = past;
+    }
+
+reached : (stream : StreamView) (knobs : Settings) (made told : ℕ) (page : PageView) (o : Option StepFault)
+    → IsPageOf stream knobs made page → page.fault ≡ o
+    → IsSome o ⊎ (made ≡ length stream.steps)
+    ⊎ ((0 < made) × (made < length stream.steps) × (o ≡ None) × (told ≤ page.line))
+    → IsReached stream knobs told (reached_at o page.line made (length stream.steps))
+reached stream knobs made told page (Some fault) is f through = record {
   page = page;
   is_page = faulted_is_whole stream knobs made page fault is f;
   fault = fault;
   is_fault = f;
   at_line = refl;
 }
-reached stream knobs made page None is f (inl some) = absurd (false≢true some)
-reached stream knobs made page None is f (inr all) =
-    subst (λ (n : ℕ). IsReached stream knobs (reached_at None page.line n (length stream.steps))) (sym all)
-    (subst (λ (b : Bool). IsReached stream knobs (if b then Stopped page.line else Done))
+reached stream knobs made told page None is f (inl some) = absurd (false≢true some)
+reached stream knobs made told page None is f (inr (inl all)) =
+    subst (λ (n : ℕ). IsReached stream knobs told (reached_at None page.line n (length stream.steps))) (sym all)
+    (subst (λ (b : Bool). IsReached stream knobs told (if b then Stopped page.line else Done))
     (sym (not_below (length stream.steps)))
     (page, subst (λ (n : ℕ). IsPageOf stream knobs n page) all is, f))
-
--- a replay that went to its first fault or to its end tells how far its stream's goes
-pub reached_through : (stream : StreamView) (knobs : Settings) (made : ℕ) (page : PageView)
-    → IsPageOf stream knobs made page → IsSome page.fault ⊎ (made ≡ length stream.steps)
-    → IsReached stream knobs (reached_of page made (length stream.steps))
-reached_through stream knobs made page is through = reached stream knobs made page page.fault is refl through
+reached stream knobs made told page None is f (inr (inr h)) =
+    subst (λ (b : Bool). IsReached stream knobs told (if b then Stopped page.line else Done))
+    (sym (lt-ltb made (length stream.steps) h.1))
+    (stopped stream knobs made told page is f h.0 h.1 h.3)
 
 -- a replay that went so far has a page with a tag that its stream's replay gives
-pub tag_through : (replay : ReplayView) → IsPageOf replay.stream replay.knobs replay.made replay.page
-    → IsThrough replay → IsTagOf replay.stream replay.knobs (tag_of replay)
-tag_through replay is through =
-    (refl, reached_through replay.stream replay.knobs replay.made replay.page is through)
+pub tag_through : (replay : ReplayView) (told : ℕ)
+    → IsPageOf replay.stream replay.knobs replay.made replay.page
+    → IsThrough replay told → IsTagOf replay.stream replay.knobs told (tag_of replay)
+tag_through replay told is through =
+    (refl, reached replay.stream replay.knobs replay.made told replay.page replay.page.fault is refl (how through))
+  where
+    how : IsThrough replay told
+        → IsSome replay.page.fault ⊎ (replay.made ≡ length replay.stream.steps)
+        ⊎ ((0 < replay.made) × (replay.made < length replay.stream.steps) × (replay.page.fault ≡ None)
+        × (told ≤ replay.page.line))
+    how (inl some) = inl some
+    how (inr (inl all)) = inr (inl all)
+    how (inr (inr h)) = inr (inr (h.some, h.left, h.no_fault, h.past))

@@ -1,10 +1,11 @@
 -- The tags of the pages that an auditor may post of a stream (this project's profile).
-use Rattle.std.specs.Prelude.{◌≡◌, ℕ, ◌⊎◌, Some, IsSome, List, [], ◌∷◌, length}
+use Rattle.std.specs.Prelude.{◌≡◌, ℕ, ◌+◌, ◌<◌, ◌≤◌, ◌⊎◌, None, Some, IsSome, List, [], ◌∷◌, length, slice_get}
 use Rattle.cfs_model.specs.Settings.{Settings}
 use Rattle.replay_model.specs.Cut.{StreamView}
 use Rattle.replay_model.specs.Noted.{PageView}
 use Rattle.replay_model.specs.Page.{IsPageOf}
 use Rattle.replay_model.specs.declared.page.StepFault.{StepFault}
+use Rattle.replay_model.specs.declared.step.Step.{Step}
 use Rattle.queue_replay.specs.Made.{IsFaultless, reached_of}
 use Rattle.queue_replay.specs.Replay.{ReplayView}
 use Rattle.queue_replay.specs.declared.tag.Reached.{Reached}
@@ -15,9 +16,18 @@ use Rattle.queue_replay.specs.declared.tag.Tag.{Tag}
 abbrev pub tag_of : ReplayView → Tag
 tag_of page = record { cpu = page.stream.cpu; reached = reached_of page.page page.made (length page.stream.steps) }
 
--- a replay has no step left, or its last one failed
-abbrev pub IsThrough : ReplayView → Type 0
-IsThrough replay = IsSome replay.page.fault ⊎ (replay.made ≡ length replay.stream.steps)
+-- a replay stopped on a line that isn't before the one told: it has made some steps, none of which failed, and some are
+-- left
+pub record HasStopped (replay : ReplayView) (told : ℕ) : Type 0 where
+  pub some : 0 < replay.made
+  pub left : replay.made < length replay.stream.steps
+  pub no_fault : replay.page.fault ≡ None
+  pub past : told ≤ replay.page.line
+
+-- a replay has no step left, or its last one failed, or it stopped
+abbrev pub IsThrough : ReplayView → ℕ → Type 0
+IsThrough replay told =
+    IsSome replay.page.fault ⊎ (replay.made ≡ length replay.stream.steps) ⊎ HasStopped replay told
 
 -- the replay of a stream by all its steps has a fault, at this line
 pub record IsFaultyAt (stream : StreamView) (knobs : Settings) (line : ℕ) : Type 0 where
@@ -27,16 +37,26 @@ pub record IsFaultyAt (stream : StreamView) (knobs : Settings) (line : ℕ) : Ty
   pub is_fault : page.fault ≡ Some fault
   pub at_line : fault.line ≡ line
 
--- how far the replay of a stream goes: to its first fault, or to its end; an auditor doesn't stop before
-abbrev pub IsReached : StreamView → Settings → Reached → Type 0
-IsReached stream knobs (Faulted line) = IsFaultyAt stream knobs line
-IsReached stream knobs Done = IsFaultless stream knobs (length stream.steps)
-IsReached stream knobs (Stopped line) = ⊥
+-- the replay of a stream passes a step of this line and each before it, and the line isn't before the one told
+pub record IsStoppedAt (stream : StreamView) (knobs : Settings) (told line : ℕ) : Type 0 where
+  pub place : ℕ
+  pub step : Step
+  pub is_step : slice_get stream.steps place ≡ Some step
+  pub at_line : step.line ≡ line
+  pub passes : IsFaultless stream knobs (place + 1)
+  pub past : told ≤ line
+
+-- how far an auditor goes in the replay of a stream, where a line was told to it last: to the replay's first fault, or to
+-- its end, or to a line that isn't before the one told
+abbrev pub IsReached : StreamView → Settings → ℕ → Reached → Type 0
+IsReached stream knobs told (Faulted line) = IsFaultyAt stream knobs line
+IsReached stream knobs told Done = IsFaultless stream knobs (length stream.steps)
+IsReached stream knobs told (Stopped line) = IsStoppedAt stream knobs told line
 
 -- a tag that the replay of a stream gives
-abbrev pub IsTagOf : StreamView → Settings → Tag → Type 0
-IsTagOf stream knobs tag = (tag.cpu ≡ stream.cpu) × IsReached stream knobs tag.reached
+abbrev pub IsTagOf : StreamView → Settings → ℕ → Tag → Type 0
+IsTagOf stream knobs told tag = (tag.cpu ≡ stream.cpu) × IsReached stream knobs told tag.reached
 
 -- just one tag, which the replay of a stream gives
-abbrev pub IsOneTag : StreamView → Settings → List Tag → Type 0
-IsOneTag stream knobs tags = (tag : Tag) × (tags ≡ tag ∷ []) × IsTagOf stream knobs tag
+abbrev pub IsOneTag : StreamView → Settings → ℕ → List Tag → Type 0
+IsOneTag stream knobs told tags = (tag : Tag) × (tags ≡ tag ∷ []) × IsTagOf stream knobs told tag

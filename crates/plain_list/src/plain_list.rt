@@ -1,6 +1,7 @@
-ghost use Rattle.std.specs.Prelude.{◌≡◌};
+ghost use Rattle.std.specs.Prelude.{◌≡◌, ◌↔◌, ◌<◌, [], ◌∷◌, ◌++◌, length, is_ok, IsSome, if◌then◌else◌};
+ghost use Rattle.std.specs.Option.{option_to_list};
 
-use std::alloc::Global;
+use std::alloc::{AllocFailed, Global};
 use std::marker::Model;
 
 /// A `Vec` without its capacity and its allocator: a contract sees its elements, and nothing else.
@@ -18,6 +19,15 @@ impl<T> Model for PlainList<T> {
 }
 
 impl<T> PlainList<T> {
+    /// A list of nothing. Takes no memory.
+    pub fn new(alloc: Global) -> Self
+        ensures { result ≡ [] }
+    {
+        Self {
+            items: Vec::new(alloc),
+        }
+    }
+
     /// Takes no memory.
     pub fn from_vec(items: Vec<T>) -> Self
         ensures { result ≡ items.items }
@@ -31,6 +41,21 @@ impl<T> PlainList<T> {
     {
         let PlainList { items } = self;
         items
+    }
+
+    /// Puts an element behind the last, unless a growth is refused.
+    pub fn push(&mut self, item: T) -> Result<(), AllocFailed<T>>
+        ensures { self.new ≡ (if is_ok result then self.old ++ item ∷ [] else self.old) }
+    {
+        self.items.push(item)
+    }
+
+    /// Takes the last element off, if there is one.
+    pub fn pop(&mut self) -> Option<T>
+        ensures items { self.old ≡ self.new ++ option_to_list result }
+        ensures variant { IsSome result ↔ (0 < length self.old) }
+    {
+        self.items.pop()
     }
 
     pub fn as_slice(&self) -> &[T]

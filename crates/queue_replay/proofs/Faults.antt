@@ -1,8 +1,8 @@
--- The fault that a step leaves on the page, and a state whose lists have grown.
+-- The fault that a step leaves on the page, and a state whose step was undone.
 use Rattle.std.proofs.Common.{◌≡◌, ◌≢◌, ℕ, ◌+◌, Option, None, inl, inr, refl, sym, ap, ◌∙◌, subst, All, List}
 use Rattle.replay_model.specs.Noted.{PageView}
 use Rattle.replay_model.specs.Page.{ReplayStateView, FailsTest, deadline_of, with_fault}
-use Rattle.replay_model.specs.Part.{Part, start_part}
+use Rattle.replay_model.specs.Part.{Part}
 use Rattle.cfs_model.specs.Settings.{Settings}
 use Rattle.cfs_model.specs.declared.kind.Kind.{Kind}
 use Rattle.cfs_model.specs.declared.kind.Kind.TheVariants.{IdleTooLong}
@@ -11,9 +11,8 @@ use Rattle.replay_model.specs.declared.page.Tally.{Tally}
 use Rattle.replay_model.specs.declared.step.Step.{Step}
 use Rattle.queue_replay.specs.Counting.{page_draft_view, faulted_page}
 use Rattle.queue_replay.specs.Stretches.{IsWithin}
-use Rattle.queue_replay.specs.ReplayState.{replay_state_view, IsGoing, IsPassed, IsStepped}
-use Rattle.queue_replay.specs.Queue.{runqueue_view, OneRunsHere}
-use Rattle.queue_replay.specs.TaskList.{EachOnce}
+use Rattle.queue_replay.specs.ReplayState.{replay_state_view, IsGoing, IsPassed, IsStepped, IsUndone}
+use Rattle.queue_replay.specs.Queue.{runqueue_view}
 use Rattle.queue_replay.specs.declared.replay_state.ReplayState.{ReplayState}
 
 -- a fault of another kind has no deadline
@@ -44,37 +43,27 @@ pub passed : (knobs : Settings) (cpu : ℕ) (old between new : ReplayState) (ste
     → new ≡ record between { made = old.made + 1 } → IsStepped knobs cpu (replay_state_view old) step new
 passed knobs cpu old between new step p e =
     subst (λ (c : ReplayState). IsStepped knobs cpu (replay_state_view old) step c) (sym e)
-    (inl (p.passes, record { fault = ap (λ x. x.fault) p.passes.page; kept = p.kept; within = p.within }))
+    (inl (p.passes, record { fault = ap (λ x. x.fault) p.passes.page; within = p.within }))
 
--- a state whose lists have grown stands where it did
-pub record IsGrown (old new : ReplayState) : Type 0 where
-  pub made : new.made ≡ old.made
-  pub tasks : new.queue.tasks.items ≡ old.queue.tasks.items
-  pub floor : new.queue.floor ≡ old.queue.floor
-  pub mark : new.queue.mark ≡ old.queue.mark
-  pub since : new.since ≡ old.since
-  pub noted : page_draft_view new.draft ≡ page_draft_view old.draft
-
-grown_part : (old new : ReplayState) → IsGrown old new → runqueue_view new.queue ≡ runqueue_view old.queue
-grown_part old new g =
-    ap (λ l. start_part l new.queue.floor new.queue.mark) g.tasks
-    ∙ ap (λ x. start_part old.queue.tasks.items x new.queue.mark) g.floor
-    ∙ ap (λ x. start_part old.queue.tasks.items old.queue.floor x) g.mark
-
-pub grown_progress : (old new : ReplayState) → IsGrown old new → replay_state_view new ≡ replay_state_view old
-grown_progress old new g =
-    ap (λ (p : Part). record { part = p; since = new.since; page = page_draft_view new.draft }) (grown_part old new g)
+-- a step that was undone
+pub undone_state : (old new : ReplayState) → IsUndone old new → replay_state_view new ≡ replay_state_view old
+undone_state old new g =
+    ap (λ (p : Part). record { part = p; since = new.since; page = page_draft_view new.draft }) g.part
     ∙ ap (λ (o : Option ℕ). record { part = runqueue_view old.queue; since = o; page = page_draft_view new.draft }) g.since
     ∙ ap (λ (p : PageView). record { part = runqueue_view old.queue; since = old.since; page = p }) g.noted
 
-pub grown_going : (old new : ReplayState) → IsGrown old new → IsGoing old → IsGoing new
-grown_going old new g h =
+pub undone_going : (old new : ReplayState) → IsUndone old new → IsGoing old → IsGoing new
+undone_going old new g h =
     let W : ℕ → List Tally → Type 0 = λ n l. All (IsWithin n) l in
     record {
       fault = ap (λ p. p.fault) g.noted ∙ h.fault;
-      kept = record {
-        once = subst EachOnce (sym g.tasks) h.kept.once;
-        one_runs = subst OneRunsHere (sym (grown_part old new g)) h.kept.one_runs;
-      };
       within = subst (λ n. W n new.draft.tallies.list.items) (sym g.made) (subst (W old.made) (sym (ap (λ p. p.tallies) g.noted)) h.within);
     }
+
+pub undone_both : (old mid new : ReplayState) → IsUndone old mid → IsUndone mid new → IsUndone old new
+undone_both old mid new g h = record {
+  made = h.made ∙ g.made;
+  part = h.part ∙ g.part;
+  since = h.since ∙ g.since;
+  noted = h.noted ∙ g.noted;
+}

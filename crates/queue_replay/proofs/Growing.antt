@@ -1,24 +1,20 @@
--- How far the tallies have grown after a step, and that the lift keeps who runs.
-use Rattle.std.proofs.Common.{◌≡◌, ℕ, zero, suc, ◌+◌, ◌*◌, ◌^◌, ◌-◌, ◌<◌, ◌≤◌, Bool, true, false, cond, eqb, List, [], ◌∷◌, ◌++◌, All, Option, Some, None, option_map, IfSome, ℤ, refl, sym, ◌∙◌, subst, arith, inl, inr}
-use Rattle.std.specs.List.{list_any, find}
+-- How far the tallies have grown after a step.
+use Rattle.std.proofs.Common.{◌≡◌, ℕ, zero, suc, ◌+◌, ◌*◌, ◌^◌, ◌-◌, ◌<◌, ◌≤◌, Bool, true, false, cond, eqb, List, [], ◌∷◌, ◌++◌, All, Option, Some, None, IfSome, sym, subst, arith, inl, inr}
+use Rattle.std.specs.List.{list_any}
 use Rattle.std.proofs.lemmas.Bool.{cases_lt}
 use Rattle.std.proofs.lemmas.List.Elements.{All-map, All-weaker, All-push}
 use Rattle.cfs_model.specs.Charge.{greatest}
 use Rattle.replay_model.specs.Noted.{with_tally, new_tally, tallied}
-use Rattle.replay_model.specs.Part.{Part, Entity, start_part, charged_in, IsIn, IsLiftedPart}
+use Rattle.replay_model.specs.Part.{Part}
 use Rattle.replay_model.specs.QueueTests.{IsOutOfRange}
 use Rattle.replay_model.specs.declared.page.Tally.{Tally}
 use Rattle.replay_model.specs.declared.step.Deed.{Deed}
 use Rattle.replay_model.specs.declared.step.Deed.TheVariants.{Switch, Wake, Born, Leave, Arrive}
-use Rattle.cfs_model.specs.declared.task.Place.TheVariants.{Run}
 use Rattle.cfs_model.specs.declared.task.Task.{Task}
 use Rattle.queue_replay.specs.Counting.{stretched}
 use Rattle.queue_replay.specs.Stretches.{ran_tally, picked_tally, IsWithin}
-use Rattle.queue_replay.specs.Queue.{OneRunsHere}
-use Rattle.queue_replay.specs.TaskList.{runs, cost_of, entity_of, EachOnce}
-use Rattle.queue_replay.proofs.Answered.{place_eq-true}
-use Rattle.queue_replay.proofs.Counts.{find_some}
-use Rattle.queue_replay.proofs.Parts.{stands_each}
+use Rattle.queue_replay.specs.Queue.{IsTheRunner}
+use Rattle.queue_replay.specs.Tasks.{cost_of, entity_of}
 
 -- a tally with its last stretch, before a pick
 abbrev pub IsRan : ℕ → Tally → Type 0
@@ -76,38 +72,20 @@ tallied_within steps (Leave pid nice dest) tallies w = all_within steps tallies 
 tallied_within steps (Arrive pid nice orig) tallies w = with_within steps pid tallies w
 
 -- where nobody is out of range, the runner's charge fits
-pub runner_fits : (tasks : List Task) (floor : ℤ) (mark time : ℕ) → EachOnce tasks → ((pid : ℕ) → ¬ IsOutOfRange (start_part tasks floor mark) time pid)
-    → (runner : Option Task) → runner ≡ find runs tasks → IfSome runner (λ t. cost_of (time - mark) t ≤ greatest)
-runner_fits tasks floor mark time once in_range None e = tt
-runner_fits tasks floor mark time once in_range (Some t) e =
-    let f = find_some runs tasks t (sym e) in
-    elim (cases_lt greatest (cost_of (time - mark) t)) [
-      | inl far ↦ absurd (in_range t.pid (record {
-        task = entity_of t;
-        stands = stands_each tasks once t f.0;
-        runs = place_eq-true t.place Run f.1;
-        above = inl far;
-      }))
+runner_fits : (part : Part) (time : ℕ) → ((pid : ℕ) → ¬ IsOutOfRange part time pid) → (runner : Option Task) → IsTheRunner part runner
+    → IfSome runner (λ t. cost_of (time - part.mark) t ≤ greatest)
+runner_fits part time in_range None ran = tt
+runner_fits part time in_range (Some t) ran =
+    elim (cases_lt greatest (cost_of (time - part.mark) t)) [
+      | inl far ↦ absurd (in_range t.pid (record { task = entity_of t; stands = ran.0; runs = ran.1; above = inl far }))
       | inr near ↦ near
     ]
 
--- the lift lets the same task run
-pub lifted_one : (time : ℕ) (part lifted : Part) → IsLiftedPart time part lifted → OneRunsHere part → OneRunsHere lifted
-lifted_one time part lifted l one p q h k = one p q (was p h) (was q k)
-  where
-    back : (o : Option Entity) → option_map (λ (s : Entity). s.place) (option_map (charged_in part time) o) ≡ option_map (λ (s : Entity). s.place) o
-    back None = refl
-    back (Some s) = refl
-
-    was : (r : ℕ) → IsIn lifted Run r → IsIn part Run r
-    was r i = sym (back (part.tasks r)) ∙ subst (λ (x : Part). IsIn x Run r) l.result i
-
 -- the runner's stretch, and what is picked and noted after it
-pub noted_ran : (tasks : List Task) (floor : ℤ) (mark time ran steps : ℕ) → EachOnce tasks
-    → ((pid : ℕ) → ¬ IsOutOfRange (start_part tasks floor mark) time pid) → ran ≡ time - mark → ran < 2 ^ 64
-    → (runner : Option Task) → runner ≡ find runs tasks → (tallies : List Tally) → All (IsWithin steps) tallies
+pub noted_ran : (part : Part) (time ran steps : ℕ) → ((pid : ℕ) → ¬ IsOutOfRange part time pid) → ran ≡ time - part.mark → ran < 2 ^ 64
+    → (runner : Option Task) → IsTheRunner part runner → (tallies : List Tally) → All (IsWithin steps) tallies
     → IfSome runner (λ t. cost_of ran t ≤ greatest) × All (IsRan steps) (stretched runner ran tallies)
-noted_ran tasks floor mark time ran steps once in_range is short runner e tallies w =
+noted_ran part time ran steps in_range is short runner e tallies w =
     let P : ℕ → Type 0 = λ n. IfSome runner (λ t. cost_of n t ≤ greatest) in
-    let fits : P ran = subst P (sym is) (runner_fits tasks floor mark time once in_range runner e) in
+    let fits : P ran = subst P (sym is) (runner_fits part time in_range runner e) in
     (fits, stretched_ran steps ran runner tallies (omega arith) fits w)

@@ -1,167 +1,252 @@
--- Charging the tasks and raising the floor is the charge and the lift of the part.
-use Rattle.std.proofs.Common.{◌≡◌, ◌≢◌, ℕ, zero, suc, ◌-◌, ◌<◌, ◌≤◌, Bool, true, false, not, cond, List, [], ◌∷◌, map, All, Contains, Option, Some, None, option_map, ℤ, pos, ◌+ℤ◌, ◌≤ℤ◌, ◌<ℤ◌, ◌⊎◌, inl, inr, refl, sym, ap, ◌∙◌, subst, arith}
-use Rattle.std.specs.List.{filter}
-use Rattle.std.proofs.lemmas.Bool.{cond-true, cond-false, cases_Bool, cases_lt}
-use Rattle.std.proofs.lemmas.Int.{ints}
-use Rattle.std.proofs.lemmas.List.Elements.{All-nil, All-cons, All-head, All-tail, All-same}
+-- Charging who runs and raising the floor is the charge and the lift of the part.
+use Rattle.std.proofs.Common.{◌≡◌, ◌≢◌, ℕ, ◌-◌, ◌<◌, ◌≤◌, false, IsTrue, List, [], ◌∷◌, length, Option, Some, None, option_map, ℤ, pos, ◌+ℤ◌, ◌≤ℤ◌, ◌<ℤ◌, ◌⊎◌, inl, inr, refl, sym, ap, ◌∙◌, subst, true≢false, arith}
+use Rattle.std.specs.BTreeMap.{BTreeMap, is_at}
+use Rattle.std.specs.BTreeSet.{BTreeSet, contains, IsLowerBound, btree_set_len}
+use Rattle.std.specs.Int.{int_min}
+use Rattle.std.specs.List.{list_any}
+use Rattle.std.specs.Map.{lookup}
+use Rattle.std.specs.Ordering.{nat_cmp, int_cmp, MatchOrdering}
+use Rattle.std.specs.declared.cmp.Ordering.{Ordering}
+use Rattle.std.specs.declared.cmp.Ordering.TheVariants.{Less, Equal, Greater}
+use Rattle.std.proofs.lemmas.Bool.{cases_lt, cases_eq}
+use Rattle.std.proofs.lemmas.Cmp.{int_ranked}
+use Rattle.std.proofs.lemmas.Int.{ints, clamps}
+use Rattle.std.proofs.lemmas.Option.{same_Some}
 use Rattle.cfs_model.specs.Charge.{greatest}
-use Rattle.replay_model.specs.Part.{Part, Entity, start_part, charged_part, charged_in, cost_in, IsQueuedHere, IsLeastHere, IsRaisedHere, IsLiftedPart}
+use Rattle.cfs_model.specs.Machine.{put}
+use Rattle.replay_model.specs.Part.{Part, Entity, NobodyIn, charged_part, charged_in, cost_in, runtime_after, IsLeastHere}
 use Rattle.replay_model.specs.QueueTests.{IsOutOfRange}
-use Rattle.cfs_model.specs.Start.{place_eq, task_of}
 use Rattle.cfs_model.specs.declared.task.Place.{Place}
 use Rattle.cfs_model.specs.declared.task.Place.TheVariants.{Run, Wait, Rest}
 use Rattle.cfs_model.specs.declared.task.Task.{Task}
-use Rattle.queue_replay.specs.TaskList.{runs, is_queued, queued_runtimes, cost_of, charged_task, CanBeCharged, IsRaisedBy, entity_of, EachOnce}
-use Rattle.queue_replay.proofs.Parts.{stands, task_standing, same_tasks, stands_each}
-use Rattle.queue_replay.proofs.TaskOf.{task_of-map, task_of-each, EachOnce-map}
+use Rattle.queue_replay.specs.Queue.{IsTheRunner, IsLeastOfWaiting, IsLeastWaiting, IsLeastQueued}
+use Rattle.queue_replay.specs.Standing.{by_runtime, listed, standing, runtime_if, waiting_runtime, IsOnlyRunner, IsQueue}
+use Rattle.queue_replay.specs.Tasks.{cost_of, charged_task, CanBeCharged, entity_of}
+use Rattle.queue_replay.proofs.Parts.{same_tasks, put-at, put-other}
+use Rattle.queue_replay.proofs.Standings.{queue_is, waiting_in, only_in, listed_in, listed_none, listed_some, is_listed, waits_where, the_runner, stays, only_runs, only_none, waiting_none, lower_runtime}
 
-queued-first : (t : Task) (tasks : List Task) → is_queued t ≡ true → queued_runtimes (t ∷ tasks) ≡ t.v ∷ queued_runtimes tasks
-queued-first t tasks e = ap (map (λ (u : Task). u.v)) (cond-true (is_queued t) (t ∷ filter is_queued tasks) (filter is_queued tasks) e)
+abbrev part_of : (ℕ → Option Entity) → ℤ → ℕ → Part
+part_of tasks floor mark = record { tasks = tasks; floor = floor; mark = mark }
 
-queued-later : (t : Task) (tasks : List Task) → is_queued t ≡ false → queued_runtimes (t ∷ tasks) ≡ queued_runtimes tasks
-queued-later t tasks e = ap (map (λ (u : Task). u.v)) (cond-false (is_queued t) (t ∷ filter is_queued tasks) (filter is_queued tasks) e)
+abbrev place_at : Option Entity → Option Place
+place_at o = option_map (λ s. s.place) o
 
--- what holds of each virtual runtime of those queued, by the tasks
-each_queued : (P : ℤ → Type 0) (tasks : List Task) → All P (queued_runtimes tasks) → All (λ t. is_queued t ≡ true → P t.v) tasks
-each_queued P [] each = All-nil (λ (t : Task). is_queued t ≡ true → P t.v)
-each_queued P (x ∷ xs) each =
-    elim (cases_Bool (is_queued x)) [
-      | inl yes' ↦ let all : All P (x.v ∷ queued_runtimes xs) = subst (λ (l : List ℤ). All P l) (queued-first x xs yes') each in
-          All-cons (λ t. is_queued t ≡ true → P t.v) x xs (λ _. All-head P x.v (queued_runtimes xs) all)
-          (each_queued P xs (All-tail P x.v (queued_runtimes xs) all))
-      | inr no' ↦ All-cons (λ t. is_queued t ≡ true → P t.v) x xs (λ e. absurd cc)
-          (each_queued P xs (subst (λ (l : List ℤ). All P l) (queued-later x xs no') each))
-    ]
+-- nobody stands in an empty map, and nobody waits in an empty set
+pub empty_queue : (m : BTreeMap ℕ Task) (a : BTreeSet (ℤ × ℕ)) → m.entries ≡ [] → a.keys ≡ [] → IsQueue None m a
+empty_queue m a e f =
+    let none : (q : ℕ) → listed m q ≡ None = λ q. ap (λ (es : List (ℕ × Task)). option_map entity_of (lookup (is_at (nat_cmp q)) es)) e in
+    queue_is None m a
+    (waiting_none (listed m) a none (λ k. ap (list_any (is_at (by_runtime k))) f))
+    (only_none (listed m) (λ q i. let h : None ≡ Some Run = sym (ap place_at (none q)) ∙ i in cc))
+    (listed_none m)
 
--- the first of a list is the one sought, or it is among the rest
-first_or_later : {A : Type 0} (x v : A) (xs : List A) → Contains (x ∷ xs) v → (x ≡ v) ⊎ Contains xs v
-first_or_later x v xs (zero, within, is) = inl is
-first_or_later x v xs (suc k, within, is) = inr (k, omega arith, is)
-
--- a task with a virtual runtime of those queued, and what holds of each task
-found : (Q : Task → Type 0) (tasks : List Task) (v : ℤ) → All Q tasks → Contains (queued_runtimes tasks) v
-    → (t : Task) × (is_queued t ≡ true) × (t.v ≡ v) × Q t
-found Q [] v each has = absurd (omega (arith, has.1))
-found Q (x ∷ xs) v each has =
-    elim (cases_Bool (is_queued x)) [
-      | inl yes' ↦ elim (first_or_later x.v v (queued_runtimes xs) (subst (λ (l : List ℤ). Contains l v) (queued-first x xs yes') has)) [
-        | inl is ↦ (x, yes', is, All-head Q x xs each)
-        | inr later ↦ found Q xs v (All-tail Q x xs each) later
-      ]
-      | inr no' ↦ found Q xs v (All-tail Q x xs each) (subst (λ (l : List ℤ). Contains l v) (queued-later x xs no') has)
-    ]
-
--- a task is queued where its place isn't rest
-queued_place : (p : Place) → p ≢ Rest → not (place_eq p Rest) ≡ true
-queued_place Run e = refl
-queued_place Wait e = refl
-queued_place Rest e = absurd (e refl)
-
-place_queued : (p : Place) → not (place_eq p Rest) ≡ true → p ≢ Rest
-place_queued Run e = λ f. cc
-place_queued Wait e = λ f. cc
-place_queued Rest e = absurd cc
-
--- one task, charged
-charged_entity : (part : Part) (time : ℕ) (t : Task) (p : Place)
-    → entity_of (charged_task (time - part.mark) (record t { place = p })) ≡ charged_in part time (entity_of (record t { place = p }))
-charged_entity part time t Run = refl
-charged_entity part time t Wait = refl
-charged_entity part time t Rest = refl
-
-pub charged-pid : (delta : ℕ) (t : Task) → (charged_task delta t).pid ≡ t.pid
-charged-pid delta t = go (runs t)
+-- one who waits
+waits_is : (o : Option Entity) (v : ℤ) → waiting_runtime o ≡ Some v → (s : Entity) × (o ≡ Some s) × (s.place ≡ Wait) × (s.runtime ≡ v)
+waits_is None v e = cc
+waits_is (Some s) v e = let h = go s.place e in (s, refl, h.0, h.1)
   where
-    go : (b : Bool) → (cond b (record t { v = t.v +ℤ pos (cost_of delta t) }) t).pid ≡ t.pid
-    go true = refl
-    go false = refl
+    go : (p : Place) → runtime_if p s.runtime ≡ Some v → (p ≡ Wait) × (s.runtime ≡ v)
+    go Run e = absurd cc
+    go Wait e = (refl, same_Some s.runtime v e)
+    go Rest e = absurd cc
 
-module _ (tasks : List Task) (floor : ℤ) (mark time : ℕ) (once : EachOnce tasks) where
-  part : Part
-  part = start_part tasks floor mark
+waiting_is : (o : Option Entity) (s : Entity) → o ≡ Some s → s.place ≡ Wait → waiting_runtime o ≡ Some s.runtime
+waiting_is o s e w = ap waiting_runtime e ∙ ap (λ p. runtime_if p s.runtime) w
 
-  abbrev charged_tasks : List Task
-  charged_tasks = map (charged_task (time - mark)) tasks
+no_keys : (a : BTreeSet (ℤ × ℕ)) → (0 < btree_set_len a → ⊥) → (k : ℤ × ℕ) → contains by_runtime a k ≡ false
+no_keys a none k = go a.keys none
+  where
+    go : (ks : List (ℤ × ℕ)) → (0 < length ks → ⊥) → list_any (is_at (by_runtime k)) ks ≡ false
+    go [] h = refl
+    go (x ∷ xs) h = absurd (h (omega arith))
 
-  pub charged_once : EachOnce charged_tasks
-  charged_once = EachOnce-map (charged_task (time - mark)) (charged-pid (time - mark)) tasks once
-
-  -- the charged tasks stand as the charged part has them
-  pub charged_stands : (pid : ℕ) → stands charged_tasks pid ≡ (charged_part (start_part tasks floor mark) time).tasks pid
-  charged_stands pid =
-      ap (option_map entity_of) (task_of-map (charged_task (time - mark)) (charged-pid (time - mark)) tasks pid)
-      ∙ go (task_of tasks pid)
-    where
-      go : (o : Option Task) → option_map entity_of (option_map (charged_task (time - mark)) o)
-          ≡ option_map (charged_in (start_part tasks floor mark) time) (option_map entity_of o)
-      go None = refl
-      go (Some t) = ap Some (charged_entity (start_part tasks floor mark) time t t.place)
-
-  by_queued : (P : ℤ → Type 0) → All P (queued_runtimes charged_tasks) → (pid : ℕ) (s : Entity)
-      → (charged_part (start_part tasks floor mark) time).tasks pid ≡ Some s → IsQueuedHere s → P s.runtime
-  by_queued P each pid s e queued =
-      let r = task_standing charged_tasks pid s (charged_stands pid ∙ e) in
-      let q : is_queued r.0 ≡ true = queued_place r.0.place (λ f. queued (ap (λ x. x.place) (sym r.2) ∙ f)) in
-      subst (λ (x : Entity). P x.runtime) r.2 (task_of-each (λ t. is_queued t ≡ true → P t.v) charged_tasks pid r.0 (each_queued P charged_tasks each) r.1 q)
-
-  is_least : (v : ℤ) → Contains (queued_runtimes charged_tasks) v → All (λ w. v ≤ℤ w) (queued_runtimes charged_tasks)
-      → IsLeastHere (charged_part (start_part tasks floor mark) time) v
-  is_least v has each =
-      let f = found (λ t. task_of charged_tasks t.pid ≡ Some t) charged_tasks v charged_once has in
-      let t = f.0 in
+module _ (runner : Option Task) (m : BTreeMap ℕ Task) (a : BTreeSet (ℤ × ℕ)) (floor : ℤ) (mark : ℕ) (kept : IsQueue runner m a) where
+  -- the first of the set is the least of those who wait
+  pub least_is : (k : ℤ × ℕ) → IsTrue (contains by_runtime a k) → IsLowerBound by_runtime a k → IsLeastOfWaiting (part_of (standing runner m) floor mark) k.0
+  least_is k member least =
+      let at = waits_where (standing runner m) a (waiting_in runner m a kept) in
+      let w = waits_is (standing runner m k.1) k.0 ((at k.0 k.1).0 member) in
       record {
-        pid = t.pid;
-        task = entity_of t;
-        stands = sym (charged_stands t.pid) ∙ ap (option_map entity_of) f.3;
-        queued = place_queued t.place f.1;
-        runtime = f.2;
-        least = by_queued (λ w. v ≤ℤ w) each;
+        pid = k.1;
+        task = w.0;
+        stands = w.1;
+        waits = w.2;
+        runtime = w.3;
+        least = λ other s e waits. lower_runtime k.0 s.runtime k.1 other (least (s.runtime, other) ((at s.runtime other).1 (waiting_is (standing runner m other) s e waits)));
       }
 
-  raised : (new : ℤ) → IsRaisedBy (queued_runtimes charged_tasks) floor new → IsRaisedHere (charged_part (start_part tasks floor mark) time) new
-  raised new (inl none) =
-      let P : ℤ → Type 0 = λ _. ⊥ in
-      inl ((λ pid s e queued. by_queued P (All-same P (queued_runtimes charged_tasks) [] none.0 (All-nil P)) pid s e queued), none.1)
-  raised new (inr least) = inr (least.0, is_least least.0 least.1.0 least.1.1, least.2)
-
-  -- the whole lift
-  pub lifted : (new : ℤ) → IsRaisedBy (queued_runtimes charged_tasks) floor new
-      → IsLiftedPart time (start_part tasks floor mark) (start_part (map (charged_task (time - mark)) tasks) new time)
-  lifted new by = record {
-    floor = new;
-    raised = raised new by;
-    result = same_tasks (stands charged_tasks) (charged_part (start_part tasks floor mark) time).tasks new time charged_stands;
-  }
-
-  runs_task : (t : Task) (s : Entity) → entity_of t ≡ s → s.place ≡ Run → runs t ≡ true
-  runs_task t s e r = ap (λ (x : Entity). place_eq x.place Run) e ∙ ap (λ p. place_eq p Run) r
-
-  -- where each task can be charged, none is out of range
-  pub none_above : All (CanBeCharged (time - mark)) tasks → (pid : ℕ) → ¬ IsOutOfRange (start_part tasks floor mark) time pid
-  none_above can pid o =
-      let r = task_standing tasks pid o.task o.stands in
-      let fits = task_of-each (CanBeCharged (time - mark)) tasks pid r.0 can r.1 (runs_task r.0 o.task r.2 o.runs) in
-      let above : (greatest < cost_of (time - mark) r.0) ⊎ (pos greatest <ℤ (r.0.v +ℤ pos (cost_of (time - mark) r.0)))
-      = subst (λ (s : Entity). (greatest < cost_in (start_part tasks floor mark) time s) ⊎ (pos greatest <ℤ (s.runtime +ℤ pos (cost_in (start_part tasks floor mark) time s)))) (sym r.2) o.above in
-      elim above [ inl far ↦ absurd (omega (arith, fits.0)) | inr far ↦ absurd (omega (arith, ints, fits.1)) ]
-
-  -- a task that can't be charged is out of range
-  pub above : (pid : ℕ) (t : Task) → Contains tasks t → t.pid ≡ pid → (CanBeCharged (time - mark) t → ⊥)
-      → IsOutOfRange (start_part tasks floor mark) time pid
-  above pid t has is cannot =
-      subst (λ x. IsOutOfRange (start_part tasks floor mark) time x) is (record {
-        task = entity_of t;
-        stands = stands_each tasks once t has;
-        runs = running t.place refl;
-        above = far (cases_lt greatest (cost_of (time - mark) t));
-      })
+  -- where the set is empty nobody waits
+  pub none_waits : (0 < btree_set_len a → ⊥) → NobodyIn (part_of (standing runner m) floor mark) Wait
+  none_waits none pid i =
+      go (standing runner m pid) refl i
     where
-      running : (p : Place) → t.place ≡ p → t.place ≡ Run
-      running Run e = e
-      running Wait e = absurd (cannot (λ r. let f : place_eq t.place Run ≡ false = ap (λ q. place_eq q Run) e in absurd cc))
-      running Rest e = absurd (cannot (λ r. let f : place_eq t.place Run ≡ false = ap (λ q. place_eq q Run) e in absurd cc))
+      go : (o : Option Entity) → standing runner m pid ≡ o → place_at o ≡ Some Wait → ⊥
+      go None e i = cc
+      go (Some s) e i =
+          let h = (waits_where (standing runner m) a (waiting_in runner m a kept) s.runtime pid).1 (waiting_is (standing runner m pid) s e (same_Some s.place Wait i)) in
+          true≢false (sym h ∙ no_keys a none (s.runtime, pid))
 
+-- who is queued runs or waits
+queued : (p : Place) → p ≢ Rest → (p ≡ Run) ⊎ (p ≡ Wait)
+queued Run ne = inl refl
+queued Wait ne = inr refl
+queued Rest ne = absurd (ne refl)
+
+run_queued : (p : Place) → p ≡ Run → p ≢ Rest
+run_queued p e f = let g : Run ≡ Rest = sym e ∙ f in cc
+
+wait_queued : (p : Place) → p ≡ Wait → p ≢ Rest
+wait_queued p e f = let g : Wait ≡ Rest = sym e ∙ f in cc
+
+-- the runner's virtual runtime is that of each who runs
+runner_only : (part : Part) (t : Task) → IsTheRunner part (Some t) → (pid : ℕ) (s : Entity) → part.tasks pid ≡ Some s → s.place ≡ Run → s.runtime ≡ t.v
+runner_only part t r pid s e runs =
+    let p : pid ≡ t.pid = r.2 pid (ap place_at e ∙ ap Some runs) in
+    ap (λ (x : Entity). x.runtime) (same_Some s (entity_of t) (sym e ∙ ap part.tasks p ∙ r.0))
+
+pub least_of_both : (part : Part) (t : Task) (v : ℤ) → IsTheRunner part (Some t) → IsLeastOfWaiting part v → IsLeastHere part (int_min v t.v)
+least_of_both part t v r w =
+    elim (cases_ℤ v t.v) [
+      | inl below ↦ record {
+        pid = w.pid;
+        task = w.task;
+        stands = w.stands;
+        queued = wait_queued w.task.place w.waits;
+        runtime = (let h = w.runtime in omega (arith, ints, clamps, below, h));
+        least = λ other s e q. each other s e (queued s.place q);
+      }
+      | inr above ↦ record {
+        pid = t.pid;
+        task = entity_of t;
+        stands = r.0;
+        queued = run_queued t.place r.1;
+        runtime = omega (arith, ints, clamps, above);
+        least = λ other s e q. each other s e (queued s.place q);
+      }
+    ]
+  where
+    cases_ℤ : (x y : ℤ) → (x ≤ℤ y) ⊎ (y <ℤ x)
+    cases_ℤ x y = go (int_cmp x y) (int_ranked x y (int_cmp x y) refl)
+      where
+        go : (o : Ordering) → MatchOrdering o (x <ℤ y) (x ≡ y) (y <ℤ x) → (x ≤ℤ y) ⊎ (y <ℤ x)
+        go Less h = inl (omega (arith, ints, h))
+        go Equal h = inl (omega (arith, ints, h))
+        go Greater h = inr h
+
+    each : (other : ℕ) (s : Entity) → part.tasks other ≡ Some s → (s.place ≡ Run) ⊎ (s.place ≡ Wait) → int_min v t.v ≤ℤ s.runtime
+    each other s e (inl runs) = let h = runner_only part t r other s e runs in omega (arith, ints, clamps, h)
+    each other s e (inr waits) = let h = w.least other s e waits in omega (arith, ints, clamps, h)
+
+pub least_of_runner : (part : Part) (t : Task) → IsTheRunner part (Some t) → NobodyIn part Wait → IsLeastHere part t.v
+least_of_runner part t r nobody = record {
+  pid = t.pid;
+  task = entity_of t;
+  stands = r.0;
+  queued = run_queued t.place r.1;
+  runtime = refl;
+  least = λ other s e q. each other s e (queued s.place q);
+}
+  where
+    each : (other : ℕ) (s : Entity) → part.tasks other ≡ Some s → (s.place ≡ Run) ⊎ (s.place ≡ Wait) → t.v ≤ℤ s.runtime
+    each other s e (inl runs) = let h = runner_only part t r other s e runs in omega (arith, ints, h)
+    each other s e (inr waits) = absurd (nobody other (ap place_at e ∙ ap Some waits))
+
+pub least_without_runner : (part : Part) (o : Option ℤ) → IsTheRunner part None → IsLeastWaiting part o → IsLeastQueued part o
+least_without_runner part None nobody none = λ pid s e q. each pid s e (queued s.place q)
+  where
+    each : (pid : ℕ) (s : Entity) → part.tasks pid ≡ Some s → (s.place ≡ Run) ⊎ (s.place ≡ Wait) → ⊥
+    each pid s e (inl runs) = nobody pid (ap place_at e ∙ ap Some runs)
+    each pid s e (inr waits) = none pid (ap place_at e ∙ ap Some waits)
+least_without_runner part (Some v) nobody w = record {
+  pid = w.pid;
+  task = w.task;
+  stands = w.stands;
+  queued = wait_queued w.task.place w.waits;
+  runtime = w.runtime;
+  least = λ other s e q. each other s e (queued s.place q);
+}
+  where
+    each : (pid : ℕ) (s : Entity) → part.tasks pid ≡ Some s → (s.place ≡ Run) ⊎ (s.place ≡ Wait) → v ≤ℤ s.runtime
+    each pid s e (inl runs) = absurd (nobody pid (ap place_at e ∙ ap Some runs))
+    each pid s e (inr waits) = w.least pid s e waits
+
+-- one who doesn't run isn't charged
+uncharged : (part : Part) (time : ℕ) (o : Option Entity) → (place_at o ≡ Some Run → ⊥) → o ≡ option_map (charged_in part time) o
+uncharged part time None ne = refl
+uncharged part time (Some s) ne = ap Some (go s.place (λ e. ne (ap Some e)))
+  where
+    go : (p : Place) → p ≢ Run → s ≡ record s { runtime = runtime_after p (cost_in part time s) s.runtime }
+    go Run ne = absurd (ne refl)
+    go Wait ne = refl
+    go Rest ne = refl
+
+-- nobody runs
+module _ (runner : Option Task) (m : BTreeMap ℕ Task) (a : BTreeSet (ℤ × ℕ)) (floor : ℤ) (mark time : ℕ) (kept : IsQueue runner m a) (none : runner ≡ None) where
+  nobody : NobodyIn (part_of (standing runner m) floor mark) Run
+  nobody = subst (IsTheRunner (part_of (standing runner m) floor mark)) none (the_runner runner m a floor mark kept)
+
+  pub idle_charged : part_of (standing runner m) floor time ≡ charged_part (part_of (standing runner m) floor mark) time
+  idle_charged =
+      same_tasks (standing runner m) (charged_part (part_of (standing runner m) floor mark) time).tasks floor time
+      (λ q. uncharged (part_of (standing runner m) floor mark) time (standing runner m q) (nobody q))
+
+  pub idle_in_range : (pid : ℕ) → ¬ IsOutOfRange (part_of (standing runner m) floor mark) time pid
+  idle_in_range pid o = nobody pid (ap place_at o.stands ∙ ap Some o.runs)
+
+-- somebody runs
+module _ (runner : Option Task) (m : BTreeMap ℕ Task) (a : BTreeSet (ℤ × ℕ)) (floor : ℤ) (mark time : ℕ) (kept : IsQueue runner m a) (t : Task) (is : runner ≡ Some t) where
+  ran : IsTheRunner (part_of (standing runner m) floor mark) (Some t)
+  ran = subst (IsTheRunner (part_of (standing runner m) floor mark)) is (the_runner runner m a floor mark kept)
+
+  pub fits_in_range : CanBeCharged (time - mark) t → (pid : ℕ) → ¬ IsOutOfRange (part_of (standing runner m) floor mark) time pid
+  fits_in_range can pid o =
+      let p : pid ≡ t.pid = ran.2 pid (ap place_at o.stands ∙ ap Some o.runs) in
+      let e : o.task ≡ entity_of t = same_Some o.task (entity_of t) (sym o.stands ∙ ap (standing runner m) p ∙ ran.0) in
+      let far : (greatest < cost_of (time - mark) t) ⊎ (pos greatest <ℤ (t.v +ℤ pos (cost_of (time - mark) t)))
+      = subst (λ (s : Entity). (greatest < cost_in (part_of (standing runner m) floor mark) time s) ⊎ (pos greatest <ℤ (s.runtime +ℤ pos (cost_in (part_of (standing runner m) floor mark) time s)))) e o.above in
+      elim far [ inl h ↦ absurd (omega (arith, can.0, h)) | inr h ↦ absurd (omega (arith, ints, can.1, h)) ]
+
+  pub above_range : (CanBeCharged (time - mark) t → ⊥) → IsOutOfRange (part_of (standing runner m) floor mark) time t.pid
+  above_range cannot = record {
+    task = entity_of t;
+    stands = ran.0;
+    runs = ran.1;
+    above = far (cases_lt greatest (cost_of (time - mark) t));
+  }
+    where
       far : ((greatest < cost_of (time - mark) t) ⊎ (cost_of (time - mark) t ≤ greatest))
           → (greatest < cost_of (time - mark) t) ⊎ (pos greatest <ℤ (t.v +ℤ pos (cost_of (time - mark) t)))
       far (inl h) = inl h
-      far (inr h) = inr (let c : ((t.v +ℤ pos (cost_of (time - mark) t)) ≤ℤ pos greatest) → ⊥ = λ n. cannot (λ _. (h, n)) in grind (arith, ints, c))
+      far (inr h) = inr (let c : ((t.v +ℤ pos (cost_of (time - mark) t)) ≤ℤ pos greatest) → ⊥ = λ n. cannot (h, n) in grind (arith, ints, c))
+
+  charged_at : (q : ℕ) → standing (Some (charged_task (time - mark) t)) m q ≡ put (standing runner m) t.pid (Some (entity_of (charged_task (time - mark) t))) q
+  charged_at q =
+      elim (cases_eq q t.pid) [
+        | inl same ↦ put-at (listed m) t.pid (Some (entity_of (charged_task (time - mark) t))) q same
+            ∙ sym (put-at (standing runner m) t.pid (Some (entity_of (charged_task (time - mark) t))) q same)
+        | inr other ↦ put-other (listed m) t.pid (Some (entity_of (charged_task (time - mark) t))) q other
+            ∙ sym (put-other (listed m) t.pid (Some (entity_of t)) q other) ∙ ap (λ r. standing r m q) (sym is)
+            ∙ sym (put-other (standing runner m) t.pid (Some (entity_of (charged_task (time - mark) t))) q other)
+      ]
+
+  pub charged_queue : IsQueue (Some (charged_task (time - mark) t)) m a
+  charged_queue =
+      let new : Task = charged_task (time - mark) t in
+      let has = is_listed runner m (listed_in runner m a kept) t is in
+      queue_is (Some (charged_task (time - mark) t)) m a
+      (stays (standing runner m) (standing (Some (charged_task (time - mark) t)) m) t.pid (Some (entity_of (charged_task (time - mark) t))) charged_at a (waiting_in runner m a kept)
+      (ap (λ p. runtime_if p (charged_task (time - mark) t).v) ran.1 ∙ sym (ap waiting_runtime ran.0 ∙ ap (λ p. runtime_if p t.v) ran.1)))
+      (only_runs (standing runner m) (standing (Some (charged_task (time - mark) t)) m) t.pid (Some (entity_of (charged_task (time - mark) t))) charged_at t (charged_task (time - mark) t) refl refl
+      (subst (λ r. IsOnlyRunner (standing runner m) r) is (only_in runner m a kept)))
+      (listed_some m (charged_task (time - mark) t) has.0 has.1)
+
+  pub charged_is : part_of (standing (Some (charged_task (time - mark) t)) m) floor time ≡ charged_part (part_of (standing runner m) floor mark) time
+  charged_is =
+      same_tasks (standing (Some (charged_task (time - mark) t)) m) (charged_part (part_of (standing runner m) floor mark) time).tasks floor time (λ q.
+      charged_at q ∙ elim (cases_eq q t.pid) [
+        | inl same ↦ put-at (standing runner m) t.pid (Some (entity_of (charged_task (time - mark) t))) q same
+            ∙ ap (λ p. Some (record (entity_of t) { runtime = runtime_after p (cost_of (time - mark) t) t.v })) (sym ran.1 ∙ refl) ∙ refl
+            ∙ sym (ap (option_map (charged_in (part_of (standing runner m) floor mark) time)) (ap (standing runner m) same ∙ ran.0))
+        | inr other ↦ put-other (standing runner m) t.pid (Some (entity_of (charged_task (time - mark) t))) q other
+            ∙ uncharged (part_of (standing runner m) floor mark) time (standing runner m q) (λ i. other (ran.2 q i))
+      ])

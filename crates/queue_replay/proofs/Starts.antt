@@ -1,66 +1,70 @@
--- A runqueue at the start: its pids differ, and at most one of its tasks runs.
-use Rattle.std.proofs.Common.{◌≡◌, ℕ, zero, suc, ◌<◌, Bool, true, false, cond, eqb, List, [], ◌∷◌, length, map, get_or, All, Some, ℤ, refl, sym, ap, ◌∙◌, subst, inl, inr, arith}
+-- A runqueue at the start, task by task: the pids rise, and at most one of the tasks runs.
+use Rattle.std.proofs.Common.{◌≡◌, ℕ, ◌+◌, ◌<◌, Bool, false, eqb, List, [], ◌∷◌, ◌++◌, length, map, take, get_or, All, Option, Some, None, option_map, ℤ, inl, inr, refl, sym, ap, ◌∙◌, subst, arith}
 use Rattle.std.specs.List.{find, AllPairs}
-use Rattle.std.proofs.lemmas.Bool.{eq-eqb, ne_eqb, cases_order}
-use Rattle.std.proofs.lemmas.List.Elements.{All-map}
-use Rattle.replay_model.specs.Noted.{new_tally}
-use Rattle.replay_model.specs.Part.{start_part}
+use Rattle.std.proofs.lemmas.Bool.{ne_eqb, cond-false}
+use Rattle.std.proofs.lemmas.List.{get_or-take, get_or_default, length-take-le, take_more}
+use Rattle.std.proofs.lemmas.List.Elements.{All-map, All-head, All-tail}
+use Rattle.std.proofs.lemmas.Option.{same_Some}
+use Rattle.cfs_model.specs.Start.{task_of}
 use Rattle.cfs_model.specs.declared.task.Place.TheVariants.{Run}
 use Rattle.cfs_model.specs.declared.task.Task.{Task}
+use Rattle.replay_model.specs.Deeds.{with_entity}
+use Rattle.replay_model.specs.Noted.{new_tally}
+use Rattle.replay_model.specs.Part.{Part, Entity, start_part}
+use Rattle.cfs_model.specs.Machine.{put}
 use Rattle.queue_replay.specs.Stretches.{IsWithin}
-use Rattle.queue_replay.specs.Queue.{OneRunsHere, IsKept}
-use Rattle.queue_replay.specs.TaskList.{EachOnce}
-use Rattle.queue_replay.specs.declared.runqueue.Runqueue.{Runqueue}
-use Rattle.queue_replay.proofs.Answered.{task_in, contains}
-use Rattle.queue_replay.proofs.TaskOf.{task_of-pid}
+use Rattle.queue_replay.specs.Queue.{IsTheRunner}
+use Rattle.queue_replay.specs.Tasks.{entity_of, RisesByPid}
+use Rattle.queue_replay.proofs.Parts.{same_tasks}
+use Rattle.queue_replay.proofs.TaskOf.{stands, stands_pushed, contains, option_cases}
 
--- one that passes, where those before it don't
-find_at : {X : Type 0} (p : X → Bool) (xs : List X) (i : ℕ) (d : X) → i < length xs
-    → ((k : ℕ) → k < i → p (get_or xs k d) ≡ false) → p (get_or xs i d) ≡ true
-    → find p xs ≡ Some (get_or xs i d)
-find_at p [] i d within before here = absurd (omega arith)
-find_at p (x ∷ xs) zero d within before here = ap (λ b. cond b (Some x) (find p xs)) here
-find_at p (x ∷ xs) (suc i) d within before here =
-    ap (λ b. cond b (Some x) (find p xs)) (before zero (omega arith))
-    ∙ find_at p xs i d (omega arith) (λ k h. before (suc k) (omega arith)) here
+find_none : (p : Task → Bool) (xs : List Task) → All (λ t. p t ≡ false) xs → find p xs ≡ None
+find_none p [] none = refl
+find_none p (x ∷ xs) none =
+    cond-false (p x) (Some x) (find p xs) (All-head (λ t. p t ≡ false) x xs none)
+    ∙ find_none p xs (All-tail (λ t. p t ≡ false) x xs none)
 
-pub once_from : (tasks : List Task) → AllPairs (λ t u. t.pid < u.pid) tasks → EachOnce tasks
-once_from tasks pairs k d h =
-    let t = get_or tasks k d in
-    find_at (λ u. eqb u.pid t.pid) tasks k d h
-    (λ i below. ne_eqb _ _ (λ e. let r = pairs i k d below h in absurd (omega arith)))
-    (eq-eqb t.pid t.pid refl)
+module _ (tasks : List Task) (i : ℕ) (t : Task) (within : i < length tasks) (is : t ≡ get_or tasks i t) where
+  -- none of those before has the pid
+  pub before_none : RisesByPid tasks → task_of (take i tasks) t.pid ≡ None
+  before_none rise =
+      find_none (λ u. eqb u.pid t.pid) (take i tasks) (λ k d h.
+      let n : length (take i tasks) ≡ i = length-take-le i tasks (omega (arith, within)) in
+      let below : k < i = omega (arith, n, h) in
+      let e : get_or (take i tasks) k d ≡ get_or tasks k t = get_or-take i tasks k d below ∙ get_or_default tasks k d t (omega (arith, below, within)) in
+      ne_eqb _ _ (λ f.
+      let r : (get_or tasks k t).pid < (get_or tasks i t).pid = rise k i t below within in
+      let g : (get_or tasks k t).pid ≡ t.pid = sym (ap (λ (x : Task). x.pid) e) ∙ f in
+      let j : t.pid ≡ (get_or tasks i t).pid = ap (λ (x : Task). x.pid) is in
+      absurd (omega (arith, r, g, j))))
 
-get_same : {X : Type 0} (xs : List X) (i : ℕ) (d e : X) → i < length xs → get_or xs i d ≡ get_or xs i e
-get_same [] i d e h = absurd (omega arith)
-get_same (x ∷ xs) zero d e h = refl
-get_same (x ∷ xs) (suc i) d e h = get_same xs i d e (omega arith)
+  -- none of those before runs, where it does
+  pub before_idle : AllPairs (λ t u. t.place ≡ Run → u.place ≡ Run → ⊥) tasks → t.place ≡ Run → (floor : ℤ) (mark : ℕ)
+      → (part : Part) → part ≡ start_part (take i tasks) floor mark → (runner : Option Task) → IsTheRunner part runner → runner ≡ None
+  before_idle one runs floor mark part same None ran = refl
+  before_idle one runs floor mark part same (Some r) ran =
+      let s : stands (take i tasks) r.pid ≡ Some (entity_of r) = sym (ap (λ (p : Part). p.tasks r.pid) same) ∙ ran.0 in
+      elim (option_cases (task_of (take i tasks) r.pid)) [
+        | inl none ↦ let f : None ≡ Some (entity_of r) = sym (ap (option_map entity_of) none) ∙ s in absurd cc
+        | inr some ↦
+            let c = contains (take i tasks) r.pid some.0 some.1 in
+            let n : length (take i tasks) ≡ i = length-take-le i tasks (omega (arith, within)) in
+            let below : c.0 < i = (let h = c.1 in omega (arith, n, h)) in
+            let e : get_or tasks c.0 t ≡ some.0 =
+            get_or_default tasks c.0 t some.0 (omega (arith, below, within)) ∙ sym (get_or-take i tasks c.0 some.0 below) ∙ c.2 in
+            let there : some.0.place ≡ Run =
+            ap (λ (x : Entity). x.place) (same_Some (entity_of some.0) (entity_of r) (sym (ap (option_map entity_of) some.1) ∙ s)) ∙ ran.1 in
+            let R : Task → Type 0 = λ x. x.place ≡ Run in
+            absurd (one c.0 i t below within (subst R (sym e) there) (subst R is runs))
+      ]
 
-pub one_from : (tasks : List Task) (floor : ℤ) (mark : ℕ) → AllPairs (λ t u. t.place ≡ Run → u.place ≡ Run → ⊥) tasks
-    → OneRunsHere (start_part tasks floor mark)
-one_from tasks floor mark pairs p q h k =
-    let t = task_in tasks floor mark Run p h in
-    let u = task_in tasks floor mark Run q k in
-    let a = contains tasks p t.0 t.1 in
-    let b = contains tasks q u.0 u.1 in
-    let e : get_or tasks b.0 t.0 ≡ u.0 = get_same tasks b.0 t.0 u.0 b.1 ∙ b.2 in
-    let R : Task → Type 0 = λ x. x.place ≡ Run in
-    let one : R (get_or tasks a.0 t.0) = subst R (sym a.2) t.2 in
-    let two : R (get_or tasks b.0 t.0) = subst R (sym e) u.2 in
-    elim (cases_order a.0 b.0) [
-      | inl same ↦
-          let f : t.0 ≡ u.0 = sym a.2 ∙ ap (λ i. get_or tasks i t.0) same ∙ e in
-          sym (task_of-pid tasks p t.0 t.1) ∙ ap (λ x. x.pid) f ∙ task_of-pid tasks q u.0 u.1
-      | inr (inl below) ↦ absurd (pairs a.0 b.0 t.0 below b.1 one two)
-      | inr (inr above) ↦ absurd (pairs b.0 a.0 t.0 above a.1 two one)
-    ]
+  -- one task more
+  pub one_task_more : RisesByPid tasks → (floor : ℤ) (mark : ℕ)
+      → with_entity (start_part (take i tasks) floor mark) t.pid (Some (entity_of t)) ≡ start_part (take (i + 1) tasks) floor mark
+  one_task_more rise floor mark =
+      sym (same_tasks (stands (take i tasks ++ t ∷ [])) (put (stands (take i tasks)) t.pid (Some (entity_of t))) floor mark
+      (stands_pushed (take i tasks) t (before_none rise)))
+      ∙ ap (λ l. start_part l floor mark) (ap (λ x. take i tasks ++ x ∷ []) is ∙ sym (take_more tasks i t within))
 
 pub new_within : (tasks : List Task) → All (IsWithin 0) (map (λ t. new_tally t.pid) tasks)
 new_within tasks = All-map (IsWithin 0) (λ (t : Task). new_tally t.pid) tasks (λ k d h. (omega arith, omega arith, omega arith))
-
-pub kept_from : (q : Runqueue) (tasks : List Task) → q.tasks.items ≡ tasks → AllPairs (λ t u. t.pid < u.pid) tasks
-    → AllPairs (λ t u. t.place ≡ Run → u.place ≡ Run → ⊥) tasks → IsKept q
-kept_from q tasks e rise one = record {
-  once = subst EachOnce (sym e) (once_from tasks rise);
-  one_runs = subst (λ l. OneRunsHere (start_part l q.floor q.mark)) (sym e) (one_from tasks q.floor q.mark one);
-}

@@ -12,7 +12,7 @@ use Rattle.replay_model.specs.Noted.{PageView}
 use Rattle.cfs_model.specs.declared.task.Task.{Task}
 use Rattle.queue_replay.specs.Places.{HasTallyRoom}
 use Rattle.queue_replay.specs.Stretches.{ran_tally}
-use Rattle.queue_replay.specs.TaskList.{cost_of}
+use Rattle.queue_replay.specs.Tasks.{cost_of}
 use Rattle.queue_replay.specs.declared.page_draft.PageDraft.{PageDraft}
 
 -- the draft as a page shows it

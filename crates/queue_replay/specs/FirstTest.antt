@@ -1,13 +1,14 @@
 -- What a test answers: the pid of which it holds, or none. What tests in their order answer: the first that holds, by its
 -- kind and its pid, or none (this project's profile).
 use Rattle.std.specs.Prelude.{ℕ, Option, Some, None, List, [], ◌∷◌}
-use Rattle.replay_model.specs.Part.{Part}
+use Rattle.replay_model.specs.Part.{Part, Entity}
 use Rattle.replay_model.specs.ClaimTests.{IsClaimMissing, IsClaimExtra, IsClaimPid, IsWrongPutBack, IsWakeOutside, IsForkOutside, IsNextNotWaiting, IsIdleBesideWaiting, IsNotLeast}
 use Rattle.cfs_model.specs.Settings.{Settings}
-use Rattle.replay_model.specs.QueueTests.{IsPrevNotRunning, IsAlready}
+use Rattle.replay_model.specs.QueueTests.{IsPrevNotRunning, IsAlready, IsMoveRunning}
 use Rattle.replay_model.specs.Tests.{Test, NoneHolds, FirstHolds}
 use Rattle.cfs_model.specs.declared.kind.Kind.TheVariants as kind
 use Rattle.replay_model.specs.declared.step.Step.{Step}
+use Rattle.queue_replay.specs.Queue.{IdlesBeside, IsAboveGranularity}
 use Rattle.queue_replay.specs.declared.failed_test.FailedTest.{FailedTest}
 
 -- whether a condition holds, and of which pid
@@ -31,6 +32,12 @@ pick_tests knobs part step =
     record { kind = kind.IdleBesideWaiting; holds = IsIdleBesideWaiting part step.deed } ∷
     record { kind = kind.NotLeast; holds = IsNotLeast knobs.granularity part step.deed } ∷ []
 
+-- the same two on the part that the previous task has left, with the next task as it stood
+abbrev pub moved_tests : ℕ → Option Entity → Part → ℕ → List Test
+moved_tests granularity own moved next =
+    record { kind = kind.IdleBesideWaiting; holds = IdlesBeside moved next } ∷
+    record { kind = kind.NotLeast; holds = IsAboveGranularity granularity own moved next } ∷ []
+
 -- the tests of a step's claim and of what follows it
 abbrev pub claim_tests : Settings → Part → Step → List Test
 claim_tests knobs part step =
@@ -46,4 +53,5 @@ claim_tests knobs part step =
 pub record IsCleared (part : Part) (step : Step) : Type 0 where
   pub runner : (pid : ℕ) → ¬ IsPrevNotRunning part step.deed pid
   pub apart : (pid : ℕ) → ¬ IsAlready part step.deed pid
+  pub at_rest : (pid : ℕ) → ¬ IsMoveRunning part step.deed pid
   pub claimed : (pid : ℕ) → ¬ IsClaimMissing part step.deed step.claim pid

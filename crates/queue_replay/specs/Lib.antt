@@ -1,4 +1,5 @@
-pub mod TaskList
+pub mod Tasks
+pub mod Standing
 pub mod Queue
 pub mod FirstTest
 pub mod Places

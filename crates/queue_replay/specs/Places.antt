@@ -3,7 +3,6 @@ use Rattle.std.specs.Prelude.{◌≡◌, ◌≢◌, ℕ, ◌<◌, Some, List, ge
 use Rattle.std.specs.BTreeMap.{BTreeMap, get}
 use Rattle.std.specs.Ordering.{nat_cmp}
 use Rattle.std.proofs.Props.{props}
-use Rattle.cfs_model.specs.declared.task.Task.{Task}
 use Rattle.replay_model.specs.declared.page.Tally.{Tally}
 
 -- the map tells of each element, by its pid, where it is in the list
@@ -29,13 +28,3 @@ IsPlaced-prop tallies places = IsPlacedBy-prop (λ (tally : Tally). tally.pid) t
 
 abbrev pub HasTallyRoom : {Z : Type 0} → ℕ → Vec Tally Z → BTreeMap ℕ ℕ → Type 0
 HasTallyRoom pid tallies places = HasRoomBy (λ (tally : Tally). tally.pid) pid tallies places
-
--- the same of tasks
-abbrev pub AreTasksPlaced : List Task → BTreeMap ℕ ℕ → Type 0
-AreTasksPlaced tasks places = IsPlacedBy (λ (t : Task). t.pid) tasks places
-
-pub AreTasksPlaced-prop : (tasks : List Task) (places : BTreeMap ℕ ℕ) → IsProp (AreTasksPlaced tasks places)
-AreTasksPlaced-prop tasks places = IsPlacedBy-prop (λ (t : Task). t.pid) tasks places
-
-abbrev pub HasTaskRoom : {Z : Type 0} → ℕ → Vec Task Z → BTreeMap ℕ ℕ → Type 0
-HasTaskRoom pid tasks places = HasRoomBy (λ (t : Task). t.pid) pid tasks places

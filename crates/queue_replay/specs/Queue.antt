@@ -1,26 +1,50 @@
 -- A runqueue, as the part of a machine at its processor (this project's profile).
-use Rattle.std.specs.Prelude.{◌≡◌, ℕ, zero, suc, ◌<◌, ⊤, vec_len, vec_capacity, Option, Some, List, pos, ◌+ℤ◌, ◌<ℤ◌}
-use Rattle.replay_model.specs.Part.{Part, Entity, IsIn, start_part}
+use Rattle.std.specs.Prelude.{◌≡◌, ℕ, zero, suc, ⊤, Option, Some, None, option_map, ℤ, pos, ◌+ℤ◌, ◌≤ℤ◌, ◌<ℤ◌}
+use Rattle.std.specs.BTreeMap.{get}
+use Rattle.std.specs.BTreeSet.{contains}
+use Rattle.std.specs.Ordering.{nat_cmp}
+use Rattle.replay_model.specs.Part.{Part, Entity, IsIn, NobodyIn, IsQueuedHere, IsLeastHere}
 use Rattle.replay_model.specs.declared.step.Deed.{Deed}
 use Rattle.replay_model.specs.declared.step.Deed.TheVariants.{Switch, Wake, Born, Leave, Arrive}
 use Rattle.cfs_model.specs.declared.task.Place.TheVariants.{Run, Wait}
-use Rattle.cfs_model.specs.Start.{task_of}
 use Rattle.cfs_model.specs.declared.task.Task.{Task}
-use Rattle.queue_replay.specs.TaskList.{EachOnce}
+use Rattle.queue_replay.specs.Standing.{standing, by_runtime}
+use Rattle.queue_replay.specs.Tasks.{entity_of}
 use Rattle.queue_replay.specs.declared.runqueue.Runqueue.{Runqueue}
 
 -- the part of a machine that the runqueue stands for
 abbrev pub runqueue_view : Runqueue → Part
-runqueue_view queue = start_part queue.tasks.items queue.floor queue.mark
+runqueue_view queue = record { tasks = standing queue.runner queue.tasks; floor = queue.floor; mark = queue.mark }
 
--- at most one runs
-abbrev pub OneRunsHere : Part → Type 0
-OneRunsHere part = (pid other : ℕ) → IsIn part Run pid → IsIn part Run other → pid ≡ other
+-- the map and the set of a runqueue are as they were
+pub record HoldsSame (old new : Runqueue) : Type 0 where
+  pub tasks : (pid : ℕ) → get nat_cmp new.tasks pid ≡ get nat_cmp old.tasks pid
+  pub waiting : (v : ℤ) (pid : ℕ) → contains by_runtime new.waiting (v, pid) ≡ contains by_runtime old.waiting (v, pid)
 
--- a runqueue in order
-pub record IsKept (queue : Runqueue) : Type 0 where
-  pub once : EachOnce queue.tasks.items
-  pub one_runs : OneRunsHere (runqueue_view queue)
+-- the one who runs here, if somebody does
+abbrev pub IsTheRunner : Part → Option Task → Type 0
+IsTheRunner part None = NobodyIn part Run
+IsTheRunner part (Some t) =
+    (part.tasks t.pid ≡ Some (entity_of t)) × (t.place ≡ Run) × ((pid : ℕ) → IsIn part Run pid → pid ≡ t.pid)
+
+-- v is the least virtual runtime of those who wait here
+pub record IsLeastOfWaiting (part : Part) (v : ℤ) : Type 0 where
+  pub pid : ℕ
+  pub task : Entity
+  pub stands : part.tasks pid ≡ Some task
+  pub waits : task.place ≡ Wait
+  pub runtime : task.runtime ≡ v
+  pub least : (other : ℕ) (s : Entity) → part.tasks other ≡ Some s → s.place ≡ Wait → v ≤ℤ s.runtime
+
+-- the least virtual runtime of those who wait here; none where nobody does
+abbrev pub IsLeastWaiting : Part → Option ℤ → Type 0
+IsLeastWaiting part None = NobodyIn part Wait
+IsLeastWaiting part (Some v) = IsLeastOfWaiting part v
+
+-- the least virtual runtime of those who run or wait here; none where nobody does
+abbrev pub IsLeastQueued : Part → Option ℤ → Type 0
+IsLeastQueued part None = (pid : ℕ) (s : Entity) → part.tasks pid ≡ Some s → ¬ IsQueuedHere s
+IsLeastQueued part (Some v) = IsLeastHere part v
 
 -- the processor goes idle, and somebody waits here
 abbrev pub IdlesBeside : Part → ℕ → ℕ → Type 0
@@ -34,21 +58,19 @@ IsAboveGranularity granularity own part (suc n) pid =
     ((s t : Entity) × (other : ℕ) × (own ≡ Some s) × (part.tasks other ≡ Some t) × (t.place ≡ Wait)
     × ((t.runtime +ℤ pos granularity) <ℤ s.runtime)) × (pid ≡ suc n)
 
--- the runqueue's list has room for the task that a deed brings, if it brings one
-abbrev pub HasRoom : Deed → Runqueue → Type 0
-HasRoom (Born pid nice) queue = vec_len queue.tasks < vec_capacity queue.tasks
-HasRoom (Arrive pid nice orig) queue = vec_len queue.tasks < vec_capacity queue.tasks
-HasRoom _ queue = ⊤
+-- the task of a pid, if it stands here
+abbrev pub IsTaskAt : Part → ℕ → Option Task → Type 0
+IsTaskAt part pid task = option_map entity_of task ≡ part.tasks pid
 
 -- the task that a deed is of, if it stands here; of a switch's two that is the previous one
-abbrev pub IsSubject : List Task → Deed → Option Task → Type 0
-IsSubject tasks (Switch prev prev_nice way next next_nice) task = task ≡ task_of tasks prev
-IsSubject tasks (Wake pid nice) task = task ≡ task_of tasks pid
-IsSubject tasks (Born pid nice) task = task ≡ task_of tasks pid
-IsSubject tasks (Leave pid nice dest) task = task ≡ task_of tasks pid
-IsSubject tasks (Arrive pid nice orig) task = task ≡ task_of tasks pid
+abbrev pub IsSubject : Part → Deed → Option Task → Type 0
+IsSubject part (Switch prev prev_nice way next next_nice) task = IsTaskAt part prev task
+IsSubject part (Wake pid nice) task = IsTaskAt part pid task
+IsSubject part (Born pid nice) task = IsTaskAt part pid task
+IsSubject part (Leave pid nice dest) task = IsTaskAt part pid task
+IsSubject part (Arrive pid nice orig) task = IsTaskAt part pid task
 
 -- a switch's next task, if it stands here
-abbrev pub IsNext : List Task → Deed → Option Task → Type 0
-IsNext tasks (Switch prev prev_nice way next next_nice) task = task ≡ task_of tasks next
-IsNext tasks _ task = ⊤
+abbrev pub IsNext : Part → Deed → Option Task → Type 0
+IsNext part (Switch prev prev_nice way next next_nice) task = IsTaskAt part next task
+IsNext part _ task = ⊤

@@ -5,7 +5,7 @@ use Rattle.replay_model.specs.Page.{ReplayStateView, PassesStep, FailsStep, with
 use Rattle.replay_model.specs.declared.page.StepFault.{StepFault}
 use Rattle.replay_model.specs.declared.step.Step.{Step}
 use Rattle.queue_replay.specs.Counting.{page_draft_view}
-use Rattle.queue_replay.specs.Queue.{runqueue_view, IsKept}
+use Rattle.queue_replay.specs.Queue.{runqueue_view}
 use Rattle.queue_replay.specs.Stretches.{IsWithin}
 use Rattle.queue_replay.specs.declared.replay_state.ReplayState.{ReplayState}
 
@@ -15,13 +15,11 @@ replay_state_view state = record { part = runqueue_view state.queue; since = sta
 -- no step has failed so far
 pub record IsGoing (state : ReplayState) : Type 0 where
   pub fault : state.draft.fault ≡ None
-  pub kept : IsKept state.queue
   pub within : All (IsWithin state.made) state.draft.tallies.list.items
 
 -- the step passed, and was noted
 pub record IsPassed (knobs : Settings) (cpu : ℕ) (old : ReplayState) (step : Step) (new : ReplayState) : Type 0 where
   pub passes : PassesStep knobs cpu (replay_state_view old) step (replay_state_view new)
-  pub kept : IsKept new.queue
   pub within : All (IsWithin (old.made + 1)) new.draft.tallies.list.items
 
 -- a step was made, which passed, or failed
@@ -30,3 +28,10 @@ IsStepped knobs cpu before step new =
     (PassesStep knobs cpu before step (replay_state_view new) × IsGoing new)
     ⊎ ((fault : StepFault) × FailsStep knobs cpu before step (with_fault before fault)
     × (page_draft_view new.draft ≡ (with_fault before fault).page))
+
+-- a step that met want of memory was undone
+pub record IsUndone (old new : ReplayState) : Type 0 where
+  pub made : new.made ≡ old.made
+  pub part : runqueue_view new.queue ≡ runqueue_view old.queue
+  pub since : new.since ≡ old.since
+  pub noted : page_draft_view new.draft ≡ page_draft_view old.draft

@@ -1,28 +1,25 @@
-ghost use Rattle.std.specs.Prelude.{◌≡◌, ◌≢◌, ℕ, IsTrue, ◌↔◌, Some, option_map, pos, ◌-ℤ◌, ◌≤ℤ◌};
+ghost use Rattle.std.specs.Prelude.{◌≡◌, ◌≢◌, ℕ, IsTrue, ◌↔◌, Some, option_map, pos, ◌+ℤ◌, ◌-ℤ◌, ◌≤ℤ◌, ◌<ℤ◌};
 ghost use Rattle.replay_model.specs.ClaimTests.{claimant, HasClaim, IsClaimMissing, IsClaimExtra, IsClaimPid, IsWrongPutBack, IsInWakeBounds, IsWakeOutside, IsInForkBounds, IsForkOutside, IsNextNotWaiting};
-ghost use Rattle.replay_model.specs.Part.{Entity, IsIn};
-ghost use Rattle.cfs_model.specs.Start.{task_of};
+ghost use Rattle.replay_model.specs.Part.{Part, Entity};
 ghost use Rattle.cfs_model.specs.declared.task.Place.TheVariants.{Rest};
-ghost use Rattle.queue_replay.specs.declared.runqueue.Runqueue.{Runqueue as Queue};
-ghost use Rattle.queue_replay.specs.Queue.{runqueue_view, IdlesBeside, IsAboveGranularity, IsSubject, IsNext};
-ghost use Rattle.queue_replay.specs.TaskList.{entity_of, EachOnce};
+ghost use Rattle.queue_replay.specs.Queue.{runqueue_view, IdlesBeside, IsAboveGranularity, IsSubject, IsNext, IsTaskAt};
+ghost use Rattle.queue_replay.specs.Tasks.{entity_of};
 ghost use Rattle.queue_replay.specs.FirstTest.{Decides};
 
 use crate::queue_tests::stands_in;
 use crate::runqueue::Runqueue;
-use crate::task_list::{somebody_below, somebody_waits};
-use cfs_model::{Claim, ClaimSort, Place, Task, Way};
+use cfs_model::{Claim, ClaimSort, IDLE_PID, Place, Task, Way};
 use replay_model::{Deed, Step};
 
 /// The pid of which the deed needs a claim, if it needs one.
 fn claimant(step: &Step, subject: &Option<Task>) -> Option<u32>
-    ensures { (queue : Queue) → IsSubject queue.tasks.items step.now.deed subject.now
-        → result ≡ claimant (runqueue_view queue) step.now.deed }
+    ensures { (part : Part) → IsSubject part step.now.deed subject.now
+        → result ≡ claimant part step.now.deed }
 {
     let deed = step.deed;
     match deed {
         Deed::Switch { prev, way, .. } => match way {
-            Way::Stays => { if prev == 0 { None } else { Some(prev) } }
+            Way::Stays => { if prev == IDLE_PID { None } else { Some(prev) } }
             Way::Sleeps | Way::Ends => None,
         },
         Deed::Wake { pid, .. } => {
@@ -49,8 +46,8 @@ fn has_claim(step: &Step) -> bool
 
 /// A claim is needed, and the line has none that serves.
 pub(crate) fn claim_missing(step: &Step, subject: &Option<Task>) -> Option<u32>
-    ensures { (queue : Queue) → IsSubject queue.tasks.items step.now.deed subject.now
-        → Decides result (IsClaimMissing (runqueue_view queue) step.now.deed step.now.claim) }
+    ensures { (part : Part) → IsSubject part step.now.deed subject.now
+        → Decides result (IsClaimMissing part step.now.deed step.now.claim) }
 {
     let pid = claimant(step, subject)?;
     if has_claim(step) { None } else { Some(pid) }
@@ -58,8 +55,8 @@ pub(crate) fn claim_missing(step: &Step, subject: &Option<Task>) -> Option<u32>
 
 /// No claim is needed, and the line has one.
 pub(crate) fn claim_extra(step: &Step, subject: &Option<Task>) -> Option<u32>
-    ensures { (queue : Queue) → IsSubject queue.tasks.items step.now.deed subject.now
-        → Decides result (IsClaimExtra (runqueue_view queue) step.now.deed step.now.claim) }
+    ensures { (part : Part) → IsSubject part step.now.deed subject.now
+        → Decides result (IsClaimExtra part step.now.deed step.now.claim) }
 {
     let claim = step.claim?;
     if claimant(step, subject).is_some() || matches!(step.deed, Deed::Leave { .. }) {
@@ -71,8 +68,8 @@ pub(crate) fn claim_extra(step: &Step, subject: &Option<Task>) -> Option<u32>
 
 /// A claim is needed, and the line's names another task.
 pub(crate) fn claim_pid(step: &Step, subject: &Option<Task>) -> Option<u32>
-    ensures { (queue : Queue) → IsSubject queue.tasks.items step.now.deed subject.now
-        → Decides result (IsClaimPid (runqueue_view queue) step.now.deed step.now.claim) }
+    ensures { (part : Part) → IsSubject part step.now.deed subject.now
+        → Decides result (IsClaimPid part step.now.deed step.now.claim) }
 {
     let claim = step.claim?;
     let pid = claimant(step, subject)?;
@@ -85,8 +82,8 @@ pub(crate) fn claim_pid(step: &Step, subject: &Option<Task>) -> Option<u32>
 
 /// A previous task that stays is claimed at another virtual runtime than its own.
 pub(crate) fn wrong_put_back(step: &Step, subject: &Option<Task>) -> Option<u32>
-    ensures { (queue : Queue) → IsSubject queue.tasks.items step.now.deed subject.now
-        → Decides result (IsWrongPutBack (runqueue_view queue) step.now.deed step.now.claim) }
+    ensures { (part : Part) → IsSubject part step.now.deed subject.now
+        → Decides result (IsWrongPutBack part step.now.deed step.now.claim) }
 {
     let Deed::Switch {
         prev,
@@ -97,7 +94,7 @@ pub(crate) fn wrong_put_back(step: &Step, subject: &Option<Task>) -> Option<u32>
         return None;
     };
     let claim = step.claim?;
-    if prev != 0 && is_at_other(*subject, claim) {
+    if prev != IDLE_PID && is_at_other(*subject, claim) {
         Some(prev)
     } else {
         None
@@ -111,7 +108,7 @@ pub(crate) fn wake_outside(
     subject: &Option<Task>,
     credit: u64,
 ) -> Option<u32>
-    requires { IsSubject queue.now.tasks.items step.now.deed subject.now }
+    requires { IsSubject (runqueue_view queue.now) step.now.deed subject.now }
     ensures { Decides result (IsWakeOutside credit (runqueue_view queue.now) step.now.deed step.now.claim) }
 {
     let Deed::Wake { pid, .. } = step.deed else {
@@ -142,13 +139,13 @@ pub(crate) fn fork_outside(queue: &Runqueue, step: &Step, debit: u64) -> Option<
 
 /// The next task of a switch doesn't wait here.
 pub(crate) fn next_not_waiting(step: &Step, next: &Option<Task>) -> Option<u32>
-    ensures { (queue : Queue) → IsNext queue.tasks.items step.now.deed next.now
-        → Decides result (IsNextNotWaiting (runqueue_view queue) step.now.deed) }
+    ensures { (part : Part) → IsNext part step.now.deed next.now
+        → Decides result (IsNextNotWaiting part step.now.deed) }
 {
     let Deed::Switch { next: pid, .. } = step.deed else {
         return None;
     };
-    if pid == 0 || stands_in(*next, Place::Wait) {
+    if pid == IDLE_PID || stands_in(*next, Place::Wait) {
         None
     } else {
         Some(pid)
@@ -157,16 +154,14 @@ pub(crate) fn next_not_waiting(step: &Step, next: &Option<Task>) -> Option<u32>
 
 /// The processor goes idle, and somebody waits here; the previous task has gone its way.
 pub(crate) fn idle_beside_waiting(moved: &Runqueue, next: u32) -> Option<u32>
-    requires { EachOnce moved.now.tasks.items }
     ensures { Decides result (IdlesBeside (runqueue_view moved.now) next) }
 {
-    if next != 0 {
+    if next != IDLE_PID {
         return None;
     }
-    if somebody_waits(moved.tasks.as_slice()) {
-        Some(0)
-    } else {
-        None
+    match moved.least_waiting() {
+        Some(_) => Some(IDLE_PID),
+        None => None,
     }
 }
 
@@ -178,24 +173,31 @@ pub(crate) fn not_least(
     own: Option<Task>,
     granularity: u64,
 ) -> Option<u32>
-    requires { EachOnce moved.now.tasks.items }
     ensures { Decides result (IsAboveGranularity granularity (option_map entity_of own) (runqueue_view moved.now) next) }
 {
-    if next == 0 {
+    if next == IDLE_PID {
         return None;
     }
     let task = own?;
-    if somebody_below(moved.tasks.as_slice(), task, granularity) {
+    let least = moved.least_waiting()?;
+    if is_below(least, task, granularity) {
         Some(next)
     } else {
         None
     }
 }
 
+/// The virtual runtime is below the task's by more than the granularity, in nanoseconds.
+fn is_below(runtime: i64, task: Task, granularity: u64) -> bool
+    ensures { IsTrue result ↔ ((runtime +ℤ pos granularity) <ℤ task.v) }
+{
+    i128::from(runtime) + i128::from(granularity) < i128::from(task.v)
+}
+
 /// The task stands here, at another virtual runtime than the claimed one.
 fn is_at_other(task: Option<Task>, claim: Claim) -> bool
-    ensures { (queue : Queue) (pid : ℕ) → task ≡ task_of queue.tasks.items pid
-        → (IsTrue result ↔ ((s : Entity) × ((runqueue_view queue).tasks pid ≡ Some s) × (claim.v ≢ s.runtime))) }
+    ensures { (part : Part) (pid : ℕ) → IsTaskAt part pid task
+        → (IsTrue result ↔ ((s : Entity) × (part.tasks pid ≡ Some s) × (claim.v ≢ s.runtime))) }
 {
     match task {
         Some(task) => claim.v != task.v,
@@ -205,7 +207,7 @@ fn is_at_other(task: Option<Task>, claim: Claim) -> bool
 
 /// The task rests here, and is claimed outside the bounds of its wakeup.
 fn rests_outside(queue: &Runqueue, claim: Claim, credit: u64, task: Option<Task>) -> bool
-    ensures { (pid : ℕ) → task ≡ task_of queue.now.tasks.items pid
+    ensures { (pid : ℕ) → IsTaskAt (runqueue_view queue.now) pid task
         → (IsTrue result ↔ ((s : Entity) × ((runqueue_view queue.now).tasks pid ≡ Some s) × (s.place ≡ Rest) × (¬ IsInWakeBounds credit queue.now.floor s.runtime claim.v))) }
 {
     match task {

@@ -1,10 +1,13 @@
 //! The replay of one processor alone: its stream of steps, tested one after another, up to the first that fails.
 #![tactic(auto)]
 
+mod charging;
 mod claim_tests;
 mod counting;
 mod failed_test;
+mod lift;
 mod lists;
+mod moves;
 mod page;
 mod page_draft;
 mod queue_tests;
@@ -17,7 +20,6 @@ mod state;
 mod step_table;
 mod tag;
 mod tally_book;
-mod task_list;
 
 pub use lists::{LifeEvents, Tallies, Tickets};
 pub use page::Page;

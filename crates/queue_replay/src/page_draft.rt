@@ -5,11 +5,11 @@ ghost use Rattle.replay_model.specs.declared.step.Deed.{Deed as DeedOf};
 ghost use Rattle.replay_model.specs.declared.step.Deed.TheVariants.{Switch};
 ghost use Rattle.queue_replay.specs.Counting.{HasDraftRoom, page_draft_view, if_left, if_came, stretched};
 ghost use Rattle.queue_replay.specs.Stretches.{IsWithin};
-ghost use Rattle.queue_replay.specs.TaskList.{cost_of};
+ghost use Rattle.queue_replay.specs.Tasks.{cost_of};
 
 use crate::room::push_in;
 use crate::tally_book::TallyBook;
-use cfs_model::{Memory, Task, Way};
+use cfs_model::{IDLE_PID, Memory, Task, Way};
 use replay_model::{Deed, LifeEvent, Step, StepFault, Ticket};
 
 /// What the page of a replay will show, so far.
@@ -87,7 +87,7 @@ impl PageDraft {
                 ..
             } => {
                 self.note_end(step.line, prev, way);
-                if next != 0 {
+                if next != IDLE_PID {
                     self.tallies.add_pick(next, steps);
                 }
             }
@@ -125,7 +125,7 @@ impl PageDraft {
         match way {
             Way::Stays | Way::Sleeps => {}
             Way::Ends => {
-                if prev != 0 {
+                if prev != IDLE_PID {
                     push_in(&mut self.deaths, LifeEvent { line, pid: prev });
                 }
             }

@@ -1,38 +1,34 @@
 ghost use Rattle.std.specs.Prelude.{◌≡◌, ◌≢◌, ℕ, IsTrue, ◌↔◌};
-ghost use Rattle.replay_model.specs.Part.{IsIn};
+ghost use Rattle.replay_model.specs.Part.{Part, IsIn};
 ghost use Rattle.replay_model.specs.QueueTests.{IsMoveHome, IsSelfSwitch, IsRunner, IsPrevNotRunning, IsStrange, IsAlready, IsMoveRunning, HasOtherNice, HasOtherPrio, IsWrongPrio};
-ghost use Rattle.cfs_model.specs.Start.{task_of};
-ghost use Rattle.queue_replay.specs.declared.runqueue.Runqueue.{Runqueue as Queue};
-ghost use Rattle.queue_replay.specs.Queue.{runqueue_view, IsSubject, IsNext};
-ghost use Rattle.queue_replay.specs.TaskList.{EachOnce};
+ghost use Rattle.queue_replay.specs.Queue.{runqueue_view, IsSubject, IsNext, IsTaskAt};
 ghost use Rattle.queue_replay.specs.FirstTest.{Decides};
 
 use crate::runqueue::Runqueue;
-use crate::task_list::{somebody_runs, task_at};
-use cfs_model::{Nice, Place, Task};
+use cfs_model::{IDLE_PID, Nice, Place, Task};
 use replay_model::{Deed, Step};
 
 /// The task that the step is of, if it stands here; of a switch's two the previous one.
 pub(crate) fn subject_of(queue: &Runqueue, step: &Step) -> Option<Task>
-    ensures { IsSubject queue.now.tasks.items step.now.deed result }
+    ensures { IsSubject (runqueue_view queue.now) step.now.deed result }
 {
     let deed = step.deed;
     match deed {
-        Deed::Switch { prev, .. } => task_at(queue.tasks.as_slice(), prev),
+        Deed::Switch { prev, .. } => queue.task_at(prev),
         Deed::Wake { pid, .. }
         | Deed::Born { pid, .. }
         | Deed::Leave { pid, .. }
-        | Deed::Arrive { pid, .. } => task_at(queue.tasks.as_slice(), pid),
+        | Deed::Arrive { pid, .. } => queue.task_at(pid),
     }
 }
 
 /// The next task of a switch, if it stands here.
 pub(crate) fn next_of(queue: &Runqueue, step: &Step) -> Option<Task>
-    ensures { IsNext queue.now.tasks.items step.now.deed result }
+    ensures { IsNext (runqueue_view queue.now) step.now.deed result }
 {
     let deed = step.deed;
     match deed {
-        Deed::Switch { next, .. } => task_at(queue.tasks.as_slice(), next),
+        Deed::Switch { next, .. } => queue.task_at(next),
         Deed::Wake { .. } | Deed::Born { .. } | Deed::Leave { .. } | Deed::Arrive { .. } => None,
     }
 }
@@ -59,8 +55,7 @@ pub(crate) fn self_switch(step: &Step) -> Option<u32>
 
 /// The previous task of a switch isn't what runs here.
 pub(crate) fn prev_not_running(queue: &Runqueue, step: &Step, subject: &Option<Task>) -> Option<u32>
-    requires once { EachOnce queue.now.tasks.items }
-    requires subject { IsSubject queue.now.tasks.items step.now.deed subject.now }
+    requires { IsSubject (runqueue_view queue.now) step.now.deed subject.now }
     ensures { Decides result (IsPrevNotRunning (runqueue_view queue.now) step.now.deed) }
 {
     let Deed::Switch { prev, .. } = step.deed else {
@@ -75,8 +70,8 @@ pub(crate) fn prev_not_running(queue: &Runqueue, step: &Step, subject: &Option<T
 
 /// A wakeup or a leave names a pid that doesn't stand here.
 pub(crate) fn strange(step: &Step, subject: &Option<Task>) -> Option<u32>
-    ensures { (queue : Queue) → IsSubject queue.tasks.items step.now.deed subject.now
-        → Decides result (IsStrange (runqueue_view queue) step.now.deed) }
+    ensures { (part : Part) → IsSubject part step.now.deed subject.now
+        → Decides result (IsStrange part step.now.deed) }
 {
     let deed = step.deed;
     match deed {
@@ -89,8 +84,8 @@ pub(crate) fn strange(step: &Step, subject: &Option<Task>) -> Option<u32>
 
 /// A birth or an arrival names a pid that stands here.
 pub(crate) fn already(step: &Step, subject: &Option<Task>) -> Option<u32>
-    ensures { (queue : Queue) → IsSubject queue.tasks.items step.now.deed subject.now
-        → Decides result (IsAlready (runqueue_view queue) step.now.deed) }
+    ensures { (part : Part) → IsSubject part step.now.deed subject.now
+        → Decides result (IsAlready part step.now.deed) }
 {
     let deed = step.deed;
     match deed {
@@ -103,8 +98,8 @@ pub(crate) fn already(step: &Step, subject: &Option<Task>) -> Option<u32>
 
 /// The task that runs here leaves.
 pub(crate) fn move_running(step: &Step, subject: &Option<Task>) -> Option<u32>
-    ensures { (queue : Queue) → IsSubject queue.tasks.items step.now.deed subject.now
-        → Decides result (IsMoveRunning (runqueue_view queue) step.now.deed) }
+    ensures { (part : Part) → IsSubject part step.now.deed subject.now
+        → Decides result (IsMoveRunning part step.now.deed) }
 {
     let Deed::Leave { pid, .. } = step.deed else {
         return None;
@@ -118,8 +113,8 @@ pub(crate) fn move_running(step: &Step, subject: &Option<Task>) -> Option<u32>
 
 /// A task that the step names stands here with another nice value; of a switch's two the previous one first.
 pub(crate) fn wrong_prio(step: &Step, subject: &Option<Task>, next: &Option<Task>) -> Option<u32>
-    ensures { (queue : Queue) → IsSubject queue.tasks.items step.now.deed subject.now → IsNext queue.tasks.items step.now.deed next.now
-        → Decides result (IsWrongPrio (runqueue_view queue) step.now.deed) }
+    ensures { (part : Part) → IsSubject part step.now.deed subject.now → IsNext part step.now.deed next.now
+        → Decides result (IsWrongPrio part step.now.deed) }
 {
     let deed = step.deed;
     match deed {
@@ -151,12 +146,11 @@ pub(crate) fn wrong_prio(step: &Step, subject: &Option<Task>, next: &Option<Task
 
 /// The pid is what runs here; pid 0 where nobody does.
 fn is_runner(queue: &Runqueue, pid: u32, task: Option<Task>) -> bool
-    requires once { EachOnce queue.now.tasks.items }
-    requires task { task ≡ task_of queue.now.tasks.items pid }
+    requires { IsTaskAt (runqueue_view queue.now) pid task }
     ensures { IsTrue result ↔ IsRunner (runqueue_view queue.now) pid }
 {
-    if pid == 0 {
-        !somebody_runs(queue.tasks.as_slice())
+    if pid == IDLE_PID {
+        queue.runner.is_none()
     } else {
         stands_in(task, Place::Run)
     }
@@ -164,14 +158,14 @@ fn is_runner(queue: &Runqueue, pid: u32, task: Option<Task>) -> bool
 
 /// The task stands here, in this place.
 pub(crate) fn stands_in(task: Option<Task>, place: Place) -> bool
-    ensures { (queue : Queue) (pid : ℕ) → task ≡ task_of queue.tasks.items pid → (IsTrue result ↔ IsIn (runqueue_view queue) place pid) }
+    ensures { (part : Part) (pid : ℕ) → IsTaskAt part pid task → (IsTrue result ↔ IsIn part place pid) }
 {
     matches!(task, Some(task) if task.place == place)
 }
 
 /// The task stands here, with another nice value than the printed one.
 fn has_other_nice(task: Option<Task>, nice: Nice) -> bool
-    ensures { (queue : Queue) (pid : ℕ) → task ≡ task_of queue.tasks.items pid → (IsTrue result ↔ HasOtherNice (runqueue_view queue) pid nice) }
+    ensures { (part : Part) (pid : ℕ) → IsTaskAt part pid task → (IsTrue result ↔ HasOtherNice part pid nice) }
 {
     match task {
         Some(task) => task.nice != nice,
@@ -181,7 +175,7 @@ fn has_other_nice(task: Option<Task>, nice: Nice) -> bool
 
 /// The same at a switch, where that of pid 0 isn't looked at.
 fn has_other_prio(task: Option<Task>, pid: u32, nice: Nice) -> bool
-    ensures { (queue : Queue) → task ≡ task_of queue.tasks.items pid → (IsTrue result ↔ HasOtherPrio (runqueue_view queue) pid nice) }
+    ensures { (part : Part) → IsTaskAt part pid task → (IsTrue result ↔ HasOtherPrio part pid nice) }
 {
-    pid != 0 && has_other_nice(task, nice)
+    pid != IDLE_PID && has_other_nice(task, nice)
 }

@@ -1,5 +1,10 @@
 ghost use Rattle.std.specs.Prelude.{◌≡◌, ◌+◌, ◌<◌, ◌≤◌, true, false, None, IsSome, ◌⊎◌, map, length, OnOk, OnErr, IfOk};
+ghost use Rattle.std.specs.List.{AllPairs};
+ghost use Rattle.cfs_model.specs.declared.task.Place.TheVariants.{Run};
 ghost use Rattle.replay_model.specs.Page.{IsStartOf, end_page};
+ghost use Rattle.replay_model.specs.Part.{start_part};
+ghost use Rattle.queue_replay.specs.Queue.{runqueue_view};
+ghost use Rattle.queue_replay.specs.Tasks.{RisesByPid};
 ghost use Rattle.queue_replay.specs.Counting.{page_draft_view};
 ghost use Rattle.queue_replay.specs.ReplayState.{IsGoing, replay_state_view};
 ghost use Rattle.queue_replay.specs.Made.{IsAt, IsCut, GoesOn};
@@ -9,7 +14,7 @@ use crate::page_draft::PageDraft;
 use crate::replay_state::{ReplayState, idle_deadline, since_after};
 use crate::runqueue::Runqueue;
 use crate::tally_book::TallyBook;
-use cfs_model::{Kind, Knobs, Memory};
+use cfs_model::{IDLE_PID, Kind, Knobs, Memory, NO_LINE, Task};
 use replay_model::StepFault;
 use sched_record::Stream;
 use std::alloc::Global;
@@ -74,7 +79,7 @@ fn end_test(stream: &Stream, knobs: Knobs, state: &mut ReplayState)
         state.draft.fault = Some(StepFault {
             line: stream.last_line(),
             kind: Kind::IdleTooLong,
-            pid: 0,
+            pid: IDLE_PID,
             deadline: Some(deadline),
         });
     }
@@ -98,17 +103,13 @@ fn before_steps(alloc: Global, stream: &Stream) -> Result<ReplayState, Memory>
     ensures start { IfOk result (λ state. IsStartOf (stream_view stream.now) (replay_state_view state)) }
     ensures going { IfOk result IsGoing }
 {
-    let queue = Runqueue {
-        tasks: stream.tasks().to_vec(alloc)?,
-        floor: stream.floor(),
-        mark: stream.start(),
-    };
+    let queue = queue_of(alloc, stream.tasks(), stream.floor(), stream.start())?;
     Ok(ReplayState {
         made: 0,
         since: since_after(None, stream.start(), &queue),
         queue,
         draft: PageDraft {
-            line: 0,
+            line: NO_LINE,
             fault: None,
             left: Vec::new(alloc),
             came: Vec::new(alloc),
@@ -117,4 +118,17 @@ fn before_steps(alloc: Global, stream: &Stream) -> Result<ReplayState, Memory>
             tallies: TallyBook::of_tasks(alloc, stream.tasks())?,
         },
     })
+}
+
+/// The runqueue of these tasks: their pids rise, and at most one of them runs.
+fn queue_of(alloc: Global, tasks: &[Task], floor: i64, mark: u64) -> Result<Runqueue, Memory>
+    requires rise { RisesByPid tasks.now }
+    requires one { AllPairs (λ t u. t.place ≡ Run → u.place ≡ Run → ⊥) tasks.now }
+    ensures { IfOk result (λ queue. runqueue_view queue ≡ start_part tasks.now floor mark) }
+{
+    let mut queue = Runqueue::empty(alloc, floor, mark);
+    for task in tasks {
+        queue.add(*task)?;
+    }
+    Ok(queue)
 }

@@ -1,14 +1,17 @@
-//! Times the readers on a file, `reading_bench events|trace|companion FILE ROUNDS`, and the stages of an audit,
-//! `reading_bench stages TRACE COMPANION ROUNDS`.
+//! Times the readers on a file, `reading_bench events|trace|wide|companion FILE ROUNDS`, and the audit of a recording, by
+//! stages and whole, in one thread and in several, `reading_bench stages TRACE COMPANION ROUNDS`.
 #![tactic(auto)]
 
 mod readings;
+mod seat;
 mod stages;
 
 use crate::readings::found_by;
-use crate::stages::stages_of;
+use crate::stages::{Round, Stages, round_of};
 use std::process::ExitCode;
 use std::rt::{Clock, Files};
+use std::sync::Wait;
+use std::thread::Threads;
 use std::time::Instant;
 use std::{env, fs, io};
 
@@ -16,7 +19,7 @@ use std::{env, fs, io};
 const BAD_WORDS: u8 = 5;
 
 /// Times a reading of a file so many times.
-fn time_reading<R: AllocGlobal + Clock + Files + Print>(
+fn time_reading<R: AllocGlobal + Clock + Files + Print + Threads + Sync>(
     rt: &R,
     what: &str,
     file: &str,
@@ -25,7 +28,7 @@ fn time_reading<R: AllocGlobal + Clock + Files + Print>(
     let text = fs::read(rt, file)?;
     for _ in 0..rounds {
         let began = Instant::now(rt)?;
-        let Some(found) = found_by(rt.alloc(), what, &text) else {
+        let Some(found) = found_by(rt, what, &text) else {
             return Ok(ExitCode::from(BAD_WORDS));
         };
         let nanoseconds = began.elapsed(rt)?.as_nanos();
@@ -34,8 +37,8 @@ fn time_reading<R: AllocGlobal + Clock + Files + Print>(
     Ok(ExitCode::SUCCESS)
 }
 
-/// Times the stages of an audit so many times.
-fn time_stages<R: AllocGlobal + Clock + Files + Print>(
+/// Times audits so many times, by stages in one thread and in several, and whole.
+fn time_stages<R: AllocGlobal + Clock + Files + Print + Threads + Wait + Sync>(
     rt: &R,
     trace: &str,
     companion: &str,
@@ -44,13 +47,24 @@ fn time_stages<R: AllocGlobal + Clock + Files + Print>(
     let trace = fs::read(rt, trace)?;
     let companion = fs::read(rt, companion)?;
     for _ in 0..rounds {
-        let (times, closed) = stages_of(rt, rt.alloc(), &trace, &companion)?;
-        println!(rt;
-            "{} {} {} {} {} {closed:?}",
-            times.reading, times.joining, times.dealing, times.replaying, times.closing
-        )?;
+        let Round {
+            opening,
+            alone,
+            together,
+            serial,
+            crew,
+            closed,
+        } = round_of(rt, rt.alloc(), &trace, &companion)?;
+        print!(rt; "{} {} ", opening.reading, opening.joining)?;
+        print_stages(rt, alone)?;
+        print_stages(rt, together)?;
+        println!(rt; "{serial} {crew} {closed:?}")?;
     }
     Ok(ExitCode::SUCCESS)
+}
+
+fn print_stages<R: Print>(rt: &R, times: Stages) -> io::Result<()> {
+    print!(rt; "{} {} {} ", times.dealing, times.replaying, times.closing)
 }
 
 fn main(rt: HostRuntime) -> io::Result<ExitCode> {

@@ -1,8 +1,9 @@
 use companion_file::read_companion;
 use ftrace_line::{Line, read_line};
 use sched_event::{Event, read_event};
-use sched_record::read_trace;
+use sched_record::{Trace, TraceFault, read_trace, read_trace_wide};
 use std::alloc::Global;
+use std::thread::Threads;
 use text_parts::lines::next_line;
 
 /// What a reading found, so that none of it can be left out.
@@ -17,11 +18,12 @@ pub enum Found {
 }
 
 /// What a reading of this name finds in a text.
-pub fn found_by(alloc: Global, what: &str, text: &[u8]) -> Option<Found> {
+pub fn found_by<R: AllocGlobal + Threads + Sync>(rt: &R, what: &str, text: &[u8]) -> Option<Found> {
     match what {
         "events" => Some(events_of(text)),
-        "trace" => Some(trace_of(alloc, text)),
-        "companion" => Some(companion_of(alloc, text)),
+        "trace" => Some(kept(read_trace(rt.alloc(), text))),
+        "wide" => Some(kept(read_trace_wide(rt, rt.alloc(), text))),
+        "companion" => Some(companion_of(rt.alloc(), text)),
         _ => None,
     }
 }
@@ -55,9 +57,9 @@ fn events_of(text: &[u8]) -> Found {
     Found::Events { count, sum }
 }
 
-/// Reads a trace into what a record keeps.
-fn trace_of(alloc: Global, text: &[u8]) -> Found {
-    match read_trace(alloc, text) {
+/// How much a trace that was read keeps.
+fn kept(read: Result<Trace, TraceFault>) -> Found {
+    match read {
         Ok(trace) => Found::Kept {
             count: trace.events().len(),
         },

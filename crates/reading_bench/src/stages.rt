@@ -1,52 +1,110 @@
-//! The stages of an audit, each ended for all processors before the next begins.
+//! The stages of an audit, each ended for all processors before the next begins, in one thread and in several; and whole
+//! audits.
 
+use crate::seat::Seat;
+use audit_crew::{OpenGate, audit, audit_serial};
 use cfs_model::{Knobs, Memory};
 use companion_file::{Companion, read_companion};
-use queue_replay::{Page, Replay};
-use sched_record::{Record, Stream, Trace, join, read_trace};
+use sched_record::{Record, Trace, join, read_trace};
 use std::alloc::Global;
-use std::io;
 use std::io::ErrorKind;
 use std::rt::Clock;
+use std::sync::Wait;
+use std::thread::Threads;
 use std::time::Instant;
+use std::{io, thread};
 use ticket_book::{Book, Closed};
 
-/// How long each stage of an audit took, in nanoseconds.
+/// How many threads at most share the processors of a record, where there are several.
+const THREADS: usize = 4;
+
+/// How long it took to come to a record, in nanoseconds.
 #[derive(Clone, Copy, Debug, PartialEq, Eq)]
-pub struct Stages {
+pub struct Opening {
     pub reading: u128,
     pub joining: u128,
+}
+
+/// How long each stage of the audit of a record took, in nanoseconds.
+#[derive(Clone, Copy, Debug, PartialEq, Eq)]
+pub struct Stages {
     pub dealing: u128,
     pub replaying: u128,
     pub closing: u128,
 }
 
-/// Audits a trace and its companion stage by stage.
-pub fn stages_of<C: Clock>(
-    clock: &C,
+/// One recording, gone through by all stages in one thread and in several, and by both audits.
+#[derive(Drop)]
+pub struct Round {
+    pub opening: Opening,
+    pub alone: Stages,
+    pub together: Stages,
+    /// Of `audit_serial`, in nanoseconds.
+    pub serial: u128,
+    /// Of `audit`, in nanoseconds.
+    pub crew: u128,
+    pub closed: Closed,
+}
+
+/// Audits a trace and its companion, by stages and whole.
+pub fn round_of<R: Clock + Threads + Wait + Sync>(
+    rt: &R,
     alloc: Global,
     trace: &[u8],
     companion: &[u8],
-) -> io::Result<(Stages, Closed)> {
-    let mut last = Instant::now(clock)?;
+) -> io::Result<Round> {
+    let mut last = Instant::now(rt)?;
     let (trace, companion) = read_both(alloc, trace, companion)?;
-    let reading = lap(clock, &mut last)?;
+    let reading = lap(rt, &mut last)?;
     let record = join(trace, companion).map_err(|_| refused())?;
-    let joining = lap(clock, &mut last)?;
-    let streams = deal_all(alloc, &record).map_err(out_of_memory)?;
-    let dealing = lap(clock, &mut last)?;
-    let pages = replay_all(alloc, streams).map_err(out_of_memory)?;
-    let replaying = lap(clock, &mut last)?;
-    let closed = close_book(alloc, pages, &record).map_err(out_of_memory)?;
-    let closing = lap(clock, &mut last)?;
-    let times = Stages {
-        reading,
-        joining,
+    let joining = lap(rt, &mut last)?;
+    let alone = stages_of(rt, alloc, &record, 1)?;
+    let together = stages_of(rt, alloc, &record, THREADS)?;
+    let _dropped = lap(rt, &mut last)?;
+    let _closed = audit_serial(alloc, &record, Knobs::standard()).map_err(out_of_memory)?;
+    let serial = lap(rt, &mut last)?;
+    let closed = audit(rt, alloc, &record, Knobs::standard(), &OpenGate).map_err(out_of_memory)?;
+    let crew = lap(rt, &mut last)?;
+    Ok(Round {
+        opening: Opening { reading, joining },
+        alone,
+        together,
+        serial,
+        crew,
+        closed,
+    })
+}
+
+/// Audits a record stage by stage, in at most so many threads.
+fn stages_of<R: Clock + Threads + Sync>(
+    rt: &R,
+    alloc: Global,
+    record: &Record,
+    threads: usize,
+) -> io::Result<Stages> {
+    let mut seats = seats_of(alloc, record.cpus()).map_err(out_of_memory)?;
+    let mut last = Instant::now(rt)?;
+    thread::for_each_mut(
+        rt,
+        seats.as_mut_slice(),
+        threads.max(1),
+        &|cpu, seat: &mut Seat| seat.deal(record, cpu),
+    );
+    let dealing = lap(rt, &mut last)?;
+    thread::for_each_mut(
+        rt,
+        seats.as_mut_slice(),
+        threads.max(1),
+        &|_cpu, seat: &mut Seat| seat.replay(alloc),
+    );
+    let replaying = lap(rt, &mut last)?;
+    let _closed = close_book(alloc, seats, record).map_err(out_of_memory)?;
+    let closing = lap(rt, &mut last)?;
+    Ok(Stages {
         dealing,
         replaying,
         closing,
-    };
-    Ok((times, closed))
+    })
 }
 
 /// The nanoseconds since the last lap ended, with which another begins.
@@ -63,33 +121,20 @@ fn read_both(alloc: Global, trace: &[u8], companion: &[u8]) -> io::Result<(Trace
     Ok((trace, companion))
 }
 
-fn deal_all(alloc: Global, record: &Record) -> Result<Vec<Stream>, Memory> {
-    let mut streams = Vec::new(alloc);
-    for cpu in 0..record.cpus() {
-        streams.push(record.deal(cpu)?)?;
+fn seats_of(alloc: Global, cpus: u32) -> Result<Vec<Seat>, Memory> {
+    let mut seats = Vec::new(alloc);
+    for _cpu in 0..cpus {
+        seats.push(Seat::new())?;
     }
-    Ok(streams)
+    Ok(seats)
 }
 
-fn replay_all(alloc: Global, streams: Vec<Stream>) -> Result<Vec<Page>, Memory> {
-    let mut pages = Vec::new(alloc);
-    for stream in streams {
-        pages.push(replayed(alloc, stream)?)?;
-    }
-    Ok(pages)
-}
-
-/// The whole page of a stream.
-fn replayed(alloc: Global, stream: Stream) -> Result<Page, Memory> {
-    let mut replay = Replay::new(alloc, stream, Knobs::standard()).map_err(|(_, memory)| memory)?;
-    let _state = replay.go_on(u64::MAX)?;
-    Ok(replay.page())
-}
-
-fn close_book(alloc: Global, pages: Vec<Page>, record: &Record) -> Result<Closed, Memory> {
+fn close_book(alloc: Global, seats: Vec<Seat>, record: &Record) -> Result<Closed, Memory> {
     let mut book = Book::new(alloc, record.cpus())?;
-    for page in pages {
-        let _told = book.post(page);
+    for seat in seats {
+        if let Some(page) = seat.leave() {
+            let _told = book.post(page);
+        }
     }
     book.close(record, Knobs::standard())
 }

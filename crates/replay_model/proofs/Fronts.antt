@@ -1,14 +1,15 @@
 -- Where the whole page of a processor says nothing against some events, the replay of its steps among them passes, and
 -- goes on from there to the page's end. That the processor is in time at the last of them is told by its next step or
 -- by the end test, whose fault would be due there.
-use Rattle.std.proofs.Common.{◌≡◌, ℕ, ◌+◌, ◌<◌, ◌≤◌, Option, Some, None, ℤ, inl, inr, List, [], ◌∷◌, ◌++◌, refl, sym, ap, ◌∙◌, subst, arith}
+use Rattle.std.proofs.Common.{◌≡◌, ℕ, ◌+◌, ◌<◌, ◌≤◌, Option, Some, None, ℤ, ◌⊎◌, inl, inr, List, [], ◌∷◌, ◌++◌, refl, sym, ap, ◌∙◌, subst, arith}
 use Rattle.std.proofs.lemmas.Bool.{cases_lt}
 use Rattle.std.specs.List.{AllByRecursion}
+use Rattle.cfs_model.specs.Limits.{no_line}
 use Rattle.cfs_model.specs.Settings.{Settings}
 use Rattle.cfs_model.specs.Claimed.{Claimed}
 use Rattle.cfs_model.specs.Touch.{touched}
 use Rattle.replay_model.specs.QueueTests.{IsIdleTooLong}
-use Rattle.replay_model.specs.Cut.{steps_at, last_time_of}
+use Rattle.replay_model.specs.Cut.{steps_at, last_time_of, last_line_after}
 use Rattle.replay_model.specs.Noted.{PageView}
 use Rattle.replay_model.specs.PartStep.{ClaimInRange}
 use Rattle.replay_model.specs.Page.{ReplayStateView, IsReplay}
@@ -65,8 +66,11 @@ pub record Back (knobs : Settings) (start : ℕ) (before rest : List Claimed) (c
   pub end : ReplayStateView
   pub replay : IsReplay knobs cpu mid (steps_at cpu rest) end
   pub fault : PageFault knobs.slack (last_time_of (last_time_of start before) rest) end page.fault
+  pub line : (fault : StepFault) → page.fault ≡ Some fault
+      → (end.page.fault ≡ Some fault) ⊎ (fault.line ≡ last_line_after no_line (before ++ rest))
   pub left : page.left ≡ end.page.left
   pub came : page.came ≡ end.page.came
+  pub tallies : page.tallies ≡ end.page.tallies
 
 -- a fault that isn't due at any of the events has its deadline after them
 not_due : (deadline cpu : ℕ) (o : Option StepFault) (before : List Claimed) → HasDeadline o deadline
@@ -137,8 +141,10 @@ within knobs start floors tasks before rest cpus cpu page k rise w c =
       end = w.end;
       replay = f.back;
       fault = subst (λ time. PageFault knobs.slack time w.end page.fault) (last_time_append start before rest) w.fault;
+      line = w.line;
       left = w.left;
       came = w.came;
+      tallies = w.tallies;
     } in
     record {
       mid = f.mid;
@@ -151,14 +157,14 @@ within knobs start floors tasks before rest cpus cpu page k rise w c =
       past = λ h. absurd (omega arith);
     }
 
-pub at_front : (knobs : Settings) (start : ℕ) (floors : List ℤ) (tasks : List Task) (before rest : List Claimed)
+-- of a whole replay
+pub front_of : (knobs : Settings) (start : ℕ) (floors : List ℤ) (tasks : List Task) (before rest : List Claimed)
     (cpus cpu : ℕ) (page : PageView) → IsRecord start floors tasks (before ++ rest) cpus
-    → (cpu < cpus → IsWholePage knobs start floors tasks (before ++ rest) cpu page)
+    → (cpu < cpus → WholeReplay knobs start floors tasks (before ++ rest) cpu page)
     → (cpu < cpus → ComesAfter before cpu page.fault)
     → AtFront knobs start floors tasks before rest cpus cpu page
-at_front knobs start floors tasks before rest cpus cpu page r w c = elim (cases_lt cpu cpus) [
-  | inl k ↦ within knobs start floors tasks before rest cpus cpu page k r.times_rise
-      (whole_replay knobs start floors tasks (before ++ rest) cpu page (w k)) (c k)
+front_of knobs start floors tasks before rest cpus cpu page r w c = elim (cases_lt cpu cpus) [
+  | inl k ↦ within knobs start floors tasks before rest cpus cpu page k r.times_rise (w k) (c k)
   | inr k ↦ (let p = past_share knobs start floors tasks before cpus cpu
       (record_front start floors tasks before rest cpus r) k in
       record {
@@ -172,3 +178,13 @@ at_front knobs start floors tasks before rest cpus cpu page r w c = elim (cases_
         past = λ h. p.3;
       })
 ]
+
+-- of a whole page
+pub at_front : (knobs : Settings) (start : ℕ) (floors : List ℤ) (tasks : List Task) (before rest : List Claimed)
+    (cpus cpu : ℕ) (page : PageView) → IsRecord start floors tasks (before ++ rest) cpus
+    → (cpu < cpus → IsWholePage knobs start floors tasks (before ++ rest) cpu page)
+    → (cpu < cpus → ComesAfter before cpu page.fault)
+    → AtFront knobs start floors tasks before rest cpus cpu page
+at_front knobs start floors tasks before rest cpus cpu page r w c =
+    front_of knobs start floors tasks before rest cpus cpu page r
+    (λ k. whole_replay knobs start floors tasks (before ++ rest) cpu page (w k)) c

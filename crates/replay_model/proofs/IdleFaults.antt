@@ -55,7 +55,8 @@ pub told_idles : (knobs : Settings) (cpu : ℕ) (s : ReplayStateView) (events : 
 told_idles knobs cpu s [] end time bound deadline o n below above rise r is f = go (is.from f.0 f.1)
   where
     go : (end.page.fault ≡ Some f.0)
-        ⊎ ((x : ℕ) × (end.page.fault ≡ None) × (end.since ≡ Some x) × (f.0.deadline ≡ Some (x + knobs.slack)))
+        ⊎ ((x : ℕ) × (end.page.fault ≡ None) × (end.since ≡ Some x) × (f.0.deadline ≡ Some (x + knobs.slack))
+        × (x + knobs.slack < time))
         → IsDue knobs.slack s.since deadline bound
     go (inl h) = no_some f.0 (sym n ∙ ap (λ y. y.page.fault) (sym r) ∙ h)
     go (inr h) = record {

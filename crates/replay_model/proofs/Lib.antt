@@ -1,3 +1,4 @@
+pub mod Among
 pub mod BornHere
 pub mod Bounded
 pub mod Clear
@@ -7,6 +8,7 @@ pub mod FirstFaults
 pub mod Follow
 pub mod FollowLaws
 pub mod Followed
+pub mod FrontFaults
 pub mod FrontReplay
 pub mod FrontRun
 pub mod Fronts
@@ -20,6 +22,7 @@ pub mod OnePid
 pub mod OneRunner
 pub mod PageCauses
 pub mod PagesCompose
+pub mod PagesSuffice
 pub mod PagesTell
 pub mod PartFacts
 pub mod PartForward
@@ -41,7 +44,19 @@ pub mod StartFrom
 pub mod StartPart
 pub mod StepExists
 pub mod StepLines
+pub mod Stops
 pub mod SwitchClear
+pub mod TalliesAddedUp
+pub mod TalliesAtStart
+pub mod TalliesCharged
+pub mod TalliesInMachine
+pub mod TalliesInRun
+pub mod TalliesKept
+pub mod TalliesOfDeeds
+pub mod TalliesOfTasks
+pub mod TalliesSaid
+pub mod TalliesShared
+pub mod TallyBounds
 pub mod TicketLines
 pub mod Touching
 pub mod WholeReplay

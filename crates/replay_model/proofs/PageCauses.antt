@@ -29,7 +29,8 @@ no_later_fault : (knobs : Settings) (cpu : ℕ) (s : ReplayStateView) (events : 
 no_later_fault knobs cpu s [] end slack time line o fault n rise r is e timeless at = go (is.from fault e)
   where
     go : (end.page.fault ≡ Some fault)
-        ⊎ ((x : ℕ) × (end.page.fault ≡ None) × (end.since ≡ Some x) × (fault.deadline ≡ Some (x + slack))) → ⊥
+        ⊎ ((x : ℕ) × (end.page.fault ≡ None) × (end.since ≡ Some x) × (fault.deadline ≡ Some (x + slack))
+        × (x + slack < time)) → ⊥
     go (inl h) = no_some fault (sym n ∙ ap (λ y. y.page.fault) (sym r) ∙ h)
     go (inr h) = no_some (h.0 + slack) (sym timeless ∙ h.3)
 no_later_fault knobs cpu s (event ∷ events) end slack time line o fault n rise r is e timeless at =

@@ -1,6 +1,6 @@
 -- The first thing that the pages say against an event, behind those against which they say nothing, is what is wrong
 -- with it: the machine's part at each processor is its replay's, so the same test fails on it; and each of the five
--- things ends the run.
+-- things ends the run. Each page may be of a record of its own, which begins with these events.
 use Rattle.std.proofs.Common.{◌≡◌, ◌≢◌, ℕ, ◌<◌, true, ℤ, ◌↔◌, inl, inr, List, [], ◌∷◌, ◌++◌, refl, sym, ap, ◌∙◌, subst, arith}
 use Rattle.std.proofs.lemmas.Bool.{cases_lt}
 use Rattle.std.specs.List.{AllByRecursion}
@@ -22,13 +22,12 @@ use Rattle.replay_model.specs.Following.{TimesRise, last_of, IsShareReplay, Slac
 use Rattle.replay_model.specs.Composition.{LinesRise, named, ticket_at, IsRecord}
 use Rattle.replay_model.specs.Endings.{roll_of}
 use Rattle.replay_model.specs.Cause.{Cause, FailsOn, FailsAt, PassesAt, IsBornTwice, IsActCause, IsIdlingCause, IsCause}
-use Rattle.replay_model.specs.Closing.{IdlesBefore, FailsHere, IsPageCause, IsActCauseOf, IsIdlingCauseOf, IsCauseOf, IsWholePage, PagesTellFault}
+use Rattle.replay_model.specs.Closing.{IdlesBefore, FailsHere, IsPageCause, IsActCauseOf, IsIdlingCauseOf, IsCauseOf}
 use Rattle.cfs_model.proofs.StartOrder.{start_in_order}
 use Rattle.replay_model.proofs.BornHere.{not_born_here}
 use Rattle.replay_model.proofs.FollowLaws.{replay_follows, slack_follows}
 use Rattle.replay_model.proofs.FrontReplay.{PassesFirst}
-use Rattle.replay_model.proofs.Fronts.{AtFront, rise_back, record_front, at_front}
-use Rattle.replay_model.proofs.FrontRun.{front_run}
+use Rattle.replay_model.proofs.Fronts.{AtFront, rise_back, record_front}
 use Rattle.replay_model.proofs.PageCauses.{idling_of_page, page_of_idling, passes_there, fails_there}
 use Rattle.replay_model.proofs.PagesCompose.{start_roll}
 use Rattle.replay_model.proofs.RunEndings.{order_after, roll_run, idling_ends_run, birth_ends_run, tickets_end_run}
@@ -69,10 +68,10 @@ all_at : (P : Claimed → Type 0) (before rest : List Claimed) (event : Claimed)
 all_at P [] rest event h = h.0
 all_at P (x ∷ before) rest event h = all_at P before rest event h.1
 
-module _ (knobs : Settings) (start : ℕ) (floors : List ℤ) (tasks : List Task) (before rest : List Claimed)
-    (event : Claimed) (cpus : ℕ) (pages : ℕ → PageView)
-    (r : IsRecord start floors tasks (before ++ event ∷ rest) cpus)
-    (at : (cpu : ℕ) → AtFront knobs start floors tasks before (event ∷ rest) cpus cpu (pages cpu))
+module _ (knobs : Settings) (start : ℕ) (floors : List ℤ) (tasks : List Task) (before : List Claimed)
+    (rest : ℕ → List Claimed) (event : Claimed) (cpus : ℕ) (pages : ℕ → PageView)
+    (r : (cpu : ℕ) → IsRecord start floors tasks (before ++ event ∷ rest cpu) cpus)
+    (at : (cpu : ℕ) → AtFront knobs start floors tasks before (event ∷ rest cpu) cpus cpu (pages cpu))
     (run : IsRun knobs start (start_machine start floors tasks) before) where
   abbrev m : Machine
   m = last_of (start_machine start floors tasks) run.states
@@ -87,31 +86,31 @@ module _ (knobs : Settings) (start : ℕ) (floors : List ℤ) (tasks : List Task
   Ends = ¬ IsRun knobs start (start_machine start floors tasks) (before ++ event ∷ [])
 
   times : TimesRise start before
-  times = (record_front start floors tasks before (event ∷ rest) cpus r).times_rise
+  times = (record_front start floors tasks before (event ∷ rest 0) cpus (r 0)).times_rise
 
-  later_times : TimesRise event.entry.time rest
-  later_times = (rise_back start before (event ∷ rest) r.times_rise).1
+  later_times : (cpu : ℕ) → TimesRise event.entry.time (rest cpu)
+  later_times cpu = (rise_back start before (event ∷ rest cpu) (r cpu).times_rise).1
 
-  later_lines : LinesRise event.entry.line rest
-  later_lines = (lines_back 0 before (event ∷ rest) r.lines_rise).1
+  later_lines : (cpu : ℕ) → LinesRise event.entry.line (rest cpu)
+  later_lines cpu = (lines_back 0 before (event ∷ rest cpu) (r cpu).lines_rise).1
 
   part_is : (cpu : ℕ) → part_of m cpu ≡ (at cpu).mid.part
-  part_is cpu = (replay_follows knobs start floors tasks before cpu (at cpu).mid r.is_start times run
+  part_is cpu = (replay_follows knobs start floors tasks before cpu (at cpu).mid (r 0).is_start times run
       (at cpu).passes.share).1
 
   idles_is : (cpu : ℕ) → Idles cpu ↔ IsIdleTooLong knobs.slack (at cpu).mid.since event.entry.time 0
-  idles_is cpu = slack_follows knobs start floors tasks before cpu (at cpu).mid event.entry.time r.is_start times run
+  idles_is cpu = slack_follows knobs start floors tasks before cpu (at cpu).mid event.entry.time (r 0).is_start times run
       (at cpu).passes.share
 
   -- a processor idles for too long just where its page says so
   told : (cpu : ℕ) → cpu < cpus → IdlesBefore event (pages cpu).fault
       → IsIdleTooLong knobs.slack (at cpu).mid.since event.entry.time 0
-  told cpu k h = idling_of_page knobs start before rest event cpu (pages cpu) (at cpu).mid (at cpu).passes.no_fault
-      ((at cpu).back k) later_times h
+  told cpu k h = idling_of_page knobs start before (rest cpu) event cpu (pages cpu) (at cpu).mid (at cpu).passes.no_fault
+      ((at cpu).back k) (later_times cpu) h
 
   tells : (cpu : ℕ) → cpu < cpus → Idles cpu → IdlesBefore event (pages cpu).fault
-  tells cpu k h = page_of_idling knobs start before rest event cpu (pages cpu) (at cpu).mid (at cpu).passes.no_fault
-      ((at cpu).back k) later_times ((idles_is cpu).0 h)
+  tells cpu k h = page_of_idling knobs start before (rest cpu) event cpu (pages cpu) (at cpu).mid (at cpu).passes.no_fault
+      ((at cpu).back k) (later_times cpu) ((idles_is cpu).0 h)
 
   none_idle : ((cpu : ℕ) → cpu < cpus → ¬ IdlesBefore event (pages cpu).fault) → (cpu : ℕ) → ¬ Idles cpu
   none_idle none cpu h = elim (cases_lt cpu cpus) [
@@ -131,30 +130,30 @@ module _ (knobs : Settings) (start : ℕ) (floors : List ℤ) (tasks : List Task
           pid = c.pid;
           kind = c.kind;
         },
-        idling_ends_run knobs start floors tasks before event cause.cpu (at cause.cpu).mid r.is_start times
+        idling_ends_run knobs start floors tasks before event cause.cpu (at cause.cpu).mid (r 0).is_start times
             (at cause.cpu).passes.share late,
       )
 
   fails_at : (cpu : ℕ) (cause : Cause) → cpu < cpus → touches cpu event ≡ true
       → IsPageCause event cpu (pages cpu) cause → FailsAt knobs m cpu event cause × Ends
   fails_at cpu cause k t c =
-      let f = fails_there knobs start before rest event cpu (pages cpu) (at cpu).mid (at cpu).passes.no_fault
-      ((at cpu).back k) cause t later_lines c in (
+      let f = fails_there knobs start before (rest cpu) event cpu (pages cpu) (at cpu).mid (at cpu).passes.no_fault
+      ((at cpu).back k) cause t (later_lines cpu) c in (
         record {
           here = f.here;
           fails = subst (λ part. FailsOn knobs cpu part (step_at cpu event) cause.kind cause.pid) (sym (part_is cpu))
               f.on;
         },
-        fault_ends_run knobs start floors tasks before event cpu (at cpu).mid f.failed r.is_start times t
+        fault_ends_run knobs start floors tasks before event cpu (at cpu).mid f.failed (r 0).is_start times t
             (at cpu).passes.share f.fails,
       )
 
   passes_at : (cpu : ℕ) → (k : cpu < cpus) → touches cpu event ≡ true → (¬ IdlesBefore event (pages cpu).fault)
       → (¬ FailsHere event (pages cpu).fault)
-      → (p : PassesFirst knobs cpu (at cpu).mid event rest ((at cpu).back k).end)
+      → (p : PassesFirst knobs cpu (at cpu).mid event (rest cpu) ((at cpu).back k).end)
       × PassesAt knobs m cpu event p.passes.lifted
   passes_at cpu k t idles here =
-      let p = passes_there knobs start before rest event cpu (pages cpu) (at cpu).mid (at cpu).passes.no_fault
+      let p = passes_there knobs start before (rest cpu) event cpu (pages cpu) (at cpu).mid (at cpu).passes.no_fault
       ((at cpu).back k) t idles here in (
         p,
         subst (λ part. PassesTests knobs cpu part (step_at cpu event) p.passes.lifted) (sym (part_is cpu))
@@ -163,7 +162,7 @@ module _ (knobs : Settings) (start : ℕ) (floors : List ℤ) (tasks : List Task
 
   order : IsInOrder m
   order = order_after knobs (start_machine start floors tasks) before run.states run.steps
-      (start_in_order start floors tasks r.is_start)
+      (start_in_order start floors tasks (r 0).is_start)
 
   -- who is alive by the roll stands somewhere
   stands_somewhere : (pid : ℕ) → roll_of (named tasks) before pid ≡ true → StandsSomewhere m pid
@@ -193,25 +192,25 @@ module _ (knobs : Settings) (start : ℕ) (floors : List ℤ) (tasks : List Task
           stands = s.2;
           is = is;
         },
-        birth_ends_run knobs start floors tasks before event cpu pid nice r.is_start e alive,
+        birth_ends_run knobs start floors tasks before event cpu pid nice (r 0).is_start e alive,
       )
 
   -- the tickets on the pages are those that the parts make
   unequal : (orig dest pid : ℕ) (nice : ℤ) → event.entry.act ≡ Shift orig dest pid nice → (k : orig < cpus)
-      → (l : dest < cpus) → (o : PassesFirst knobs orig (at orig).mid event rest ((at orig).back k).end)
-      → (d : PassesFirst knobs dest (at dest).mid event rest ((at dest).back l).end)
+      → (l : dest < cpus) → (o : PassesFirst knobs orig (at orig).mid event (rest orig) ((at orig).back k).end)
+      → (d : PassesFirst knobs dest (at dest).mid event (rest dest) ((at dest).back l).end)
       → ticket_at event.entry.line (pages orig).left ≢ ticket_at event.entry.line (pages dest).came
       → left_ticket o.passes.lifted event.entry.line pid
       ≢ came_ticket d.passes.lifted event.entry.line pid nice event.claim
   unequal orig dest pid nice e k l o d differ same =
       let line = event.entry.line in
-      let left = left_is knobs event orig dest pid nice e rest (at orig).mid o.next ((at orig).back k).end o.passes
-      o.replay (share_below knobs start floors tasks before rest event orig (at orig).mid r.lines_rise
-      (at orig).passes.share).0 later_lines in
-      let came = came_is knobs event orig dest pid nice e rest (at dest).mid d.next ((at dest).back l).end
+      let left = left_is knobs event orig dest pid nice e (rest orig) (at orig).mid o.next ((at orig).back k).end o.passes
+      o.replay (share_below knobs start floors tasks before (rest orig) event orig (at orig).mid (r orig).lines_rise
+      (at orig).passes.share).0 (later_lines orig) in
+      let came = came_is knobs event orig dest pid nice e (rest dest) (at dest).mid d.next ((at dest).back l).end
       (goes_elsewhere knobs event orig dest pid nice e (at orig).mid o.next o.passes) d.passes d.replay
-      (share_below knobs start floors tasks before rest event dest (at dest).mid r.lines_rise
-      (at dest).passes.share).1 later_lines in
+      (share_below knobs start floors tasks before (rest dest) event dest (at dest).mid (r dest).lines_rise
+      (at dest).passes.share).1 (later_lines dest) in
       differ (ap (ticket_at line) ((at orig).back k).left ∙ left ∙ same ∙ sym came
       ∙ ap (ticket_at line) (sym ((at dest).back l).came))
 
@@ -239,7 +238,7 @@ module _ (knobs : Settings) (start : ℕ) (floors : List ℤ) (tasks : List Task
           is = c.3;
         })),
         tickets_end_run knobs start floors tasks before event orig dest pid nice (at orig).mid (at dest).mid o.0.next
-            d.0.next r.is_start times e (at orig).passes.share (at dest).passes.share o.0.passes d.0.passes differ,
+            d.0.next (r 0).is_start times e (at orig).passes.share (at dest).passes.share o.0.passes d.0.passes differ,
       )
 
   act_cause : (cause : Cause) (act : Act) → event.entry.act ≡ act
@@ -259,18 +258,7 @@ module _ (knobs : Settings) (start : ℕ) (floors : List ℤ) (tasks : List Task
       → IsCause knobs start (start_machine start floors tasks) before event cause × Ends
   cause_told cause (inl c) = let f = idling cause c in (record { run = run; why = inl f.0 }, f.1)
   cause_told cause (inr c) =
-      let within = all_at (λ x. AllByRecursion (λ cpu. cpu < cpus) (touched x.entry.act)) before rest event
-      r.events_within in
+      let within = all_at (λ x. AllByRecursion (λ cpu. cpu < cpus) (touched x.entry.act)) before (rest 0) event
+      (r 0).events_within in
       let f = act_cause cause event.entry.act refl within c.0 c.1 in
       (record { run = run; why = inr (none_idle c.0, f.0) }, f.1)
-
-pub pages_tell_fault : PagesTellFault
-pages_tell_fault knobs start floors tasks events before rest event cpus pages cause r whole e say c =
-    let all = subst (λ xs. IsRecord start floors tasks xs cpus) e r in
-    let at : (cpu : ℕ) → AtFront knobs start floors tasks before (event ∷ rest) cpus cpu (pages cpu) = λ cpu.
-    at_front knobs start floors tasks before (event ∷ rest) cpus cpu (pages cpu) all
-    (λ k. subst (λ xs. IsWholePage knobs start floors tasks xs cpu (pages cpu)) e (whole cpu k))
-    (say.no_fault cpu) in
-    let run = front_run knobs start floors tasks before (event ∷ rest) cpus pages all at say in
-    let f = cause_told knobs start floors tasks before rest event cpus pages all at run cause c in
-    record { before = before; event = event; rest = rest; whole = e; line_is = refl; why = f.0; ends = f.1 }

@@ -21,7 +21,7 @@ use Rattle.cfs_model.specs.declared.claim.Claim.{Claim}
 abbrev pub RollIs : (ℕ → Bool) → Machine → Type 0
 RollIs alive m = (pid : ℕ) → is_some (m.nice pid) ≡ alive pid
 
-lifted_nice : (time : ℕ) (cpus : List ℕ) (before lifted : Machine) → IsLifted time cpus before lifted
+pub lifted_nice : (time : ℕ) (cpus : List ℕ) (before lifted : Machine) → IsLifted time cpus before lifted
     → lifted.nice ≡ before.nice
 lifted_nice time [] before lifted l = ap (λ m. m.nice) l
 lifted_nice time (cpu ∷ cpus) before lifted l = lifted_nice time cpus l.0 lifted l.2 ∙ ap (λ m. m.nice) l.1.result

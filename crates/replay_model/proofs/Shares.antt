@@ -49,7 +49,7 @@ fault_free : (b : Bool) (slack : ℕ) (stream : StreamView) (since : Option ℕ)
 fault_free true slack stream since page h = none_before slack stream since page h
 fault_free false slack stream since page h = h
 
--- the end test changes no ticket, and where it adds no fault the processor is in time
+-- the end test changes no ticket and no tally, and where it adds no fault the processor is in time
 pub end_left : (slack : ℕ) (stream : StreamView) (since : Option ℕ) (o : Option StepFault) (page : PageView)
     → (end_page slack stream since o page).left ≡ page.left
 end_left slack stream None o page = refl
@@ -67,6 +67,17 @@ end_came slack stream (Some x) (Some fault) page = refl
 end_came slack stream (Some x) None page = go (nat_lt (x + slack) stream.last_time)
   where
     go : (b : Bool) → (cond b (record page { fault = Some (late_fault slack stream x) }) page).came ≡ page.came
+    go true = refl
+    go false = refl
+
+pub end_tallies : (slack : ℕ) (stream : StreamView) (since : Option ℕ) (o : Option StepFault) (page : PageView)
+    → (end_page slack stream since o page).tallies ≡ page.tallies
+end_tallies slack stream None o page = refl
+end_tallies slack stream (Some x) (Some fault) page = refl
+end_tallies slack stream (Some x) None page = go (nat_lt (x + slack) stream.last_time)
+  where
+    go : (b : Bool)
+        → (cond b (record page { fault = Some (late_fault slack stream x) }) page).tallies ≡ page.tallies
     go true = refl
     go false = refl
 

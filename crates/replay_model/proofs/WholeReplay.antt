@@ -1,16 +1,17 @@
 -- A whole page is that of a replay by all steps of its processor: past a fault no step changes anything, and the end
 -- test adds a fault alone.
 use Rattle.std.proofs.Common.{◌≡◌, ℕ, ◌+◌, ◌<◌, nat_lt, nat_le, Bool, true, false, cond, Option, Some, None, IsSome, ℤ, ◌⊎◌, inl, inr, List, [], ◌∷◌, length, take, drop, refl, sym, ap, ◌∙◌, subst, true≢false, take-append-drop}
-use Rattle.std.proofs.lemmas.Bool.{le-leb, lt-ltb, leb-true}
+use Rattle.std.proofs.lemmas.Bool.{le-leb, lt-ltb, ltb-true, leb-true}
 use Rattle.std.proofs.lemmas.List.{take_all}
+use Rattle.cfs_model.specs.Limits.{no_line}
 use Rattle.cfs_model.specs.Settings.{Settings}
 use Rattle.cfs_model.specs.Claimed.{Claimed}
-use Rattle.replay_model.specs.Cut.{StreamView, steps_at, last_time_of, cut}
+use Rattle.replay_model.specs.Cut.{StreamView, steps_at, last_time_of, last_line_after, cut}
 use Rattle.replay_model.specs.Noted.{PageView}
 use Rattle.replay_model.specs.Page.{ReplayStateView, IsReplayStep, IsReplay, IsStartOf, end_page}
 use Rattle.replay_model.specs.Closing.{IsWholePage}
 use Rattle.replay_model.proofs.Replayed.{IsReplay-append}
-use Rattle.replay_model.proofs.Shares.{late_fault, end_left, end_came}
+use Rattle.replay_model.proofs.Shares.{late_fault, end_left, end_came, end_tallies}
 use Rattle.replay_model.proofs.SwitchClear.{same_some}
 use Rattle.replay_model.specs.declared.page.StepFault.{StepFault}
 use Rattle.replay_model.specs.declared.step.Step.{Step}
@@ -23,7 +24,8 @@ pub record PageFault (slack time : ℕ) (end : ReplayStateView) (o : Option Step
       → (fault : StepFault) × (o ≡ Some fault) × (fault.deadline ≡ Some (x + slack))
   pub from : (fault : StepFault) → o ≡ Some fault
       → (end.page.fault ≡ Some fault)
-      ⊎ ((x : ℕ) × (end.page.fault ≡ None) × (end.since ≡ Some x) × (fault.deadline ≡ Some (x + slack)))
+      ⊎ ((x : ℕ) × (end.page.fault ≡ None) × (end.since ≡ Some x) × (fault.deadline ≡ Some (x + slack))
+      × (x + slack < time))
 
 -- the replay by all steps that a page is of
 pub record WholeReplay (knobs : Settings) (start : ℕ) (floors : List ℤ) (tasks : List Task) (events : List Claimed)
@@ -33,8 +35,12 @@ pub record WholeReplay (knobs : Settings) (start : ℕ) (floors : List ℤ) (tas
   pub end : ReplayStateView
   pub replay : IsReplay knobs cpu first (steps_at cpu events) end
   pub fault : PageFault knobs.slack (last_time_of start events) end page.fault
+  -- a fault is of the line of its step, or of the record's last
+  pub line : (fault : StepFault) → page.fault ≡ Some fault
+      → (end.page.fault ≡ Some fault) ⊎ (fault.line ≡ last_line_after no_line events)
   pub left : page.left ≡ end.page.left
   pub came : page.came ≡ end.page.came
+  pub tallies : page.tallies ≡ end.page.tallies
 
 -- after a fault a replay goes on by any steps
 stay : (knobs : Settings) (cpu : ℕ) (s : ReplayStateView) (fault : StepFault) → s.page.fault ≡ Some fault
@@ -68,22 +74,39 @@ end_is_late slack stream x page h =
 end_from : (slack : ℕ) (stream : StreamView) (since : Option ℕ) (o : Option StepFault) (page : PageView)
     (fault : StepFault) → page.fault ≡ o → (end_page slack stream since o page).fault ≡ Some fault
     → (page.fault ≡ Some fault)
-    ⊎ ((x : ℕ) × (page.fault ≡ None) × (since ≡ Some x) × (fault.deadline ≡ Some (x + slack)))
+    ⊎ ((x : ℕ) × (page.fault ≡ None) × (since ≡ Some x) × (fault.deadline ≡ Some (x + slack))
+    × (x + slack < stream.last_time))
 end_from slack stream None o page fault n h = inl h
 end_from slack stream (Some x) (Some other) page fault n h = inl h
-end_from slack stream (Some x) None page fault n h = go (nat_lt (x + slack) stream.last_time) h
+end_from slack stream (Some x) None page fault n h = go (nat_lt (x + slack) stream.last_time) refl h
   where
-    go : (b : Bool)
+    go : (b : Bool) → nat_lt (x + slack) stream.last_time ≡ b
         → (cond b (record page { fault = Some (late_fault slack stream x) }) page).fault ≡ Some fault
         → (page.fault ≡ Some fault)
-        ⊎ ((y : ℕ) × (page.fault ≡ None) × (Some x ≡ Some y) × (fault.deadline ≡ Some (y + slack)))
-    go true e = inr (
+        ⊎ ((y : ℕ) × (page.fault ≡ None) × (Some x ≡ Some y) × (fault.deadline ≡ Some (y + slack))
+        × (y + slack < stream.last_time))
+    go true late e = inr (
       x,
       n,
       refl,
       ap (λ (f : StepFault). f.deadline)
           (sym (same_some (Some (late_fault slack stream x)) (late_fault slack stream x) fault refl e)),
+      ltb-true (x + slack) stream.last_time late,
     )
+    go false late e = inl e
+
+-- the line of a fault after the end test
+end_line : (slack : ℕ) (stream : StreamView) (since : Option ℕ) (o : Option StepFault) (page : PageView)
+    (fault : StepFault) → (end_page slack stream since o page).fault ≡ Some fault
+    → (page.fault ≡ Some fault) ⊎ (fault.line ≡ stream.last_line)
+end_line slack stream None o page fault h = inl h
+end_line slack stream (Some x) (Some other) page fault h = inl h
+end_line slack stream (Some x) None page fault h = go (nat_lt (x + slack) stream.last_time) h
+  where
+    go : (b : Bool) → (cond b (record page { fault = Some (late_fault slack stream x) }) page).fault ≡ Some fault
+        → (page.fault ≡ Some fault) ⊎ (fault.line ≡ stream.last_line)
+    go true e = inr (ap (λ (f : StepFault). f.line)
+        (sym (same_some (Some (late_fault slack stream x)) (late_fault slack stream x) fault refl e)))
     go false e = inl e
 
 page_fault : (slack : ℕ) (stream : StreamView) (end : ReplayStateView)
@@ -119,8 +142,11 @@ by_end knobs start floors tasks events cpu page first end s r e =
       replay = r;
       fault = subst (λ (p : PageView). PageFault knobs.slack (last_time_of start events) end p.fault) (sym e)
           (page_fault knobs.slack stream end);
+      line = λ fault f. end_line knobs.slack stream end.since end.page.fault end.page fault
+          (sym (ap (λ p. p.fault) e) ∙ f);
       left = ap (λ p. p.left) e ∙ end_left knobs.slack stream end.since end.page.fault end.page;
       came = ap (λ p. p.came) e ∙ end_came knobs.slack stream end.since end.page.fault end.page;
+      tallies = ap (λ p. p.tallies) e ∙ end_tallies knobs.slack stream end.since end.page.fault end.page;
     }
 
 -- a page whose replay has a fault that the end test doesn't follow

@@ -26,6 +26,24 @@ pub record IsWholePage (knobs : Settings) (start : ℕ) (floors : List ℤ) (tas
   pub is_page : IsPageOf (cut start floors tasks events cpu) knobs made page
   pub whole : IsSome page.fault ⊎ (length (steps_at cpu events) ≤ made)
 
+-- one of the pages of the processors below a number has a fault on this line or before it: the least line of a fault
+-- on them isn't past it
+pub record HasFaultBy (pages : ℕ → PageView) (cpus line : ℕ) : Type 0 where
+  pub cpu : ℕ
+  pub within : cpu < cpus
+  pub fault : StepFault
+  pub is_fault : (pages cpu).fault ≡ Some fault
+  pub by : fault.line ≤ line
+
+-- the page of a processor, among those of all, suffices for what they tell together: its replay went to its first fault,
+-- or by all its steps and the end test, or to a step on the line of a fault on one of the pages or past it
+pub record SufficesAmong (knobs : Settings) (start : ℕ) (floors : List ℤ) (tasks : List Task) (events : List Claimed)
+    (cpus : ℕ) (pages : ℕ → PageView) (cpu : ℕ) : Type 0 where
+  pub made : ℕ
+  pub is_page : IsPageOf (cut start floors tasks events cpu) knobs made (pages cpu)
+  pub enough : IsSome (pages cpu).fault ⊎ (length (steps_at cpu events) ≤ made)
+      ⊎ HasFaultBy pages cpus (pages cpu).line
+
 -- the fault is of a processor that had idled for too long before this event, whatever step noticed it
 abbrev pub IdlesBefore : Claimed → Option StepFault → Type 0
 IdlesBefore event None = ⊥
@@ -87,12 +105,21 @@ pub record SayNothing (pages : ℕ → PageView) (cpus : ℕ) (tasks : List Task
   pub tickets : AllByRecursion (λ event. TicketsAgree pages event.entry.line event.entry.act) events
   pub births : BirthsAreNew (named tasks) events
 
--- where the whole pages of all processors say nothing against any event, the events are a run
+-- where the pages of all processors suffice and say nothing against any event, they are whole
+abbrev pub SilentPagesAreWhole : Type 0
+SilentPagesAreWhole = (knobs : Settings) (start : ℕ) (floors : List ℤ) (tasks : List Task) (events : List Claimed)
+    (cpus : ℕ) (pages : ℕ → PageView)
+    → IsRecord start floors tasks events cpus
+    → ((cpu : ℕ) → cpu < cpus → SufficesAmong knobs start floors tasks events cpus pages cpu)
+    → SayNothing pages cpus tasks events
+    → (cpu : ℕ) → cpu < cpus → IsWholePage knobs start floors tasks events cpu (pages cpu)
+
+-- then the events are a run
 abbrev pub PagesTellRun : Type 0
 PagesTellRun = (knobs : Settings) (start : ℕ) (floors : List ℤ) (tasks : List Task) (events : List Claimed)
     (cpus : ℕ) (pages : ℕ → PageView)
     → IsRecord start floors tasks events cpus
-    → ((cpu : ℕ) → cpu < cpus → IsWholePage knobs start floors tasks events cpu (pages cpu))
+    → ((cpu : ℕ) → cpu < cpus → SufficesAmong knobs start floors tasks events cpus pages cpu)
     → SayNothing pages cpus tasks events
     → IsRun knobs start (start_machine start floors tasks) events
 
@@ -102,7 +129,7 @@ abbrev pub PagesTellFault : Type 0
 PagesTellFault = (knobs : Settings) (start : ℕ) (floors : List ℤ) (tasks : List Task) (events before rest : List Claimed)
     (event : Claimed) (cpus : ℕ) (pages : ℕ → PageView) (cause : Cause)
     → IsRecord start floors tasks events cpus
-    → ((cpu : ℕ) → cpu < cpus → IsWholePage knobs start floors tasks events cpu (pages cpu))
+    → ((cpu : ℕ) → cpu < cpus → SufficesAmong knobs start floors tasks events cpus pages cpu)
     → events ≡ before ++ event ∷ rest
     → SayNothing pages cpus tasks before
     → IsCauseOf pages cpus (roll_of (named tasks) before) event cause

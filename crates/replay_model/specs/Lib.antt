@@ -16,3 +16,4 @@ pub mod Endings
 pub mod Cause
 pub mod Closing
 pub mod Summary
+pub mod Totals

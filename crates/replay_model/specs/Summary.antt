@@ -1,6 +1,6 @@
 -- What a run did, in numbers: its events by their sort, and of each task how long it ran, what it was charged and how
 -- often it was picked (this project's profile). Said of the machine's states, as a run is.
-use Rattle.std.specs.Prelude.{◌≡◌, ℕ, zero, suc, ◌+◌, ◌-◌, ◌==◌, not, Bool, true, false, if◌then◌else◌, List, [], ◌∷◌, ◌++◌, length, map, filter, sum, count_by}
+use Rattle.std.specs.Prelude.{◌≡◌, ℕ, suc, ◌+◌, ◌-◌, ◌==◌, not, Bool, true, false, if◌then◌else◌, List, [], ◌∷◌, ◌++◌, length, map, filter, sum, count_by}
 use Rattle.std.specs.Option.{option_map_or}
 use Rattle.cfs_model.specs.Settings.{Settings}
 use Rattle.cfs_model.specs.Machine.{Machine}
@@ -9,7 +9,7 @@ use Rattle.cfs_model.specs.Touch.{touched}
 use Rattle.cfs_model.specs.Lifted.{cost_at}
 use Rattle.cfs_model.specs.Run.{IsRun}
 use Rattle.cfs_model.specs.declared.act.Act.{Act}
-use Rattle.cfs_model.specs.declared.act.Act.TheVariants.{Switch, Wake, Born, Shift}
+use Rattle.cfs_model.specs.declared.act.Act.TheVariants.{Switch, Born, Shift}
 use Rattle.cfs_model.specs.declared.act.Way.TheVariants.{Ends}
 use Rattle.cfs_model.specs.declared.task.Task.{Task}
 use Rattle.replay_model.specs.declared.page.Tally.{Tally}
@@ -40,9 +40,9 @@ abbrev pub is_death : Act → Bool
 is_death (Switch cpu (suc n) prev_nice Ends next next_nice) = true
 is_death _ = false
 
--- a switch to this task
+-- a switch to this task; one to pid 0 is to none
 abbrev pub picks : ℕ → Act → Bool
-picks pid (Switch cpu prev prev_nice way next next_nice) = next == pid
+picks pid (Switch cpu prev prev_nice way (suc n) next_nice) = suc n == pid
 picks pid _ = false
 
 -- how many of the events do this

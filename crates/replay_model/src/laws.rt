@@ -1,6 +1,6 @@
 //! The laws of a processor's part, of the replay of one processor, and of what the pages of all processors tell. Each is
 //! the contract of a function that does nothing.
-ghost use Rattle.replay_model.specs.Closing.{FaultIsFirstBad, OneFirstFault, PagesTellFault, PagesTellRun, RunHasNoFault};
+ghost use Rattle.replay_model.specs.Closing.{FaultIsFirstBad, OneFirstFault, PagesTellFault, PagesTellRun, RunHasNoFault, SilentPagesAreWhole};
 ghost use Rattle.replay_model.specs.Composition.{PagesCompose, SharesCompose};
 ghost use Rattle.replay_model.specs.Endings.{BirthEndsRun, IdlingEndsRun, TicketsEndRun};
 ghost use Rattle.replay_model.specs.Faults.{FaultEndsRun};
@@ -8,6 +8,7 @@ ghost use Rattle.replay_model.specs.Following.{ReplayFollows, SlackFollows};
 ghost use Rattle.replay_model.specs.Migration.{MachineMigrates, PartsMigrate};
 ghost use Rattle.replay_model.specs.OnePage.{OnePage};
 ghost use Rattle.replay_model.specs.PartStep.{MachineSteps, PartSteps};
+ghost use Rattle.replay_model.specs.Totals.{PagesAddUp, PagesTellSummary, TalliesBounded, TalliesOfTasks, TalliesOnce};
 
 /// A stream has at most one page by its first steps.
 pub fn pages()
@@ -55,9 +56,11 @@ pub fn composition()
     ensures pages { PagesCompose }
 {}
 
-/// Of a record's whole pages: where they say nothing against any event, the events are a run; and the first thing that
-/// they say against one is what is wrong with it, and it is the first event up to which the events are no run.
+/// Of a record's pages, each of which suffices among them: where they say nothing against any event, they are whole, and the
+/// events are a run; and the first thing that they say against one is what is wrong with it, and it is the first event up
+/// to which the events are no run.
 pub fn closing()
+    ensures whole { SilentPagesAreWhole }
     ensures run { PagesTellRun }
     ensures fault { PagesTellFault }
 {}
@@ -67,4 +70,15 @@ pub fn first_faults()
     ensures first_bad { FaultIsFirstBad }
     ensures run { RunHasNoFault }
     ensures one { OneFirstFault }
+{}
+
+/// Of a record's pages that suffice and say nothing against any event: their tallies add up, task by task, to what each
+/// task did in the run that the events are, so that the summary by them is the run's; and each of them is of a task of
+/// the run. A page has at most one tally of a pid, and no task of a run did more than its events allow.
+pub fn tallying()
+    ensures totals { PagesAddUp }
+    ensures summary { PagesTellSummary }
+    ensures tasks { TalliesOfTasks }
+    ensures once { TalliesOnce }
+    ensures bounded { TalliesBounded }
 {}

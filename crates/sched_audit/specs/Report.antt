@@ -10,6 +10,7 @@ use Rattle.sched_audit.specs.declared.outcome.Outcome.TheVariants.{Judged, Text}
 use Rattle.cfs_model.specs.Kinds.{name_of, text_of}
 use Rattle.cfs_model.specs.declared.kind.Kind.{Kind}
 use Rattle.replay_model.specs.declared.page.Tally.{Tally}
+use Rattle.ticket_book.specs.SummaryView.{SummaryView, summary_view}
 use Rattle.ticket_book.specs.declared.verdict.Verdict.TheVariants as verdicts
 
 -- which text is refused
@@ -56,15 +57,19 @@ tally_line t =
     ++ (codes " charged " ++ (decimal t.charged ++ (codes " picks " ++ decimal t.picks)))))))
 
 -- a run, and how often each thing happened in it
-abbrev pub counts_of_run : ℕ → ℕ → ℕ → ℕ → ℕ → List ℕ
-counts_of_run events switches migrations births deaths =
-    line_of (codes "run") ++ (count_line (codes "events") events ++ (count_line (codes "switches") switches
-    ++ (count_line (codes "migrations") migrations ++ (count_line (codes "births") births
-    ++ count_line (codes "deaths") deaths))))
+abbrev pub count_lines : SummaryView → List ℕ
+count_lines summary =
+    line_of (codes "run") ++ (count_line (codes "events") summary.events ++ (count_line (codes "switches") summary.switches
+    ++ (count_line (codes "migrations") summary.migrations ++ (count_line (codes "births") summary.births
+    ++ count_line (codes "deaths") summary.deaths))))
 
 -- what each task did
 abbrev pub tally_lines : List Tally → List ℕ
 tally_lines tallies = concat (map tally_line tallies)
+
+-- a run, and what it did
+abbrev pub run_lines : SummaryView → List ℕ
+run_lines summary = count_lines summary ++ tally_lines summary.tallies
 
 -- what is wrong, by the kind's name and text
 abbrev pub words_of : Kind → List ℕ
@@ -78,6 +83,6 @@ fault_line line cpu pid kind =
 
 -- what is written for an outcome
 abbrev pub report_of : Outcome → List ℕ
-report_of (Judged (verdicts.Run summary)) = line_of (codes "run")
+report_of (Judged (verdicts.Run summary)) = run_lines (summary_view summary)
 report_of (Judged (verdicts.Fault line cpu pid kind)) = fault_line line cpu pid kind
 report_of (Text source line cause) = line_of (codes "refused " ++ (source_word source ++ (codes " line " ++ (decimal line ++ (codes " " ++ cause_word cause)))))

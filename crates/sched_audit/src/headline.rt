@@ -10,31 +10,37 @@ use crate::audit::audit;
 use crate::lines::read_lines;
 use crate::reading::read_all;
 use crate::writing::write_all;
-use crate::{Fault, Feed, Outcome, Refused, Sink, Status, Verdict, report};
+use crate::{Fault, Feed, Gate, Outcome, Refused, Sink, Status, Verdict, report};
 use cfs_model::Knobs;
 use sched_record::read_trace;
 use std::alloc::Global;
+use std::sync::Wait;
+use std::thread::Threads;
 
 /// Judges a trace by its companion: the trace is read first, then the companion, then both are joined, and the
-/// events are audited.
-pub fn audit_texts(
+/// events are audited, those of each processor by a thread of its own that passes this gate.
+pub fn audit_texts<R: Threads + Wait + Sync, G: Gate>(
+    rt: &R,
     alloc: Global,
     trace: &[u8],
     companion: &[u8],
     knobs: Knobs,
+    gate: &G,
 ) -> Result<Verdict, Refused>
     // A verdict or a refusal is the outcome of the two texts.
     ensures answer { IsAnswer trace.now companion.now knobs result }
 {
-    audit(alloc, read_trace(alloc, trace), companion, knobs)
+    audit(rt, alloc, read_trace(alloc, trace), companion, knobs, gate)
 }
 
 /// Reads the trace to its end, then the companion, judges them, and writes the report.
-pub fn run<T: Feed, C: Feed, S: Sink>(
+pub fn run<R: Threads + Wait + Sync, T: Feed, C: Feed, G: Gate, S: Sink>(
+    rt: &R,
     alloc: Global,
     trace: &mut T,
     companion: &mut C,
     knobs: Knobs,
+    gate: &G,
     out: &mut S,
 ) -> Result<Status, Fault>
     // No read was made yet, and no write failed.
@@ -82,7 +88,7 @@ pub fn run<T: Feed, C: Feed, S: Sink>(
 {
     let trace = read_lines(alloc, trace)?;
     let companion = read_all(alloc, companion, Fault::ReadCompanion)?;
-    let outcome = Outcome::of(audit(alloc, trace.finish(), &companion, knobs))?;
+    let outcome = Outcome::of(audit(rt, alloc, trace.finish(), &companion, knobs, gate))?;
     let report = report(alloc, &outcome)?;
     write_all(out, &report)?;
     Ok(outcome.status())

@@ -22,6 +22,7 @@ mod status;
 mod texts;
 mod writing;
 
+pub use audit_crew::{Gate, OpenGate};
 pub use cause::Cause;
 pub use command_words::command_line;
 pub use failed::Failed;

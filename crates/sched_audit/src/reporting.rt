@@ -1,7 +1,8 @@
 ghost use Rattle.std.specs.Prelude.{◌≡◌, ◌++◌, IfOk, OnOk, string_bytes};
-ghost use Rattle.sched_audit.specs.Report.{report_of, counts_of_run, tally_lines};
+ghost use Rattle.ticket_book.specs.SummaryView.{summary_view};
+ghost use Rattle.sched_audit.specs.Report.{count_lines, report_of, run_lines, tally_lines};
 
-use crate::{Outcome, Verdict};
+use crate::{Outcome, Summary, Verdict};
 use cfs_model::Memory;
 use replay_model::Tally;
 use std::alloc::{AllocError, Global};
@@ -26,7 +27,7 @@ fn text_of(alloc: Global, outcome: &Outcome) -> Result<String, AllocError>
 {
     let mut text = String::new(alloc);
     match outcome {
-        Outcome::Judged(Verdict::Run(_)) => lines!(text; "run"),
+        Outcome::Judged(Verdict::Run(summary)) => push_run(&mut text, summary)?,
         Outcome::Judged(
             Verdict::Fault {
                 line,
@@ -51,18 +52,26 @@ fn text_of(alloc: Global, outcome: &Outcome) -> Result<String, AllocError>
     Ok(text)
 }
 
-/// Writes that it is a run, and how often each thing happened in it.
-fn push_counts(
-    text: &mut String,
-    events: u64,
-    switches: u64,
-    migrations: u64,
-    births: u64,
-    deaths: u64,
-) -> Result<(), AllocError>
-    ensures { OnOk result (string_bytes text.new
-        ≡ string_bytes text.old ++ counts_of_run events switches migrations births deaths) }
+/// Writes that it is a run, and what it did.
+fn push_run(text: &mut String, summary: &Summary) -> Result<(), AllocError>
+    ensures { OnOk result (string_bytes text.new ≡ string_bytes text.old ++ run_lines (summary_view summary.now)) }
 {
+    push_counts(text, summary)?;
+    push_tallies(text, summary.tallies.as_slice())
+}
+
+/// Writes that it is a run, and how often each thing happened in it.
+fn push_counts(text: &mut String, summary: &Summary) -> Result<(), AllocError>
+    ensures { OnOk result (string_bytes text.new ≡ string_bytes text.old ++ count_lines (summary_view summary.now)) }
+{
+    let Summary {
+        events,
+        switches,
+        migrations,
+        births,
+        deaths,
+        ..
+    } = summary;
     lines!(text;
         "run", "events {events}", "switches {switches}", "migrations {migrations}", "births {births}", "deaths {deaths}"
     );

@@ -1,15 +1,20 @@
 use crate::ending::Ending;
 use clap::Error;
 use clap::error::ErrorKind::OutOfMemory;
-use sched_audit::{Fault, FeedOf, Request, SinkOf, Status, command_line, run};
+use sched_audit::{Fault, FeedOf, OpenGate, Request, SinkOf, Status, command_line, run};
 use std::alloc::Global;
 use std::fs::File;
 use std::io::ErrorKind;
 use std::rt::{Env, Files};
+use std::sync::Wait;
+use std::thread::Threads;
 use std::{env, io};
 
 /// Does what the command line says.
-pub fn obey<R: Env + Files + Print + Eprint + AllocGlobal>(rt: &R, alloc: Global) -> Ending {
+pub fn obey<R: Env + Files + Print + Eprint + AllocGlobal + Threads + Wait + Sync>(
+    rt: &R,
+    alloc: Global,
+) -> Ending {
     let words = match words_of(rt, alloc) {
         Ok(words) => words,
         Err(error) if error.kind() == ErrorKind::OutOfMemory => {
@@ -35,14 +40,20 @@ fn words_of<R: Env + AllocGlobal>(rt: &R, alloc: Global) -> io::Result<Vec<Strin
 }
 
 /// Opens the trace, then the companion, and runs the audit into standard output.
-fn audit<R: Files + Print>(rt: &R, alloc: Global, request: Request<'_>) -> Result<Status, Fault> {
+fn audit<R: Files + Print + Threads + Wait + Sync>(
+    rt: &R,
+    alloc: Global,
+    request: Request<'_>,
+) -> Result<Status, Fault> {
     let trace = File::open(rt, request.trace).map_err(|_| Fault::ReadTrace)?;
     let companion = File::open(rt, request.companion).map_err(|_| Fault::ReadCompanion)?;
     run(
+        rt,
         alloc,
         &mut FeedOf::new(trace),
         &mut FeedOf::new(companion),
         request.knobs,
+        &OpenGate,
         &mut SinkOf::new(io::writer(rt)),
     )
 }

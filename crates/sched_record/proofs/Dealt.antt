@@ -1,15 +1,14 @@
--- What dealing finds: the claim on an event's line, and the steps of one more event.
-use Rattle.std.proofs.Common.{◌≡◌, ℕ, zero, suc, ◌+◌, ◌<◌, List, [], ◌∷◌, ◌++◌, length, get_or, map, take, Bool, true, false, cond, Option, Some, None, refl, sym, ap, ◌∙◌, arith}
-use Rattle.std.specs.Prelude.{filter}
+-- What dealing finds: the claim on an event's line, and the step with it.
+use Rattle.std.proofs.Common.{◌≡◌, ℕ, zero, suc, ◌+◌, ◌<◌, List, [], ◌∷◌, ◌++◌, length, get_or, map, take, cond, Option, Some, None, refl, sym, ap, ◌∙◌, arith}
 use Rattle.std.proofs.lemmas.Bool.{eq-eqb, ne_eqb}
-use Rattle.std.proofs.lemmas.List.{append-nil, map-append, map_push, take_more}
-use Rattle.std.proofs.lemmas.List.Elements.{filter-append}
-use Rattle.cfs_model.specs.Claimed.{Claimed, claim_at, claimed}
-use Rattle.replay_model.specs.Cut.{claim_for, deed_at, step_at, steps_at, touches}
+use Rattle.std.proofs.lemmas.List.{map_more}
+use Rattle.cfs_model.specs.Claimed.{claim_at}
+use Rattle.replay_model.specs.Cut.{claim_for, deed_at, step_at}
 use Rattle.cfs_model.specs.declared.act.Entry.{Entry}
 use Rattle.cfs_model.specs.declared.claim.Claim.{Claim}
 use Rattle.replay_model.specs.declared.step.Deed.{Deed}
 use Rattle.replay_model.specs.declared.step.Step.{Step}
+use Rattle.sched_record.proofs.Placing.{step_of, touching}
 
 -- the claim on a line, where those before it stand above
 pub claim_found : (claims : List Claim) (line place : ℕ) (d : Claim) → ((k : ℕ) (e : Claim) → k < place → (get_or claims k e).line < line)
@@ -29,36 +28,6 @@ claim_missing (claim ∷ claims) line none =
     ap (λ b. cond b (Some claim) (claim_at claims line)) (ne_eqb claim.line line (none 0 claim (omega arith)))
     ∙ claim_missing claims line (λ k e h. none (suc k) e (omega arith))
 
--- the steps of one event
-abbrev steps_of_one : ℕ → Claimed → List Step
-steps_of_one cpu event = map (step_at cpu) (filter (touches cpu) (event ∷ []))
-
-steps_push : (cpu : ℕ) (claims : List Claim) (events : List Entry) (event : Entry)
-    → steps_at cpu (claimed claims (events ++ event ∷ [])) ≡
-    steps_at cpu (claimed claims events) ++ steps_of_one cpu (record { entry = event; claim = claim_at claims event.line })
-steps_push cpu claims events event =
-    let one : Claimed = record { entry = event; claim = claim_at claims event.line } in
-    ap (steps_at cpu) (map_push (λ (e : Entry). record { entry = e; claim = claim_at claims e.line }) events event)
-    ∙ ap (map (step_at cpu)) (filter-append (touches cpu) (claimed claims events) (one ∷ []))
-    ∙ map-append (step_at cpu) (filter (touches cpu) (claimed claims events)) (filter (touches cpu) (one ∷ []))
-
-map_one : {X Y : Type 0} (f : X → Y) (x : X) (b : Bool) → map f (cond b (x ∷ []) []) ≡ cond b (f x ∷ []) []
-map_one f x true = refl
-map_one f x false = refl
-
--- one more event, which touches the processor or doesn't
-dealt_more : (cpu : ℕ) (claims : List Claim) (events : List Entry) (i : ℕ) (event : Entry) (steps : List Step) → i < length events
-    → event ≡ get_or events i event
-    → steps ≡ steps_at cpu (claimed claims (take i events)) → (b : Bool)
-    → touches cpu (record { entry = event; claim = claim_at claims event.line }) ≡ b
-    → steps ++ cond b (step_at cpu (record { entry = event; claim = claim_at claims event.line }) ∷ []) [] ≡ steps_at cpu (claimed claims (take (i + 1) events))
-dealt_more cpu claims events i event steps h is_event dealt b touched =
-    let one : Claimed = record { entry = event; claim = claim_at claims event.line } in
-    let more : take (i + 1) events ≡ take i events ++ event ∷ [] = take_more events i event h ∙ ap (λ e. take i events ++ e ∷ []) (sym is_event) in
-    let last : steps_of_one cpu one ≡ cond b (step_at cpu one ∷ []) [] = ap (λ t. map (step_at cpu) (cond t (one ∷ []) [])) touched ∙ map_one (step_at cpu) one b in
-    ap (λ s. s ++ cond b (step_at cpu one ∷ []) []) dealt ∙ ap (λ s. steps_at cpu (claimed claims (take i events)) ++ s) (sym last)
-    ∙ sym (ap (λ es. steps_at cpu (claimed claims es)) more ∙ steps_push cpu claims (take i events) event)
-
 -- a step with the claim on its line
 step_is : (cpu : ℕ) (claims : List Claim) (event : Entry) (deed : Deed) (found claim : Option Claim) → deed ≡ deed_at cpu event.act
     → found ≡ claim_at claims event.line
@@ -68,21 +37,14 @@ step_is cpu claims event deed found claim is_deed is_found is_claim =
     let step : Deed → Option Claim → Step = λ d c. record { line = event.line; time = event.time; deed = d; claim = c } in
     ap (λ c. step deed c) (is_claim ∙ ap (λ f. claim_for deed f) is_found) ∙ ap (λ d. step d (claim_for d (claim_at claims event.line))) is_deed
 
--- one more event that touches the processor
-pub dealt_step : (cpu : ℕ) (claims : List Claim) (events : List Entry) (i : ℕ) (event : Entry) (steps : List Step) (deed : Deed) (found claim : Option Claim)
-    → i < length events → event ≡ get_or events i event → steps ≡ steps_at cpu (claimed claims (take i events))
-    → touches cpu (record { entry = event; claim = claim_at claims event.line }) ≡ true
+-- the step of the next of the events that touch the processor
+pub dealt_more : (cpu : ℕ) (claims : List Claim) (events : List Entry) (i : ℕ) (event : Entry) (steps : List Step) (deed : Deed) (found claim : Option Claim)
+    → i < length (touching cpu events) → event ≡ get_or (touching cpu events) i event
+    → steps ≡ map (step_of cpu claims) (take i (touching cpu events))
     → deed ≡ deed_at cpu event.act → found ≡ claim_at claims event.line → claim ≡ claim_for deed found
-    → steps ++ record { line = event.line; time = event.time; deed = deed; claim = claim } ∷ [] ≡ steps_at cpu (claimed claims (take (i + 1) events))
-dealt_step cpu claims events i event steps deed found claim h is_event dealt touched is_deed is_found is_claim =
-    ap (λ step. steps ++ step ∷ []) (step_is cpu claims event deed found claim is_deed is_found is_claim)
-    ∙ dealt_more cpu claims events i event steps h is_event dealt true touched
-
--- one more event that doesn't touch it
-pub dealt_none : (cpu : ℕ) (claims : List Claim) (events : List Entry) (i : ℕ) (event : Entry) (steps : List Step) → i < length events
-    → event ≡ get_or events i event
-    → steps ≡ steps_at cpu (claimed claims (take i events))
-    → touches cpu (record { entry = event; claim = claim_at claims event.line }) ≡ false
-    → steps ≡ steps_at cpu (claimed claims (take (i + 1) events))
-dealt_none cpu claims events i event steps h is_event dealt missed =
-    sym (append-nil steps) ∙ dealt_more cpu claims events i event steps h is_event dealt false missed
+    → steps ++ record { line = event.line; time = event.time; deed = deed; claim = claim } ∷ [] ≡ map (step_of cpu claims) (take (i + 1) (touching cpu events))
+dealt_more cpu claims events i event steps deed found claim h is_event dealt is_deed is_found is_claim =
+    let there = touching cpu events in
+    ap (λ step. steps ++ step ∷ []) (step_is cpu claims event deed found claim is_deed is_found is_claim ∙ ap (step_of cpu claims) is_event)
+    ∙ ap (λ ss. ss ++ step_of cpu claims (get_or there i event) ∷ []) dealt
+    ∙ sym (map_more (step_of cpu claims) there i event h)

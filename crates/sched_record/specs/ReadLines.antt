@@ -1,5 +1,5 @@
 -- How far the reading of a trace's lines has come (this project's profile).
-use Rattle.std.specs.Prelude.{◌≡◌, ℕ, ◌≤◌, List, [], ◌∷◌, ◌++◌, length, ◌⊎◌, All}
+use Rattle.std.specs.Prelude.{◌≡◌, ℕ, ◌+◌, ◌≤◌, List, [], ◌∷◌, ◌++◌, length, ◌⊎◌, All}
 use Rattle.cfs_model.specs.declared.act.Entry.{Entry}
 use Rattle.sched_record.specs.Kept.{AreInOrder}
 use Rattle.sched_record.specs.Trace.{AreEventsOf}
@@ -20,3 +20,7 @@ pub record AreKept (events : List Entry) (count last : ℕ) : Type 0 where
   pub in_order : AreInOrder events
   pub lines : All (λ event. event.line ≤ count) events
   pub times : All (λ event. event.time ≤ last) events
+
+-- an event on a line that stands so many further down
+abbrev pub shifted : ℕ → Entry → Entry
+shifted count event = record { line = event.line + count; time = event.time; act = event.act }

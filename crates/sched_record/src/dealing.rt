@@ -1,14 +1,16 @@
 ghost use Rattle.std.specs.Prelude.{◌≡◌, ◌==◌, ℕ, ◌<◌, ◌≤◌, length, pos, IfOk, slice_index_or};
-ghost use Rattle.std.specs.List.{AllPairs, list_any};
+ghost use Rattle.std.specs.List.{AllPairs};
 ghost use Rattle.cfs_model.specs.Claimed.{claim_at, claimed};
 ghost use Rattle.replay_model.specs.Cut.{claim_for, deed_at as deed_here, step_at as step_here, steps_at, tasks_at};
-ghost use Rattle.cfs_model.specs.Touch.{touched};
 ghost use Rattle.cfs_model.specs.declared.claim.Claim.{Claim};
+ghost use Rattle.cfs_model.specs.Limits.{most_processors};
+ghost use Rattle.sched_record.specs.Trace.{trace_view};
 
 use crate::lists::Steps;
-use crate::on_line::place_from;
+use crate::on_line::{claim_place, place_from};
 use crate::record::Record;
 use crate::stream::Stream;
+use crate::trace::Trace;
 use cfs_model::{Act, Claim, Entry, Memory, Task};
 use companion_file::Tasks;
 use replay_model::{Deed, Step};
@@ -28,7 +30,7 @@ impl Record {
     {
         let alloc = self.allocator();
         let tasks = tasks_of(alloc, self.tasks(), cpu)?;
-        let steps = steps_of(alloc, self.events(), self.claims(), cpu)?;
+        let steps = steps_of(alloc, self.trace(), self.claims(), cpu)?;
         Ok(Stream {
             cpu,
             tasks,
@@ -76,39 +78,29 @@ fn tasks_of(alloc: Global, tasks: &[Task], cpu: u32) -> Result<Tasks, Memory>
     Ok(Tasks::from_vec(here))
 }
 
-/// The steps of the events that touch a processor. Events and claims are walked side by side.
-fn steps_of(alloc: Global, events: &[Entry], claims: &[Claim], cpu: u32) -> Result<Steps, Memory>
-    requires events_rise { AllPairs (λ a b. a.line < b.line) events.now }
+/// The steps of the events that touch a processor.
+fn steps_of(alloc: Global, trace: &Trace, claims: &[Claim], cpu: u32) -> Result<Steps, Memory>
+    requires cpu { cpu < most_processors }
     requires claims_rise { AllPairs (λ a b. a.line < b.line) claims.now }
-    ensures { IfOk result (λ list. list ≡ steps_at cpu (claimed claims.now events.now)) }
+    ensures { IfOk result (λ list. list ≡ steps_at cpu (claimed claims.now (trace_view trace.now))) }
 {
-    let mut steps = Vec::new(alloc);
-    let mut place = 0;
-    for event in events {
-        place = place_from(claims, place, event.line);
-        if touches(event.act, cpu) {
-            let deed = deed_at(event.act, cpu);
-            let claim = claim_for(&deed, claim_on(claims, place, event.line));
-            steps.push(Step {
-                line: event.line,
-                time: event.time,
-                deed,
-                claim,
-            })?;
-        }
+    let events = trace.events();
+    let places = trace.places(cpu);
+    let mut steps = Vec::with_capacity(alloc, places.len())?;
+    let mut from = 0;
+    for place in places {
+        let event = events[*place as usize];
+        from = claim_place(claims, from, trace.claim_hint(*place), event.line);
+        let deed = deed_at(event.act, cpu);
+        let claim = claim_for(&deed, claim_on(claims, from, event.line));
+        steps.push(Step {
+            line: event.line,
+            time: event.time,
+            deed,
+            claim,
+        })?;
     }
     Ok(Steps::from_vec(steps))
-}
-
-/// Whether an event touches a processor.
-fn touches(act: Act, cpu: u32) -> bool
-    ensures { result ≡ list_any (λ other. other == cpu) (touched act) }
-{
-    match act {
-        Act::Switch { cpu: here, .. } | Act::Wake { cpu: here, .. } | Act::Born { cpu: here, .. } =>
-            here == cpu,
-        Act::Shift { orig, dest, .. } => orig == cpu || dest == cpu,
-    }
 }
 
 /// An event with the claim on its line, as a processor that it touches sees it.

@@ -1,4 +1,6 @@
 ghost use Rattle.std.specs.Prelude.{◌≡◌, ℕ, ◌<◌, ◌≤◌, length, slice_index_or};
+ghost use Rattle.std.specs.List.{AllPairs};
+ghost use Rattle.cfs_model.specs.declared.claim.Claim.{Claim};
 
 use cfs_model::{Claim, Entry};
 
@@ -39,4 +41,20 @@ pub(crate) fn place_from<T: OnLine>(items: &[T], from: usize, line: u32) -> usiz
         place += 1;
     }
     place
+}
+
+/// The place of the first claim, from a place on, that stands on this line or below it. The hint is where to begin, if all
+/// claims before it stand above the line.
+pub(crate) fn claim_place(claims: &[Claim], from: usize, hint: usize, line: u32) -> usize
+    requires within { from ≤ length claims.now }
+    requires rise { AllPairs (λ a b. a.line < b.line) claims.now }
+    ensures within { (from ≤ result) × (result ≤ length claims.now) }
+    ensures below { (k : ℕ) (d : Claim) → from ≤ k → k < result → (slice_index_or claims.now k d).line < line }
+    ensures reached { (d : Claim) → result < length claims.now → line ≤ (slice_index_or claims.now result d).line }
+{
+    if from < hint && hint <= claims.len() && claims[hint - 1].line < line {
+        place_from(claims, hint, line)
+    } else {
+        place_from(claims, from, line)
+    }
 }

@@ -25,6 +25,8 @@ impl Record {
         requires { GoTogether (trace_view trace) (companion_view companion) }
         ensures { record_view result ≡ joined_record (trace_view trace) (companion_view companion) }
     {
+        let mut trace = trace;
+        trace.mark(companion.claims());
         Record { trace, companion }
     }
 
@@ -84,6 +86,12 @@ impl Record {
         ensures { result ≡ record_last_line (record_view self.now) }
     {
         self.events().last().map_or(NO_LINE, |event| event.line)
+    }
+
+    pub(crate) fn trace(&self) -> &Trace
+        ensures { result.now ≡ self.now.trace }
+    {
+        &self.trace
     }
 
     pub(crate) fn allocator(&self) -> Global {

@@ -1,12 +1,15 @@
-ghost use Rattle.std.specs.Prelude.{◌≤◌};
+ghost use Rattle.std.specs.Prelude.{◌≤◌, length};
+ghost use Rattle.std.proofs.Props.{props};
 ghost use Rattle.cfs_model.specs.Limits.{greatest_line};
+ghost use Rattle.sched_record.specs.Places.{ArePlacesOf};
 ghost use Rattle.sched_record.specs.ReadLines.{AreKept};
 
 use crate::cause::{TraceCause, TraceFault};
 use crate::entry::line_entry;
 use crate::lists::Events;
+use crate::places::Places;
 use crate::trace::Trace;
-use cfs_model::{Entry, Memory};
+use cfs_model::{Entry, GREATEST_LINE, Memory};
 use std::alloc::Global;
 use text_parts::lines::next_line;
 
@@ -21,6 +24,7 @@ pub(crate) struct BadLine {
 #[derive(Debug, Drop)]
 pub struct TraceReader {
     entries: Vec<Entry>,
+    places: Places,
     /// How many lines were read, up to the first bad one.
     count: u64,
     /// The time of the last event in nanoseconds, and 0 before the first.
@@ -28,12 +32,15 @@ pub struct TraceReader {
     bad: Option<BadLine>,
     ghost few: { count ≤ greatest_line },
     ghost kept: { AreKept entries.items count last },
+    ghost counted: { length entries.items ≤ count },
+    ghost placed: { ArePlacesOf entries.items places } by { Prim.hlevel props },
 }
 
 impl TraceReader {
-    ghost use Rattle.std.specs.Prelude.{ℕ, ◌∷◌, ◌++◌, [], List, OnOk, OnErr, IsErrOf};
+    ghost use Rattle.std.specs.Prelude.{ℕ, ◌∷◌, ◌++◌, [], List, IfOk, OnOk, OnErr, IsErrOf};
+    ghost use Rattle.std.specs.Bool.{OnTrue};
     ghost use Rattle.text_parts.specs.Lines.{lines_of};
-    ghost use Rattle.sched_record.specs.Reader.{HasRead, HasReadFront};
+    ghost use Rattle.sched_record.specs.Reader.{HasRead, HasReadFront, TakesOn};
     ghost use Rattle.sched_record.specs.Trace.{LinesAnswer, Tells};
 
     /// A reader of no line yet; it takes no memory.
@@ -42,6 +49,7 @@ impl TraceReader {
     {
         TraceReader {
             entries: Vec::new(alloc),
+            places: Places::new(alloc),
             count: 0,
             last: 0,
             bad: None,
@@ -63,6 +71,65 @@ impl TraceReader {
         Ok(())
     }
 
+    /// Reads a text whose lines another reader has read by themselves, behind those read before.
+    pub(crate) fn followed_by(self, later: TraceReader, text: &[u8]) -> Result<TraceReader, Memory>
+        requires { HasRead later (lines_of text.now) }
+        ensures { IfOk result (λ reader. (lines : List (List ℕ)) → HasRead self lines → HasRead reader (lines ++ lines_of text.now)) }
+    {
+        if self.takes_on(&later) {
+            return self.with_all_of(later);
+        }
+        let mut reader = self;
+        reader.read(text)?;
+        Ok(reader)
+    }
+
+    /// Whether what another reader has read stands behind what this one has, but for the numbers of its lines: no line is
+    /// bad, they aren't too many, and the time doesn't fall from the last event here to the first there.
+    fn takes_on(&self, later: &TraceReader) -> bool
+        ensures { OnTrue result (TakesOn self.now later.now) }
+    {
+        let in_time = match later.entries.first() {
+            Some(first) => self.last <= first.time,
+            None => true,
+        };
+        self.bad.is_none()
+            && later.bad.is_none()
+            && later.count <= GREATEST_LINE - self.count
+            && in_time
+    }
+
+    /// The events of both, those of the other reader as many lines further down as this one has read.
+    fn with_all_of(self, later: TraceReader) -> Result<TraceReader, Memory>
+        requires { TakesOn self later }
+        ensures { IfOk result (λ reader. (lines more : List (List ℕ)) → HasRead self lines → HasRead later more → HasRead reader (lines ++ more)) }
+    {
+        let TraceReader {
+            mut entries,
+            mut places,
+            count,
+            last,
+            bad: _,
+        } = self;
+        let base = count as u32;
+        entries.reserve(later.entries.len())?;
+        for event in later.entries.as_slice() {
+            places.add(event.act, entries.len() as u32)?;
+            entries.push(Entry {
+                line: event.line + base,
+                time: event.time,
+                act: event.act,
+            })?;
+        }
+        Ok(TraceReader {
+            entries,
+            places,
+            count: count + later.count,
+            last: last.max(later.last),
+            bad: None,
+        })
+    }
+
     /// The trace of the lines that were read, or the first bad one. It takes no memory.
     pub fn finish(self) -> Result<Trace, TraceFault>
         ensures answered { (lines : List (List ℕ)) → HasRead self lines → Tells result (LinesAnswer lines) }
@@ -76,7 +143,7 @@ impl TraceReader {
             None => {
                 let mut entries = self.entries;
                 entries.shrink_to_fit();
-                Ok(Trace::new(Events::from_vec(entries)))
+                Ok(Trace::new(Events::from_vec(entries), self.places))
             }
         }
     }
@@ -106,6 +173,8 @@ impl TraceReader {
                         cause,
                     });
                 } else {
+                    self.entries.reserve(1)?;
+                    self.places.add(entry.act, self.entries.len() as u32)?;
                     self.entries.push(entry)?;
                     self.last = time;
                     self.count = number;

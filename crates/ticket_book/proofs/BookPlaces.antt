@@ -18,11 +18,11 @@ room_at (Some None) e = refl
 pub room : (places : List (Option ReplayView)) (cpu : ℕ) → None ≡ refusal_of places cpu → slice_get places cpu ≡ Some None
 room places cpu e = room_at (slice_get places cpu) e
 
-least_of_empty : (n : ℕ) → least_line (replicate n None) ≡ no_fault
+pub least_of_empty : (n : ℕ) → least_line (replicate n None) ≡ no_fault
 least_of_empty zero = refl
 least_of_empty (suc n) = ap (λ line. min no_fault line) (least_of_empty n)
 
-least_within : (places : List (Option ReplayView)) → least_line places ≤ no_fault
+pub least_within : (places : List (Option ReplayView)) → least_line places ≤ no_fault
 least_within [] = omega arith
 least_within (place ∷ places) = omega (arith, least_within places)
 
@@ -63,7 +63,7 @@ book_put places least cpu page book empty is =
       least_is = ap (λ line. min line (fault_line page.page.fault)) book.least_is ∙ sym (least_put places cpu page empty);
     }
 
-none_there : (cpus cpu : ℕ) → place_of (replicate cpus None) cpu ≡ None
+pub none_there : (cpus cpu : ℕ) → place_of (replicate cpus None) cpu ≡ None
 none_there zero cpu = refl
 none_there (suc cpus) zero = refl
 none_there (suc cpus) (suc cpu) = none_there cpus cpu

@@ -1,32 +1,36 @@
--- What whole pages tell of a record is the verdict on it.
-use Rattle.std.proofs.Common.{◌≡◌, ℕ, zero, suc, ◌<◌, ◌≤◌, Option, Some, None, IsSome, inl, inr, ◌⊎◌, List, [], ◌∷◌, length, get_or, All, refl, sym, ap, ◌∙◌, subst, arith}
+-- What pages that suffice tell of a record is the verdict on it.
+use Rattle.std.proofs.Common.{◌≡◌, ℕ, zero, suc, ◌^◌, ◌<◌, ◌≤◌, Some, IsSome, ◌⊎◌, List, [], ◌∷◌, length, get_or, All, refl, sym, subst, arith}
 use Rattle.std.specs.Prelude.{slice_get}
 use Rattle.std.specs.List.{AllPairs}
 use Rattle.std.proofs.lemmas.List.{length-map}
 use Rattle.cfs_model.specs.Claimed.{claimed}
 use Rattle.cfs_model.specs.Settings.{Settings}
-use Rattle.cfs_model.specs.Touch.{touched}
 use Rattle.cfs_model.specs.declared.act.Entry.{Entry}
-use Rattle.cfs_model.specs.declared.task.Task.{Task}
 use Rattle.cfs_model.specs.Start.{start_machine}
 use Rattle.replay_model.specs.Cause.{IsFirstFault}
-use Rattle.replay_model.specs.Closing.{IsWholePage, PagesTellFault, PagesTellRun, SayNothing}
+use Rattle.replay_model.specs.Closing.{HasFaultBy, PagesTellFault, SayNothing, SufficesAmong}
 use Rattle.replay_model.specs.Composition.{IsRecord}
 use Rattle.replay_model.specs.Cut.{StreamView}
 use Rattle.replay_model.specs.Noted.{PageView}
 use Rattle.replay_model.specs.Page.{IsPageOf}
+use Rattle.replay_model.specs.Totals.{PagesAddUp, PagesTellSummary, TalliesBounded, summary_by, tallies_below, total_of}
 use Rattle.replay_model.proofs.RecordFrom.{record_from}
 use Rattle.replay_model.proofs.StartFrom.{start_from}
 use Rattle.queue_replay.specs.Replay.{ReplayView}
 use Rattle.sched_record.proofs.Shares.{share_of}
-use Rattle.sched_record.specs.Record.{RecordView, IsRecordInOrder}
+use Rattle.sched_record.specs.Record.{RecordView, IsRecordInOrder, record_last_line, record_last_time}
 use Rattle.sched_record.specs.Stream.{cut_of}
-use Rattle.ticket_book.specs.Told.{Tell, TellFault, view_at}
-use Rattle.ticket_book.specs.Verdict.{IsVerdict}
+use Rattle.ticket_book.specs.SummaryView.{summary_view}
+use Rattle.ticket_book.specs.Tallying.{FitsTally}
+use Rattle.ticket_book.specs.Told.{Tell, cause_view, view_at}
+use Rattle.ticket_book.specs.Verdict.{IsScheduled, IsVerdict}
 use Rattle.ticket_book.specs.Walk.{TicketsRise}
-use Rattle.ticket_book.specs.Whole.{AreWhole, IsWholePageOf}
+use Rattle.ticket_book.specs.Whole.{AreSufficient, SufficesBeside}
+use Rattle.ticket_book.proofs.Extent.{bounds_fit, events_few, last_greatest, times_below}
 use Rattle.ticket_book.proofs.TicketOrder.{own_tickets_rise}
-use Rattle.ticket_book.specs.declared.verdict.Verdict.{Verdict}
+use Rattle.ticket_book.proofs.Walked.{with_claim}
+use Rattle.ticket_book.specs.declared.cause.Cause.{Cause as FoundCause}
+use Rattle.ticket_book.specs.declared.summary.Summary.{Summary}
 use Rattle.ticket_book.specs.declared.verdict.Verdict.TheVariants.{Run, Fault}
 
 -- what a record keeps, as the laws of the replays take it
@@ -50,42 +54,67 @@ page_at [] cpu h = absurd (omega arith)
 page_at (page ∷ pages) zero h = (page, refl, refl)
 page_at (page ∷ pages) (suc cpu) h = page_at pages cpu (omega arith)
 
--- a whole page, as the laws of the closing take it
-whole_page : (knobs : Settings) (r : RecordView) (cpu : ℕ) (page : ReplayView) → IsWholePageOf knobs r cpu page
-    → IsWholePage knobs r.start r.floors r.tasks (claimed r.claims r.events) cpu page.page
-whole_page knobs r cpu page whole = record {
+-- a page that suffices, as the laws of the closing take it
+suffices_among : (knobs : Settings) (r : RecordView) (pages : List ReplayView) (cpu : ℕ) (page : ReplayView)
+    → SufficesBeside knobs r pages cpu page → view_at pages cpu ≡ page.page
+    → SufficesAmong knobs r.start r.floors r.tasks (claimed r.claims r.events) (length pages) (view_at pages) cpu
+suffices_among knobs r pages cpu page s is = record {
   made = page.made;
-  is_page = subst (λ s. IsPageOf s knobs page.made page.page) whole.stream
-      (subst (λ k. IsPageOf page.stream k page.made page.page) whole.knobs_are whole.is_page);
-  whole = whole.whole;
+  is_page = subst (λ v. IsPageOf (cut_of r cpu) knobs page.made v) (sym is)
+      (subst (λ t. IsPageOf t knobs page.made page.page) s.stream
+      (subst (λ k. IsPageOf page.stream k page.made page.page) s.knobs_are s.is_page));
+  enough = subst (λ (v : PageView). IsSome v.fault ⊎ (length (cut_of r cpu).steps ≤ page.made)
+      ⊎ HasFaultBy (view_at pages) (length pages) v.line) (sym is) s.enough;
 }
 
-module _ (knobs : Settings) (r : RecordView) (pages : List ReplayView) (whole : AreWhole knobs r pages) where
-  -- each processor's page is whole
+module _ (knobs : Settings) (r : RecordView) (pages : List ReplayView) (sufficient : AreSufficient knobs r pages) where
+  -- each processor's page suffices
   abbrev pub AreTold : Type 0
   AreTold = (cpu : ℕ) → cpu < length pages
-      → IsWholePage knobs r.start r.floors r.tasks (claimed r.claims r.events) cpu (view_at pages cpu)
+      → SufficesAmong knobs r.start r.floors r.tasks (claimed r.claims r.events) (length pages) (view_at pages) cpu
 
-  pub all_whole : AreTold
-  all_whole cpu h =
-      let p = page_at pages cpu h in
-      subst (IsWholePage knobs r.start r.floors r.tasks (claimed r.claims r.events) cpu) (sym p.2)
-      (whole_page knobs r cpu p.0 (whole.each cpu p.0 p.1))
+  pub all_suffice : AreTold
+  all_suffice cpu h =
+      let p = page_at pages cpu h in suffices_among knobs r pages cpu p.0 (sufficient.each cpu p.0 p.1) p.2
 
-  -- what they tell is the verdict
-  pub verdict_of : PagesTellRun → PagesTellFault → IsRecordInOrder r → AreTold → (verdict : Verdict)
-      → Tell (view_at pages) (length pages) r.tasks (claimed r.claims r.events) verdict → IsVerdict knobs r verdict
-  verdict_of runs faults o told (Run summary) tell =
-      let kept = subst (IsRecord r.start r.floors r.tasks (claimed r.claims r.events)) (sym whole.count) (record_of r o) in (
-        runs knobs r.start r.floors r.tasks (claimed r.claims r.events) (length pages) (view_at pages) kept told tell.0,
-        tell.1 ∙ length-map r.events _,
-      )
-  verdict_of runs faults o told (Fault line cpu pid kind) tell =
-      let kept = subst (IsRecord r.start r.floors r.tasks (claimed r.claims r.events)) (sym whole.count) (record_of r o) in
-      subst (λ n. IsFirstFault knobs r.start (start_machine r.start r.floors r.tasks) (claimed r.claims r.events) n
-      (record { cpu = cpu; pid = pid; kind = kind })) tell.line_is
+  in_record : IsRecordInOrder r → IsRecord r.start r.floors r.tasks (claimed r.claims r.events) (length pages)
+  in_record o = subst (IsRecord r.start r.floors r.tasks (claimed r.claims r.events)) (sym sufficient.count) (record_of r o)
+
+  -- what they say first is what is wrong
+  pub fault_of : PagesTellFault → IsRecordInOrder r → (line : ℕ) (cause : FoundCause)
+      → Tell (view_at pages) (length pages) r.tasks (claimed r.claims r.events) (Some (line, cause))
+      → IsVerdict knobs r (Fault line cause.cpu cause.pid cause.kind)
+  fault_of faults o line cause tell =
+      subst (λ n. IsFirstFault knobs r.start (start_machine r.start r.floors r.tasks) (claimed r.claims r.events) n (cause_view cause))
+      tell.line_is
       (faults knobs r.start r.floors r.tasks (claimed r.claims r.events) tell.before tell.rest tell.event (length pages) (view_at pages)
-      (record { cpu = cpu; pid = pid; kind = kind }) kept told tell.whole tell.nothing tell.why)
+      (cause_view cause) (in_record o) all_suffice tell.whole tell.nothing tell.why)
+
+  module _ (o : IsRecordInOrder r)
+      (nothing : SayNothing (view_at pages) (length pages) r.tasks (claimed r.claims r.events)) where
+    -- where they say nothing, the summary by them is the run's
+    pub run_of : PagesTellSummary → (summary : Summary)
+        → summary_view summary ≡ summary_by (tallies_below (view_at pages) (length pages)) r.tasks (claimed r.claims r.events)
+        → IsVerdict knobs r (Run summary)
+    run_of tells summary is =
+        subst (IsScheduled knobs r) (sym is)
+        (tells knobs r.start r.floors r.tasks (claimed r.claims r.events) (length pages) (view_at pages) (in_record o) all_suffice nothing)
+
+    -- and no sum of their tallies is too great
+    pub sums_fit : PagesAddUp → TalliesBounded → (last_time last_line : ℕ) → last_time ≡ record_last_time r → last_time < 2 ^ 64
+        → last_line ≡ record_last_line r → last_line < 2 ^ 32 → (pids : List ℕ)
+        → All (λ pid. FitsTally (total_of (tallies_below (view_at pages) (length pages)) pid)) pids
+    sums_fit add_up bounded last_time last_line time_is time line_is line pids k d h =
+        let added = add_up knobs r.start r.floors r.tasks (claimed r.claims r.events) (length pages) (view_at pages) (in_record o) all_suffice nothing in
+        let pid = get_or pids k d in
+        subst FitsTally (sym (added.1 pid))
+        (bounds_fit _ (length (claimed r.claims r.events)) last_time
+        (let n = length-map r.events (with_claim r.claims) in let few = events_few r.events o.events.from_one o.events.lines_rise in
+        omega (arith, n, few, line_is, line)) time
+        (bounded knobs r.start r.floors r.tasks (claimed r.claims r.events) last_time pid (in_record o).is_start
+        (times_below r.claims r.events last_time
+        (λ j e w. let below = last_greatest (λ (event : Entry). event.time) r.events r.start o.events.never_falls j e w in
+        omega (arith, below, time_is))) added.0))
 
   within : (cpu : ℕ) (page : ReplayView) → slice_get pages cpu ≡ Some page → cpu < length pages
   within cpu page is = slice_get-within pages cpu page is
@@ -95,7 +124,7 @@ module _ (knobs : Settings) (r : RecordView) (pages : List ReplayView) (whole : 
   tickets_rise o =
       own_tickets_rise pages
       (λ cpu page is. record {
-        is_page = (whole.each cpu page is).is_page;
-        lines = subst (λ (s : StreamView). AllPairs (λ a b. a.line < b.line) s.steps) (sym (whole.each cpu page is).stream)
-            (share_of r cpu o (let h = within cpu page is in let n = whole.count in omega arith)).lines_rise;
+        is_page = (sufficient.each cpu page is).is_page;
+        lines = subst (λ (s : StreamView). AllPairs (λ a b. a.line < b.line) s.steps) (sym (sufficient.each cpu page is).stream)
+            (share_of r cpu o (let h = within cpu page is in let n = sufficient.count in omega arith)).lines_rise;
       })

@@ -1,6 +1,6 @@
 -- What the pages of a record's processors tell of its events (this project's profile): the words of replay_model's
 -- Closing, of a list of pages and of one event.
-use Rattle.std.specs.Prelude.{◌≡◌, ℕ, zero, suc, ◌<◌, true, Bool, None, List, [], ◌∷◌, ◌++◌, length}
+use Rattle.std.specs.Prelude.{◌≡◌, ℕ, zero, suc, ◌<◌, true, Bool, Option, Some, None, List, [], ◌∷◌, ◌++◌}
 use Rattle.cfs_model.specs.Limits.{no_line}
 use Rattle.cfs_model.specs.Claimed.{Claimed}
 use Rattle.replay_model.specs.Cause.{Cause}
@@ -12,8 +12,6 @@ use Rattle.replay_model.specs.Noted.{PageView}
 use Rattle.queue_replay.specs.Replay.{ReplayView}
 use Rattle.cfs_model.specs.declared.task.Task.{Task}
 use Rattle.ticket_book.specs.declared.cause.Cause.{Cause as FoundCause}
-use Rattle.ticket_book.specs.declared.verdict.Verdict.{Verdict}
-use Rattle.ticket_book.specs.declared.verdict.Verdict.TheVariants.{Run, Fault}
 
 -- a page that tells nothing
 abbrev pub empty_view : PageView
@@ -52,8 +50,7 @@ pub record TellFault (pages : ℕ → PageView) (cpus : ℕ) (tasks : List Task)
   pub nothing : SayNothing pages cpus tasks before
   pub why : IsCauseOf pages cpus (roll_of (named tasks) before) event cause
 
--- what the pages tell of all events: nothing against them, or what they say first
-abbrev pub Tell : (ℕ → PageView) → ℕ → List Task → List Claimed → Verdict → Type 0
-Tell pages cpus tasks events (Run summary) = SayNothing pages cpus tasks events × (summary.events ≡ length events)
-Tell pages cpus tasks events (Fault line cpu pid kind) =
-    TellFault pages cpus tasks events line (record { cpu = cpu; pid = pid; kind = kind })
+-- what the pages tell of all events: nothing against them, or what they say first and its line
+abbrev pub Tell : (ℕ → PageView) → ℕ → List Task → List Claimed → Option (ℕ × FoundCause) → Type 0
+Tell pages cpus tasks events None = SayNothing pages cpus tasks events
+Tell pages cpus tasks events (Some found) = TellFault pages cpus tasks events found.0 (cause_view found.1)

@@ -1,26 +1,29 @@
--- The verdict on a record: the headline (this project's profile). What a run is, is said by cfs_model, and what is wrong
--- with the first event up to which the events are none, by replay_model.
-use Rattle.std.specs.Prelude.{◌≡◌, ℕ, length}
+-- The verdict on a record: the headline (this project's profile). What a run is, is said by cfs_model; what its summary
+-- is, and what is wrong with the first event up to which the events are none, by replay_model.
+use Rattle.std.specs.Prelude.{ℕ}
 use Rattle.cfs_model.specs.Claimed.{claimed}
-use Rattle.cfs_model.specs.Run.{IsRun}
 use Rattle.cfs_model.specs.Settings.{Settings}
 use Rattle.cfs_model.specs.Start.{start_machine}
 use Rattle.replay_model.specs.Cause.{Cause, IsFirstFault}
+use Rattle.replay_model.specs.Summary.{SummaryView, IsSummary}
 use Rattle.sched_record.specs.Record.{RecordView}
+use Rattle.ticket_book.specs.SummaryView.{summary_view}
 use Rattle.ticket_book.specs.declared.verdict.Verdict.{Verdict}
 use Rattle.ticket_book.specs.declared.verdict.Verdict.TheVariants.{Run, Fault}
 
--- the record's events, with the claims on their lines, are a run of the scheduler from the record's start state
-abbrev pub IsScheduled : Settings → RecordView → Type 0
-IsScheduled knobs r = IsRun knobs r.start (start_machine r.start r.floors r.tasks) (claimed r.claims r.events)
+-- the record's events, with the claims on their lines, are a run of the scheduler from the record's start state, and
+-- this is the summary of that run
+abbrev pub IsScheduled : Settings → RecordView → SummaryView → Type 0
+IsScheduled knobs r summary =
+    IsSummary knobs r.start (start_machine r.start r.floors r.tasks) r.tasks (claimed r.claims r.events) summary
 
 -- the record's events are none from this line on, which is the first, and this is what is wrong there
 abbrev pub IsFaulty : Settings → RecordView → ℕ → Cause → Type 0
 IsFaulty knobs r line cause =
     IsFirstFault knobs r.start (start_machine r.start r.floors r.tasks) (claimed r.claims r.events) line cause
 
--- a verdict on a record: yes means that it is a run, with all its events; a fault names the first line up to which the
--- events are none, and what is wrong there
+-- a verdict on a record: yes means that it is a run, and tells what the run did; a fault names the first line up to which
+-- the events are none, and what is wrong there
 abbrev pub IsVerdict : Settings → RecordView → Verdict → Type 0
-IsVerdict knobs r (Run summary) = IsScheduled knobs r × (summary.events ≡ length r.events)
+IsVerdict knobs r (Run summary) = IsScheduled knobs r (summary_view summary)
 IsVerdict knobs r (Fault line cpu pid kind) = IsFaulty knobs r line (record { cpu = cpu; pid = pid; kind = kind })

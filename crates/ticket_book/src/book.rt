@@ -3,7 +3,7 @@ ghost use Rattle.cfs_model.specs.Limits.{most_processors};
 ghost use Rattle.ticket_book.specs.Book.{IsBook, fault_line, least_line, refusal_in, refusal_of};
 
 use crate::closing::verdict_on;
-use crate::remaking::whole_pages;
+use crate::remaking::sufficing_pages;
 use crate::{Closed, PostFault};
 use cfs_model::{Knobs, Memory};
 use queue_replay::Page;
@@ -25,6 +25,7 @@ pub struct Book {
 impl Book {
     ghost use Rattle.sched_record.specs.Record.{record_view};
     ghost use Rattle.ticket_book.specs.BookView.{book_view};
+    ghost use Rattle.ticket_book.specs.Core.{AreLeft};
     ghost use Rattle.ticket_book.specs.Remade.{AreRemade};
     ghost use Rattle.ticket_book.specs.Verdict.{IsVerdict};
 
@@ -80,14 +81,15 @@ impl Book {
         self.least
     }
 
-    /// The verdict on a record: of the book's pages those that it can rest on are relied on, and the others are made again.
+    /// The verdict on a record: of the book's pages those that suffice are relied on, and the others are made again.
     /// The book may have been made for another number of processors.
     pub fn close(self, joined: &Record, knobs: Knobs) -> Result<Closed, Memory>
         ensures verdict { IfOk result (λ closed. IsVerdict knobs (record_view joined.now) closed.verdict) }
         ensures remade { IfOk result (λ closed. AreRemade knobs (record_view joined.now) (book_view self) closed.remade) }
+        ensures nothing_remade { IfOk result (λ closed. AreLeft knobs (record_view joined.now) (book_view self) → closed.remade ≡ 0) }
     {
         let alloc = *self.places.allocator();
-        let (pages, remade) = whole_pages(alloc, self, joined, knobs)?;
+        let (pages, remade) = sufficing_pages(alloc, self, joined, knobs)?;
         let verdict = verdict_on(alloc, &pages, joined, knobs)?;
         Ok(Closed { verdict, remade })
     }

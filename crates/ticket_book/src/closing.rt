@@ -4,32 +4,52 @@ ghost use Rattle.sched_record.specs.Record.{record_view};
 ghost use Rattle.ticket_book.specs.Told.{Tell, view_at};
 ghost use Rattle.ticket_book.specs.Verdict.{IsVerdict};
 ghost use Rattle.ticket_book.specs.Walk.{TicketsRise};
-ghost use Rattle.ticket_book.specs.Whole.{AreWhole};
+ghost use Rattle.ticket_book.specs.Whole.{AreSufficient};
 
+use crate::Verdict;
+use crate::cause::Cause;
+use crate::summing::summary_by;
 use crate::walk::Walk;
-use crate::{Summary, Verdict};
 use cfs_model::{Knobs, Memory};
 use queue_replay::Page;
-use replay_model::closing;
+use replay_model::{closing, tallying};
 use sched_record::Record;
 use std::alloc::Global;
 
-/// The verdict on a record to which whole pages come together.
+/// The verdict on a record to which pages that suffice come together.
 pub(crate) fn verdict_on(
     alloc: Global,
     pages: &[Page],
     joined: &Record,
     knobs: Knobs,
 ) -> Result<Verdict, Memory>
-    requires { AreWhole knobs (record_view joined.now) pages.now }
+    requires { AreSufficient knobs (record_view joined.now) pages.now }
     ensures { IfOk result (IsVerdict knobs (record_view joined.now)) }
 {
     closing();
-    told_by(alloc, pages, joined)
+    match told_by(alloc, pages, joined)? {
+        Some((line, cause)) => Ok(Verdict::Fault {
+            line,
+            cpu: cause.cpu,
+            pid: cause.pid,
+            kind: cause.kind,
+        }),
+        None => {
+            tallying();
+            // No sum is too great: no time is above the last, and there are no more events than lines.
+            let _last = (joined.last_time(), joined.last_line());
+            Ok(Verdict::Run(summary_by(alloc, pages, joined)?))
+        }
+    }
 }
 
-/// What the pages of a record's processors tell of its events, which are walked once.
-pub(crate) fn told_by(alloc: Global, pages: &[Page], joined: &Record) -> Result<Verdict, Memory>
+/// What the pages of a record's processors tell of its events, which are walked once: the first thing that they say
+/// against one and its line, or nothing.
+pub(crate) fn told_by(
+    alloc: Global,
+    pages: &[Page],
+    joined: &Record,
+) -> Result<Option<(u32, Cause)>, Memory>
     requires count { length pages.now ≡ (record_view joined.now).cpus }
     requires rise { TicketsRise pages.now }
     ensures { IfOk result (Tell (view_at pages.now) (length pages.now) (record_view joined.now).tasks
@@ -38,16 +58,9 @@ pub(crate) fn told_by(alloc: Global, pages: &[Page], joined: &Record) -> Result<
     let mut walk = Walk::new(alloc, pages, joined.tasks())?;
     for event in joined.events() {
         if let Some(cause) = walk.cause(pages, event) {
-            return Ok(Verdict::Fault {
-                line: event.line,
-                cpu: cause.cpu,
-                pid: cause.pid,
-                kind: cause.kind,
-            });
+            return Ok(Some((event.line, cause)));
         }
         walk.pass(event.act)?;
     }
-    Ok(Verdict::Run(Summary {
-        events: joined.events().len() as u64,
-    }))
+    Ok(None)
 }

@@ -7,13 +7,17 @@ mod cause;
 mod closed;
 mod closing;
 mod cursor;
+mod event_counts;
 mod following;
 mod idling;
+mod least_fault;
 mod places;
 mod post_fault;
 mod relying;
 mod remaking;
 mod summary;
+mod summing;
+mod task_sums;
 mod verdict;
 mod walk;
 

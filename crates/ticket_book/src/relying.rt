@@ -1,20 +1,23 @@
 //! Whether a verdict can rest on a page.
-ghost use Rattle.std.specs.Prelude.{◌≡◌, ◌<◌, ◌≤◌, ◌⊎◌, ◌↔◌, IsSome, IsTrue, length};
+ghost use Rattle.std.specs.Prelude.{◌≡◌, ◌<◌, ◌↔◌, IsTrue, length};
+ghost use Rattle.queue_replay.specs.Made.{reached_of};
+ghost use Rattle.queue_replay.specs.declared.tag.Reached.TheVariants.{Stopped};
 ghost use Rattle.replay_model.specs.Cut.{tasks_at};
 ghost use Rattle.sched_record.specs.Record.{record_view};
 ghost use Rattle.sched_record.specs.Stream.{cut_of, stream_view};
 ghost use Rattle.ticket_book.specs.Cursor.{IsCursor};
 ghost use Rattle.ticket_book.specs.Framed.{is_framed};
-ghost use Rattle.ticket_book.specs.Whole.{IsWholePageOf};
+ghost use Rattle.ticket_book.specs.Relying.{IsEnough};
+ghost use Rattle.ticket_book.specs.Whole.{IsOwnPageOf};
 
 use crate::cursor::Cursor;
 use cfs_model::{Knobs, Task};
 use queue_replay::{Page, Reached};
 use sched_record::{Record, Stream};
 
-/// Whether a page is whole, of the record's stream for a processor and with these settings. The cursor is that of the
-/// page's stream, with all events dealt.
-pub(crate) fn is_whole_page_of(
+/// Whether a page is of the record's stream for a processor, with these settings. The cursor is that of the page's
+/// stream, with all events dealt.
+pub(crate) fn is_own_page_of(
     page: &Page,
     joined: &Record,
     cpu: u32,
@@ -23,19 +26,29 @@ pub(crate) fn is_whole_page_of(
 ) -> bool
     requires below { cpu < (record_view joined.now).cpus }
     requires followed { IsCursor page.now.stream.steps (cut_of (record_view joined.now) cpu).steps cursor }
-    ensures { IsTrue result ↔ IsWholePageOf knobs (record_view joined.now) cpu page.now }
+    ensures { IsTrue result ↔ IsOwnPageOf knobs (record_view joined.now) cpu page.now }
 {
-    page.replayed();
-    page.knobs() == knobs && is_whole(page) && is_cut_of(page.stream(), joined, cpu, cursor)
+    page.knobs() == knobs && is_cut_of(page.stream(), joined, cpu, cursor)
 }
 
-/// Whether a page's replay went to its first fault or to the end.
-fn is_whole(page: &Page) -> bool
-    ensures { IsTrue result ↔ (IsSome page.now.page.fault ⊎ (length page.now.stream.steps ≤ page.now.made)) }
+/// Whether a page's replay got far enough, beside the least line of a fault: to its first fault, to the end, or to that
+/// line.
+pub(crate) fn is_enough(page: &Page, least: Option<u32>) -> bool
+    ensures { IsTrue result ↔ IsEnough least (reached_of page.now.page page.now.made (length page.now.stream.steps)) }
 {
     match page.tag().reached {
         Reached::Done | Reached::Faulted(_) => true,
-        Reached::Stopped(_) => false,
+        Reached::Stopped(line) => is_at_most(least, line),
+    }
+}
+
+/// Whether there is a least line, and this one isn't before it.
+fn is_at_most(least: Option<u32>, line: u32) -> bool
+    ensures { IsTrue result ↔ IsEnough least (Stopped line) }
+{
+    match least {
+        Some(least) => least <= line,
+        None => false,
     }
 }
 

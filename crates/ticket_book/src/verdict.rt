@@ -2,7 +2,7 @@ use crate::Summary;
 use cfs_model::Kind;
 
 /// What the audit of a record comes to.
-#[derive(Clone, Copy, Debug, PartialEq, Eq)]
+#[derive(Debug, PartialEq, Eq, Drop)]
 pub enum Verdict {
     /// The events are a run.
     Run(Summary),

@@ -8,7 +8,10 @@ use Rattle.audit_crew.proofs.auditing.auditor.Goals as goal
 pub returns-in-Ok-clause-posted : goal.returns-in-Ok-clause-posted
 returns-in-Ok-clause-posted g c =
     let page = c.page.result in
-    let through : IsThrough page = subst IsThrough (sym c.page.ensures.same) c.in_ok-go_through.ensures.through in
+    let told = g.S.Shelf.told c.post.new.self in
+    let through : IsThrough page told =
+    subst (IsThrough page) (sym c.post.ensures.told)
+    (subst (λ r. IsThrough r (g.S.Shelf.told c.go_through.new.shelf)) (sym c.page.ensures.same) c.in_ok-go_through.ensures.through) in
     let stream : page.stream ≡ stream_view c.args.stream =
     ap (λ (r : ReplayView). r.stream) c.page.ensures.same
     ∙ c.in_ok-go_through.ensures.stream ∙ c.in_ok-replay.ensures.stream in
@@ -17,6 +20,6 @@ returns-in-Ok-clause-posted g c =
     ∙ c.in_ok-go_through.ensures.knobs ∙ c.in_ok-replay.ensures.knobs in (
       tag_of page,
       c.in-Ok.ensures.added,
-      subst (λ s. IsTagOf s c.args.knobs (tag_of page)) stream
-          (subst (λ k. IsTagOf page.stream k (tag_of page)) knobs (tag_through page c.page.ensures.is_page through)),
+      subst (λ s. IsTagOf s c.args.knobs told (tag_of page)) stream
+          (subst (λ k. IsTagOf page.stream k told (tag_of page)) knobs (tag_through page told c.page.ensures.is_page through)),
     )

@@ -1,10 +1,16 @@
-use Rattle.std.proofs.Common.{◌∙◌, ap}
-use Rattle.std.specs.List.{list_any}
-use Rattle.queue_replay.specs.TaskList.{runs}
-use Rattle.queue_replay.proofs.Answered.{is_runner}
+use Rattle.std.proofs.Common.{◌≡◌, is_none, rules}
+use Rattle.queue_replay.specs.Queue.{runqueue_view}
+use Rattle.queue_replay.proofs.Standings.{the_runner}
+use Rattle.queue_replay.proofs.Answered.{is_runner, task_runs}
 use Rattle.queue_replay.proofs.queue_tests.is_runner.Goals as goal
 
-pub returns-then-pid-eq0 : goal.returns-then-pid-eq0
-returns-then-pid-eq0 c =
+pub returns-then-pid-eq-IDLE_PID : goal.returns-then-pid-eq-IDLE_PID
+returns-then-pid-eq-IDLE_PID c =
     let q = c.args.queue.now in
-    is_runner q.tasks.items q.floor q.mark c.args.pid c.somebody_runs.result c.requires.once c.if-pid-eq0.true (c.somebody_runs.ensures ∙ ap (list_any runs) c.as_slice.ensures.value)
+    let same : c.is_none.result ≡ is_none q.runner = search rules in
+    is_runner (runqueue_view q) q.runner (the_runner q.runner q.tasks q.waiting q.floor q.mark q.kept) c.args.pid c.if-pid-eq-IDLE_PID.true c.is_none.result same
+
+pub returns-else-pid-eq-IDLE_PID : goal.returns-else-pid-eq-IDLE_PID
+returns-else-pid-eq-IDLE_PID c =
+    let part = runqueue_view c.args.queue.now in
+    task_runs part c.args.pid c.if-pid-eq-IDLE_PID.false c.stands_in.result (c.stands_in.ensures part c.args.pid c.requires)

@@ -1,5 +1,5 @@
-use Rattle.replay_model.proofs.FrontRun.{pages_tell_run}
-use Rattle.replay_model.proofs.PagesTell.{pages_tell_fault}
+use Rattle.replay_model.proofs.FrontRun.{pages_tell_run, silent_whole}
+use Rattle.replay_model.proofs.PagesSuffice.{pages_tell_fault}
 use Rattle.replay_model.proofs.laws.closing.Goals as goal
 
 pub returns-clause-run : goal.returns-clause-run
@@ -7,3 +7,6 @@ returns-clause-run c = pages_tell_run
 
 pub returns-clause-fault : goal.returns-clause-fault
 returns-clause-fault c = pages_tell_fault
+
+pub returns-clause-whole : goal.returns-clause-whole
+returns-clause-whole c = silent_whole

@@ -10,11 +10,11 @@ behind a b c x y first second = second ∙ (ap (λ (t : List ℕ). t ++ y) first
 pub returns : goal.returns
 returns c =
     let end = string_bytes c.writeln-6.new.self in
-    let events = count_line (codes "events") c.args.events in
-    let switches = count_line (codes "switches") c.args.switches in
-    let migrations = count_line (codes "migrations") c.args.migrations in
-    let births = count_line (codes "births") c.args.births in
-    let deaths = count_line (codes "deaths") c.args.deaths in
+    let events = count_line (codes "events") c.args.summary.now.events in
+    let switches = count_line (codes "switches") c.args.summary.now.switches in
+    let migrations = count_line (codes "migrations") c.args.summary.now.migrations in
+    let births = count_line (codes "births") c.args.summary.now.births in
+    let deaths = count_line (codes "deaths") c.args.summary.now.deaths in
     let from_births = behind (string_bytes c.writeln-4.new.self) (string_bytes c.writeln-5.new.self) end births deaths
     c.in_ok-writeln-5.ensures.bytes c.in_ok-writeln-6.ensures.bytes in
     let from_migrations = behind (string_bytes c.writeln-3.new.self) (string_bytes c.writeln-4.new.self) end

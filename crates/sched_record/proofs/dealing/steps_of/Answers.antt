@@ -1,13 +1,16 @@
-use Rattle.std.proofs.Common.{◌≡◌, ℕ, ◌+◌, List, take, sym, ap, ◌∙◌}
+use Rattle.std.proofs.Common.{◌≡◌, ℕ, ◌<◌, List, length, get_or, map, sym, ap, ◌∙◌, subst, arith}
+use Rattle.std.specs.List.{AllPairs}
+use Rattle.std.proofs.lemmas.List.{take_all}
 use Rattle.cfs_model.specs.Claimed.{claimed}
-use Rattle.replay_model.specs.Cut.{steps_at}
 use Rattle.cfs_model.specs.declared.act.Entry.{Entry}
 use Rattle.cfs_model.specs.declared.claim.Claim.{Claim}
-use Rattle.replay_model.specs.declared.step.Step.{Step}
-use Rattle.sched_record.proofs.Dealt.{dealt_step, dealt_none}
-use Rattle.sched_record.proofs.Walk.{passed_more}
+use Rattle.replay_model.specs.Cut.{steps_at}
+use Rattle.sched_record.specs.Places.{places_touching, touches_cpu}
+use Rattle.sched_record.proofs.Dealt.{dealt_more}
+use Rattle.sched_record.proofs.Pairs.{pairs_filter}
+use Rattle.sched_record.proofs.Placing.{count_touching, next_touching, places_within, step_of, steps_are, touching}
+use Rattle.sched_record.proofs.Walk.{above_here, passed_more}
 use Rattle.sched_record.proofs.dealing.steps_of.Goals as goal
-use Rattle.sched_record.proofs.dealing.steps_of.Goals.{then-touches+in_ok-push, else-touches}
 
 abbrev line_of_event : Entry → ℕ
 line_of_event event = event.line
@@ -15,25 +18,61 @@ line_of_event event = event.line
 abbrev line_of_claim : Claim → ℕ
 line_of_claim claim = claim.line
 
-pub loop-event-preserved : goal.loop-event-preserved
-loop-event-preserved c =
-    let i = c.loop-event.event-index in
-    let event = c.event-item.result in
-    let Dealt : List Step → Type 0 = λ steps. steps ≡ steps_at c.args.cpu (claimed c.args.claims.now (take (i + 1) c.args.events.now)) in
+-- the lines of the events that touch a processor rise
+touching_rise : (cpu : ℕ) (events all : List Entry) → events ≡ all → AllPairs (λ a b. a.line < b.line) all → AllPairs (λ a b. a.line < b.line) (touching cpu events)
+touching_rise cpu events all same rise =
+    pairs_filter (λ a b. a.line < b.line) (λ event. touches_cpu cpu event.act) events (subst (λ es. AllPairs (λ a b. a.line < b.line) es) (sym same) rise)
+
+-- the places are those of the events at hand
+placed_here : (cpu : ℕ) (events all : List Entry) (places : List ℕ) → events ≡ all → places ≡ places_touching cpu all → places ≡ places_touching cpu events
+placed_here cpu events all places same placed = placed ∙ ap (places_touching cpu) (sym same)
+
+pub bounds-events-place : goal.bounds-events-place
+bounds-events-place c =
+    let events = c.events-events.result.now in
+    let i = c.loop-place.place-index in
+    let is = placed_here c.args.cpu events _ c.places-places.result.now c.events-events.ensures c.places-places.ensures in
+    let size = ap length is in
+    let within = places_within c.args.cpu events i 0 (omega (arith, size)) in
+    let same = ap (λ (places : List ℕ). get_or places i 0) is in
+    omega (arith, within, same)
+
+pub claim_on-requires-clause-above : goal.claim_on-requires-clause-above
+claim_on-requires-clause-above c =
+    let events = c.events-events.result.now in
+    let i = c.loop-place.place-index in
+    let event = c.index-events-place.result in
+    let is = placed_here c.args.cpu events _ c.places-places.result.now c.events-events.ensures c.places-places.ensures in
+    let here = next_touching c.args.cpu events c.places-places.result.now i event is c.loop-place-test.true c.index-events-place.is in
+    above_here line_of_claim line_of_event c.args.claims.now (touching c.args.cpu events) c.loop-place.from c.claim_place-from.result i event.line event
+    (ap line_of_event here.1) here.0 c.loop-place.invariant.passed c.claim_place-from.ensures.below
+
+pub loop-place-preserved : goal.loop-place-preserved
+loop-place-preserved c =
+    let events = c.events-events.result.now in
+    let i = c.loop-place.place-index in
+    let event = c.index-events-place.result in
+    let there = touching c.args.cpu events in
+    let is = placed_here c.args.cpu events _ c.places-places.result.now c.events-events.ensures c.places-places.ensures in
+    let here = next_touching c.args.cpu events c.places-places.result.now i event is c.loop-place-test.true c.index-events-place.is in
     record {
-      within = c.place_from-place.ensures.within.1;
-      passed =
-          passed_more line_of_claim line_of_event _ _ c.loop-event.place _ i event.line event c.requires.events_rise (ap line_of_event c.event-item.is) c.loop-event-test.true
-          c.loop-event.invariant.passed c.place_from-place.ensures.below;
+      within = c.claim_place-from.ensures.within.1;
+      passed = passed_more line_of_claim line_of_event c.args.claims.now there c.loop-place.from c.claim_place-from.result i event.line event
+          (touching_rise c.args.cpu events _ c.events-events.ensures c.args.trace.now.in_order.lines_rise) (ap line_of_event here.1) here.0
+          c.loop-place.invariant.passed c.claim_place-from.ensures.below;
       dealt =
-          elim c.if-touches.branch [
-            | then-touches+in_ok-push w ↦
-                rw (w.steps-is, w.in_ok-push.ensures.items)
-                (dealt_step c.args.cpu c.args.claims.now c.args.events.now i event c.loop-event.steps.items _ _ _ c.loop-event-test.true c.event-item.is c.loop-event.invariant.dealt
-                (sym c.touches.ensures ∙ w.if-touches.true) w.deed_at-deed.ensures w.claim_on.ensures w.claim_for-claim.ensures)
-            | else-touches w ↦
-                rw w.steps-is
-                (dealt_none c.args.cpu c.args.claims.now c.args.events.now i event c.loop-event.steps.items c.loop-event-test.true c.event-item.is c.loop-event.invariant.dealt
-                (sym c.touches.ensures ∙ w.if-touches.false))
-          ];
+          rw c.in_ok-push.ensures.items
+          (dealt_more c.args.cpu c.args.claims.now events i event c.loop-place.steps.items _ _ _ here.0 here.1 c.loop-place.invariant.dealt
+          c.deed_at-deed.ensures c.claim_on.ensures c.claim_for-claim.ensures);
     }
+
+pub returns : goal.returns
+returns c =
+    let events = c.events-events.result.now in
+    let there = touching c.args.cpu events in
+    let is = placed_here c.args.cpu events _ c.places-places.result.now c.events-events.ensures c.places-places.ensures in
+    let all = count_touching c.args.cpu events c.places-places.result.now is in
+    c.from_vec.ensures ∙ c.loop-place.invariant.dealt
+    ∙ ap (map (step_of c.args.cpu c.args.claims.now)) (take_all c.loop-place.place-index there (omega (arith, all)))
+    ∙ sym (steps_are c.args.cpu c.args.claims.now events)
+    ∙ ap (λ es. steps_at c.args.cpu (claimed c.args.claims.now es)) c.events-events.ensures

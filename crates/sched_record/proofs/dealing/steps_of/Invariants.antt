@@ -1,14 +1,13 @@
-use Rattle.std.proofs.Common.{◌≡◌, ℕ, ◌<◌, ◌≤◌, length, take, slice_index_or}
-use Rattle.cfs_model.specs.Claimed.{claimed}
-use Rattle.replay_model.specs.Cut.{steps_at}
+use Rattle.std.proofs.Common.{◌≡◌, ℕ, ◌<◌, ◌≤◌, length, map, take, slice_index_or}
 use Rattle.cfs_model.specs.declared.act.Entry.{Entry}
 use Rattle.cfs_model.specs.declared.claim.Claim.{Claim}
+use Rattle.sched_record.proofs.Placing.{step_of, touching}
 use Rattle.sched_record.proofs.dealing.steps_of.Given as goal
 
-abbrev pub invariant-loop-event : goal.invariant-loop-event
-invariant-loop-event l = record {
-  within : l.place ≤ length l.claims;
-  passed : (k j : ℕ) (d : Claim) (e : Entry) → k < l.place → l.event-index ≤ j → j < length l.events →
-      (slice_index_or l.claims k d).line < (slice_index_or l.events j e).line;
-  dealt : l.steps.items ≡ steps_at l.cpu (claimed l.claims (take l.event-index l.events));
+abbrev pub invariant-loop-place : goal.invariant-loop-place
+invariant-loop-place l = record {
+  within : l.from ≤ length l.claims;
+  passed : (k j : ℕ) (d : Claim) (e : Entry) → k < l.from → l.place-index ≤ j → j < length (touching l.cpu l.events) →
+      (slice_index_or l.claims k d).line < (slice_index_or (touching l.cpu l.events) j e).line;
+  dealt : l.steps.items ≡ map (step_of l.cpu l.claims) (take l.place-index (touching l.cpu l.events));
 }

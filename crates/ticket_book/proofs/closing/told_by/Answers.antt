@@ -1,6 +1,5 @@
 use Rattle.std.proofs.Common.{◌<◌, length, refl, sym, ap, ◌∙◌, subst, arith}
 use Rattle.std.specs.List.{AllPairs}
-use Rattle.std.proofs.lemmas.List.{length-map}
 use Rattle.cfs_model.specs.Claimed.{claimed}
 use Rattle.cfs_model.specs.declared.act.Entry.{Entry}
 use Rattle.replay_model.specs.Closing.{SayNothing}
@@ -57,7 +56,5 @@ returns c =
     let r = record_view c.args.joined.now in
     let pages = c.args.pages.now in
     let done = walk_is_done pages r.tasks r.claims c.events-event-items.result.now c.loop-event.event-index
-    c.loop-event.walk c.loop-event-test.false c.loop-event.invariant in (
-      subst (λ es. SayNothing (view_at pages) (length pages) r.tasks (claimed r.claims es)) c.events-event-items.ensures done,
-      ap length c.events.ensures ∙ sym (length-map r.events (with_claim r.claims)),
-    )
+    c.loop-event.walk c.loop-event-test.false c.loop-event.invariant in
+    subst (λ es. SayNothing (view_at pages) (length pages) r.tasks (claimed r.claims es)) c.events-event-items.ensures done

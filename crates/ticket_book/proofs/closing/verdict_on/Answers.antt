@@ -1,23 +1,39 @@
-use Rattle.std.proofs.Common.{length}
-use Rattle.std.proofs.lemmas.Result.{IfOk-weaker}
+use Rattle.std.proofs.Common.{length, subst}
 use Rattle.cfs_model.specs.Claimed.{claimed}
+use Rattle.replay_model.specs.Summary.{tasks_of_run}
 use Rattle.sched_record.specs.Record.{record_view}
 use Rattle.ticket_book.specs.Told.{Tell, view_at}
-use Rattle.ticket_book.specs.Verdict.{IsVerdict}
-use Rattle.ticket_book.proofs.Verdicts.{all_whole, tickets_rise, verdict_of}
+use Rattle.ticket_book.proofs.Verdicts.{fault_of, run_of, sums_fit, tickets_rise}
 use Rattle.ticket_book.proofs.closing.verdict_on.Goals as goal
-
-pub returns : goal.returns
-returns c =
-    let joined = c.args.joined.now in
-    let r = record_view joined in
-    let pages = c.args.pages.now in
-    let told = all_whole c.args.knobs r pages c.requires in
-    IfOk-weaker c.told_by.result
-    (Tell (view_at pages) (length pages) r.tasks (claimed r.claims r.events)) (IsVerdict c.args.knobs r)
-    (verdict_of c.args.knobs r pages c.requires c.closing.ensures.run c.closing.ensures.fault joined.in_order told)
-    c.told_by.ensures
 
 pub told_by-requires-clause-rise : goal.told_by-requires-clause-rise
 told_by-requires-clause-rise c =
     tickets_rise c.args.knobs (record_view c.args.joined.now) c.args.pages.now c.requires c.args.joined.now.in_order
+
+pub returns-in-Some : goal.returns-in-Some
+returns-in-Some c =
+    let r = record_view c.args.joined.now in
+    let pages = c.args.pages.now in
+    fault_of c.args.knobs r pages c.requires c.closing.ensures.fault c.args.joined.now.in_order c.in-Some.line c.in-Some.cause
+    (subst (Tell (view_at pages) (length pages) r.tasks (claimed r.claims r.events)) c.in-Some.is c.in_ok-line.ensures)
+
+pub summary_by-requires : goal.summary_by-requires
+summary_by-requires c =
+    let r = record_view c.args.joined.now in
+    let pages = c.args.pages.now in
+    let order = c.args.joined.now.in_order in
+    let nothing = subst (Tell (view_at pages) (length pages) r.tasks (claimed r.claims r.events)) c.in-None.is
+    c.in_ok-line.ensures in
+    sums_fit c.args.knobs r pages c.requires order
+    nothing c.tallying.ensures.totals c.tallying.ensures.bounded c.last_time.result c.last_line.result c.last_time.ensures
+    c.last_time.type_inv c.last_line.ensures c.last_line.type_inv (tasks_of_run r.tasks (claimed r.claims r.events))
+
+pub returns-in_ok-summary_by-in-None : goal.returns-in_ok-summary_by-in-None
+returns-in_ok-summary_by-in-None c =
+    let r = record_view c.args.joined.now in
+    let pages = c.args.pages.now in
+    let order = c.args.joined.now.in_order in
+    let nothing = subst (Tell (view_at pages) (length pages) r.tasks (claimed r.claims r.events)) c.in-None.is
+    c.in_ok-line.ensures in
+    run_of c.args.knobs r pages c.requires order
+    nothing c.tallying.ensures.summary c.in_ok-summary_by-in-None.field-0 c.in_ok-summary_by-in-None.ensures

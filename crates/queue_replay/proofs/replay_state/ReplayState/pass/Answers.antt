@@ -1,14 +1,20 @@
-use Rattle.std.proofs.Common.{◌≡◌, ◌∙◌, ◌+◌, List, All, Some, None, sym, ap, subst, inr, refl}
-use Rattle.std.specs.List.{find}
+use Rattle.std.proofs.Common.{◌∙◌, ◌+◌, ◌-◌, List, All, Option, Some, None, sym, ap, subst, inr, refl}
+use Rattle.std.specs.BTreeMap.{get}
+use Rattle.std.specs.BTreeSet.{contains}
+use Rattle.std.specs.Ordering.{nat_cmp}
+use Rattle.cfs_model.specs.declared.task.Task.{Task}
 use Rattle.replay_model.specs.declared.page.Tally.{Tally}
 use Rattle.queue_replay.specs.Counting.{stretched}
+use Rattle.queue_replay.specs.Standing.{by_runtime, IsQueue}
 use Rattle.queue_replay.specs.Stretches.{IsWithin}
-use Rattle.queue_replay.specs.Queue.{runqueue_view, OneRunsHere}
-use Rattle.queue_replay.specs.TaskList.{runs}
+use Rattle.queue_replay.specs.FirstTest.{IsFirst, pick_tests}
+use Rattle.queue_replay.specs.Queue.{runqueue_view, IsTheRunner}
+use Rattle.queue_replay.specs.declared.failed_test.FailedTest.{FailedTest}
 use Rattle.queue_replay.proofs.Counts.{charged_same}
-use Rattle.queue_replay.proofs.Growing.{IsRan, noted_ran, ran_picks, tallied_within, lifted_one}
+use Rattle.queue_replay.proofs.Growing.{IsRan, noted_ran, ran_picks, tallied_within}
+use Rattle.queue_replay.proofs.Moved.{restored_part}
 use Rattle.queue_replay.proofs.Noting.{page_is}
-use Rattle.queue_replay.proofs.OneRunner.{one_after}
+use Rattle.queue_replay.proofs.Standings.{same_queue, the_runner}
 use Rattle.queue_replay.proofs.replay_state.ReplayState.pass.Goals as goal
 
 pub returns-in-Some-clause-fails : goal.returns-in-Some-clause-fails
@@ -26,32 +32,71 @@ returns-in-Some-first_claim_test-clause-fails c =
       c.in_default-first_queue_test.ensures.first (Some c.in-Some-first_claim_test.failed) c.in-Some-first_claim_test.ensures.first,
     )
 
-pub returns-in-Some-make-clause-fails : goal.returns-in-Some-make-clause-fails
-returns-in-Some-make-clause-fails c =
+pub make-requires-clause-cleared : goal.make-requires-clause-cleared
+make-requires-clause-cleared c =
+    let e = c.in_default-first_queue_test.ensures in
+    record {
+      runner = e.runner refl;
+      apart = e.apart refl;
+      at_rest = e.at_rest refl;
+      claimed = c.in_default-first_claim_test.ensures.claimed refl;
+    }
+
+pub returns-in-Ok-Some-clause-fails : goal.returns-in-Ok-Some-clause-fails
+returns-in-Ok-Some-clause-fails c =
     let l = c.in_default.ensures in
-    let b = Some c.in-Some-make.failed in
+    let b = Some c.in-Ok-Some.failed in
+    let F : Option FailedTest → Type 0 = λ o. IsFirst o (pick_tests c.args.knobs (runqueue_view c.lift.new.self) c.args.step.now) in
     inr (
       runqueue_view c.lift.new.self,
       (c.requires.in_time, (l.in_range, tt)),
       l.lifted,
-      c.in_default-first_queue_test.ensures.first b (c.in_default-first_claim_test.ensures.first b c.in-Some-make.ensures.first),
+      c.in_default-first_queue_test.ensures.first b (c.in_default-first_claim_test.ensures.first b (subst F c.in-Ok-Some.field-0-is c.in-Ok-Some.ensures.first)),
     )
+
+pub restore-requires : goal.restore-requires
+restore-requires c =
+    let q = c.args.self.now.queue in
+    let made = c.make.new.queue in
+    let s = c.in-Err-make.ensures.same in
+    subst (λ (r : Option Task). IsQueue r made.tasks made.waiting) (sym c.unlifted-before.ensures.runner)
+    (same_queue q.runner q.tasks made.tasks q.waiting made.waiting
+    (λ p. s.tasks p ∙ ap (λ m. get nat_cmp m p) c.lift.ensures.same.0)
+    (λ v p. s.waiting v p ∙ ap (λ w. contains by_runtime w (v, p)) c.lift.ensures.same.1) q.kept)
+
+pub returns-in-Err-make-clause-memory : goal.returns-in-Err-make-clause-memory
+returns-in-Err-make-clause-memory c =
+    let q = c.args.self.now.queue in
+    let made = c.make.new.queue in
+    let before = c.unlifted-before.result in
+    let e = c.unlifted-before.ensures in
+    record {
+      made = refl;
+      part = c.restore.ensures ∙ restored_part q.runner before.runner q.tasks made.tasks q.floor before.floor q.mark before.mark e.runner e.floor e.mark
+          (λ p. c.in-Err-make.ensures.same.tasks p ∙ ap (λ m. get nat_cmp m p) c.lift.ensures.same.0);
+      since = refl;
+      noted = refl;
+    }
 
 pub note_stretch-requires-clause-fits : goal.note_stretch-requires-clause-fits
 note_stretch-requires-clause-fits c =
     let old = c.args.self.now in
     let q = old.queue in
-    (noted_ran q.tasks.items q.floor q.mark c.args.step.now.time c.saturating_sub-time.result old.made c.requires.going.kept.once
-    c.in_default.ensures.in_range c.saturating_sub-time.ensures c.saturating_sub-time.type_inv c.runner_of-runner.result
-    (c.runner_of-runner.ensures ∙ ap (find runs) c.as_slice.ensures.value) old.draft.tallies.list.items c.requires.going.within).0
+    let step = c.args.step.now in
+    (noted_ran (runqueue_view q) step.time c.saturating_sub-time.result old.made c.in_default.ensures.in_range
+    (c.saturating_sub-time.ensures ∙ ap (λ n. step.time - n) c.unlifted-before.ensures.mark) c.saturating_sub-time.type_inv c.unlifted-before.result.runner
+    (subst (IsTheRunner (runqueue_view q)) (sym c.unlifted-before.ensures.runner) (the_runner q.runner q.tasks q.waiting q.floor q.mark q.kept))
+    old.draft.tallies.list.items c.requires.going.within).0
 
 pub note-requires-clause-within : goal.note-requires-clause-within
 note-requires-clause-within c =
     let old = c.args.self.now in
     let q = old.queue in
-    let ran = (noted_ran q.tasks.items q.floor q.mark c.args.step.now.time c.saturating_sub-time.result old.made c.requires.going.kept.once
-    c.in_default.ensures.in_range c.saturating_sub-time.ensures c.saturating_sub-time.type_inv c.runner_of-runner.result
-    (c.runner_of-runner.ensures ∙ ap (find runs) c.as_slice.ensures.value) old.draft.tallies.list.items c.requires.going.within).1 in
+    let step = c.args.step.now in
+    let ran = (noted_ran (runqueue_view q) step.time c.saturating_sub-time.result old.made c.in_default.ensures.in_range
+    (c.saturating_sub-time.ensures ∙ ap (λ n. step.time - n) c.unlifted-before.ensures.mark) c.saturating_sub-time.type_inv c.unlifted-before.result.runner
+    (subst (IsTheRunner (runqueue_view q)) (sym c.unlifted-before.ensures.runner) (the_runner q.runner q.tasks q.waiting q.floor q.mark q.kept))
+    old.draft.tallies.list.items c.requires.going.within).1 in
     let P : List Tally → Type 0 = λ l. All (IsRan old.made) l in
     ran_picks old.made c.note_stretch.new.self.tallies.list.items (subst P (sym c.note_stretch.ensures.tallies) ran)
 
@@ -62,15 +107,16 @@ returns-clause-passes c _ =
     let step = c.args.step.now in
     let lifted = runqueue_view c.lift.new.self in
     let l = c.in_default.ensures in
-    let e = c.runner_of-runner.ensures ∙ ap (find runs) c.as_slice.ensures.value in
-    let m = c.in_default-make.ensures in
+    let m = c.in-Ok-None.ensures in
+    let F : Option FailedTest → Type 0 = λ o. IsFirst o (pick_tests c.args.knobs lifted step) in
     let mid = c.note_stretch.new.self in
     let s = c.note_stretch.ensures.same in
-    let ran = (noted_ran q.tasks.items q.floor q.mark step.time c.saturating_sub-time.result old.made c.requires.going.kept.once
-    l.in_range c.saturating_sub-time.ensures c.saturating_sub-time.type_inv c.runner_of-runner.result e old.draft.tallies.list.items c.requires.going.within).1 in
+    let ran = (noted_ran (runqueue_view q) step.time c.saturating_sub-time.result old.made c.in_default.ensures.in_range
+    (c.saturating_sub-time.ensures ∙ ap (λ n. step.time - n) c.unlifted-before.ensures.mark) c.saturating_sub-time.type_inv c.unlifted-before.result.runner
+    (subst (IsTheRunner (runqueue_view q)) (sym c.unlifted-before.ensures.runner) (the_runner q.runner q.tasks q.waiting q.floor q.mark q.kept))
+    old.draft.tallies.list.items c.requires.going.within).1 in
     let P : List Tally → Type 0 = λ x. All (IsRan old.made) x in
     let W : List Tally → Type 0 = λ x. All (IsWithin (old.made + 1)) x in
-    let changed : runqueue_view c.make.new.queue ≡ _ = m.part refl in
     record {
       passes = record {
         in_time = c.requires.in_time;
@@ -78,16 +124,18 @@ returns-clause-passes c _ =
         passes = record {
           in_range = l.in_range;
           is_lifted = l.lifted;
-          none = c.in_default-first_queue_test.ensures.first None (c.in_default-first_claim_test.ensures.first None m.first);
+          none = c.in_default-first_queue_test.ensures.first None (c.in_default-first_claim_test.ensures.first None (subst F c.in-Ok-None.field-0-is m.first));
         };
-        part = changed;
+        part = m.part c.in-Ok-None.field-0-is;
         since = c.since_after-self.ensures;
         page = page_is old.draft mid c.note.new.self (runqueue_view q) lifted step c.ticket_of-ticket.result c.requires.going.fault
             (record { line = s.0; fault = s.1; left = s.2; came = s.3; births = s.4; deaths = s.5 })
             (c.note_stretch.ensures.tallies
-            ∙ ap (λ n. stretched c.runner_of-runner.result n old.draft.tallies.list.items) c.saturating_sub-time.ensures
-            ∙ sym (charged_same q.tasks.items q.floor q.mark step.time c.requires.going.kept.once c.requires.going.kept.one_runs
-            c.runner_of-runner.result e old.draft.tallies.list.items))
+            ∙ ap (λ n. stretched c.unlifted-before.result.runner n old.draft.tallies.list.items)
+            (c.saturating_sub-time.ensures ∙ ap (λ n. step.time - n) c.unlifted-before.ensures.mark)
+            ∙ sym (charged_same (runqueue_view q) step.time c.unlifted-before.result.runner
+            (subst (IsTheRunner (runqueue_view q)) (sym c.unlifted-before.ensures.runner) (the_runner q.runner q.tasks q.waiting q.floor q.mark q.kept))
+            old.draft.tallies.list.items))
             c.ticket_of-ticket.ensures
             (let n = c.note.ensures in record {
               line = n.line;
@@ -98,12 +146,6 @@ returns-clause-passes c _ =
               deaths = n.deaths;
               tallies = n.tallies;
             });
-      };
-      kept = record {
-        once = c.make.ensures.once;
-        one_runs = subst OneRunsHere (sym changed)
-            (one_after lifted step.deed step.claim (lifted_one step.time (runqueue_view q) lifted l.lifted c.requires.going.kept.one_runs)
-            (c.in_default-first_queue_test.ensures.runner refl));
       };
       within = subst W (sym c.note.ensures.tallies) (tallied_within old.made step.deed mid.tallies.list.items (subst P (sym c.note_stretch.ensures.tallies) ran));
     }

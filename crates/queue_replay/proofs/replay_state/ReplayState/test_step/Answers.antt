@@ -1,13 +1,20 @@
-use Rattle.std.proofs.Common.{None}
+use Rattle.std.proofs.Common.{◌≢◌, Option, None, IfSome, subst, sym, ◌∙◌}
+use Rattle.cfs_model.specs.declared.kind.Kind.TheVariants.{IdleTooLong}
+use Rattle.replay_model.specs.Page.{FailsTest}
 use Rattle.queue_replay.specs.Counting.{page_draft_view}
 use Rattle.queue_replay.specs.ReplayState.{replay_state_view}
+use Rattle.queue_replay.specs.declared.failed_test.FailedTest.{FailedTest}
 use Rattle.queue_replay.proofs.Faults.{failed, no_deadline}
 use Rattle.queue_replay.proofs.replay_state.ReplayState.test_step.Goals as goal
 
-pub returns-in-Some-pass-clause-stepped : goal.returns-in-Some-pass-clause-stepped
-returns-in-Some-pass-clause-stepped c =
+pub returns-in-Some-found-clause-stepped : goal.returns-in-Some-found-clause-stepped
+returns-in-Some-found-clause-stepped c =
     let old = c.args.self.now in
-    let b = c.in-Some-pass.failed in
-    let e = c.in-Some-pass.ensures in
-    failed c.args.knobs c.args.cpu (replay_state_view old) c.args.step.now b.kind b.pid None (page_draft_view c.pass.new.self.draft) c.fail-in-Some-pass.new.self
-    e.fails (no_deadline b.kind c.args.knobs.slack old.since e.later) (e.noted (λ same. cc)).0 c.fail-in-Some-pass.ensures.noted
+    let b = c.in-Some-found.failed in
+    let is = c.in-Some-found.is in
+    let e = c.in_ok-found.ensures in
+    let F : Option FailedTest → Type 0 = λ o. IfSome o (λ f. FailsTest c.args.knobs c.args.cpu (replay_state_view old) c.args.step.now f.kind f.pid) in
+    let K : Option FailedTest → Type 0 = λ o. IfSome o (λ f. f.kind ≢ IdleTooLong) in
+    failed c.args.knobs c.args.cpu (replay_state_view old) c.args.step.now b.kind b.pid None (page_draft_view c.pass.new.self.draft) c.fail-in-Some-found.new.self
+    (subst F is e.fails) (no_deadline b.kind c.args.knobs.slack old.since (subst K is e.later)) (e.noted (λ same. let f = sym is ∙ same in cc)).0
+    c.fail-in-Some-found.ensures.noted

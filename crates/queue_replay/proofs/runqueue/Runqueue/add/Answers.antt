@@ -1,14 +1,68 @@
-use Rattle.std.proofs.Common.{◌≡◌, [], ◌∷◌, ◌++◌, sym, ap, ◌∙◌, subst, rules}
-use Rattle.replay_model.specs.Part.{start_part}
-use Rattle.queue_replay.specs.TaskList.{EachOnce}
-use Rattle.queue_replay.proofs.Moves.{pushed_part, pushed_once}
+use Rattle.std.proofs.Common.{◌≡◌, ℤ, true, refl, subst, rules, to_z, of_z, w64}
+use Rattle.std.specs.BTreeSet as set
+use Rattle.queue_replay.specs.Standing.{by_runtime}
+use Rattle.queue_replay.proofs.Standings.{same_queue}
+use Rattle.queue_replay.proofs.Moved.{same_entries, same_keys}
+use Rattle.queue_replay.proofs.Coming.{come_runs_alone, run_part_alone, come_rests, come_waits, come_part, come_undone}
 use Rattle.queue_replay.proofs.runqueue.Runqueue.add.Goals as goal
 
-pub returns : goal.returns
-returns c =
+pub invariant_of-self : goal.invariant_of-self
+invariant_of-self c =
     let q = c.args.self.now in
-    let e : c.push_in.new.list.items ≡ q.tasks.items ++ c.args.task ∷ [] = search rules in
     record {
-      part = ap (λ l. start_part l q.floor q.mark) e ∙ pushed_part q.tasks.items q.floor q.mark c.args.task c.requires.apart;
-      once = subst EachOnce (sym e) (pushed_once q.tasks.items c.args.task c.requires.apart c.requires.once);
+      kept = same_queue q.runner q.tasks c.insert.new.self q.waiting q.waiting (same_entries q.tasks c.insert.new.self c.in_err-insert.ensures.err) (λ v p. refl) q.kept;
+    }
+
+pub invariant_of-self-in-Run : goal.invariant_of-self-in-Run
+invariant_of-self-in-Run c =
+    let q = c.args.self.now in
+    record {
+      kept = come_runs_alone q.runner q.tasks c.insert.new.self q.waiting q.kept (c.requires.alone c.in-Run.is) c.args.task c.requires.apart c.in_ok-insert.ensures.updates c.in-Run.is;
+    }
+
+pub returns-in-Run-clause-part : goal.returns-in-Run-clause-part
+returns-in-Run-clause-part c =
+    let q = c.args.self.now in
+    run_part_alone q.runner q.tasks c.insert.new.self q.waiting q.kept (c.requires.alone c.in-Run.is) c.args.task c.requires.apart c.in_ok-insert.ensures.updates q.floor q.mark
+
+pub invariant_of-self-in-Rest : goal.invariant_of-self-in-Rest
+invariant_of-self-in-Rest c =
+    let q = c.args.self.now in
+    record { kept = come_rests q.runner q.tasks c.insert.new.self q.waiting q.kept c.args.task c.requires.apart c.in_ok-insert.ensures.updates c.in-Rest.is }
+
+pub returns-in-Rest-clause-part : goal.returns-in-Rest-clause-part
+returns-in-Rest-clause-part c =
+    let q = c.args.self.now in
+    come_part q.runner q.tasks c.insert.new.self q.waiting q.kept c.args.task c.requires.apart c.in_ok-insert.ensures.updates q.floor q.mark
+
+pub invariant_of-self-in-Ok : goal.invariant_of-self-in-Ok
+invariant_of-self-in-Ok c =
+    let q = c.args.self.now in
+    let t = c.args.task in
+    let whole : to_z w64 (of_z w64 t.v) ≡ t.v = search rules in
+    record {
+      kept = come_waits q.runner q.tasks c.insert.new.self q.waiting q.kept t c.requires.apart c.in_ok-insert.ensures.updates c.insert-in-Wait.new.self
+          (subst (λ (v : ℤ). set.Updates by_runtime q.waiting c.insert-in-Wait.new.self (v, t.pid) true) whole c.in-Ok.ensures.updates) c.in-Wait.is;
+    }
+
+pub returns-in-Ok-clause-part : goal.returns-in-Ok-clause-part
+returns-in-Ok-clause-part c =
+    let q = c.args.self.now in
+    come_part q.runner q.tasks c.insert.new.self q.waiting q.kept c.args.task c.requires.apart c.in_ok-insert.ensures.updates q.floor q.mark
+
+pub invariant_of-self-in-Err : goal.invariant_of-self-in-Err
+invariant_of-self-in-Err c =
+    let q = c.args.self.now in
+    record {
+      kept = same_queue q.runner q.tasks c.remove.new.self q.waiting c.insert-in-Wait.new.self
+          (come_undone q.runner q.tasks c.insert.new.self q.waiting q.kept c.args.task c.requires.apart c.in_ok-insert.ensures.updates c.remove.new.self c.remove.ensures.updates)
+          (same_keys q.waiting c.insert-in-Wait.new.self c.in-Err.ensures.err) q.kept;
+    }
+
+pub returns-in-Err-clause-same : goal.returns-in-Err-clause-same
+returns-in-Err-clause-same c =
+    let q = c.args.self.now in
+    record {
+      tasks = come_undone q.runner q.tasks c.insert.new.self q.waiting q.kept c.args.task c.requires.apart c.in_ok-insert.ensures.updates c.remove.new.self c.remove.ensures.updates;
+      waiting = same_keys q.waiting c.insert-in-Wait.new.self c.in-Err.ensures.err;
     }

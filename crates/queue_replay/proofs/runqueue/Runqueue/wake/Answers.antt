@@ -1,13 +1,50 @@
-use Rattle.std.proofs.Common.{◌∙◌, sym, subst}
-use Rattle.queue_replay.specs.TaskList.{EachOnce}
-use Rattle.queue_replay.proofs.Moves.{part_is, woken_part, woken_once}
+use Rattle.std.proofs.Common.{◌≡◌, ℤ, true, refl, subst, sym, ap, ◌∙◌, rules, Some, option_map, to_z, of_z, w64}
+use Rattle.std.specs.BTreeSet as set
+use Rattle.cfs_model.specs.declared.task.Place.TheVariants.{Wait}
+use Rattle.queue_replay.specs.Queue.{runqueue_view}
+use Rattle.queue_replay.specs.Standing.{by_runtime, standing}
+use Rattle.queue_replay.specs.Tasks.{entity_of}
+use Rattle.queue_replay.proofs.Moved.{nobody_woken, not_woken, wake_has, woken_queue, woken_part}
 use Rattle.queue_replay.proofs.runqueue.Runqueue.wake.Goals as goal
 
-pub returns : goal.returns
-returns c =
+pub returns-in_default-clause-part : goal.returns-in_default-clause-part
+returns-in_default-clause-part c =
     let q = c.args.self.now in
-    let e = c.wake_in_list.ensures in
+    nobody_woken (runqueue_view q) c.args.pid c.args.claim (sym c.task_at.ensures ∙ ap (option_map entity_of) c.in_default.is)
+
+pub returns-in-Run : goal.returns-in-Run
+returns-in-Run c =
+    let q = c.args.self.now in
+    let t = c.in-Some.task in
+    let e : Some (entity_of t) ≡ standing q.runner q.tasks c.args.pid = ap (option_map entity_of) (sym c.in-Some.is) ∙ c.task_at.ensures in
+    record { part = not_woken (runqueue_view q) c.args.pid c.args.claim (entity_of t) (sym e) (search rules); same = tt }
+
+pub write_over-requires : goal.write_over-requires
+write_over-requires c =
+    let q = c.args.self.now in
+    let t = c.in-Some.task in
+    let e : Some (entity_of t) ≡ standing q.runner q.tasks c.args.pid = ap (option_map entity_of) (sym c.in-Some.is) ∙ c.task_at.ensures in
+    wake_has q.runner q.tasks q.tasks q.waiting q.kept c.args.pid t e c.in-Rest.is
+
+pub invariant_of-self-in-Rest : goal.invariant_of-self-in-Rest
+invariant_of-self-in-Rest c =
+    let q = c.args.self.now in
+    let t = c.in-Some.task in
+    let v = c.args.claim.v in
+    let e : Some (entity_of t) ≡ standing q.runner q.tasks c.args.pid = ap (option_map entity_of) (sym c.in-Some.is) ∙ c.task_at.ensures in
+    let whole : to_z w64 (of_z w64 v) ≡ v = search rules in
     record {
-      part = part_is q c.wake_in_list.new.self _ e.tasks e.floor e.mark ∙ woken_part q.tasks.items q.floor q.mark c.args.pid c.args.claim;
-      once = subst EachOnce (sym e.tasks) (woken_once q.tasks.items c.args.pid c.args.claim.v c.requires);
+      kept = woken_queue q.runner q.tasks c.write_over.new.tasks q.waiting q.kept c.args.pid t e c.in-Rest.is _ c.write_over.ensures v
+          (ap (λ (x : ℤ). record { place = Wait; nice = t.nice; runtime = x }) whole) c.insert.new.self
+          (subst (λ (x : ℤ). set.Updates by_runtime q.waiting c.insert.new.self (x, c.args.pid) true) whole c.in_ok-insert-in-Rest.ensures.updates);
     }
+
+pub returns-in_ok-insert-in-Rest-clause-part : goal.returns-in_ok-insert-in-Rest-clause-part
+returns-in_ok-insert-in-Rest-clause-part c =
+    let q = c.args.self.now in
+    let t = c.in-Some.task in
+    let v = c.args.claim.v in
+    let e : Some (entity_of t) ≡ standing q.runner q.tasks c.args.pid = ap (option_map entity_of) (sym c.in-Some.is) ∙ c.task_at.ensures in
+    let whole : to_z w64 (of_z w64 v) ≡ v = search rules in
+    woken_part q.runner q.tasks c.write_over.new.tasks q.waiting q.kept c.args.pid t e c.in-Rest.is _ c.write_over.ensures v
+    (ap (λ (x : ℤ). record { place = Wait; nice = t.nice; runtime = x }) whole) q.floor q.mark c.args.claim refl

@@ -1,7 +1,9 @@
 -- While no line was bad, one more is passed over, adds its event, or is the first bad one.
-use Rattle.std.proofs.Common.{sym, ◌∙◌}
+use Rattle.std.proofs.Common.{rules, length, sym, ap, ◌∙◌, arith}
+use Rattle.std.proofs.lemmas.List.{length_push}
 use Rattle.sched_record.proofs.Lines.{passes_over, adds, turns_back}
 use Rattle.sched_record.proofs.Order.{keeps_event}
+use Rattle.sched_record.proofs.Placing.{placed_more}
 use Rattle.sched_record.proofs.Reader.{where_none, as_none, as_told}
 use Rattle.sched_record.proofs.trace_reader.TraceReader.take_line.Goals as goal
 
@@ -11,7 +13,11 @@ invariant_of-self-else-time-self c =
     let says = as_told _ _ c.in-Ok-Some.field-0-is c.in-Ok-Some.ensures in
     record {
       few = says.0;
-      kept = rw c.in_ok-push-in-Ok-Some.ensures.items
+      counted = omega (arith, before.counted, ap length c.in_ok-push-in-Ok-Some.ensures.items, ap length c.reserve.ensures.items, length_push c.reserve.new.self.items c.in-Ok-Some.entry);
+      placed = rw c.in_ok-push-in-Ok-Some.ensures.items
+          (placed_more c.reserve.new.self.items before.places c.add.new.self c.in-Ok-Some.entry _ (rw c.reserve.ensures.items before.placed) (search rules)
+          c.in_ok-add-in-Ok-Some.ensures.added);
+      kept = rw (c.in_ok-push-in-Ok-Some.ensures.items, c.reserve.ensures.items)
           (keeps_event before.entries.items before.count before.last c.args.line.now c.in-Ok-Some.entry before.kept says c.if-time-self.false);
     }
 
@@ -32,6 +38,6 @@ returns-in_ok-push-in-Ok-Some-clause-read c lines read =
     let bad = c.args.self.now.bad in
     let none = sym c.is_some.ensures ∙ c.if-is_some.false in
     as_none _ bad none
-    (rw c.in_ok-push-in-Ok-Some.ensures.items
+    (rw (c.in_ok-push-in-Ok-Some.ensures.items, c.reserve.ensures.items)
     (adds c.args.line.now c.in-Ok-Some.entry (where_none _ bad none read) c.args.self.now.kept.times
     (as_told _ _ c.in-Ok-Some.field-0-is c.in-Ok-Some.ensures) c.if-time-self.false))

@@ -1,0 +1,10 @@
+//! Tests of what no clause says of a whole audit: the words of faults, reports as they are printed, ends that fail, and
+//! command lines.
+#![tactic(auto)]
+
+#[cfg(test)]
+mod audits;
+#[cfg(test)]
+mod command_lines;
+#[cfg(test)]
+mod ends;

@@ -1,0 +1,58 @@
+-- Who stands at a processor: who runs, kept by itself, everybody by pid, and those who wait in their order (this project's
+-- profile).
+use Rattle.std.specs.Prelude.{◌≡◌, ℕ, ◌↔◌, IsTrue, IsSome, Option, Some, None, option_map, ℤ}
+use Rattle.std.specs.BTreeMap.{BTreeMap, get}
+use Rattle.std.specs.BTreeSet.{BTreeSet, contains}
+use Rattle.std.specs.Ordering.{nat_cmp, int_cmp, ordering_then}
+use Rattle.std.specs.declared.cmp.Ordering.{Ordering}
+use Rattle.std.proofs.Props.{props}
+use Rattle.cfs_model.specs.Machine.{put}
+use Rattle.replay_model.specs.Part.{Entity}
+use Rattle.cfs_model.specs.declared.task.Place.{Place}
+use Rattle.cfs_model.specs.declared.task.Place.TheVariants.{Run, Wait}
+use Rattle.cfs_model.specs.declared.task.Task.{Task}
+use Rattle.queue_replay.specs.Tasks.{entity_of}
+
+-- the order of those who wait: the lesser virtual runtime first, and of equal ones the lesser pid
+abbrev pub by_runtime : ℤ × ℕ → ℤ × ℕ → Ordering
+by_runtime x y = ordering_then (int_cmp x.0 y.0) (nat_cmp x.1 y.1)
+
+-- what the map has of a pid
+abbrev pub listed : BTreeMap ℕ Task → ℕ → Option Entity
+listed tasks pid = option_map entity_of (get nat_cmp tasks pid)
+
+-- who runs stands as it runs, everybody else as the map has it
+abbrev pub standing : Option Task → BTreeMap ℕ Task → ℕ → Option Entity
+standing None tasks = listed tasks
+standing (Some t) tasks = put (listed tasks) t.pid (Some (entity_of t))
+
+-- the virtual runtime of one who waits
+abbrev pub runtime_if : Place → ℤ → Option ℤ
+runtime_if Wait v = Some v
+runtime_if _ v = None
+
+abbrev pub waiting_runtime : Option Entity → Option ℤ
+waiting_runtime None = None
+waiting_runtime (Some s) = runtime_if s.place s.runtime
+
+-- the set has those who wait, each at its virtual runtime, and nobody else
+unfoldable pub IsWaitingSet : (ℕ → Option Entity) → BTreeSet (ℤ × ℕ) → Type 0
+IsWaitingSet tasks waiting = (v : ℤ) (pid : ℕ) → IsTrue (contains by_runtime waiting (v, pid)) ↔ (waiting_runtime (tasks pid) ≡ Some v)
+
+-- nobody runs but the runner
+unfoldable pub IsOnlyRunner : (ℕ → Option Entity) → Option Task → Type 0
+IsOnlyRunner tasks runner =
+    (pid : ℕ) → option_map (λ s. s.place) (tasks pid) ≡ Some Run → option_map (λ t. t.pid) runner ≡ Some pid
+
+-- the runner runs, and the map has an entry of its pid
+unfoldable pub IsRunnerListed : Option Task → BTreeMap ℕ Task → Type 0
+IsRunnerListed runner tasks = (t : Task) → runner ≡ Some t → (t.place ≡ Run) × IsSome (get nat_cmp tasks t.pid)
+
+-- map, set and runner tell of the same tasks
+unfoldable pub IsQueue : Option Task → BTreeMap ℕ Task → BTreeSet (ℤ × ℕ) → Type 0
+IsQueue runner tasks waiting =
+    IsWaitingSet (standing runner tasks) waiting × IsOnlyRunner (standing runner tasks) runner × IsRunnerListed runner tasks
+
+pub IsQueue-prop : (runner : Option Task) (tasks : BTreeMap ℕ Task) (waiting : BTreeSet (ℤ × ℕ)) → IsProp (IsQueue runner tasks waiting)
+unfolding IsQueue IsWaitingSet IsOnlyRunner IsRunnerListed
+IsQueue-prop runner tasks waiting = Prim.hlevel props

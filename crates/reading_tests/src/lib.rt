@@ -1,0 +1,10 @@
+//! Tests of what no clause says of the readers: lines, events and companions that are read as their formats mean them,
+//! and the first cause of a refusal.
+#![tactic(auto)]
+
+#[cfg(test)]
+mod companions;
+#[cfg(test)]
+mod events;
+#[cfg(test)]
+mod lines;

@@ -1,0 +1,14 @@
+//! Tests of what no clause says of one processor: the printed words and the laws of the definition, records and their
+//! streams, and replays of worked recordings.
+#![tactic(auto)]
+
+#[cfg(test)]
+mod definitions;
+#[cfg(test)]
+mod recordings;
+#[cfg(test)]
+mod records;
+#[cfg(test)]
+mod replays;
+#[cfg(test)]
+mod wide_readings;

@@ -1,0 +1,139 @@
+-- The places of the events that touch a processor: what one more event adds, and that the events at these places are those
+-- that touch it.
+use Rattle.std.proofs.Common.{◌≡◌, ℕ, suc, ◌+◌, ◌<◌, ◌≤◌, List, [], ◌∷◌, ◌++◌, length, get_or, map, Bool, true, false, cond, refl, sym, ap, ◌∙◌, arith}
+use Rattle.std.specs.Prelude.{All, filter}
+use Rattle.std.specs.List.{enumerate_from}
+use Rattle.std.proofs.lemmas.List.{get_or-map, get_or_default, map-append, length-map}
+use Rattle.std.proofs.lemmas.List.Elements.{All-cons, All-nil, All-weaker, filter-append}
+use Rattle.cfs_model.specs.Claimed.{claim_at, claimed}
+use Rattle.cfs_model.specs.Limits.{most_processors}
+use Rattle.cfs_model.specs.declared.act.Entry.{Entry}
+use Rattle.cfs_model.specs.declared.claim.Claim.{Claim}
+use Rattle.replay_model.specs.Cut.{step_at, steps_at, touches}
+use Rattle.replay_model.specs.declared.step.Step.{Step}
+use Rattle.sched_record.specs.Places.{ArePlacesOf, places_at, places_touching, touches_cpu}
+
+enumerate_push : {X : Type 0} (n : ℕ) (xs : List X) (x : X) → enumerate_from n (xs ++ x ∷ []) ≡ enumerate_from n xs ++ (n + length xs, x) ∷ []
+enumerate_push n [] x = ap (λ k. (k, x) ∷ []) (omega arith)
+enumerate_push n (y ∷ xs) x =
+    ap (λ ys. (n, y) ∷ ys) (enumerate_push (n + 1) xs x ∙ ap (λ k. enumerate_from (n + 1) xs ++ (k, x) ∷ []) (omega arith))
+
+map_first : {X : Type 0} (b : Bool) (n : ℕ) (x : X) → map (λ (at : ℕ × X). at.0) (cond b ((n, x) ∷ []) []) ≡ cond b (n ∷ []) []
+map_first true n x = refl
+map_first false n x = refl
+
+-- what one more event adds
+pub places_push : (cpu : ℕ) (events : List Entry) (event : Entry)
+    → places_touching cpu (events ++ event ∷ []) ≡ places_touching cpu events ++ cond (touches_cpu cpu event.act) (length events ∷ []) []
+unfolding places_touching
+places_push cpu events event =
+    let test : ℕ × Entry → Bool = λ at. touches_cpu cpu (at.1).act in
+    let first : ℕ × Entry → ℕ = λ at. at.0 in
+    let all = enumerate_from 0 events in
+    let one : ℕ × Entry = (0 + length events, event) in
+    ap (λ ys. map first (filter test ys)) (enumerate_push 0 events event)
+    ∙ ap (map first) (filter-append test all (one ∷ []))
+    ∙ map-append first (filter test all) (filter test (one ∷ []))
+    ∙ ap (λ ys. map first (filter test all) ++ ys) (map_first (touches_cpu cpu event.act) (0 + length events) event
+    ∙ ap (λ k. cond (touches_cpu cpu event.act) (k ∷ []) []) (omega arith))
+
+-- no event, no place
+pub none_placed : ArePlacesOf [] []
+unfolding places_touching
+none_placed cpu h = refl
+
+-- one more event, at the place behind the last
+pub placed_more : (events : List Entry) (lists more : List (List ℕ)) (event : Entry) (place : ℕ) → ArePlacesOf events lists → place ≡ length events
+    → ((cpu : ℕ) → cpu < most_processors → places_at more cpu ≡ places_at lists cpu ++ cond (touches_cpu cpu event.act) (place ∷ []) [])
+    → ArePlacesOf (events ++ event ∷ []) more
+placed_more events lists more event place placed is_last added cpu h =
+    added cpu h ∙ ap (λ xs. xs ++ cond (touches_cpu cpu event.act) (place ∷ []) []) (placed cpu h)
+    ∙ ap (λ n. places_touching cpu events ++ cond (touches_cpu cpu event.act) (n ∷ []) []) is_last
+    ∙ sym (places_push cpu events event)
+
+-- the same events, and the same places
+pub placed_same : (events : List Entry) (lists more : List (List ℕ)) → ArePlacesOf events lists
+    → ((cpu : ℕ) → cpu < most_processors → places_at more cpu ≡ places_at lists cpu) → ArePlacesOf events more
+placed_same events lists more placed same cpu h = same cpu h ∙ placed cpu h
+
+-- the events that touch a processor
+abbrev pub touching : ℕ → List Entry → List Entry
+touching cpu events = filter (λ event. touches_cpu cpu event.act) events
+
+-- the places, counted from a number on
+abbrev places_from : ℕ → ℕ → List Entry → List ℕ
+places_from cpu n events = map (λ at. at.0) (filter (λ at. touches_cpu cpu (at.1).act) (enumerate_from n events))
+
+found_from : (cpu n : ℕ) (f : ℕ → Entry) (events : List Entry) → ((k : ℕ) (d : Entry) → k < length events → f (n + k) ≡ get_or events k d)
+    → map f (places_from cpu n events) ≡ touching cpu events
+found_from cpu n f [] reads = refl
+found_from cpu n f (event ∷ events) reads =
+    by (touches_cpu cpu event.act) refl (ap f (omega arith) ∙ reads 0 event (omega arith))
+    (found_from cpu (n + 1) f events (λ k d h. ap f (omega arith) ∙ reads (suc k) d (omega arith)))
+  where
+    by : (b : Bool) → touches_cpu cpu event.act ≡ b → f n ≡ event → map f (places_from cpu (n + 1) events) ≡ touching cpu events
+        → map f (map (λ at. at.0) (cond (touches_cpu cpu event.act) ((n, event) ∷ filter (λ at. touches_cpu cpu (at.1).act) (enumerate_from (n + 1) events))
+        (filter (λ at. touches_cpu cpu (at.1).act) (enumerate_from (n + 1) events))))
+        ≡ cond (touches_cpu cpu event.act) (event ∷ touching cpu events) (touching cpu events)
+    by true e first rest = rw e (ap (λ x. x ∷ map f (places_from cpu (n + 1) events)) first ∙ ap (λ xs. event ∷ xs) rest)
+    by false e first rest = rw e rest
+
+-- the events at the places are those that touch the processor
+pub found : (cpu : ℕ) (events : List Entry) (d : Entry) → map (λ place. get_or events place d) (places_touching cpu events) ≡ touching cpu events
+unfolding places_touching
+found cpu events d =
+    found_from cpu 0 (λ place. get_or events place d) events
+    (λ k e h. ap (λ n. get_or events n d) (omega arith) ∙ get_or_default events k d e h)
+
+within_from : (cpu n : ℕ) (events : List Entry) → All (λ place. place < n + length events) (places_from cpu n events)
+within_from cpu n [] = All-nil (λ place. place < n + 0)
+within_from cpu n (event ∷ events) =
+    by (touches_cpu cpu event.act) refl
+    (All-weaker (λ place. place < n + 1 + length events) (λ place. place < n + suc (length events)) (λ place lt. omega arith) (places_from cpu (n + 1) events)
+    (within_from cpu (n + 1) events))
+  where
+    by : (b : Bool) → touches_cpu cpu event.act ≡ b → All (λ place. place < n + suc (length events)) (places_from cpu (n + 1) events)
+        → All (λ place. place < n + suc (length events)) (map (λ at. at.0) (cond (touches_cpu cpu event.act)
+        ((n, event) ∷ filter (λ at. touches_cpu cpu (at.1).act) (enumerate_from (n + 1) events))
+        (filter (λ at. touches_cpu cpu (at.1).act) (enumerate_from (n + 1) events))))
+    by true e rest = rw e (All-cons (λ place. place < n + suc (length events)) n (places_from cpu (n + 1) events) (omega arith) rest)
+    by false e rest = rw e rest
+
+-- each is a place among the events
+pub places_within : (cpu : ℕ) (events : List Entry) → All (λ place. place < length events) (places_touching cpu events)
+unfolding places_touching
+places_within cpu events =
+    All-weaker (λ place. place < 0 + length events) (λ place. place < length events) (λ place lt. omega arith) _ (within_from cpu 0 events)
+
+-- an event with the claim on its line, as a processor sees it
+abbrev pub step_of : ℕ → List Claim → Entry → Step
+step_of cpu claims event = step_at cpu (record { entry = event; claim = claim_at claims event.line })
+
+-- the steps at a processor are those of the events that touch it
+pub steps_are : (cpu : ℕ) (claims : List Claim) (events : List Entry) → steps_at cpu (claimed claims events) ≡ map (step_of cpu claims) (touching cpu events)
+steps_are cpu claims [] = refl
+steps_are cpu claims (event ∷ events) = by (touches_cpu cpu event.act) refl (steps_are cpu claims events)
+  where
+    by : (b : Bool) → touches_cpu cpu event.act ≡ b → steps_at cpu (claimed claims events) ≡ map (step_of cpu claims) (touching cpu events)
+        → map (step_at cpu) (cond (touches_cpu cpu event.act) (record { entry = event; claim = claim_at claims event.line } ∷ filter (touches cpu) (claimed claims events))
+        (filter (touches cpu) (claimed claims events)))
+        ≡ map (step_of cpu claims) (cond (touches_cpu cpu event.act) (event ∷ touching cpu events) (touching cpu events))
+    by true e rest = rw e (ap (λ xs. step_of cpu claims event ∷ xs) rest)
+    by false e rest = rw e rest
+
+-- what stands at the next place is the next of these events
+pub next_touching : (cpu : ℕ) (events : List Entry) (places : List ℕ) (i : ℕ) (event : Entry) → places ≡ places_touching cpu events → i < length places
+    → event ≡ get_or events (get_or places i 0) event → (i < length (touching cpu events)) × (event ≡ get_or (touching cpu events) i event)
+next_touching cpu events places i event are h is =
+    let read : ℕ → Entry = λ place. get_or events place event in
+    let all : map read places ≡ touching cpu events = ap (map read) are ∙ found cpu events event in
+    let size : length (touching cpu events) ≡ length places = ap length (sym all) ∙ length-map places read in
+    (omega (arith, size), is ∙ sym (get_or-map read places i 0 event h) ∙ ap (λ es. get_or es i event) all)
+
+-- there are as many of these as places
+pub count_touching : (cpu : ℕ) (events : List Entry) (places : List ℕ) → places ≡ places_touching cpu events → length (touching cpu events) ≤ length places
+count_touching cpu [] places are = omega arith
+count_touching cpu (event ∷ events) places are =
+    let read : ℕ → Entry = λ place. get_or (event ∷ events) place event in
+    let size = ap length (sym (found cpu (event ∷ events) event)) ∙ length-map (places_touching cpu (event ∷ events)) read ∙ ap length (sym are) in
+    omega (arith, size)

@@ -1,0 +1,245 @@
+-- The pages that auditors leave suffice: the least line of a fault on the pages only falls, so a line that was told is
+-- never before it, and in the end it is the least of all.
+use Rattle.std.proofs.Common.{◌≡◌, ℕ, zero, suc, ◌<◌, ◌≤◌, nat_lt, if◌then◌else◌, Bool, true, false, IsSome, List, [], ◌∷◌, length, set, Option, Some, None, refl, sym, ap, ◌∙◌, subst, arith, inl, inr, ◌⊎◌}
+use Rattle.std.specs.Prelude.{slice_get}
+use Rattle.std.proofs.lemmas.Bool.{cases_lt, false≢true}
+use Rattle.std.proofs.lemmas.List.{get_or-set_same, get_or-set_other, length-replicate, length-set}
+use Rattle.std.proofs.lemmas.Option.{none-some, same_Some}
+use Rattle.cfs_model.proofs.Moves.{put-same, put-other, same_or_not}
+use Rattle.cfs_model.specs.Machine.{put}
+use Rattle.cfs_model.specs.Settings.{Settings}
+use Rattle.replay_model.specs.declared.page.StepFault.{StepFault}
+use Rattle.queue_replay.specs.Made.{reached_at}
+use Rattle.queue_replay.specs.Replay.{ReplayView}
+use Rattle.queue_replay.specs.declared.tag.Reached.TheVariants.{Stopped, Done}
+use Rattle.sched_record.specs.Record.{RecordView}
+use Rattle.ticket_book.specs.Book.{fault_line, least_line, no_fault, place_of}
+use Rattle.ticket_book.specs.Core.{ask, post, AreCoreSteps, AreLeft, Core, CoreStep, MayPost, start_core}
+use Rattle.ticket_book.specs.Remade.{AreRemade, AreRemadeBelow, IsLeastFault, ReachesEnough, Suffices}
+use Rattle.ticket_book.specs.Whole.{IsOwnPageOf}
+use Rattle.ticket_book.proofs.Gathering.{whole_reaches}
+use Rattle.ticket_book.proofs.BookPlaces.{least_of_empty, least_put, least_within, none_there}
+
+-- a page that was posted: its own auditor's, as far as it may stop with this least line
+record IsKept (knobs : Settings) (r : RecordView) (cpu least : ℕ) (page : ReplayView) : Type 0 where
+  own : IsOwnPageOf knobs r cpu page
+  far : IsSome page.page.fault ⊎ (length page.stream.steps ≤ page.made) ⊎ ((least < no_fault) × (least ≤ page.page.line))
+
+-- what each state of the core keeps
+record KeepsCore (knobs : Settings) (r : RecordView) (core : Core) : Type 0 where
+  count : length core.places ≡ r.cpus
+  each : (cpu : ℕ) (page : ReplayView) → place_of core.places cpu ≡ Some page
+      → IsKept knobs r cpu (least_line core.places) page
+  told : (cpu : ℕ) → least_line core.places ≤ core.told cpu
+  at_most : (cpu : ℕ) → core.told cpu ≤ no_fault
+
+-- a page that may stop with a least line may with each lesser one
+kept_lower : (knobs : Settings) (r : RecordView) (cpu least lower : ℕ) (page : ReplayView) → lower ≤ least
+    → IsKept knobs r cpu least page → IsKept knobs r cpu lower page
+kept_lower knobs r cpu least lower page le k = record {
+  own = k.own;
+  far = elim k.far [
+    | inl some ↦ inl some
+    | inr (inl all) ↦ inr (inl all)
+    | inr (inr h) ↦ (let some = h.0 in let past = h.1 in
+        inr (inr (omega (arith, le, some), omega (arith, le, past))))
+  ];
+}
+
+kept_start : (knobs : Settings) (r : RecordView) → KeepsCore knobs r (start_core r)
+kept_start knobs r =
+    let empty : Option ReplayView = None in
+    let none = least_of_empty r.cpus in
+    record {
+      count = length-replicate r.cpus empty;
+      each = λ cpu page e. absurd (none-some page (sym (none_there r.cpus cpu) ∙ e));
+      told = λ cpu. omega (arith, none);
+      at_most = λ cpu. omega arith;
+    }
+
+-- a place within a book that has no page
+empty_at : (places : List (Option ReplayView)) (cpu : ℕ) → cpu < length places → place_of places cpu ≡ None
+    → slice_get places cpu ≡ Some None
+empty_at [] cpu h e = absurd (omega arith)
+empty_at (place ∷ places) zero h e = ap Some e
+empty_at (place ∷ places) (suc cpu) h e = empty_at places cpu (omega arith) e
+
+module _ (knobs : Settings) (r : RecordView) (core : Core) (k : KeepsCore knobs r core) where
+  kept_ask : (cpu : ℕ) → KeepsCore knobs r (record core { told = put core.told cpu (least_line core.places) })
+  kept_ask cpu = record {
+    count = k.count;
+    each = k.each;
+    told = λ other. elim (same_or_not other cpu) [
+      | inl e ↦ (let is = ap (put core.told cpu (least_line core.places)) e ∙ put-same core.told cpu (least_line core.places) in
+          omega (arith, is))
+      | inr ne ↦ (let is = put-other core.told cpu (least_line core.places) other ne in let low = k.told other in
+          omega (arith, is, low))
+    ];
+    at_most = λ other. elim (same_or_not other cpu) [
+      | inl e ↦ (let is = ap (put core.told cpu (least_line core.places)) e ∙ put-same core.told cpu (least_line core.places) in
+          let most = least_within core.places in omega (arith, is, most))
+      | inr ne ↦ (let is = put-other core.told cpu (least_line core.places) other ne in let most = k.at_most other in
+          omega (arith, is, most))
+    ];
+  }
+
+  kept_post : (cpu : ℕ) (page : ReplayView) → cpu < r.cpus → place_of core.places cpu ≡ None
+      → MayPost knobs r cpu (core.told cpu) page
+      → KeepsCore knobs r (record core { places = set core.places cpu (Some page) })
+  kept_post cpu page h empty may = record {
+    count = length-set core.places cpu (Some page) ∙ k.count;
+    each = each_more;
+    told = λ other. (let low = k.told other in omega (arith, lower, low));
+    at_most = k.at_most;
+  }
+    where
+      within : cpu < length core.places
+      within = subst (λ n. cpu < n) (sym k.count) h
+
+      lower : least_line (set core.places cpu (Some page)) ≤ least_line core.places
+      lower = let is = least_put core.places cpu page (empty_at core.places cpu within empty) in omega (arith, is)
+
+      fresh : IsKept knobs r cpu (least_line core.places) page
+      fresh = record {
+        own = may.own;
+        far = elim may.far [
+          | inl some ↦ inl some
+          | inr (inl all) ↦ inr (inl all)
+          | inr (inr t) ↦ (let low = k.told cpu in let most = k.at_most cpu in let past = t.1 in
+              inr (inr (
+                elim (cases_lt (least_line core.places) no_fault) [
+                  | inl lt ↦ lt
+                  | inr ge ↦ absurd (t.0 (omega (arith, ge, low, most)))
+                ],
+                omega (arith, low, past),
+              )))
+        ];
+      }
+
+      each_more : (other : ℕ) (p : ReplayView) → place_of (set core.places cpu (Some page)) other ≡ Some p
+          → IsKept knobs r other (least_line (set core.places cpu (Some page))) p
+      each_more other p e = elim (same_or_not other cpu) [
+        | inl same ↦ (let here : place_of (set core.places cpu (Some page)) other ≡ Some page =
+            ap (place_of (set core.places cpu (Some page))) same ∙ get_or-set_same core.places cpu (Some page) None within in
+            let is : page ≡ p = same_Some page p (sym here ∙ e) in
+            subst (λ (q : ReplayView). IsKept knobs r other (least_line (set core.places cpu (Some page))) q) is
+            (subst (λ n. IsKept knobs r n (least_line (set core.places cpu (Some page))) page) (sym same)
+            (kept_lower knobs r cpu (least_line core.places) (least_line (set core.places cpu (Some page))) page lower fresh)))
+        | inr ne ↦ kept_lower knobs r other (least_line core.places) (least_line (set core.places cpu (Some page))) p lower
+            (k.each other p (sym (get_or-set_other core.places cpu other (Some page) None ne) ∙ e))
+      ]
+
+kept_steps : (knobs : Settings) (r : RecordView) (core : Core) (steps : List CoreStep) (after : Core)
+    → KeepsCore knobs r core → AreCoreSteps knobs r core steps after → KeepsCore knobs r after
+kept_steps knobs r core [] after k s = subst (KeepsCore knobs r) (sym s) k
+kept_steps knobs r core (ask cpu ∷ steps) after k s = kept_steps knobs r s.0 steps after
+    (subst (KeepsCore knobs r) (sym s.1.2) (kept_ask knobs r core k cpu)) s.2
+kept_steps knobs r core (post cpu page ∷ steps) after k s = kept_steps knobs r s.0 steps after
+    (subst (KeepsCore knobs r) (sym s.1.3) (kept_post knobs r core k cpu page s.1.0 s.1.1 s.1.2)) s.2
+
+-- the least line is a page's, and no page's is lesser
+record IsAttained (places : List (Option ReplayView)) : Type 0 where
+  cpu : ℕ
+  page : ReplayView
+  within : cpu < length places
+  stands : place_of places cpu ≡ Some page
+  line : fault_line page.page.fault ≡ least_line places
+
+attained_later : (place : Option ReplayView) (places : List (Option ReplayView)) → least_line places ≡ least_line (place ∷ places)
+    → IsAttained places → IsAttained (place ∷ places)
+attained_later place places e a = record {
+  cpu = suc a.cpu;
+  page = a.page;
+  within = (let w = a.within in omega (arith, w));
+  stands = a.stands;
+  line = a.line ∙ e;
+}
+
+attained : (places : List (Option ReplayView)) → least_line places < no_fault → IsAttained places
+attained [] h = absurd (omega arith)
+attained (None ∷ places) h =
+    let most = least_within places in
+    attained_later None places (omega (arith, most)) (attained places (omega (arith, most, h)))
+attained (Some page ∷ places) h = elim (cases_lt (least_line places) (fault_line page.page.fault)) [
+  | inl lt ↦ attained_later (Some page) places (omega (arith, lt)) (attained places (omega (arith, lt, h)))
+  | inr ge ↦ record { cpu = 0; page = page; within = omega arith; stands = refl; line = omega (arith, ge) }
+]
+
+at_least : (places : List (Option ReplayView)) (cpu : ℕ) (page : ReplayView) → place_of places cpu ≡ Some page
+    → least_line places ≤ fault_line page.page.fault
+at_least [] cpu page e = absurd (none-some page e)
+at_least (None ∷ places) zero page e = absurd (none-some page e)
+at_least (Some p ∷ places) zero page e =
+    let is : fault_line p.page.fault ≡ fault_line page.page.fault =
+    ap (λ (q : ReplayView). fault_line q.page.fault) (same_Some p page e) in
+    omega (arith, is)
+at_least (None ∷ places) (suc cpu) page e = let low = at_least places cpu page e in omega (arith, low)
+at_least (Some p ∷ places) (suc cpu) page e = let low = at_least places cpu page e in omega (arith, low)
+
+-- where a page of the core has a fault, the least line is that of the record's own pages
+faulted : (o : Option StepFault) → fault_line o < no_fault → (fault : StepFault) × (o ≡ Some fault)
+faulted None h = absurd (omega arith)
+faulted (Some fault) h = (fault, refl)
+
+module _ (knobs : Settings) (r : RecordView) (core : Core) (k : KeepsCore knobs r core) where
+  least_is : least_line core.places < no_fault → IsLeastFault knobs r core.places (least_line core.places)
+  least_is h =
+      let a = attained core.places h in
+      let line = a.line in
+      let f = faulted a.page.page.fault (omega (arith, line, h)) in
+      let own = (k.each a.cpu a.page a.stands).own in
+      record {
+        cpu = a.cpu;
+        within = subst (λ n. a.cpu < n) k.count a.within;
+        there = record {
+          page = a.page;
+          stands = a.stands;
+          own = own;
+          fault = f.0;
+          is_fault = f.1;
+          at_line = ap fault_line (sym f.1) ∙ line;
+        };
+        least = λ other lesser w g.
+            (let low = at_least core.places other g.page g.stands in
+            let is : fault_line g.page.page.fault ≡ lesser = ap fault_line g.is_fault ∙ g.at_line in
+            omega (arith, low, is));
+      }
+
+  reaches : (o : Option StepFault) (line made steps : ℕ)
+      → IsSome o ⊎ (steps ≤ made) ⊎ ((least_line core.places < no_fault) × (least_line core.places ≤ line))
+      → ReachesEnough knobs r core.places (reached_at o line made steps)
+  reaches (Some fault) line made steps h = tt
+  reaches None line made steps (inl some) = absurd (false≢true some)
+  reaches None line made steps (inr (inl all)) = whole_reaches knobs r core.places None line made steps (inr all)
+  reaches None line made steps (inr (inr h)) = go (nat_lt made steps)
+    where
+      go : (b : Bool) → ReachesEnough knobs r core.places (if b then Stopped line else Done)
+      go true = (least_line core.places, least_is h.0, h.1)
+      go false = tt
+
+  left_suffices : (cpu : ℕ) (place : Option ReplayView) → place_of core.places cpu ≡ place → IsSome place
+      → Suffices knobs r core.places cpu place
+  left_suffices cpu None e some = absurd (false≢true some)
+  left_suffices cpu (Some page) e some =
+      let kept = k.each cpu page e in
+      record {
+        own = kept.own;
+        enough = reaches page.page.fault page.page.line page.made (length page.stream.steps) kept.far;
+      }
+
+none_remade : (knobs : Settings) (r : RecordView) (places : List (Option ReplayView)) (cpus count : ℕ)
+    → ((cpu : ℕ) → cpu < cpus → Suffices knobs r places cpu (place_of places cpu))
+    → AreRemadeBelow knobs r places cpus count → count ≡ 0
+none_remade knobs r places zero count all h = h
+none_remade knobs r places (suc cpu) count all (inl h) =
+    none_remade knobs r places cpu count (λ c k. all c (omega arith)) h.1
+none_remade knobs r places (suc cpu) count all (inr h) = absurd (h.0 (all cpu (omega arith)))
+
+-- of the pages that the auditors leave none is made again
+pub nothing_remade : (knobs : Settings) (r : RecordView) (places : List (Option ReplayView)) (count : ℕ)
+    → AreRemade knobs r places count → AreLeft knobs r places → count ≡ 0
+nothing_remade knobs r places count remade left =
+    let kept = kept_steps knobs r (start_core r) left.steps left.core (kept_start knobs r) left.are_steps in
+    none_remade knobs r left.core.places r.cpus count
+    (λ cpu h. left_suffices knobs r left.core kept cpu (place_of left.core.places cpu) refl (left.complete cpu h))
+    (subst (λ ps. AreRemade knobs r ps count) (sym left.are_places) remade)

@@ -1,0 +1,56 @@
+-- Events that are counted by what they do.
+use Rattle.std.proofs.Common.{◌≡◌, ℕ, ◌+◌, ◌<◌, ◌≤◌, Bool, cond, List, [], ◌∷◌, length, take, get_or, refl, sym, ap, ◌∙◌, arith}
+use Rattle.std.specs.List.{count_by}
+use Rattle.std.proofs.lemmas.List.{length-take-le}
+use Rattle.std.proofs.lemmas.List.Sums.{count_by-le-length, sum_by-cons, sum_by_more}
+use Rattle.cfs_model.specs.Claimed.{Claimed, claim_at, claimed}
+use Rattle.cfs_model.specs.declared.act.Act.{Act}
+use Rattle.cfs_model.specs.declared.act.Entry.{Entry}
+use Rattle.cfs_model.specs.declared.claim.Claim.{Claim}
+use Rattle.replay_model.specs.Summary.{how_many, is_birth, is_death, is_migration, is_switch}
+use Rattle.ticket_book.specs.EventCounts.{AreBelow, counts_of, with_event}
+use Rattle.ticket_book.specs.declared.event_counts.EventCounts.{EventCounts}
+
+same_counts : (a b : EventCounts) → a.switches ≡ b.switches → a.migrations ≡ b.migrations → a.births ≡ b.births → a.deaths ≡ b.deaths
+    → a ≡ b
+same_counts a b switches migrations births deaths =
+    λ i. record { switches = switches i; migrations = migrations i; births = births i; deaths = deaths i }
+
+-- one event more
+pub count_more : (events : List Entry) (i : ℕ) (event : Entry) → i < length events → event ≡ get_or events i event
+    → with_event event (counts_of (take i events)) ≡ counts_of (take (i + 1) events)
+count_more events i event within is =
+    same_counts (with_event event (counts_of (take i events))) (counts_of (take (i + 1) events))
+    (more is_switch) (more is_migration) (more is_birth) (more is_death)
+  where
+    more : (does : Act → Bool)
+        → count_by (λ (e : Entry). does e.act) (take i events) + cond (does event.act) 1 0
+        ≡ count_by (λ (e : Entry). does e.act) (take (i + 1) events)
+    more does =
+        ap (λ (e : Entry). count_by (λ (f : Entry). does f.act) (take i events) + cond (does e.act) 1 0) is
+        ∙ sym (sum_by_more (λ (e : Entry). cond (does e.act) 1 0) events i event within)
+
+-- no count is above the number of events
+pub counts_below : (events : List Entry) (i bound : ℕ) → i < length events → length events ≤ bound → AreBelow bound (counts_of (take i events))
+counts_below events i bound within most = record {
+  switches = below is_switch;
+  migrations = below is_migration;
+  births = below is_birth;
+  deaths = below is_death;
+}
+  where
+    below : (does : Act → Bool) → count_by (λ (e : Entry). does e.act) (take i events) < bound
+    below does =
+        let few = count_by-le-length (λ (e : Entry). does e.act) (take i events) in
+        let n = length-take-le i events (omega arith) in
+        omega (arith, few, n, within, most)
+
+-- the counts among events with their claims
+pub count_claimed : (does : Act → Bool) (claims : List Claim) (events : List Entry)
+    → count_by (λ (e : Entry). does e.act) events ≡ how_many does (claimed claims events)
+count_claimed does claims [] = refl
+count_claimed does claims (event ∷ events) =
+    sum_by-cons (λ (e : Entry). cond (does e.act) 1 0) event events
+    ∙ ap (λ n. cond (does event.act) 1 0 + n) (count_claimed does claims events)
+    ∙ sym (sum_by-cons (λ (e : Claimed). cond (does e.entry.act) 1 0)
+    (record { entry = event; claim = claim_at claims event.line }) (claimed claims events))

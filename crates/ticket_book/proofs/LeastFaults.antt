@@ -1,0 +1,78 @@
+-- The least line of a fault on the record's own pages of the processors below a number, with one more processor's.
+use Rattle.std.proofs.Common.{◌≡◌, ℕ, ◌+◌, ◌<◌, ◌≤◌, nat_lt, if◌then◌else◌, Bool, true, false, IfNone, IfSome, List, Option, Some, None, refl, sym, ap, ◌∙◌, subst, arith, inl, inr}
+use Rattle.std.proofs.lemmas.Bool.{cases_lt, ltb-false, ltb-true}
+use Rattle.std.proofs.lemmas.Option.{same_Some}
+use Rattle.cfs_model.specs.Settings.{Settings}
+use Rattle.replay_model.specs.declared.page.StepFault.{StepFault}
+use Rattle.queue_replay.specs.Replay.{ReplayView}
+use Rattle.sched_record.specs.Record.{RecordView}
+use Rattle.ticket_book.specs.Book.{place_of}
+use Rattle.ticket_book.specs.Relying.{IsLeastOf, lesser_of}
+use Rattle.ticket_book.specs.Remade.{HasFaultAt, IsLeastFaultBelow}
+
+module _ (knobs : Settings) (r : RecordView) (places : List (Option ReplayView)) where
+  abbrev At : ℕ → ℕ → Type 0
+  At cpu line = HasFaultAt knobs r cpu (place_of places cpu) line
+
+  -- a place has a fault at one line at most
+  one_line : (cpu line other : ℕ) → At cpu line → At cpu other → line ≡ other
+  one_line cpu line other a b =
+      let page : a.page ≡ b.page = same_Some a.page b.page (sym a.stands ∙ b.stands) in
+      let fault : a.fault ≡ b.fault = same_Some a.fault b.fault
+      (sym a.is_fault ∙ ap (λ (p : ReplayView). p.page.fault) page ∙ b.is_fault) in
+      sym a.at_line ∙ ap (λ (f : StepFault). f.line) fault ∙ b.at_line
+
+  -- what holds of the processors below a number and of that one holds of those below the next
+  below_or_at : (P : ℕ → Type 0) (cpu : ℕ) → ((other : ℕ) → other < cpu → P other) → P cpu
+      → (other : ℕ) → other < cpu + 1 → P other
+  below_or_at P cpu below here other h = elim (cases_lt other cpu) [
+    | inl k ↦ below other k
+    | inr k ↦ subst P (let e : cpu ≡ other = omega (arith, k, h) in e) here
+  ]
+
+  none_yet : IsLeastOf knobs r places 0 None
+  none_yet cpu line h f = absurd (omega arith)
+
+  -- a least line, where the next processor has none below it
+  still_least : (cpu line : ℕ) → IsLeastFaultBelow knobs r places cpu line
+      → ((lesser : ℕ) → At cpu lesser → line ≤ lesser) → IsLeastFaultBelow knobs r places (cpu + 1) line
+  still_least cpu line l here = record {
+    cpu = l.cpu;
+    within = (let w = l.within in omega (arith, w));
+    there = l.there;
+    least = λ other lesser h. below_or_at (λ c. (n : ℕ) → At c n → line ≤ n) cpu (λ c k n. l.least c n k) here other h
+        lesser;
+  }
+
+  -- the next processor's line, where none before it has a lesser
+  next_least : (cpu line : ℕ) → At cpu line → ((other : ℕ) → other < cpu → (lesser : ℕ) → At other lesser → line ≤ lesser)
+      → IsLeastFaultBelow knobs r places (cpu + 1) line
+  next_least cpu line f before = record {
+    cpu = cpu;
+    within = omega arith;
+    there = f;
+    least = λ other lesser h. below_or_at (λ c. (n : ℕ) → At c n → line ≤ n) cpu before
+        (λ n g. (let e = one_line cpu line n f g in omega (arith, e))) other h lesser;
+  }
+
+  pub least_more : (cpu : ℕ) (least line : Option ℕ) → IsLeastOf knobs r places cpu least
+      → IfNone line ((n : ℕ) → ¬ At cpu n) → IfSome line (At cpu)
+      → IsLeastOf knobs r places (cpu + 1) (lesser_of least line)
+  least_more cpu None None l none found = λ other n h f.
+      below_or_at (λ c. (m : ℕ) → ¬ At c m) cpu (λ c k m. l c m k) none other h n f
+  least_more cpu None (Some line) l none found =
+      next_least cpu line found (λ other k lesser f. absurd (l other lesser k f))
+  least_more cpu (Some least) None l none found = still_least cpu least l (λ lesser f. absurd (none lesser f))
+  least_more cpu (Some least) (Some line) l none found = go (nat_lt line least) refl
+    where
+      go : (b : Bool) → nat_lt line least ≡ b
+          → IsLeastFaultBelow knobs r places (cpu + 1) (if b then line else least)
+      go true e = next_least cpu line found
+          (λ other k lesser f. (let low = l.least other lesser k f in let lt = ltb-true line least e in
+          omega (arith, low, lt)))
+      go false e = still_least cpu least l
+          (λ lesser f. (let same = one_line cpu line lesser found f in let le = ltb-false line least e in
+          omega (arith, same, le)))
+
+pub none_found : (knobs : Settings) (r : RecordView) (places : List (Option ReplayView)) → IsLeastOf knobs r places 0 None
+none_found knobs r places = none_yet knobs r places

@@ -1,0 +1,9 @@
+use Rattle.std.proofs.Common.{◌≡◌, map}
+use Rattle.replay_model.specs.Totals.{tallies_below}
+use Rattle.ticket_book.specs.Tallying.{with_tallies}
+use Rattle.ticket_book.specs.Told.{view_at}
+use Rattle.ticket_book.proofs.summing.add_pages.Given as goal
+
+abbrev pub invariant-loop-page : goal.invariant-loop-page
+invariant-loop-page l =
+    l.sums.list.items ≡ map (with_tallies (tallies_below (view_at l.pages) l.page-index)) l.fn.sums.list.items

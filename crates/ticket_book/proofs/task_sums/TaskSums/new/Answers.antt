@@ -1,0 +1,10 @@
+use Rattle.std.proofs.Common.{rules, [], ◌≡◌, sym, subst}
+use Rattle.queue_replay.specs.Places.{IsPlaced}
+use Rattle.queue_replay.proofs.PlacedBy.{placed_none}
+use Rattle.ticket_book.proofs.Adding.{pid_of}
+use Rattle.ticket_book.proofs.task_sums.TaskSums.new.Goals as goal
+
+pub invariant_of-result : goal.invariant_of-result
+invariant_of-result c =
+    let e : c.new.result.items ≡ [] = search rules in
+    record { placed = subst (λ l. IsPlaced l c.new-2.result) (sym e) (placed_none pid_of c.new-2.result) }

@@ -1,0 +1,85 @@
+//! The summary of a run: its events counted in one walk, and the tallies of all its pages added in another.
+ghost use Rattle.std.specs.Prelude.{◌≡◌, All, IfOk, OnOk, length, map};
+ghost use Rattle.cfs_model.specs.Claimed.{claimed};
+ghost use Rattle.replay_model.specs.Summary.{born_by, tasks_of_run};
+ghost use Rattle.replay_model.specs.Totals.{summary_by, tallies_below, total_of};
+ghost use Rattle.sched_record.specs.Record.{record_view};
+ghost use Rattle.ticket_book.specs.EventCounts.{counts_of};
+ghost use Rattle.ticket_book.specs.Naming.{births_in, with_named};
+ghost use Rattle.ticket_book.specs.SummaryView.{summary_view};
+ghost use Rattle.ticket_book.specs.Tallying.{FitsTally, with_tallies};
+ghost use Rattle.ticket_book.specs.Told.{view_at};
+
+use crate::Summary;
+use crate::event_counts::EventCounts;
+use crate::task_sums::TaskSums;
+use cfs_model::{Act, Entry, Memory, Task};
+use queue_replay::{Page, Tallies};
+use sched_record::Record;
+use std::alloc::Global;
+
+/// The summary of a record's events by the tallies on its processors' pages.
+pub(crate) fn summary_by(alloc: Global, pages: &[Page], joined: &Record) -> Result<Summary, Memory>
+    requires { All (λ pid. FitsTally (total_of (tallies_below (view_at pages.now) (length pages.now)) pid))
+        (tasks_of_run (record_view joined.now).tasks (claimed (record_view joined.now).claims (record_view joined.now).events)) }
+    ensures { IfOk result (λ summary. summary_view summary
+        ≡ summary_by (tallies_below (view_at pages.now) (length pages.now)) (record_view joined.now).tasks
+        (claimed (record_view joined.now).claims (record_view joined.now).events)) }
+{
+    let events = joined.events();
+    let mut sums = TaskSums::new(alloc);
+    name_tasks(joined.tasks(), &mut sums)?;
+    let counts = count_events(events, &mut sums)?;
+    add_pages(pages, &mut sums);
+    Ok(Summary {
+        events: events.len() as u64,
+        switches: counts.switches,
+        migrations: counts.migrations,
+        births: counts.births,
+        deaths: counts.deaths,
+        tallies: Tallies::from_vec(sums.into_list()),
+    })
+}
+
+/// Names the tasks of the start state.
+fn name_tasks(tasks: &[Task], sums: &mut TaskSums) -> Result<(), Memory>
+    ensures { OnOk result (sums.new.list.items ≡ with_named (map (λ task. task.pid) tasks.now) sums.old.list.items) }
+{
+    for task in tasks {
+        sums.name(task.pid)?;
+    }
+    Ok(())
+}
+
+/// Counts what the events do, and names the tasks that are born.
+fn count_events(events: &[Entry], sums: &mut TaskSums) -> Result<EventCounts, Memory>
+    ensures counts { IfOk result (λ counts. counts ≡ counts_of events.now) }
+    ensures named { OnOk result (sums.new.list.items ≡ with_named (births_in events.now) sums.old.list.items) }
+{
+    let mut counts = EventCounts::NONE;
+    for event in events {
+        counts = counts.with(event);
+        name_born(event.act, sums)?;
+    }
+    Ok(counts)
+}
+
+/// Names the task that an event gives birth to, if it does.
+fn name_born(act: Act, sums: &mut TaskSums) -> Result<(), Memory>
+    ensures { OnOk result (sums.new.list.items ≡ with_named (born_by act) sums.old.list.items) }
+{
+    match act {
+        Act::Born { pid, .. } => sums.name(pid),
+        Act::Switch { .. } | Act::Wake { .. } | Act::Shift { .. } => Ok(()),
+    }
+}
+
+/// Adds the tallies on the pages, page after page.
+fn add_pages(pages: &[Page], sums: &mut TaskSums)
+    requires { All (λ sum. FitsTally (with_tallies (tallies_below (view_at pages.now) (length pages.now)) sum)) sums.old.list.items }
+    ensures { sums.new.list.items ≡ map (with_tallies (tallies_below (view_at pages.now) (length pages.now))) sums.old.list.items }
+{
+    for page in pages {
+        sums.add_all(page.tallies());
+    }
+}

@@ -43,6 +43,9 @@ pub fn charge(delta: u64, weight: u32) -> Option<i64>
     requires { 0 < weight }
     ensures { SomeIff result (charge_of delta weight ≤ greatest_runtime) (pos (charge_of delta weight)) }
 {
+    if delta <= SHORT {
+        return Some((delta * 1024 / u64::from(weight)) as i64);
+    }
     let cost = u128::from(delta) * 1024 / u128::from(weight);
     if cost <= GREATEST_RUNTIME as u128 {
         Some(cost as i64)
@@ -50,3 +53,6 @@ pub fn charge(delta: u64, weight: u32) -> Option<i64>
         None
     }
 }
+
+/// In nanoseconds, 52 days: so short a time costs at most the greatest runtime, whatever the weight, and 64 bits do.
+const SHORT: u64 = GREATEST_RUNTIME as u64 / 1024;

@@ -107,6 +107,13 @@ module _ {X : Type 0} (key : X → ℕ) where
       let q : get_or xs i t ≡ get_or xs i d = get_or_default xs i t d h in
       other (ap key at ∙ ap (λ n. key (get_or xs n t)) p ∙ ap key q ∙ same))
 
+  pub nowhere_elsewhere : (xs : List X) (places : BTreeMap ℕ ℕ) → IsPlacedBy key xs places → (pid place : ℕ) → Some place ≡ get nat_cmp places pid
+      → (place < length xs → (d : X) → key (get_or xs place d) ≢ pid) → All (λ t. key t ≢ pid) xs
+  nowhere_elsewhere xs places placed pid place is other =
+      nowhere xs places placed pid (λ i d e h same.
+      let p : place ≡ i = same_Some place i (is ∙ e) in
+      other (subst (λ n. n < length xs) (sym p) h) d (ap (λ n. key (get_or xs n d)) p ∙ same))
+
   -- one element more, at the place that was kept for it
   pub room_from : {Z : Type 0} (pid : ℕ) (xs : Vec X Z) (places : BTreeMap ℕ ℕ) → vec_len xs < vec_capacity xs
       → (All (λ t. key t ≢ pid) xs.items → get nat_cmp places pid ≡ Some (length xs.items)) → HasRoomBy key pid xs places

@@ -1,4 +1,4 @@
-ghost use Rattle.std.specs.Prelude.{◌≡◌, ◌≢◌, ℕ, ◌-◌, ◌^◌, ◌<◌, ◌≤◌, None, Some, IfOk, OnOk, [], map, get_or, length, All};
+ghost use Rattle.std.specs.Prelude.{◌≡◌, ◌≢◌, ℕ, ◌-◌, ◌^◌, ◌<◌, ◌≤◌, true, false, None, Some, IfOk, OnOk, [], map, get_or, length, All};
 ghost use Rattle.cfs_model.specs.Charge.{greatest};
 ghost use Rattle.replay_model.specs.Noted.{new_tally, with_tally};
 ghost use Rattle.replay_model.specs.declared.page.Tally.{Tally as TallyOf};
@@ -20,6 +20,8 @@ pub(crate) struct TallyBook {
     pub list: Vec<Tally>,
     /// Where in the list the tally of a pid is; at its end that of a pid for which room is made.
     pub places: BTreeMap<u32, usize>,
+    /// Where the tally was that was written last: who runs is asked for again at each step.
+    recent: usize,
     pub ghost placed: { IsPlaced list.items places } by { IsPlaced-prop list.items places },
 }
 
@@ -44,6 +46,7 @@ impl TallyBook {
         TallyBook {
             list: Vec::new(alloc),
             places: BTreeMap::new(alloc),
+            recent: 0,
         }
     }
 
@@ -68,15 +71,23 @@ impl TallyBook {
         ensures found { (place : ℕ) → result ≡ Some place → (place < length self.now.list.items) × ((d : TallyOf) → (get_or self.now.list.items place d).pid ≡ pid) }
         ensures none { result ≡ None → All (λ tally. tally.pid ≢ pid) self.now.list.items }
     {
-        let place = *self.places.get(&pid)?;
-        if place >= self.list.len() {
-            return None;
+        if self.is_at(self.recent, pid) {
+            return Some(self.recent);
         }
-        if self.list[place].pid == pid {
+        let place = *self.places.get(&pid)?;
+        if self.is_at(place, pid) {
             Some(place)
         } else {
             None
         }
+    }
+
+    /// Whether the tally at this place of the list is that of the pid.
+    fn is_at(&self, place: usize, pid: u32) -> bool
+        ensures here { result ≡ true → (place < length self.now.list.items) × ((d : TallyOf) → (get_or self.now.list.items place d).pid ≡ pid) }
+        ensures elsewhere { result ≡ false → place < length self.now.list.items → (d : TallyOf) → (get_or self.now.list.items place d).pid ≢ pid }
+    {
+        place < self.list.len() && self.list[place].pid == pid
     }
 
     /// Lets the pid have a tally. Takes no memory.
@@ -103,6 +114,7 @@ impl TallyBook {
         let cost = cost_of(task, time);
         if let Some(place) = self.place_of(pid) {
             add_run(&mut self.list[place], pid, time, cost);
+            self.recent = place;
         }
     }
 
@@ -114,6 +126,7 @@ impl TallyBook {
     {
         if let Some(place) = self.place_of(pid) {
             pick(&mut self.list[place], pid);
+            self.recent = place;
         }
     }
 }

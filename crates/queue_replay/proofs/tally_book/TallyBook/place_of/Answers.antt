@@ -1,6 +1,5 @@
-use Rattle.std.proofs.Common.{arith}
 use Rattle.replay_model.specs.declared.page.Tally.{Tally}
-use Rattle.queue_replay.proofs.PlacedBy.{nowhere_none, nowhere_past, nowhere_other}
+use Rattle.queue_replay.proofs.PlacedBy.{nowhere_none, nowhere_elsewhere}
 use Rattle.queue_replay.proofs.tally_book.TallyBook.place_of.Goals as goal
 
 pub returns-in_err-place-clause-none : goal.returns-in_err-place-clause-none
@@ -8,14 +7,8 @@ returns-in_err-place-clause-none c _ =
     let book = c.args.self.now in
     nowhere_none (λ (tally : Tally). tally.pid) book.list.items book.places book.placed c.args.pid c.in_err-place.ensures.value
 
-pub returns-then-place-len-clause-none : goal.returns-then-place-len-clause-none
-returns-then-place-len-clause-none c _ =
+pub returns-else-is_at-2-clause-none : goal.returns-else-is_at-2-clause-none
+returns-else-is_at-2-clause-none c _ =
     let book = c.args.self.now in
-    nowhere_past (λ (tally : Tally). tally.pid) book.list.items book.places book.placed c.args.pid c.in_ok-place.field-0.now c.in_ok-place.ensures.value
-    (λ h. let a = c.if-place-len.true in let n = c.len.ensures in absurd (omega (arith, h, a, n)))
-
-pub returns-else-index-pid-clause-none : goal.returns-else-index-pid-clause-none
-returns-else-index-pid-clause-none c _ =
-    let book = c.args.self.now in
-    nowhere_other (λ (tally : Tally). tally.pid) book.list.items book.places book.placed c.args.pid c.in_ok-place.field-0.now c.in_ok-place.ensures.value
-    c.index.result.now c.index.ensures c.if-index-pid.false
+    nowhere_elsewhere (λ (tally : Tally). tally.pid) book.list.items book.places book.placed c.args.pid c.in_ok-place.field-0.now c.in_ok-place.ensures.value
+    (c.is_at-2.ensures.elsewhere c.if-is_at-2.false)

@@ -2,6 +2,7 @@
 //! stages and whole, in one thread and in several, `reading_bench stages TRACE COMPANION ROUNDS`.
 #![tactic(auto)]
 
+mod counting_gate;
 mod readings;
 mod seat;
 mod stages;
@@ -53,12 +54,13 @@ fn time_stages<R: AllocGlobal + Clock + Files + Print + Threads + Wait + Sync>(
             together,
             serial,
             crew,
+            stretches,
             closed,
         } = round_of(rt, rt.alloc(), &trace, &companion)?;
         print!(rt; "{} {} ", opening.reading, opening.joining)?;
         print_stages(rt, alone)?;
         print_stages(rt, together)?;
-        println!(rt; "{serial} {crew} {closed:?}")?;
+        println!(rt; "{serial} {crew} {stretches} {closed:?}")?;
     }
     Ok(ExitCode::SUCCESS)
 }

@@ -1,8 +1,9 @@
 //! The stages of an audit, each ended for all processors before the next begins, in one thread and in several; and whole
 //! audits.
 
+use crate::counting_gate::CountingGate;
 use crate::seat::Seat;
-use audit_crew::{OpenGate, audit, audit_serial};
+use audit_crew::{audit, audit_serial};
 use cfs_model::{Knobs, Memory};
 use companion_file::{Companion, read_companion};
 use sched_record::{Record, Trace, join, read_trace};
@@ -43,6 +44,8 @@ pub struct Round {
     pub serial: u128,
     /// Of `audit`, in nanoseconds.
     pub crew: u128,
+    /// The most stretches that one of its auditors replayed.
+    pub stretches: u64,
     pub closed: Closed,
 }
 
@@ -63,7 +66,8 @@ pub fn round_of<R: Clock + Threads + Wait + Sync>(
     let _dropped = lap(rt, &mut last)?;
     let _closed = audit_serial(alloc, &record, Knobs::standard()).map_err(out_of_memory)?;
     let serial = lap(rt, &mut last)?;
-    let closed = audit(rt, alloc, &record, Knobs::standard(), &OpenGate).map_err(out_of_memory)?;
+    let gate = CountingGate::new(alloc, record.cpus()).map_err(out_of_memory)?;
+    let closed = audit(rt, alloc, &record, Knobs::standard(), &gate).map_err(out_of_memory)?;
     let crew = lap(rt, &mut last)?;
     Ok(Round {
         opening: Opening { reading, joining },
@@ -71,6 +75,7 @@ pub fn round_of<R: Clock + Threads + Wait + Sync>(
         together,
         serial,
         crew,
+        stretches: gate.most_stretches(),
         closed,
     })
 }

@@ -2,7 +2,7 @@
 -- them idle, and the start doesn't.
 use Rattle.std.proofs.Common.{◌≡◌, ℕ, zero, suc, ◌<◌, ◌≤◌, true, Some, None, slice_index, pos, ◌+ℤ◌, ◌≤ℤ◌, inl, inr, List, [], ◌∷◌, refl, sym, ap, ◌∙◌, subst, arith, lit<, lit≤}
 use Rattle.std.proofs.lemmas.Int.{ints, clamps}
-use Rattle.cfs_model.specs.Machine.{Machine, Stands, AreInRange, put, put_pair, with_floor, with_move, with_runtime}
+use Rattle.cfs_model.specs.Machine.{Machine, Stands, AreValuesInRange, put, put_pair, with_floor, with_move, with_runtime}
 use Rattle.cfs_model.specs.Lifted.{charged, IsLeast, IsLifted}
 use Rattle.cfs_model.specs.Step.{IsWakeQueued, IsWakeResting, IsSwitch, after_next, IsStep}
 use Rattle.cfs_model.specs.Idle.{IsIdle, IdlesFrom, KeepsSlack}
@@ -31,7 +31,7 @@ start_is = record {
   floors_in_range = ((omega (arith, ints), omega (arith, ints)), tt);
 }
 
-start_range : AreInRange idle_start
+start_range : AreValuesInRange idle_start
 start_range = (start_in_order start_time (pos 0 ∷ []) (the_task ∷ []) start_is).in_range
 
 nobody_runs : (cpu q : ℕ) → ¬ Stands idle_start Run cpu q

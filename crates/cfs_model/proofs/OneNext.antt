@@ -5,7 +5,7 @@ use Rattle.std.proofs.lemmas.Int.{ints}
 use Rattle.std.specs.Int.{int_max}
 use Rattle.cfs_model.specs.Settings.{Settings}
 use Rattle.cfs_model.specs.Machine.{Machine, with_floor, with_move, with_runtime, with_nice, with_task}
-use Rattle.cfs_model.specs.Claimed.{Claimed, Says}
+use Rattle.cfs_model.specs.Claimed.{Claimed, ClaimSays}
 use Rattle.cfs_model.specs.Touch.{touched}
 use Rattle.cfs_model.specs.Lifted.{charged, IsLeast, IsRaised, IsLiftedAt, IsLifted}
 use Rattle.cfs_model.specs.Step.{IsWakeQueued, IsWakeResting, IsMigration, MovesBy, Changes, IsStep}
@@ -46,12 +46,12 @@ one_lifted time (cpu ∷ cpus) before after other a b =
     (subst (λ m. IsLifted time cpus m after) (one_lifted_at time cpu before a.0 b.0 a.1 b.1) a.2) b.2
 
 -- a claim says one value
-one_said : (claim : Option Claim) (sort other : ClaimSort) (pid : ℕ) (v w : ℤ) → Says claim sort pid v
-    → Says claim other pid w → (sort ≡ other) × (v ≡ w)
+one_said : (claim : Option Claim) (sort other : ClaimSort) (pid : ℕ) (v w : ℤ) → ClaimSays claim sort pid v
+    → ClaimSays claim other pid w → (sort ≡ other) × (v ≡ w)
 one_said None sort other pid v w a b = absurd a
 one_said (Some claim) sort other pid v w a b = (sym a.0 ∙ b.0, sym a.2 ∙ b.2)
 
-none_said : (claim : Option Claim) (sort : ClaimSort) (pid : ℕ) (v : ℤ) → claim ≡ None → Says claim sort pid v → ⊥
+none_said : (claim : Option Claim) (sort : ClaimSort) (pid : ℕ) (v : ℤ) → claim ≡ None → ClaimSays claim sort pid v → ⊥
 none_said None sort pid v e a = a
 none_said (Some claim) sort pid v e a = cc
 

@@ -6,8 +6,8 @@ use Rattle.std.specs.Int.{int_max}
 use Rattle.cfs_model.specs.Charge.{IsInRange}
 use Rattle.cfs_model.specs.Limits.{greatest_runtime}
 use Rattle.cfs_model.specs.Settings.{Settings}
-use Rattle.cfs_model.specs.Machine.{Machine, pairs_of, AreInRange, put, put_pair, without_task, with_move}
-use Rattle.cfs_model.specs.Claimed.{Says}
+use Rattle.cfs_model.specs.Machine.{Machine, pairs_of, AreValuesInRange, put, put_pair, without_task, with_move}
+use Rattle.cfs_model.specs.Claimed.{ClaimSays}
 use Rattle.cfs_model.specs.Lifted.{cost_at, charged, charged_runtime, CanCharge, IsRaised, IsLiftedAt, IsLifted}
 use Rattle.cfs_model.specs.Step.{after_prev, after_next, Changes}
 use Rattle.cfs_model.proofs.Moves.{put-same, put-other, same_or_not}
@@ -31,7 +31,7 @@ max_range u v h k =
 some_is : (u v : ℤ) → Some u ≡ Some v → u ≡ v
 some_is u v e = cc
 
-charged_range : (m : Machine) (cpu time : ℕ) → CanCharge m cpu time → AreInRange m → (pid : ℕ) (v : ℤ)
+charged_range : (m : Machine) (cpu time : ℕ) → CanCharge m cpu time → AreValuesInRange m → (pid : ℕ) (v : ℤ)
     → (charged m cpu time).runtime pid ≡ Some v → IsInRange v
 charged_range m cpu time can r pid v e = go (m.running cpu pid) refl e
   where
@@ -51,10 +51,10 @@ raised_range : (m : Machine) (cpu : ℕ) (f : ℤ) → IsRaised m cpu f → ((pi
 raised_range m cpu f (inl a) r h = subst IsInRange (sym a.1) h
 raised_range m cpu f (inr a) r h = subst IsInRange (sym a.2) (max_range (m.floor cpu) a.0 h (r a.1.pid a.0 a.1.runtime))
 
-lifted_at_range : (time cpu : ℕ) (m after : Machine) → IsLiftedAt time cpu m after → AreInRange m → AreInRange after
+lifted_at_range : (time cpu : ℕ) (m after : Machine) → IsLiftedAt time cpu m after → AreValuesInRange m → AreValuesInRange after
 lifted_at_range time cpu m after l r =
     let within = charged_range m cpu time l.can_charge r in
-    subst AreInRange (sym l.result) (record {
+    subst AreValuesInRange (sym l.result) (record {
       runtimes = within;
       floors = λ c. go c (same_or_not c cpu) (raised_range (charged m cpu time) cpu l.floor l.raised within (r.floors cpu));
     })
@@ -64,12 +64,12 @@ lifted_at_range time cpu m after l r =
     go c (inr ne) h = subst IsInRange (sym (put-other m.floor cpu l.floor c ne)) (r.floors c)
 
 -- a lift keeps the range
-pub lifted_range : (time : ℕ) (cpus : List ℕ) (m after : Machine) → IsLifted time cpus m after → AreInRange m
-    → AreInRange after
-lifted_range time [] m after l r = subst AreInRange (sym l) r
+pub lifted_range : (time : ℕ) (cpus : List ℕ) (m after : Machine) → IsLifted time cpus m after → AreValuesInRange m
+    → AreValuesInRange after
+lifted_range time [] m after l r = subst AreValuesInRange (sym l) r
 lifted_range time (cpu ∷ cpus) m after l r = lifted_range time cpus l.0 after l.2 (lifted_at_range time cpu m l.0 l.1 r)
 
-said_range : (claim : Option Claim) (sort : ClaimSort) (pid : ℕ) (v : ℤ) → Says claim sort pid v
+said_range : (claim : Option Claim) (sort : ClaimSort) (pid : ℕ) (v : ℤ) → ClaimSays claim sort pid v
     → IfSome claim (λ k. IsInRange k.v) → IsInRange v
 said_range None sort pid v s r = absurd s
 said_range (Some claim) sort pid v s r = subst IsInRange s.2 r
@@ -127,7 +127,7 @@ runtimes_range knobs m (Shift orig dest pid nice) claim after s c r =
 -- an event's own change keeps the range, where its claim is in range
 pub change_range : (knobs : Settings) (m : Machine) (act : Act) (claim : Option Claim) (after : Machine)
     → Changes knobs m act claim after
-    → IfSome claim (λ k. IsInRange k.v) → AreInRange m → AreInRange after
+    → IfSome claim (λ k. IsInRange k.v) → AreValuesInRange m → AreValuesInRange after
 change_range knobs m act claim after s c r = record {
   runtimes = runtimes_range knobs m act claim after s c r.runtimes;
   floors = λ cpu. subst (λ f. IsInRange (f cpu)) (sym (same_floors knobs m act claim after s)) (r.floors cpu);

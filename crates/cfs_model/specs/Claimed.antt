@@ -18,6 +18,6 @@ abbrev pub claimed : List Claim → List Entry → List Claimed
 claimed claims entries = map (λ entry. record { entry = entry; claim = claim_at claims entry.line }) entries
 
 -- the claim is of this sort, and names this pid with this virtual runtime
-abbrev pub Says : Option Claim → ClaimSort → ℕ → ℤ → Type 0
-Says None sort pid v = ⊥
-Says (Some claim) sort pid v = (claim.sort ≡ sort) × (claim.pid ≡ pid) × (claim.v ≡ v)
+abbrev pub ClaimSays : Option Claim → ClaimSort → ℕ → ℤ → Type 0
+ClaimSays None sort pid v = ⊥
+ClaimSays (Some claim) sort pid v = (claim.sort ≡ sort) × (claim.pid ≡ pid) × (claim.v ≡ v)

@@ -43,7 +43,7 @@ abbrev pub IsQueued : Machine → ℕ → ℕ → Type 0
 IsQueued m cpu pid = Stands m Run cpu pid ⊎ Stands m Wait cpu pid
 
 -- every virtual runtime and every floor is in range
-pub record AreInRange (m : Machine) : Type 0 where
+pub record AreValuesInRange (m : Machine) : Type 0 where
   pub runtimes : (pid : ℕ) (v : ℤ) → m.runtime pid ≡ Some v → IsInRange v
   pub floors : (cpu : ℕ) → IsInRange (m.floor cpu)
 

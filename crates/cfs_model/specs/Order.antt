@@ -2,7 +2,7 @@
 use Rattle.std.specs.Prelude.{◌≡◌, ℕ, ◌<◌, IsSome, ℤ, ◌↔◌, List, [], ◌∷◌, ⊤}
 use Rattle.std.specs.List.{AllByRecursion}
 use Rattle.cfs_model.specs.Charge.{IsInRange}
-use Rattle.cfs_model.specs.Machine.{Machine, Stands, AreInRange}
+use Rattle.cfs_model.specs.Machine.{Machine, Stands, AreValuesInRange}
 use Rattle.cfs_model.specs.declared.task.Place.{Place}
 use Rattle.cfs_model.specs.declared.task.Place.TheVariants.{Run}
 use Rattle.cfs_model.specs.declared.task.Task.{Task}
@@ -19,7 +19,7 @@ pub record IsInOrder (m : Machine) : Type 0 where
   pub one_runs : (cpu pid other : ℕ) → Stands m Run cpu pid → Stands m Run cpu other → pid ≡ other
   pub runtimes : (pid : ℕ) → IsSome (m.runtime pid) ↔ StandsSomewhere m pid
   pub nices : (pid : ℕ) → IsSome (m.nice pid) ↔ StandsSomewhere m pid
-  pub in_range : AreInRange m
+  pub in_range : AreValuesInRange m
 
 -- two tasks run at one processor
 abbrev pub RunTogether : Task → Task → Type 0

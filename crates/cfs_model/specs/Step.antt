@@ -5,8 +5,8 @@
 use Rattle.std.specs.Prelude.{◌≡◌, ◌≢◌, ℕ, zero, suc, Option, Some, None, ℤ, pos, ◌+ℤ◌, ◌-ℤ◌, ◌≤ℤ◌, ◌⊎◌, ⊤}
 use Rattle.std.specs.Int.{int_max}
 use Rattle.cfs_model.specs.Settings.{Settings}
-use Rattle.cfs_model.specs.Machine.{Machine, Stands, NobodyStands, IsQueued, AreInRange, with_task, without_task, with_move, with_runtime, with_nice, without_values}
-use Rattle.cfs_model.specs.Claimed.{Claimed, Says}
+use Rattle.cfs_model.specs.Machine.{Machine, Stands, NobodyStands, IsQueued, AreValuesInRange, with_task, without_task, with_move, with_runtime, with_nice, without_values}
+use Rattle.cfs_model.specs.Claimed.{Claimed, ClaimSays}
 use Rattle.cfs_model.specs.Touch.{touched}
 use Rattle.cfs_model.specs.Lifted.{IsLifted}
 use Rattle.cfs_model.specs.declared.act.Act.{Act}
@@ -31,7 +31,7 @@ PrintsOwn m (suc n) nice = m.nice (suc n) ≡ Some nice
 
 -- a previous task that stays is claimed at just its virtual runtime; where prev is 0, sleeps or ends there is no claim
 abbrev pub IsPutBack : Machine → ℕ → Way → Option Claim → Type 0
-IsPutBack m (suc n) Stays claim = (v : ℤ) × (m.runtime (suc n) ≡ Some v) × Says claim At (suc n) v
+IsPutBack m (suc n) Stays claim = (v : ℤ) × (m.runtime (suc n) ≡ Some v) × ClaimSays claim At (suc n) v
 IsPutBack m prev way claim = claim ≡ None
 
 -- a previous task waits, rests or is gone
@@ -82,7 +82,7 @@ pub record IsWakeResting (knobs : Settings) (m : Machine) (cpu pid : ℕ) (nice 
   pub own : ℤ
   pub runtime : m.runtime pid ≡ Some own
   pub placed : ℤ
-  pub claimed : Says claim At pid placed
+  pub claimed : ClaimSays claim At pid placed
   pub from : int_max own (m.floor cpu -ℤ pos knobs.credit) ≤ℤ placed
   pub to : placed ≤ℤ int_max own (m.floor cpu)
   pub result : after ≡ with_runtime (with_move m pid Rest cpu Wait cpu) pid placed
@@ -92,7 +92,7 @@ pub record IsBirth (knobs : Settings) (m : Machine) (cpu pid : ℕ) (nice : ℤ)
     (after : Machine) : Type 0 where
   pub nowhere : (place : Place) (other : ℕ) → ¬ Stands m place other pid
   pub placed : ℤ
-  pub claimed : Says claim At pid placed
+  pub claimed : ClaimSays claim At pid placed
   pub from : m.floor cpu ≤ℤ placed
   pub to : placed ≤ℤ (m.floor cpu +ℤ pos knobs.debit)
   pub result : after ≡ with_nice (with_runtime (with_task m Wait cpu pid) pid placed) pid nice
@@ -114,7 +114,7 @@ pub record IsMigration (m : Machine) (orig dest pid : ℕ) (nice : ℤ) (claim :
   pub runtime : m.runtime pid ≡ Some own
   pub sort : ClaimSort
   pub moves : MovesBy place sort
-  pub claimed : Says claim sort pid ((own -ℤ m.floor orig) +ℤ m.floor dest)
+  pub claimed : ClaimSays claim sort pid ((own -ℤ m.floor orig) +ℤ m.floor dest)
   pub result : after ≡ with_runtime (with_move m pid place orig place dest) pid ((own -ℤ m.floor orig) +ℤ m.floor dest)
 
 -- what an event changes in the lifted machine
@@ -131,4 +131,4 @@ pub record IsStep (knobs : Settings) (before : Machine) (event : Claimed) (after
   pub lifted : Machine
   pub is_lifted : IsLifted event.entry.time (touched event.entry.act) before lifted
   pub changes : Changes knobs lifted event.entry.act event.claim after
-  pub in_range : AreInRange after
+  pub in_range : AreValuesInRange after

@@ -3,7 +3,7 @@ use Rattle.std.proofs.Common.{◌≡◌, ◌≢◌, ℕ, Bool, true, false, Opti
 use Rattle.std.proofs.lemmas.Int.{ints}
 use Rattle.cfs_model.specs.Settings.{Settings}
 use Rattle.cfs_model.specs.Machine.{Machine, Stands, put_pair, pairs_of, with_pairs, with_move, without_task, with_runtime}
-use Rattle.cfs_model.specs.Claimed.{Says}
+use Rattle.cfs_model.specs.Claimed.{ClaimSays}
 use Rattle.cfs_model.specs.Step.{MovesBy, IsMigration}
 use Rattle.replay_model.specs.Part.{Part, Entity, part_of, entity_of}
 use Rattle.replay_model.specs.Deeds.{after_deed, with_entity, place_of_sort, left_ticket, came_ticket}
@@ -94,7 +94,7 @@ moves_by place Pass e = subst (λ x. MovesBy x Pass) (sym e) tt
 
 -- the place and value of a task that comes
 comes_to : (claim : Option Claim) (sort : ClaimSort) (place : Place) (pid : ℕ) (nice v : ℤ) → MovesBy place sort
-    → Says claim sort pid v
+    → ClaimSays claim sort pid v
     → option_map (λ (c : Claim). let s : Entity = record
     { place = place_of_sort c.sort; nice = nice; runtime = c.v } in s) claim ≡ Some
     (record { place = place; nice = nice; runtime = v })
@@ -157,7 +157,7 @@ leave_clear knobs m a orig dest pid nice claim after s = record {
 }
 
 said_come : (part : Part) (pid orig : ℕ) (nice : ℤ) (claim : Option Claim) (sort : ClaimSort) (v : ℤ)
-    → Says claim sort pid v → (q : ℕ) → ¬ IsClaimMissing part (Arrive pid nice orig) claim q
+    → ClaimSays claim sort pid v → (q : ℕ) → ¬ IsClaimMissing part (Arrive pid nice orig) claim q
 said_come part pid orig nice None sort v h q k = h
 said_come part pid orig nice (Some claim) sort v h q k = k.1 tt
 
@@ -167,7 +167,7 @@ no_extra_come part pid orig nice None q k = k
 no_extra_come part pid orig nice (Some claim) q k = some_no pid k.0
 
 own_come : (part : Part) (pid orig : ℕ) (nice : ℤ) (claim : Option Claim) (sort : ClaimSort) (v : ℤ)
-    → Says claim sort pid v → (q : ℕ) → ¬ IsClaimPid part (Arrive pid nice orig) claim q
+    → ClaimSays claim sort pid v → (q : ℕ) → ¬ IsClaimPid part (Arrive pid nice orig) claim q
 own_come part pid orig nice None sort v h q k = h
 own_come part pid orig nice (Some claim) sort v h q k = k.0.2 (h.1 ∙ same_some (Some pid) pid k.0.0 refl k.0.1)
 
@@ -199,7 +199,7 @@ offsets : (own fo fd : ℤ) → (own -ℤ fo) ≡ ((own -ℤ fo) +ℤ fd) -ℤ f
 offsets own fo fd = omega (arith, ints)
 
 claim_ticket : (part : Part) (line pid : ℕ) (nice : ℤ) (claim : Option Claim) (sort : ClaimSort) (place : Place) (v : ℤ)
-    → MovesBy place sort → Says claim sort pid v
+    → MovesBy place sort → ClaimSays claim sort pid v
     → came_ticket part line pid nice claim ≡ Some
     (record { line = line; pid = pid; nice = nice; place = place; offset = v -ℤ part.floor })
 claim_ticket part line pid nice None sort place v b h = absurd h

@@ -5,7 +5,7 @@ use Rattle.std.proofs.lemmas.Int.{ints, by_lt_z}
 use Rattle.std.specs.Int.{int_max}
 use Rattle.cfs_model.specs.Settings.{Settings}
 use Rattle.cfs_model.specs.Machine.{Machine, Stands, with_move, with_runtime, with_nice, with_task}
-use Rattle.cfs_model.specs.Claimed.{Says}
+use Rattle.cfs_model.specs.Claimed.{ClaimSays}
 use Rattle.cfs_model.specs.Step.{IsWakeQueued, IsWakeResting, IsBirth}
 use Rattle.replay_model.specs.Part.{Part, Entity, part_of, entity_of, place_in}
 use Rattle.replay_model.specs.Deeds.{after_deed, with_entity, woken, wakes}
@@ -35,13 +35,13 @@ wakes_none p pid =
     go (Some s) = refl
 
 -- the claimed place of a woken task
-woken_to : (claim : Option Claim) (pid : ℕ) (nice own placed : ℤ) → Says claim At pid placed
+woken_to : (claim : Option Claim) (pid : ℕ) (nice own placed : ℤ) → ClaimSays claim At pid placed
     → option_map (λ s. woken claim s.place s) (Some (record { place = Rest; nice = nice; runtime = own })) ≡ Some
     (record { place = Wait; nice = nice; runtime = placed })
 woken_to None pid nice own placed h = absurd h
 woken_to (Some claim) pid nice own placed h = ap (λ v. Some (record { place = Wait; nice = nice; runtime = v })) h.2
 
-born_to : (claim : Option Claim) (pid : ℕ) (nice placed : ℤ) → Says claim At pid placed
+born_to : (claim : Option Claim) (pid : ℕ) (nice placed : ℤ) → ClaimSays claim At pid placed
     → option_map (λ (c : Claim). let s : Entity = record { place = Wait; nice = nice; runtime = c.v } in s) claim ≡
     Some (record { place = Wait; nice = nice; runtime = placed })
 born_to None pid nice placed h = absurd h

@@ -2,7 +2,7 @@
 use Rattle.std.proofs.Common.{◌≡◌, ℕ, Option, Some, None, IsSome, option_map, ℤ, ◌⊎◌, inl, inr, refl, sym, ap, ◌∙◌, subst, true≢false}
 use Rattle.cfs_model.specs.Settings.{Settings}
 use Rattle.cfs_model.specs.Machine.{Machine, Stands, IsQueued}
-use Rattle.cfs_model.specs.Claimed.{Says}
+use Rattle.cfs_model.specs.Claimed.{ClaimSays}
 use Rattle.cfs_model.specs.Step.{IsWakeQueued, IsWakeResting, IsBirth}
 use Rattle.replay_model.specs.Part.{Part, Entity, part_of, entity_of, IsIn}
 use Rattle.replay_model.specs.ClaimTests.{if_resting, claimant, HasClaim, IsClaimMissing, IsClaimExtra, IsClaimPid, IsInWakeBounds, IsWakeOutside, IsInForkBounds, IsForkOutside}
@@ -18,12 +18,12 @@ use Rattle.cfs_model.specs.declared.task.Place.{Place}
 use Rattle.cfs_model.specs.declared.task.Place.TheVariants.{Run, Wait, Rest}
 
 -- a deed whose claim says what is needed has it, of the right pid, and not too much
-pub said_missing : (part : Part) (deed : Deed) (claim : Option Claim) (task : ℕ) (v : ℤ) → Says claim At task v
+pub said_missing : (part : Part) (deed : Deed) (claim : Option Claim) (task : ℕ) (v : ℤ) → ClaimSays claim At task v
     → ((c : Claim) → c.sort ≡ At → HasClaim deed (Some c)) → (pid : ℕ) → ¬ IsClaimMissing part deed claim pid
 said_missing part deed None task v h has pid k = h
 said_missing part deed (Some claim) task v h has pid k = k.1 (has claim h.0)
 
-pub said_pid : (part : Part) (deed : Deed) (claim : Option Claim) (task : ℕ) (v : ℤ) → Says claim At task v
+pub said_pid : (part : Part) (deed : Deed) (claim : Option Claim) (task : ℕ) (v : ℤ) → ClaimSays claim At task v
     → claimant part deed ≡ Some task → (pid : ℕ) → ¬ IsClaimPid part deed claim pid
 said_pid part deed None task v h e pid k = h
 said_pid part deed (Some claim) task v h e pid k = k.0.2 (h.1 ∙ same_some (claimant part deed) task k.0.0 e k.0.1)

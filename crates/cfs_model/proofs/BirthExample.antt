@@ -121,16 +121,16 @@ was_alone Run d h = let is = of_one the_task Run d 101 h in (refl, sym is.1)
 was_alone Wait d h = absurd (nobody_waits d 101 h)
 was_alone Rest d h = let e = (of_one the_task Rest d 101 h).2 in absurd cc
 
-is_gone : IsGone first_lifted second_lifted 101
-is_gone = gone_same first_lifted (without_task first_lifted Run 0 101) second_lifted 101
+ended_is_gone : IsGone first_lifted second_lifted 101
+ended_is_gone = gone_same first_lifted (without_task first_lifted Run 0 101) second_lifted 101
     (same_sets (without_task first_lifted Run 0 101) second_lifted refl refl refl)
     (leave_gone first_lifted 101 Run 0 was_alone)
 
 nowhere : (r : Place) (d : ℕ) → ¬ Stands second_lifted r d 101
-nowhere r d h = (is_gone.cases r d 101 h).0 refl
+nowhere r d h = (ended_is_gone.cases r d 101 h).0 refl
 
 nobody_runs : (q : ℕ) → ¬ Stands second_lifted Run 1 q
-nobody_runs q h = let e = (of_one the_task Run 1 q (is_gone.cases Run 1 q h).1).1 in absurd (omega arith)
+nobody_runs q h = let e = (of_one the_task Run 1 q (ended_is_gone.cases Run 1 q h).1).1 in absurd (omega arith)
 
 second_lift : IsLifted 100002000000 (1 ∷ []) first_state second_lifted
 unfolding put

@@ -4,7 +4,7 @@ use Rattle.std.proofs.Common.{◌≡◌, ◌≢◌, ℕ, Bool, true, false, cond
 use Rattle.cfs_model.specs.Machine.{Machine, pairs_of, Stands, NobodyStands, with_floor}
 use Rattle.cfs_model.specs.Lifted.{cost_at, charged, charged_runtime, IsLiftedAt, IsLifted}
 use Rattle.cfs_model.specs.Order.{StandsSomewhere}
-use Rattle.cfs_model.proofs.Moves.{same_or_not, IsPlaced, IsGone}
+use Rattle.cfs_model.proofs.Moves.{same_or_not, IsPutAt, IsGone}
 use Rattle.cfs_model.specs.declared.task.Place.{Place}
 use Rattle.cfs_model.specs.declared.task.Place.TheVariants.{Run, Wait, Rest}
 
@@ -85,7 +85,7 @@ lifted_apart time [] m after l a = subst IsApart (sym l) a
 lifted_apart time (cpu ∷ cpus) m after l a = lifted_apart time cpus l.0 after l.2 (lifted_at_apart time cpu m l.0 l.1 a)
 
 -- a map with a value at the pid that is placed, and as it was elsewhere
-placed_keys : (m after : Machine) (pid : ℕ) (to : Place) (dest : ℕ) → IsPlaced m after pid to dest → (f g : ℕ → Option ℤ)
+placed_keys : (m after : Machine) (pid : ℕ) (to : Place) (dest : ℕ) → IsPutAt m after pid to dest → (f g : ℕ → Option ℤ)
     → IsSome (g pid) → ((q : ℕ) → q ≢ pid → g q ≡ f q) → ((q : ℕ) → IsSome (f q) ↔ StandsSomewhere m q) → (q : ℕ)
     → IsSome (g q) ↔ StandsSomewhere after q
 placed_keys m after pid to dest p f g here others keys q = go (same_or_not q pid)
@@ -105,7 +105,7 @@ placed_keys m after pid to dest p f g here others keys q = go (same_or_not q pid
     )
 
 -- a task that is placed anew keeps the order, where nobody else runs if it is to run
-pub placed_apart : (m after : Machine) (pid : ℕ) (to : Place) (dest : ℕ) → IsPlaced m after pid to dest → IsApart m
+pub placed_apart : (m after : Machine) (pid : ℕ) (to : Place) (dest : ℕ) → IsPutAt m after pid to dest → IsApart m
     → (to ≡ Run → NobodyStands m Run dest)
     → IsSome (after.runtime pid) → ((q : ℕ) → q ≢ pid → after.runtime q ≡ m.runtime q)
     → IsSome (after.nice pid) → ((q : ℕ) → q ≢ pid → after.nice q ≡ m.nice q) → IsApart after

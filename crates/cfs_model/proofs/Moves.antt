@@ -83,7 +83,7 @@ changed_at m place cpu pid b r d q = go (pairs_with m place (put_pair (pairs_of 
     go (inr e) f = inr ((λ h. e.0 h.0), ap (λ s. s d q) e.1)
 
 -- what a move to a place does to who stands where: the pid stands there alone, and the others where they stood
-pub record IsPlaced (m after : Machine) (pid : ℕ) (to : Place) (dest : ℕ) : Type 0 where
+pub record IsPutAt (m after : Machine) (pid : ℕ) (to : Place) (dest : ℕ) : Type 0 where
   pub itself : Stands after to dest pid
   pub cases : (r : Place) (d q : ℕ) → Stands after r d q → ((q ≡ pid) × (r ≡ to) × (d ≡ dest)) ⊎ ((q ≢ pid) × Stands m r d q)
   pub kept : (r : Place) (d q : ℕ) → q ≢ pid → Stands m r d q → Stands after r d q
@@ -95,7 +95,7 @@ pub record IsGone (m after : Machine) (pid : ℕ) : Type 0 where
 
 -- a pid that stands nowhere joins a place
 pub join_placed : (m : Machine) (pid : ℕ) (place : Place) (cpu : ℕ) → ((r : Place) (d : ℕ) → ¬ Stands m r d pid)
-    → IsPlaced m (with_task m place cpu pid) pid place cpu
+    → IsPutAt m (with_task m place cpu pid) pid place cpu
 join_placed m pid place cpu nowhere = record {
   itself = elim (changed_at m place cpu pid true place cpu pid) [ inl f ↦ f.3 | inr f ↦ absurd (f.0 (refl, refl, refl)) ];
   cases = λ r d q h. elim (changed_at m place cpu pid true r d q) [
@@ -121,7 +121,7 @@ leave_gone m pid place cpu alone = record {
 -- a pid that stands in one place alone moves to a place
 pub move_placed : (m : Machine) (pid : ℕ) (from : Place) (orig : ℕ) (to : Place) (dest : ℕ)
     → ((r : Place) (d : ℕ) → Stands m r d pid → (r ≡ from) × (d ≡ orig))
-    → IsPlaced m (with_move m pid from orig to dest) pid to dest
+    → IsPutAt m (with_move m pid from orig to dest) pid to dest
 move_placed m pid from orig to dest alone =
     let gone = leave_gone m pid from orig alone in
     let placed = join_placed (without_task m from orig pid) pid to dest (λ r d h. (gone.cases r d pid h).0 refl) in

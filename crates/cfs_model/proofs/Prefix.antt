@@ -31,17 +31,17 @@ slice_get-append_left (x ∷ xs) ys zero h = refl
 slice_get-append_left (x ∷ xs) ys (suc n) h = slice_get-append_left xs ys n (le_of_suc-le-suc h)
 
 -- the time of an event of the front
-time_at : (events rest : List Claimed) (n : ℕ) → n < length events
+time_in_front : (events rest : List Claimed) (n : ℕ) → n < length events
     → get_or (map (λ (e : Claimed). e.entry.time) (events ++ rest)) n 0 ≡ get_or
     (map (λ (e : Claimed). e.entry.time) events) n 0
-time_at [] rest n h = absurd (omega arith)
-time_at (e ∷ events) rest zero h = refl
-time_at (e ∷ events) rest (suc n) h = time_at events rest n (le_of_suc-le-suc h)
+time_in_front [] rest n h = absurd (omega arith)
+time_in_front (e ∷ events) rest zero h = refl
+time_in_front (e ∷ events) rest (suc n) h = time_in_front events rest n (le_of_suc-le-suc h)
 
 pub start_time_at : (start : ℕ) (events rest : List Claimed) (n : ℕ) → n < suc (length events)
     → get_or (times_of start (events ++ rest)) n 0 ≡ get_or (times_of start events) n 0
 start_time_at start events rest zero h = refl
-start_time_at start events rest (suc n) h = time_at events rest n (le_of_suc-le-suc h)
+start_time_at start events rest (suc n) h = time_in_front events rest n (le_of_suc-le-suc h)
 
 pub front_slack : (slack start : ℕ) (first : Machine) (events rest : List Claimed) (front back : List Machine)
     → length front ≡ length events → KeepsSlack slack (times_of start (events ++ rest)) (first ∷ (front ++ back))

@@ -8,7 +8,7 @@ use Rattle.cfs_model.specs.Touch.{touched}
 use Rattle.cfs_model.specs.Step.{IsCurrent, IsPick, after_prev, after_next, IsMigration, MovesBy, Changes, IsStep}
 use Rattle.cfs_model.specs.Run.{AreSteps}
 use Rattle.cfs_model.specs.Order.{IsInOrder}
-use Rattle.cfs_model.proofs.Moves.{put-same, put-other, IsPlaced, IsGone, join_placed, leave_gone, move_placed}
+use Rattle.cfs_model.proofs.Moves.{put-same, put-other, IsPutAt, IsGone, join_placed, leave_gone, move_placed}
 use Rattle.cfs_model.proofs.KeptOrder.{IsApart, same_sets, stands_same, lifted_apart, placed_apart, gone_apart}
 use Rattle.cfs_model.specs.declared.act.Act.{Act}
 use Rattle.cfs_model.specs.declared.act.Act.TheVariants.{Switch, Wake, Born, Shift}
@@ -23,7 +23,7 @@ use Rattle.cfs_model.specs.declared.task.Place.TheVariants.{Run, Wait, Rest}
 -- what is placed, or gone, in a machine is so in another with the same sets
 pub placed_same : (m between after : Machine) (pid : ℕ) (to : Place) (dest : ℕ)
     → ((r : Place) → pairs_of after r ≡ pairs_of between r)
-    → IsPlaced m between pid to dest → IsPlaced m after pid to dest
+    → IsPutAt m between pid to dest → IsPutAt m after pid to dest
 placed_same m between after pid to dest e p = record {
   itself = stands_same after between (λ r. sym (e r)) to dest pid p.itself;
   cases = λ r d q h. p.cases r d q (stands_same between after e r d q h);
@@ -44,7 +44,7 @@ alone m a place cpu pid h r d k = a.one_place pid r place d cpu k h
 
 -- a running task that waits or rests: the order is kept, and nobody runs at its processor
 paused_apart : (m : Machine) (cpu pid : ℕ) (to : Place) (after : Machine) → IsApart m → Stands m Run cpu pid
-    → to ≢ Run → IsPlaced m after pid to cpu
+    → to ≢ Run → IsPutAt m after pid to cpu
     → after.runtime ≡ m.runtime → after.nice ≡ m.nice → IsApart after × NobodyStands after Run cpu
 paused_apart m cpu pid to after a runs pauses p e f = (
   placed_apart m after pid to cpu p a (λ x. absurd (pauses x))
@@ -84,7 +84,7 @@ next_apart granularity m cpu (suc n) a nobody pick =
 
 -- a task that is placed at a value
 valued_apart : (m between : Machine) (pid : ℕ) (to : Place) (dest : ℕ) (v : ℤ) → IsApart m
-    → IsPlaced m between pid to dest → (to ≡ Run → ⊥)
+    → IsPutAt m between pid to dest → (to ≡ Run → ⊥)
     → between.runtime ≡ m.runtime → between.nice ≡ m.nice → IsSome (m.nice pid) → IsApart (with_runtime between pid v)
 valued_apart m between pid to dest v a p pauses e f some =
     let after = with_runtime between pid v in

@@ -9,7 +9,7 @@ use Rattle.replay_model.specs.Part.{Part, Entity, part_of, entity_of}
 use Rattle.replay_model.specs.Deeds.{after_deed, with_entity, place_of_sort, left_ticket, came_ticket}
 use Rattle.replay_model.specs.ClaimTests.{IsClaimMissing, IsClaimExtra, IsClaimPid}
 use Rattle.cfs_model.proofs.KeptOrder.{IsApart, same_sets}
-use Rattle.cfs_model.proofs.Moves.{put-same, put-other, same_or_not, IsPlaced, move_placed}
+use Rattle.cfs_model.proofs.Moves.{put-same, put-other, same_or_not, IsPutAt, move_placed}
 use Rattle.cfs_model.proofs.StepOrder.{alone, placed_same, runtime-with_pairs, nice-with_pairs}
 use Rattle.replay_model.proofs.PartFacts.{stands_as, is_stander, is_in, stands_at}
 use Rattle.replay_model.proofs.PartMoves.{KeepsRest, placed_part, placed_away, none_there, elsewhere}
@@ -44,7 +44,7 @@ module _ (m : Machine) (place : Place) (orig dest pid : ℕ) (w : ℤ) where
   set_runtime n = same_sets n (with_runtime n pid w) refl refl refl
 
   pub moved_placed : IsApart m → Stands m place orig pid
-      → IsPlaced m (with_runtime (with_move m pid place orig place dest) pid w) pid place dest
+      → IsPutAt m (with_runtime (with_move m pid place orig place dest) pid w) pid place dest
   moved_placed a h =
       placed_same m (with_move m pid place orig place dest)
       (with_runtime (with_move m pid place orig place dest) pid w) pid place dest

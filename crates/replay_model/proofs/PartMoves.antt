@@ -4,7 +4,7 @@ use Rattle.cfs_model.specs.Machine.{Machine, Stands, put}
 use Rattle.replay_model.specs.Part.{Entity, place_by, entity_by, entity_of, part_of}
 use Rattle.replay_model.specs.Deeds.{with_entity, goes}
 use Rattle.cfs_model.proofs.KeptOrder.{IsApart}
-use Rattle.cfs_model.proofs.Moves.{put-same, put-other, same_or_not, IsPlaced, IsGone}
+use Rattle.cfs_model.proofs.Moves.{put-same, put-other, same_or_not, IsPutAt, IsGone}
 use Rattle.replay_model.proofs.PartFacts.{same_part, stander_at, values_of, no_stander}
 use Rattle.cfs_model.specs.declared.task.Place.{Place}
 use Rattle.cfs_model.specs.declared.task.Place.TheVariants.{Run, Wait, Rest}
@@ -45,7 +45,7 @@ pub record KeepsRest (m after : Machine) (pid : ℕ) : Type 0 where
   pub marks : after.mark ≡ m.mark
 
 -- the part to which a task comes
-pub placed_part : (m after : Machine) (pid : ℕ) (to : Place) (dest : ℕ) (nice v : ℤ) → IsPlaced m after pid to dest
+pub placed_part : (m after : Machine) (pid : ℕ) (to : Place) (dest : ℕ) (nice v : ℤ) → IsPutAt m after pid to dest
     → KeepsRest m after pid
     → after.nice pid ≡ Some nice → after.runtime pid ≡ Some v
     → part_of after dest ≡ with_entity (part_of m dest) pid (Some (record { place = to; nice = nice; runtime = v }))
@@ -61,7 +61,7 @@ placed_part m after pid to dest nice v p k e f =
     (ap (λ f. f dest) k.floors) (ap (λ f. f dest) k.marks)
 
 -- any other part: the task isn't there
-pub placed_away : (m after : Machine) (pid : ℕ) (to : Place) (dest : ℕ) → IsPlaced m after pid to dest
+pub placed_away : (m after : Machine) (pid : ℕ) (to : Place) (dest : ℕ) → IsPutAt m after pid to dest
     → KeepsRest m after pid
     → (d : ℕ) → d ≢ dest → part_of after d ≡ with_entity (part_of m d) pid None
 placed_away m after pid to dest p k d ne =
@@ -98,7 +98,7 @@ elsewhere m a place cpu pid h d ne r k = ne (a.one_place pid r place d cpu k h).
 
 -- a task that goes to another place at its processor
 pub goes_here : (m after : Machine) → IsApart m → (place : Place) (cpu pid : ℕ) (to : Place) → Stands m place cpu pid
-    → IsPlaced m after pid to cpu
+    → IsPutAt m after pid to cpu
     → after.runtime ≡ m.runtime → after.nice ≡ m.nice → after.floor ≡ m.floor → after.mark ≡ m.mark
     → (part_of after cpu ≡ goes (part_of m cpu) pid to) × ((d : ℕ) → d ≢ cpu → part_of after d ≡ part_of m d)
 goes_here m after a place cpu pid to h p e f g k =

@@ -46,7 +46,7 @@ lifted_above time (c ∷ cpus) m after l cpu =
     ≤ℤ_trans (m.floor cpu) (l.0.floor cpu) (after.floor cpu) (lifted_at_above time c m l.0 l.1 cpu)
     (lifted_above time cpus l.0 after l.2 cpu)
 
-floor-with_pairs : (m : Machine) (place : Place) (s : Pairs) → (with_pairs m place s).floor ≡ m.floor
+pub floor-with_pairs : (m : Machine) (place : Place) (s : Pairs) → (with_pairs m place s).floor ≡ m.floor
 floor-with_pairs m Run s = refl
 floor-with_pairs m Wait s = refl
 floor-with_pairs m Rest s = refl

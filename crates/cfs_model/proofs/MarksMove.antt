@@ -45,7 +45,7 @@ marks_stay time (c ∷ cpus) m after l cpu h =
     marks_stay time cpus l.0 after l.2 cpu h.1 ∙ ap (λ (x : Machine). x.mark cpu) l.1.result
     ∙ put-other m.mark c time cpu h.0
 
-mark-with_pairs : (m : Machine) (place : Place) (s : Pairs) → (with_pairs m place s).mark ≡ m.mark
+pub mark-with_pairs : (m : Machine) (place : Place) (s : Pairs) → (with_pairs m place s).mark ≡ m.mark
 mark-with_pairs m Run s = refl
 mark-with_pairs m Wait s = refl
 mark-with_pairs m Rest s = refl

@@ -1,5 +1,5 @@
 -- The order that a run keeps in a machine, and that a start which a companion names has (this project's profile).
-use Rattle.std.specs.Prelude.{◌≡◌, ℕ, ◌<◌, IsSome, ℤ, ◌↔◌, List, [], ◌∷◌, ⊤}
+use Rattle.std.specs.Prelude.{◌≡◌, ◌≢◌, ℕ, ◌<◌, IsSome, ℤ, ◌↔◌, List, [], ◌∷◌, ⊤}
 use Rattle.std.specs.List.{AllByRecursion}
 use Rattle.cfs_model.specs.Charge.{IsInRange}
 use Rattle.cfs_model.specs.Machine.{Machine, Stands, AreValuesInRange}
@@ -24,6 +24,10 @@ pub record IsInOrder (m : Machine) : Type 0 where
 -- two tasks run at one processor
 abbrev pub RunTogether : Task → Task → Type 0
 RunTogether t u = (t.place ≡ Run) × (u.place ≡ Run) × (t.cpu ≡ u.cpu)
+
+-- two tasks don't
+abbrev pub RunApart : Task → Task → Type 0
+RunApart t u = t.place ≡ Run → u.place ≡ Run → t.cpu ≢ u.cpu
 
 -- the pids rise
 abbrev pub PidsRise : List Task → Type 0

@@ -13,7 +13,8 @@ use Rattle.cfs_model.specs.Limits.{greatest_line, greatest_seconds, most_process
 use Rattle.companion_file.specs.Shape.{Shape, version_line, cpus_line, start_line, floor_line, task_line, claim_line}
 use Rattle.companion_file.specs.Earlier.{Said, has_all_floors, is_run, is_taken}
 use Rattle.companion_file.specs.Tests.{is_pid, is_value, is_nice}
-use Rattle.companion_file.specs.Reading.{IsTaskInLimits, RunApart, IsClaimInLimits}
+use Rattle.companion_file.specs.Reading.{IsTaskInLimits, IsClaimInLimits}
+use Rattle.cfs_model.specs.Order.{RunApart}
 use Rattle.companion_file.specs.Draft.{KeepsOrder}
 use Rattle.companion_file.proofs.KeptOrder.{Passes, value_fact, nice_fact, pid_fact}
 use Rattle.companion_file.proofs.Rising.{rises_push, none_passes}

@@ -14,7 +14,8 @@ use Rattle.companion_file.specs.Earlier.{Said, has_all_floors, is_taken}
 use Rattle.text_parts.specs.Lines.{IsComment}
 use Rattle.cfs_model.specs.Limits.{most_processors, greatest_seconds, nanoseconds_per_second}
 use Rattle.cfs_model.specs.Charge.{IsInRange}
-use Rattle.companion_file.specs.Reading.{CompanionView, IsTaskInLimits, RunApart, IsClaimInLimits}
+use Rattle.companion_file.specs.Reading.{CompanionView, IsTaskInLimits, IsClaimInLimits}
+use Rattle.cfs_model.specs.Order.{RunApart}
 use Rattle.companion_file.specs.Tests.{fault_of, IsJudged}
 
 -- the processors are few, and of each it is known whether a task runs there

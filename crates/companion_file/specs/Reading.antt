@@ -1,11 +1,11 @@
 -- What a companion says, and the order that each companion keeps (this project's companion format).
-use Rattle.std.specs.Prelude.{◌≡◌, ◌≢◌, ℕ, ◌+◌, ◌*◌, ◌<◌, ◌≤◌, ℤ, List, length, All, AllPairs}
+use Rattle.std.specs.Prelude.{◌≡◌, ℕ, ◌+◌, ◌*◌, ◌<◌, ◌≤◌, ℤ, List, length, All, AllPairs}
 use Rattle.cfs_model.specs.declared.task.Task.{Task}
-use Rattle.cfs_model.specs.declared.task.Place.TheVariants.{Run}
 use Rattle.cfs_model.specs.declared.claim.Claim.{Claim}
 use Rattle.cfs_model.specs.Limits.{greatest_pid, greatest_line, most_processors, greatest_seconds, nanoseconds_per_second}
 use Rattle.cfs_model.specs.Charge.{IsInRange}
 use Rattle.cfs_model.specs.Nice.{IsNice}
+use Rattle.cfs_model.specs.Order.{RunApart}
 
 -- the start state and the claims
 pub record CompanionView : Type 0 where
@@ -34,10 +34,6 @@ pub record IsClaimInLimits (claim : Claim) : Type 0 where
   pub line : (1 ≤ claim.line) × (claim.line ≤ greatest_line)
   pub pid : IsPid claim.pid
   pub v : IsInRange claim.v
-
--- two tasks do not both run at one processor
-abbrev pub RunApart : Task → Task → Type 0
-RunApart t u = t.place ≡ Run → u.place ≡ Run → t.cpu ≢ u.cpu
 
 -- what every companion keeps
 pub record IsCompanionInOrder (r : CompanionView) : Type 0 where

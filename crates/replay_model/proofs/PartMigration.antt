@@ -8,7 +8,9 @@ use Rattle.cfs_model.specs.Step.{MovesBy, IsMigration}
 use Rattle.replay_model.specs.Part.{Part, Entity, part_of, entity_of}
 use Rattle.replay_model.specs.Deeds.{after_deed, with_entity, place_of_sort, left_ticket, came_ticket}
 use Rattle.replay_model.specs.ClaimTests.{IsClaimMissing, IsClaimExtra, IsClaimPid}
+use Rattle.cfs_model.proofs.FloorsRise.{floor-with_pairs}
 use Rattle.cfs_model.proofs.KeptOrder.{IsApart, same_sets}
+use Rattle.cfs_model.proofs.MarksMove.{mark-with_pairs}
 use Rattle.cfs_model.proofs.Moves.{put-same, put-other, same_or_not, IsPutAt, move_placed}
 use Rattle.cfs_model.proofs.StepOrder.{alone, placed_same, runtime-with_pairs, nice-with_pairs}
 use Rattle.replay_model.proofs.PartFacts.{stands_as, is_stander, is_in, stands_at}
@@ -24,17 +26,6 @@ use Rattle.replay_model.specs.declared.page.Ticket.{Ticket}
 use Rattle.replay_model.specs.declared.step.Deed.TheVariants.{Leave, Arrive}
 use Rattle.cfs_model.specs.declared.task.Place.{Place}
 use Rattle.cfs_model.specs.declared.task.Place.TheVariants.{Run, Wait, Rest}
-
--- the floors and marks of a machine with one set changed
-floor-with_pairs : (m : Machine) (place : Place) (s : ℕ → ℕ → Bool) → (with_pairs m place s).floor ≡ m.floor
-floor-with_pairs m Run s = refl
-floor-with_pairs m Wait s = refl
-floor-with_pairs m Rest s = refl
-
-mark-with_pairs : (m : Machine) (place : Place) (s : ℕ → ℕ → Bool) → (with_pairs m place s).mark ≡ m.mark
-mark-with_pairs m Run s = refl
-mark-with_pairs m Wait s = refl
-mark-with_pairs m Rest s = refl
 
 module _ (m : Machine) (place : Place) (orig dest pid : ℕ) (w : ℤ) where
   moved : Machine

@@ -1,14 +1,9 @@
 -- What a start keeps, from the same facts by index, as a list's readers state them.
-use Rattle.std.proofs.Common.{◌≡◌, ◌≢◌, suc, ◌<◌, List, [], ◌∷◌, All, AllPairs, ℤ, suc-le-suc, arith}
+use Rattle.std.proofs.Common.{suc, ◌<◌, List, [], ◌∷◌, All, AllPairs, ℤ, suc-le-suc, arith}
 use Rattle.std.proofs.lemmas.List.Elements.{recursion_from_All}
 use Rattle.cfs_model.specs.Charge.{IsInRange}
-use Rattle.cfs_model.specs.Order.{RunTogether, PidsRise, OneRuns, IsStart}
-use Rattle.cfs_model.specs.declared.task.Place.TheVariants.{Run}
+use Rattle.cfs_model.specs.Order.{RunTogether, RunApart, PidsRise, OneRuns, IsStart}
 use Rattle.cfs_model.specs.declared.task.Task.{Task}
-
--- two tasks run apart
-abbrev pub RunApart : Task → Task → Type 0
-RunApart t u = t.place ≡ Run → u.place ≡ Run → t.cpu ≢ u.cpu
 
 -- a fact of each pair, of the first with each later one and of the pairs after it
 pair_head : (R : Task → Task → Type 0) (t : Task) (tasks : List Task) → AllPairs R (t ∷ tasks) → All (λ u. R t u) tasks

@@ -19,7 +19,8 @@ use Rattle.replay_model.specs.declared.step.Deed.TheVariants.{Switch, Wake, Born
 use Rattle.replay_model.specs.declared.step.Step.{Step}
 use Rattle.cfs_model.specs.declared.task.Place.TheVariants.{Run}
 use Rattle.cfs_model.specs.declared.task.Task.{Task}
-use Rattle.companion_file.specs.Reading.{IsClaimInLimits, IsTaskInLimits, RunApart}
+use Rattle.cfs_model.specs.Order.{RunApart}
+use Rattle.companion_file.specs.Reading.{IsClaimInLimits, IsTaskInLimits}
 use Rattle.sched_record.specs.Kept.{RecordView, IsRecordInOrder, IsNamed, tasks_of}
 use Rattle.sched_record.specs.Share.{IsShare, OwnsClaim, cut_of, tasks_of_deed}
 use Rattle.sched_record.proofs.Pairs.{pairs_map, pairs_filter, found_in}

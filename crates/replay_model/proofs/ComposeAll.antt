@@ -14,7 +14,7 @@ use Rattle.replay_model.specs.Following.{TimesRise}
 use Rattle.replay_model.specs.Page.{ReplayStateView, IsReplay}
 use Rattle.replay_model.specs.Composition.{LinesRise, roll_after, BirthsAreNew, TicketsAgree}
 use Rattle.replay_model.proofs.Bounded.{bounded}
-use Rattle.replay_model.proofs.Follow.{Follows, part_idles, Advanced, advance}
+use Rattle.replay_model.proofs.Follow.{KeepsUp, part_idles, Advanced, advance}
 use Rattle.replay_model.proofs.Followed.{idles_rest, idles_tail, Still}
 use Rattle.replay_model.proofs.Roll.{RollIs, roll_step}
 use Rattle.replay_model.proofs.TicketLines.{all_map, lines_up_to, left_of, came_of, left_tickets, came_tickets}
@@ -24,7 +24,7 @@ use Rattle.replay_model.specs.declared.page.Ticket.{Ticket}
 -- all replays at a machine before some events
 pub record AtEvents (knobs : Settings) (m : Machine) (time : ℕ) (s : ℕ → ReplayStateView) (events : List Claimed)
     (end : ℕ → ReplayStateView) (alive : ℕ → Bool) : Type 0 where
-  pub follows : (cpu : ℕ) → Follows cpu m time (s cpu)
+  pub follows : (cpu : ℕ) → KeepsUp cpu m time (s cpu)
   pub replays : (cpu : ℕ) → IsReplay knobs cpu (s cpu) (steps_at cpu events) (end cpu)
   pub no_fault : (cpu : ℕ) → (end cpu).page.fault ≡ None
   pub in_time : (cpu pid : ℕ) → ¬ IsIdleTooLong knobs.slack (end cpu).since (last_time_of time events) pid
@@ -142,7 +142,7 @@ at_most a b c d h k = omega arith
 
 -- the slack with one more state before
 slack_before : (slack : ℕ) (m : Machine) (states : List Machine) (time : ℕ) (times : List ℕ) (s : ℕ → ReplayStateView)
-    → ((cpu : ℕ) → Follows cpu m time (s cpu))
+    → ((cpu : ℕ) → KeepsUp cpu m time (s cpu))
     → ((cpu x : ℕ) → (s cpu).since ≡ Some x → (j : ℕ) → 0 < j → j < length (m ∷ states) → IdlesFrom (m ∷ states) cpu 0 j
     → slice_index (time ∷ times) j ≤ x + slack)
     → KeepsSlack slack times states → KeepsSlack slack (time ∷ times) (m ∷ states)
@@ -155,7 +155,7 @@ slack_before slack m states time times s f still rest cpu (suc i) (suc j) h k id
 
 -- one more event before a composed run
 add_first : (knobs : Settings) (m after : Machine) (time : ℕ) (s : ℕ → ReplayStateView) (event : Claimed)
-    (events : List Claimed) (end : ℕ → ReplayStateView) → ((cpu : ℕ) → Follows cpu m time (s cpu))
+    (events : List Claimed) (end : ℕ → ReplayStateView) → ((cpu : ℕ) → KeepsUp cpu m time (s cpu))
     → IsStep knobs m event after → ((cpu x : ℕ) → (s cpu).since ≡ Some x → event.entry.time ≤ x + knobs.slack)
     → (a : (cpu : ℕ) → Advanced knobs cpu event after (s cpu) events (end cpu))
     → ComposedAll knobs after event.entry.time (λ cpu. (a cpu).next) events

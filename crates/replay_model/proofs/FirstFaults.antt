@@ -36,8 +36,8 @@ run_has_no_fault knobs start floors tasks events line cause run f =
     f.ends (run_up_to knobs start first f.before f.rest f.event (subst (IsRun knobs start first) f.whole run))
 
 -- where a list is cut twice: at one place, or the first events and the event of one cut are among the other's first
-abbrev IsWithin : List Claimed → Claimed → List Claimed → Type 0
-IsWithin before event other = (more : List Claimed) × (other ≡ before ++ event ∷ more)
+abbrev HasBefore : List Claimed → Claimed → List Claimed → Type 0
+HasBefore before event other = (more : List Claimed) × (other ≡ before ++ event ∷ more)
 
 heads : (x y : Claimed) (xs ys : List Claimed) → x ∷ xs ≡ y ∷ ys → x ≡ y
 heads x y xs ys e = cc
@@ -47,7 +47,7 @@ tails x y xs ys e = cc
 
 cut_twice : (before other rest more : List Claimed) (event that : Claimed)
     → before ++ event ∷ rest ≡ other ++ that ∷ more
-    → ((before ≡ other) × (event ≡ that)) ⊎ IsWithin before event other ⊎ IsWithin other that before
+    → ((before ≡ other) × (event ≡ that)) ⊎ HasBefore before event other ⊎ HasBefore other that before
 cut_twice [] [] rest more event that e = inl (refl, heads event that rest more e)
 cut_twice [] (y ∷ other) rest more event that e =
     inr (inl (other, ap (λ x. x ∷ other) (sym (heads event y rest (other ++ that ∷ more) e))))

@@ -19,7 +19,7 @@ use Rattle.replay_model.proofs.Idles.{idle_part, part_idle}
 use Rattle.replay_model.proofs.SwitchClear.{no_some, same_some}
 
 -- a replay is where the machine is: its part, and since when the processor has idled, if it does
-pub record Follows (cpu : ℕ) (m : Machine) (time : ℕ) (s : ReplayStateView) : Type 0 where
+pub record KeepsUp (cpu : ℕ) (m : Machine) (time : ℕ) (s : ReplayStateView) : Type 0 where
   pub order : IsInOrder m
   pub part : part_of m cpu ≡ s.part
   pub told : IsIdlePart s.part → (x : ℕ) × (s.since ≡ Some x)
@@ -28,11 +28,11 @@ pub record Follows (cpu : ℕ) (m : Machine) (time : ℕ) (s : ReplayStateView) 
   pub fault : s.page.fault ≡ None
 
 -- the machine's state idles where the replay tells since when
-pub state_idles : (cpu : ℕ) (m : Machine) (time : ℕ) (s : ReplayStateView) → Follows cpu m time s → (x : ℕ) → s.since ≡ Some x
+pub state_idles : (cpu : ℕ) (m : Machine) (time : ℕ) (s : ReplayStateView) → KeepsUp cpu m time s → (x : ℕ) → s.since ≡ Some x
     → IsIdle m cpu
 state_idles cpu m time s f x e = part_idle m (apart_of m f.order) cpu (subst IsIdlePart (sym f.part) (f.idles x e))
 
-pub part_idles : (cpu : ℕ) (m : Machine) (time : ℕ) (s : ReplayStateView) → Follows cpu m time s → IsIdle m cpu
+pub part_idles : (cpu : ℕ) (m : Machine) (time : ℕ) (s : ReplayStateView) → KeepsUp cpu m time s → IsIdle m cpu
     → IsIdlePart s.part
 part_idles cpu m time s f i = subst IsIdlePart f.part (idle_part m (apart_of m f.order) cpu i)
 
@@ -40,7 +40,7 @@ part_idles cpu m time s f i = subst IsIdlePart f.part (idle_part m (apart_of m f
 pub record Advanced (knobs : Settings) (cpu : ℕ) (event : Claimed) (after : Machine) (s : ReplayStateView)
     (events : List Claimed) (last : ReplayStateView) : Type 0 where
   pub next : ReplayStateView
-  pub follows : Follows cpu after event.entry.time next
+  pub follows : KeepsUp cpu after event.entry.time next
   pub replay : IsReplay knobs cpu next (steps_at cpu events) last
   pub begun : (x : ℕ) → next.since ≡ Some x → (s.since ≡ Some x) ⊎ (x ≡ event.entry.time)
   pub kept : (x : ℕ) → s.since ≡ Some x → IsIdlePart next.part → next.since ≡ Some x
@@ -86,7 +86,7 @@ not_too_long slack (Some x) time pid h k = let a : time ≤ x + slack = h x refl
 -- an event that touches the processor
 advance_here : (knobs : Settings) (cpu : ℕ) (m : Machine) (time : ℕ) (s : ReplayStateView) (event : Claimed) (after : Machine)
     (events : List Claimed) (last : ReplayStateView)
-    → Follows cpu m time s → IsInOrder after → time ≤ event.entry.time
+    → KeepsUp cpu m time s → IsInOrder after → time ≤ event.entry.time
     → ((x : ℕ) → s.since ≡ Some x → event.entry.time ≤ x + knobs.slack)
     → PartStep knobs cpu (part_of m cpu) (step_at cpu event) (part_of after cpu)
     → IsReplay knobs cpu s (step_at cpu event ∷ steps_at cpu events) last → Advanced knobs cpu event after s events last
@@ -128,7 +128,7 @@ advance_here knobs cpu m time s event after events last f o late slack step r = 
 -- an event that touches another
 advance_away : (knobs : Settings) (cpu : ℕ) (m : Machine) (time : ℕ) (s : ReplayStateView) (event : Claimed) (after : Machine)
     (events : List Claimed) (last : ReplayStateView)
-    → Follows cpu m time s → IsInOrder after → time ≤ event.entry.time → part_of after cpu ≡ part_of m cpu
+    → KeepsUp cpu m time s → IsInOrder after → time ≤ event.entry.time → part_of after cpu ≡ part_of m cpu
     → IsReplay knobs cpu s (steps_at cpu events) last → Advanced knobs cpu event after s events last
 advance_away knobs cpu m time s event after events last f o late same r = record {
   next = s;
@@ -148,7 +148,7 @@ advance_away knobs cpu m time s event after events last f o late same r = record
 
 pub advance : (knobs : Settings) (cpu : ℕ) (m : Machine) (time : ℕ) (s : ReplayStateView) (event : Claimed) (after : Machine)
     (events : List Claimed) (last : ReplayStateView)
-    → Follows cpu m time s → IsStep knobs m event after → time ≤ event.entry.time
+    → KeepsUp cpu m time s → IsStep knobs m event after → time ≤ event.entry.time
     → ((x : ℕ) → s.since ≡ Some x → event.entry.time ≤ x + knobs.slack)
     → IsReplay knobs cpu s (steps_at cpu (event ∷ events)) last → Advanced knobs cpu event after s events last
 advance knobs cpu m time s event after events last f step late slack r =

@@ -15,7 +15,7 @@ use Rattle.replay_model.specs.Page.{ReplayStateView, IsSince, IsStartOf}
 use Rattle.cfs_model.proofs.StartOrder.{start_in_order}
 use Rattle.replay_model.proofs.StartPart.{start_part_is}
 use Rattle.replay_model.proofs.SwitchClear.{no_some}
-use Rattle.replay_model.proofs.Follow.{Follows, since_idles, since_told, since_begun, part_idles}
+use Rattle.replay_model.proofs.Follow.{KeepsUp, since_idles, since_told, since_begun, part_idles}
 use Rattle.replay_model.proofs.Followed.{Still, Followed, follow}
 use Rattle.cfs_model.specs.declared.task.Task.{Task}
 
@@ -26,7 +26,7 @@ starts_at start part since h x e = elim (since_begun None start part since h x e
 
 pub follows_start : (start : ℕ) (floors : List ℤ) (tasks : List Task) (events : List Claimed) (cpu : ℕ)
     (first : ReplayStateView) → IsStart floors tasks
-    → IsStartOf (cut start floors tasks events cpu) first → Follows cpu (start_machine start floors tasks) start first
+    → IsStartOf (cut start floors tasks events cpu) first → KeepsUp cpu (start_machine start floors tasks) start first
 follows_start start floors tasks events cpu first s h = record {
   order = start_in_order start floors tasks s;
   part = start_part_is start floors tasks s cpu ∙ sym h.part;

@@ -8,7 +8,7 @@ use Rattle.cfs_model.specs.Run.{AreSteps, times_of}
 use Rattle.replay_model.specs.Cut.{steps_at, last_time_of}
 use Rattle.replay_model.specs.Following.{TimesRise, last_of}
 use Rattle.replay_model.specs.Page.{ReplayStateView, IsReplay}
-use Rattle.replay_model.proofs.Follow.{Follows, state_idles, part_idles, advance}
+use Rattle.replay_model.proofs.Follow.{KeepsUp, state_idles, part_idles, advance}
 use Rattle.replay_model.proofs.SwitchClear.{same_some}
 
 -- more idle states: one before, and all but the first
@@ -49,7 +49,7 @@ pub record BeginsAt (cpu : ℕ) (times : List ℕ) (states : List Machine) (x : 
 
 pub record Followed (cpu : ℕ) (m : Machine) (time : ℕ) (s : ReplayStateView) (events : List Claimed) (states : List Machine)
     (last : ReplayStateView) : Type 0 where
-  pub at : Follows cpu (last_of m states) (last_time_of time events) last
+  pub at : KeepsUp cpu (last_of m states) (last_time_of time events) last
   pub begun : (x : ℕ) → last.since ≡ Some x
       → ((s.since ≡ Some x) × IdlesFrom (m ∷ states) cpu 0 (length (m ∷ states)))
       ⊎ BeginsAt cpu (times_of time events) (m ∷ states) x
@@ -57,7 +57,7 @@ pub record Followed (cpu : ℕ) (m : Machine) (time : ℕ) (s : ReplayStateView)
   pub longest : (i : ℕ) → i < length (m ∷ states) → IdlesFrom (m ∷ states) cpu i (length (m ∷ states)) → (x : ℕ)
       → last.since ≡ Some x → x ≤ slice_index (times_of time events) i
 
-followed_none : (cpu : ℕ) (m : Machine) (time : ℕ) (s last : ReplayStateView) → Follows cpu m time s → last ≡ s
+followed_none : (cpu : ℕ) (m : Machine) (time : ℕ) (s last : ReplayStateView) → KeepsUp cpu m time s → last ≡ s
     → Followed cpu m time s [] [] last
 followed_none cpu m time s last f e = subst (Followed cpu m time s [] []) (sym e) (record {
   at = f;
@@ -73,7 +73,7 @@ followed_none cpu m time s last f e = subst (Followed cpu m time s [] []) (sym e
 -- the slack of a processor one event later
 still_more : (slack cpu : ℕ) (m : Machine) (time : ℕ) (s : ReplayStateView) (event : Claimed) (events : List Claimed)
     (after : Machine) (states : List Machine) (next : ReplayStateView)
-    → Follows cpu m time s → Still slack cpu m time s (event ∷ events) (after ∷ states)
+    → KeepsUp cpu m time s → Still slack cpu m time s (event ∷ events) (after ∷ states)
     → KeepsSlack slack (times_of time (event ∷ events)) (m ∷ after ∷ states)
     → ((x : ℕ) → next.since ≡ Some x → (s.since ≡ Some x) ⊎ (x ≡ event.entry.time))
     → Still slack cpu after event.entry.time next events states
@@ -93,7 +93,7 @@ keeps_more slack time times m states h cpu i j a b idles = h cpu (suc i) (suc j)
 -- one more event before what was followed
 followed_more : (cpu : ℕ) (m : Machine) (time : ℕ) (s : ReplayStateView) (event : Claimed) (events : List Claimed)
     (after : Machine) (states : List Machine) (next last : ReplayStateView)
-    → Follows cpu m time s → Follows cpu after event.entry.time next
+    → KeepsUp cpu m time s → KeepsUp cpu after event.entry.time next
     → ((x : ℕ) → next.since ≡ Some x → (s.since ≡ Some x) ⊎ (x ≡ event.entry.time))
     → ((x : ℕ) → s.since ≡ Some x → IsIdle after cpu → next.since ≡ Some x)
     → Followed cpu after event.entry.time next events states last
@@ -144,7 +144,7 @@ followed_more cpu m time s event events after states next last f g begun kept h 
 
 pub follow : (knobs : Settings) (cpu : ℕ) (m : Machine) (time : ℕ) (s : ReplayStateView) (events : List Claimed)
     (states : List Machine) (last : ReplayStateView)
-    → Follows cpu m time s → AreSteps knobs m events states → TimesRise time events
+    → KeepsUp cpu m time s → AreSteps knobs m events states → TimesRise time events
     → Still knobs.slack cpu m time s events states
     → KeepsSlack knobs.slack (times_of time events) (m ∷ states) → IsReplay knobs cpu s (steps_at cpu events) last
     → Followed cpu m time s events states last

@@ -9,7 +9,7 @@ use Rattle.replay_model.specs.Cut.{touches, step_at, steps_at, last_line_after}
 use Rattle.replay_model.specs.Noted.{PageView}
 use Rattle.replay_model.specs.Page.{ReplayStateView, IsReplay}
 use Rattle.replay_model.specs.Composition.{LinesRise, IsRecord}
-use Rattle.replay_model.proofs.FrontReplay.{FailsFirst, fault_of, first_step, away}
+use Rattle.replay_model.proofs.FrontReplay.{FailsFirst, step_fault_of, first_step, away}
 use Rattle.replay_model.proofs.Fronts.{AtFront}
 use Rattle.replay_model.proofs.StepLines.{lines_back, rise_from}
 use Rattle.replay_model.proofs.SwitchClear.{no_some, same_some}
@@ -28,7 +28,7 @@ fault_above knobs cpu s (event ∷ events) end line fault n rise r f = go (touch
   where
     failed : FailsFirst knobs cpu s event end → line < fault.line
     failed p =
-        let here = fault_of knobs cpu s (step_at cpu event) p.failed p.fails in
+        let here = step_fault_of knobs cpu s (step_at cpu event) p.failed p.fails in
         let same : here ≡ fault = same_some end.page.fault here fault p.last f in
         subst (λ (x : StepFault). line < x.line) same rise.0
 

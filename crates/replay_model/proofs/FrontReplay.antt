@@ -13,18 +13,18 @@ use Rattle.replay_model.specs.declared.page.StepFault.{StepFault}
 use Rattle.replay_model.specs.declared.step.Step.{Step}
 
 -- the fault of a step that fails
-abbrev pub fault_of : (knobs : Settings) (cpu : ℕ) (s : ReplayStateView) (step : Step) (failed : ReplayStateView)
+abbrev pub step_fault_of : (knobs : Settings) (cpu : ℕ) (s : ReplayStateView) (step : Step) (failed : ReplayStateView)
     → FailsStep knobs cpu s step failed → StepFault
-fault_of knobs cpu s step failed f =
+step_fault_of knobs cpu s step failed f =
     record { line = step.line; kind = f.kind; pid = f.pid; deadline = deadline_of f.kind knobs.slack s.since }
 
 -- it is the last
 pub fails_last : (knobs : Settings) (cpu : ℕ) (s : ReplayStateView) (step : Step) (failed : ReplayStateView)
     (steps : List Step) (end : ReplayStateView) (f : FailsStep knobs cpu s step failed)
-    → IsReplay knobs cpu failed steps end → end.page.fault ≡ Some (fault_of knobs cpu s step failed f)
+    → IsReplay knobs cpu failed steps end → end.page.fault ≡ Some (step_fault_of knobs cpu s step failed f)
 fails_last knobs cpu s step failed steps end f r =
-    let e : failed.page.fault ≡ Some (fault_of knobs cpu s step failed f) = ap (λ x. x.page.fault) f.result in
-    ap (λ x. x.page.fault) (stays_faulted knobs cpu failed steps end (fault_of knobs cpu s step failed f) e r) ∙ e
+    let e : failed.page.fault ≡ Some (step_fault_of knobs cpu s step failed f) = ap (λ x. x.page.fault) f.result in
+    ap (λ x. x.page.fault) (stays_faulted knobs cpu failed steps end (step_fault_of knobs cpu s step failed f) e r) ∙ e
 
 -- an event's step passes, or fails with the replay's last fault
 pub record PassesFirst (knobs : Settings) (cpu : ℕ) (s : ReplayStateView) (event : Claimed) (events : List Claimed)
@@ -37,7 +37,7 @@ pub record FailsFirst (knobs : Settings) (cpu : ℕ) (s : ReplayStateView) (even
     (end : ReplayStateView) : Type 0 where
   pub failed : ReplayStateView
   pub fails : FailsStep knobs cpu s (step_at cpu event) failed
-  pub last : end.page.fault ≡ Some (fault_of knobs cpu s (step_at cpu event) failed fails)
+  pub last : end.page.fault ≡ Some (step_fault_of knobs cpu s (step_at cpu event) failed fails)
 
 pub first_step : (knobs : Settings) (cpu : ℕ) (s : ReplayStateView) (event : Claimed) (events : List Claimed)
     (end : ReplayStateView) → s.page.fault ≡ None → touches cpu event ≡ true
@@ -71,8 +71,8 @@ pub no_fault_here : (knobs : Settings) (cpu : ℕ) (s : ReplayStateView) (event 
     → (¬ IdlesBefore event o) → (¬ FailsHere event o) → ¬ FailsFirst knobs cpu s event end
 no_fault_here knobs cpu s event end o is idles here f = go (deadline_of f.fails.kind knobs.slack s.since) refl
   where
-    same : o ≡ Some (fault_of knobs cpu s (step_at cpu event) f.failed f.fails)
-    same = is (fault_of knobs cpu s (step_at cpu event) f.failed f.fails) f.last
+    same : o ≡ Some (step_fault_of knobs cpu s (step_at cpu event) f.failed f.fails)
+    same = is (step_fault_of knobs cpu s (step_at cpu event) f.failed f.fails) f.last
 
     go : (d : Option ℕ) → deadline_of f.fails.kind knobs.slack s.since ≡ d → ⊥
     go None h = here (subst (FailsHere event) (sym same) (h, refl))

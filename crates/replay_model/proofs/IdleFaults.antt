@@ -10,7 +10,7 @@ use Rattle.replay_model.specs.Following.{TimesRise}
 use Rattle.replay_model.specs.Page.{ReplayStateView, IsReplay}
 use Rattle.replay_model.proofs.Deadlines.{IsDue, with_deadline, idling_fails}
 use Rattle.replay_model.proofs.Follow.{since_begun}
-use Rattle.replay_model.proofs.FrontReplay.{FailsFirst, fault_of, first_step, away}
+use Rattle.replay_model.proofs.FrontReplay.{FailsFirst, step_fault_of, first_step, away}
 use Rattle.replay_model.proofs.SwitchClear.{no_some, same_some}
 use Rattle.replay_model.proofs.WholeReplay.{PageFault}
 use Rattle.replay_model.specs.declared.page.StepFault.{StepFault}
@@ -40,8 +40,8 @@ idling_is_told knobs cpu s (event ∷ events) end time x o n e late rise r is = 
       | inl p ↦ absurd (p.passes.in_time 0 (subst (λ y. IsIdleTooLong knobs.slack y event.entry.time 0) (sym e)
           (due, refl)))
       | inr p ↦ (
-        fault_of knobs cpu s (step_at cpu event) p.failed p.fails,
-        is.of_step (fault_of knobs cpu s (step_at cpu event) p.failed p.fails) p.last,
+        step_fault_of knobs cpu s (step_at cpu event) p.failed p.fails,
+        is.of_step (step_fault_of knobs cpu s (step_at cpu event) p.failed p.fails) p.last,
         idling_fails knobs cpu s (step_at cpu event) p.fails.kind p.fails.pid x p.fails.fails e due,
       )
     ]
@@ -79,7 +79,7 @@ told_idles knobs cpu s (event ∷ events) end time bound deadline o n below abov
 
     failed : FailsFirst knobs cpu s event end → IsDue knobs.slack s.since deadline bound
     failed p =
-        let fault = fault_of knobs cpu s (step_at cpu event) p.failed p.fails in
+        let fault = step_fault_of knobs cpu s (step_at cpu event) p.failed p.fails in
         let same : fault ≡ f.0 = same_some o fault f.0 (is.of_step fault p.last) f.1 in
         let d = with_deadline knobs cpu s (step_at cpu event) p.fails.kind p.fails.pid deadline p.fails.fails
         (ap (λ (x : StepFault). x.deadline) same ∙ f.2) in

@@ -13,7 +13,7 @@ use Rattle.replay_model.specs.Composition.{LinesRise}
 use Rattle.replay_model.specs.Cause.{Cause, FailsOn}
 use Rattle.replay_model.specs.Closing.{IdlesBefore, FailsHere, IsPageCause}
 use Rattle.replay_model.proofs.Deadlines.{without_deadline}
-use Rattle.replay_model.proofs.FrontReplay.{PassesFirst, FailsFirst, fault_of, first_step, away, no_fault_here}
+use Rattle.replay_model.proofs.FrontReplay.{PassesFirst, FailsFirst, step_fault_of, first_step, away, no_fault_here}
 use Rattle.replay_model.proofs.Fronts.{Back}
 use Rattle.replay_model.proofs.IdleFaults.{idling_is_told, told_idles}
 use Rattle.replay_model.proofs.StepLines.{rise_from}
@@ -41,7 +41,7 @@ no_later_fault knobs cpu s (event ∷ events) end slack time line o fault n rise
   where
     failed : FailsFirst knobs cpu s event end → ⊥
     failed p =
-        let here = fault_of knobs cpu s (step_at cpu event) p.failed p.fails in
+        let here = step_fault_of knobs cpu s (step_at cpu event) p.failed p.fails in
         let same : here ≡ fault = same_some o here fault (is.of_step here p.last) e in
         let line_is : event.entry.line ≡ line = ap (λ (x : StepFault). x.line) same ∙ at in
         let above : line < event.entry.line = rise.0 in
@@ -109,7 +109,7 @@ module _ (knobs : Settings) (start : ℕ) (before rest : List Claimed) (event : 
     where
       failed : FailsFirst knobs cpu mid event b.end → FailsThere knobs cpu mid event cause
       failed p =
-          let fault = fault_of knobs cpu mid (step_at cpu event) p.failed p.fails in
+          let fault = step_fault_of knobs cpu mid (step_at cpu event) p.failed p.fails in
           let same : c.fault ≡ fault = same_some page.fault c.fault fault c.is_fault (b.fault.of_step fault p.last) in
           let kind : p.fails.kind ≡ cause.kind = sym (ap (λ x. x.kind) c.is ∙ ap (λ (x : StepFault). x.kind) same) in
           let pid : p.fails.pid ≡ cause.pid = sym (ap (λ x. x.pid) c.is ∙ ap (λ (x : StepFault). x.pid) same) in

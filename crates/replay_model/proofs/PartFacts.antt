@@ -2,7 +2,7 @@
 use Rattle.std.proofs.Common.{◌≡◌, ℕ, Bool, true, false, Option, Some, None, IsSome, option_map, ℤ, refl, sym, ap, ◌∙◌, subst, true≢false}
 use mathlib.Core.Path.{fun_ext}
 use Rattle.cfs_model.specs.Machine.{Machine, pairs_of, Stands}
-use Rattle.replay_model.specs.Part.{Part, Entity, place_by, entity_by, entity_of, part_of, IsIn}
+use Rattle.replay_model.specs.Part.{Part, Entity, place_by, entity_by, entity_at, part_of, IsIn}
 use Rattle.cfs_model.proofs.KeptOrder.{IsApart}
 use Rattle.cfs_model.specs.declared.task.Place.{Place}
 use Rattle.cfs_model.specs.declared.task.Place.TheVariants.{Run, Wait, Rest}
@@ -65,7 +65,7 @@ pub record StandsAs (m : Machine) (cpu pid : ℕ) (s : Entity) : Type 0 where
   pub nice : m.nice pid ≡ Some s.nice
   pub runtime : m.runtime pid ≡ Some s.runtime
 
-pub stands_as : (m : Machine) (cpu pid : ℕ) (s : Entity) → entity_of m cpu pid ≡ Some s → StandsAs m cpu pid s
+pub stands_as : (m : Machine) (cpu pid : ℕ) (s : Entity) → entity_at m cpu pid ≡ Some s → StandsAs m cpu pid s
 stands_as m cpu pid s e =
     let p = parts_of (place_by (m.running cpu pid) (m.waiting cpu pid) (m.resting cpu pid)) (m.nice pid)
     (m.runtime pid) s e in
@@ -90,7 +90,7 @@ place_alone false false false Rest h alone = absurd (true≢false (sym h))
 pub stander_at : (m : Machine) (place : Place) (cpu pid : ℕ) (nice v : ℤ) → Stands m place cpu pid
     → ((other : Place) → Stands m other cpu pid → other ≡ place)
     → m.nice pid ≡ Some nice → m.runtime pid ≡ Some v
-    → entity_of m cpu pid ≡ Some (record { place = place; nice = nice; runtime = v })
+    → entity_at m cpu pid ≡ Some (record { place = place; nice = nice; runtime = v })
 stander_at m place cpu pid nice v h alone e f =
     let at : place_by (m.running cpu pid) (m.waiting cpu pid) (m.resting cpu pid) ≡ Some place =
     place_alone (m.running cpu pid) (m.waiting cpu pid) (m.resting cpu pid) place (pairs_by m cpu pid place ∙ h)
@@ -101,7 +101,7 @@ stander_at m place cpu pid nice v h alone e f =
 -- a task that stands in an ordered machine is of the part
 pub is_stander : (m : Machine) → IsApart m → (place : Place) (cpu pid : ℕ) (nice v : ℤ) → Stands m place cpu pid
     → m.nice pid ≡ Some nice → m.runtime pid ≡ Some v
-    → entity_of m cpu pid ≡ Some (record { place = place; nice = nice; runtime = v })
+    → entity_at m cpu pid ≡ Some (record { place = place; nice = nice; runtime = v })
 is_stander m a place cpu pid nice v h e f =
     stander_at m place cpu pid nice v h (λ other k. (a.one_place pid other place cpu cpu k h).0) e f
 
@@ -111,7 +111,7 @@ some_value (Some v) h = (v, refl)
 
 -- whoever stands in an ordered machine has values
 pub values_of : (m : Machine) → IsApart m → (place : Place) (cpu pid : ℕ) → Stands m place cpu pid
-    → (s : Entity) × (s.place ≡ place) × (entity_of m cpu pid ≡ Some s) × StandsAs m cpu pid s
+    → (s : Entity) × (s.place ≡ place) × (entity_at m cpu pid ≡ Some s) × StandsAs m cpu pid s
 values_of m a place cpu pid h =
     let n = some_value (m.nice pid) ((a.nices pid).1 (place, cpu, h)) in
     let v = some_value (m.runtime pid) ((a.runtimes pid).1 (place, cpu, h)) in
@@ -132,7 +132,7 @@ no_place m cpu pid h = go (place_by (m.running cpu pid) (m.waiting cpu pid) (m.r
 
 -- who stands nowhere at the processor is none of the part
 pub no_stander : (m : Machine) (cpu pid : ℕ) → ((place : Place) → ¬ Stands m place cpu pid)
-    → entity_of m cpu pid ≡ None
+    → entity_at m cpu pid ≡ None
 no_stander m cpu pid h = ap (λ p. entity_by p (m.nice pid) (m.runtime pid)) (no_place m cpu pid h)
 
 -- a pid is in a place of the part where it stands there in the machine, and where it is so a task of the part says so

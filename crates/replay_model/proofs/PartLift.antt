@@ -5,7 +5,7 @@ use Rattle.std.proofs.lemmas.Int.{ints, by_lt_z}
 use Rattle.cfs_model.specs.Charge.{greatest}
 use Rattle.cfs_model.specs.Machine.{Machine, Stands, IsQueued, with_floor}
 use Rattle.cfs_model.specs.Lifted.{cost_at, charged, charged_runtime, CanCharge, IsRaised, IsLiftedAt}
-use Rattle.replay_model.specs.Part.{Part, Entity, place_by, entity_by, entity_of, part_of, cost_in, runtime_after, charged_in, charged_part, IsQueuedHere, IsRaisedHere, IsLiftedPart}
+use Rattle.replay_model.specs.Part.{Part, Entity, place_by, entity_by, entity_at, part_of, cost_in, runtime_after, charged_in, charged_part, IsQueuedHere, IsRaisedHere, IsLiftedPart}
 use Rattle.replay_model.specs.QueueTests.{IsOutOfRange}
 use Rattle.cfs_model.proofs.KeptOrder.{IsApart}
 use Rattle.cfs_model.proofs.Moves.{put-same, put-other}
@@ -14,24 +14,24 @@ use Rattle.cfs_model.specs.declared.task.Place.{Place}
 use Rattle.cfs_model.specs.declared.task.Place.TheVariants.{Run, Wait, Rest}
 
 -- a task after the charge, by its marks and its values
-charged_by : (r w s : Bool) (n v : Option ℤ) (cost : ℤ → ℕ)
+charged_place : (r w s : Bool) (n v : Option ℤ) (cost : ℤ → ℕ)
     → entity_by (place_by r w s) n (cond r (option_and_then (λ nice. option_map (λ u. u +ℤ pos (cost nice)) v) n) v)
     ≡ option_map (λ (t : Entity). record t { runtime = runtime_after t.place (cost t.nice) t.runtime })
     (entity_by (place_by r w s) n v)
-charged_by true w s None v cost = refl
-charged_by true w s (Some n) None cost = refl
-charged_by true w s (Some n) (Some v) cost = refl
-charged_by false true s None v cost = refl
-charged_by false true s (Some n) None cost = refl
-charged_by false true s (Some n) (Some v) cost = refl
-charged_by false false true None v cost = refl
-charged_by false false true (Some n) None cost = refl
-charged_by false false true (Some n) (Some v) cost = refl
-charged_by false false false n v cost = refl
+charged_place true w s None v cost = refl
+charged_place true w s (Some n) None cost = refl
+charged_place true w s (Some n) (Some v) cost = refl
+charged_place false true s None v cost = refl
+charged_place false true s (Some n) None cost = refl
+charged_place false true s (Some n) (Some v) cost = refl
+charged_place false false true None v cost = refl
+charged_place false false true (Some n) None cost = refl
+charged_place false false true (Some n) (Some v) cost = refl
+charged_place false false false n v cost = refl
 
 charged_here : (m : Machine) (cpu time pid : ℕ)
-    → entity_of (charged m cpu time) cpu pid ≡ option_map (charged_in (part_of m cpu) time) (entity_of m cpu pid)
-charged_here m cpu time pid = charged_by (m.running cpu pid) (m.waiting cpu pid) (m.resting cpu pid) (m.nice pid)
+    → entity_at (charged m cpu time) cpu pid ≡ option_map (charged_in (part_of m cpu) time) (entity_at m cpu pid)
+charged_here m cpu time pid = charged_place (m.running cpu pid) (m.waiting cpu pid) (m.resting cpu pid) (m.nice pid)
     (m.runtime pid) (cost_at m cpu time)
 
 -- the part of a charged machine with a floor
@@ -60,7 +60,7 @@ charged_elsewhere m a cpu time f d ne =
 -- every task that stands at the processor has values
 abbrev HaveValues : Machine → ℕ → Type 0
 HaveValues m cpu = (place : Place) (pid : ℕ) → Stands m place cpu pid
-    → (s : Entity) × (s.place ≡ place) × (entity_of m cpu pid ≡ Some s) × StandsAs m cpu pid s
+    → (s : Entity) × (s.place ≡ place) × (entity_at m cpu pid ≡ Some s) × StandsAs m cpu pid s
 
 charged_sets : (m : Machine) (cpu time : ℕ) (place : Place) (d pid : ℕ) → Stands (charged m cpu time) place d pid
     → Stands m place d pid
@@ -71,7 +71,7 @@ charged_sets m cpu time Rest d pid h = h
 charged_values : (m : Machine) → IsApart m → (cpu time : ℕ) → HaveValues (charged m cpu time) cpu
 charged_values m a cpu time place pid h =
     let s = values_of m a place cpu pid (charged_sets m cpu time place cpu pid h) in
-    let e : entity_of (charged m cpu time) cpu pid ≡ Some (charged_in (part_of m cpu) time s.0) =
+    let e : entity_at (charged m cpu time) cpu pid ≡ Some (charged_in (part_of m cpu) time s.0) =
     charged_here m cpu time pid ∙ ap (option_map (charged_in (part_of m cpu) time)) s.2 in (
       charged_in (part_of m cpu) time s.0,
       s.1,
@@ -86,7 +86,7 @@ queued_of m cpu pid Wait ne h = inr h
 queued_of m cpu pid Rest ne h = absurd (ne refl)
 
 queued_here : (m : Machine) (cpu : ℕ) → HaveValues m cpu → (pid : ℕ) → IsQueued m cpu pid
-    → (s : Entity) × IsQueuedHere s × (entity_of m cpu pid ≡ Some s) × StandsAs m cpu pid s
+    → (s : Entity) × IsQueuedHere s × (entity_at m cpu pid ≡ Some s) × StandsAs m cpu pid s
 queued_here m cpu g pid (inl h) = let s = g Run pid h in (s.0, (λ e. let k : Run ≡ Rest = sym s.1 ∙ e in cc), s.2, s.3)
 queued_here m cpu g pid (inr h) = let s = g Wait pid h in
     (s.0, (λ e. let k : Wait ≡ Rest = sym s.1 ∙ e in cc), s.2, s.3)

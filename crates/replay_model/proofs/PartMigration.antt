@@ -5,7 +5,7 @@ use Rattle.cfs_model.specs.Settings.{Settings}
 use Rattle.cfs_model.specs.Machine.{Machine, Stands, put_pair, pairs_of, with_pairs, with_move, without_task, with_runtime}
 use Rattle.cfs_model.specs.Claimed.{ClaimSays}
 use Rattle.cfs_model.specs.Step.{MovesBy, IsMigration}
-use Rattle.replay_model.specs.Part.{Part, Entity, part_of, entity_of}
+use Rattle.replay_model.specs.Part.{Part, Entity, part_of, entity_at}
 use Rattle.replay_model.specs.Deeds.{after_deed, with_entity, place_of_sort, left_ticket, came_ticket}
 use Rattle.replay_model.specs.ClaimTests.{IsClaimMissing, IsClaimExtra, IsClaimPid}
 use Rattle.cfs_model.proofs.FloorsRise.{floor-with_pairs}
@@ -215,8 +215,8 @@ tickets_equal m a orig dest pid line nice claim after s =
     ∙ sym (claim_ticket (part_of m dest) line pid nice claim s.sort s.place
     ((s.own -ℤ m.floor orig) +ℤ m.floor dest) s.moves s.claimed)
 
-value_of : (own fo v fd : ℤ) → (own -ℤ fo) ≡ (v -ℤ fd) → v ≡ ((own -ℤ fo) +ℤ fd)
-value_of own fo v fd e = omega (arith, ints)
+moved_value : (own fo v fd : ℤ) → (own -ℤ fo) ≡ (v -ℤ fd) → v ≡ ((own -ℤ fo) +ℤ fd)
+moved_value own fo v fd e = omega (arith, ints)
 
 -- parts that pass the tests of a leave and an arrival, with equal tickets, let the machine move the task
 pub migration_exists : (knobs : Settings) (m : Machine) → IsApart m
@@ -226,9 +226,9 @@ pub migration_exists : (knobs : Settings) (m : Machine) → IsApart m
     → left_ticket (part_of m orig) line pid ≡ came_ticket (part_of m dest) line pid nice claim
     → (after : Machine) × IsMigration m orig dest pid nice claim after
 migration_exists knobs m a orig dest pid line nice None l c t = absurd (c.missing pid (refl, (λ x. x)))
-migration_exists knobs m a orig dest pid line nice (Some claim) l c t = go (entity_of m orig pid) refl t
+migration_exists knobs m a orig dest pid line nice (Some claim) l c t = go (entity_at m orig pid) refl t
   where
-    go : (o : Option Entity) → entity_of m orig pid ≡ o
+    go : (o : Option Entity) → entity_at m orig pid ≡ o
         → option_map (λ (s : Entity). let x : Ticket = record
         { line = line; pid = pid; nice = s.nice; place = s.place; offset = s.runtime -ℤ m.floor orig } in x) o
         ≡ came_ticket (part_of m dest) line pid nice (Some claim)
@@ -246,7 +246,7 @@ migration_exists knobs m a orig dest pid line nice (Some claim) l c t = go (enti
         } in
         let same : left ≡ came = same_some (Some left) left came refl t in
         let k = stands_as m orig pid s e in
-        let v : claim.v ≡ ((s.runtime -ℤ m.floor orig) +ℤ m.floor dest) = value_of s.runtime (m.floor orig) claim.v
+        let v : claim.v ≡ ((s.runtime -ℤ m.floor orig) +ℤ m.floor dest) = moved_value s.runtime (m.floor orig) claim.v
         (m.floor dest) (ap (λ (x : Ticket). x.offset) same) in
         let who : claim.pid ≡ pid = elim
         (same_or_not claim.pid pid) [ inl e ↦ e | inr ne ↦ absurd (c.other claim.pid ((pid, refl, ne), refl)) ] in (

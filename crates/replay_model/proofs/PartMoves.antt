@@ -1,7 +1,7 @@
 -- What a task that is placed anew, or is gone, does to each processor's part.
 use Rattle.std.proofs.Common.{◌≡◌, ◌≢◌, ℕ, Bool, true, false, Option, Some, None, option_map, ℤ, ◌⊎◌, inl, inr, refl, sym, ap, ◌∙◌}
 use Rattle.cfs_model.specs.Machine.{Machine, Stands, put}
-use Rattle.replay_model.specs.Part.{Entity, place_by, entity_by, entity_of, part_of}
+use Rattle.replay_model.specs.Part.{Entity, place_by, entity_by, entity_at, part_of}
 use Rattle.replay_model.specs.Deeds.{with_entity, goes}
 use Rattle.cfs_model.proofs.KeptOrder.{IsApart}
 use Rattle.cfs_model.proofs.Moves.{put-same, put-other, same_or_not, IsPutAt, IsGone}
@@ -17,7 +17,7 @@ same_truth false false f g = refl
 -- a pid that stands in the same places with the same values is the same task
 same_stander : (m after : Machine) (d q : ℕ) → ((r : Place) → Stands m r d q → Stands after r d q)
     → ((r : Place) → Stands after r d q → Stands m r d q)
-    → after.nice q ≡ m.nice q → after.runtime q ≡ m.runtime q → entity_of after d q ≡ entity_of m d q
+    → after.nice q ≡ m.nice q → after.runtime q ≡ m.runtime q → entity_at after d q ≡ entity_at m d q
 same_stander m after d q up down e f =
     let r : after.running d q ≡ m.running d q = same_truth _ _ (down Run) (up Run) in
     let w : after.waiting d q ≡ m.waiting d q = same_truth _ _ (down Wait) (up Wait) in
@@ -52,7 +52,7 @@ pub placed_part : (m after : Machine) (pid : ℕ) (to : Place) (dest : ℕ) (nic
 placed_part m after pid to dest nice v p k e f =
     let s : Option Entity = Some (record { place = to; nice = nice; runtime = v }) in
     same_part (part_of after dest) (with_entity (part_of m dest) pid s)
-    (put_tasks (entity_of m dest) (entity_of after dest) pid s
+    (put_tasks (entity_at m dest) (entity_at after dest) pid s
     (stander_at after to dest pid nice v p.itself
     (λ r h. elim (p.cases r dest pid h) [ inl x ↦ x.1 | inr x ↦ absurd (x.0 refl) ]) e f)
     (λ q ne. same_stander m after dest q (λ r h. p.kept r dest q ne h)
@@ -66,7 +66,7 @@ pub placed_away : (m after : Machine) (pid : ℕ) (to : Place) (dest : ℕ) → 
     → (d : ℕ) → d ≢ dest → part_of after d ≡ with_entity (part_of m d) pid None
 placed_away m after pid to dest p k d ne =
     same_part (part_of after d) (with_entity (part_of m d) pid None)
-    (put_tasks (entity_of m d) (entity_of after d) pid None
+    (put_tasks (entity_at m d) (entity_at after d) pid None
     (no_stander after d pid (λ r h. elim (p.cases r d pid h) [ inl x ↦ ne x.2 | inr x ↦ x.0 refl ]))
     (λ q other. same_stander m after d q (λ r h. p.kept r d q other h)
     (λ r h. elim (p.cases r d q h) [ inl x ↦ absurd (other x.0) | inr x ↦ x.1 ])
@@ -78,7 +78,7 @@ pub gone_part : (m after : Machine) (pid : ℕ) → IsGone m after pid → Keeps
     → part_of after d ≡ with_entity (part_of m d) pid None
 gone_part m after pid p k d =
     same_part (part_of after d) (with_entity (part_of m d) pid None)
-    (put_tasks (entity_of m d) (entity_of after d) pid None
+    (put_tasks (entity_at m d) (entity_at after d) pid None
     (no_stander after d pid (λ r h. (p.cases r d pid h).0 refl))
     (λ q other. same_stander m after d q (λ r h. p.kept r d q other h) (λ r h. (p.cases r d q h).1) (k.nices q other)
     (k.runtimes q other)))
@@ -89,7 +89,7 @@ pub none_there : (m : Machine) (d pid : ℕ) → ((r : Place) → ¬ Stands m r 
     → with_entity (part_of m d) pid None ≡ part_of m d
 none_there m d pid h =
     sym (same_part (part_of m d) (with_entity (part_of m d) pid None)
-    (put_tasks (entity_of m d) (entity_of m d) pid None (no_stander m d pid h) (λ q ne. refl)) refl refl)
+    (put_tasks (entity_at m d) (entity_at m d) pid None (no_stander m d pid h) (λ q ne. refl)) refl refl)
 
 -- who stands at one processor stands at no other
 pub elsewhere : (m : Machine) → IsApart m → (place : Place) (cpu pid : ℕ) → Stands m place cpu pid → (d : ℕ) → d ≢ cpu

@@ -7,7 +7,7 @@ use Rattle.cfs_model.specs.Settings.{Settings}
 use Rattle.cfs_model.specs.Machine.{Machine, Stands, with_move, with_runtime, with_nice, with_task}
 use Rattle.cfs_model.specs.Claimed.{ClaimSays}
 use Rattle.cfs_model.specs.Step.{IsWakeQueued, IsWakeResting, IsBirth}
-use Rattle.replay_model.specs.Part.{Part, Entity, part_of, entity_of, place_in}
+use Rattle.replay_model.specs.Part.{Part, Entity, part_of, entity_at, place_in}
 use Rattle.replay_model.specs.Deeds.{after_deed, with_entity, woken, wakes}
 use Rattle.replay_model.specs.ClaimTests.{if_resting}
 use Rattle.cfs_model.proofs.KeptOrder.{IsApart, same_sets}
@@ -113,7 +113,7 @@ bounds_of low high v h =
 
 -- a wakeup of one who runs or waits
 queued_exists : (knobs : Settings) (m : Machine) → IsApart m
-    → (cpu pid : ℕ) (nice : ℤ) (claim : Option Claim) (s : Entity) → entity_of m cpu pid ≡ Some s
+    → (cpu pid : ℕ) (nice : ℤ) (claim : Option Claim) (s : Entity) → entity_at m cpu pid ≡ Some s
     → if_resting pid (Some s.place) ≡ None → Stands m Run cpu pid ⊎ Stands m Wait cpu pid
     → IsClear knobs cpu (part_of m cpu) (Wake pid nice) claim → IsWakeQueued m cpu pid nice claim m
 queued_exists knobs m a cpu pid nice None s e f q c =
@@ -129,7 +129,7 @@ queued_exists knobs m a cpu pid nice (Some claim) s e f q c =
 
 -- a wakeup of one who rests
 resting_exists : (knobs : Settings) (m : Machine) → IsApart m
-    → (cpu pid : ℕ) (nice : ℤ) (claim : Option Claim) (s : Entity) → entity_of m cpu pid ≡ Some s → s.place ≡ Rest
+    → (cpu pid : ℕ) (nice : ℤ) (claim : Option Claim) (s : Entity) → entity_at m cpu pid ≡ Some s → s.place ≡ Rest
     → IsClear knobs cpu (part_of m cpu) (Wake pid nice) claim
     → (after : Machine) × IsWakeResting knobs m cpu pid nice claim after
 resting_exists knobs m a cpu pid nice None s e f c =
@@ -165,9 +165,9 @@ resting_exists knobs m a cpu pid nice (Some claim) s e f c =
 pub wake_exists : (knobs : Settings) (m : Machine) → IsApart m → (cpu pid : ℕ) (nice : ℤ) (claim : Option Claim)
     → IsClear knobs cpu (part_of m cpu) (Wake pid nice) claim
     → (after : Machine) × (IsWakeQueued m cpu pid nice claim after ⊎ IsWakeResting knobs m cpu pid nice claim after)
-wake_exists knobs m a cpu pid nice claim c = go (entity_of m cpu pid) refl
+wake_exists knobs m a cpu pid nice claim c = go (entity_at m cpu pid) refl
   where
-    at : (s : Entity) → entity_of m cpu pid ≡ Some s → (place : Place) → s.place ≡ place
+    at : (s : Entity) → entity_at m cpu pid ≡ Some s → (place : Place) → s.place ≡ place
         → (after : Machine) × (IsWakeQueued m cpu pid nice claim after ⊎ IsWakeResting knobs m cpu pid nice claim after)
     at s e Run f = (
       m,
@@ -183,7 +183,7 @@ wake_exists knobs m a cpu pid nice claim c = go (entity_of m cpu pid) refl
     )
     at s e Rest f = let w = resting_exists knobs m a cpu pid nice claim s e f c in (w.0, inr w.1)
 
-    go : (o : Option Entity) → entity_of m cpu pid ≡ o
+    go : (o : Option Entity) → entity_at m cpu pid ≡ o
         → (after : Machine) × (IsWakeQueued m cpu pid nice claim after ⊎ IsWakeResting knobs m cpu pid nice claim after)
     go None e = absurd (c.strange pid (e, refl))
     go (Some s) e = at s e s.place refl

@@ -4,7 +4,7 @@ use Rattle.std.proofs.lemmas.Int.{by_lt_z}
 use Rattle.cfs_model.specs.Settings.{Settings}
 use Rattle.cfs_model.specs.Machine.{Machine, Stands, with_move, without_task, without_values}
 use Rattle.cfs_model.specs.Step.{IsCurrent, PrintsOwn, IsPutBack, after_prev, IsPick, after_next, IsSwitch}
-use Rattle.replay_model.specs.Part.{Part, part_of, entity_of, place_in, IsIn}
+use Rattle.replay_model.specs.Part.{Part, part_of, entity_at, place_in, IsIn}
 use Rattle.replay_model.specs.Deeds.{part_after_prev, part_after_next, after_deed}
 use Rattle.replay_model.specs.QueueTests.{IsRunner, HasOtherNice, HasOtherPrio}
 use Rattle.cfs_model.proofs.KeptOrder.{IsApart, same_sets}
@@ -140,7 +140,7 @@ pick_of knobs m between a cpu prev pn way (suc n) nn claim e ne c =
     elim (place_or (place_in (part_of m cpu) (suc n)) Wait)
     [ inl f ↦ f | inr other ↦ absurd (c.next (suc n) (other, refl)) ] in
     let s = task_in (part_of m cpu) Wait (suc n) here in
-    let after : entity_of between cpu (suc n) ≡ Some s.0 = ap (λ x. x.tasks (suc n)) e
+    let after : entity_at between cpu (suc n) ≡ Some s.0 = ap (λ x. x.tasks (suc n)) e
     ∙ prev_others (part_of m cpu) prev way (suc n) (λ f. ne (sym f)) ∙ s.1 in
     let t = stands_as between cpu (suc n) s.0 after in (
       s.0.runtime,

@@ -4,7 +4,7 @@ use Rattle.cfs_model.specs.Settings.{Settings}
 use Rattle.cfs_model.specs.Machine.{Machine, Stands, IsQueued}
 use Rattle.cfs_model.specs.Claimed.{ClaimSays}
 use Rattle.cfs_model.specs.Step.{IsWakeQueued, IsWakeResting, IsBirth}
-use Rattle.replay_model.specs.Part.{Part, Entity, part_of, entity_of, IsIn}
+use Rattle.replay_model.specs.Part.{Part, Entity, part_of, entity_at, IsIn}
 use Rattle.replay_model.specs.ClaimTests.{if_resting, claimant, HasClaim, IsClaimMissing, IsClaimExtra, IsClaimPid, IsInWakeBounds, IsWakeOutside, IsInForkBounds, IsForkOutside}
 use Rattle.cfs_model.proofs.KeptOrder.{IsApart}
 use Rattle.replay_model.proofs.PartFacts.{stands_as, is_in}
@@ -20,8 +20,8 @@ use Rattle.cfs_model.specs.declared.task.Place.TheVariants.{Run, Wait, Rest}
 -- a deed whose claim says what is needed has it, of the right pid, and not too much
 pub said_missing : (part : Part) (deed : Deed) (claim : Option Claim) (task : ℕ) (v : ℤ) → ClaimSays claim At task v
     → ((c : Claim) → c.sort ≡ At → HasClaim deed (Some c)) → (pid : ℕ) → ¬ IsClaimMissing part deed claim pid
-said_missing part deed None task v h has pid k = h
-said_missing part deed (Some claim) task v h has pid k = k.1 (has claim h.0)
+said_missing part deed None task v h has_tally pid k = h
+said_missing part deed (Some claim) task v h has_tally pid k = k.1 (has_tally claim h.0)
 
 pub said_pid : (part : Part) (deed : Deed) (claim : Option Claim) (task : ℕ) (v : ℤ) → ClaimSays claim At task v
     → claimant part deed ≡ Some task → (pid : ℕ) → ¬ IsClaimPid part deed claim pid
@@ -44,7 +44,7 @@ queued_place m a cpu pid (inl h) = (Run, refl, is_in m a Run cpu pid h)
 queued_place m a cpu pid (inr h) = (Wait, refl, is_in m a Wait cpu pid h)
 
 pub not_strange : (m : Machine) (place : Place) (cpu pid : ℕ) → IsIn (part_of m cpu) place pid
-    → entity_of m cpu pid ≡ None → ⊥
+    → entity_at m cpu pid ≡ None → ⊥
 not_strange m place cpu pid h e = no_some place (sym (ap (option_map (λ (t : Entity). t.place)) e) ∙ h)
 
 queued_clear : (knobs : Settings) (m : Machine) → IsApart m → (cpu pid : ℕ) (nice : ℤ) (after : Machine)
@@ -124,10 +124,10 @@ birth_fork knobs m cpu pid nice (Some claim) after s q k =
     k.0 (subst (λ x. IsInForkBounds knobs.debit (m.floor cpu) x) (sym s.claimed.2) (s.from, s.to))
 
 pub nowhere_none : (m : Machine) (cpu pid : ℕ) → ((place : Place) → ¬ Stands m place cpu pid)
-    → IsSome (entity_of m cpu pid) → ⊥
-nowhere_none m cpu pid h k = go (entity_of m cpu pid) refl k
+    → IsSome (entity_at m cpu pid) → ⊥
+nowhere_none m cpu pid h k = go (entity_at m cpu pid) refl k
   where
-    go : (o : Option Entity) → entity_of m cpu pid ≡ o → IsSome o → ⊥
+    go : (o : Option Entity) → entity_at m cpu pid ≡ o → IsSome o → ⊥
     go None e k = true≢false (sym k)
     go (Some s) e k = h s.place (stands_as m cpu pid s e).stands
 

@@ -5,7 +5,7 @@ use Rattle.std.specs.List.{AllByRecursion}
 use Rattle.cfs_model.specs.Machine.{Stands}
 use Rattle.cfs_model.specs.Start.{named_in, task_of, start_machine}
 use Rattle.cfs_model.specs.Order.{PidsRise, IsStart}
-use Rattle.replay_model.specs.Part.{Entity, entity_of, part_of, start_part}
+use Rattle.replay_model.specs.Part.{Entity, entity_at, part_of, start_part}
 use Rattle.replay_model.specs.Cut.{tasks_at}
 use Rattle.cfs_model.proofs.StartOrder.{named_task, task_named, start_in_order}
 use Rattle.cfs_model.proofs.StepOrder.{apart_of}
@@ -42,11 +42,11 @@ found_at (t ∷ tasks) rise cpu pid = go (nat_eq t.pid pid) (nat_eq t.cpu cpu) r
         (rw f (h ∙ ap (option_and_then (kept_at cpu))
         (ap (task_of tasks) (sym (eqb-true t.pid pid e)) ∙ none_above t.pid tasks rise.0)))
 
-pub named : (start : ℕ) (floors : List ℤ) (tasks : List Task) (place : Place) (cpu pid : ℕ)
+pub named_there : (start : ℕ) (floors : List ℤ) (tasks : List Task) (place : Place) (cpu pid : ℕ)
     → Stands (start_machine start floors tasks) place cpu pid → named_in tasks place cpu pid ≡ true
-named start floors tasks Run cpu pid h = h
-named start floors tasks Wait cpu pid h = h
-named start floors tasks Rest cpu pid h = h
+named_there start floors tasks Run cpu pid h = h
+named_there start floors tasks Wait cpu pid h = h
+named_there start floors tasks Rest cpu pid h = h
 
 stands_named : (start : ℕ) (floors : List ℤ) (tasks : List Task) (place : Place) (cpu pid : ℕ)
     → named_in tasks place cpu pid ≡ true → Stands (start_machine start floors tasks) place cpu pid
@@ -58,12 +58,12 @@ abbrev stander_at_start : Task → Entity
 stander_at_start t = record { place = t.place; nice = t.nice; runtime = t.v }
 
 start_stander : (start : ℕ) (floors : List ℤ) (tasks : List Task) → IsStart floors tasks → (cpu pid : ℕ)
-    → entity_of (start_machine start floors tasks) cpu pid ≡ option_map stander_at_start
+    → entity_at (start_machine start floors tasks) cpu pid ≡ option_map stander_at_start
     (option_and_then (kept_at cpu) (task_of tasks pid))
 start_stander start floors tasks s cpu pid = go (task_of tasks pid) refl
   where
     at : (t : Task) → task_of tasks pid ≡ Some t → (b : Bool) → nat_eq t.cpu cpu ≡ b
-        → entity_of (start_machine start floors tasks) cpu pid ≡ option_map stander_at_start (cond b (Some t) None)
+        → entity_at (start_machine start floors tasks) cpu pid ≡ option_map stander_at_start (cond b (Some t) None)
     at t e true f =
         let h : Stands (start_machine start floors tasks) t.place cpu pid = stands_named start floors tasks t.place cpu
         pid (subst (λ x. named_in tasks t.place x pid ≡ true) (eqb-true t.cpu cpu f) (task_named tasks pid t e)) in
@@ -73,17 +73,17 @@ start_stander start floors tasks s cpu pid = go (task_of tasks pid) refl
         (ap (option_map (λ (x : Task). x.nice)) e) (ap (option_map (λ (x : Task). x.v)) e)
     at t e false f =
         no_stander (start_machine start floors tasks) cpu pid (λ place h.
-        let w = named_task tasks s.pids_rise place cpu pid (named start floors tasks place cpu pid h) in
+        let w = named_task tasks s.pids_rise place cpu pid (named_there start floors tasks place cpu pid h) in
         let same : Some w.0 ≡ Some t = sym w.1 ∙ e in
         let k : w.0 ≡ t = cc in
         eqb-false t.cpu cpu f (ap (λ (x : Task). x.cpu) (sym k) ∙ w.2))
 
     go : (o : Option Task) → task_of tasks pid ≡ o
-        → entity_of (start_machine start floors tasks) cpu pid ≡ option_map stander_at_start
+        → entity_at (start_machine start floors tasks) cpu pid ≡ option_map stander_at_start
         (option_and_then (kept_at cpu) o)
     go None e =
         no_stander (start_machine start floors tasks) cpu pid (λ place h.
-        let w = named_task tasks s.pids_rise place cpu pid (named start floors tasks place cpu pid h) in
+        let w = named_task tasks s.pids_rise place cpu pid (named_there start floors tasks place cpu pid h) in
         let k : None ≡ Some w.0 = sym e ∙ w.1 in
         absurd cc)
     go (Some t) e = at t e (nat_eq t.cpu cpu) refl

@@ -16,7 +16,7 @@ use Rattle.replay_model.specs.Composition.{LinesRise, BirthIsNew, ticket_at, Tic
 use Rattle.replay_model.proofs.PartSteps.{machine_steps}
 use Rattle.replay_model.proofs.MigrationSteps.{machine_migrates}
 use Rattle.replay_model.proofs.Replayed.{first_passes}
-use Rattle.replay_model.proofs.Follow.{Follows, touched_steps}
+use Rattle.replay_model.proofs.Follow.{KeepsUp, touched_steps}
 use Rattle.replay_model.proofs.ShiftTickets.{goes_elsewhere, left_is, came_is}
 use Rattle.replay_model.proofs.Roll.{RollIs, born_nowhere}
 use Rattle.replay_model.proofs.TicketLines.{all_map}
@@ -58,7 +58,7 @@ part_step knobs cpu m s event next e p = record {
 -- all replays at a machine, and what they come to
 pub record AtEvent (knobs : Settings) (m : Machine) (time : ℕ) (s : ℕ → ReplayStateView) (event : Claimed)
     (events : List Claimed) (end : ℕ → ReplayStateView) (alive : ℕ → Bool) : Type 0 where
-  pub follows : (cpu : ℕ) → Follows cpu m time (s cpu)
+  pub follows : (cpu : ℕ) → KeepsUp cpu m time (s cpu)
   pub replays : (cpu : ℕ) → IsReplay knobs cpu (s cpu) (steps_at cpu (event ∷ events)) (end cpu)
   pub no_fault : (cpu : ℕ) → (end cpu).page.fault ≡ None
   pub lines : ℕ

@@ -4,7 +4,7 @@ use Rattle.std.proofs.lemmas.Int.{ints}
 use Rattle.cfs_model.specs.Settings.{Settings}
 use Rattle.cfs_model.specs.Machine.{Machine, Stands}
 use Rattle.cfs_model.specs.Step.{IsCurrent, PrintsOwn, IsPutBack, after_prev, IsPick, IsSwitch}
-use Rattle.replay_model.specs.Part.{Entity, part_of, entity_of, IsIn}
+use Rattle.replay_model.specs.Part.{Entity, part_of, entity_at, IsIn}
 use Rattle.replay_model.specs.Deeds.{part_after_prev}
 use Rattle.replay_model.specs.QueueTests.{IsRunner, HasOtherNice, HasOtherPrio}
 use Rattle.replay_model.specs.ClaimTests.{IsClaimMissing, IsClaimExtra, IsClaimPid, IsWrongPutBack, IsNextNotWaiting, IsIdleBesideWaiting, IsNotLeast}
@@ -83,7 +83,7 @@ module _ (m : Machine) (cpu : ℕ) (pn : ℤ) (next : ℕ) (nn : ℤ) where
 module _ (granularity : ℕ) (m between : Machine) (a : IsApart between) (cpu prev : ℕ) (pn : ℤ) (way : Way) (nn : ℤ)
     (e : part_of between cpu ≡ part_after_prev (part_of m cpu) prev way) where
   before_next : (next : ℕ) → prev ≢ next → (s : Option Entity) → (part_of m cpu).tasks next ≡ s
-      → entity_of between cpu next ≡ s
+      → entity_at between cpu next ≡ s
   before_next next ne s h = ap (λ x. x.tasks next) e ∙ prev_others (part_of m cpu) prev way next (λ f. ne (sym f)) ∙ h
 
   next_waits : (next : ℕ) → prev ≢ next → IsPick granularity between cpu next → (pid : ℕ)

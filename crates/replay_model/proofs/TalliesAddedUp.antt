@@ -22,7 +22,7 @@ use Rattle.replay_model.proofs.StartPart.{start_part_is}
 use Rattle.replay_model.proofs.TalliesSaid.{said, Once, all_said}
 use Rattle.replay_model.proofs.TalliesAtStart.{tallies_at_start}
 use Rattle.replay_model.proofs.TalliesKept.{once_kept}
-use Rattle.replay_model.proofs.TalliesInRun.{Amount, ran_by, charged_by, picked_by, share_of, told}
+use Rattle.replay_model.proofs.TalliesInRun.{Amount, ran_by, charged_by, picked_by, amount_at, told}
 use Rattle.replay_model.proofs.TalliesShared.{sum_below, below_same, all_shares, given_by, given_is_added, given_is_counted}
 use Rattle.replay_model.specs.declared.page.Tally.{Tally}
 use Rattle.cfs_model.specs.declared.task.Task.{Task}
@@ -77,9 +77,9 @@ page_end knobs start floors tasks events cpus pages r enough say cpu k =
 -- what a page's tallies say of a pid is what the run gives it at the processor
 record PageTotals (cpu : ℕ) (m : Machine) (events : List Claimed) (states : List Machine) (page : PageView)
     : Type 0 where
-  ran : (pid : ℕ) → total_by (λ t. t.ran) pid page.tallies ≡ share_of (ran_by pid) cpu m events states
-  charged : (pid : ℕ) → total_by (λ t. t.charged) pid page.tallies ≡ share_of (charged_by pid) cpu m events states
-  picks : (pid : ℕ) → total_by (λ t. t.picks) pid page.tallies ≡ share_of (picked_by pid) cpu m events states
+  ran : (pid : ℕ) → total_by (λ t. t.ran) pid page.tallies ≡ amount_at (ran_by pid) cpu m events states
+  charged : (pid : ℕ) → total_by (λ t. t.charged) pid page.tallies ≡ amount_at (charged_by pid) cpu m events states
+  picks : (pid : ℕ) → total_by (λ t. t.picks) pid page.tallies ≡ amount_at (picked_by pid) cpu m events states
 
 page_totals : (knobs : Settings) (start : ℕ) (floors : List ℤ) (tasks : List Task) (events : List Claimed) (cpus : ℕ)
     (states : List Machine) (cpu : ℕ) (page : PageView) → IsRecord start floors tasks events cpus
@@ -124,13 +124,13 @@ pages_add_up knobs start floors tasks events cpus pages r enough say = (run, eac
 
     all : (field : Tally → ℕ) (pid : ℕ) (amount : Amount)
         → ((cpu : ℕ) → cpu < cpus → total_by field pid (pages cpu).tallies
-        ≡ share_of amount cpu (start_machine start floors tasks) events run.states)
+        ≡ amount_at amount cpu (start_machine start floors tasks) events run.states)
         → total_by field pid (tallies_below pages cpus)
         ≡ given_by amount (start_machine start floors tasks) events run.states
     all field pid amount h =
         pages_total field pid pages cpus
         ∙ below_same (λ cpu. total_by field pid (pages cpu).tallies)
-        (λ cpu. share_of amount cpu (start_machine start floors tasks) events run.states) cpus h
+        (λ cpu. amount_at amount cpu (start_machine start floors tasks) events run.states) cpus h
         ∙ all_shares knobs amount cpus (start_machine start floors tasks) events run.states run.steps r.events_within
 
     at : (cpu : ℕ) → cpu < cpus → PageTotals cpu (start_machine start floors tasks) events run.states (pages cpu)

@@ -8,7 +8,7 @@ use Rattle.replay_model.specs.Part.{start_part}
 use Rattle.replay_model.specs.Cut.{tasks_at, cut}
 use Rattle.replay_model.specs.Noted.{new_tally}
 use Rattle.replay_model.specs.Page.{ReplayStateView, IsStartOf}
-use Rattle.replay_model.proofs.TalliesSaid.{said, has, Once}
+use Rattle.replay_model.proofs.TalliesSaid.{said, has_tally, Once}
 use Rattle.replay_model.proofs.TalliesCharged.{Covers}
 use Rattle.replay_model.specs.declared.page.Tally.{Tally}
 use Rattle.cfs_model.specs.declared.task.Task.{Task}
@@ -34,20 +34,20 @@ has_found (t ∷ tasks) floor start pid s e = go (nat_eq t.pid pid) e (has_found
     go : (b : Bool)
         → option_map (λ (t : Task). record { place = t.place; nice = t.nice; runtime = t.v })
         (cond b (Some t) (find (λ (u : Task). nat_eq u.pid pid) tasks)) ≡ Some s
-        → ((start_part tasks floor start).tasks pid ≡ Some s → has (idle_tallies tasks) pid ≡ true)
-        → (b || has (idle_tallies tasks) pid) ≡ true
+        → ((start_part tasks floor start).tasks pid ≡ Some s → has_tally (idle_tallies tasks) pid ≡ true)
+        → (b || has_tally (idle_tallies tasks) pid) ≡ true
     go true h rest = refl
     go false h rest = rest h
 
 -- among tasks of greater pids there is none of a pid
 none_above : (cpu n : ℕ) (tasks : List Task) → AllByRecursion (λ (u : Task). n < u.pid) tasks
-    → has (idle_tallies (tasks_at cpu tasks)) n ≡ false
+    → has_tally (idle_tallies (tasks_at cpu tasks)) n ≡ false
 none_above cpu n [] above = refl
 none_above cpu n (t ∷ tasks) above = go (nat_eq t.cpu cpu) (none_above cpu n tasks above.1)
   where
-    go : (b : Bool) → has (idle_tallies (tasks_at cpu tasks)) n ≡ false
-        → has (idle_tallies (cond b (t ∷ tasks_at cpu tasks) (tasks_at cpu tasks))) n ≡ false
-    go true rest = ap (λ b. b || has (idle_tallies (tasks_at cpu tasks)) n)
+    go : (b : Bool) → has_tally (idle_tallies (tasks_at cpu tasks)) n ≡ false
+        → has_tally (idle_tallies (cond b (t ∷ tasks_at cpu tasks) (tasks_at cpu tasks))) n ≡ false
+    go true rest = ap (λ b. b || has_tally (idle_tallies (tasks_at cpu tasks)) n)
         (ne_eqb t.pid n (λ e. let k : n < t.pid = above.0 in absurd (omega arith))) ∙ rest
     go false rest = rest
 
@@ -79,7 +79,7 @@ tallies_at_start start floors tasks events cpu first s h =
       charged = λ pid. ap (λ ts. said (λ t. t.charged) ts pid) are
           ∙ nothing_said (λ t. t.charged) (λ p. refl) mine pid;
       picks = λ pid. ap (λ ts. said (λ t. t.picks) ts pid) are ∙ nothing_said (λ t. t.picks) (λ p. refl) mine pid;
-      covers = λ pid x e. ap (λ ts. has ts pid) are
+      covers = λ pid x e. ap (λ ts. has_tally ts pid) are
           ∙ has_found mine (cut start floors tasks events cpu).floor start pid x
           (ap (λ p. p.tasks pid) (sym h.part) ∙ e);
       once = subst Once (sym are) (once_at cpu tasks s.pids_rise);

@@ -3,7 +3,7 @@
 use Rattle.std.proofs.Common.{◌≡◌, ℕ, ◌+◌, ◌-◌, true, false, Option, Some, None, List, refl, sym, ap, ◌∙◌, arith}
 use Rattle.replay_model.specs.Part.{Part, Entity, cost_in}
 use Rattle.replay_model.specs.Noted.{tallies_after_run, charged_tally, charged_tallies}
-use Rattle.replay_model.proofs.TalliesSaid.{said, has, Once, KeepsPid, has_map, said_map, once_map}
+use Rattle.replay_model.proofs.TalliesSaid.{said, has_tally, Once, KeepsPid, has_map, said_map, once_map}
 use Rattle.replay_model.specs.declared.page.Tally.{Tally}
 use Rattle.cfs_model.specs.declared.task.Place.{Place}
 use Rattle.cfs_model.specs.declared.task.Place.TheVariants.{Run, Wait, Rest}
@@ -74,10 +74,10 @@ module _ (part : Part) (time : ℕ) where
 
 -- each pid that stands at the processor has a tally
 abbrev pub Covers : Part → List Tally → Type 0
-Covers part tallies = (pid : ℕ) (s : Entity) → part.tasks pid ≡ Some s → has tallies pid ≡ true
+Covers part tallies = (pid : ℕ) (s : Entity) → part.tasks pid ≡ Some s → has_tally tallies pid ≡ true
 
 -- who has no tally stands nowhere here
-pub uncovered : (part : Part) (tallies : List Tally) → Covers part tallies → (pid : ℕ) → has tallies pid ≡ false
+pub uncovered : (part : Part) (tallies : List Tally) → Covers part tallies → (pid : ℕ) → has_tally tallies pid ≡ false
     → part.tasks pid ≡ None
 uncovered part tallies covers pid none = go (part.tasks pid) refl
   where
@@ -109,7 +109,7 @@ module _ (part : Part) (time : ℕ) (tallies : List Tally) (covers : Covers part
       (λ tally e. charge_picks part time (part.tasks tally.pid) tally) tallies (λ none. refl)
 
 pub charged_has : (part : Part) (time : ℕ) (tallies : List Tally) (pid : ℕ)
-    → has (charged_tallies part time tallies) pid ≡ has tallies pid
+    → has_tally (charged_tallies part time tallies) pid ≡ has_tally tallies pid
 charged_has part time tallies pid = has_map (charged_one part time) (charge_keeps part time) tallies pid
 
 pub charged_once : (part : Part) (time : ℕ) (tallies : List Tally) → Once tallies

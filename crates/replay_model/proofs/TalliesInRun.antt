@@ -19,7 +19,7 @@ use Rattle.replay_model.proofs.Follow.{touched_steps, untouched_steps}
 use Rattle.replay_model.proofs.OneLift.{step_same_part}
 use Rattle.replay_model.proofs.Replayed.{first_passes}
 use Rattle.replay_model.proofs.Touching.{steps_at_cpu}
-use Rattle.replay_model.proofs.TalliesSaid.{said, has}
+use Rattle.replay_model.proofs.TalliesSaid.{said, has_tally}
 use Rattle.replay_model.proofs.TalliesCharged.{time_of, charge_to, Covers, charged_ran, charged_charged, charged_picks, charged_has}
 use Rattle.replay_model.proofs.TalliesOfDeeds.{picks_of, tallied_ran, tallied_charged, tallied_picks, deed_covers, picked_has}
 use Rattle.replay_model.proofs.TalliesInMachine.{time_is, charge_is}
@@ -43,11 +43,11 @@ abbrev pub picked_by : ℕ → Amount
 picked_by pid m event cpu = cond (picks pid event.entry.act) 1 0
 
 -- what events give at one processor
-abbrev pub share_of : Amount → ℕ → Machine → List Claimed → List Machine → ℕ
-share_of amount cpu m [] states = 0
-share_of amount cpu m (event ∷ events) [] = 0
-share_of amount cpu m (event ∷ events) (after ∷ states) =
-    cond (touches cpu event) (amount m event cpu) 0 + share_of amount cpu after events states
+abbrev pub amount_at : Amount → ℕ → Machine → List Claimed → List Machine → ℕ
+amount_at amount cpu m [] states = 0
+amount_at amount cpu m (event ∷ events) [] = 0
+amount_at amount cpu m (event ∷ events) (after ∷ states) =
+    cond (touches cpu event) (amount m event cpu) 0 + amount_at amount cpu after events states
 
 -- a deed picks whom its event picks
 picks_same : (cpu pid : ℕ) (act : Act) → picks_of (deed_at cpu act) pid ≡ cond (picks pid act) 1 0
@@ -78,7 +78,7 @@ lifted_covers time part lifted tallies l covers pid s e =
     charged_has part time tallies pid ∙ go (part.tasks pid) refl (ap (λ p. p.tasks pid) (sym l.result) ∙ e)
   where
     go : (o : Option Entity) → part.tasks pid ≡ o → option_map (charged_in part time) o ≡ Some s
-        → has tallies pid ≡ true
+        → has_tally tallies pid ≡ true
     go None h k = absurd cc
     go (Some t) h k = covers pid t h
 
@@ -120,22 +120,22 @@ module _ (knobs : Settings) (cpu : ℕ) (m : Machine) (apart : IsApart m) (event
             let c = charged_picks s.part now s.page.tallies covers pid in
             let d = picks_same cpu pid event.entry.act in
             omega arith;
-        covers = λ pid x e. ap (λ ts. has ts pid) tallies_are
+        covers = λ pid x e. ap (λ ts. has_tally ts pid) tallies_are
             ∙ deed_covers p.lifted deed (step_at cpu event).claim after lifted pid x
             (ap (λ q. q.tasks pid) (sym p.part) ∙ e);
       }
 
 -- what the replay of a processor's steps among a run's events makes of the tallies
-pub record Told (cpu : ℕ) (m : Machine) (events : List Claimed) (states : List Machine) (s last : ReplayStateView)
+pub record AreShares (cpu : ℕ) (m : Machine) (events : List Claimed) (states : List Machine) (s last : ReplayStateView)
     : Type 0 where
   pub ran : (pid : ℕ) → said (λ t. t.ran) last.page.tallies pid
-      ≡ said (λ t. t.ran) s.page.tallies pid + share_of (ran_by pid) cpu m events states
+      ≡ said (λ t. t.ran) s.page.tallies pid + amount_at (ran_by pid) cpu m events states
   pub charged : (pid : ℕ) → said (λ t. t.charged) last.page.tallies pid
-      ≡ said (λ t. t.charged) s.page.tallies pid + share_of (charged_by pid) cpu m events states
+      ≡ said (λ t. t.charged) s.page.tallies pid + amount_at (charged_by pid) cpu m events states
   pub picks : (pid : ℕ) → said (λ t. t.picks) last.page.tallies pid
-      ≡ said (λ t. t.picks) s.page.tallies pid + share_of (picked_by pid) cpu m events states
+      ≡ said (λ t. t.picks) s.page.tallies pid + amount_at (picked_by pid) cpu m events states
 
-told_none : (cpu : ℕ) (m : Machine) (s last : ReplayStateView) → last ≡ s → Told cpu m [] [] s last
+told_none : (cpu : ℕ) (m : Machine) (s last : ReplayStateView) → last ≡ s → AreShares cpu m [] [] s last
 told_none cpu m s last e = record {
   ran = λ pid. let k = ap (λ x. said (λ t. t.ran) x.page.tallies pid) e in omega arith;
   charged = λ pid. let k = ap (λ x. said (λ t. t.charged) x.page.tallies pid) e in omega arith;
@@ -145,20 +145,20 @@ told_none cpu m s last e = record {
 -- the share of an event that touches the processor, and of one that doesn't
 share_here : (amount : Amount) (cpu : ℕ) (m : Machine) (event : Claimed) (events : List Claimed) (after : Machine)
     (states : List Machine) → touches cpu event ≡ true
-    → share_of amount cpu m (event ∷ events) (after ∷ states)
-    ≡ amount m event cpu + share_of amount cpu after events states
+    → amount_at amount cpu m (event ∷ events) (after ∷ states)
+    ≡ amount m event cpu + amount_at amount cpu after events states
 share_here amount cpu m event events after states t =
-    ap (λ b. cond b (amount m event cpu) 0 + share_of amount cpu after events states) t
+    ap (λ b. cond b (amount m event cpu) 0 + amount_at amount cpu after events states) t
 
 share_away : (amount : Amount) (cpu : ℕ) (m : Machine) (event : Claimed) (events : List Claimed) (after : Machine)
     (states : List Machine) → touches cpu event ≡ false
-    → share_of amount cpu m (event ∷ events) (after ∷ states) ≡ share_of amount cpu after events states
+    → amount_at amount cpu m (event ∷ events) (after ∷ states) ≡ amount_at amount cpu after events states
 share_away amount cpu m event events after states t =
-    let e = ap (λ b. cond b (amount m event cpu) 0 + share_of amount cpu after events states) t in omega arith
+    let e = ap (λ b. cond b (amount m event cpu) 0 + amount_at amount cpu after events states) t in omega arith
 
 told_here : (cpu : ℕ) (m : Machine) (event : Claimed) (events : List Claimed) (after : Machine) (states : List Machine)
     (s next last : ReplayStateView) → touches cpu event ≡ true → Grows cpu m event s next
-    → Told cpu after events states next last → Told cpu m (event ∷ events) (after ∷ states) s last
+    → AreShares cpu after events states next last → AreShares cpu m (event ∷ events) (after ∷ states) s last
 told_here cpu m event events after states s next last t g h = record {
   ran = λ pid. let a = h.ran pid in let b = g.ran pid in
       let c = share_here (ran_by pid) cpu m event events after states t in omega arith;
@@ -170,7 +170,7 @@ told_here cpu m event events after states s next last t g h = record {
 
 told_away : (cpu : ℕ) (m : Machine) (event : Claimed) (events : List Claimed) (after : Machine) (states : List Machine)
     (s last : ReplayStateView) → touches cpu event ≡ false
-    → Told cpu after events states s last → Told cpu m (event ∷ events) (after ∷ states) s last
+    → AreShares cpu after events states s last → AreShares cpu m (event ∷ events) (after ∷ states) s last
 told_away cpu m event events after states s last t h = record {
   ran = λ pid. let a = h.ran pid in
       let c = share_away (ran_by pid) cpu m event events after states t in omega arith;
@@ -184,7 +184,7 @@ pub told : (knobs : Settings) (cpu : ℕ) (m : Machine) (s : ReplayStateView) (e
     (states : List Machine) (last : ReplayStateView)
     → IsInOrder m → part_of m cpu ≡ s.part → s.page.fault ≡ None → Covers s.part s.page.tallies
     → AreSteps knobs m events states → IsReplay knobs cpu s (steps_at cpu events) last → last.page.fault ≡ None
-    → Told cpu m events states s last
+    → AreShares cpu m events states s last
 told knobs cpu m s [] [] last o same none covers steps r end = told_none cpu m s last r
 told knobs cpu m s [] (after ∷ states) last o same none covers steps r end = absurd steps
 told knobs cpu m s (event ∷ events) [] last o same none covers steps r end = absurd steps

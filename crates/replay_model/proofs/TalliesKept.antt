@@ -9,7 +9,7 @@ use Rattle.replay_model.specs.Noted.{PageView, charged_tallies, tallied}
 use Rattle.replay_model.specs.Page.{ReplayStateView, IsReplayStep, IsReplay, end_page}
 use Rattle.replay_model.specs.Totals.{TalliesOnce}
 use Rattle.replay_model.proofs.Shares.{end_tallies}
-use Rattle.replay_model.proofs.TalliesSaid.{has, Once}
+use Rattle.replay_model.proofs.TalliesSaid.{has_tally, Once}
 use Rattle.replay_model.proofs.TalliesCharged.{charged_once}
 use Rattle.replay_model.proofs.TalliesOfDeeds.{tallied_once}
 use Rattle.replay_model.proofs.TalliesAtStart.{tallies_at_start}
@@ -59,18 +59,18 @@ once_kept knobs cpu s steps last r once =
     (any_deed steps) r once
 
 -- by index
-other_pid : (pid : ℕ) (tallies : List Tally) → has tallies pid ≡ false → (k : ℕ) (d : Tally) → k < length tallies
+other_pid : (pid : ℕ) (tallies : List Tally) → has_tally tallies pid ≡ false → (k : ℕ) (d : Tally) → k < length tallies
     → pid ≢ (slice_index_or tallies k d).pid
 other_pid pid [] none k d h = absurd (omega arith)
 other_pid pid (tally ∷ tallies) none zero d h = λ e. eqb-false tally.pid pid (first (nat_eq tally.pid pid) none) (sym e)
   where
-    first : (b : Bool) → (b || has tallies pid) ≡ false → b ≡ false
+    first : (b : Bool) → (b || has_tally tallies pid) ≡ false → b ≡ false
     first true h = h
     first false h = refl
 other_pid pid (tally ∷ tallies) none (suc k) d h =
     other_pid pid tallies (rest (nat_eq tally.pid pid) none) k d (omega arith)
   where
-    rest : (b : Bool) → (b || has tallies pid) ≡ false → has tallies pid ≡ false
+    rest : (b : Bool) → (b || has_tally tallies pid) ≡ false → has_tally tallies pid ≡ false
     rest true h = absurd cc
     rest false h = h
 

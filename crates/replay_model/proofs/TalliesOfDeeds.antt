@@ -9,7 +9,7 @@ use Rattle.replay_model.specs.Deeds.{with_entity, goes, part_after_prev, part_af
 use Rattle.replay_model.specs.Noted.{with_tally, tallied}
 use Rattle.cfs_model.proofs.Moves.{put-same, put-other, same_or_not}
 use Rattle.replay_model.proofs.PartFacts.{task_in}
-use Rattle.replay_model.proofs.TalliesSaid.{said, has, Once, KeepsPid, has_map, said_map, once_map, has_with_same, has_with, said_with, once_with}
+use Rattle.replay_model.proofs.TalliesSaid.{said, has_tally, Once, KeepsPid, has_map, said_map, once_map, has_with_same, has_with, said_with, once_with}
 use Rattle.replay_model.proofs.TalliesCharged.{Covers}
 use Rattle.cfs_model.specs.declared.act.Way.{Way}
 use Rattle.cfs_model.specs.declared.act.Way.TheVariants.{Stays, Sleeps, Ends}
@@ -89,7 +89,7 @@ tallied_charged (Leave task nice dest) tallies pid = omega arith
 tallied_charged (Arrive task nice orig) tallies pid =
     let e = said_with task tallies (λ t. t.charged) refl pid in omega arith
 
-pub tallied_picks : (deed : Deed) (tallies : List Tally) (pid : ℕ) → (has tallies pid ≡ false → picks_of deed pid ≡ 0)
+pub tallied_picks : (deed : Deed) (tallies : List Tally) (pid : ℕ) → (has_tally tallies pid ≡ false → picks_of deed pid ≡ 0)
     → said (λ t. t.picks) (tallied deed tallies) pid ≡ said (λ t. t.picks) tallies pid + picks_of deed pid
 tallied_picks (Switch prev pn way zero nn) tallies pid none = omega arith
 tallied_picks (Switch prev pn way (suc n) nn) tallies pid none =
@@ -104,8 +104,8 @@ tallied_picks (Arrive task nice orig) tallies pid none =
     let e = said_with task tallies (λ t. t.picks) refl pid in omega arith
 
 -- who has a tally keeps it, and a pid still has one alone
-pub tallied_has : (deed : Deed) (tallies : List Tally) (pid : ℕ) → has tallies pid ≡ true
-    → has (tallied deed tallies) pid ≡ true
+pub tallied_has : (deed : Deed) (tallies : List Tally) (pid : ℕ) → has_tally tallies pid ≡ true
+    → has_tally (tallied deed tallies) pid ≡ true
 tallied_has (Switch prev pn way zero nn) tallies pid h = h
 tallied_has (Switch prev pn way (suc n) nn) tallies pid h = has_map (pick_one n) (pick_keeps n) tallies pid ∙ h
 tallied_has (Wake task nice) tallies pid h = h
@@ -123,9 +123,9 @@ tallied_once (Arrive task nice orig) tallies once = once_with task tallies once
 
 -- who stands in a part stood there before a change of one pid's task, or is that pid
 put_covers : (part : Part) (tallies : List Tally) (task : ℕ) (o : Option Entity) → Covers part tallies
-    → ((s : Entity) → o ≡ Some s → has tallies task ≡ true) → Covers (with_entity part task o) tallies
+    → ((s : Entity) → o ≡ Some s → has_tally tallies task ≡ true) → Covers (with_entity part task o) tallies
 put_covers part tallies task o covers own pid s e = elim (same_or_not pid task) [
-  | inl same ↦ ap (has tallies) same
+  | inl same ↦ ap (has_tally tallies) same
       ∙ own s (sym (put-same part.tasks task o) ∙ ap (put part.tasks task o) (sym same) ∙ e)
   | inr ne ↦ covers pid s (sym (put-other part.tasks task o pid ne) ∙ e)
 ]
@@ -137,7 +137,7 @@ map_covers part tallies task f covers = put_covers part tallies task (option_map
     (λ s e. go (part.tasks task) refl s e)
   where
     go : (o : Option Entity) → part.tasks task ≡ o → (s : Entity) → option_map f o ≡ Some s
-        → has tallies task ≡ true
+        → has_tally tallies task ≡ true
     go None e s h = absurd cc
     go (Some t) e s h = covers task t e
 
@@ -187,13 +187,13 @@ deed_covers part (Arrive task nice orig) claim tallies covers =
 -- the next task of a switch that passes stands there, so it has a tally
 pub picked_has : (part : Part) (deed : Deed) (tallies : List Tally) → Covers part tallies
     → ((pid : ℕ) → ¬ IsNextNotWaiting part deed pid)
-    → (pid : ℕ) → has tallies pid ≡ false → picks_of deed pid ≡ 0
+    → (pid : ℕ) → has_tally tallies pid ≡ false → picks_of deed pid ≡ 0
 picked_has part (Switch prev pn way zero nn) tallies covers waits pid none = refl
 picked_has part (Switch prev pn way (suc n) nn) tallies covers waits pid none = elim (same_or_not (suc n) pid) [
   | inl e ↦ absurd (waits (suc n) (
     (λ (h : IsIn part Wait (suc n)).
         let s = task_in part Wait (suc n) h in
-        true≢false (sym (covers (suc n) s.0 s.1) ∙ ap (has tallies) e ∙ none)),
+        true≢false (sym (covers (suc n) s.0 s.1) ∙ ap (has_tally tallies) e ∙ none)),
     refl,
   ))
   | inr ne ↦ ap (λ b. cond b 1 0) (ne_eqb (suc n) pid ne)

@@ -21,7 +21,7 @@ use Rattle.replay_model.proofs.Among.{is_among, among_append, among_once, among_
 use Rattle.replay_model.proofs.PagesCompose.{start_roll}
 use Rattle.replay_model.proofs.FrontRun.{pages_tell_run}
 use Rattle.replay_model.proofs.Roll.{RollIs, roll_step, lifted_nice}
-use Rattle.replay_model.proofs.TalliesSaid.{has, KeepsPid}
+use Rattle.replay_model.proofs.TalliesSaid.{has_tally, KeepsPid}
 use Rattle.replay_model.proofs.TalliesCharged.{charged_one, charge_keeps}
 use Rattle.replay_model.proofs.TalliesOfDeeds.{pick_one, pick_keeps}
 use Rattle.replay_model.proofs.TalliesAtStart.{idle_tallies}
@@ -60,7 +60,7 @@ module _ (K : ℕ → Type 0) where
   of_append (x ∷ xs) ys h k = (h.0, of_append xs ys h.1 k)
 
   of_with : (pid : ℕ) (tallies : List Tally) → K pid → AreOf tallies → AreOf (with_tally pid tallies)
-  of_with pid tallies k h = go (has tallies pid)
+  of_with pid tallies k h = go (has_tally tallies pid)
     where
       go : (b : Bool) → AreOf (cond b tallies (tallies ++ new_tally pid ∷ []))
       go true = h

@@ -13,29 +13,29 @@ said field [] pid = 0
 said field (tally ∷ tallies) pid = cond (nat_eq tally.pid pid) (field tally) (said field tallies pid)
 
 -- there is a tally of the pid
-abbrev pub has : List Tally → ℕ → Bool
-has tallies pid = list_any (λ (tally : Tally). nat_eq tally.pid pid) tallies
+abbrev pub has_tally : List Tally → ℕ → Bool
+has_tally tallies pid = list_any (λ (tally : Tally). nat_eq tally.pid pid) tallies
 
 -- a list has at most one tally of each pid
 abbrev pub Once : List Tally → Type 0
 Once [] = Unit {0}
-Once (tally ∷ tallies) = (has tallies tally.pid ≡ false) × Once tallies
+Once (tally ∷ tallies) = (has_tally tallies tally.pid ≡ false) × Once tallies
 
 -- a change of each tally keeps its pid
 abbrev pub KeepsPid : (Tally → Tally) → Type 0
 KeepsPid f = (tally : Tally) → (f tally).pid ≡ tally.pid
 
 pub has_map : (f : Tally → Tally) → KeepsPid f → (tallies : List Tally) (pid : ℕ)
-    → has (map f tallies) pid ≡ has tallies pid
+    → has_tally (map f tallies) pid ≡ has_tally tallies pid
 has_map f keeps [] pid = refl
 has_map f keeps (tally ∷ tallies) pid =
-    ap (λ p. nat_eq p pid || has (map f tallies) pid) (keeps tally)
+    ap (λ p. nat_eq p pid || has_tally (map f tallies) pid) (keeps tally)
     ∙ ap (λ b. nat_eq tally.pid pid || b) (has_map f keeps tallies pid)
 
 -- each tally of the pid grows by as much, so what is said of it does; where it has none, by nothing
 pub said_map : (field : Tally → ℕ) (f : Tally → Tally) → KeepsPid f → (pid more : ℕ)
     → ((tally : Tally) → tally.pid ≡ pid → field (f tally) ≡ field tally + more)
-    → (tallies : List Tally) → (has tallies pid ≡ false → more ≡ 0)
+    → (tallies : List Tally) → (has_tally tallies pid ≡ false → more ≡ 0)
     → said field (map f tallies) pid ≡ said field tallies pid + more
 said_map field f keeps pid more grows [] none = let e : more ≡ 0 = none refl in omega arith
 said_map field f keeps pid more grows (tally ∷ tallies) none =
@@ -43,22 +43,22 @@ said_map field f keeps pid more grows (tally ∷ tallies) none =
     ∙ go (nat_eq tally.pid pid) refl (said_map field f keeps pid more grows tallies)
   where
     go : (b : Bool) → nat_eq tally.pid pid ≡ b
-        → ((has tallies pid ≡ false → more ≡ 0) → said field (map f tallies) pid ≡ said field tallies pid + more)
+        → ((has_tally tallies pid ≡ false → more ≡ 0) → said field (map f tallies) pid ≡ said field tallies pid + more)
         → cond (nat_eq tally.pid pid) (field (f tally)) (said field (map f tallies) pid)
         ≡ cond (nat_eq tally.pid pid) (field tally) (said field tallies pid) + more
     go true e rest = rw e (grows tally (eqb-true tally.pid pid e))
-    go false e rest = rw e (rest (λ h. none (ap (λ b. b || has tallies pid) e ∙ h)))
+    go false e rest = rw e (rest (λ h. none (ap (λ b. b || has_tally tallies pid) e ∙ h)))
 
 pub once_map : (f : Tally → Tally) → KeepsPid f → (tallies : List Tally) → Once tallies → Once (map f tallies)
 once_map f keeps [] once = tt
 once_map f keeps (tally ∷ tallies) once = (
-  ap (has (map f tallies)) (keeps tally) ∙ has_map f keeps tallies tally.pid ∙ once.0,
+  ap (has_tally (map f tallies)) (keeps tally) ∙ has_map f keeps tallies tally.pid ∙ once.0,
   once_map f keeps tallies once.1,
 )
 
 -- one more tally
 has_push : (tallies : List Tally) (more : Tally) (pid : ℕ)
-    → has (tallies ++ more ∷ []) pid ≡ (has tallies pid || nat_eq more.pid pid)
+    → has_tally (tallies ++ more ∷ []) pid ≡ (has_tally tallies pid || nat_eq more.pid pid)
 has_push [] more pid = go (nat_eq more.pid pid)
   where
     go : (b : Bool) → (b || false) ≡ b
@@ -66,7 +66,7 @@ has_push [] more pid = go (nat_eq more.pid pid)
     go false = refl
 has_push (tally ∷ tallies) more pid =
     ap (λ b. nat_eq tally.pid pid || b) (has_push tallies more pid)
-    ∙ go (nat_eq tally.pid pid) (has tallies pid) (nat_eq more.pid pid)
+    ∙ go (nat_eq tally.pid pid) (has_tally tallies pid) (nat_eq more.pid pid)
   where
     go : (a b c : Bool) → (a || (b || c)) ≡ ((a || b) || c)
     go true b c = refl
@@ -82,13 +82,13 @@ said_push field [] more none pid = go (nat_eq more.pid pid)
 said_push field (tally ∷ tallies) more none pid =
     ap (cond (nat_eq tally.pid pid) (field tally)) (said_push field tallies more none pid)
 
-once_push : (tallies : List Tally) (more : Tally) → has tallies more.pid ≡ false → Once tallies
+once_push : (tallies : List Tally) (more : Tally) → has_tally tallies more.pid ≡ false → Once tallies
     → Once (tallies ++ more ∷ [])
 once_push [] more none once = (refl, tt)
 once_push (tally ∷ tallies) more none once = go (nat_eq tally.pid more.pid) refl none (once_push tallies more)
   where
-    go : (b : Bool) → nat_eq tally.pid more.pid ≡ b → (b || has tallies more.pid) ≡ false
-        → (has tallies more.pid ≡ false → Once tallies → Once (tallies ++ more ∷ []))
+    go : (b : Bool) → nat_eq tally.pid more.pid ≡ b → (b || has_tally tallies more.pid) ≡ false
+        → (has_tally tallies more.pid ≡ false → Once tallies → Once (tallies ++ more ∷ []))
         → Once (tally ∷ (tallies ++ more ∷ []))
     go true e h rest = absurd (true≢false h)
     go false e h rest = (
@@ -99,10 +99,10 @@ once_push (tally ∷ tallies) more none once = go (nat_eq tally.pid more.pid) re
 
 -- the tallies with one for a pid
 module _ (pid : ℕ) (tallies : List Tally) where
-  pub has_with_same : has (with_tally pid tallies) pid ≡ true
-  has_with_same = go (has tallies pid) refl
+  pub has_with_same : has_tally (with_tally pid tallies) pid ≡ true
+  has_with_same = go (has_tally tallies pid) refl
     where
-      go : (b : Bool) → has tallies pid ≡ b → has (cond b tallies (tallies ++ new_tally pid ∷ [])) pid ≡ true
+      go : (b : Bool) → has_tally tallies pid ≡ b → has_tally (cond b tallies (tallies ++ new_tally pid ∷ [])) pid ≡ true
       go true e = e
       go false e = has_push tallies (new_tally pid) pid ∙ ap (λ b. b || nat_eq pid pid) e ∙ same
         where
@@ -112,34 +112,34 @@ module _ (pid : ℕ) (tallies : List Tally) where
             | false ↦ λ f. absurd (eqb-false pid pid f refl)
           ] refl
 
-  pub has_with : (other : ℕ) → has tallies other ≡ true → has (with_tally pid tallies) other ≡ true
-  has_with other h = go (has tallies pid)
+  pub has_with : (other : ℕ) → has_tally tallies other ≡ true → has_tally (with_tally pid tallies) other ≡ true
+  has_with other h = go (has_tally tallies pid)
     where
-      go : (b : Bool) → has (cond b tallies (tallies ++ new_tally pid ∷ [])) other ≡ true
+      go : (b : Bool) → has_tally (cond b tallies (tallies ++ new_tally pid ∷ [])) other ≡ true
       go true = h
       go false = has_push tallies (new_tally pid) other ∙ ap (λ b. b || nat_eq pid other) h
 
   pub said_with : (field : Tally → ℕ) → field (new_tally pid) ≡ 0 → (other : ℕ)
       → said field (with_tally pid tallies) other ≡ said field tallies other
-  said_with field none other = go (has tallies pid)
+  said_with field none other = go (has_tally tallies pid)
     where
       go : (b : Bool) → said field (cond b tallies (tallies ++ new_tally pid ∷ [])) other ≡ said field tallies other
       go true = refl
       go false = said_push field tallies (new_tally pid) none other
 
   pub once_with : Once tallies → Once (with_tally pid tallies)
-  once_with once = go (has tallies pid) refl
+  once_with once = go (has_tally tallies pid) refl
     where
-      go : (b : Bool) → has tallies pid ≡ b → Once (cond b tallies (tallies ++ new_tally pid ∷ []))
+      go : (b : Bool) → has_tally tallies pid ≡ b → Once (cond b tallies (tallies ++ new_tally pid ∷ []))
       go true e = once
       go false e = once_push tallies (new_tally pid) e once
 
-pub said_none : (field : Tally → ℕ) (tallies : List Tally) (pid : ℕ) → has tallies pid ≡ false
+pub said_none : (field : Tally → ℕ) (tallies : List Tally) (pid : ℕ) → has_tally tallies pid ≡ false
     → said field tallies pid ≡ 0
 said_none field [] pid none = refl
 said_none field (tally ∷ tallies) pid none = go (nat_eq tally.pid pid) none (said_none field tallies pid)
   where
-    go : (b : Bool) → (b || has tallies pid) ≡ false → (has tallies pid ≡ false → said field tallies pid ≡ 0)
+    go : (b : Bool) → (b || has_tally tallies pid) ≡ false → (has_tally tallies pid ≡ false → said field tallies pid ≡ 0)
         → cond b (field tally) (said field tallies pid) ≡ 0
     go true h rest = absurd (true≢false h)
     go false h rest = rest h
@@ -157,6 +157,6 @@ all_said field (tally ∷ tallies) pid once =
         → cond b (field tally) 0 + said field tallies pid ≡ cond b (field tally) (said field tallies pid)
     go true e =
         let none : said field tallies pid ≡ 0 =
-        said_none field tallies pid (ap (has tallies) (sym (eqb-true tally.pid pid e)) ∙ once.0) in
+        said_none field tallies pid (ap (has_tally tallies) (sym (eqb-true tally.pid pid e)) ∙ once.0) in
         omega arith
     go false e = omega arith

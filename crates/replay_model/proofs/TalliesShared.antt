@@ -13,7 +13,7 @@ use Rattle.cfs_model.specs.Run.{AreSteps}
 use Rattle.cfs_model.proofs.Moves.{same_or_not}
 use Rattle.replay_model.specs.Cut.{touches}
 use Rattle.replay_model.specs.Summary.{picks, added_up, how_many}
-use Rattle.replay_model.proofs.TalliesInRun.{Amount, picked_by, share_of}
+use Rattle.replay_model.proofs.TalliesInRun.{Amount, picked_by, amount_at}
 use Rattle.cfs_model.specs.declared.act.Act.{Act}
 use Rattle.cfs_model.specs.declared.act.Act.TheVariants.{Switch, Wake, Born, Shift}
 
@@ -117,12 +117,12 @@ given_by amount m (event ∷ events) (after ∷ states) =
 pub all_shares : (knobs : Settings) (amount : Amount) (n : ℕ) (m : Machine) (events : List Claimed)
     (states : List Machine) → AreSteps knobs m events states
     → AllByRecursion (λ (event : Claimed). AllByRecursion (λ (cpu : ℕ). cpu < n) (touched event.entry.act)) events
-    → sum_below (λ cpu. share_of amount cpu m events states) n ≡ given_by amount m events states
+    → sum_below (λ cpu. amount_at amount cpu m events states) n ≡ given_by amount m events states
 all_shares knobs amount n m [] states steps within = below_none (λ cpu. 0) n (λ k h. refl)
 all_shares knobs amount n m (event ∷ events) [] steps within = absurd steps
 all_shares knobs amount n m (event ∷ events) (after ∷ states) steps within =
     let a = below_add (λ cpu. cond (touches cpu event) (amount m event cpu) 0)
-    (λ cpu. share_of amount cpu after events states) n in
+    (λ cpu. amount_at amount cpu after events states) n in
     let b = event_shares knobs m event after steps.0 (amount m event) n within.0 in
     let c = all_shares knobs amount n after events states steps.1 within.1 in
     omega arith

@@ -58,10 +58,10 @@ faulted_by_all knobs cpu first made steps end fault r f =
     (stay knobs cpu end fault f (drop made steps)))
 
 -- the end test of a replay that has a fault changes nothing
-faulted_page : (slack : ℕ) (stream : StreamView) (since : Option ℕ) (fault : StepFault) (page : PageView)
+end_test_at_fault : (slack : ℕ) (stream : StreamView) (since : Option ℕ) (fault : StepFault) (page : PageView)
     → end_page slack stream since (Some fault) page ≡ page
-faulted_page slack stream None fault page = refl
-faulted_page slack stream (Some x) fault page = refl
+end_test_at_fault slack stream None fault page = refl
+end_test_at_fault slack stream (Some x) fault page = refl
 
 -- the end test of a replay without a fault, where the processor is late
 end_is_late : (slack : ℕ) (stream : StreamView) (x : ℕ) (page : PageView) → x + slack < stream.last_time
@@ -113,7 +113,7 @@ page_fault : (slack : ℕ) (stream : StreamView) (end : ReplayStateView)
     → PageFault slack stream.last_time end (end_page slack stream end.since end.page.fault end.page).fault
 page_fault slack stream end = record {
   of_step = λ fault e. ap (λ o. (end_page slack stream end.since o end.page).fault) e
-      ∙ ap (λ p. p.fault) (faulted_page slack stream end.since fault end.page) ∙ e;
+      ∙ ap (λ p. p.fault) (end_test_at_fault slack stream end.since fault end.page) ∙ e;
   of_end = λ x n e h. (
     late_fault slack stream x,
     ap (λ o. (end_page slack stream end.since o end.page).fault) n
@@ -157,11 +157,11 @@ by_fault : (knobs : Settings) (start : ℕ) (floors : List ℤ) (tasks : List Ta
     → WholeReplay knobs start floors tasks events cpu page
 by_fault knobs start floors tasks events cpu made page first end fault s r e f =
     let stream = cut start floors tasks events cpu in
-    let has : end.page.fault ≡ Some fault = ap (λ p. p.fault) (sym e) ∙ f in
+    let has_tally : end.page.fault ≡ Some fault = ap (λ p. p.fault) (sym e) ∙ f in
     by_end knobs start floors tasks events cpu page first end s
-    (faulted_by_all knobs cpu first made (steps_at cpu events) end fault r has)
-    (e ∙ sym (faulted_page knobs.slack stream end.since fault end.page)
-    ∙ ap (λ o. end_page knobs.slack stream end.since o end.page) (sym has))
+    (faulted_by_all knobs cpu first made (steps_at cpu events) end fault r has_tally)
+    (e ∙ sym (end_test_at_fault knobs.slack stream end.since fault end.page)
+    ∙ ap (λ o. end_page knobs.slack stream end.since o end.page) (sym has_tally))
 
 pub whole_replay : (knobs : Settings) (start : ℕ) (floors : List ℤ) (tasks : List Task) (events : List Claimed)
     (cpu : ℕ) (page : PageView) → IsWholePage knobs start floors tasks events cpu page

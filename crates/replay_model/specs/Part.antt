@@ -39,13 +39,13 @@ entity_by (Some place) (Some nice) (Some v) = Some (record { place = place; nice
 entity_by _ _ _ = None
 
 -- what a machine has of a pid at a processor
-abbrev pub entity_of : Machine → ℕ → ℕ → Option Entity
-entity_of m cpu pid =
+abbrev pub entity_at : Machine → ℕ → ℕ → Option Entity
+entity_at m cpu pid =
     entity_by (place_by (m.running cpu pid) (m.waiting cpu pid) (m.resting cpu pid)) (m.nice pid) (m.runtime pid)
 
 -- the part of a machine at a processor
 abbrev pub part_of : Machine → ℕ → Part
-part_of m cpu = record { tasks = entity_of m cpu; floor = m.floor cpu; mark = m.mark cpu }
+part_of m cpu = record { tasks = entity_at m cpu; floor = m.floor cpu; mark = m.mark cpu }
 
 -- the part that a processor's tasks, floor and start time stand for
 abbrev pub start_part : List Task → ℤ → ℕ → Part

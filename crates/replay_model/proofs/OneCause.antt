@@ -12,7 +12,7 @@ use Rattle.replay_model.specs.OnePage.{OneRunsIn}
 use Rattle.replay_model.specs.Tests.{FirstHolds, late_tests, PassesTests}
 use Rattle.replay_model.specs.Cut.{step_at}
 use Rattle.replay_model.specs.Following.{last_of, SlackFails}
-use Rattle.replay_model.specs.Cause.{Cause, FailsOn, FailsAt, PassesAt, IsActCause, IsIdlingCause, IsCause}
+use Rattle.replay_model.specs.Cause.{FaultCause, FailsOn, FailsAt, PassesAt, IsActCause, IsIdlingCause, IsCause}
 use Rattle.cfs_model.proofs.OneNext.{one_list}
 use Rattle.replay_model.proofs.OneLift.{same_lift, none_first}
 use Rattle.replay_model.proofs.OnePid.{range_one, late_one, one_first}
@@ -24,7 +24,7 @@ use Rattle.cfs_model.specs.declared.kind.Kind.{Kind}
 use Rattle.cfs_model.specs.declared.task.Place.TheVariants.{Run}
 use Rattle.replay_model.specs.declared.step.Step.{Step}
 
-same_cause : (a b : Cause) → a.cpu ≡ b.cpu → a.pid ≡ b.pid → a.kind ≡ b.kind → a ≡ b
+same_cause : (a b : FaultCause) → a.cpu ≡ b.cpu → a.pid ≡ b.pid → a.kind ≡ b.kind → a ≡ b
 same_cause a b e f g =
     ap (λ x. record { cpu = x; pid = a.pid; kind = a.kind }) e
     ∙ ap (λ x. record { cpu = b.cpu; pid = x; kind = a.kind }) f
@@ -55,7 +55,7 @@ passes_or_fails knobs cpu part step lifted kind pid p (inr h) =
 one_runs_at : (m : Machine) → IsInOrder m → (cpu : ℕ) → OneRunsIn (part_of m cpu)
 one_runs_at m o cpu pid other h k = o.one_runs cpu pid other (stands_at m Run cpu pid h) (stands_at m Run cpu other k)
 
-module _ (knobs : Settings) (m : Machine) (o : IsInOrder m) (event : Claimed) (a b : Cause) where
+module _ (knobs : Settings) (m : Machine) (o : IsInOrder m) (event : Claimed) (a b : FaultCause) where
   one_failure : (cpu : ℕ) → FailsAt knobs m cpu event a → FailsAt knobs m cpu event b → a ≡ b
   one_failure cpu f g =
       let t = one_test knobs cpu (part_of m cpu) (step_at cpu event) (one_runs_at m o cpu) a.kind b.kind a.pid b.pid
@@ -63,7 +63,7 @@ module _ (knobs : Settings) (m : Machine) (o : IsInOrder m) (event : Claimed) (a
       same_cause a b (f.here ∙ sym g.here) t.1 t.0
 
   -- a test fails at a processor, or all pass there
-  not_both : (cpu : ℕ) (c : Cause) (lifted : Part) → FailsAt knobs m cpu event c → PassesAt knobs m cpu event lifted
+  not_both : (cpu : ℕ) (c : FaultCause) (lifted : Part) → FailsAt knobs m cpu event c → PassesAt knobs m cpu event lifted
       → a ≡ b
   not_both cpu c lifted f p = absurd
       (passes_or_fails knobs cpu (part_of m cpu) (step_at cpu event) lifted c.kind c.pid p f.fails)
@@ -89,7 +89,7 @@ module _ (knobs : Settings) (m : Machine) (o : IsInOrder m) (event : Claimed) (a
   one_act (Born cpu pid nice) (inr f) (inr g) = f.is ∙ sym g.is
   one_act (Shift orig dest pid nice) f g = one_shift orig dest pid nice f g
 
-one_lowest : (slack : ℕ) (times : List ℕ) (states : List Machine) (time : ℕ) (a b : Cause)
+one_lowest : (slack : ℕ) (times : List ℕ) (states : List Machine) (time : ℕ) (a b : FaultCause)
     → IsIdlingCause slack times states time a → IsIdlingCause slack times states time b → a ≡ b
 one_lowest slack times states time a b f g =
     let cpu : a.cpu ≡ b.cpu = elim (cases_lt a.cpu b.cpu) [
@@ -99,14 +99,14 @@ one_lowest slack times states time a b f g =
     same_cause a b cpu (f.pid ∙ sym g.pid) (f.kind ∙ sym g.kind)
 
 -- what is wrong with an event behind these states
-abbrev Why : Settings → ℕ → Machine → List Claimed → Claimed → List Machine → Cause → Type 0
+abbrev Why : Settings → ℕ → Machine → List Claimed → Claimed → List Machine → FaultCause → Type 0
 Why knobs start first before event states cause =
     IsIdlingCause knobs.slack (times_of start before) (first ∷ states) event.entry.time cause
     ⊎ (((cpu : ℕ) → ¬ SlackFails knobs.slack (times_of start before) (first ∷ states) cpu event.entry.time)
     × IsActCause knobs (last_of first states) event event.entry.act cause)
 
 one_why : (knobs : Settings) (start : ℕ) (first : Machine) (before : List Claimed) (event : Claimed)
-    (states : List Machine) (a b : Cause) → IsInOrder (last_of first states)
+    (states : List Machine) (a b : FaultCause) → IsInOrder (last_of first states)
     → Why knobs start first before event states a → Why knobs start first before event states b → a ≡ b
 one_why knobs start first before event states a b o (inl f) (inl g) =
     one_lowest knobs.slack (times_of start before) (first ∷ states) event.entry.time a b f g
@@ -116,7 +116,7 @@ one_why knobs start first before event states a b o (inr f) (inr g) =
     one_act knobs (last_of first states) o event a b event.entry.act f.1 g.1
 
 pub one_cause : (knobs : Settings) (start : ℕ) (first : Machine) (before : List Claimed) (event : Claimed)
-    (a b : Cause) → IsInOrder first → IsCause knobs start first before event a
+    (a b : FaultCause) → IsInOrder first → IsCause knobs start first before event a
     → IsCause knobs start first before event b → a ≡ b
 one_cause knobs start first before event a b o f g =
     one_why knobs start first before event g.run.states a b

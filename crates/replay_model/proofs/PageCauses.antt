@@ -10,7 +10,7 @@ use Rattle.replay_model.specs.Cut.{touches, step_at, steps_at}
 use Rattle.replay_model.specs.Page.{ReplayStateView, FailsStep, IsReplay}
 use Rattle.replay_model.specs.Following.{TimesRise}
 use Rattle.replay_model.specs.Composition.{LinesRise}
-use Rattle.replay_model.specs.Cause.{Cause, FailsOn}
+use Rattle.replay_model.specs.Cause.{FaultCause, FailsOn}
 use Rattle.replay_model.specs.Closing.{IdlesBefore, FailsHere, IsPageCause}
 use Rattle.replay_model.proofs.Deadlines.{without_deadline}
 use Rattle.replay_model.proofs.FrontReplay.{PassesFirst, FailsFirst, step_fault_of, first_step, away, no_fault_here}
@@ -57,7 +57,7 @@ no_later_fault knobs cpu s (event ∷ events) end slack time line o fault n rise
     ]
 
 -- the test of an event that fails on a replay's part
-pub record FailsThere (knobs : Settings) (cpu : ℕ) (mid : ReplayStateView) (event : Claimed) (cause : Cause)
+pub record FailsThere (knobs : Settings) (cpu : ℕ) (mid : ReplayStateView) (event : Claimed) (cause : FaultCause)
     : Type 0 where
   pub failed : ReplayStateView
   pub fails : FailsStep knobs cpu mid (step_at cpu event) failed
@@ -99,7 +99,7 @@ module _ (knobs : Settings) (start : ℕ) (before rest : List Claimed) (event : 
     | inr p ↦ absurd (no_fault_here knobs cpu mid event b.end page.fault b.fault.of_step idles here p)
   ]
 
-  pub fails_there : (cause : Cause) → touches cpu event ≡ true → LinesRise event.entry.line rest
+  pub fails_there : (cause : FaultCause) → touches cpu event ≡ true → LinesRise event.entry.line rest
       → IsPageCause event cpu page cause → FailsThere knobs cpu mid event cause
   fails_there cause t rise c = elim (first_step knobs cpu mid event rest b.end none t b.replay) [
     | inl p ↦ absurd (no_later_fault knobs cpu p.next rest b.end knobs.slack _ event.entry.line page.fault c.fault

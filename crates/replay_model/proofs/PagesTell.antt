@@ -21,7 +21,7 @@ use Rattle.replay_model.specs.Page.{ReplayStateView}
 use Rattle.replay_model.specs.Following.{TimesRise, last_of, IsShareReplay, SlackFails}
 use Rattle.replay_model.specs.Composition.{LinesRise, named, ticket_at, IsRecord}
 use Rattle.replay_model.specs.Endings.{roll_of}
-use Rattle.replay_model.specs.Cause.{Cause, FailsOn, FailsAt, PassesAt, IsBornTwice, IsActCause, IsIdlingCause, IsCause}
+use Rattle.replay_model.specs.Cause.{FaultCause, FailsOn, FailsAt, PassesAt, IsBornTwice, IsActCause, IsIdlingCause, IsCause}
 use Rattle.replay_model.specs.Closing.{IdlesBefore, FailsHere, IsPageCause, IsActCauseOf, IsIdlingCauseOf, IsCauseOf}
 use Rattle.cfs_model.proofs.StartOrder.{start_in_order}
 use Rattle.replay_model.proofs.BornHere.{not_born_here}
@@ -118,7 +118,7 @@ module _ (knobs : Settings) (start : ℕ) (floors : List ℤ) (tasks : List Task
     | inr k ↦ never_too_long knobs.slack (at cpu).mid.since event.entry.time 0 ((at cpu).past k) ((idles_is cpu).0 h)
   ]
 
-  idling : (cause : Cause) → IsIdlingCauseOf pages cpus event cause
+  idling : (cause : FaultCause) → IsIdlingCauseOf pages cpus event cause
       → IsIdlingCause knobs.slack (times_of start before) (start_machine start floors tasks ∷ run.states)
       event.entry.time cause × Ends
   idling cause c =
@@ -134,7 +134,7 @@ module _ (knobs : Settings) (start : ℕ) (floors : List ℤ) (tasks : List Task
             (at cause.cpu).passes.share late,
       )
 
-  fails_at : (cpu : ℕ) (cause : Cause) → cpu < cpus → touches cpu event ≡ true
+  fails_at : (cpu : ℕ) (cause : FaultCause) → cpu < cpus → touches cpu event ≡ true
       → IsPageCause event cpu (pages cpu) cause → FailsAt knobs m cpu event cause × Ends
   fails_at cpu cause k t c =
       let f = fails_there knobs start before (rest cpu) event cpu (pages cpu) (at cpu).mid (at cpu).passes.no_fault
@@ -170,12 +170,12 @@ module _ (knobs : Settings) (start : ℕ) (floors : List ℤ) (tasks : List Task
       (roll_run (named tasks) knobs (start_machine start floors tasks) before run.states run.steps
       (start_roll start floors tasks) pid ∙ alive)
 
-  one_cause : (cpu : ℕ) (cause : Cause) → AllByRecursion (λ (c : ℕ). c < cpus) (cpu ∷ [])
+  one_cause : (cpu : ℕ) (cause : FaultCause) → AllByRecursion (λ (c : ℕ). c < cpus) (cpu ∷ [])
       → touched event.entry.act ≡ cpu ∷ [] → IsPageCause event cpu (pages cpu) cause
       → FailsAt knobs m cpu event cause × Ends
   one_cause cpu cause within t c = fails_at cpu cause within.0 (touches_first cpu event.entry.act [] t) c
 
-  born_cause : (cpu pid : ℕ) (nice : ℤ) (cause : Cause) → event.entry.act ≡ Born cpu pid nice → cpu < cpus
+  born_cause : (cpu pid : ℕ) (nice : ℤ) (cause : FaultCause) → event.entry.act ≡ Born cpu pid nice → cpu < cpus
       → (¬ IdlesBefore event (pages cpu).fault) → (¬ FailsHere event (pages cpu).fault)
       → roll_of (named tasks) before pid ≡ true
       → cause ≡ record { cpu = cpu; pid = pid; kind = BornTwice } → IsBornTwice knobs m cpu pid event cause × Ends
@@ -214,7 +214,7 @@ module _ (knobs : Settings) (start : ℕ) (floors : List ℤ) (tasks : List Task
       differ (ap (ticket_at line) ((at orig).back k).left ∙ left ∙ same ∙ sym came
       ∙ ap (ticket_at line) (sym ((at dest).back l).came))
 
-  shift_cause : (orig dest pid : ℕ) (nice : ℤ) (cause : Cause) → event.entry.act ≡ Shift orig dest pid nice
+  shift_cause : (orig dest pid : ℕ) (nice : ℤ) (cause : FaultCause) → event.entry.act ≡ Shift orig dest pid nice
       → orig < cpus → dest < cpus → ((cpu : ℕ) → cpu < cpus → ¬ IdlesBefore event (pages cpu).fault)
       → IsActCauseOf pages (roll_of (named tasks) before) event (Shift orig dest pid nice) cause
       → IsActCause knobs m event (Shift orig dest pid nice) cause × Ends
@@ -241,7 +241,7 @@ module _ (knobs : Settings) (start : ℕ) (floors : List ℤ) (tasks : List Task
             d.0.next (r 0).is_start times e (at orig).passes.share (at dest).passes.share o.0.passes d.0.passes differ,
       )
 
-  act_cause : (cause : Cause) (act : Act) → event.entry.act ≡ act
+  act_cause : (cause : FaultCause) (act : Act) → event.entry.act ≡ act
       → AllByRecursion (λ (c : ℕ). c < cpus) (touched act)
       → ((cpu : ℕ) → cpu < cpus → ¬ IdlesBefore event (pages cpu).fault)
       → IsActCauseOf pages (roll_of (named tasks) before) event act cause → IsActCause knobs m event act cause × Ends
@@ -254,7 +254,7 @@ module _ (knobs : Settings) (start : ℕ) (floors : List ℤ) (tasks : List Task
   act_cause cause (Shift orig dest pid nice) e within idles c =
       shift_cause orig dest pid nice cause e within.0 within.1.0 idles c
 
-  pub cause_told : (cause : Cause) → IsCauseOf pages cpus (roll_of (named tasks) before) event cause
+  pub cause_told : (cause : FaultCause) → IsCauseOf pages cpus (roll_of (named tasks) before) event cause
       → IsCause knobs start (start_machine start floors tasks) before event cause × Ends
   cause_told cause (inl c) = let f = idling cause c in (record { run = run; why = inl f.0 }, f.1)
   cause_told cause (inr c) =

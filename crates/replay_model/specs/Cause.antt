@@ -19,7 +19,7 @@ use Rattle.cfs_model.specs.declared.task.Place.{Place}
 use Rattle.replay_model.specs.declared.step.Step.{Step}
 
 -- what is wrong, at which processor, and with which task; pid 0 where it is no task's
-pub record Cause : Type 0 where
+pub record FaultCause : Type 0 where
   pub cpu : ℕ
   pub pid : ℕ
   pub kind : Kind
@@ -32,7 +32,7 @@ FailsOn knobs cpu part step kind pid =
     × ((lifted : Part) × IsLiftedPart step.time part lifted × FirstHolds (late_tests knobs cpu lifted step) kind pid))
 
 -- the first of the event's tests that fails at a processor of the machine is this cause
-pub record FailsAt (knobs : Settings) (m : Machine) (cpu : ℕ) (event : Claimed) (cause : Cause) : Type 0 where
+pub record FailsAt (knobs : Settings) (m : Machine) (cpu : ℕ) (event : Claimed) (cause : FaultCause) : Type 0 where
   pub here : cause.cpu ≡ cpu
   pub fails : FailsOn knobs cpu (part_of m cpu) (step_at cpu event) cause.kind cause.pid
 
@@ -41,14 +41,14 @@ abbrev pub PassesAt : Settings → Machine → ℕ → Claimed → Part → Type
 PassesAt knobs m cpu event lifted = PassesTests knobs cpu (part_of m cpu) (step_at cpu event) lifted
 
 -- the tests of a migration pass at its origin, and the first that fails at its destination is this cause
-pub record FailsAtArrival (knobs : Settings) (m : Machine) (orig dest : ℕ) (event : Claimed) (cause : Cause)
+pub record FailsAtArrival (knobs : Settings) (m : Machine) (orig dest : ℕ) (event : Claimed) (cause : FaultCause)
     : Type 0 where
   pub left : Part
   pub leaves : PassesAt knobs m orig event left
   pub fails : FailsAt knobs m dest event cause
 
 -- the tests of a migration pass at both ends, and the task's place or its virtual runtime less the floor differ there
-pub record IsUnequal (knobs : Settings) (m : Machine) (orig dest pid : ℕ) (nice : ℤ) (event : Claimed) (cause : Cause)
+pub record IsUnequal (knobs : Settings) (m : Machine) (orig dest pid : ℕ) (nice : ℤ) (event : Claimed) (cause : FaultCause)
     : Type 0 where
   pub left : Part
   pub came : Part
@@ -58,7 +58,7 @@ pub record IsUnequal (knobs : Settings) (m : Machine) (orig dest pid : ℕ) (nic
   pub is : cause ≡ record { cpu = dest; pid = pid; kind = TicketUnequal }
 
 -- the tests of a birth pass at its processor, and the pid stands at another
-pub record IsBornTwice (knobs : Settings) (m : Machine) (cpu pid : ℕ) (event : Claimed) (cause : Cause) : Type 0 where
+pub record IsBornTwice (knobs : Settings) (m : Machine) (cpu pid : ℕ) (event : Claimed) (cause : FaultCause) : Type 0 where
   pub lifted : Part
   pub passes : PassesAt knobs m cpu event lifted
   pub place : Place
@@ -69,7 +69,7 @@ pub record IsBornTwice (knobs : Settings) (m : Machine) (cpu pid : ℕ) (event :
 
 -- what is wrong with what the event does: a test that fails where it does it, of a migration first at its origin;
 -- then tickets that differ, or a birth of a pid that stands elsewhere
-abbrev pub IsActCause : Settings → Machine → Claimed → Act → Cause → Type 0
+abbrev pub IsActCause : Settings → Machine → Claimed → Act → FaultCause → Type 0
 IsActCause knobs m event (Switch cpu prev prev_nice way next next_nice) cause = FailsAt knobs m cpu event cause
 IsActCause knobs m event (Wake cpu pid nice) cause = FailsAt knobs m cpu event cause
 IsActCause knobs m event (Born cpu pid nice) cause =
@@ -80,7 +80,7 @@ IsActCause knobs m event (Shift orig dest pid nice) cause =
     ⊎ IsUnequal knobs m orig dest pid nice event cause
 
 -- with one more event, at this time, the slack fails at the cause's processor, and at no lower one
-pub record IsIdlingCause (slack : ℕ) (times : List ℕ) (states : List Machine) (time : ℕ) (cause : Cause) : Type 0 where
+pub record IsIdlingCause (slack : ℕ) (times : List ℕ) (states : List Machine) (time : ℕ) (cause : FaultCause) : Type 0 where
   pub idles : SlackFails slack times states cause.cpu time
   pub lowest : (other : ℕ) → other < cause.cpu → ¬ SlackFails slack times states other time
   pub pid : cause.pid ≡ 0
@@ -89,7 +89,7 @@ pub record IsIdlingCause (slack : ℕ) (times : List ℕ) (states : List Machine
 -- the first thing that is wrong with an event behind a run: a processor that idles for too long; else what the event
 -- does
 pub record IsCause (knobs : Settings) (start : ℕ) (first : Machine) (before : List Claimed) (event : Claimed)
-    (cause : Cause) : Type 0 where
+    (cause : FaultCause) : Type 0 where
   pub run : IsRun knobs start first before
   pub why : IsIdlingCause knobs.slack (times_of start before) (first ∷ run.states) event.entry.time cause
       ⊎ (((cpu : ℕ) → ¬ SlackFails knobs.slack (times_of start before) (first ∷ run.states) cpu event.entry.time)
@@ -97,7 +97,7 @@ pub record IsCause (knobs : Settings) (start : ℕ) (first : Machine) (before : 
 
 -- the first event up to which the events are no run is on this line, and this is what is wrong with it
 pub record IsFirstFault (knobs : Settings) (start : ℕ) (first : Machine) (events : List Claimed) (line : ℕ)
-    (cause : Cause) : Type 0 where
+    (cause : FaultCause) : Type 0 where
   pub before : List Claimed
   pub event : Claimed
   pub rest : List Claimed

@@ -12,7 +12,7 @@ use Rattle.replay_model.specs.Noted.{PageView}
 use Rattle.replay_model.specs.Page.{IsPageOf}
 use Rattle.replay_model.specs.Composition.{IsRecord, TicketsAgree, BirthsAreNew, named, ticket_at}
 use Rattle.replay_model.specs.Endings.{roll_of}
-use Rattle.replay_model.specs.Cause.{Cause, IsFirstFault}
+use Rattle.replay_model.specs.Cause.{FaultCause, IsFirstFault}
 use Rattle.cfs_model.specs.declared.act.Act.{Act}
 use Rattle.cfs_model.specs.declared.act.Act.TheVariants.{Switch, Wake, Born, Shift}
 use Rattle.cfs_model.specs.declared.kind.Kind.TheVariants.{IdleTooLong, TicketUnequal, BornTwice}
@@ -60,7 +60,7 @@ ComesAfter events cpu fault =
     AllByRecursion (λ event. (¬ IdlesBefore event fault) × (touches cpu event ≡ true → ¬ FailsHere event fault)) events
 
 -- the page's fault is of a test that failed at this event, and it is this cause
-pub record IsPageCause (event : Claimed) (cpu : ℕ) (page : PageView) (cause : Cause) : Type 0 where
+pub record IsPageCause (event : Claimed) (cpu : ℕ) (page : PageView) (cause : FaultCause) : Type 0 where
   pub fault : StepFault
   pub is_fault : page.fault ≡ Some fault
   pub here : FailsHere event (Some fault)
@@ -68,7 +68,7 @@ pub record IsPageCause (event : Claimed) (cpu : ℕ) (page : PageView) (cause : 
 
 -- what the pages say is wrong with what the event does: a test that failed at it, of a migration first at its origin;
 -- then tickets that differ, or a birth of a pid that is alive by the roll of births and ends
-abbrev pub IsActCauseOf : (ℕ → PageView) → (ℕ → Bool) → Claimed → Act → Cause → Type 0
+abbrev pub IsActCauseOf : (ℕ → PageView) → (ℕ → Bool) → Claimed → Act → FaultCause → Type 0
 IsActCauseOf pages alive event (Switch cpu prev prev_nice way next next_nice) cause =
     IsPageCause event cpu (pages cpu) cause
 IsActCauseOf pages alive event (Wake cpu pid nice) cause = IsPageCause event cpu (pages cpu) cause
@@ -84,7 +84,7 @@ IsActCauseOf pages alive event (Shift orig dest pid nice) cause =
     × (cause ≡ record { cpu = dest; pid = pid; kind = TicketUnequal }))
 
 -- the lowest processor whose page says that it had idled for too long before this event
-pub record IsIdlingCauseOf (pages : ℕ → PageView) (cpus : ℕ) (event : Claimed) (cause : Cause) : Type 0 where
+pub record IsIdlingCauseOf (pages : ℕ → PageView) (cpus : ℕ) (event : Claimed) (cause : FaultCause) : Type 0 where
   pub within : cause.cpu < cpus
   pub idles : IdlesBefore event (pages cause.cpu).fault
   pub lowest : (other : ℕ) → other < cause.cpu → ¬ IdlesBefore event (pages other).fault
@@ -92,7 +92,7 @@ pub record IsIdlingCauseOf (pages : ℕ → PageView) (cpus : ℕ) (event : Clai
   pub kind : cause.kind ≡ IdleTooLong
 
 -- the first thing that the pages say is wrong with an event, of those below a number of processors
-abbrev pub IsCauseOf : (ℕ → PageView) → ℕ → (ℕ → Bool) → Claimed → Cause → Type 0
+abbrev pub IsCauseOf : (ℕ → PageView) → ℕ → (ℕ → Bool) → Claimed → FaultCause → Type 0
 IsCauseOf pages cpus alive event cause =
     IsIdlingCauseOf pages cpus event cause
     ⊎ (((cpu : ℕ) → cpu < cpus → ¬ IdlesBefore event (pages cpu).fault)
@@ -127,7 +127,7 @@ PagesTellRun = (knobs : Settings) (start : ℕ) (floors : List ℤ) (tasks : Lis
 -- with it, and it is the first event up to which the events are no run
 abbrev pub PagesTellFault : Type 0
 PagesTellFault = (knobs : Settings) (start : ℕ) (floors : List ℤ) (tasks : List Task) (events before rest : List Claimed)
-    (event : Claimed) (cpus : ℕ) (pages : ℕ → PageView) (cause : Cause)
+    (event : Claimed) (cpus : ℕ) (pages : ℕ → PageView) (cause : FaultCause)
     → IsRecord start floors tasks events cpus
     → ((cpu : ℕ) → cpu < cpus → SufficesAmong knobs start floors tasks events cpus pages cpu)
     → events ≡ before ++ event ∷ rest
@@ -138,21 +138,21 @@ PagesTellFault = (knobs : Settings) (start : ℕ) (floors : List ℤ) (tasks : L
 -- a first fault is at the first bad line
 abbrev pub FaultIsFirstBad : Type 0
 FaultIsFirstBad = (knobs : Settings) (start : ℕ) (floors : List ℤ) (tasks : List Task) (events : List Claimed)
-    (line : ℕ) (cause : Cause)
+    (line : ℕ) (cause : FaultCause)
     → IsFirstFault knobs start (start_machine start floors tasks) events line cause
     → IsFirstBad knobs start (start_machine start floors tasks) events line
 
 -- a run has no first fault
 abbrev pub RunHasNoFault : Type 0
 RunHasNoFault = (knobs : Settings) (start : ℕ) (floors : List ℤ) (tasks : List Task) (events : List Claimed)
-    (line : ℕ) (cause : Cause)
+    (line : ℕ) (cause : FaultCause)
     → IsRun knobs start (start_machine start floors tasks) events
     → ¬ IsFirstFault knobs start (start_machine start floors tasks) events line cause
 
 -- there is at most one first fault: one line and one cause
 abbrev pub OneFirstFault : Type 0
 OneFirstFault = (knobs : Settings) (start : ℕ) (floors : List ℤ) (tasks : List Task) (events : List Claimed)
-    (line other : ℕ) (cause why : Cause)
+    (line other : ℕ) (cause why : FaultCause)
     → IsStart floors tasks
     → IsFirstFault knobs start (start_machine start floors tasks) events line cause
     → IsFirstFault knobs start (start_machine start floors tasks) events other why

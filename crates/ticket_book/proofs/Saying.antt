@@ -18,7 +18,7 @@ use Rattle.queue_replay.specs.Replay.{ReplayView}
 use Rattle.ticket_book.specs.Idling.{IsFirstLate, NoneLate, is_past}
 use Rattle.ticket_book.specs.Told.{Allow, AllowAct, cause_view, view_at}
 use Rattle.ticket_book.specs.Walk.{AllowShift, IsShiftCause, born_twice_on, failed_on}
-use Rattle.ticket_book.specs.declared.cause.Cause.{Cause}
+use Rattle.ticket_book.specs.declared.fault_cause.FaultCause.{FaultCause}
 
 -- a fault is of a test that failed at the event's line, or it isn't
 pub failed : (event : Claimed) (cpu line : ℕ) (page : PageView) → event.entry.line ≡ line
@@ -72,7 +72,7 @@ module _ (pages : ℕ → PageView) (alive : ℕ → Bool) (event : Claimed) whe
   }
 
   -- an answer on an act, as the answer on what the act is
-  abbrev pub Answers : Act → Option Cause → Type 0
+  abbrev pub Answers : Act → Option FaultCause → Type 0
   Answers act o = MatchOption o (AllowAct pages alive event) (λ found. IsActCauseOf pages alive event act (cause_view found))
 
   module _ (line : ℕ) (on : event.entry.line ≡ line) where
@@ -82,7 +82,7 @@ module _ (pages : ℕ → PageView) (alive : ℕ → Bool) (event : Claimed) whe
         subst (λ a. Answers a (failed_on cpu line (pages cpu).fault)) (sym is)
         (go (failed_on cpu line (pages cpu).fault) (failed event cpu line (pages cpu) on))
       where
-        go : (o : Option Cause) → MatchOption o (¬ FailsHere event (pages cpu).fault)
+        go : (o : Option FaultCause) → MatchOption o (¬ FailsHere event (pages cpu).fault)
             (λ found. IsPageCause event cpu (pages cpu) (cause_view found)) → Answers (Switch cpu prev pn way next nn) o
         go None h = allow (Switch cpu prev pn way next nn) (does ∙ is) (h, tt) tt tt
         go (Some found) h = h
@@ -93,7 +93,7 @@ module _ (pages : ℕ → PageView) (alive : ℕ → Bool) (event : Claimed) whe
         subst (λ a. Answers a (failed_on cpu line (pages cpu).fault)) (sym is)
         (go (failed_on cpu line (pages cpu).fault) (failed event cpu line (pages cpu) on))
       where
-        go : (o : Option Cause) → MatchOption o (¬ FailsHere event (pages cpu).fault)
+        go : (o : Option FaultCause) → MatchOption o (¬ FailsHere event (pages cpu).fault)
             (λ found. IsPageCause event cpu (pages cpu) (cause_view found)) → Answers (Wake cpu pid nice) o
         go None h = allow (Wake cpu pid nice) (does ∙ is) (h, tt) tt tt
         go (Some found) h = h
@@ -104,7 +104,7 @@ module _ (pages : ℕ → PageView) (alive : ℕ → Bool) (event : Claimed) whe
         subst (λ a. Answers a (option_or (failed_on cpu line (pages cpu).fault) (born_twice_on cpu pid (alive pid)))) (sym is)
         (go (failed_on cpu line (pages cpu).fault) (failed event cpu line (pages cpu) on) (alive pid) refl)
       where
-        go : (o : Option Cause) → MatchOption o (¬ FailsHere event (pages cpu).fault)
+        go : (o : Option FaultCause) → MatchOption o (¬ FailsHere event (pages cpu).fault)
             (λ found. IsPageCause event cpu (pages cpu) (cause_view found)) → (b : Bool) → alive pid ≡ b
             → Answers (Born cpu pid nice) (option_or o (born_twice_on cpu pid b))
         go (Some found) h b e = inl h
@@ -112,7 +112,7 @@ module _ (pages : ℕ → PageView) (alive : ℕ → Bool) (event : Claimed) whe
         go None h false e = allow (Born cpu pid nice) (does ∙ is) (h, tt) tt e
 
     pub shift_said : (act : Act) (orig dest pid : ℕ) (nice : ℤ) → event.entry.act ≡ act → act ≡ Shift orig dest pid nice
-        → (o : Option Cause)
+        → (o : Option FaultCause)
         → MatchOption o (AllowShift pages orig dest event) (λ found. IsShiftCause pages orig dest pid event (cause_view found))
         → Answers act o
     shift_said act orig dest pid nice does is None h =
@@ -150,7 +150,7 @@ module _ (pages : List ReplayView) (alive : ℕ → Bool) (event : Claimed) (tim
   })
 
   -- where none is late, the answer on what the event does
-  pub act_said : NoneLate pages time (length pages) → (o : Option Cause)
+  pub act_said : NoneLate pages time (length pages) → (o : Option FaultCause)
       → MatchOption o (AllowAct (view_at pages) alive event)
       (λ found. IsActCauseOf (view_at pages) alive event event.entry.act (cause_view found))
       → MatchOption o (Allow (view_at pages) (length pages) alive event)

@@ -29,7 +29,7 @@ use Rattle.ticket_book.specs.Whole.{AreSufficient, SufficesBeside}
 use Rattle.ticket_book.proofs.Extent.{bounds_fit, events_few, last_greatest, times_below}
 use Rattle.ticket_book.proofs.TicketOrder.{own_tickets_rise}
 use Rattle.ticket_book.proofs.Walked.{with_claim}
-use Rattle.ticket_book.specs.declared.cause.Cause.{Cause as FoundCause}
+use Rattle.ticket_book.specs.declared.fault_cause.FaultCause.{FaultCause as FoundCause}
 use Rattle.ticket_book.specs.declared.summary.Summary.{Summary}
 use Rattle.ticket_book.specs.declared.verdict.Verdict.TheVariants.{Run, Fault}
 

@@ -8,7 +8,7 @@ use Rattle.cfs_model.specs.Claimed.{Claimed, claim_at, claimed}
 use Rattle.cfs_model.specs.declared.act.Entry.{Entry}
 use Rattle.cfs_model.specs.declared.claim.Claim.{Claim}
 use Rattle.cfs_model.specs.declared.task.Task.{Task}
-use Rattle.replay_model.specs.Cause.{Cause}
+use Rattle.replay_model.specs.Cause.{FaultCause}
 use Rattle.replay_model.specs.Closing.{IdlesBefore, FailsHere, SayNothing, IsCauseOf}
 use Rattle.replay_model.specs.Composition.{named, roll_after, BirthIsNew, BirthsAreNew, TicketsAgree}
 use Rattle.replay_model.specs.Cut.{touches}
@@ -110,7 +110,7 @@ module _ (pages : List ReplayView) (tasks : List Task) (claims : List Claim) (ev
         }
 
     -- what is said first against the next event is what the pages tell
-    pub walk_ends : (before : Walk) (cause : Cause) → HasCome pages tasks claims events i before
+    pub walk_ends : (before : Walk) (cause : FaultCause) → HasCome pages tasks claims events i before
         → IsCauseOf (view_at pages) (length pages) (alive_view before.alive) (with_claim claims event) cause
         → TellFault (view_at pages) (length pages) tasks (claimed claims events) event.line cause
     walk_ends before cause come why = record {

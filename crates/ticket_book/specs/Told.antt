@@ -3,7 +3,7 @@
 use Rattle.std.specs.Prelude.{◌≡◌, ℕ, zero, suc, ◌<◌, true, Bool, Option, Some, None, List, [], ◌∷◌, ◌++◌}
 use Rattle.cfs_model.specs.Limits.{no_line}
 use Rattle.cfs_model.specs.Claimed.{Claimed}
-use Rattle.replay_model.specs.Cause.{Cause}
+use Rattle.replay_model.specs.Cause.{FaultCause}
 use Rattle.replay_model.specs.Closing.{IdlesBefore, FailsHere, SayNothing, IsCauseOf}
 use Rattle.replay_model.specs.Composition.{named, TicketsAgree, BirthIsNew}
 use Rattle.replay_model.specs.Cut.{touches}
@@ -11,7 +11,7 @@ use Rattle.replay_model.specs.Endings.{roll_of}
 use Rattle.replay_model.specs.Noted.{PageView}
 use Rattle.queue_replay.specs.Replay.{ReplayView}
 use Rattle.cfs_model.specs.declared.task.Task.{Task}
-use Rattle.ticket_book.specs.declared.cause.Cause.{Cause as FoundCause}
+use Rattle.ticket_book.specs.declared.fault_cause.FaultCause.{FaultCause as FoundCause}
 
 -- a page that tells nothing
 abbrev pub empty_view : PageView
@@ -24,7 +24,7 @@ view_at (page ∷ pages) zero = page.page
 view_at (page ∷ pages) (suc cpu) = view_at pages cpu
 
 -- the cause as the model sees it
-abbrev pub cause_view : FoundCause → Cause
+abbrev pub cause_view : FoundCause → FaultCause
 cause_view c = record { cpu = c.cpu; pid = c.pid; kind = c.kind }
 
 -- the pages say nothing against what an event does
@@ -41,7 +41,7 @@ pub record Allow (pages : ℕ → PageView) (cpus : ℕ) (alive : ℕ → Bool) 
 -- the pages say nothing against the events before the one on this line, and this is the first thing that they say
 -- against that one
 pub record TellFault (pages : ℕ → PageView) (cpus : ℕ) (tasks : List Task) (events : List Claimed) (line : ℕ)
-    (cause : Cause) : Type 0 where
+    (cause : FaultCause) : Type 0 where
   pub before : List Claimed
   pub event : Claimed
   pub rest : List Claimed

@@ -4,7 +4,7 @@ use Rattle.std.specs.Prelude.{ℕ}
 use Rattle.cfs_model.specs.Claimed.{claimed}
 use Rattle.cfs_model.specs.Settings.{Settings}
 use Rattle.cfs_model.specs.Start.{start_machine}
-use Rattle.replay_model.specs.Cause.{Cause, IsFirstFault}
+use Rattle.replay_model.specs.Cause.{FaultCause, IsFirstFault}
 use Rattle.replay_model.specs.Summary.{SummaryView, IsSummary}
 use Rattle.sched_record.specs.Record.{RecordView}
 use Rattle.ticket_book.specs.SummaryView.{summary_view}
@@ -18,7 +18,7 @@ IsScheduled knobs r summary =
     IsSummary knobs r.start (start_machine r.start r.floors r.tasks) r.tasks (claimed r.claims r.events) summary
 
 -- the record's events are none from this line on, which is the first, and this is what is wrong there
-abbrev pub IsFaulty : Settings → RecordView → ℕ → Cause → Type 0
+abbrev pub IsFaulty : Settings → RecordView → ℕ → FaultCause → Type 0
 IsFaulty knobs r line cause =
     IsFirstFault knobs r.start (start_machine r.start r.floors r.tasks) (claimed r.claims r.events) line cause
 

@@ -2,7 +2,7 @@
 use Rattle.std.specs.Prelude.{◌≡◌, ℕ, ◌<◌, ◌≤◌, ◌==◌, ◌&&◌, ◌≢◌, ◌⊎◌, Bool, if◌then◌else◌, is_none, Option, Some, None, List, AllPairs, length, slice_index, take}
 use Rattle.cfs_model.specs.Claimed.{Claimed}
 use Rattle.cfs_model.specs.declared.kind.Kind.TheVariants.{BornTwice, TicketUnequal}
-use Rattle.replay_model.specs.Cause.{Cause as SpecCause}
+use Rattle.replay_model.specs.Cause.{FaultCause as SpecCause}
 use Rattle.replay_model.specs.Closing.{FailsHere, IsPageCause}
 use Rattle.replay_model.specs.Composition.{ticket_at}
 use Rattle.replay_model.specs.Noted.{PageView}
@@ -12,7 +12,7 @@ use Rattle.queue_replay.specs.Replay.{ReplayView}
 use Rattle.ticket_book.specs.Idling.{NoneFirst}
 use Rattle.ticket_book.specs.Places.{AreBelow}
 use Rattle.ticket_book.specs.Told.{view_at}
-use Rattle.ticket_book.specs.declared.cause.Cause.{Cause}
+use Rattle.ticket_book.specs.declared.fault_cause.FaultCause.{FaultCause}
 use Rattle.ticket_book.specs.declared.walk.Walk.{Walk}
 
 -- the lines of the tickets on each page never fall
@@ -33,7 +33,7 @@ pub record StandsAt (pages : List ReplayView) (line : ℕ) (walk : Walk) : Type 
   pub came : AreBehind (λ page. page.came) pages line walk.came
 
 -- the cause by a page's fault, where it is of a test that failed at this line
-abbrev pub failed_on : ℕ → ℕ → Option StepFault → Option Cause
+abbrev pub failed_on : ℕ → ℕ → Option StepFault → Option FaultCause
 failed_on cpu line None = None
 failed_on cpu line (Some fault) =
     if is_none fault.deadline && (fault.line == line)
@@ -41,7 +41,7 @@ failed_on cpu line (Some fault) =
     else None
 
 -- the cause of a birth of a pid that is alive
-abbrev pub born_twice_on : ℕ → ℕ → Bool → Option Cause
+abbrev pub born_twice_on : ℕ → ℕ → Bool → Option FaultCause
 born_twice_on cpu pid alive = if alive then Some (record { cpu = cpu; pid = pid; kind = BornTwice }) else None
 
 -- the pages say nothing against a migration

@@ -7,7 +7,7 @@ ghost use Rattle.ticket_book.specs.Walk.{TicketsRise};
 ghost use Rattle.ticket_book.specs.Whole.{AreSufficient};
 
 use crate::Verdict;
-use crate::cause::Cause;
+use crate::fault_cause::FaultCause;
 use crate::summing::summary_by;
 use crate::walk::Walk;
 use cfs_model::{Knobs, Memory};
@@ -49,7 +49,7 @@ pub(crate) fn told_by(
     alloc: Global,
     pages: &[Page],
     joined: &Record,
-) -> Result<Option<(u32, Cause)>, Memory>
+) -> Result<Option<(u32, FaultCause)>, Memory>
     requires count { length pages.now ≡ (record_view joined.now).cpus }
     requires rise { TicketsRise pages.now }
     ensures { IfOk result (Tell (view_at pages.now) (length pages.now) (record_view joined.now).tasks

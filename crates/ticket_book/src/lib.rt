@@ -3,11 +3,11 @@
 
 mod alive;
 mod book;
-mod cause;
 mod closed;
 mod closing;
 mod cursor;
 mod event_counts;
+mod fault_cause;
 mod following;
 mod idling;
 mod least_fault;

@@ -10,7 +10,7 @@ ghost use Rattle.ticket_book.specs.Told.{Allow, AllowAct, cause_view, view_at};
 ghost use Rattle.ticket_book.specs.Walk.{AllowShift, IsShiftCause, StandsAt, TicketsRise, born_twice_on, failed_on};
 
 use crate::alive::Alive;
-use crate::cause::Cause;
+use crate::fault_cause::FaultCause;
 use crate::idling::{first_deadline, late};
 use crate::places::Places;
 use cfs_model::{Act, Entry, Kind, Memory, Task};
@@ -45,7 +45,7 @@ impl Walk {
     }
 
     /// The first thing that the pages say against the next event.
-    pub(crate) fn cause(&mut self, pages: &[Page], event: &Entry) -> Option<Cause>
+    pub(crate) fn cause(&mut self, pages: &[Page], event: &Entry) -> Option<FaultCause>
         requires few { length pages.now < 2 ^ 32 }
         requires inside { All (λ cpu. cpu < length pages.now) (touched event.now.act) }
         requires rise { TicketsRise pages.now }
@@ -57,7 +57,7 @@ impl Walk {
         ensures alive { self.new.alive ≡ self.old.alive }
     {
         if let Some(cpu) = late(pages, self.deadline, event.time) {
-            return Some(Cause {
+            return Some(FaultCause {
                 cpu: cpu as u32,
                 pid: 0,
                 kind: Kind::IdleTooLong,
@@ -67,7 +67,7 @@ impl Walk {
     }
 
     /// The first thing that they say against what it does.
-    fn act_cause(&mut self, pages: &[Page], line: u32, act: Act) -> Option<Cause>
+    fn act_cause(&mut self, pages: &[Page], line: u32, act: Act) -> Option<FaultCause>
         requires inside { All (λ cpu. cpu < length pages.now) (touched act) }
         requires rise { TicketsRise pages.now }
         requires stands { StandsAt pages.now line self.old }
@@ -91,7 +91,7 @@ impl Walk {
     }
 
     /// The first thing that they say against a birth.
-    fn birth_cause(&self, pages: &[Page], cpu: u32, pid: u32, line: u32) -> Option<Cause>
+    fn birth_cause(&self, pages: &[Page], cpu: u32, pid: u32, line: u32) -> Option<FaultCause>
         requires { cpu < length pages.now }
         ensures { result ≡ option_or (failed_on cpu line (view_at pages.now cpu).fault) (born_twice_on cpu pid (alive_view self.now.alive pid)) }
     {
@@ -99,7 +99,7 @@ impl Walk {
             return Some(cause);
         }
         if self.alive.has(pid) {
-            Some(Cause {
+            Some(FaultCause {
                 cpu,
                 pid,
                 kind: Kind::BornTwice,
@@ -117,7 +117,7 @@ impl Walk {
         dest: u32,
         pid: u32,
         line: u32,
-    ) -> Option<Cause>
+    ) -> Option<FaultCause>
         requires orig { orig < length pages.now }
         requires dest { dest < length pages.now }
         requires rise { TicketsRise pages.now }
@@ -135,7 +135,7 @@ impl Walk {
             return Some(cause);
         }
         if self.tickets_differ(pages, orig, dest, line) {
-            Some(Cause {
+            Some(FaultCause {
                 cpu: dest,
                 pid,
                 kind: Kind::TicketUnequal,
@@ -175,7 +175,7 @@ impl Walk {
 }
 
 /// The fault on a processor's page, where it is of a test that failed at this line.
-fn failed_at(pages: &[Page], cpu: u32, line: u32) -> Option<Cause>
+fn failed_at(pages: &[Page], cpu: u32, line: u32) -> Option<FaultCause>
     requires { cpu < length pages.now }
     ensures { result ≡ failed_on cpu line (view_at pages.now cpu).fault }
 {
@@ -183,12 +183,12 @@ fn failed_at(pages: &[Page], cpu: u32, line: u32) -> Option<Cause>
 }
 
 /// A fault, where it is of a test that failed at this line.
-fn failed_by(fault: Option<StepFault>, cpu: u32, line: u32) -> Option<Cause>
+fn failed_by(fault: Option<StepFault>, cpu: u32, line: u32) -> Option<FaultCause>
     ensures { result ≡ failed_on cpu line fault }
 {
     let fault = fault?;
     if fault.deadline.is_none() && fault.line == line {
-        Some(Cause {
+        Some(FaultCause {
             cpu,
             pid: fault.pid,
             kind: fault.kind,

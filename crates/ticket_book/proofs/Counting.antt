@@ -8,7 +8,7 @@ use Rattle.cfs_model.specs.declared.act.Act.{Act}
 use Rattle.cfs_model.specs.declared.act.Entry.{Entry}
 use Rattle.cfs_model.specs.declared.claim.Claim.{Claim}
 use Rattle.replay_model.specs.Summary.{how_many, is_birth, is_death, is_migration, is_switch}
-use Rattle.ticket_book.specs.EventCounts.{AreBelow, counts_of, with_event}
+use Rattle.ticket_book.specs.EventCounts.{AreCountsBelow, counts_of, with_event}
 use Rattle.ticket_book.specs.declared.event_counts.EventCounts.{EventCounts}
 
 same_counts : (a b : EventCounts) → a.switches ≡ b.switches → a.migrations ≡ b.migrations → a.births ≡ b.births → a.deaths ≡ b.deaths
@@ -31,7 +31,7 @@ count_more events i event within is =
         ∙ sym (sum_by_more (λ (e : Entry). cond (does e.act) 1 0) events i event within)
 
 -- no count is above the number of events
-pub counts_below : (events : List Entry) (i bound : ℕ) → i < length events → length events ≤ bound → AreBelow bound (counts_of (take i events))
+pub counts_below : (events : List Entry) (i bound : ℕ) → i < length events → length events ≤ bound → AreCountsBelow bound (counts_of (take i events))
 counts_below events i bound within most = record {
   switches = below is_switch;
   migrations = below is_migration;

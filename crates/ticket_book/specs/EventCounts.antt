@@ -27,7 +27,7 @@ counts_of events = record {
 }
 
 -- each is below a bound
-pub record AreBelow (bound : ℕ) (counts : EventCounts) : Type 0 where
+pub record AreCountsBelow (bound : ℕ) (counts : EventCounts) : Type 0 where
   pub switches : counts.switches < bound
   pub migrations : counts.migrations < bound
   pub births : counts.births < bound

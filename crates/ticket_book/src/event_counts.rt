@@ -1,6 +1,6 @@
 ghost use Rattle.std.specs.Prelude.{◌≡◌, ◌-◌, ◌^◌};
 ghost use Rattle.replay_model.specs.Summary.{is_birth, is_death, is_migration, is_switch};
-ghost use Rattle.ticket_book.specs.EventCounts.{AreBelow, with_event};
+ghost use Rattle.ticket_book.specs.EventCounts.{AreCountsBelow, with_event};
 
 use cfs_model::{Act, Entry, Way};
 
@@ -24,7 +24,7 @@ impl EventCounts {
 
     /// With one event more.
     pub fn with(self, event: &Entry) -> EventCounts
-        requires { AreBelow (2 ^ 64 - 1) self }
+        requires { AreCountsBelow (2 ^ 64 - 1) self }
         ensures { result ≡ with_event event.now self }
     {
         EventCounts {

@@ -1,7 +1,7 @@
 use Rattle.std.proofs.Common.{take, ap, sym, subst, arith, ◌∙◌, ◌^◌, ◌-◌}
 use Rattle.std.proofs.lemmas.List.{take_all}
 use Rattle.replay_model.specs.Summary.{born_by}
-use Rattle.ticket_book.specs.EventCounts.{AreBelow, counts_of, with_event}
+use Rattle.ticket_book.specs.EventCounts.{AreCountsBelow, counts_of, with_event}
 use Rattle.ticket_book.specs.Naming.{births_in, with_named}
 use Rattle.ticket_book.proofs.Counting.{count_more, counts_below}
 use Rattle.ticket_book.proofs.Naming.{births_more, both_named}
@@ -9,7 +9,7 @@ use Rattle.ticket_book.proofs.summing.count_events.Goals as goal
 
 pub with-counts-requires : goal.with-counts-requires
 with-counts-requires c =
-    subst (AreBelow (2 ^ 64 - 1)) (sym c.loop-event.invariant.counted)
+    subst (AreCountsBelow (2 ^ 64 - 1)) (sym c.loop-event.invariant.counted)
     (counts_below c.args.events.now c.loop-event.event-index (2 ^ 64 - 1) c.loop-event-test.true (omega arith))
 
 pub loop-event-preserved : goal.loop-event-preserved

@@ -6,7 +6,7 @@ use Rattle.cfs_model.proofs.Moves.{same_or_not}
 use Rattle.replay_model.specs.Noted.{PageView}
 use Rattle.replay_model.specs.declared.page.Ticket.{Ticket}
 use Rattle.queue_replay.specs.Replay.{ReplayView}
-use Rattle.ticket_book.specs.Places.{AreBelow, PassesTo}
+use Rattle.ticket_book.specs.TicketPlaces.{AreBelow, PassesTo}
 use Rattle.ticket_book.specs.Told.{view_at}
 use Rattle.ticket_book.specs.Walk.{AreBehind, StandsAt}
 use Rattle.ticket_book.specs.declared.walk.Walk.{Walk}

@@ -7,7 +7,7 @@ use Rattle.std.proofs.lemmas.List.{get_or-take, length-take}
 use Rattle.cfs_model.proofs.Moves.{same_or_not}
 use Rattle.replay_model.specs.Composition.{ticket_at}
 use Rattle.replay_model.specs.declared.page.Ticket.{Ticket}
-use Rattle.ticket_book.specs.Places.{AreBelow, if_of_line}
+use Rattle.ticket_book.specs.TicketPlaces.{AreBelow, if_of_line}
 
 -- no ticket is of a line below all
 none_above : (line : ℕ) (ts : List Ticket) → All (λ t. line < t.line) ts → ticket_at line ts ≡ None

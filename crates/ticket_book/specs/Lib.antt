@@ -9,10 +9,10 @@ pub mod Remade
 pub mod Alive
 pub mod Idling
 pub mod Naming
-pub mod Places
 pub mod Same
 pub mod SummaryView
 pub mod Tallying
+pub mod TicketPlaces
 pub mod Told
 pub mod Verdict
 pub mod Walk

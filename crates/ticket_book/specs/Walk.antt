@@ -10,7 +10,7 @@ use Rattle.replay_model.specs.declared.page.StepFault.{StepFault}
 use Rattle.replay_model.specs.declared.page.Ticket.{Ticket}
 use Rattle.queue_replay.specs.Replay.{ReplayView}
 use Rattle.ticket_book.specs.Idling.{NoneFirst}
-use Rattle.ticket_book.specs.Places.{AreBelow}
+use Rattle.ticket_book.specs.TicketPlaces.{AreBelow}
 use Rattle.ticket_book.specs.Told.{view_at}
 use Rattle.ticket_book.specs.declared.fault_cause.FaultCause.{FaultCause}
 use Rattle.ticket_book.specs.declared.walk.Walk.{Walk}

@@ -11,13 +11,13 @@ mod fault_cause;
 mod following;
 mod idling;
 mod least_fault;
-mod places;
 mod post_fault;
 mod relying;
 mod remaking;
 mod summary;
 mod summing;
 mod task_sums;
+mod ticket_places;
 mod verdict;
 mod walk;
 

@@ -4,7 +4,7 @@ use Rattle.std.specs.List.{AllPairs}
 use Rattle.std.specs.Bool.{OnFalse, OnTrue}
 use Rattle.replay_model.specs.Composition.{ticket_at}
 use Rattle.replay_model.specs.declared.page.Ticket.{Ticket}
-use Rattle.ticket_book.specs.Places.{AreBelow, PassesTo}
+use Rattle.ticket_book.specs.TicketPlaces.{AreBelow, PassesTo}
 use Rattle.ticket_book.specs.Told.{view_at}
 use Rattle.ticket_book.proofs.Standing.{one_moved}
 use Rattle.ticket_book.proofs.Views.{view_here}

@@ -1,8 +1,8 @@
 use Rattle.std.proofs.Common.{◌≡◌, ◌<◌, length, get_or, slice_set, take, sym, ap, subst, ◌∙◌}
 use Rattle.std.proofs.lemmas.List.{get_or_default}
-use Rattle.ticket_book.specs.Places.{AreBelow}
+use Rattle.ticket_book.specs.TicketPlaces.{AreBelow}
 use Rattle.ticket_book.proofs.TicketsPassed.{ticket_here, passed_to}
-use Rattle.ticket_book.proofs.places.Places.ticket.Goals as goal
+use Rattle.ticket_book.proofs.ticket_places.TicketPlaces.ticket.Goals as goal
 
 pub returns : goal.returns
 returns c =

@@ -1,7 +1,7 @@
 ghost use Rattle.std.specs.Prelude.{◌≡◌, ℕ, ◌<◌, ◌≤◌, All, AllPairs, IfOk, length, replicate, slice_get, slice_index, slice_index_or, take};
 ghost use Rattle.replay_model.specs.Composition.{ticket_at};
 ghost use Rattle.replay_model.specs.declared.page.Ticket.{Ticket};
-ghost use Rattle.ticket_book.specs.Places.{AreBelow, PassesTo, if_of_line};
+ghost use Rattle.ticket_book.specs.TicketPlaces.{AreBelow, PassesTo, if_of_line};
 
 use cfs_model::Memory;
 use replay_model::Ticket;
@@ -11,11 +11,11 @@ use std::marker::Model;
 /// A place in a list of tickets for each processor. It moves along the list as the lines go up, so that a whole walk
 /// goes over each list once.
 #[derive(Drop)]
-pub(crate) struct Places {
+pub(crate) struct TicketPlaces {
     items: Vec<usize>,
 }
 
-impl Model for Places {
+impl Model for TicketPlaces {
     ghost use Rattle.std.specs.Prelude.{ℕ, List};
 
     ghost Value = { List ℕ };
@@ -23,13 +23,13 @@ impl Model for Places {
     ghost view = { λ p. p.items.items };
 }
 
-impl Places {
+impl TicketPlaces {
     /// Each at the front.
-    pub(crate) fn new(alloc: Global, cpus: usize) -> Result<Places, Memory>
+    pub(crate) fn new(alloc: Global, cpus: usize) -> Result<TicketPlaces, Memory>
         ensures { IfOk result (λ places. places ≡ replicate cpus 0) }
     {
         let items = vec![in alloc; 0; cpus]?;
-        Ok(Places { items })
+        Ok(TicketPlaces { items })
     }
 
     /// The ticket of a line, which is above those passed. The place moves up to it.

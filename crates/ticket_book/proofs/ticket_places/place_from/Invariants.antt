@@ -1,6 +1,6 @@
 use Rattle.std.proofs.Common.{ℕ, ◌-◌, ◌<◌, ◌≤◌, length, slice_index_or}
 use Rattle.replay_model.specs.declared.page.Ticket.{Ticket}
-use Rattle.ticket_book.proofs.places.place_from.Given as goal
+use Rattle.ticket_book.proofs.ticket_places.place_from.Given as goal
 
 abbrev pub invariant-loop-place : goal.invariant-loop-place
 invariant-loop-place l = record {

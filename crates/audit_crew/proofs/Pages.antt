@@ -2,7 +2,7 @@
 use Rattle.std.proofs.Common.{◌≡◌, ℕ, zero, suc, ◌+◌, List, [], ◌∷◌, set, replicate, Option, Some, None, refl, ap}
 use Rattle.std.specs.Prelude.{slice_get}
 use Rattle.queue_replay.specs.Replay.{ReplayView}
-use Rattle.ticket_book.specs.Book.{refusal_at, refusal_of}
+use Rattle.ticket_book.specs.Book.{refusal_at, post_refusal}
 use Rattle.audit_crew.specs.Filled.{filled}
 
 room_at : (found : Option (Option ReplayView)) → None ≡ refusal_at found → found ≡ Some None
@@ -19,7 +19,7 @@ fills (None ∷ places) (suc cpu) page e = fills places cpu page e
 fills (Some other ∷ places) (suc cpu) page e = ap (λ n. n + 1) (fills places cpu page e)
 
 -- a page that isn't refused is one page more
-pub one_more : (places : List (Option ReplayView)) (cpu : ℕ) (page : ReplayView) → None ≡ refusal_of places cpu
+pub one_more : (places : List (Option ReplayView)) (cpu : ℕ) (page : ReplayView) → None ≡ post_refusal places cpu
     → filled (set places cpu (Some page)) ≡ filled places + 1
 one_more places cpu page e = fills places cpu page (room_at (slice_get places cpu) e)
 

@@ -7,7 +7,7 @@ use Rattle.std.proofs.lemmas.List.{get_or-set_same, get_or-set_other, length-rep
 use Rattle.std.proofs.lemmas.Option.{slice_get_within, none-some, same_Some}
 use Rattle.cfs_model.specs.Limits.{most_processors}
 use Rattle.queue_replay.specs.Replay.{ReplayView}
-use Rattle.ticket_book.specs.Book.{IsBook, fault_line, least_line, no_fault, place_line, place_of, refusal_at, refusal_of}
+use Rattle.ticket_book.specs.Book.{IsBook, line_of_fault, least_line, no_fault, place_line, page_at, refusal_at, post_refusal}
 
 room_at : (found : Option (Option ReplayView)) → None ≡ refusal_at found → found ≡ Some None
 room_at None e = absurd cc
@@ -15,7 +15,7 @@ room_at (Some (Some page)) e = absurd cc
 room_at (Some None) e = refl
 
 -- a page that isn't refused finds an empty place
-pub room : (places : List (Option ReplayView)) (cpu : ℕ) → None ≡ refusal_of places cpu → slice_get places cpu ≡ Some None
+pub room : (places : List (Option ReplayView)) (cpu : ℕ) → None ≡ post_refusal places cpu → slice_get places cpu ≡ Some None
 room places cpu e = room_at (slice_get places cpu) e
 
 pub least_of_empty : (n : ℕ) → least_line (replicate n None) ≡ no_fault
@@ -28,7 +28,7 @@ least_within (place ∷ places) = omega (arith, least_within places)
 
 -- the least line with one more page
 pub least_put : (places : List (Option ReplayView)) (cpu : ℕ) (page : ReplayView) → slice_get places cpu ≡ Some None
-    → least_line (set places cpu (Some page)) ≡ min (least_line places) (fault_line page.page.fault)
+    → least_line (set places cpu (Some page)) ≡ min (least_line places) (line_of_fault page.page.fault)
 least_put [] cpu page e = absurd cc
 least_put (place ∷ places) zero page e =
     let is_empty : place ≡ None = same_Some place None e in
@@ -37,14 +37,14 @@ least_put (place ∷ places) zero page e =
 least_put (place ∷ places) (suc cpu) page e = omega (arith, least_put places cpu page e)
 
 own_put : (places : List (Option ReplayView)) (cpu : ℕ) (page : ReplayView) → cpu < length places → page.stream.cpu ≡ cpu
-    → ((other : ℕ) (p : ReplayView) → place_of places other ≡ Some p → p.stream.cpu ≡ other)
-    → (other : ℕ) (p : ReplayView) → place_of (set places cpu (Some page)) other ≡ Some p → p.stream.cpu ≡ other
+    → ((other : ℕ) (p : ReplayView) → page_at places other ≡ Some p → p.stream.cpu ≡ other)
+    → (other : ℕ) (p : ReplayView) → page_at (set places cpu (Some page)) other ≡ Some p → p.stream.cpu ≡ other
 own_put places cpu page h is own other p e = go (cases_eq other cpu)
   where
     go : (other ≡ cpu) ⊎ (other ≢ cpu) → p.stream.cpu ≡ other
     go (inl same) =
-        let here : place_of (set places cpu (Some page)) other ≡ Some page =
-        ap (place_of (set places cpu (Some page))) same ∙ get_or-set_same places cpu (Some page) None h in
+        let here : page_at (set places cpu (Some page)) other ≡ Some page =
+        ap (page_at (set places cpu (Some page))) same ∙ get_or-set_same places cpu (Some page) None h in
         let same_page : page ≡ p = same_Some page p (sym here ∙ e) in
         ap (λ (q : ReplayView). q.stream.cpu) (sym same_page) ∙ is ∙ sym same
     go (inr not) = own other p (sym (get_or-set_other places cpu other (Some page) None not) ∙ e)
@@ -52,7 +52,7 @@ own_put places cpu page h is own other p e = go (cases_eq other cpu)
 -- a book with one more page
 pub book_put : (places : List (Option ReplayView)) (least cpu : ℕ) (page : ReplayView) → IsBook places least
     → slice_get places cpu ≡ Some None → page.stream.cpu ≡ cpu
-    → IsBook (set places cpu (Some page)) (min least (fault_line page.page.fault))
+    → IsBook (set places cpu (Some page)) (min least (line_of_fault page.page.fault))
 book_put places least cpu page book empty is =
     let h = slice_get_within places cpu None empty in
     let same = length-set places cpu (Some page) in
@@ -60,10 +60,10 @@ book_put places least cpu page book empty is =
       some = let some = book.some in omega (arith, some, same);
       at_most = let most = book.at_most in omega (arith, most, same);
       own = own_put places cpu page h is book.own;
-      least_is = ap (λ line. min line (fault_line page.page.fault)) book.least_is ∙ sym (least_put places cpu page empty);
+      least_is = ap (λ line. min line (line_of_fault page.page.fault)) book.least_is ∙ sym (least_put places cpu page empty);
     }
 
-pub none_there : (cpus cpu : ℕ) → place_of (replicate cpus None) cpu ≡ None
+pub none_there : (cpus cpu : ℕ) → page_at (replicate cpus None) cpu ≡ None
 none_there zero cpu = refl
 none_there (suc cpus) zero = refl
 none_there (suc cpus) (suc cpu) = none_there cpus cpu

@@ -13,7 +13,7 @@ use Rattle.queue_replay.specs.Made.{reached_at}
 use Rattle.queue_replay.specs.Replay.{ReplayView}
 use Rattle.queue_replay.specs.declared.tag.Reached.TheVariants.{Stopped, Done}
 use Rattle.sched_record.specs.Record.{RecordView}
-use Rattle.ticket_book.specs.Book.{fault_line, least_line, no_fault, place_of}
+use Rattle.ticket_book.specs.Book.{line_of_fault, least_line, no_fault, page_at}
 use Rattle.ticket_book.specs.Core.{ask, post, AreCoreSteps, AreLeft, Core, CoreStep, MayPost, start_core}
 use Rattle.ticket_book.specs.Remade.{AreRemade, AreRemadeBelow, IsLeastFault, ReachesEnough, Suffices}
 use Rattle.ticket_book.specs.Whole.{IsOwnPageOf}
@@ -28,7 +28,7 @@ record IsKept (knobs : Settings) (r : RecordView) (cpu least : ℕ) (page : Repl
 -- what each state of the core keeps
 record KeepsCore (knobs : Settings) (r : RecordView) (core : Core) : Type 0 where
   count : length core.places ≡ r.cpus
-  each : (cpu : ℕ) (page : ReplayView) → place_of core.places cpu ≡ Some page
+  each : (cpu : ℕ) (page : ReplayView) → page_at core.places cpu ≡ Some page
       → IsKept knobs r cpu (least_line core.places) page
   told : (cpu : ℕ) → least_line core.places ≤ core.told cpu
   at_most : (cpu : ℕ) → core.told cpu ≤ no_fault
@@ -58,7 +58,7 @@ kept_start knobs r =
     }
 
 -- a place within a book that has no page
-empty_at : (places : List (Option ReplayView)) (cpu : ℕ) → cpu < length places → place_of places cpu ≡ None
+empty_at : (places : List (Option ReplayView)) (cpu : ℕ) → cpu < length places → page_at places cpu ≡ None
     → slice_get places cpu ≡ Some None
 empty_at [] cpu h e = absurd (omega arith)
 empty_at (place ∷ places) zero h e = ap Some e
@@ -83,7 +83,7 @@ module _ (knobs : Settings) (r : RecordView) (core : Core) (k : KeepsCore knobs 
     ];
   }
 
-  kept_post : (cpu : ℕ) (page : ReplayView) → cpu < r.cpus → place_of core.places cpu ≡ None
+  kept_post : (cpu : ℕ) (page : ReplayView) → cpu < r.cpus → page_at core.places cpu ≡ None
       → MayPost knobs r cpu (core.told cpu) page
       → KeepsCore knobs r (record core { places = set core.places cpu (Some page) })
   kept_post cpu page h empty may = record {
@@ -116,11 +116,11 @@ module _ (knobs : Settings) (r : RecordView) (core : Core) (k : KeepsCore knobs 
         ];
       }
 
-      each_more : (other : ℕ) (p : ReplayView) → place_of (set core.places cpu (Some page)) other ≡ Some p
+      each_more : (other : ℕ) (p : ReplayView) → page_at (set core.places cpu (Some page)) other ≡ Some p
           → IsKept knobs r other (least_line (set core.places cpu (Some page))) p
       each_more other p e = elim (same_or_not other cpu) [
-        | inl same ↦ (let here : place_of (set core.places cpu (Some page)) other ≡ Some page =
-            ap (place_of (set core.places cpu (Some page))) same ∙ get_or-set_same core.places cpu (Some page) None within in
+        | inl same ↦ (let here : page_at (set core.places cpu (Some page)) other ≡ Some page =
+            ap (page_at (set core.places cpu (Some page))) same ∙ get_or-set_same core.places cpu (Some page) None within in
             let is : page ≡ p = same_Some page p (sym here ∙ e) in
             subst (λ (q : ReplayView). IsKept knobs r other (least_line (set core.places cpu (Some page))) q) is
             (subst (λ n. IsKept knobs r n (least_line (set core.places cpu (Some page))) page) (sym same)
@@ -142,8 +142,8 @@ record IsAttained (places : List (Option ReplayView)) : Type 0 where
   cpu : ℕ
   page : ReplayView
   within : cpu < length places
-  stands : place_of places cpu ≡ Some page
-  line : fault_line page.page.fault ≡ least_line places
+  stands : page_at places cpu ≡ Some page
+  line : line_of_fault page.page.fault ≡ least_line places
 
 attained_later : (place : Option ReplayView) (places : List (Option ReplayView)) → least_line places ≡ least_line (place ∷ places)
     → IsAttained places → IsAttained (place ∷ places)
@@ -160,24 +160,24 @@ attained [] h = absurd (omega arith)
 attained (None ∷ places) h =
     let most = least_within places in
     attained_later None places (omega (arith, most)) (attained places (omega (arith, most, h)))
-attained (Some page ∷ places) h = elim (cases_lt (least_line places) (fault_line page.page.fault)) [
+attained (Some page ∷ places) h = elim (cases_lt (least_line places) (line_of_fault page.page.fault)) [
   | inl lt ↦ attained_later (Some page) places (omega (arith, lt)) (attained places (omega (arith, lt, h)))
   | inr ge ↦ record { cpu = 0; page = page; within = omega arith; stands = refl; line = omega (arith, ge) }
 ]
 
-at_least : (places : List (Option ReplayView)) (cpu : ℕ) (page : ReplayView) → place_of places cpu ≡ Some page
-    → least_line places ≤ fault_line page.page.fault
+at_least : (places : List (Option ReplayView)) (cpu : ℕ) (page : ReplayView) → page_at places cpu ≡ Some page
+    → least_line places ≤ line_of_fault page.page.fault
 at_least [] cpu page e = absurd (none-some page e)
 at_least (None ∷ places) zero page e = absurd (none-some page e)
 at_least (Some p ∷ places) zero page e =
-    let is : fault_line p.page.fault ≡ fault_line page.page.fault =
-    ap (λ (q : ReplayView). fault_line q.page.fault) (same_Some p page e) in
+    let is : line_of_fault p.page.fault ≡ line_of_fault page.page.fault =
+    ap (λ (q : ReplayView). line_of_fault q.page.fault) (same_Some p page e) in
     omega (arith, is)
 at_least (None ∷ places) (suc cpu) page e = let low = at_least places cpu page e in omega (arith, low)
 at_least (Some p ∷ places) (suc cpu) page e = let low = at_least places cpu page e in omega (arith, low)
 
 -- where a page of the core has a fault, the least line is that of the record's own pages
-faulted : (o : Option StepFault) → fault_line o < no_fault → (fault : StepFault) × (o ≡ Some fault)
+faulted : (o : Option StepFault) → line_of_fault o < no_fault → (fault : StepFault) × (o ≡ Some fault)
 faulted None h = absurd (omega arith)
 faulted (Some fault) h = (fault, refl)
 
@@ -197,11 +197,11 @@ module _ (knobs : Settings) (r : RecordView) (core : Core) (k : KeepsCore knobs 
           own = own;
           fault = f.0;
           is_fault = f.1;
-          at_line = ap fault_line (sym f.1) ∙ line;
+          at_line = ap line_of_fault (sym f.1) ∙ line;
         };
         least = λ other lesser w g.
             (let low = at_least core.places other g.page g.stands in
-            let is : fault_line g.page.page.fault ≡ lesser = ap fault_line g.is_fault ∙ g.at_line in
+            let is : line_of_fault g.page.page.fault ≡ lesser = ap line_of_fault g.is_fault ∙ g.at_line in
             omega (arith, low, is));
       }
 
@@ -217,7 +217,7 @@ module _ (knobs : Settings) (r : RecordView) (core : Core) (k : KeepsCore knobs 
       go true = (least_line core.places, least_is h.0, h.1)
       go false = tt
 
-  left_suffices : (cpu : ℕ) (place : Option ReplayView) → place_of core.places cpu ≡ place → IsSome place
+  left_suffices : (cpu : ℕ) (place : Option ReplayView) → page_at core.places cpu ≡ place → IsSome place
       → Suffices knobs r core.places cpu place
   left_suffices cpu None e some = absurd (false≢true some)
   left_suffices cpu (Some page) e some =
@@ -228,7 +228,7 @@ module _ (knobs : Settings) (r : RecordView) (core : Core) (k : KeepsCore knobs 
       }
 
 none_remade : (knobs : Settings) (r : RecordView) (places : List (Option ReplayView)) (cpus count : ℕ)
-    → ((cpu : ℕ) → cpu < cpus → Suffices knobs r places cpu (place_of places cpu))
+    → ((cpu : ℕ) → cpu < cpus → Suffices knobs r places cpu (page_at places cpu))
     → AreRemadeBelow knobs r places cpus count → count ≡ 0
 none_remade knobs r places zero count all h = h
 none_remade knobs r places (suc cpu) count all (inl h) =
@@ -241,5 +241,5 @@ pub nothing_remade : (knobs : Settings) (r : RecordView) (places : List (Option 
 nothing_remade knobs r places count remade left =
     let kept = kept_steps knobs r (start_core r) left.steps left.core (kept_start knobs r) left.are_steps in
     none_remade knobs r left.core.places r.cpus count
-    (λ cpu h. left_suffices knobs r left.core kept cpu (place_of left.core.places cpu) refl (left.complete cpu h))
+    (λ cpu h. left_suffices knobs r left.core kept cpu (page_at left.core.places cpu) refl (left.complete cpu h))
     (subst (λ ps. AreRemade knobs r ps count) (sym left.are_places) remade)

@@ -16,7 +16,7 @@ use Rattle.queue_replay.specs.Replay.{ReplayView}
 use Rattle.queue_replay.specs.declared.tag.Reached.{Reached}
 use Rattle.queue_replay.specs.declared.tag.Reached.TheVariants.{Stopped, Done, Faulted}
 use Rattle.sched_record.specs.Record.{RecordView}
-use Rattle.ticket_book.specs.Book.{place_of}
+use Rattle.ticket_book.specs.Book.{page_at}
 use Rattle.ticket_book.specs.Relying.{IsEnough, IsLeastOf, IsReliable, IsReliableAt}
 use Rattle.ticket_book.specs.Remade.{AreRemadeBelow, HasFaultAt, IsLeastFault, ReachesEnough, Suffices, SufficesFor}
 use Rattle.ticket_book.specs.Told.{view_at}
@@ -106,9 +106,9 @@ pub record AreGathered (knobs : Settings) (r : RecordView) (places left : List (
   pub count : length pages ≡ cpu
   pub each : (other : ℕ) (page : ReplayView) → slice_get pages other ≡ Some page → IsGathered knobs r places other page
   -- those of the book that suffice
-  pub kept : (other : ℕ) (page : ReplayView) → other < cpu → place_of places other ≡ Some page
+  pub kept : (other : ℕ) (page : ReplayView) → other < cpu → page_at places other ≡ Some page
       → SufficesFor knobs r places other page → slice_get pages other ≡ Some page
-  pub left_are : (other : ℕ) → cpu ≤ other → place_of left other ≡ place_of places other
+  pub left_are : (other : ℕ) → cpu ≤ other → page_at left other ≡ page_at places other
   pub remade_are : AreRemadeBelow knobs r places cpu remade
   pub few : remade ≤ cpu
 
@@ -134,7 +134,7 @@ push_last (y ∷ ys) x = push_last ys x
 -- one more page, of the next processor
 module _ (knobs : Settings) (r : RecordView) (places left after : List (Option ReplayView)) (pages : List ReplayView) (cpu remade : ℕ) (page : ReplayView)
     (gathered : AreGathered knobs r places left pages cpu remade) (is : IsGathered knobs r places cpu page)
-    (others : (other : ℕ) → other ≢ cpu → place_of after other ≡ place_of left other) where
+    (others : (other : ℕ) → other ≢ cpu → page_at after other ≡ page_at left other) where
   each_more : (other : ℕ) (p : ReplayView) → slice_get (pages ++ page ∷ []) other ≡ Some p → IsGathered knobs r places other p
   each_more other p e = go (cases_lt other (length pages))
     where
@@ -151,9 +151,9 @@ module _ (knobs : Settings) (r : RecordView) (places left after : List (Option R
 
   -- the page that stands at the processor's place, if it suffices, is the one gathered
   abbrev Keeps : Type 0
-  Keeps = (p : ReplayView) → place_of places cpu ≡ Some p → SufficesFor knobs r places cpu p → p ≡ page
+  Keeps = (p : ReplayView) → page_at places cpu ≡ Some p → SufficesFor knobs r places cpu p → p ≡ page
 
-  kept_more : Keeps → (other : ℕ) (p : ReplayView) → other < cpu + 1 → place_of places other ≡ Some p
+  kept_more : Keeps → (other : ℕ) (p : ReplayView) → other < cpu + 1 → page_at places other ≡ Some p
       → SufficesFor knobs r places other p → slice_get (pages ++ page ∷ []) other ≡ Some p
   kept_more keeps other p h e s = go (cases_lt other cpu)
     where
@@ -162,11 +162,11 @@ module _ (knobs : Settings) (r : RecordView) (places left after : List (Option R
           ∙ gathered.kept other p lt e s
       go (inr ge) =
           let here : other ≡ cpu = omega (arith, ge, h) in
-          let same : p ≡ page = keeps p (ap (place_of places) (sym here) ∙ e)
+          let same : p ≡ page = keeps p (ap (page_at places) (sym here) ∙ e)
           (subst (λ n. SufficesFor knobs r places n p) here s) in
           ap (slice_get (pages ++ page ∷ [])) (here ∙ sym gathered.count) ∙ push_last pages page ∙ ap Some (sym same)
 
-  left_more : (other : ℕ) → cpu + 1 ≤ other → place_of after other ≡ place_of places other
+  left_more : (other : ℕ) → cpu + 1 ≤ other → page_at after other ≡ page_at places other
   left_more other le = others other (omega arith) ∙ gathered.left_are other (omega arith)
 
   more : (count : ℕ) → Keeps → AreRemadeBelow knobs r places (suc cpu) count → count ≤ cpu + 1
@@ -181,19 +181,19 @@ module _ (knobs : Settings) (r : RecordView) (places left after : List (Option R
   }
 
   -- the place's own, which suffices
-  pub gathered_one : place_of left cpu ≡ Some page → AreGathered knobs r places after (pages ++ page ∷ []) (cpu + 1) remade
+  pub gathered_one : page_at left cpu ≡ Some page → AreGathered knobs r places after (pages ++ page ∷ []) (cpu + 1) remade
   gathered_one here =
-      let stands : place_of places cpu ≡ Some page = sym (gathered.left_are cpu (omega arith)) ∙ here in
-      let suffices : Suffices knobs r places cpu (place_of places cpu) =
+      let stands : page_at places cpu ≡ Some page = sym (gathered.left_are cpu (omega arith)) ∙ here in
+      let suffices : Suffices knobs r places cpu (page_at places cpu) =
       subst (Suffices knobs r places cpu) (sym stands) is.suffices in
       more remade (λ p e s. same_Some p page (sym e ∙ stands)) (inl (suffices, gathered.remade_are))
       (let few = gathered.few in omega (arith, few))
 
   -- one that was made again
-  pub made_one : ¬ Suffices knobs r places cpu (place_of left cpu)
+  pub made_one : ¬ Suffices knobs r places cpu (page_at left cpu)
       → AreGathered knobs r places after (pages ++ page ∷ []) (cpu + 1) (remade + 1)
   made_one lacks =
-      let short : ¬ Suffices knobs r places cpu (place_of places cpu) =
+      let short : ¬ Suffices knobs r places cpu (page_at places cpu) =
       subst (λ place. ¬ Suffices knobs r places cpu place) (gathered.left_are cpu (omega arith)) lacks in
       more (remade + 1) (λ p e s. absurd (short (subst (Suffices knobs r places cpu) (sym e) s)))
       (inr (short, (remade, add-one remade, gathered.remade_are))) (let few = gathered.few in omega (arith, few))
@@ -216,7 +216,7 @@ all_gathered knobs r places left pages remade g = record {
     faulted line least first past =
         let f = first.there in
         let there = g.kept first.cpu f.page first.within f.stands
-        (fault_suffices knobs r places first.cpu least (place_of places first.cpu) f) in
+        (fault_suffices knobs r places first.cpu least (page_at places first.cpu) f) in
         record {
           cpu = first.cpu;
           within = subst (λ n. first.cpu < n) (sym g.count) first.within;

@@ -6,13 +6,13 @@ use Rattle.cfs_model.specs.Settings.{Settings}
 use Rattle.replay_model.specs.declared.page.StepFault.{StepFault}
 use Rattle.queue_replay.specs.Replay.{ReplayView}
 use Rattle.sched_record.specs.Record.{RecordView}
-use Rattle.ticket_book.specs.Book.{place_of}
+use Rattle.ticket_book.specs.Book.{page_at}
 use Rattle.ticket_book.specs.Relying.{IsLeastOf, lesser_of}
 use Rattle.ticket_book.specs.Remade.{HasFaultAt, IsLeastFaultBelow}
 
 module _ (knobs : Settings) (r : RecordView) (places : List (Option ReplayView)) where
   abbrev At : ℕ → ℕ → Type 0
-  At cpu line = HasFaultAt knobs r cpu (place_of places cpu) line
+  At cpu line = HasFaultAt knobs r cpu (page_at places cpu) line
 
   -- a place has a fault at one line at most
   one_line : (cpu line other : ℕ) → At cpu line → At cpu other → line ≡ other

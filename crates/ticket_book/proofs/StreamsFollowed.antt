@@ -5,7 +5,7 @@ use Rattle.std.specs.Prelude.{slice_get}
 use Rattle.std.proofs.lemmas.Option.{same_Some, slice_get-get_or, slice_get_past}
 use Rattle.replay_model.specs.declared.step.Step.{Step}
 use Rattle.queue_replay.specs.Replay.{ReplayView}
-use Rattle.ticket_book.specs.Book.{place_of}
+use Rattle.ticket_book.specs.Book.{page_at}
 use Rattle.ticket_book.specs.Cursor.{IsCursor, IsFollowed, steps_in}
 use Rattle.ticket_book.specs.declared.cursor.Cursor.{Cursor}
 
@@ -23,15 +23,15 @@ set_elsewhere (y ∷ ys) (suc i) (suc j) x ne = set_elsewhere ys i j x (λ e. ne
 
 -- one more step at a processor that has a cursor
 pub followed_here : (places : List (Option ReplayView)) (cursors : List Cursor) (cpu : ℕ) (steps dealt : List Step) (start new : Cursor) (step : Step)
-    → steps ≡ steps_in (place_of places cpu) → cpu < length cursors
+    → steps ≡ steps_in (page_at places cpu) → cpu < length cursors
     → (IsCursor steps dealt (get_or cursors cpu start) → IsCursor steps (dealt ++ step ∷ []) new)
     → IsFollowed places cursors cpu dealt → IsFollowed places (set cursors cpu new) cpu (dealt ++ step ∷ [])
 followed_here places cursors cpu steps dealt start new step same h after followed cursor e =
     let is : new ≡ cursor = same_Some new cursor (sym (set_here cursors cpu new h) ∙ e) in
-    let before : IsCursor (steps_in (place_of places cpu)) dealt (get_or cursors cpu start) =
+    let before : IsCursor (steps_in (page_at places cpu)) dealt (get_or cursors cpu start) =
     followed (get_or cursors cpu start) (slice_get-get_or cursors cpu start h) in
     let now : IsCursor steps (dealt ++ step ∷ []) new = after (subst (λ (s : List Step). IsCursor s dealt (get_or cursors cpu start)) (sym same) before) in
-    subst (λ (c : Cursor). IsCursor (steps_in (place_of places cpu)) (dealt ++ step ∷ []) c) is
+    subst (λ (c : Cursor). IsCursor (steps_in (page_at places cpu)) (dealt ++ step ∷ []) c) is
     (subst (λ (s : List Step). IsCursor s (dealt ++ step ∷ []) new) same now)
 
 -- a processor without a cursor

@@ -48,11 +48,11 @@ slice_get-within (p ∷ pages) zero page is = omega arith
 slice_get-within (p ∷ pages) (suc cpu) page is = let h = slice_get-within pages cpu page is in omega arith
 
 -- the page at a place
-page_at : (pages : List ReplayView) (cpu : ℕ) → cpu < length pages
+page_there : (pages : List ReplayView) (cpu : ℕ) → cpu < length pages
     → (page : ReplayView) × (slice_get pages cpu ≡ Some page) × (view_at pages cpu ≡ page.page)
-page_at [] cpu h = absurd (omega arith)
-page_at (page ∷ pages) zero h = (page, refl, refl)
-page_at (page ∷ pages) (suc cpu) h = page_at pages cpu (omega arith)
+page_there [] cpu h = absurd (omega arith)
+page_there (page ∷ pages) zero h = (page, refl, refl)
+page_there (page ∷ pages) (suc cpu) h = page_there pages cpu (omega arith)
 
 -- a page that suffices, as the laws of the closing take it
 suffices_among : (knobs : Settings) (r : RecordView) (pages : List ReplayView) (cpu : ℕ) (page : ReplayView)
@@ -75,7 +75,7 @@ module _ (knobs : Settings) (r : RecordView) (pages : List ReplayView) (sufficie
 
   pub all_suffice : AreTold
   all_suffice cpu h =
-      let p = page_at pages cpu h in suffices_among knobs r pages cpu p.0 (sufficient.each cpu p.0 p.1) p.2
+      let p = page_there pages cpu h in suffices_among knobs r pages cpu p.0 (sufficient.each cpu p.0 p.1) p.2
 
   in_record : IsRecordInOrder r → IsRecord r.start r.floors r.tasks (claimed r.claims r.events) (length pages)
   in_record o = subst (IsRecord r.start r.floors r.tasks (claimed r.claims r.events)) (sym sufficient.count) (record_of r o)

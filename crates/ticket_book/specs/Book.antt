@@ -11,30 +11,30 @@ abbrev pub no_fault : ℕ
 no_fault = 18446744073709551615
 
 -- the line of a fault
-abbrev pub fault_line : Option StepFault → ℕ
-fault_line None = no_fault
-fault_line (Some fault) = fault.line
+abbrev pub line_of_fault : Option StepFault → ℕ
+line_of_fault None = no_fault
+line_of_fault (Some fault) = fault.line
 
 -- the line of the fault of the page at a place, if there is a page and it has a fault
 abbrev pub place_line : Option ReplayView → ℕ
 place_line None = no_fault
-place_line (Some page) = fault_line page.page.fault
+place_line (Some page) = line_of_fault page.page.fault
 
 -- the least line of a fault on the pages at some places
 abbrev pub least_line : List (Option ReplayView) → ℕ
 least_line [] = no_fault
 least_line (place ∷ places) = min (place_line place) (least_line places)
 
--- the place of a processor; behind the last there is no page
-abbrev pub place_of : List (Option ReplayView) → ℕ → Option ReplayView
-place_of places cpu = slice_index_or places cpu None
+-- the page at the place of a processor, if there is one; behind the last there is none
+abbrev pub page_at : List (Option ReplayView) → ℕ → Option ReplayView
+page_at places cpu = slice_index_or places cpu None
 
 -- what every book keeps: it has a place for each of its processors, where a page of that processor alone can stand, and
 -- the least line is the one over its pages
 pub record IsBook (places : List (Option ReplayView)) (least : ℕ) : Type 0 where
   pub some : 0 < length places
   pub at_most : length places ≤ most_processors
-  pub own : (cpu : ℕ) (page : ReplayView) → place_of places cpu ≡ Some page → page.stream.cpu ≡ cpu
+  pub own : (cpu : ℕ) (page : ReplayView) → page_at places cpu ≡ Some page → page.stream.cpu ≡ cpu
   pub least_is : least ≡ least_line places
 
 -- why no page can be posted to a place, if so: there is no such place, or it has a page
@@ -44,8 +44,8 @@ refusal_at (Some (Some page)) = Some Twice
 refusal_at (Some None) = None
 
 -- why a page of a processor can't be posted, if so
-abbrev pub refusal_of : List (Option ReplayView) → ℕ → Option PostFault
-refusal_of places cpu = refusal_at (slice_get places cpu)
+abbrev pub post_refusal : List (Option ReplayView) → ℕ → Option PostFault
+post_refusal places cpu = refusal_at (slice_get places cpu)
 
 -- why a post was refused, if it was
 abbrev pub refusal_in : Result ℕ (ReplayView × PostFault) → Option PostFault

@@ -6,7 +6,7 @@ use Rattle.cfs_model.specs.Settings.{Settings}
 use Rattle.replay_model.specs.Page.{IsPageOf}
 use Rattle.queue_replay.specs.Replay.{ReplayView}
 use Rattle.sched_record.specs.Record.{RecordView}
-use Rattle.ticket_book.specs.Book.{least_line, no_fault, place_of}
+use Rattle.ticket_book.specs.Book.{least_line, no_fault, page_at}
 use Rattle.ticket_book.specs.Whole.{IsOwnPageOf}
 
 -- one step of the auditor of a processor
@@ -37,10 +37,10 @@ pub record MayPost (knobs : Settings) (r : RecordView) (cpu told : ℕ) (page : 
 -- a step of an auditor that hasn't posted
 abbrev pub IsCoreStep : Settings → RecordView → Core → CoreStep → Core → Type 0
 IsCoreStep knobs r core (ask cpu) after =
-    (cpu < r.cpus) × (place_of core.places cpu ≡ None)
+    (cpu < r.cpus) × (page_at core.places cpu ≡ None)
     × (after ≡ record core { told = put core.told cpu (least_line core.places) })
 IsCoreStep knobs r core (post cpu page) after =
-    (cpu < r.cpus) × (place_of core.places cpu ≡ None) × MayPost knobs r cpu (core.told cpu) page
+    (cpu < r.cpus) × (page_at core.places cpu ≡ None) × MayPost knobs r cpu (core.told cpu) page
     × (after ≡ record core { places = slice_set core.places cpu (Some page) })
 
 -- a list of steps
@@ -54,5 +54,5 @@ pub record AreLeft (knobs : Settings) (r : RecordView) (places : List (Option Re
   pub steps : List CoreStep
   pub core : Core
   pub are_steps : AreCoreSteps knobs r (start_core r) steps core
-  pub complete : (cpu : ℕ) → cpu < r.cpus → IsSome (place_of core.places cpu)
+  pub complete : (cpu : ℕ) → cpu < r.cpus → IsSome (page_at core.places cpu)
   pub are_places : core.places ≡ places

@@ -4,7 +4,7 @@ use Rattle.cfs_model.specs.Claimed.{Claimed}
 use Rattle.replay_model.specs.Cut.{steps_at}
 use Rattle.replay_model.specs.declared.step.Step.{Step}
 use Rattle.queue_replay.specs.Replay.{ReplayView}
-use Rattle.ticket_book.specs.Book.{place_of}
+use Rattle.ticket_book.specs.Book.{page_at}
 use Rattle.ticket_book.specs.declared.cursor.Cursor.{Cursor}
 use Rattle.ticket_book.specs.declared.cursor.Cursor.TheVariants.{At, Apart}
 
@@ -21,7 +21,7 @@ IsCursor steps dealt Apart = dealt ≢ take (length dealt) steps
 -- the cursor of a processor, if it has one, is that of the page at its place
 abbrev pub IsFollowed : List (Option ReplayView) → List Cursor → ℕ → List Step → Type 0
 IsFollowed places cursors cpu dealt =
-    (cursor : Cursor) → slice_get cursors cpu ≡ Some cursor → IsCursor (steps_in (place_of places cpu)) dealt cursor
+    (cursor : Cursor) → slice_get cursors cpu ≡ Some cursor → IsCursor (steps_in (page_at places cpu)) dealt cursor
 
 -- so is each, with these events dealt
 abbrev pub AreFollowed : List (Option ReplayView) → List Cursor → List Claimed → Type 0

@@ -7,7 +7,7 @@ use Rattle.queue_replay.specs.Replay.{ReplayView}
 use Rattle.queue_replay.specs.declared.tag.Reached.{Reached}
 use Rattle.queue_replay.specs.declared.tag.Reached.TheVariants.{Stopped, Done, Faulted}
 use Rattle.sched_record.specs.Record.{RecordView}
-use Rattle.ticket_book.specs.Book.{place_of}
+use Rattle.ticket_book.specs.Book.{page_at}
 use Rattle.ticket_book.specs.Whole.{IsOwnPageOf}
 
 -- at a processor's place stands a page of the record's stream for the processor, with these settings, and with a fault at
@@ -23,15 +23,15 @@ pub record HasFaultAt (knobs : Settings) (r : RecordView) (cpu : ℕ) (place : O
 -- of the processors below a number none has a page with such a fault
 abbrev pub NoFaultBelow : Settings → RecordView → List (Option ReplayView) → ℕ → Type 0
 NoFaultBelow knobs r places cpus =
-    (cpu line : ℕ) → cpu < cpus → ¬ HasFaultAt knobs r cpu (place_of places cpu) line
+    (cpu line : ℕ) → cpu < cpus → ¬ HasFaultAt knobs r cpu (page_at places cpu) line
 
 -- of the processors below a number one has a page with such a fault at this line, and none at a lesser one
 pub record IsLeastFaultBelow (knobs : Settings) (r : RecordView) (places : List (Option ReplayView)) (cpus line : ℕ)
     : Type 0 where
   pub cpu : ℕ
   pub within : cpu < cpus
-  pub there : HasFaultAt knobs r cpu (place_of places cpu) line
-  pub least : (other lesser : ℕ) → other < cpus → HasFaultAt knobs r other (place_of places other) lesser → line ≤ lesser
+  pub there : HasFaultAt knobs r cpu (page_at places cpu) line
+  pub least : (other lesser : ℕ) → other < cpus → HasFaultAt knobs r other (page_at places other) lesser → line ≤ lesser
 
 -- the least line of a fault on those of a book's pages that have the record's streams and these settings
 abbrev pub IsLeastFault : Settings → RecordView → List (Option ReplayView) → ℕ → Type 0
@@ -59,8 +59,8 @@ Suffices knobs r places cpu (Some page) = SufficesFor knobs r places cpu page
 abbrev pub AreRemadeBelow : Settings → RecordView → List (Option ReplayView) → ℕ → ℕ → Type 0
 AreRemadeBelow knobs r places zero count = count ≡ 0
 AreRemadeBelow knobs r places (suc cpu) count =
-    (Suffices knobs r places cpu (place_of places cpu) × AreRemadeBelow knobs r places cpu count)
-    ⊎ ((¬ Suffices knobs r places cpu (place_of places cpu))
+    (Suffices knobs r places cpu (page_at places cpu) × AreRemadeBelow knobs r places cpu count)
+    ⊎ ((¬ Suffices knobs r places cpu (page_at places cpu))
     × ((fewer : ℕ) × (count ≡ suc fewer) × AreRemadeBelow knobs r places cpu fewer))
 
 -- so many of the record's processors have no page that suffices

@@ -1,6 +1,6 @@
 ghost use Rattle.std.specs.Prelude.{◌≡◌, ◌<◌, ◌≤◌, None, Some, IfOk, IfErr, OnOk, OnErr, replicate, slice_set};
 ghost use Rattle.cfs_model.specs.Limits.{most_processors};
-ghost use Rattle.ticket_book.specs.Book.{IsBook, fault_line, least_line, refusal_in, refusal_of};
+ghost use Rattle.ticket_book.specs.Book.{IsBook, line_of_fault, least_line, refusal_in, post_refusal};
 
 use crate::closing::verdict_on;
 use crate::remaking::sufficing_pages;
@@ -48,7 +48,7 @@ impl Book {
     /// Adds a page, and tells the least line of a fault on the book's pages: `NO_FAULT` where none has one. A page that
     /// is refused comes back. Takes no memory.
     pub fn post(&mut self, page: Page) -> Result<u64, (Page, PostFault)>
-        ensures refused { refusal_in result ≡ refusal_of (book_view self.old) page.stream.cpu }
+        ensures refused { refusal_in result ≡ post_refusal (book_view self.old) page.stream.cpu }
         ensures added { OnOk result (book_view self.new ≡ slice_set (book_view self.old) page.stream.cpu (Some page)) }
         ensures told { IfOk result (λ line. line ≡ least_line (book_view self.new)) }
         ensures back { IfErr result (λ e. e.0 ≡ page) }
@@ -58,14 +58,14 @@ impl Book {
         if let Some(fault) = self.refusal(cpu) {
             return Err((page, fault));
         }
-        self.least = self.least.min(line_of(page.fault()));
+        self.least = self.least.min(line_of_fault(page.fault()));
         self.places[cpu as usize] = Some(page);
         Ok(self.least)
     }
 
     /// Why a page of a processor is refused.
     fn refusal(&self, cpu: u32) -> Option<PostFault>
-        ensures { result ≡ refusal_of (book_view self.now) cpu }
+        ensures { result ≡ post_refusal (book_view self.now) cpu }
     {
         match self.places.get(cpu as usize) {
             None => Some(PostFault::Outside),
@@ -103,8 +103,8 @@ impl Book {
 }
 
 /// The line of a page's fault.
-fn line_of(fault: Option<StepFault>) -> u64
-    ensures { result ≡ fault_line fault }
+fn line_of_fault(fault: Option<StepFault>) -> u64
+    ensures { result ≡ line_of_fault fault }
 {
     match fault {
         Some(fault) => u64::from(fault.line),

@@ -5,7 +5,7 @@ ghost use Rattle.cfs_model.specs.Claimed.{Claimed, claimed};
 ghost use Rattle.cfs_model.specs.Touch.{touched};
 ghost use Rattle.replay_model.specs.declared.step.Step.{Step};
 ghost use Rattle.sched_record.specs.Record.{record_view};
-ghost use Rattle.ticket_book.specs.Book.{place_of};
+ghost use Rattle.ticket_book.specs.Book.{page_at};
 ghost use Rattle.ticket_book.specs.Cursor.{AreFollowed, IsFollowed, steps_in};
 
 use crate::cursor::Cursor;
@@ -61,7 +61,7 @@ fn follow_at(cursors: &mut [Cursor], places: &[Option<Page>], cpu: u32, step: St
 
 /// The steps of a processor's page, none where it has no page.
 fn steps_of(places: &[Option<Page>], cpu: u32) -> &[Step]
-    ensures { result.now ≡ steps_in (place_of places.now cpu) }
+    ensures { result.now ≡ steps_in (page_at places.now cpu) }
 {
     match places.get(cpu as usize) {
         Some(Some(page)) => page.stream().steps(),

@@ -4,7 +4,7 @@ ghost use Rattle.ticket_book.specs.Idling.{IsFirstLate, NoneFirst, NoneLate, dea
 use queue_replay::Page;
 
 /// Until when the page's processor could idle, where its fault is that it idled for longer.
-fn deadline_of(page: &Page) -> Option<u64>
+fn deadline_on(page: &Page) -> Option<u64>
     ensures { result ≡ deadline_on page.now.page }
 {
     page.fault().and_then(|fault| fault.deadline)
@@ -27,7 +27,7 @@ pub(crate) fn first_deadline(pages: &[Page]) -> Option<u64>
 {
     let mut first = None;
     for page in pages {
-        first = earlier(first, deadline_of(page));
+        first = earlier(first, deadline_on(page));
     }
     first
 }
@@ -61,7 +61,7 @@ fn first_late(pages: &[Page], time: u64) -> Option<usize>
 fn is_late(page: &Page, time: u64) -> bool
     ensures { result ≡ is_past time (deadline_on page.now.page) }
 {
-    match deadline_of(page) {
+    match deadline_on(page) {
         Some(deadline) => deadline < time,
         None => false,
     }

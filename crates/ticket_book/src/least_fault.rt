@@ -3,7 +3,7 @@ ghost use Rattle.std.specs.Prelude.{◌≡◌, ◌<◌, ℕ, IfNone, IfSome, len
 ghost use Rattle.sched_record.specs.Record.{record_view};
 ghost use Rattle.sched_record.specs.Stream.{cut_of};
 ghost use Rattle.cfs_model.specs.Claimed.{claimed};
-ghost use Rattle.ticket_book.specs.Book.{place_of};
+ghost use Rattle.ticket_book.specs.Book.{page_at};
 ghost use Rattle.ticket_book.specs.Cursor.{AreFollowed, IsCursor, steps_in};
 ghost use Rattle.ticket_book.specs.Relying.{IsLeastOf, lesser_of};
 ghost use Rattle.ticket_book.specs.Remade.{HasFaultAt};
@@ -55,9 +55,9 @@ fn fault_at(
     cursor: Cursor,
 ) -> Option<u32>
     requires below { cpu < (record_view joined.now).cpus }
-    requires followed { IsCursor (steps_in (place_of places.now cpu)) (cut_of (record_view joined.now) cpu).steps cursor }
-    ensures none { IfNone result ((line : ℕ) → ¬ HasFaultAt knobs (record_view joined.now) cpu (place_of places.now cpu) line) }
-    ensures found { IfSome result (λ line. HasFaultAt knobs (record_view joined.now) cpu (place_of places.now cpu) line) }
+    requires followed { IsCursor (steps_in (page_at places.now cpu)) (cut_of (record_view joined.now) cpu).steps cursor }
+    ensures none { IfNone result ((line : ℕ) → ¬ HasFaultAt knobs (record_view joined.now) cpu (page_at places.now cpu) line) }
+    ensures found { IfSome result (λ line. HasFaultAt knobs (record_view joined.now) cpu (page_at places.now cpu) line) }
 {
     match places.get(cpu as usize) {
         Some(Some(page)) => own_fault(page, joined, cpu, knobs, cursor),

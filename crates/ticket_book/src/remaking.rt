@@ -3,7 +3,7 @@ ghost use Rattle.std.specs.Prelude.{◌≡◌, ◌≢◌, ℕ, None, Some, ◌<�
 ghost use Rattle.replay_model.specs.Page.{IsPageOf};
 ghost use Rattle.sched_record.specs.Record.{record_view};
 ghost use Rattle.sched_record.specs.Stream.{cut_of};
-ghost use Rattle.ticket_book.specs.Book.{place_of};
+ghost use Rattle.ticket_book.specs.Book.{page_at};
 ghost use Rattle.ticket_book.specs.BookView.{book_view};
 ghost use Rattle.ticket_book.specs.Cursor.{IsCursor, steps_in};
 ghost use Rattle.ticket_book.specs.Relying.{IsReliable, IsReliableAt};
@@ -52,8 +52,8 @@ pub(crate) fn sufficing_pages(
 
 /// Takes a processor's page out of its place.
 fn take_page(places: &mut [Option<Page>], cpu: u32) -> Option<Page>
-    ensures page { result ≡ place_of places.old cpu }
-    ensures others { (other : ℕ) → other ≢ cpu → place_of places.new other ≡ place_of places.old other }
+    ensures page { result ≡ page_at places.old cpu }
+    ensures others { (other : ℕ) → other ≢ cpu → page_at places.new other ≡ page_at places.old other }
 {
     let place = cpu as usize;
     if place < places.len() {

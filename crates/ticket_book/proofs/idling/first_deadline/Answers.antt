@@ -8,7 +8,7 @@ loop-page-preserved c =
     let pages = c.args.pages.now in
     let page = c.page-item.result in
     let result : earlier_of c.loop-page.first (deadline_on page.page) ≡ c.earlier-first.result =
-    sym (c.earlier-first.ensures ∙ ap (earlier_of c.loop-page.first) c.deadline_of.ensures) in
+    sym (c.earlier-first.ensures ∙ ap (earlier_of c.loop-page.first) c.deadline_on.ensures) in
     subst (λ first. NoneFirst pages first (c.loop-page.page-index + 1)) result
     (one_deadline pages c.loop-page.first c.loop-page.page-index page c.loop-page-test.true c.page-item.is
     c.loop-page.invariant)

@@ -1,5 +1,5 @@
 use Rattle.std.proofs.Common.{◌≡◌, ◌∙◌, sym, ap, subst, set, Some, min}
-use Rattle.ticket_book.specs.Book.{IsBook, fault_line}
+use Rattle.ticket_book.specs.Book.{IsBook, line_of_fault}
 use Rattle.replay_model.specs.Cut.{StreamView}
 use Rattle.ticket_book.proofs.BookPlaces.{book_put, room}
 use Rattle.ticket_book.proofs.book.Book.post.Goals as goal
@@ -9,8 +9,8 @@ invariant_of-self c =
     let places = c.args.self.now.places.items in
     let cpu = c.cpu-cpu.result in
     let page = c.args.page in
-    let line : c.min-self.result ≡ min c.args.self.now.least (fault_line page.page.fault) =
-    c.min-self.ensures ∙ ap (min c.args.self.now.least) (c.line_of.ensures ∙ ap fault_line c.fault.ensures) in
+    let line : c.min-self.result ≡ min c.args.self.now.least (line_of_fault page.page.fault) =
+    c.min-self.ensures ∙ ap (min c.args.self.now.least) (c.line_of_fault.ensures ∙ ap line_of_fault c.fault.ensures) in
     let own = sym (c.cpu-cpu.ensures ∙ ap (λ (s : StreamView). s.cpu) c.stream.ensures) in
     record {
       kept = subst (IsBook (set places cpu (Some page))) (sym line)

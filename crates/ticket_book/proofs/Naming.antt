@@ -23,10 +23,10 @@ both_named xs ys sums now after first second =
     second ∙ ap (with_named ys) first ∙ sym (fold-append (λ named pid. with_tally pid named) sums xs ys)
 
 -- one more, along a list
-pub task_named : {X : Type 0} (pid_of : X → ℕ) (xs : List X) (i : ℕ) (x : X) (sums now after : List Tally) → i < length xs
+pub one_more_named : {X : Type 0} (pid_of : X → ℕ) (xs : List X) (i : ℕ) (x : X) (sums now after : List Tally) → i < length xs
     → x ≡ get_or xs i x → now ≡ with_named (map pid_of (take i xs)) sums → after ≡ with_tally (pid_of x) now
     → after ≡ with_named (map pid_of (take (i + 1) xs)) sums
-task_named pid_of xs i x sums now after within is first second =
+one_more_named pid_of xs i x sums now after within is first second =
     both_named (map pid_of (take i xs)) (pid_of x ∷ []) sums now after first second
     ∙ ap (λ pids. with_named pids sums)
     (sym (map-append pid_of (take i xs) (x ∷ []))
@@ -45,26 +45,26 @@ births_claimed claims [] = refl
 births_claimed claims (event ∷ events) = ap (λ pids. born_by event.act ++ pids) (births_claimed claims events)
 
 -- whether a pid is among some
-abbrev pub has : List ℕ → ℕ → Bool
-has pids pid = list_any (λ other. eqb other pid) pids
+abbrev pub names : List ℕ → ℕ → Bool
+names pids pid = list_any (λ other. eqb other pid) pids
 
 abbrev pub but : ℕ → List ℕ → List ℕ
 but pid pids = filter (λ other. not (eqb other pid)) pids
 
-has_but : (pids : List ℕ) (taken pid : ℕ) → taken ≢ pid → has (but taken pids) pid ≡ has pids pid
+has_but : (pids : List ℕ) (taken pid : ℕ) → taken ≢ pid → names (but taken pids) pid ≡ names pids pid
 has_but [] taken pid ne = refl
 has_but (x ∷ xs) taken pid ne = elim (same_or_not x taken) [
-  | inl same ↦ ap (λ b. has (cond (not b) (x ∷ but taken xs) (but taken xs)) pid) (eq-eqb x taken same)
-      ∙ has_but xs taken pid ne ∙ ap (λ b. b || has xs pid) (sym (ne_eqb x pid (λ e. ne (sym same ∙ e))))
-  | inr other ↦ ap (λ b. has (cond (not b) (x ∷ but taken xs) (but taken xs)) pid) (ne_eqb x taken other)
+  | inl same ↦ ap (λ b. names (cond (not b) (x ∷ but taken xs) (but taken xs)) pid) (eq-eqb x taken same)
+      ∙ has_but xs taken pid ne ∙ ap (λ b. b || names xs pid) (sym (ne_eqb x pid (λ e. ne (sym same ∙ e))))
+  | inr other ↦ ap (λ b. names (cond (not b) (x ∷ but taken xs) (but taken xs)) pid) (ne_eqb x taken other)
       ∙ ap (λ b. eqb x pid || b) (has_but xs taken pid ne)
 ]
 
-has_once : (pids : List ℕ) (pid : ℕ) → has (each_once pids) pid ≡ has pids pid
+has_once : (pids : List ℕ) (pid : ℕ) → names (each_once pids) pid ≡ names pids pid
 has_once [] pid = refl
 has_once (x ∷ xs) pid = elim (same_or_not x pid) [
-  | inl same ↦ ap (λ b. b || has (but x (each_once xs)) pid) (eq-eqb x pid same)
-      ∙ ap (λ b. b || has xs pid) (sym (eq-eqb x pid same))
+  | inl same ↦ ap (λ b. b || names (but x (each_once xs)) pid) (eq-eqb x pid same)
+      ∙ ap (λ b. b || names xs pid) (sym (eq-eqb x pid same))
   | inr ne ↦ ap (λ b. eqb x pid || b) (has_but (each_once xs) x pid ne ∙ has_once xs pid)
 ]
 
@@ -88,19 +88,19 @@ cons_or false x pid pids = refl
 
 -- one pid more at the end
 once_push : (pids : List ℕ) (pid : ℕ)
-    → each_once (pids ++ pid ∷ []) ≡ cond (has pids pid) (each_once pids) (each_once pids ++ pid ∷ [])
+    → each_once (pids ++ pid ∷ []) ≡ cond (names pids pid) (each_once pids) (each_once pids ++ pid ∷ [])
 once_push [] pid = refl
 once_push (x ∷ xs) pid = elim (same_or_not x pid) [
   | inl same ↦ ap (λ pids. x ∷ but x pids) (once_push xs pid)
-      ∙ ap (λ pids. x ∷ pids) (but_at (has xs pid) (each_once xs) x pid same)
-      ∙ ap (λ b. cond (b || has xs pid) (each_once (x ∷ xs)) (each_once (x ∷ xs) ++ pid ∷ [])) (sym (eq-eqb x pid same))
+      ∙ ap (λ pids. x ∷ pids) (but_at (names xs pid) (each_once xs) x pid same)
+      ∙ ap (λ b. cond (b || names xs pid) (each_once (x ∷ xs)) (each_once (x ∷ xs) ++ pid ∷ [])) (sym (eq-eqb x pid same))
   | inr ne ↦ ap (λ pids. x ∷ but x pids) (once_push xs pid)
-      ∙ ap (λ pids. x ∷ pids) (but_other (has xs pid) (each_once xs) x pid ne)
-      ∙ cons_or (has xs pid) x pid (but x (each_once xs))
-      ∙ ap (λ b. cond (b || has xs pid) (each_once (x ∷ xs)) (each_once (x ∷ xs) ++ pid ∷ [])) (sym (ne_eqb x pid ne))
+      ∙ ap (λ pids. x ∷ pids) (but_other (names xs pid) (each_once xs) x pid ne)
+      ∙ cons_or (names xs pid) x pid (but x (each_once xs))
+      ∙ ap (λ b. cond (b || names xs pid) (each_once (x ∷ xs)) (each_once (x ∷ xs) ++ pid ∷ [])) (sym (ne_eqb x pid ne))
 ]
 
-has_tally : (pids : List ℕ) (pid : ℕ) → list_any (λ (tally : Tally). eqb tally.pid pid) (map new_tally pids) ≡ has pids pid
+has_tally : (pids : List ℕ) (pid : ℕ) → list_any (λ (tally : Tally). eqb tally.pid pid) (map new_tally pids) ≡ names pids pid
 has_tally [] pid = refl
 has_tally (x ∷ xs) pid = ap (λ b. eqb x pid || b) (has_tally xs pid)
 
@@ -113,7 +113,7 @@ tally_once : (pids : List ℕ) (pid : ℕ) → with_tally pid (map new_tally (ea
 tally_once pids pid =
     ap (λ b. cond b (map new_tally (each_once pids)) (map new_tally (each_once pids) ++ new_tally pid ∷ []))
     (has_tally (each_once pids) pid ∙ has_once pids pid)
-    ∙ map_or (has pids pid) (each_once pids) pid ∙ ap (map new_tally) (sym (once_push pids pid))
+    ∙ map_or (names pids pid) (each_once pids) pid ∙ ap (map new_tally) (sym (once_push pids pid))
 
 -- naming tasks makes a tally for each of them, once
 named_once : (xs ys : List ℕ) → with_named ys (map new_tally (each_once xs)) ≡ map new_tally (each_once (xs ++ ys))

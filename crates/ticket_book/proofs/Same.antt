@@ -5,7 +5,7 @@ use Rattle.std.proofs.lemmas.Slice.Eq.{slice_eq-Decides}
 use Rattle.replay_model.specs.Summary.{SummaryView}
 use Rattle.replay_model.specs.contracts.page.TallyPartialEq.TheImpl as tally_eq
 use Rattle.replay_model.specs.declared.page.Tally.{Tally}
-use Rattle.ticket_book.specs.Same.{is_same}
+use Rattle.ticket_book.specs.Same.{is_same_summary}
 
 tally_decides : (a b : Tally) → Decides ((tally_eq.ghosts).eq a b) (a ≡ b)
 tally_decides a b =
@@ -14,8 +14,8 @@ tally_decides a b =
     (Decides-and _ _ (Decides-eqb a.charged b.charged) (Decides-eqb a.picks b.picks))))
 
 -- two summaries say the same where each of what they say is equal
-pub is_same_decides : (a b : SummaryView) → Decides (is_same a b) (a ≡ b)
-is_same_decides a b =
+pub is_same_summary_decides : (a b : SummaryView) → Decides (is_same_summary a b) (a ≡ b)
+is_same_summary_decides a b =
     Decides-like _ (λ h i. record {
       events = h.0 i;
       switches = h.1.0 i;

@@ -10,13 +10,13 @@ use Rattle.replay_model.specs.Cut.{tasks_at}
 use Rattle.sched_record.proofs.Same.{task_decides}
 use Rattle.ticket_book.proofs.Cursors.{keeps_up}
 
-not_false : (b : Bool) → not b ≡ false → b ≡ true
-not_false true e = refl
-not_false false e = absurd cc
+true_of_not : (b : Bool) → not b ≡ false → b ≡ true
+true_of_not true e = refl
+true_of_not false e = absurd cc
 
 -- what `!=` of two tasks says
 pub same_task : (a b : Task) (r : Bool) → r ≡ not ((task_eq.ghosts).eq a b) → r ≡ false → a ≡ b
-same_task a b r is e = (task_decides a b).0 (not_false ((task_eq.ghosts).eq a b) (sym is ∙ e))
+same_task a b r is e = (task_decides a b).0 (true_of_not ((task_eq.ghosts).eq a b) (sym is ∙ e))
 
 pub other_task : (a b : Task) (r : Bool) → r ≡ not ((task_eq.ghosts).eq a b) → r ≡ true → a ≢ b
 other_task a b r is e = (Decides-at r (not ((task_eq.ghosts).eq a b)) is (Decides-not ((task_eq.ghosts).eq a b) (task_decides a b))).0 e

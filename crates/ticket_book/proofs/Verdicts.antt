@@ -34,8 +34,8 @@ use Rattle.ticket_book.specs.declared.summary.Summary.{Summary}
 use Rattle.ticket_book.specs.declared.verdict.Verdict.TheVariants.{Run, Fault}
 
 -- what a record keeps, as the laws of the replays take it
-pub record_of : (r : RecordView) → IsRecordInOrder r → IsRecord r.start r.floors r.tasks (claimed r.claims r.events) r.cpus
-record_of r o =
+pub record_in_order : (r : RecordView) → IsRecordInOrder r → IsRecord r.start r.floors r.tasks (claimed r.claims r.events) r.cpus
+record_in_order r o =
     let start = start_from r.floors r.tasks o.companion.pids_rise o.companion.one_runs_a_cpu
     (λ k d h. (o.companion.tasks_in_limits k d h).v) o.companion.floors_in_limits in
     record_from r.start r.floors r.tasks r.claims r.events r.cpus start
@@ -78,7 +78,7 @@ module _ (knobs : Settings) (r : RecordView) (pages : List ReplayView) (sufficie
       let p = page_there pages cpu h in suffices_among knobs r pages cpu p.0 (sufficient.each cpu p.0 p.1) p.2
 
   in_record : IsRecordInOrder r → IsRecord r.start r.floors r.tasks (claimed r.claims r.events) (length pages)
-  in_record o = subst (IsRecord r.start r.floors r.tasks (claimed r.claims r.events)) (sym sufficient.count) (record_of r o)
+  in_record o = subst (IsRecord r.start r.floors r.tasks (claimed r.claims r.events)) (sym sufficient.count) (record_in_order r o)
 
   -- what they say first is what is wrong
   pub fault_of : PagesTellFault → IsRecordInOrder r → (line : ℕ) (cause : FoundCause)

@@ -18,16 +18,16 @@ pub struct Summary {
 impl PartialEq for Summary {
     ghost use Rattle.std.specs.Prelude.{◌≡◌, ◌↔◌, IsTrue};
     ghost use Rattle.std.specs.Cmp.{on_per, partial_equiv_from_equiv};
-    ghost use Rattle.ticket_book.specs.Same.{is_same, is_same_equiv};
+    ghost use Rattle.ticket_book.specs.Same.{is_same_summary, is_same_summary_equiv};
     ghost use Rattle.ticket_book.specs.SummaryView.{summary_view};
 
-    ghost eq = { λ a b. is_same (summary_view a) (summary_view b) };
+    ghost eq = { λ a b. is_same_summary (summary_view a) (summary_view b) };
 
-    ghost laws = { on_per summary_view (partial_equiv_from_equiv is_same_equiv) };
+    ghost laws = { on_per summary_view (partial_equiv_from_equiv is_same_summary_equiv) };
 
     /// Whether two summaries say the same. It takes no memory.
     fn eq(&self, other: &Summary) -> bool
-        ensures each { result ≡ is_same (summary_view self.now) (summary_view other.now) }
+        ensures each { result ≡ is_same_summary (summary_view self.now) (summary_view other.now) }
         ensures exact { IsTrue result ↔ (summary_view self.now ≡ summary_view other.now) }
     {
         self.events == other.events
@@ -41,8 +41,8 @@ impl PartialEq for Summary {
 
 impl Eq for Summary {
     ghost use Rattle.std.specs.Cmp.{on_equiv};
-    ghost use Rattle.ticket_book.specs.Same.{is_same_equiv};
+    ghost use Rattle.ticket_book.specs.Same.{is_same_summary_equiv};
     ghost use Rattle.ticket_book.specs.SummaryView.{summary_view};
 
-    ghost laws = { on_equiv summary_view is_same_equiv };
+    ghost laws = { on_equiv summary_view is_same_summary_equiv };
 }

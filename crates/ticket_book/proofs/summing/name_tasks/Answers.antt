@@ -2,12 +2,12 @@ use Rattle.std.proofs.Common.{map, ap, ◌∙◌}
 use Rattle.std.proofs.lemmas.List.{take_all}
 use Rattle.cfs_model.specs.declared.task.Task.{Task}
 use Rattle.ticket_book.specs.Naming.{with_named}
-use Rattle.ticket_book.proofs.Naming.{task_named}
+use Rattle.ticket_book.proofs.Naming.{one_more_named}
 use Rattle.ticket_book.proofs.summing.name_tasks.Goals as goal
 
 pub loop-task-preserved : goal.loop-task-preserved
 loop-task-preserved c =
-    task_named (λ (task : Task). task.pid) c.args.tasks.now c.loop-task.task-index c.task-item.result c.args.sums.now.list.items
+    one_more_named (λ (task : Task). task.pid) c.args.tasks.now c.loop-task.task-index c.task-item.result c.args.sums.now.list.items
     c.loop-task.sums.list.items c.name.new.self.list.items c.loop-task-test.true c.task-item.is c.loop-task.invariant
     c.in_ok-name.ensures
 

@@ -11,7 +11,7 @@ mod Living
 mod Naming
 mod Counting
 mod PagesAdded
-mod BookPlaces
+pub mod BookPlaces
 mod Same
 mod SameTicket
 mod Saying

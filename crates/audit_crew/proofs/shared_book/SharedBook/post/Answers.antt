@@ -1,7 +1,7 @@
 use Rattle.std.proofs.Common.{◌+◌, ◌∙◌, sym, ap}
 use Rattle.ticket_book.specs.BookView.{book_view}
 use Rattle.audit_crew.specs.Filled.{filled}
-use Rattle.audit_crew.proofs.Pages.{one_more}
+use Rattle.audit_crew.proofs.Pages.{one_page_more}
 use Rattle.audit_crew.proofs.shared_book.SharedBook.post.Goals as goal
 
 pub invariant_of-self : goal.invariant_of-self
@@ -10,6 +10,6 @@ invariant_of-self g c =
     let page = c.args.page in
     record {
       counted =
-          ap filled c.in-Ok.ensures.added ∙ one_more places page.stream.cpu page c.in-Ok.ensures.refused
+          ap filled c.in-Ok.ensures.added ∙ one_page_more places page.stream.cpu page c.in-Ok.ensures.refused
           ∙ ap (λ n. n + 1) c.args.self.now.counted ∙ sym c.add.ensures.total;
     }

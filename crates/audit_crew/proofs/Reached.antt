@@ -14,7 +14,7 @@ use Rattle.replay_model.proofs.Replayed.{IsReplay-append, first_passes}
 use Rattle.queue_replay.specs.Made.{IsFaultless, reached_at}
 use Rattle.queue_replay.specs.declared.tag.Reached.TheVariants.{Stopped, Done}
 use Rattle.queue_replay.specs.Replay.{ReplayView}
-use Rattle.audit_crew.specs.Tags.{IsReached, IsStoppedAt, IsTagOf, IsThrough, tag_of}
+use Rattle.audit_crew.specs.Tags.{IsReachOf, IsStoppedAt, IsTagOf, IsThrough, tag_of}
 
 -- after a fault a replay goes on by any steps
 stays : (knobs : Settings) (cpu : ℕ) (s : ReplayStateView) (fault : StepFault) → s.page.fault ≡ Some fault
@@ -121,7 +121,7 @@ reached : (stream : StreamView) (knobs : Settings) (made told : ℕ) (page : Pag
     → IsPageOf stream knobs made page → page.fault ≡ o
     → IsSome o ⊎ (made ≡ length stream.steps)
     ⊎ ((0 < made) × (made < length stream.steps) × (o ≡ None) × (told ≤ page.line))
-    → IsReached stream knobs told (reached_at o page.line made (length stream.steps))
+    → IsReachOf stream knobs told (reached_at o page.line made (length stream.steps))
 reached stream knobs made told page (Some fault) is f through = record {
   page = page;
   is_page = faulted_is_whole stream knobs made page fault is f;
@@ -131,12 +131,12 @@ reached stream knobs made told page (Some fault) is f through = record {
 }
 reached stream knobs made told page None is f (inl some) = absurd (false≢true some)
 reached stream knobs made told page None is f (inr (inl all)) =
-    subst (λ (n : ℕ). IsReached stream knobs told (reached_at None page.line n (length stream.steps))) (sym all)
-    (subst (λ (b : Bool). IsReached stream knobs told (if b then Stopped page.line else Done))
+    subst (λ (n : ℕ). IsReachOf stream knobs told (reached_at None page.line n (length stream.steps))) (sym all)
+    (subst (λ (b : Bool). IsReachOf stream knobs told (if b then Stopped page.line else Done))
     (sym (not_below (length stream.steps)))
     (page, subst (λ (n : ℕ). IsPageOf stream knobs n page) all is, f))
 reached stream knobs made told page None is f (inr (inr h)) =
-    subst (λ (b : Bool). IsReached stream knobs told (if b then Stopped page.line else Done))
+    subst (λ (b : Bool). IsReachOf stream knobs told (if b then Stopped page.line else Done))
     (sym (lt-ltb made (length stream.steps) h.1))
     (stopped stream knobs made told page is f h.0 h.1 h.3)
 

@@ -48,14 +48,14 @@ pub record IsStoppedAt (stream : StreamView) (knobs : Settings) (told line : ℕ
 
 -- how far an auditor goes in the replay of a stream, where a line was told to it last: to the replay's first fault, or to
 -- its end, or to a line that isn't before the one told
-abbrev pub IsReached : StreamView → Settings → ℕ → Reached → Type 0
-IsReached stream knobs told (Faulted line) = IsFaultyAt stream knobs line
-IsReached stream knobs told Done = IsFaultless stream knobs (length stream.steps)
-IsReached stream knobs told (Stopped line) = IsStoppedAt stream knobs told line
+abbrev pub IsReachOf : StreamView → Settings → ℕ → Reached → Type 0
+IsReachOf stream knobs told (Faulted line) = IsFaultyAt stream knobs line
+IsReachOf stream knobs told Done = IsFaultless stream knobs (length stream.steps)
+IsReachOf stream knobs told (Stopped line) = IsStoppedAt stream knobs told line
 
 -- a tag that the replay of a stream gives
 abbrev pub IsTagOf : StreamView → Settings → ℕ → Tag → Type 0
-IsTagOf stream knobs told tag = (tag.cpu ≡ stream.cpu) × IsReached stream knobs told tag.reached
+IsTagOf stream knobs told tag = (tag.cpu ≡ stream.cpu) × IsReachOf stream knobs told tag.reached
 
 -- just one tag, which the replay of a stream gives
 abbrev pub IsOneTag : StreamView → Settings → ℕ → List Tag → Type 0

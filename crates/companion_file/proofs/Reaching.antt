@@ -17,7 +17,7 @@ use Rattle.companion_file.specs.Companion.{AreGood, IsFirstBadCompanionLine, IsS
 use Rattle.companion_file.proofs.Summing.{told, summed-push}
 use Rattle.companion_file.proofs.GoodLines.{order_of_good, comment_after, line_after}
 
-pub record IsReached (text rest : List ℕ) (number : ℕ) (kept : Said) : Type 0 where
+pub record IsReadUpTo (text rest : List ℕ) (number : ℕ) (kept : Said) : Type 0 where
   pub before : List (List ℕ)
   pub said : List Shape
   pub parts : lines_of text ≡ before ++ lines_of rest
@@ -26,11 +26,11 @@ pub record IsReached (text rest : List ℕ) (number : ℕ) (kept : Said) : Type 
   pub kept_is : kept ≡ summed said
   pub fits : number + length rest ≤ length text
 
-pub reached_nothing : (text : List ℕ) (kept : Said) → kept ≡ summed [] → IsReached text text 0 kept
+pub reached_nothing : (text : List ℕ) (kept : Said) → kept ≡ summed [] → IsReadUpTo text text 0 kept
 reached_nothing text kept e = record { before = []; said = []; parts = refl; count = refl; good = refl; kept_is = e; fits = omega arith }
 
-pub reached_more : (text rest line after : List ℕ) (number : ℕ) (old new : Said) (u : Unit {0}) → IsReached text rest number old → lines_of rest ≡ line ∷ lines_of after → length after < length rest → Takes old line (Ok u) new
-    → IsReached text after (number + 1) new
+pub reached_more : (text rest line after : List ℕ) (number : ℕ) (old new : Said) (u : Unit {0}) → IsReadUpTo text rest number old → lines_of rest ≡ line ∷ lines_of after → length after < length rest → Takes old line (Ok u) new
+    → IsReadUpTo text after (number + 1) new
 reached_more text rest line after number old new u at cut shorter (inl p) =
     record {
       before = at.before ++ line ∷ [];
@@ -52,7 +52,7 @@ reached_more text rest line after number old new u at cut shorter (inr p) =
       fits = omega (arith, at.fits);
     }
 
-pub reached_bad : (text rest line after : List ℕ) (number : ℕ) (old new : Said) (cause : CompanionCause) → IsReached text rest number old → lines_of rest ≡ line ∷ lines_of after → Takes old line (Err (refusals.Bad cause)) new
+pub reached_bad : (text rest line after : List ℕ) (number : ℕ) (old new : Said) (cause : CompanionCause) → IsReadUpTo text rest number old → lines_of rest ≡ line ∷ lines_of after → Takes old line (Err (refusals.Bad cause)) new
     → IsFirstBadCompanionLine (lines_of text) (number + 1) cause
 reached_bad text rest line after number old new cause at cut refused =
     record {
@@ -68,18 +68,18 @@ reached_bad text rest line after number old new cause at cut refused =
     }
 
 -- at the end of the text the lines so far are all of its lines
-all_lines : (text rest : List ℕ) (number : ℕ) (kept : Said) (at : IsReached text rest number kept) → length rest ≡ 0 → at.before ≡ lines_of text
+all_lines : (text rest : List ℕ) (number : ℕ) (kept : Said) (at : IsReadUpTo text rest number kept) → length rest ≡ 0 → at.before ≡ lines_of text
 all_lines text rest number kept at empty =
     let none : lines_of rest ≡ [] = ap lines_of (nil_from_length rest empty) ∙ lines_of_nil in
     sym (at.parts ∙ ap (λ (ls : List (List ℕ)). at.before ++ ls) none ∙ append-nil at.before)
 
-good_lines : (text rest : List ℕ) (number : ℕ) (kept : Said) (at : IsReached text rest number kept) → length rest ≡ 0 → AreGood [] (lines_of text) at.said
+good_lines : (text rest : List ℕ) (number : ℕ) (kept : Said) (at : IsReadUpTo text rest number kept) → length rest ≡ 0 → AreGood [] (lines_of text) at.said
 good_lines text rest number kept at empty = subst (λ (ls : List (List ℕ)). AreGood [] ls at.said) (all_lines text rest number kept at empty) at.good
 
-pub reached_order : (text rest : List ℕ) (number : ℕ) (kept : Said) → IsReached text rest number kept → KeepsOrder kept
+pub reached_order : (text rest : List ℕ) (number : ℕ) (kept : Said) → IsReadUpTo text rest number kept → KeepsOrder kept
 reached_order text rest number kept at = rw at.kept_is (order_of_good at.before at.said at.good)
 
-pub reached_short : (text rest : List ℕ) (number : ℕ) (kept : Said) → IsReached text rest number kept → length rest ≡ 0 → has_all_floors kept ≡ false → IsShort (lines_of text) (number + 1) Short
+pub reached_short : (text rest : List ℕ) (number : ℕ) (kept : Said) → IsReadUpTo text rest number kept → length rest ≡ 0 → has_all_floors kept ≡ false → IsShort (lines_of text) (number + 1) Short
 reached_short text rest number kept at empty missing =
     record {
       said = at.said;
@@ -89,7 +89,7 @@ reached_short text rest number kept at empty missing =
       name = refl;
     }
 
-pub reached_whole : (text rest : List ℕ) (number : ℕ) (kept : Said) (r : CompanionView) → IsReached text rest number kept → length rest ≡ 0 → IsCompleted kept r → IsRead (lines_of text) r
+pub reached_whole : (text rest : List ℕ) (number : ℕ) (kept : Said) (r : CompanionView) → IsReadUpTo text rest number kept → length rest ≡ 0 → IsCompleted kept r → IsRead (lines_of text) r
 reached_whole text rest number kept r at empty whole =
     record {
       said = at.said;
@@ -104,10 +104,10 @@ reached_whole text rest number kept r at empty whole =
 
 -- ---- the answers
 
-pub refused_answer : (text rest line after : List ℕ) (number : ℕ) (old new : Said) (refusal : Refusal) → IsReached text rest number old → lines_of rest ≡ line ∷ lines_of after → Takes old line (Err refusal) new
+pub refused_answer : (text rest line after : List ℕ) (number : ℕ) (old new : Said) (refusal : Refusal) → IsReadUpTo text rest number old → lines_of rest ≡ line ∷ lines_of after → Takes old line (Err refusal) new
     → IsAnswered text (Err (fault_at (number + 1) refusal))
 refused_answer text rest line after number old new (refusals.Bad cause) at cut refused = inl (reached_bad text rest line after number old new cause at cut refused)
 refused_answer text rest line after number old new refusals.Memory at cut refused = tt
 
-pub short_answer : (text rest : List ℕ) (number : ℕ) (kept : Said) → IsReached text rest number kept → length rest ≡ 0 → has_all_floors kept ≡ false → IsAnswered text (Err (faults.Text (number + 1) Short))
+pub short_answer : (text rest : List ℕ) (number : ℕ) (kept : Said) → IsReadUpTo text rest number kept → length rest ≡ 0 → has_all_floors kept ≡ false → IsAnswered text (Err (faults.Text (number + 1) Short))
 short_answer text rest number kept at empty missing = inr (reached_short text rest number kept at empty missing)

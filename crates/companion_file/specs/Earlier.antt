@@ -25,9 +25,9 @@ floor_in (floor_line cpu floor) = Some floor
 floor_in _ = None
 
 -- the task that a line names
-abbrev pub task_in : Shape → Option Task
-task_in (task_line task) = Some task
-task_in _ = None
+abbrev pub task_named_on : Shape → Option Task
+task_named_on (task_line task) = Some task
+task_named_on _ = None
 
 -- the claim that a line makes
 abbrev pub claim_in : Shape → Option Claim
@@ -62,7 +62,7 @@ summed lines =
       cpus = last_or None (filter_map cpus_in lines);
       start = last_or None (filter_map start_in lines);
       floors = filter_map floor_in lines;
-      tasks = filter_map task_in lines;
+      tasks = filter_map task_named_on lines;
       claims = filter_map claim_in lines;
     }
 

@@ -24,7 +24,7 @@ place_none zero key text e z = rw e refl
 place_none (suc limit) key text e z = absurd (omega arith)
 
 -- what was found is a place up to the limit at which the key stands
-pub record StandsAt (limit : ℕ) (key text : List ℕ) (place : ℕ) : Type 0 where
+pub record IsKeyAt (limit : ℕ) (key text : List ℕ) (place : ℕ) : Type 0 where
   pub within : place ≤ limit
   pub stands : begins_with key (drop place text) ≡ true
 
@@ -33,7 +33,7 @@ pub chosen : {A : Type 0} (b : Bool) (x y z : A) → cond b x y ≡ z → ((b �
 chosen true x y z e = inl (refl, e)
 chosen false x y z e = inr (refl, e)
 
-pub place_stands : (limit : ℕ) (key text : List ℕ) (place : ℕ) → last_place limit key text ≡ Some place → StandsAt limit key text place
+pub place_stands : (limit : ℕ) (key text : List ℕ) (place : ℕ) → last_place limit key text ≡ Some place → IsKeyAt limit key text place
 unfolding last_place
 place_stands zero key text place e =
     elim (chosen (begins_with key text) (Some 0) None (Some place) e) [

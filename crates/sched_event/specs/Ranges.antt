@@ -11,22 +11,22 @@ abbrev pub prio_of : Prio → ℤ
 prio_of prio = if prio.minus then neg_ℤ (pos (value_of prio.digits)) else pos (value_of prio.digits)
 
 -- the pids that a text names
-abbrev pub numerals_of_pids : EventText → List ℕ
-numerals_of_pids (switch text) = value_of text.prev ∷ value_of text.next ∷ []
-numerals_of_pids (wakeup text) = value_of text.pid ∷ []
-numerals_of_pids (wakeup_new text) = value_of text.pid ∷ []
-numerals_of_pids (migration text) = value_of text.pid ∷ []
+abbrev pub pids_named : EventText → List ℕ
+pids_named (switch text) = value_of text.prev ∷ value_of text.next ∷ []
+pids_named (wakeup text) = value_of text.pid ∷ []
+pids_named (wakeup_new text) = value_of text.pid ∷ []
+pids_named (migration text) = value_of text.pid ∷ []
 
 -- the processors that a text names
-abbrev pub cpus_of : EventText → List ℕ
-cpus_of (switch text) = []
-cpus_of (wakeup text) = value_of text.target ∷ []
-cpus_of (wakeup_new text) = value_of text.target ∷ []
-cpus_of (migration text) = value_of text.orig ∷ value_of text.dest ∷ []
+abbrev pub cpus_named : EventText → List ℕ
+cpus_named (switch text) = []
+cpus_named (wakeup text) = value_of text.target ∷ []
+cpus_named (wakeup_new text) = value_of text.target ∷ []
+cpus_named (migration text) = value_of text.orig ∷ value_of text.dest ∷ []
 
 -- some pid or some processor is above its greatest number
 abbrev pub is_out_of_range : EventText → Bool
-is_out_of_range text = list_any (nat_lt greatest_pid) (numerals_of_pids text) || list_any (nat_lt greatest_processor) (cpus_of text)
+is_out_of_range text = list_any (nat_lt greatest_pid) (pids_named text) || list_any (nat_lt greatest_processor) (cpus_named text)
 
 -- a prio is looked at unless its pid is the idle task's
 abbrev pub looked_at : List ℕ → Prio → List ℤ

@@ -1,4 +1,5 @@
 pub mod BirthExample
+pub mod Deciding
 pub mod FloorsRise
 pub mod IdleExample
 pub mod KeptOrder

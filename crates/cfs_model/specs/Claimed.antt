@@ -13,9 +13,13 @@ pub record Claimed : Type 0 where
 abbrev pub claim_at : List Claim → ℕ → Option Claim
 claim_at claims line = find (λ claim. claim.line == line) claims
 
+-- an event with the claim on its line
+abbrev pub with_claim : List Claim → Entry → Claimed
+with_claim claims entry = record { entry = entry; claim = claim_at claims entry.line }
+
 -- each event with the claim on its line
 abbrev pub claimed : List Claim → List Entry → List Claimed
-claimed claims entries = map (λ entry. record { entry = entry; claim = claim_at claims entry.line }) entries
+claimed claims entries = map (λ entry. with_claim claims entry) entries
 
 -- the claim is of this sort, and names this pid with this virtual runtime
 abbrev pub ClaimSays : Option Claim → ClaimSort → ℕ → ℤ → Type 0

@@ -4,17 +4,9 @@ use Rattle.std.specs.Bool.{OnFalse, OnTrue}
 use Rattle.std.proofs.lemmas.Bool.{OnFalse_from, OnTrue_from}
 use Rattle.std.specs.Option.{option_eq}
 use Rattle.std.proofs.lemmas.Bool.Decides.{Decides-eqb, Decides-int_eq, Decides-and, Decides-like}
-use Rattle.cfs_model.specs.declared.task.Place.{Place}
-use Rattle.cfs_model.specs.declared.task.Place.TheVariants.{Run, Wait, Rest}
+use Rattle.cfs_model.proofs.Deciding.{place_decides}
 use Rattle.replay_model.specs.declared.page.Ticket.{Ticket}
-use Rattle.cfs_model.specs.contracts.task.PlacePartialEq.TheImpl as place_eq
 use Rattle.replay_model.specs.contracts.page.TicketPartialEq.TheImpl as ticket_eq
-
-place_decides : (a b : Place) → Decides ((place_eq.ghosts).eq a b) (a ≡ b)
-place_decides Run Run = (λ _. refl, λ _. refl)
-place_decides Wait Wait = (λ _. refl, λ _. refl)
-place_decides Rest Rest = (λ _. refl, λ _. refl)
-place_decides a b = (λ h. cc, λ h. cc)
 
 ticket_decides : (a b : Ticket) → Decides ((ticket_eq.ghosts).eq a b) (a ≡ b)
 ticket_decides a b =

@@ -3,7 +3,7 @@ use Rattle.std.proofs.Common.{◌≡◌, ℕ, zero, suc, ◌^◌, ◌<◌, ◌�
 use Rattle.std.specs.Prelude.{slice_get}
 use Rattle.std.specs.List.{AllPairs}
 use Rattle.std.proofs.lemmas.List.{length-map}
-use Rattle.cfs_model.specs.Claimed.{claimed}
+use Rattle.cfs_model.specs.Claimed.{claimed, with_claim}
 use Rattle.cfs_model.specs.Settings.{Settings}
 use Rattle.cfs_model.specs.declared.act.Entry.{Entry}
 use Rattle.cfs_model.specs.Start.{start_machine}
@@ -28,7 +28,6 @@ use Rattle.ticket_book.specs.Walk.{TicketsRise}
 use Rattle.ticket_book.specs.Whole.{AreSufficient, SufficesBeside}
 use Rattle.ticket_book.proofs.Extent.{bounds_fit, events_few, last_greatest, times_below}
 use Rattle.ticket_book.proofs.TicketOrder.{own_tickets_rise}
-use Rattle.ticket_book.proofs.Walked.{with_claim}
 use Rattle.ticket_book.specs.declared.fault_cause.FaultCause.{FaultCause as FoundCause}
 use Rattle.ticket_book.specs.declared.summary.Summary.{Summary}
 use Rattle.ticket_book.specs.declared.verdict.Verdict.TheVariants.{Run, Fault}

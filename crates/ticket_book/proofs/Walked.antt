@@ -4,7 +4,7 @@ use Rattle.std.proofs.Common.{◌≡◌, ℕ, ◌+◌, ◌<◌, ◌≤◌, Bool,
 use Rattle.std.specs.List.{AllByRecursion, AllPairs}
 use Rattle.std.proofs.Math.Path.{fun_ext}
 use Rattle.std.proofs.lemmas.List.{get_or_default, map-append, take_all, take_more}
-use Rattle.cfs_model.specs.Claimed.{Claimed, claim_at, claimed}
+use Rattle.cfs_model.specs.Claimed.{Claimed, claimed, with_claim}
 use Rattle.cfs_model.specs.declared.act.Entry.{Entry}
 use Rattle.cfs_model.specs.declared.claim.Claim.{Claim}
 use Rattle.cfs_model.specs.declared.task.Task.{Task}
@@ -22,10 +22,6 @@ use Rattle.ticket_book.specs.Told.{Allow, TellFault, view_at}
 use Rattle.ticket_book.specs.Walk.{AreBehind, StandsAt}
 use Rattle.ticket_book.specs.declared.walk.Walk.{Walk}
 use Rattle.ticket_book.proofs.Standing.{stands_later}
-
--- an event with the claim on its line
-abbrev pub with_claim : List Claim → Entry → Claimed
-with_claim claims event = record { entry = event; claim = claim_at claims event.line }
 
 -- how far a walk has come
 pub record HasCome (pages : List ReplayView) (tasks : List Task) (claims : List Claim) (events : List Entry) (i : ℕ) (walk : Walk)

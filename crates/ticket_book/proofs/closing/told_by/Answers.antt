@@ -1,13 +1,13 @@
 use Rattle.std.proofs.Common.{◌<◌, length, refl, sym, ap, ◌∙◌, subst, arith}
 use Rattle.std.specs.List.{AllPairs}
-use Rattle.cfs_model.specs.Claimed.{claimed}
+use Rattle.cfs_model.specs.Claimed.{claimed, with_claim}
 use Rattle.cfs_model.specs.declared.act.Entry.{Entry}
 use Rattle.replay_model.specs.Closing.{SayNothing}
 use Rattle.replay_model.specs.Composition.{named}
 use Rattle.sched_record.specs.Record.{record_view}
 use Rattle.ticket_book.specs.Told.{TellFault, cause_view, view_at}
 use Rattle.ticket_book.specs.Walk.{StandsAt}
-use Rattle.ticket_book.proofs.Walked.{with_claim, walk_starts, walk_goes_on, walk_ends, walk_is_done}
+use Rattle.ticket_book.proofs.Walked.{walk_starts, walk_goes_on, walk_ends, walk_is_done}
 use Rattle.ticket_book.proofs.closing.told_by.Goals as goal
 
 pub loop-event-init : goal.loop-event-init

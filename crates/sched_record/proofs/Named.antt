@@ -7,7 +7,7 @@ use Rattle.std.proofs.lemmas.List.Elements.{All-nil, All-cons}
 use Rattle.cfs_model.specs.Limits.{greatest_pid, greatest_processor}
 use Rattle.cfs_model.specs.declared.act.Entry.{Entry}
 use Rattle.sched_event.specs.Event.{EventAnswer, EventView, event_of, act_of}
-use Rattle.sched_event.specs.Ranges.{is_out_of_range, names_idle, pids_of as printed_pids, cpus_of}
+use Rattle.sched_event.specs.Ranges.{is_out_of_range, names_idle, pids_named, cpus_named}
 use Rattle.sched_event.specs.Texts.{EventText, switch, wakeup, wakeup_new, migration}
 use Rattle.ftrace_line.specs.declared.kinds.Which.{Which}
 use Rattle.text_parts.specs.Numerals.{value_of}
@@ -23,9 +23,9 @@ none_above most (x ∷ xs) e =
 not_idle : (pid : ℕ) → eqb pid 0 ≡ false → All (λ pid. 0 < pid) (pid ∷ [])
 not_idle pid e = let ne = eqb-false pid 0 e in All-cons (λ pid. 0 < pid) pid [] (omega (arith, ne)) (All-nil (λ pid. 0 < pid))
 
-in_range : (text : EventText) → IsFalse (is_out_of_range text) → All (λ pid. pid ≤ greatest_pid) (printed_pids text)
+in_range : (text : EventText) → IsFalse (is_out_of_range text) → All (λ pid. pid ≤ greatest_pid) (pids_named text)
 in_range text inside =
-    none_above greatest_pid (printed_pids text) (or_parts (list_any (nat_lt greatest_pid) (printed_pids text)) (list_any (nat_lt greatest_processor) (cpus_of text)) inside).0
+    none_above greatest_pid (pids_named text) (or_parts (list_any (nat_lt greatest_pid) (pids_named text)) (list_any (nat_lt greatest_processor) (cpus_named text)) inside).0
 
 text_named : (cpu : ℕ) (text : EventText) → IsFalse (is_out_of_range text) → IsFalse (names_idle text)
     → IsNamed (act_of (event_of cpu text))

@@ -12,8 +12,7 @@ use Rattle.cfs_model.specs.declared.claim.ClaimSort.TheVariants.{At, Pass}
 use Rattle.replay_model.specs.declared.step.Deed.{Deed}
 use Rattle.replay_model.specs.declared.step.Deed.TheVariants.{Switch, Wake, Born, Leave, Arrive}
 use Rattle.replay_model.specs.declared.step.Step.{Step}
-use Rattle.cfs_model.specs.declared.task.Place.{Place}
-use Rattle.cfs_model.specs.declared.task.Place.TheVariants.{Run, Wait, Rest}
+use Rattle.cfs_model.proofs.Deciding.{place_decides}
 use Rattle.cfs_model.specs.declared.task.Task.{Task}
 use Rattle.sched_record.specs.Same.{is_same}
 use Rattle.cfs_model.specs.contracts.act.WayPartialEq.TheImpl as way_eq
@@ -21,14 +20,7 @@ use Rattle.cfs_model.specs.contracts.claim.ClaimPartialEq.TheImpl as claim_eq
 use Rattle.cfs_model.specs.contracts.claim.ClaimSortPartialEq.TheImpl as sort_eq
 use Rattle.replay_model.specs.contracts.step.DeedPartialEq.TheImpl as deed_eq
 use Rattle.replay_model.specs.contracts.step.StepPartialEq.TheImpl as step_eq
-use Rattle.cfs_model.specs.contracts.task.PlacePartialEq.TheImpl as place_eq
 use Rattle.cfs_model.specs.contracts.task.TaskPartialEq.TheImpl as task_eq
-
-place_decides : (a b : Place) → Decides ((place_eq.ghosts).eq a b) (a ≡ b)
-place_decides Run Run = (λ _. refl, λ _. refl)
-place_decides Wait Wait = (λ _. refl, λ _. refl)
-place_decides Rest Rest = (λ _. refl, λ _. refl)
-place_decides a b = (λ h. cc, λ h. cc)
 
 way_decides : (a b : Way) → Decides ((way_eq.ghosts).eq a b) (a ≡ b)
 way_decides Stays Stays = (λ _. refl, λ _. refl)

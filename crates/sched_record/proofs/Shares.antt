@@ -8,7 +8,7 @@ use Rattle.std.proofs.lemmas.List.{get_or_default}
 use Rattle.std.proofs.lemmas.List.Elements.{All-map, All-filter, All-weaker, filter_passes}
 use Rattle.std.proofs.lemmas.Option.{slice_get-get_or}
 use Rattle.cfs_model.specs.Charge.{IsInRange}
-use Rattle.cfs_model.specs.Claimed.{Claimed, claim_at, claimed}
+use Rattle.cfs_model.specs.Claimed.{claim_at, claimed, with_claim}
 use Rattle.replay_model.specs.Cut.{claim_for, deed_at, last_line_after, last_time_of, step_at, steps_at, tasks_at, touches}
 use Rattle.cfs_model.specs.declared.act.Act.{Act}
 use Rattle.cfs_model.specs.declared.act.Act.TheVariants as act
@@ -24,10 +24,6 @@ use Rattle.companion_file.specs.Reading.{IsClaimInLimits, IsTaskInLimits}
 use Rattle.sched_record.specs.Kept.{RecordView, IsRecordInOrder, IsNamed, tasks_of}
 use Rattle.sched_record.specs.Share.{IsShare, OwnsClaim, cut_of, tasks_of_deed}
 use Rattle.sched_record.proofs.Pairs.{pairs_map, pairs_filter, found_in}
-
--- an event with the claim on its line
-abbrev with_claim : List Claim → Entry → Claimed
-with_claim claims event = record { entry = event; claim = claim_at claims event.line }
 
 -- what holds of each event's step holds of the steps
 all_steps : (P : Step → Type 0) (cpu : ℕ) (claims : List Claim) (events : List Entry)

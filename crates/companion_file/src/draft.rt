@@ -13,7 +13,7 @@ mod saying;
 
 use crate::companion::Companion;
 use crate::fault::Refusal;
-use crate::limits::{is_pid, is_running, is_value, nice_of};
+use crate::limits::{is_pid, is_running, is_value, nice_within};
 use crate::lists::{Claims, Floors, Tasks};
 use cfs_model::{Claim, MOST_PROCESSORS, Place, Task};
 use std::alloc::Global;
@@ -125,7 +125,7 @@ impl Draft {
             MatchOption result (is_in_limits (unwrap_or self.now.cpus 0) (task_line task) ≡ false)
             (λ within. (within ≡ task) × (is_in_limits (unwrap_or self.now.cpus 0) (task_line task) ≡ true)) }
     {
-        let nice = nice_of(nice)?;
+        let nice = nice_within(nice)?;
         if is_pid(pid) && self.has_cpu(cpu) && is_value(v) {
             Some(Task {
                 pid: pid as u32,

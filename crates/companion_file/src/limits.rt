@@ -21,13 +21,10 @@ pub(crate) fn is_pid(pid: u64) -> bool
 pub(crate) fn is_running(place: Place) -> bool
     ensures { result ≡ is_run place }
 {
-    match place {
-        Place::Run => true,
-        Place::Wait | Place::Rest => false,
-    }
+    matches!(place, Place::Run)
 }
 
-pub(crate) fn nice_of(value: i64) -> Option<Nice>
+pub(crate) fn nice_within(value: i64) -> Option<Nice>
     ensures { MatchOption result (is_nice value ≡ false) (λ nice. (nice ≡ value) × (is_nice value ≡ true)) }
 {
     if -20 <= value && value <= 19 {

@@ -68,10 +68,8 @@ impl Draft {
     fn has_all_floors(&self) -> bool
         ensures { result ≡ has_all_floors self.now }
     {
-        match self.cpus {
-            None => false,
-            Some(cpus) => self.floors.len() == cpus as usize,
-        }
+        self.cpus
+            .is_some_and(|cpus| self.floors.len() == cpus as usize)
     }
 
     fn has_cpu(&self, cpu: u64) -> bool
@@ -96,28 +94,22 @@ impl Draft {
     fn is_pid_next(&self, pid: u64) -> bool
         ensures { result ≡ option_map_or (λ last. nat_le last.pid pid) (last_task self.now) true }
     {
-        match self.last_task() {
-            None => true,
-            Some(last) => u64::from(last.pid) <= pid,
-        }
+        self.last_task()
+            .is_none_or(|last| u64::from(last.pid) <= pid)
     }
 
     fn is_pid_new(&self, pid: u64) -> bool
         ensures { result ≡ option_map_or (λ last. not (last.pid == pid)) (last_task self.now) true }
     {
-        match self.last_task() {
-            None => true,
-            Some(last) => u64::from(last.pid) != pid,
-        }
+        self.last_task()
+            .is_none_or(|last| u64::from(last.pid) != pid)
     }
 
     fn is_line_above(&self, line: u64) -> bool
         ensures { result ≡ option_map_or (λ last. nat_lt last.line line) (last_claim self.now) true }
     {
-        match self.last_claim() {
-            None => true,
-            Some(last) => u64::from(last.line) < line,
-        }
+        self.last_claim()
+            .is_none_or(|last| u64::from(last.line) < line)
     }
 
     fn task_within(&self, pid: u64, nice: i64, cpu: u64, place: Place, v: i64) -> Option<Task>

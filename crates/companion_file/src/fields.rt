@@ -27,7 +27,7 @@ pub(crate) fn number_whole(text: &[u8]) -> Option<u64>
     ensures { Gives (λ n. n) result (number_whole text.now) }
 {
     let (number, rest) = numeral_at(text)?;
-    if rest.is_empty() { Some(number) } else { None }
+    rest.is_empty().then_some(number)
 }
 
 #[inline(always)]
@@ -65,7 +65,7 @@ pub(crate) fn integer_whole(text: &[u8]) -> Option<i64>
     ensures { Gives (λ z. z) result (integer_whole text.now) }
 {
     let (integer, rest) = integer(text)?;
-    if rest.is_empty() { Some(integer) } else { None }
+    rest.is_empty().then_some(integer)
 }
 
 /// A place and the space behind it.

@@ -26,3 +26,4 @@ pub use page::Page;
 pub use replay::Replay;
 pub use state::State;
 pub use tag::{Reached, Tag};
+pub use tally_book::TallyBook;

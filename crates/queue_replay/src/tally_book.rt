@@ -13,10 +13,10 @@ use replay_model::Tally;
 use std::alloc::Global;
 use std::collections::BTreeMap;
 
-/// What each task did at a processor, found by its pid.
+/// What each task did, found by its pid.
 #[derive(Drop)]
-pub(crate) struct TallyBook {
-    /// One for each pid that stood here, in the order in which they first did.
+pub struct TallyBook {
+    /// One for each pid, in the order in which they were named.
     pub list: Vec<Tally>,
     /// Where in the list the tally of a pid is; at its end that of a pid for which room is made.
     pub places: BTreeMap<u32, usize>,
@@ -27,20 +27,19 @@ pub(crate) struct TallyBook {
 
 impl TallyBook {
     /// A tally for each task, of one that has done nothing yet.
-    pub fn of_tasks(alloc: Global, tasks: &[Task]) -> Result<TallyBook, Memory>
+    pub(crate) fn of_tasks(alloc: Global, tasks: &[Task]) -> Result<TallyBook, Memory>
         requires { RisesByPid tasks.now }
         ensures { IfOk result (λ book. book.list.items ≡ map (λ task. new_tally task.pid) tasks.now) }
     {
-        let mut book = TallyBook::empty(alloc);
+        let mut book = TallyBook::new(alloc);
         for task in tasks {
-            book.make_room(task.pid)?;
-            book.add(task.pid);
+            book.name(task.pid)?;
         }
         Ok(book)
     }
 
     /// No tally.
-    fn empty(alloc: Global) -> TallyBook
+    pub fn new(alloc: Global) -> TallyBook
         ensures { result.list.items ≡ [] }
     {
         TallyBook {
@@ -50,8 +49,17 @@ impl TallyBook {
         }
     }
 
+    /// Lets the pid have a tally, unless a growth is refused: one that has a tally keeps it.
+    pub fn name(&mut self, pid: u32) -> Result<(), Memory>
+        ensures { OnOk result (self.new.list.items ≡ with_tally pid self.old.list.items) }
+    {
+        self.make_room(pid)?;
+        self.add(pid);
+        Ok(())
+    }
+
     /// Makes the growth that a tally of the pid needs, if it has none.
-    pub fn make_room(&mut self, pid: u32) -> Result<(), Memory>
+    pub(crate) fn make_room(&mut self, pid: u32) -> Result<(), Memory>
         ensures room { OnOk result (HasTallyRoom pid self.new.list self.new.places) }
         ensures same { self.new.list.items ≡ self.old.list.items }
     {
@@ -67,7 +75,7 @@ impl TallyBook {
     }
 
     /// Where in the list the tally of the pid is, if it has one.
-    fn place_of(&self, pid: u32) -> Option<usize>
+    pub fn place_of(&self, pid: u32) -> Option<usize>
         ensures found { (place : ℕ) → result ≡ Some place → (place < length self.now.list.items) × ((d : TallyOf) → (get_or self.now.list.items place d).pid ≡ pid) }
         ensures none { result ≡ None → All (λ tally. tally.pid ≢ pid) self.now.list.items }
     {
@@ -91,7 +99,7 @@ impl TallyBook {
     }
 
     /// Lets the pid have a tally. Takes no memory.
-    pub fn add(&mut self, pid: u32)
+    pub(crate) fn add(&mut self, pid: u32)
         requires { HasTallyRoom pid self.old.list self.old.places }
         ensures { self.new.list.items ≡ with_tally pid self.old.list.items }
     {
@@ -103,7 +111,7 @@ impl TallyBook {
 
     /// Adds a stretch of running, in nanoseconds, and its charge to the tally of the task. Each tally is that of at
     /// most so many steps.
-    pub fn add_stretch(&mut self, task: Task, time: u64, steps: usize)
+    pub(crate) fn add_stretch(&mut self, task: Task, time: u64, steps: usize)
         requires fits { cost_of time task ≤ greatest }
         requires few { steps < 2 ^ 64 - 1 }
         requires within { All (IsWithin steps) self.old.list.items }
@@ -119,7 +127,7 @@ impl TallyBook {
     }
 
     /// Adds a switch to the tally of the pid. Each tally is that of at most so many steps.
-    pub fn add_pick(&mut self, pid: u32, steps: usize)
+    pub(crate) fn add_pick(&mut self, pid: u32, steps: usize)
         requires few { steps < 2 ^ 64 - 1 }
         requires within { All (λ tally. tally.picks ≤ steps) self.old.list.items }
         ensures { self.new.list.items ≡ map (picked_tally pid) self.old.list.items }

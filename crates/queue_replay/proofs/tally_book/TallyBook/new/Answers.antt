@@ -2,7 +2,7 @@ use Rattle.std.proofs.Common.{rules, [], ◌≡◌, sym, subst}
 use Rattle.replay_model.specs.declared.page.Tally.{Tally}
 use Rattle.queue_replay.specs.Places.{IsPlaced}
 use Rattle.queue_replay.proofs.PlacedBy.{placed_none}
-use Rattle.queue_replay.proofs.tally_book.TallyBook.empty.Goals as goal
+use Rattle.queue_replay.proofs.tally_book.TallyBook.new.Goals as goal
 
 pub invariant_of-result : goal.invariant_of-result
 invariant_of-result c =

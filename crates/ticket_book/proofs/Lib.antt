@@ -3,6 +3,7 @@ mod CoreKept
 mod Cursors
 mod Deadlines
 mod Extent
+pub mod FewBelow
 mod StreamsFollowed
 mod Framed
 mod Gathering

@@ -1,6 +1,6 @@
-ghost use Rattle.std.specs.Prelude.{◌≡◌, ℕ, ◌<◌, ◌≤◌, All, AllPairs, IfOk, length, replicate, slice_get, slice_index, slice_index_or, take};
+ghost use Rattle.std.specs.Prelude.{◌≡◌, ◌+◌, ◌<◌, ◌≤◌, nat_lt, AllPairs, IfOk, drop, length, min, replicate, slice_get, slice_index, take};
+ghost use Rattle.std.specs.List.{prefix_len};
 ghost use Rattle.replay_model.specs.Composition.{ticket_at};
-ghost use Rattle.replay_model.specs.declared.page.Ticket.{Ticket};
 ghost use Rattle.ticket_book.specs.TicketPlaces.{AreBelow, PassesTo, if_of_line};
 
 use cfs_model::Memory;
@@ -40,23 +40,30 @@ impl TicketPlaces {
         ensures found { result ≡ ticket_at line tickets.now }
         ensures passes { PassesTo cpu line tickets.now self.old self.new }
     {
-        let place = place_from(tickets, self.items[cpu], line);
+        let place = place_past(tickets, self.items[cpu], line);
         self.items[cpu] = place;
         ticket_on(tickets, place, line)
     }
 }
 
 /// The first place from a place on whose ticket isn't below a line.
-fn place_from(tickets: &[Ticket], from: usize, line: u32) -> usize
-    ensures from_there { from ≤ result }
-    ensures below { (k : ℕ) (d : Ticket) → from ≤ k → k < result → (slice_index_or tickets.now k d).line < line }
-    ensures reached { (d : Ticket) → result < length tickets.now → line ≤ (slice_index_or tickets.now result d).line }
+fn place_past(tickets: &[Ticket], from: usize, line: u32) -> usize
+    ensures { result ≡ min from (length tickets.now) + prefix_len (λ t. nat_lt t.line line) (drop (min from (length tickets.now)) tickets.now) }
 {
-    let mut place = from;
-    while place < tickets.len() && tickets[place].line < line {
-        place += 1;
-    }
-    place
+    let start = from.min(tickets.len());
+    start + count_below(&tickets[start..], line)
+}
+
+/// How many tickets a list begins with whose lines are below this one.
+#[tactic(auto, using(crate::proofs::FewBelow::few_below))]
+fn count_below(tickets: &[Ticket], line: u32) -> usize
+    ensures count { result ≡ prefix_len (λ t. nat_lt t.line line) tickets.now }
+    ensures within { result ≤ length tickets.now }
+{
+    tickets
+        .iter()
+        .take_while(|ticket| ticket.line < line)
+        .count()
 }
 
 /// The ticket at a place, where it is of this line.

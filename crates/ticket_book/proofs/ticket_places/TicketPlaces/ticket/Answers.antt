@@ -1,23 +1,23 @@
 use Rattle.std.proofs.Common.{◌≡◌, ◌<◌, length, get_or, slice_set, take, sym, ap, subst, ◌∙◌}
 use Rattle.std.proofs.lemmas.List.{get_or_default}
 use Rattle.ticket_book.specs.TicketPlaces.{AreBelow}
-use Rattle.ticket_book.proofs.TicketsPassed.{ticket_here, passed_to}
+use Rattle.ticket_book.proofs.TicketsPassed.{ticket_here, passed_to, stops_at}
 use Rattle.ticket_book.proofs.ticket_places.TicketPlaces.ticket.Goals as goal
 
 pub returns : goal.returns
 returns c =
     let ts = c.args.tickets.now in
     let items = c.self.inside.items.items in
-    let place = c.place_from-place.result in
+    let place = c.place_past-place.result in
     let bound : c.args.cpu < length items = subst (λ xs. c.args.cpu < length xs) (sym c.self.view_is) c.requires.in_bounds in
     let from : c.index.result.now ≡ get_or c.args.self.now c.args.cpu 0 = c.index.ensures
     ∙ get_or_default items c.args.cpu c.index.result.now 0 bound ∙ ap (λ xs. get_or xs c.args.cpu 0) c.self.view_is in
     let before : AreBelow c.args.line (take c.index.result.now ts) =
     subst (λ n. AreBelow c.args.line (take n ts)) (sym from) c.requires.passed in
-    let passed = passed_to c.args.line ts c.index.result.now place before c.place_from-place.ensures.from_there
-    c.place_from-place.ensures.below in
+    let passed = passed_to c.args.line ts c.index.result.now place before c.place_past-place.ensures in
     record {
       found = c.ticket_on.ensures
-          ∙ ticket_here c.args.line ts place c.requires.rise passed c.place_from-place.ensures.reached;
+          ∙ ticket_here c.args.line ts place c.requires.rise passed
+          (stops_at c.args.line ts c.index.result.now place c.place_past-place.ensures);
       passes = record { place = place; moved = ap (λ xs. slice_set xs c.args.cpu place) c.self.view_is; passed = passed };
     }

@@ -1,15 +1,14 @@
 -- Tallies that are added to the sums of their tasks, one after the other.
-use Rattle.std.proofs.Common.{◌≡◌, ◌≢◌, ℕ, ◌+◌, ◌<◌, ◌==◌, if◌then◌else◌, Bool, true, false, eqb, List, [], ◌∷◌, ◌++◌, length, map, set, take, drop, get_or, All, Some, refl, sym, ap, ◌∙◌, subst, arith}
-use Rattle.std.specs.BTreeMap.{BTreeMap, get}
+use Rattle.std.proofs.Common.{◌≡◌, ◌≢◌, ℕ, ◌+◌, ◌<◌, ◌==◌, if◌then◌else◌, eqb, List, [], ◌∷◌, ◌++◌, length, map, set, take, drop, get_or, All, refl, sym, ap, ◌∙◌, subst, arith}
+use Rattle.std.specs.BTreeMap.{BTreeMap}
 use Rattle.std.specs.List.{sum_by}
-use Rattle.std.specs.Ordering.{nat_cmp}
 use Rattle.std.proofs.lemmas.Bool.{cond-false, ne_eqb}
 use Rattle.std.proofs.lemmas.List.{take_more, take-append-drop}
 use Rattle.std.proofs.lemmas.List.Elements.{All-map, All-weaker}
 use Rattle.std.proofs.lemmas.List.Sums.{sum_by-append}
 use Rattle.replay_model.specs.declared.page.Tally.{Tally}
 use Rattle.queue_replay.specs.Places.{IsPlaced}
-use Rattle.queue_replay.proofs.PlacedBy.{changed_there, placed_map, placed_push, set_none}
+use Rattle.queue_replay.proofs.PlacedBy.{changed_there, placed_map, set_none}
 use Rattle.ticket_book.specs.Tallying.{FitsTally, with_tallies}
 
 abbrev pub pid_of : Tally → ℕ
@@ -113,10 +112,3 @@ module _ (sums : List Tally) (places : BTreeMap ℕ ℕ) (placed : IsPlaced sums
 pub added_nowhere : (sums : List Tally) (tally : Tally) → All (λ sum. sum.pid ≢ tally.pid) sums
     → sums ≡ map (with_tallies (tally ∷ [])) sums
 added_nowhere sums tally none = sym (set_none (λ sum. sum.pid ≢ tally.pid) (with_tallies (tally ∷ [])) sums (others_stay tally) none)
-
--- one task more at the place that was kept for it, or none
-pub placed_or_not : (b : Bool) (xs items : List Tally) (places : BTreeMap ℕ ℕ) (sum : Tally) → IsPlaced xs places
-    → get nat_cmp places sum.pid ≡ Some (length xs) → items ≡ (if b then xs ++ sum ∷ [] else xs) → IsPlaced items places
-placed_or_not true xs items places sum placed told is =
-    subst (λ l. IsPlaced l places) (sym is) (placed_push pid_of xs places placed sum told)
-placed_or_not false xs items places sum placed told is = subst (λ l. IsPlaced l places) (sym is) placed

@@ -12,9 +12,9 @@ ghost use Rattle.ticket_book.specs.Told.{view_at};
 
 use crate::Summary;
 use crate::event_counts::EventCounts;
-use crate::task_sums::TaskSums;
+use crate::task_sums::add_all;
 use cfs_model::{Act, Entry, Memory, Task};
-use queue_replay::{Page, Tallies};
+use queue_replay::{Page, Tallies, TallyBook};
 use sched_record::Record;
 use std::alloc::Global;
 
@@ -27,22 +27,23 @@ pub(crate) fn summary_by(alloc: Global, pages: &[Page], joined: &Record) -> Resu
         (claimed (record_view joined.now).claims (record_view joined.now).events)) }
 {
     let events = joined.events();
-    let mut sums = TaskSums::new(alloc);
+    let mut sums = TallyBook::new(alloc);
     name_tasks(joined.tasks(), &mut sums)?;
     let counts = count_events(events, &mut sums)?;
     add_pages(pages, &mut sums);
+    let TallyBook { list, .. } = sums;
     Ok(Summary {
         events: events.len() as u64,
         switches: counts.switches,
         migrations: counts.migrations,
         births: counts.births,
         deaths: counts.deaths,
-        tallies: Tallies::from_vec(sums.into_list()),
+        tallies: Tallies::from_vec(list),
     })
 }
 
 /// Names the tasks of the start state.
-fn name_tasks(tasks: &[Task], sums: &mut TaskSums) -> Result<(), Memory>
+fn name_tasks(tasks: &[Task], sums: &mut TallyBook) -> Result<(), Memory>
     ensures { OnOk result (sums.new.list.items ≡ with_named (map (λ task. task.pid) tasks.now) sums.old.list.items) }
 {
     for task in tasks {
@@ -52,7 +53,7 @@ fn name_tasks(tasks: &[Task], sums: &mut TaskSums) -> Result<(), Memory>
 }
 
 /// Counts what the events do, and names the tasks that are born.
-fn count_events(events: &[Entry], sums: &mut TaskSums) -> Result<EventCounts, Memory>
+fn count_events(events: &[Entry], sums: &mut TallyBook) -> Result<EventCounts, Memory>
     ensures counts { IfOk result (λ counts. counts ≡ counts_of events.now) }
     ensures named { OnOk result (sums.new.list.items ≡ with_named (births_in events.now) sums.old.list.items) }
 {
@@ -65,7 +66,7 @@ fn count_events(events: &[Entry], sums: &mut TaskSums) -> Result<EventCounts, Me
 }
 
 /// Names the task that an event gives birth to, if it does.
-fn name_born(act: Act, sums: &mut TaskSums) -> Result<(), Memory>
+fn name_born(act: Act, sums: &mut TallyBook) -> Result<(), Memory>
     ensures { OnOk result (sums.new.list.items ≡ with_named (born_by act) sums.old.list.items) }
 {
     match act {
@@ -75,11 +76,11 @@ fn name_born(act: Act, sums: &mut TaskSums) -> Result<(), Memory>
 }
 
 /// Adds the tallies on the pages, page after page.
-fn add_pages(pages: &[Page], sums: &mut TaskSums)
+fn add_pages(pages: &[Page], sums: &mut TallyBook)
     requires { All (λ sum. FitsTally (with_tallies (tallies_below (view_at pages.now) (length pages.now)) sum)) sums.old.list.items }
     ensures { sums.new.list.items ≡ map (with_tallies (tallies_below (view_at pages.now) (length pages.now))) sums.old.list.items }
 {
     for page in pages {
-        sums.add_all(page.tallies());
+        add_all(sums, page.tallies());
     }
 }

@@ -18,7 +18,7 @@ pub loop-page-preserved : goal.loop-page-preserved
 loop-page-preserved c =
     page_added c.args.pages.now c.loop-page.page-index c.page-item.result c.loop-page-test.true c.page-item.is
     c.tallies.result.now c.tallies.ensures c.args.sums.now.list.items c.loop-page.sums.list.items c.loop-page.invariant
-    c.add_all.new.self.list.items c.add_all.ensures
+    c.add_all.new.sums.list.items c.add_all.ensures
 
 pub returns : goal.returns
 returns c =

@@ -31,4 +31,4 @@ returns c =
     c.in_ok-counts.ensures.named in
     summed r c.tasks.result.now c.events-events.result.now c.tasks.ensures c.events-events.ensures tallies
     c.count_events.new.sums.list.items c.from_vec.result c.in_ok-counts.counts _ named
-    (c.from_vec.ensures ∙ c.into_list.ensures ∙ c.add_pages.ensures) c.in_ok-counts.ensures.counts refl
+    (c.from_vec.ensures ∙ c.add_pages.ensures) c.in_ok-counts.ensures.counts refl

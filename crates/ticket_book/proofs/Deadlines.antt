@@ -3,23 +3,24 @@ use Rattle.std.proofs.Common.{◌≡◌, ℕ, ◌+◌, ◌<◌, ◌≤◌, nat_l
 use Rattle.std.proofs.lemmas.Bool.{ltb-false, le-ltb, cases_lt, lt-ltb}
 use Rattle.queue_replay.specs.Replay.{ReplayView}
 use Rattle.ticket_book.specs.Told.{view_at}
-use Rattle.ticket_book.specs.Idling.{IsFrom, IsFirstLate, NoneFirst, NoneLate, deadline_on, earlier_of, is_past}
+use Rattle.ticket_book.specs.Idling.{IsFrom, IsFirstLate, NoneFirst, NoneLate, deadline_on, is_past}
+use Rattle.ticket_book.specs.Lesser.{lesser_of}
 use Rattle.ticket_book.proofs.Views.{view_here}
 
-smaller : (one other : ℕ) → (cond (nat_lt one other) one other ≤ one) × (cond (nat_lt one other) one other ≤ other)
-smaller one other = elim (cases_lt one other) [
-  | inl less ↦ let e = ap (λ b. cond b one other) (lt-ltb one other less) in (omega (arith, e), omega (arith, e))
-  | inr more ↦ let e = ap (λ b. cond b one other) (le-ltb one other more) in (omega (arith, e), omega (arith, e))
+smaller : (one other : ℕ) → (cond (nat_lt other one) other one ≤ one) × (cond (nat_lt other one) other one ≤ other)
+smaller one other = elim (cases_lt other one) [
+  | inl less ↦ let e = ap (λ b. cond b other one) (lt-ltb other one less) in (omega (arith, e), omega (arith, e))
+  | inr more ↦ let e = ap (λ b. cond b other one) (le-ltb other one more) in (omega (arith, e), omega (arith, e))
 ]
 
 -- what isn't before a deadline isn't before an earlier one
-from_earlier : (one other deadline : Option ℕ) → IsFrom one deadline → IsFrom (earlier_of one other) deadline
+from_earlier : (one other deadline : Option ℕ) → IsFrom one deadline → IsFrom (lesser_of one other) deadline
 from_earlier one other None h = tt
 from_earlier None other (Some d) h = absurd h
 from_earlier (Some one) None (Some d) h = h
 from_earlier (Some one) (Some other) (Some d) h = let s = smaller one other in omega (arith, s.0, h)
 
-from_other : (one other : Option ℕ) → IsFrom (earlier_of one other) other
+from_other : (one other : Option ℕ) → IsFrom (lesser_of one other) other
 from_other one None = tt
 from_other None (Some other) = omega arith
 from_other (Some one) (Some other) = (smaller one other).1
@@ -27,11 +28,11 @@ from_other (Some one) (Some other) = (smaller one other).1
 -- one more page
 pub one_deadline : (pages : List ReplayView) (first : Option ℕ) (k : ℕ) (page : ReplayView) → k < length pages
     → page ≡ get_or pages k page → NoneFirst pages first k
-    → NoneFirst pages (earlier_of first (deadline_on page.page)) (k + 1)
+    → NoneFirst pages (lesser_of first (deadline_on page.page)) (k + 1)
 one_deadline pages first k page h e before =
     below_more _ _
     (λ cpu lt. from_earlier first (deadline_on page.page) (deadline_on (view_at pages cpu)) (before cpu lt))
-    (subst (λ view. IsFrom (earlier_of first (deadline_on page.page)) (deadline_on view)) (sym (view_here pages k page h e))
+    (subst (λ view. IsFrom (lesser_of first (deadline_on page.page)) (deadline_on view)) (sym (view_here pages k page h e))
     (from_other first (deadline_on page.page)))
 
 -- one more page that isn't late

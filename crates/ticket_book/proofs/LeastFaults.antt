@@ -7,7 +7,8 @@ use Rattle.replay_model.specs.declared.page.StepFault.{StepFault}
 use Rattle.queue_replay.specs.Replay.{ReplayView}
 use Rattle.sched_record.specs.Record.{RecordView}
 use Rattle.ticket_book.specs.Book.{page_at}
-use Rattle.ticket_book.specs.Relying.{IsLeastOf, lesser_of}
+use Rattle.ticket_book.specs.Relying.{IsLeastOf}
+use Rattle.ticket_book.specs.Lesser.{lesser_of}
 use Rattle.ticket_book.specs.Remade.{HasFaultAt, IsLeastFaultBelow}
 
 module _ (knobs : Settings) (r : RecordView) (places : List (Option ReplayView)) where

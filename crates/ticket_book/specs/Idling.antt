@@ -1,5 +1,5 @@
 -- Until when the pages' processors could idle (this project's profile).
-use Rattle.std.specs.Prelude.{◌≡◌, ℕ, ◌<◌, ◌≤◌, true, List, length, nat_lt, Bool, false, if◌then◌else◌, Option, Some, None, option_and_then, ⊤}
+use Rattle.std.specs.Prelude.{◌≡◌, ℕ, ◌<◌, ◌≤◌, true, List, length, nat_lt, Bool, false, Option, Some, None, option_and_then, ⊤}
 use Rattle.replay_model.specs.Noted.{PageView}
 use Rattle.queue_replay.specs.Replay.{ReplayView}
 use Rattle.ticket_book.specs.Told.{view_at}
@@ -18,12 +18,6 @@ abbrev pub IsFrom : Option ℕ → Option ℕ → Type 0
 IsFrom first None = ⊤
 IsFrom None (Some deadline) = ⊥
 IsFrom (Some first) (Some deadline) = first ≤ deadline
-
--- the earlier of two deadlines
-abbrev pub earlier_of : Option ℕ → Option ℕ → Option ℕ
-earlier_of None other = other
-earlier_of (Some one) None = Some one
-earlier_of (Some one) (Some other) = Some (if nat_lt one other then one else other)
 
 -- of the first so many processors none has an earlier deadline
 abbrev pub NoneFirst : List ReplayView → Option ℕ → ℕ → Type 0

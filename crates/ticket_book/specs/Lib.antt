@@ -8,6 +8,7 @@ pub mod Relying
 pub mod Remade
 pub mod Alive
 pub mod Idling
+pub mod Lesser
 pub mod Naming
 pub mod Same
 pub mod SummaryView

@@ -1,5 +1,5 @@
 -- Whether a page got far enough to be relied on, beside the least line of a fault (this project's profile).
-use Rattle.std.specs.Prelude.{ℕ, ◌≤◌, nat_lt, if◌then◌else◌, ⊤, Option, Some, None, List, length}
+use Rattle.std.specs.Prelude.{ℕ, ◌≤◌, ⊤, Option, Some, None, List, length}
 use Rattle.cfs_model.specs.Settings.{Settings}
 use Rattle.queue_replay.specs.Made.{reached_of}
 use Rattle.queue_replay.specs.Replay.{ReplayView}
@@ -8,12 +8,6 @@ use Rattle.queue_replay.specs.declared.tag.Reached.TheVariants.{Stopped, Done, F
 use Rattle.sched_record.specs.Record.{RecordView}
 use Rattle.ticket_book.specs.Remade.{IsLeastFaultBelow, NoFaultBelow}
 use Rattle.ticket_book.specs.Whole.{IsOwnPageOf}
-
--- the lesser of two lines, where there are any
-abbrev pub lesser_of : Option ℕ → Option ℕ → Option ℕ
-lesser_of None other = other
-lesser_of (Some one) None = Some one
-lesser_of (Some one) (Some other) = Some (if nat_lt other one then other else one)
 
 -- the least line of a fault on the record's own pages of the processors below a number, if one of them has a fault
 abbrev pub IsLeastOf : Settings → RecordView → List (Option ReplayView) → ℕ → Option ℕ → Type 0

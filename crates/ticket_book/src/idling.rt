@@ -1,6 +1,7 @@
 ghost use Rattle.std.specs.Prelude.{◌≡◌, IfNone, IfSome, length};
-ghost use Rattle.ticket_book.specs.Idling.{IsFirstLate, NoneFirst, NoneLate, deadline_on, earlier_of, is_past};
+ghost use Rattle.ticket_book.specs.Idling.{IsFirstLate, NoneFirst, NoneLate, deadline_on, is_past};
 
+use crate::lesser::lesser;
 use queue_replay::Page;
 
 /// Until when the page's processor could idle, where its fault is that it idled for longer.
@@ -10,24 +11,13 @@ fn deadline_on(page: &Page) -> Option<u64>
     page.fault().and_then(|fault| fault.deadline)
 }
 
-/// The earlier of two deadlines.
-fn earlier(one: Option<u64>, other: Option<u64>) -> Option<u64>
-    ensures { result ≡ earlier_of one other }
-{
-    match (one, other) {
-        (Some(one), Some(other)) => Some(if one < other { one } else { other }),
-        (Some(one), None) => Some(one),
-        (None, other) => other,
-    }
-}
-
 /// The first deadline on the pages.
 pub(crate) fn first_deadline(pages: &[Page]) -> Option<u64>
     ensures { NoneFirst pages.now result (length pages.now) }
 {
     let mut first = None;
     for page in pages {
-        first = earlier(first, deadline_on(page));
+        first = lesser(first, deadline_on(page));
     }
     first
 }
@@ -61,8 +51,5 @@ fn first_late(pages: &[Page], time: u64) -> Option<usize>
 fn is_late(page: &Page, time: u64) -> bool
     ensures { result ≡ is_past time (deadline_on page.now.page) }
 {
-    match deadline_on(page) {
-        Some(deadline) => deadline < time,
-        None => false,
-    }
+    deadline_on(page).is_some_and(|deadline| deadline < time)
 }

@@ -5,10 +5,11 @@ ghost use Rattle.sched_record.specs.Stream.{cut_of};
 ghost use Rattle.cfs_model.specs.Claimed.{claimed};
 ghost use Rattle.ticket_book.specs.Book.{page_at};
 ghost use Rattle.ticket_book.specs.Cursor.{AreFollowed, IsCursor, steps_in};
-ghost use Rattle.ticket_book.specs.Relying.{IsLeastOf, lesser_of};
+ghost use Rattle.ticket_book.specs.Relying.{IsLeastOf};
 ghost use Rattle.ticket_book.specs.Remade.{HasFaultAt};
 
 use crate::cursor::Cursor;
+use crate::lesser::lesser;
 use crate::relying::is_own_page_of;
 use cfs_model::Knobs;
 use queue_replay::Page;
@@ -21,7 +22,7 @@ pub(crate) fn least_fault(
     joined: &Record,
     knobs: Knobs,
     cursors: &[Cursor],
-) -> Option<u32>
+) -> Option<u64>
     requires count { length cursors.now ≡ (record_view joined.now).cpus }
     requires followed { AreFollowed places.now cursors.now
         (claimed (record_view joined.now).claims (record_view joined.now).events) }
@@ -35,17 +36,6 @@ pub(crate) fn least_fault(
     least
 }
 
-/// The lesser of two lines, where there are any.
-fn lesser(one: Option<u32>, other: Option<u32>) -> Option<u32>
-    ensures { result ≡ lesser_of one other }
-{
-    match (one, other) {
-        (Some(one), Some(other)) => Some(if other < one { other } else { one }),
-        (Some(one), None) => Some(one),
-        (None, other) => other,
-    }
-}
-
 /// The line of the fault of the page at a processor's place, where it is the record's and has one.
 fn fault_at(
     places: &[Option<Page>],
@@ -53,7 +43,7 @@ fn fault_at(
     cpu: u32,
     knobs: Knobs,
     cursor: Cursor,
-) -> Option<u32>
+) -> Option<u64>
     requires below { cpu < (record_view joined.now).cpus }
     requires followed { IsCursor (steps_in (page_at places.now cpu)) (cut_of (record_view joined.now) cpu).steps cursor }
     ensures none { IfNone result ((line : ℕ) → ¬ HasFaultAt knobs (record_view joined.now) cpu (page_at places.now cpu) line) }
@@ -66,7 +56,7 @@ fn fault_at(
 }
 
 /// The line of a page's fault, where the page is the record's and has one.
-fn own_fault(page: &Page, joined: &Record, cpu: u32, knobs: Knobs, cursor: Cursor) -> Option<u32>
+fn own_fault(page: &Page, joined: &Record, cpu: u32, knobs: Knobs, cursor: Cursor) -> Option<u64>
     requires below { cpu < (record_view joined.now).cpus }
     requires followed { IsCursor page.now.stream.steps (cut_of (record_view joined.now) cpu).steps cursor }
     ensures none { IfNone result ((line : ℕ) → ¬ HasFaultAt knobs (record_view joined.now) cpu (Some page.now) line) }
@@ -74,7 +64,7 @@ fn own_fault(page: &Page, joined: &Record, cpu: u32, knobs: Knobs, cursor: Curso
 {
     let fault = page.fault()?;
     if is_own_page_of(page, joined, cpu, knobs, cursor) {
-        Some(fault.line)
+        Some(u64::from(fault.line))
     } else {
         None
     }

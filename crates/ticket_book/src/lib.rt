@@ -11,6 +11,7 @@ mod fault_cause;
 mod following;
 mod idling;
 mod least_fault;
+mod lesser;
 mod post_fault;
 mod relying;
 mod remaking;

@@ -33,7 +33,7 @@ pub(crate) fn is_own_page_of(
 
 /// Whether a page's replay got far enough, beside the least line of a fault: to its first fault, to the end, or to that
 /// line.
-pub(crate) fn is_enough(page: &Page, least: Option<u32>) -> bool
+pub(crate) fn is_enough(page: &Page, least: Option<u64>) -> bool
     ensures { IsTrue result ↔ IsEnough least (reached_of page.now.page page.now.made (length page.now.stream.steps)) }
 {
     match page.tag().reached {
@@ -43,13 +43,10 @@ pub(crate) fn is_enough(page: &Page, least: Option<u32>) -> bool
 }
 
 /// Whether there is a least line, and this one isn't before it.
-fn is_at_most(least: Option<u32>, line: u32) -> bool
+fn is_at_most(least: Option<u64>, line: u32) -> bool
     ensures { IsTrue result ↔ IsEnough least (Stopped line) }
 {
-    match least {
-        Some(least) => least <= line,
-        None => false,
-    }
+    least.is_some_and(|least| least <= u64::from(line))
 }
 
 /// Whether a stream is what a processor sees of the record. The cursor is the stream's, with all events dealt.

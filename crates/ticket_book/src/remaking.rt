@@ -71,7 +71,7 @@ fn relied_on(
     cpu: u32,
     knobs: Knobs,
     cursor: Cursor,
-    least: Option<u32>,
+    least: Option<u64>,
 ) -> Option<Page>
     requires below { cpu < (record_view joined.now).cpus }
     requires followed { IsCursor (steps_in place) (cut_of (record_view joined.now) cpu).steps cursor }

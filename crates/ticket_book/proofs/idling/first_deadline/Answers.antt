@@ -1,5 +1,6 @@
 use Rattle.std.proofs.Common.{◌≡◌, ◌+◌, ap, sym, subst, ◌∙◌, arith}
-use Rattle.ticket_book.specs.Idling.{NoneFirst, deadline_on, earlier_of}
+use Rattle.ticket_book.specs.Idling.{NoneFirst, deadline_on}
+use Rattle.ticket_book.specs.Lesser.{lesser_of}
 use Rattle.ticket_book.proofs.Deadlines.{one_deadline}
 use Rattle.ticket_book.proofs.idling.first_deadline.Goals as goal
 
@@ -7,8 +8,8 @@ pub loop-page-preserved : goal.loop-page-preserved
 loop-page-preserved c =
     let pages = c.args.pages.now in
     let page = c.page-item.result in
-    let result : earlier_of c.loop-page.first (deadline_on page.page) ≡ c.earlier-first.result =
-    sym (c.earlier-first.ensures ∙ ap (earlier_of c.loop-page.first) c.deadline_on.ensures) in
+    let result : lesser_of c.loop-page.first (deadline_on page.page) ≡ c.lesser-first.result =
+    sym (c.lesser-first.ensures ∙ ap (lesser_of c.loop-page.first) c.deadline_on.ensures) in
     subst (λ first. NoneFirst pages first (c.loop-page.page-index + 1)) result
     (one_deadline pages c.loop-page.first c.loop-page.page-index page c.loop-page-test.true c.page-item.is
     c.loop-page.invariant)

@@ -1,0 +1,13 @@
+ghost use Rattle.std.specs.Prelude.{◌≡◌};
+ghost use Rattle.ticket_book.specs.Lesser.{lesser_of};
+
+/// The lesser of two numbers, where there are any.
+pub(crate) fn lesser(one: Option<u64>, other: Option<u64>) -> Option<u64>
+    ensures { result ≡ lesser_of one other }
+{
+    match (one, other) {
+        (Some(one), Some(other)) => Some(if other < one { other } else { one }),
+        (Some(one), None) => Some(one),
+        (None, other) => other,
+    }
+}

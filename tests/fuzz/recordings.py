@@ -1,0 +1,290 @@
+"""Random runs of the scheduler: a machine is led by the rules of docs/RULES.md, one event after another, and each event is
+written as a line of a trace, with its claim in a companion.  What the report has to say of such a run is known with it."""
+
+from typing import NamedTuple
+
+# The weights of nice -20 to 19.
+WEIGHTS = (88761, 71755, 56483, 46273, 36291, 29154, 23254, 18705, 14949, 11916, 9548, 7620, 6100, 4904, 3906, 3121, 2501,
+           1991, 1586, 1277, 1024, 820, 655, 526, 423, 335, 272, 215, 172, 137, 110, 87, 70, 56, 45, 36, 29, 23, 18, 15)
+MOST_PID = 4_194_304
+MOST_SETTING = 10**12
+MOST_VIRTUAL = 2**62
+LAST_TIME = 2**32 * 10**9 - 1
+# No floor rises by more than this within a recording.
+MARGIN = 10**17
+OPTIONS = ("--granularity-ns", "--credit-ns", "--debit-ns", "--slack-ns")
+STANDARD = (1_000_000, 3_000_000, 3_000_000, 100_000)
+
+NAMES = (b"t101", b"bash", b"Web Content", b"kworker/u16:2", b"", b" ", b"a prev_pid=1", b"x pid=7 prio=12", b"==> next_comm=a",
+         b"fifteen bytes !", b"\xff\xfe\x00\r", b"sched_switch: ", b"#", b"-1     [000]")
+FLAGS = (b"d..2. ", b"", b". ", b"d.h3.1[ ")
+GROUPS = (b"", b"", b"(    101) ", b"(-----) ")
+STAYS, SLEEPS = (b"R+", b"R", b"S+", b"x+", b"R|K", b"+|X", b"S+|K"), (b"S", b"D", b"I", b"P", b"t", b"S|K", b"r")
+ENDS = (b"X", b"Z", b"x", b"RX", b"S|X", b"Z|K")
+OTHERS = (b"#", b"", b"# CPU:0 [LOST EVENTS]", b"#" * 70)
+
+
+class Input(NamedTuple):
+    """What both auditors are called on, and the report where it is known beforehand."""
+
+    trace: bytes
+    companion: bytes
+    options: tuple
+    report: bytes = None
+
+
+class Task:
+    """A task, where it stands, and what it did; the place of one that has ended is None."""
+
+    def __init__(self, pid, nice, cpu, place, virtual):
+        self.pid, self.nice, self.cpu, self.place, self.virtual = pid, nice, cpu, place, virtual
+        self.ran = self.charged = self.picks = 0
+
+    @property
+    def prio(self):
+        return 120 + self.nice
+
+
+class Processor:
+    """A processor: until when it has charged, and since when it has idled beside a waiting task."""
+
+    def __init__(self, number, floor, start):
+        self.number, self.floor, self.mark, self.since = number, floor, start, None
+
+
+class Machine:
+    """A machine in a random state, and the two texts of what happens to it."""
+
+    def __init__(self, rng):
+        self.rng = rng
+        self.settings = STANDARD if rng.random() < 0.6 else tuple(
+            rng.choice((0, 1, 1000, standard, 10**9, MOST_SETTING)) for standard in STANDARD)
+        self.granularity, self.credit, self.debit, self.slack = self.settings
+        self.unit = rng.choice((1, 1000))
+        seconds = rng.choice((0, 100, 1403, 2**32 - 10**8, 2**32 - 1))
+        self.start = self.time = seconds * 10**9 + rng.randrange(10**6) * 1000
+        self.spread = rng.choice((1, 10**3, 10**6, 10**7))
+        base = rng.choice((0, 0, 0, 10**9, -10**9, 2**40, -2**61, -MOST_VIRTUAL, MOST_VIRTUAL - self.spread + 1))
+        count = rng.choice((1, 1, 1, 2, 2, 3, 4, rng.randrange(5, 17), 64))
+        self.processors = [Processor(number, base + rng.randrange(self.spread), self.start) for number in range(count)]
+        self.tasks, self.claims, self.lines = {}, [], []
+        self.counts = dict.fromkeys((b"events", b"switches", b"migrations", b"births", b"deaths"), 0)
+        self.settle(base)
+        self.beginning = list(self.companion())
+
+    # The start.
+
+    def settle(self, base):
+        """Some tasks at each processor, of which at most one runs."""
+        rng, running = self.rng, set()
+        few = rng.choice((1, 3, 8)) * (len(self.processors) if len(self.processors) < 5 else 5)
+        pids = set(rng.sample(range(1, rng.choice((200, MOST_PID + 1))), rng.randrange(few + 1)))
+        for pid in sorted(pids | {MOST_PID} if rng.random() < 0.05 else pids):
+            cpu, place = rng.choice(self.processors).number, rng.choice((b"run", b"wait", b"rest"))
+            place = b"wait" if place == b"run" and cpu in running else place
+            if place == b"run":
+                running.add(cpu)
+            self.tasks[pid] = Task(pid, self.nice(), cpu, place, base + rng.randrange(self.spread))
+        for processor in self.processors:
+            self.note_idling(processor)
+
+    def nice(self):
+        return self.rng.choice((0, 0, 0, 5, -5, 19, -20, self.rng.randrange(-20, 20)))
+
+    def companion(self):
+        yield b"cfs-companion 1"
+        yield b"cpus %d" % len(self.processors)
+        yield b"start " + self.written(self.start, 1000)
+        for processor in self.processors:
+            yield b"floor %d %d" % (processor.number, processor.floor)
+        for task in self.tasks.values():
+            yield b"task %d %d %d %s %d" % (task.pid, task.nice, task.cpu, task.place, task.virtual)
+
+    # What there is at a processor.
+
+    def who(self, place, processor=None):
+        """Those in a place, at one processor or at any."""
+        return [task for task in self.tasks.values()
+                if task.place == place and (processor is None or task.cpu == processor.number)]
+
+    def running(self, processor):
+        return next(iter(self.who(b"run", processor)), None)
+
+    def note_idling(self, processor):
+        idles = not self.running(processor) and self.who(b"wait", processor)
+        processor.since = (self.time if processor.since is None else processor.since) if idles else None
+
+    def cost(self, processor):
+        """What whoever runs is to be charged up to now."""
+        running = self.running(processor)
+        return (self.time - processor.mark) * 1024 // WEIGHTS[running.nice + 20] if running else 0
+
+    def charge(self, *processors):
+        """Who runs is charged up to now, and the floors follow the least of the queues; False where the range forbids it."""
+        for processor in processors:
+            running = self.running(processor)
+            if running and running.virtual + self.cost(processor) > MOST_VIRTUAL:
+                return False
+        for processor in processors:
+            self.charge_one(processor)
+        return True
+
+    def charge_one(self, processor):
+        running, cost, passed = self.running(processor), self.cost(processor), self.time - processor.mark
+        processor.mark = self.time
+        if running:
+            running.virtual += cost
+            running.charged += cost
+            running.ran += passed
+        queued = self.who(b"wait", processor) + ([running] if running else [])
+        if queued:
+            processor.floor = max(processor.floor, min(task.virtual for task in queued))
+
+    # Lines.
+
+    @staticmethod
+    def written(time, unit):
+        """A time of nine digits behind the point, or of six."""
+        return b"%d.%09d" % divmod(time, 10**9) if unit == 1 else b"%d.%06d" % (time // 10**9, time % 10**9 // 1000)
+
+    def line(self, cpu, text, claim=None):
+        """An event, behind other lines now and then, with its claim."""
+        rng = self.rng
+        while rng.random() < 0.06:
+            self.lines.append(rng.choice((*OTHERS, self.head(cpu) + b"sched_stat_runtime: comm=a pid=1")))
+        self.lines.append(self.head(cpu) + text)
+        self.counts[b"events"] += 1
+        if claim:
+            sort, task = claim
+            self.claims.append(b"%s %d %d %d" % (sort, len(self.lines), task.pid, task.virtual))
+
+    def head(self, cpu):
+        rng = self.rng
+        return b" %15s-%-7d %s[%03d] %s%s: " % (rng.choice(NAMES)[:15], rng.randrange(10**5), rng.choice(GROUPS), cpu,
+                                                rng.choice(FLAGS), self.written(self.time, self.unit).rjust(12))
+
+    def named(self, task, key=b""):
+        """The keys of a task in an event's text."""
+        pid, prio = (task.pid, task.prio) if task else (0, self.rng.choice((120, 0, 140)))
+        return b"%scomm=%s %spid=%d %sprio=%d" % (key, self.rng.choice(NAMES), key, pid, key, prio)
+
+    # Events.  Each answers whether it was possible; nothing is charged before that is clear.
+
+    def switch(self):
+        rng, processor = self.rng, self.rng.choice(self.processors)
+        before, waiting = self.running(processor), self.who(b"wait", processor)
+        if not (before or waiting) or not self.charge(processor):
+            return False
+        states, place = rng.choice(((STAYS, b"wait"), (STAYS, b"wait"), (SLEEPS, b"rest"), (ENDS, None)))
+        stays = before and states is STAYS
+        most = min(task.virtual for task in waiting + [before] * bool(stays)) + self.granularity if waiting else 0
+        able = [task for task in waiting if task.virtual <= most]
+        if stays and not able:
+            states, place, stays = SLEEPS, b"rest", False
+            able = [task for task in waiting if task.virtual <= min(it.virtual for it in waiting) + self.granularity]
+        after = rng.choice(able) if able else None
+        if before:
+            before.place = place
+            self.counts[b"deaths"] += place is None
+        if after:
+            after.place = b"run"
+            after.picks += 1
+        self.counts[b"switches"] += 1
+        self.line(processor.number, b"sched_switch: %s prev_state=%s ==> %s" % (
+            self.named(before, b"prev_"), rng.choice(states), self.named(after, b"next_")), (b"at", before) if stays else None)
+        self.note_idling(processor)
+        return True
+
+    def placed(self, task, low, high, event):
+        """A task begins to wait, at a virtual runtime within its bounds, often at one of them."""
+        task.virtual = self.rng.choice((low, high, self.rng.randint(low, high)))
+        task.place = b"wait"
+        self.wakes(task, event, (b"at", task))
+
+    def wakes(self, task, event, claim=None):
+        success = self.rng.choice((b"", b"", b" success=1"))
+        self.line(self.rng.choice(self.processors).number, b"%s: %s%s target_cpu=%03d" % (
+            event, self.named(task), success, task.cpu), claim)
+        self.note_idling(self.processors[task.cpu])
+
+    def wakeup(self):
+        resting = self.who(b"rest")
+        if not resting:
+            return False
+        task = self.rng.choice(resting)
+        processor = self.processors[task.cpu]
+        if not self.charge(processor):
+            return False
+        self.placed(task, max(task.virtual, processor.floor - self.credit), max(task.virtual, processor.floor), b"sched_wakeup")
+        return True
+
+    def wakeup_again(self):
+        awake = self.who(b"wait") + self.who(b"run")
+        if not awake:
+            return False
+        task = self.rng.choice(awake)
+        if not self.charge(self.processors[task.cpu]):
+            return False
+        self.wakes(task, b"sched_wakeup")
+        return True
+
+    def birth(self):
+        processor, ended = self.rng.choice(self.processors), self.who(None)
+        fresh = self.rng.choice((MOST_PID, self.rng.randrange(1, MOST_PID + 1), self.rng.randrange(1, 300)))
+        pid = self.rng.choice(ended).pid if ended and self.rng.random() < 0.7 else fresh
+        task = self.tasks.get(pid)
+        if (task and task.place) or not self.charge(processor):
+            return False
+        task = self.tasks.setdefault(pid, Task(pid, 0, 0, None, 0))
+        task.nice, task.cpu = self.nice(), processor.number
+        self.counts[b"births"] += 1
+        self.placed(task, processor.floor, min(processor.floor + self.debit, MOST_VIRTUAL), b"sched_wakeup_new")
+        return True
+
+    def migration(self):
+        able = self.who(b"wait") + self.who(b"rest")
+        if not able or len(self.processors) == 1:
+            return False
+        task, destination = self.rng.choice(able), self.rng.choice(self.processors)
+        origin = self.processors[task.cpu]
+        too_far = abs(task.virtual + destination.floor - origin.floor) > MOST_VIRTUAL - MARGIN
+        if origin is destination or too_far or not self.charge(origin, destination):
+            return False
+        task.virtual += destination.floor - origin.floor
+        task.cpu = destination.number
+        self.counts[b"migrations"] += 1
+        self.line(self.rng.choice(self.processors).number, b"sched_migrate_task: %s orig_cpu=%d dest_cpu=%d" % (
+            self.named(task), origin.number, destination.number), (b"at" if task.place == b"wait" else b"pass", task))
+        self.note_idling(origin)
+        self.note_idling(destination)
+        return True
+
+    def go_on(self):
+        """Time passes, but no further than an idling processor allows; then something happens."""
+        rng = self.rng
+        step = rng.choice((0, 1, rng.randrange(1000), rng.randrange(10**5), rng.randrange(10**7)))
+        step = min(10**14 if rng.random() < 0.005 else step, LAST_TIME - self.time)
+        until = min([processor.since + self.slack for processor in self.processors if processor.since is not None],
+                    default=self.time + step)
+        self.time = min(self.time + step, until) // self.unit * self.unit
+        return rng.choice(3 * (self.switch,) + 2 * (self.wakeup,) + (self.wakeup_again, self.birth, self.migration))()
+
+    def report(self):
+        """What the report has to say, tasks in the order of the companion and then of their births."""
+        yield b"run\n"
+        for name, count in self.counts.items():
+            yield b"%s %d\n" % (name, count)
+        for task in self.tasks.values():
+            yield b"task %d ran %d charged %d picks %d\n" % (task.pid, task.ran, task.charged, task.picks)
+
+
+def recording(rng):
+    """A run of some events, and its report."""
+    machine = Machine(rng)
+    for _ in range(rng.choice((3, 20, 40, 80, 160))):
+        machine.go_on()
+    options = () if machine.settings == STANDARD else tuple(
+        word for option, value in zip(OPTIONS, machine.settings) for word in (option, str(value)))
+    companion = machine.beginning + machine.claims
+    return Input(b"".join(line + b"\n" for line in machine.lines), b"".join(line + b"\n" for line in companion), options,
+                 b"".join(machine.report()))

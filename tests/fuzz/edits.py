@@ -1,5 +1,5 @@
-"""Edits of a trace, its companion and the options: by bytes, by lines and by fields.  Some of them keep what the texts mean,
-or move a fault to where only the last tests see it; most break something."""
+"""Edits of a trace, its companion and the options: by bytes, by lines and by fields.  Some of them keep what the texts
+mean, or move a fault to where only the last tests see it; most break something."""
 
 import re
 
@@ -13,6 +13,7 @@ PID = re.compile(rb"(?<= pid=)\d+|(?<=_pid=)\d+")
 # At each limit of a number in the two formats, and one beyond.
 LIMITS = [limit + beyond for beyond in (-1, 0, 1) for limit in (
     1, 63, 64, 100, 139, 140, 999, 65_535, MOST_PID, 2**31, 2**32 - 1, 2**53, MOST_SETTING, 2**62, 2**63, 2**64, 10**40)]
+BLOCKS = (2**16, 2**17)
 BYTES = b"\n\n  \t\r\0\xff#:=.,;+-[]()>_0919aRSXZx"
 STATES = (b"R", b"R+", b"S", b"D", b"X", b"Z", b"x", b"I", b"t", b"RX", b"S|K", b"X+", b"+", b"|", b"==>", b"", b"R S")
 EVENTS = (b"sched_switch", b"sched_wakeup", b"sched_wakeup_new", b"sched_migrate_task", b"sched_waking", b"sched_switch:")
@@ -20,17 +21,19 @@ STARTS = (0, 1, 2, 3, -1, -20, -21, 19, 20, 100, 10**6, 2**62)
 PLACES = (b"run", b"wait", b"rest", b"gone")
 SORTS = (b"at", b"pass", b"task", b"floor")
 KEYS = (b"pid=", b"prio=", b"success=1", b"")
-WORDS = ((re.compile(rb"(?<=prev_state=)[^ ]*"), STATES), (re.compile(rb"sched_[a-z_]+"), EVENTS), (re.compile(rb"[a-z_]+="), KEYS),
-         (re.compile(rb"\b(run|wait|rest)\b"), PLACES), (re.compile(rb"^(at|pass)\b"), SORTS))
-NAMES = (b"", b"a" * 15, b"a" * 16, b" next_pid=1", b" pid=1", b" prev_pid=0 prev", b"\xff" * 15, b" ==> next_comm=", b"x prio=120")
-STRANGE = (b"", b"#", b"# tracer: nop", b"CPU:0 [LOST 12 EVENTS]", b"CPU:3 [LOST EVENTS]", b"CPU: [LOST EVENTS]", b"cgroup",
-           b"cgroup /a", b"cfs-companion 1", b"cfs-companion 2", b"hello", b" ", b"\r", b"\0" * 20,
+WORDS = ((re.compile(rb"(?<=prev_state=)[^ ]*"), STATES), (re.compile(rb"sched_[a-z_]+"), EVENTS),
+         (re.compile(rb"[a-z_]+="), KEYS), (re.compile(rb"\b(run|wait|rest)\b"), PLACES),
+         (re.compile(rb"^(at|pass)\b"), SORTS))
+NAMES = (b"", b"a" * 15, b"a" * 16, b" next_pid=1", b" pid=1", b" prev_pid=0 prev", b"\xff" * 15, b" ==> next_comm=",
+         b"x prio=120")
+STRANGE = (b"", b"#", b"# tracer: nop", b"CPU:0 [LOST 12 EVENTS]", b"CPU:3 [LOST EVENTS]", b"CPU: [LOST EVENTS]",
+           b"cgroup", b"cgroup /a", b"cfs-companion 1", b"cfs-companion 2", b"hello", b" ", b"\r", b"\0" * 20,
            b"            t101-101     [000] d..2.   100.004000: sched_stat_runtime: comm=t101 pid=101 runtime=1 [ns]")
 
 
 class Draft:
-    """The lines of both texts without their feeds, and the options, while they are edited.  Where `here` is a place in the
-    trace, edits prefer its line and the claims for it: two things that are wrong at one line show which is told."""
+    """The lines of both texts without their feeds, and the options, while they are edited.  Where `here` is a place in
+    the trace, edits prefer its line and the claims for it: two things that are wrong at one line show which is told."""
 
     def __init__(self, source, here=None):
         self.trace, self.companion = source.trace.split(b"\n"), source.companion.split(b"\n")
@@ -124,6 +127,15 @@ def comment_added(rng, draft):
     draft.trace.insert(at, b"#" * rng.choice((0, 1, 70)))
     draft.renumber(at + 1, 1)
     draft.companion.insert(rng.randrange(len(draft.companion)), b"# at 1 101 0")
+
+
+def block_added(rng, draft):
+    """The same by a comment that is so long that a block of bytes, as files are read, ends within one of the lines."""
+    lines = draft.text(rng)
+    length = sum(map(len, lines)) + len(lines)
+    lines.insert(0, b"#" * max(rng.choice(BLOCKS) - rng.randrange(length + 1), 0))
+    if lines is draft.trace:
+        draft.renumber(1, 1)
 
 
 def line_dropped(rng, draft):
@@ -222,7 +234,7 @@ def time_turned(rng, draft):
 
 
 def later(rng, draft):
-    """All events from one line on come later: whoever runs there is charged for longer, and who idles idles for longer."""
+    """All events from one line on come later: who runs is charged for longer, and who idles idles for longer."""
     by, first = rng.choice((1, 1000, 10**5, 10**5 + 1000, 10**7, 10**12)), rng.randrange(len(draft.trace))
     for place in range(first, len(draft.trace)):
         time = TIME.search(draft.trace[place])
@@ -324,8 +336,10 @@ def option_changed(rng, draft):
 
 EDITS = {
     bytes_changed: 1.5, bytes_swapped: 1, text_cut: 0.5,
-    line_added: 2, comment_added: 1, line_dropped: 2, line_moved: 1, lines_swapped: 1.5, trace_ended: 1, carriage_returns: 0.3,
-    number_changed: 3, zeros_in_front: 1, number_from_elsewhere: 3, pid_changed: 4, time_turned: 1, later: 2, nanoseconds: 1,
+    line_added: 2, comment_added: 1, block_added: 0.5, line_dropped: 2, line_moved: 1, lines_swapped: 1.5, trace_ended: 1,
+    carriage_returns: 0.3,
+    number_changed: 3, zeros_in_front: 1, number_from_elsewhere: 3, pid_changed: 4, time_turned: 1, later: 2,
+    nanoseconds: 1,
     word_changed: 2, name_changed: 1, birth_for_a_wakeup: 1.5, claim_changed: 4, idle_switched: 1, task_named_again: 0.5,
     start_changed: 2, option_changed: 2.5,
 }

@@ -1,5 +1,5 @@
-"""Random runs of the scheduler: a machine is led by the rules of docs/RULES.md, one event after another, and each event is
-written as a line of a trace, with its claim in a companion.  What the report has to say of such a run is known with it."""
+"""Random runs of the scheduler: a machine is led by the rules of docs/RULES.md, one event after another, and each event
+is written as a line of a trace, with its claim in a companion.  So what the report has to say of the run is known."""
 
 from typing import NamedTuple
 
@@ -15,8 +15,8 @@ MARGIN = 10**17
 OPTIONS = ("--granularity-ns", "--credit-ns", "--debit-ns", "--slack-ns")
 STANDARD = (1_000_000, 3_000_000, 3_000_000, 100_000)
 
-NAMES = (b"t101", b"bash", b"Web Content", b"kworker/u16:2", b"", b" ", b"a prev_pid=1", b"x pid=7 prio=12", b"==> next_comm=a",
-         b"fifteen bytes !", b"\xff\xfe\x00\r", b"sched_switch: ", b"#", b"-1     [000]")
+NAMES = (b"t101", b"bash", b"Web Content", b"kworker/u16:2", b"", b" ", b"a prev_pid=1", b"x pid=7 prio=12",
+         b"==> next_comm=a", b"fifteen bytes !", b"\xff\xfe\x00\r", b"sched_switch: ", b"#", b"-1     [000]")
 FLAGS = (b"d..2. ", b"", b". ", b"d.h3.1[ ")
 GROUPS = (b"", b"", b"(    101) ", b"(-----) ")
 STAYS, SLEEPS = (b"R+", b"R", b"S+", b"x+", b"R|K", b"+|X", b"S+|K"), (b"S", b"D", b"I", b"P", b"t", b"S|K", b"r")
@@ -120,7 +120,8 @@ class Machine:
         return (self.time - processor.mark) * 1024 // WEIGHTS[running.nice + 20] if running else 0
 
     def charge(self, *processors):
-        """Who runs is charged up to now, and the floors follow the least of the queues; False where the range forbids it."""
+        """Who runs is charged up to now, and the floors follow the least of the queues; False where the range forbids
+        it."""
         for processor in processors:
             running = self.running(processor)
             if running and running.virtual + self.cost(processor) > MOST_VIRTUAL:
@@ -190,8 +191,9 @@ class Machine:
             after.place = b"run"
             after.picks += 1
         self.counts[b"switches"] += 1
-        self.line(processor.number, b"sched_switch: %s prev_state=%s ==> %s" % (
-            self.named(before, b"prev_"), rng.choice(states), self.named(after, b"next_")), (b"at", before) if stays else None)
+        text = b"sched_switch: %s prev_state=%s ==> %s" % (
+            self.named(before, b"prev_"), rng.choice(states), self.named(after, b"next_"))
+        self.line(processor.number, text, (b"at", before) if stays else None)
         self.note_idling(processor)
         return True
 
@@ -215,7 +217,8 @@ class Machine:
         processor = self.processors[task.cpu]
         if not self.charge(processor):
             return False
-        self.placed(task, max(task.virtual, processor.floor - self.credit), max(task.virtual, processor.floor), b"sched_wakeup")
+        low, high = (max(task.virtual, bound) for bound in (processor.floor - self.credit, processor.floor))
+        self.placed(task, low, high, b"sched_wakeup")
         return True
 
     def wakeup_again(self):

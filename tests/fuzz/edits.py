@@ -208,13 +208,14 @@ def number_from_elsewhere(rng, draft):
 
 
 def pid_changed(rng, draft):
-    """Another task of the recording in an event, and mostly in its claim too."""
+    """Another task of the recording in an event, often of those just before, and mostly in its claim too."""
     found = a_line_with(rng, draft, draft.trace, PID)
     if not found:
         return
     place, pid = found
-    other = PID.search(rng.choice(draft.trace)) or pid
-    new = other.group() if rng.random() < 0.9 else b"%d" % rng.randrange(1, MOST_PID + 1)
+    near = draft.trace[max(place - 3, 0):place] if rng.random() < 0.5 else draft.trace
+    others = PID.findall(rng.choice(near or draft.trace)) if rng.random() < 0.9 else [b"%d" % rng.randrange(1, MOST_PID)]
+    new = rng.choice(others or [pid.group()])
     draft.trace[place] = put(draft.trace[place], pid.span(), new)
     for at, claim in draft.claims():
         if int(claim.group(2)) == place + 1 and claim.group(3) == pid.group() and rng.random() < 0.8:

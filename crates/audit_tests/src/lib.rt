@@ -1,5 +1,5 @@
-//! Tests of what no clause says of a whole audit: the words of faults, reports as they are printed, ends that fail, and
-//! command lines.
+//! Tests of what no clause says of a whole audit: the words of faults, reports as they are printed, ends that fail,
+//! refused traces by both calls, and command lines.
 #![tactic(auto)]
 
 #[cfg(test)]
@@ -8,3 +8,5 @@ mod audits;
 mod command_lines;
 #[cfg(test)]
 mod ends;
+#[cfg(test)]
+mod refusals;

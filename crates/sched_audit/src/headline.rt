@@ -12,13 +12,13 @@ use crate::reading::read_all;
 use crate::writing::write_all;
 use crate::{Fault, Feed, Gate, Outcome, Refused, Sink, Status, Verdict, report};
 use cfs_model::Knobs;
-use sched_record::read_trace;
+use sched_record::read_trace_wide;
 use std::alloc::Global;
 use std::sync::Wait;
 use std::thread::Threads;
 
-/// Judges a trace by its companion: the trace is read first, then the companion, then both are joined, and the
-/// events are audited, those of each processor by a thread of its own that passes this gate.
+/// Judges a trace by its companion: the trace is read first, by several threads, then the companion, then both are
+/// joined, and the events are audited, those of each processor by a thread of its own that passes this gate.
 pub fn audit_texts<R: Threads + Wait + Sync, G: Gate>(
     rt: &R,
     alloc: Global,
@@ -30,7 +30,8 @@ pub fn audit_texts<R: Threads + Wait + Sync, G: Gate>(
     // A verdict or a refusal is the outcome of the two texts.
     ensures answer { IsAnswer trace.now companion.now knobs result }
 {
-    audit(rt, alloc, read_trace(alloc, trace), companion, knobs, gate)
+    let trace = read_trace_wide(rt, alloc, trace);
+    audit(rt, alloc, trace, companion, knobs, gate)
 }
 
 /// Reads the trace to its end, then the companion, judges them, and writes the report.

@@ -1,0 +1,111 @@
+//! Refused traces, by both calls: `audit_texts`, which has the whole text, and `run`, which reads it as it comes.
+
+use crate::ends::Narrow;
+use cfs_model::Knobs;
+use sched_audit::{Cause, FeedOf, OpenGate, Refused, Source, Status, audit_texts, run};
+use std::alloc::Global;
+use std::sync::Wait;
+use std::test::Fail;
+use std::thread::Threads;
+
+const COMPANION: &[u8] = b"cfs-companion 1\ncpus 1\nstart 0.000000\nfloor 0 0\n";
+
+// A comment, and one of 64 bytes: a thousand of these are a piece of a text for one thread.
+const COMMENT: &[u8] = b"#\n";
+
+const LONG_COMMENT: &[u8] = b"#                                                              \n";
+
+const BAD: &[u8] = b"hello\n";
+
+// 101 is woken, at two times.
+const LATE: &[u8] =
+    b"            t101-101     [000] d..2.   100.000002: sched_wakeup: comm=t101 pid=101 prio=120 target_cpu=000\n";
+
+const EARLY: &[u8] =
+    b"            t101-101     [000] d..2.   100.000001: sched_wakeup: comm=t101 pid=101 prio=120 target_cpu=000\n";
+
+/// A text of these lines, each with how often it stands.
+fn text_of(alloc: Global, lines: &[(&[u8], u32)]) -> Result<Vec<u8>, Fail> {
+    let mut text = Vec::new(alloc);
+    for (line, times) in lines {
+        for _ in 0..*times {
+            text.extend_from_slice(line)?;
+        }
+    }
+    Ok(text)
+}
+
+/// What `audit_texts` refuses, and what `run` ends with and writes.
+fn told<R: Threads + Wait + Sync>(
+    rt: &R,
+    alloc: Global,
+    trace: &[u8],
+) -> Result<(Option<Refused>, Status, Vec<u8>), Fail> {
+    let knobs = Knobs::standard();
+    let refused = audit_texts(rt, alloc, trace, COMPANION, knobs, &OpenGate).err();
+    let mut out = Narrow::new(alloc, usize::MAX, false);
+    let status = run(
+        rt,
+        alloc,
+        &mut FeedOf::new(trace),
+        &mut FeedOf::new(COMPANION),
+        knobs,
+        &OpenGate,
+        &mut out,
+    )?;
+    Ok((refused, status, out.taken))
+}
+
+fn refused(line: u64, cause: Cause) -> Option<Refused> {
+    Some(Refused::Text {
+        source: Source::Trace,
+        line,
+        cause,
+    })
+}
+
+#[test]
+fn the_first_of_two_bad_lines_is_named(rt: HostRuntime) -> Result<(), Fail> {
+    for comment in [COMMENT, LONG_COMMENT] {
+        let lines: [(&[u8], u32); 5] = [
+            (comment, 4320),
+            (BAD, 1),
+            (comment, 677),
+            (BAD, 1),
+            (comment, 1),
+        ];
+        let text = text_of(rt.alloc(), &lines)?;
+        let (answer, status, report) = told(&rt, rt.alloc(), &text)?;
+        assert_eq!(rt; answer, refused(4321, Cause::BadHead));
+        assert_eq!(rt; status, Status::Refused);
+        assert_eq!(rt;
+            report.as_slice(),
+            b"refused trace line 4321 BadHead\n".as_slice()
+        );
+    }
+    Ok(())
+}
+
+#[test]
+fn a_time_that_goes_back_before_a_bad_line_is_named(rt: HostRuntime) -> Result<(), Fail> {
+    for comment in [COMMENT, LONG_COMMENT] {
+        let lines: [(&[u8], u32); 7] = [
+            (comment, 2499),
+            (LATE, 1),
+            (comment, 499),
+            (EARLY, 1),
+            (comment, 499),
+            (BAD, 1),
+            (comment, 1500),
+        ];
+        let text = text_of(rt.alloc(), &lines)?;
+        let (answer, status, report) = told(&rt, rt.alloc(), &text)?;
+        assert_eq!(rt; answer, refused(3000, Cause::TimeBack));
+        assert_eq!(rt; status, Status::Refused);
+        assert_eq!(rt;
+            report.as_slice(),
+            b"refused trace line 3000 TimeBack\n".as_slice()
+        );
+    }
+    Ok(())
+}

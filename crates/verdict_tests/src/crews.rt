@@ -19,8 +19,10 @@ use ticket_book::{Book, NO_FAULT, PostFault, whole_page};
 pub(crate) struct OwnShelf {
     pub book: Book,
     pub posted: Option<Tag>,
+    /// What the book answered to the page that it accepted.
+    pub answered: Option<u64>,
     told: u64,
-    refused: Option<(Tag, PostFault)>,
+    pub refused: Option<(Tag, PostFault)>,
 }
 
 impl OwnShelf {
@@ -33,6 +35,7 @@ impl OwnShelf {
         OwnShelf {
             book,
             posted: None,
+            answered: None,
             told: NO_FAULT,
             refused: None,
         }
@@ -51,8 +54,9 @@ impl Shelf for OwnShelf {
     fn post(&mut self, page: Page) -> Result<(), (Page, PostFault)> {
         let tag = page.tag();
         match self.book.post(page) {
-            Ok(_least) => {
+            Ok(least) => {
                 self.posted = Some(tag);
+                self.answered = Some(least);
                 Ok(())
             }
             Err((page, fault)) => {

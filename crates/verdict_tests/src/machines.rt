@@ -21,6 +21,8 @@ pub(crate) const IDLE_FOUND_LATE: usize = 1;
 
 pub(crate) const DEATH_THEN_BIRTH: usize = 10;
 
+pub(crate) const THREE_FAULTS: usize = 11;
+
 /// The recordings, in the order of the table.
 pub(crate) fn recordings() -> &'static [Recording] {
     &RECORDINGS

@@ -12,7 +12,8 @@ use Rattle.replay_model.specs.Part.{Part, Entity}
 use Rattle.cfs_model.specs.declared.task.Place.{Place}
 use Rattle.cfs_model.specs.declared.task.Place.TheVariants.{Run, Wait, Rest}
 use Rattle.cfs_model.specs.declared.task.Task.{Task}
-use Rattle.queue_replay.specs.Standing.{by_runtime, listed, standing, runtime_if, waiting_runtime, IsQueue}
+use Rattle.queue_replay.specs.Standing.{by_runtime, listed, standing, runtime_if, waiting_runtime, IsQueue, waiting_task}
+use Rattle.queue_replay.specs.declared.waiting_task.WaitingTask.{WaitingTask}
 use Rattle.queue_replay.specs.Tasks.{entity_of}
 use Rattle.queue_replay.proofs.Parts.{same_tasks, put-at, put-under}
 use Rattle.queue_replay.proofs.Standings.{queue_is, waiting_in, only_in, listed_in, listed_some, listed_kept, apart_from, standing_listed, map_at, map_other, rewritten, joins, stays, only_kept, only_comes}
@@ -36,12 +37,12 @@ rest_run : Rest ≢ Run
 rest_run e = cc
 
 -- one more stands here
-module _ (runner : Option Task) (m n : BTreeMap ℕ Task) (a : BTreeSet (ℤ × ℕ)) (kept : IsQueue runner m a) (t : Task)
+module _ (runner : Option Task) (m n : BTreeMap ℕ Task) (a : BTreeSet WaitingTask) (kept : IsQueue runner m a) (t : Task)
     (none : standing runner m t.pid ≡ None) (u : Updates nat_cmp m n t.pid (Some t)) where
   apart_new : (x : Task) → runner ≡ Some x → x.pid ≢ t.pid
   apart_new = apart_from runner m a kept t.pid (λ e. let f : None ≡ Some Run = sym (ap place_at none) ∙ e in cc)
 
-  pub come_waits : (b : BTreeSet (ℤ × ℕ)) → set.Updates by_runtime a b (t.v, t.pid) true → t.place ≡ Wait → IsQueue runner n b
+  pub come_waits : (b : BTreeSet WaitingTask) → set.Updates by_runtime a b (waiting_task t.v t.pid) true → t.place ≡ Wait → IsQueue runner n b
   come_waits b s waits =
       queue_is runner n b
       (joins (standing runner m) (standing runner n) t.pid (Some (entity_of t)) (rewritten runner m n t.pid (Some t) u apart_new) a b t.v (waiting_in runner m a kept) s
@@ -75,7 +76,7 @@ module _ (runner : Option Task) (m n : BTreeMap ℕ Task) (a : BTreeSet (ℤ × 
       go (Some y) e = cc
 
 -- one more runs here
-module _ (m n : BTreeMap ℕ Task) (a : BTreeSet (ℤ × ℕ)) (kept : IsQueue None m a) (t : Task) (none : listed m t.pid ≡ None)
+module _ (m n : BTreeMap ℕ Task) (a : BTreeSet WaitingTask) (kept : IsQueue None m a) (t : Task) (none : listed m t.pid ≡ None)
     (u : Updates nat_cmp m n t.pid (Some t)) where
   run_is : (q : ℕ) → standing (Some t) n q ≡ put (listed m) t.pid (Some (entity_of t)) q
   run_is q =
@@ -95,12 +96,12 @@ module _ (m n : BTreeMap ℕ Task) (a : BTreeSet (ℤ × ℕ)) (kept : IsQueue N
   run_part floor mark = same_tasks (standing (Some t) n) (put (listed m) t.pid (Some (entity_of t))) floor mark run_is
 
 -- the same, where it is told by an equation that nobody ran
-pub come_runs_alone : (runner : Option Task) (m n : BTreeMap ℕ Task) (a : BTreeSet (ℤ × ℕ)) → IsQueue runner m a → runner ≡ None → (t : Task)
+pub come_runs_alone : (runner : Option Task) (m n : BTreeMap ℕ Task) (a : BTreeSet WaitingTask) → IsQueue runner m a → runner ≡ None → (t : Task)
     → standing runner m t.pid ≡ None → Updates nat_cmp m n t.pid (Some t) → t.place ≡ Run → IsQueue (Some t) n a
 come_runs_alone runner m n a kept e t none u runs =
     come_runs m n a (kept_runner runner m a None kept e) t (subst (λ (r : Option Task). standing r m t.pid ≡ None) e none) u runs
 
-pub run_part_alone : (runner : Option Task) (m n : BTreeMap ℕ Task) (a : BTreeSet (ℤ × ℕ)) → IsQueue runner m a → runner ≡ None → (t : Task)
+pub run_part_alone : (runner : Option Task) (m n : BTreeMap ℕ Task) (a : BTreeSet WaitingTask) → IsQueue runner m a → runner ≡ None → (t : Task)
     → standing runner m t.pid ≡ None → Updates nat_cmp m n t.pid (Some t) → (floor : ℤ) (mark : ℕ)
     → part_of (standing (Some t) n) floor mark ≡ with_entity (part_of (standing runner m) floor mark) t.pid (Some (entity_of t))
 run_part_alone runner m n a kept e t none u floor mark =

@@ -20,7 +20,8 @@ use Rattle.cfs_model.specs.declared.task.Place.{Place}
 use Rattle.cfs_model.specs.declared.task.Place.TheVariants.{Run, Wait, Rest}
 use Rattle.cfs_model.specs.declared.task.Task.{Task}
 use Rattle.queue_replay.specs.Queue.{IsTheRunner, IsLeastOfWaiting, IsLeastWaiting, IsLeastQueued}
-use Rattle.queue_replay.specs.Standing.{by_runtime, listed, standing, runtime_if, waiting_runtime, IsOnlyRunner, IsQueue}
+use Rattle.queue_replay.specs.Standing.{by_runtime, listed, standing, runtime_if, waiting_runtime, IsOnlyRunner, IsQueue, waiting_task}
+use Rattle.queue_replay.specs.declared.waiting_task.WaitingTask.{WaitingTask}
 use Rattle.queue_replay.specs.Tasks.{cost_of, charged_task, CanBeCharged, entity_of}
 use Rattle.queue_replay.proofs.Parts.{same_tasks, put-at, put-other}
 use Rattle.queue_replay.proofs.Standings.{queue_is, waiting_in, only_in, listed_in, listed_none, listed_some, is_listed, waits_where, the_runner, stays, only_runs, only_none, waiting_none, lower_runtime}
@@ -32,7 +33,7 @@ abbrev place_at : Option Entity → Option Place
 place_at o = option_map (λ s. s.place) o
 
 -- nobody stands in an empty map, and nobody waits in an empty set
-pub empty_queue : (m : BTreeMap ℕ Task) (a : BTreeSet (ℤ × ℕ)) → m.entries ≡ [] → a.keys ≡ [] → IsQueue None m a
+pub empty_queue : (m : BTreeMap ℕ Task) (a : BTreeSet WaitingTask) → m.entries ≡ [] → a.keys ≡ [] → IsQueue None m a
 empty_queue m a e f =
     let none : (q : ℕ) → listed m q ≡ None = λ q. ap (λ (es : List (ℕ × Task)). option_map entity_of (lookup (is_at (nat_cmp q)) es)) e in
     queue_is None m a
@@ -53,26 +54,26 @@ waits_is (Some s) v e = let h = go s.place e in (s, refl, h.0, h.1)
 waiting_is : (o : Option Entity) (s : Entity) → o ≡ Some s → s.place ≡ Wait → waiting_runtime o ≡ Some s.runtime
 waiting_is o s e w = ap waiting_runtime e ∙ ap (λ p. runtime_if p s.runtime) w
 
-no_keys : (a : BTreeSet (ℤ × ℕ)) → (0 < btree_set_len a → ⊥) → (k : ℤ × ℕ) → contains by_runtime a k ≡ false
+no_keys : (a : BTreeSet WaitingTask) → (0 < btree_set_len a → ⊥) → (k : WaitingTask) → contains by_runtime a k ≡ false
 no_keys a none k = go a.keys none
   where
-    go : (ks : List (ℤ × ℕ)) → (0 < length ks → ⊥) → list_any (is_at (by_runtime k)) ks ≡ false
+    go : (ks : List WaitingTask) → (0 < length ks → ⊥) → list_any (is_at (by_runtime k)) ks ≡ false
     go [] h = refl
     go (x ∷ xs) h = absurd (h (omega arith))
 
-module _ (runner : Option Task) (m : BTreeMap ℕ Task) (a : BTreeSet (ℤ × ℕ)) (floor : ℤ) (mark : ℕ) (kept : IsQueue runner m a) where
+module _ (runner : Option Task) (m : BTreeMap ℕ Task) (a : BTreeSet WaitingTask) (floor : ℤ) (mark : ℕ) (kept : IsQueue runner m a) where
   -- the first of the set is the least of those who wait
-  pub least_is : (k : ℤ × ℕ) → IsTrue (contains by_runtime a k) → IsLowerBound by_runtime a k → IsLeastOfWaiting (part_of (standing runner m) floor mark) k.0
+  pub least_is : (k : WaitingTask) → IsTrue (contains by_runtime a k) → IsLowerBound by_runtime a k → IsLeastOfWaiting (part_of (standing runner m) floor mark) k.v
   least_is k member least =
       let at = waits_where (standing runner m) a (waiting_in runner m a kept) in
-      let w = waits_is (standing runner m k.1) k.0 ((at k.0 k.1).0 member) in
+      let w = waits_is (standing runner m k.pid) k.v ((at k.v k.pid).0 member) in
       record {
-        pid = k.1;
+        pid = k.pid;
         task = w.0;
         stands = w.1;
         waits = w.2;
         runtime = w.3;
-        least = λ other s e waits. lower_runtime k.0 s.runtime k.1 other (least (s.runtime, other) ((at s.runtime other).1 (waiting_is (standing runner m other) s e waits)));
+        least = λ other s e waits. lower_runtime k.v s.runtime k.pid other (least (waiting_task s.runtime other) ((at s.runtime other).1 (waiting_is (standing runner m other) s e waits)));
       }
 
   -- where the set is empty nobody waits
@@ -84,7 +85,7 @@ module _ (runner : Option Task) (m : BTreeMap ℕ Task) (a : BTreeSet (ℤ × �
       go None e i = cc
       go (Some s) e i =
           let h = (waits_where (standing runner m) a (waiting_in runner m a kept) s.runtime pid).1 (waiting_is (standing runner m pid) s e (same_Some s.place Wait i)) in
-          true≢false (sym h ∙ no_keys a none (s.runtime, pid))
+          true≢false (sym h ∙ no_keys a none (waiting_task s.runtime pid))
 
 -- who is queued runs or waits
 queued : (p : Place) → p ≢ Rest → (p ≡ Run) ⊎ (p ≡ Wait)
@@ -181,7 +182,7 @@ uncharged part time (Some s) ne = ap Some (go s.place (λ e. ne (ap Some e)))
     go Rest ne = refl
 
 -- nobody runs
-module _ (runner : Option Task) (m : BTreeMap ℕ Task) (a : BTreeSet (ℤ × ℕ)) (floor : ℤ) (mark time : ℕ) (kept : IsQueue runner m a) (none : runner ≡ None) where
+module _ (runner : Option Task) (m : BTreeMap ℕ Task) (a : BTreeSet WaitingTask) (floor : ℤ) (mark time : ℕ) (kept : IsQueue runner m a) (none : runner ≡ None) where
   nobody : NobodyIn (part_of (standing runner m) floor mark) Run
   nobody = subst (IsTheRunner (part_of (standing runner m) floor mark)) none (the_runner runner m a floor mark kept)
 
@@ -194,7 +195,7 @@ module _ (runner : Option Task) (m : BTreeMap ℕ Task) (a : BTreeSet (ℤ × �
   idle_in_range pid o = nobody pid (ap place_at o.stands ∙ ap Some o.runs)
 
 -- somebody runs
-module _ (runner : Option Task) (m : BTreeMap ℕ Task) (a : BTreeSet (ℤ × ℕ)) (floor : ℤ) (mark time : ℕ) (kept : IsQueue runner m a) (t : Task) (is : runner ≡ Some t) where
+module _ (runner : Option Task) (m : BTreeMap ℕ Task) (a : BTreeSet WaitingTask) (floor : ℤ) (mark time : ℕ) (kept : IsQueue runner m a) (t : Task) (is : runner ≡ Some t) where
   ran : IsTheRunner (part_of (standing runner m) floor mark) (Some t)
   ran = subst (IsTheRunner (part_of (standing runner m) floor mark)) is (the_runner runner m a floor mark kept)
 

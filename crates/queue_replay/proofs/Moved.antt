@@ -18,7 +18,8 @@ use Rattle.cfs_model.specs.declared.task.Place.{Place}
 use Rattle.cfs_model.specs.declared.task.Place.TheVariants.{Run, Wait, Rest}
 use Rattle.cfs_model.specs.declared.task.Task.{Task}
 use Rattle.queue_replay.specs.Queue.{IsTheRunner}
-use Rattle.queue_replay.specs.Standing.{by_runtime, listed, standing, runtime_if, waiting_runtime, IsQueue}
+use Rattle.queue_replay.specs.Standing.{by_runtime, listed, standing, runtime_if, waiting_runtime, IsQueue, waiting_task}
+use Rattle.queue_replay.specs.declared.waiting_task.WaitingTask.{WaitingTask}
 use Rattle.queue_replay.specs.Tasks.{entity_of}
 use Rattle.queue_replay.proofs.Parts.{same_tasks, put-at, put-other}
 use Rattle.queue_replay.proofs.Standings.{queue_is, waiting_in, only_in, listed_in, listed_none, listed_some, listed_kept, is_listed, the_runner, apart_from, standing_listed, standing_same, rewritten, put_away, runtime_own, joins, parts, stays, only_kept, only_left, only_comes}
@@ -70,7 +71,7 @@ prev_is part t r (suc n) h =
       | inr other ↦ absurd (h (λ i. other (r.2 (suc n) i)))
     ]
 
-module _ (m n : BTreeMap ℕ Task) (a : BTreeSet (ℤ × ℕ)) (t : Task) (kept : IsQueue (Some t) m a) (w : Option Task)
+module _ (m n : BTreeMap ℕ Task) (a : BTreeSet WaitingTask) (t : Task) (kept : IsQueue (Some t) m a) (w : Option Task)
     (u : Updates nat_cmp m n t.pid w) where
   ran : IsTheRunner (part_of (standing (Some t) m) (pos 0) 0) (Some t)
   ran = the_runner (Some t) m a (pos 0) 0 kept
@@ -79,7 +80,7 @@ module _ (m n : BTreeMap ℕ Task) (a : BTreeSet (ℤ × ℕ)) (t : Task) (kept 
   unwaited = ap waiting_runtime ran.0 ∙ ap (λ p. runtime_if p t.v) ran.1
 
   -- who ran waits
-  pub back_queue : (b : BTreeSet (ℤ × ℕ)) → set.Updates by_runtime a b (t.v, t.pid) true → option_map entity_of w ≡ Some (record { place = Wait; nice = t.nice; runtime = t.v })
+  pub back_queue : (b : BTreeSet WaitingTask) → set.Updates by_runtime a b (waiting_task t.v t.pid) true → option_map entity_of w ≡ Some (record { place = Wait; nice = t.nice; runtime = t.v })
       → IsQueue None n b
   back_queue b s is =
       let e : waiting_runtime (option_map entity_of w) ≡ Some t.v = ap waiting_runtime is in
@@ -120,15 +121,15 @@ module _ (m n : BTreeMap ℕ Task) (a : BTreeSet (ℤ × ℕ)) (t : Task) (kept 
           ∙ after_ends (part_of (standing (Some t) m) floor mark) t.pid ne
 
 -- the same, where the runner is told by an equation
-pub kept_runner : (runner : Option Task) (m : BTreeMap ℕ Task) (a : BTreeSet (ℤ × ℕ)) (r : Option Task) → IsQueue runner m a → runner ≡ r
+pub kept_runner : (runner : Option Task) (m : BTreeMap ℕ Task) (a : BTreeSet WaitingTask) (r : Option Task) → IsQueue runner m a → runner ≡ r
     → IsQueue r m a
 kept_runner runner m a r kept e = subst (λ (x : Option Task). IsQueue x m a) e kept
 
-pub runner_listed : (runner : Option Task) (m : BTreeMap ℕ Task) (a : BTreeSet (ℤ × ℕ)) (t : Task) → IsQueue runner m a → runner ≡ Some t
+pub runner_listed : (runner : Option Task) (m : BTreeMap ℕ Task) (a : BTreeSet WaitingTask) (t : Task) → IsQueue runner m a → runner ≡ Some t
     → IsSome (get nat_cmp m t.pid)
 runner_listed runner m a t kept e = (is_listed runner m (listed_in runner m a kept) t e).1
 
-pub runner_leaves : (runner : Option Task) (m n : BTreeMap ℕ Task) (a : BTreeSet (ℤ × ℕ)) (t : Task) → IsQueue runner m a → runner ≡ Some t
+pub runner_leaves : (runner : Option Task) (m n : BTreeMap ℕ Task) (a : BTreeSet WaitingTask) (t : Task) → IsQueue runner m a → runner ≡ Some t
     → (w : Option Task) → Updates nat_cmp m n t.pid w → (floor : ℤ) (mark : ℕ) (way : Way) → option_map entity_of w ≡ after_way way (entity_of t)
     → (prev : ℕ) → ((IsRunner (part_of (standing runner m) floor mark) prev → ⊥) → ⊥)
     → part_of (standing None n) floor mark ≡ part_after_prev (part_of (standing runner m) floor mark) prev way
@@ -143,7 +144,7 @@ pub idle_prev : (part : Part) → IsTheRunner part None → (way : Way) (prev : 
 idle_prev part nobody way zero h = refl
 idle_prev part nobody way (suc n) h = absurd (h (λ i. nobody (suc n) i))
 
-pub nobody_leaves : (runner : Option Task) (m : BTreeMap ℕ Task) (a : BTreeSet (ℤ × ℕ)) → IsQueue runner m a → runner ≡ None
+pub nobody_leaves : (runner : Option Task) (m : BTreeMap ℕ Task) (a : BTreeSet WaitingTask) → IsQueue runner m a → runner ≡ None
     → (floor : ℤ) (mark : ℕ) (way : Way) (prev : ℕ) → ((IsRunner (part_of (standing runner m) floor mark) prev → ⊥) → ⊥)
     → part_of (standing runner m) floor mark ≡ part_after_prev (part_of (standing runner m) floor mark) prev way
 nobody_leaves runner m a kept e floor mark way prev =
@@ -151,8 +152,8 @@ nobody_leaves runner m a kept e floor mark way prev =
     (subst (IsTheRunner (part_of (standing runner m) floor mark)) e (the_runner runner m a floor mark kept)) way prev
 
 -- the next task runs
-pub next_queue : (m : BTreeMap ℕ Task) (a b : BTreeSet (ℤ × ℕ)) (t new : Task) → IsQueue None m a → get nat_cmp m new.pid ≡ Some t
-    → set.Updates by_runtime a b (t.v, new.pid) false → new.place ≡ Run → IsQueue (Some new) m b
+pub next_queue : (m : BTreeMap ℕ Task) (a b : BTreeSet WaitingTask) (t new : Task) → IsQueue None m a → get nat_cmp m new.pid ≡ Some t
+    → set.Updates by_runtime a b (waiting_task t.v new.pid) false → new.place ≡ Run → IsQueue (Some new) m b
 next_queue m a b t new kept has s runs =
     let own : (v : ℤ) → waiting_runtime (listed m new.pid) ≡ Some v → v ≡ t.v = λ v e.
     runtime_own t.place t.v v (sym (ap (λ (o : Option Task). waiting_runtime (option_map entity_of o)) has) ∙ e) in
@@ -171,12 +172,12 @@ no_next m next floor mark none ne =
     ∙ after_next (part_of (standing None m) floor mark) next ne
 
 -- one who doesn't run leaves
-module _ (runner : Option Task) (m n : BTreeMap ℕ Task) (a : BTreeSet (ℤ × ℕ)) (kept : IsQueue runner m a) (pid : ℕ)
+module _ (runner : Option Task) (m n : BTreeMap ℕ Task) (a : BTreeSet WaitingTask) (kept : IsQueue runner m a) (pid : ℕ)
     (at_rest : place_at (standing runner m pid) ≡ Some Run → ⊥) (u : Updates nat_cmp m n pid None) where
   apart : (t : Task) → runner ≡ Some t → t.pid ≢ pid
   apart = apart_from runner m a kept pid at_rest
 
-  pub gone_queue : (b : BTreeSet (ℤ × ℕ)) (t : Task) → get nat_cmp m pid ≡ Some t → set.Updates by_runtime a b (t.v, pid) false → IsQueue runner n b
+  pub gone_queue : (b : BTreeSet WaitingTask) (t : Task) → get nat_cmp m pid ≡ Some t → set.Updates by_runtime a b (waiting_task t.v pid) false → IsQueue runner n b
   gone_queue b t has s =
       let own : (v : ℤ) → waiting_runtime (standing runner m pid) ≡ Some v → v ≡ t.v = λ v e.
       runtime_own t.place t.v v
@@ -198,7 +199,7 @@ module _ (runner : Option Task) (m n : BTreeMap ℕ Task) (a : BTreeSet (ℤ × 
   gone_part floor mark = same_tasks (standing runner n) (put (standing runner m) pid None) floor mark (rewritten runner m n pid None u apart)
 
 -- one who rests is woken
-module _ (runner : Option Task) (m n : BTreeMap ℕ Task) (a : BTreeSet (ℤ × ℕ)) (kept : IsQueue runner m a) (pid : ℕ) (t : Task)
+module _ (runner : Option Task) (m n : BTreeMap ℕ Task) (a : BTreeSet WaitingTask) (kept : IsQueue runner m a) (pid : ℕ) (t : Task)
     (stands : Some (entity_of t) ≡ standing runner m pid) (rests : t.place ≡ Rest) where
   apart_rest : (x : Task) → runner ≡ Some x → x.pid ≢ pid
   apart_rest = apart_from runner m a kept pid (λ e. let f : Some Rest ≡ Some Run = ap Some (sym rests) ∙ ap place_at stands ∙ e in cc)
@@ -211,7 +212,7 @@ module _ (runner : Option Task) (m n : BTreeMap ℕ Task) (a : BTreeSet (ℤ × 
       go (Some x) e = refl
 
   module _ (w : Task) (u : Updates nat_cmp m n pid (Some w)) (v : ℤ) (is : entity_of w ≡ record { place = Wait; nice = t.nice; runtime = v }) where
-    pub woken_queue : (b : BTreeSet (ℤ × ℕ)) → set.Updates by_runtime a b (v, pid) true → IsQueue runner n b
+    pub woken_queue : (b : BTreeSet WaitingTask) → set.Updates by_runtime a b (waiting_task v pid) true → IsQueue runner n b
     woken_queue b s =
         queue_is runner n b
         (joins (standing runner m) (standing runner n) pid (Some (entity_of w)) (rewritten runner m n pid (Some w) u apart_rest) a b v (waiting_in runner m a kept) s
@@ -264,8 +265,8 @@ stands_there runner m pid t e same =
 pub same_entries : (m n : BTreeMap ℕ Task) → n.entries ≡ m.entries → (q : ℕ) → get nat_cmp n q ≡ get nat_cmp m q
 same_entries m n e q = ap (λ (es : List (ℕ × Task)). lookup (is_at (nat_cmp q)) es) e
 
-pub same_keys : (a b : BTreeSet (ℤ × ℕ)) → b.keys ≡ a.keys → (v : ℤ) (q : ℕ) → contains by_runtime b (v, q) ≡ contains by_runtime a (v, q)
-same_keys a b e v q = ap (list_any (is_at (by_runtime (v, q)))) e
+pub same_keys : (a b : BTreeSet WaitingTask) → b.keys ≡ a.keys → (v : ℤ) (q : ℕ) → contains by_runtime b (waiting_task v q) ≡ contains by_runtime a (waiting_task v q)
+same_keys a b e v q = ap (list_any (is_at (by_runtime (waiting_task v q)))) e
 
 -- a lift that is taken back
 pub restored_part : (runner r : Option Task) (m n : BTreeMap ℕ Task) (floor f : ℤ) (mark k : ℕ) → r ≡ runner → f ≡ floor → k ≡ mark

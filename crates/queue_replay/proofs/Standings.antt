@@ -17,7 +17,8 @@ use Rattle.cfs_model.specs.declared.task.Place.{Place}
 use Rattle.cfs_model.specs.declared.task.Place.TheVariants.{Run, Wait, Rest}
 use Rattle.cfs_model.specs.declared.task.Task.{Task}
 use Rattle.queue_replay.specs.Queue.{IsTheRunner}
-use Rattle.queue_replay.specs.Standing.{by_runtime, listed, standing, runtime_if, waiting_runtime, IsWaitingSet, IsOnlyRunner, IsRunnerListed, IsQueue}
+use Rattle.queue_replay.specs.Standing.{by_runtime, listed, standing, runtime_if, waiting_runtime, IsWaitingSet, IsOnlyRunner, IsRunnerListed, IsQueue, waiting_task}
+use Rattle.queue_replay.specs.declared.waiting_task.WaitingTask.{WaitingTask}
 use Rattle.queue_replay.specs.Tasks.{entity_of}
 use Rattle.queue_replay.proofs.Parts.{put-same, put-at, put-other, put-under}
 
@@ -27,10 +28,11 @@ from_is_eq Equal e = refl
 from_is_eq Greater e = absurd cc
 
 -- pairs that the order takes for one are one
-pub exact_runtimes : (x y : ℤ × ℕ) → is_eq (by_runtime x y) ≡ true → x ≡ y
-exact_runtimes x y e = exact_pairs int_cmp nat_cmp exact_signed exact_unsigned x y (from_is_eq (by_runtime x y) e)
+pub exact_runtimes : (x y : WaitingTask) → is_eq (by_runtime x y) ≡ true → x ≡ y
+exact_runtimes x y e =
+    ap (λ p. waiting_task p.0 p.1) (exact_pairs int_cmp nat_cmp exact_signed exact_unsigned (x.v, x.pid) (y.v, y.pid) (from_is_eq (by_runtime x y) e))
 
-other_pair : (x y : ℤ × ℕ) → x ≢ y → is_eq (by_runtime x y) ≡ false
+other_pair : (x y : WaitingTask) → x ≢ y → is_eq (by_runtime x y) ≡ false
 other_pair x y ne =
     elim (cases_Bool (is_eq (by_runtime x y))) [ inl yes' ↦ absurd (ne (exact_runtimes x y yes')) | inr no' ↦ no' ]
 
@@ -42,7 +44,7 @@ other_pid k q ne =
     ]
 
 -- a pair that isn't below another has no lesser virtual runtime
-pub lower_runtime : (v w : ℤ) (pid other : ℕ) → is_gt (by_runtime (v, pid) (w, other)) ≡ false → v ≤ℤ w
+pub lower_runtime : (v w : ℤ) (pid other : ℕ) → is_gt (by_runtime (waiting_task v pid) (waiting_task w other)) ≡ false → v ≤ℤ w
 lower_runtime v w pid other e = go (int_cmp v w) (int_ranked v w (int_cmp v w) refl) e
   where
     go : (o : Ordering) → MatchOrdering o (v <ℤ w) (v ≡ w) (w <ℤ v) → is_gt (ordering_then o (nat_cmp pid other)) ≡ false → v ≤ℤ w
@@ -54,25 +56,25 @@ abbrev place_at : Option Entity → Option Place
 place_at o = option_map (λ s. s.place) o
 
 -- the parts of what the type keeps
-pub queue_is : (runner : Option Task) (m : BTreeMap ℕ Task) (s : BTreeSet (ℤ × ℕ)) → IsWaitingSet (standing runner m) s
+pub queue_is : (runner : Option Task) (m : BTreeMap ℕ Task) (s : BTreeSet WaitingTask) → IsWaitingSet (standing runner m) s
     → IsOnlyRunner (standing runner m) runner → IsRunnerListed runner m → IsQueue runner m s
 unfolding IsQueue
 queue_is runner m s waiting only has = (waiting, only, has)
 
-pub waiting_in : (runner : Option Task) (m : BTreeMap ℕ Task) (s : BTreeSet (ℤ × ℕ)) → IsQueue runner m s → IsWaitingSet (standing runner m) s
+pub waiting_in : (runner : Option Task) (m : BTreeMap ℕ Task) (s : BTreeSet WaitingTask) → IsQueue runner m s → IsWaitingSet (standing runner m) s
 unfolding IsQueue
 waiting_in runner m s kept = kept.0
 
-pub only_in : (runner : Option Task) (m : BTreeMap ℕ Task) (s : BTreeSet (ℤ × ℕ)) → IsQueue runner m s → IsOnlyRunner (standing runner m) runner
+pub only_in : (runner : Option Task) (m : BTreeMap ℕ Task) (s : BTreeSet WaitingTask) → IsQueue runner m s → IsOnlyRunner (standing runner m) runner
 unfolding IsQueue
 only_in runner m s kept = kept.1
 
-pub listed_in : (runner : Option Task) (m : BTreeMap ℕ Task) (s : BTreeSet (ℤ × ℕ)) → IsQueue runner m s → IsRunnerListed runner m
+pub listed_in : (runner : Option Task) (m : BTreeMap ℕ Task) (s : BTreeSet WaitingTask) → IsQueue runner m s → IsRunnerListed runner m
 unfolding IsQueue
 listed_in runner m s kept = kept.2
 
-pub waits_where : (f : ℕ → Option Entity) (s : BTreeSet (ℤ × ℕ)) → IsWaitingSet f s → (v : ℤ) (pid : ℕ)
-    → IsTrue (contains by_runtime s (v, pid)) ↔ (waiting_runtime (f pid) ≡ Some v)
+pub waits_where : (f : ℕ → Option Entity) (s : BTreeSet WaitingTask) → IsWaitingSet f s → (v : ℤ) (pid : ℕ)
+    → IsTrue (contains by_runtime s (waiting_task v pid)) ↔ (waiting_runtime (f pid) ≡ Some v)
 unfolding IsWaitingSet
 waits_where f s h = h
 
@@ -101,16 +103,16 @@ pub only_none : (f : ℕ → Option Entity) → ((q : ℕ) → place_at (f q) �
 unfolding IsOnlyRunner
 only_none f nobody q i = absurd (nobody q i)
 
-pub waiting_none : (f : ℕ → Option Entity) (s : BTreeSet (ℤ × ℕ)) → ((q : ℕ) → f q ≡ None) → ((k : ℤ × ℕ) → contains by_runtime s k ≡ false)
+pub waiting_none : (f : ℕ → Option Entity) (s : BTreeSet WaitingTask) → ((q : ℕ) → f q ≡ None) → ((k : WaitingTask) → contains by_runtime s k ≡ false)
     → IsWaitingSet f s
 unfolding IsWaitingSet
 waiting_none f s nobody none v q = (
-  (λ h. absurd (true≢false (sym h ∙ none (v, q)))),
+  (λ h. absurd (true≢false (sym h ∙ none (waiting_task v q)))),
   (λ e. let g : None ≡ Some v = sym (ap waiting_runtime (nobody q)) ∙ e in absurd cc),
 )
 
 -- who runs here
-pub the_runner : (runner : Option Task) (m : BTreeMap ℕ Task) (s : BTreeSet (ℤ × ℕ)) (floor : ℤ) (mark : ℕ) → IsQueue runner m s
+pub the_runner : (runner : Option Task) (m : BTreeMap ℕ Task) (s : BTreeSet WaitingTask) (floor : ℤ) (mark : ℕ) → IsQueue runner m s
     → IsTheRunner (record { tasks = standing runner m; floor = floor; mark = mark }) runner
 the_runner None m s floor mark kept =
     λ pid i. let e : None ≡ Some pid = runs_alone (standing None m) None (only_in None m s kept) pid i in absurd cc
@@ -121,7 +123,7 @@ the_runner (Some t) m s floor mark kept = (
 )
 
 -- a pid that doesn't run isn't the runner's
-pub apart_from : (runner : Option Task) (m : BTreeMap ℕ Task) (s : BTreeSet (ℤ × ℕ)) → IsQueue runner m s → (pid : ℕ)
+pub apart_from : (runner : Option Task) (m : BTreeMap ℕ Task) (s : BTreeSet WaitingTask) → IsQueue runner m s → (pid : ℕ)
     → (place_at (standing runner m pid) ≡ Some Run → ⊥) → (t : Task) → runner ≡ Some t → t.pid ≢ pid
 apart_from None m s kept pid ne t e same = cc
 apart_from (Some u) m s kept pid ne t e same =
@@ -200,65 +202,65 @@ module _ (f g : ℕ → Option Entity) (pid : ℕ) (s : Option Entity) (is : (q 
   there : (q : ℕ) → q ≢ pid → g q ≡ f q
   there q ne = is q ∙ put-other f pid s q ne
 
-  same_pair : (a b : BTreeSet (ℤ × ℕ)) (w : ℤ) (q : ℕ) → contains by_runtime b (w, q) ≡ contains by_runtime a (w, q) → g q ≡ f q
-      → (IsTrue (contains by_runtime a (w, q)) ↔ (waiting_runtime (f q) ≡ Some w))
-      → (IsTrue (contains by_runtime b (w, q)) ↔ (waiting_runtime (g q) ≡ Some w))
+  same_pair : (a b : BTreeSet WaitingTask) (w : ℤ) (q : ℕ) → contains by_runtime b (waiting_task w q) ≡ contains by_runtime a (waiting_task w q) → g q ≡ f q
+      → (IsTrue (contains by_runtime a (waiting_task w q)) ↔ (waiting_runtime (f q) ≡ Some w))
+      → (IsTrue (contains by_runtime b (waiting_task w q)) ↔ (waiting_runtime (g q) ≡ Some w))
   same_pair a b w q e h i =
       ((λ x. ap waiting_runtime h ∙ i.0 (sym e ∙ x)), (λ x. e ∙ i.1 (sym (ap waiting_runtime h) ∙ x)))
 
-  by_pid : (a b : BTreeSet (ℤ × ℕ)) (v : ℤ) (kept : Bool) → IsWaitingSet f a → set.Updates by_runtime a b (v, pid) kept
-      → ((w : ℤ) → IsTrue (contains by_runtime b (w, pid)) ↔ (waiting_runtime (g pid) ≡ Some w)) → IsWaitingSet g b
+  by_pid : (a b : BTreeSet WaitingTask) (v : ℤ) (kept : Bool) → IsWaitingSet f a → set.Updates by_runtime a b (waiting_task v pid) kept
+      → ((w : ℤ) → IsTrue (contains by_runtime b (waiting_task w pid)) ↔ (waiting_runtime (g pid) ≡ Some w)) → IsWaitingSet g b
   unfolding IsWaitingSet
   by_pid a b v kept old u at w q =
       elim (cases_eq q pid) [
-        | inl same ↦ subst (λ x. IsTrue (contains by_runtime b (w, x)) ↔ (waiting_runtime (g x) ≡ Some w)) (sym same) (at w)
+        | inl same ↦ subst (λ x. IsTrue (contains by_runtime b (waiting_task w x)) ↔ (waiting_runtime (g x) ≡ Some w)) (sym same) (at w)
         | inr other ↦ same_pair a b w q
-            (u.2 (w, q) (other_pair (v, pid) (w, q) (λ e. other (sym (ap (λ x. x.1) e))))) (there q other) (old w q)
+            (u.2 (waiting_task w q) (other_pair (waiting_task v pid) (waiting_task w q) (λ e. other (sym (ap (λ x. x.pid) e))))) (there q other) (old w q)
       ]
 
   -- it waits, and didn't before
-  pub joins : (a b : BTreeSet (ℤ × ℕ)) (v : ℤ) → IsWaitingSet f a → set.Updates by_runtime a b (v, pid) true
+  pub joins : (a b : BTreeSet WaitingTask) (v : ℤ) → IsWaitingSet f a → set.Updates by_runtime a b (waiting_task v pid) true
       → waiting_runtime (f pid) ≡ None → waiting_runtime s ≡ Some v → IsWaitingSet g b
   joins a b v old u none new = by_pid a b v true old u (λ w. (forth w, back w))
     where
       is_v : waiting_runtime (g pid) ≡ Some v
       is_v = ap waiting_runtime here ∙ new
 
-      back : (w : ℤ) → waiting_runtime (g pid) ≡ Some w → IsTrue (contains by_runtime b (w, pid))
-      back w e = subst (λ x. IsTrue (contains by_runtime b (x, pid))) (same_Some v w (sym is_v ∙ e)) u.1
+      back : (w : ℤ) → waiting_runtime (g pid) ≡ Some w → IsTrue (contains by_runtime b (waiting_task w pid))
+      back w e = subst (λ x. IsTrue (contains by_runtime b (waiting_task x pid))) (same_Some v w (sym is_v ∙ e)) u.1
 
-      forth : (w : ℤ) → IsTrue (contains by_runtime b (w, pid)) → waiting_runtime (g pid) ≡ Some w
+      forth : (w : ℤ) → IsTrue (contains by_runtime b (waiting_task w pid)) → waiting_runtime (g pid) ≡ Some w
       forth w h =
-          elim (cases_Bool (is_eq (by_runtime (v, pid) (w, pid)))) [
-            | inl same ↦ is_v ∙ ap (λ x. Some x.0) (exact_runtimes (v, pid) (w, pid) same)
+          elim (cases_Bool (is_eq (by_runtime (waiting_task v pid) (waiting_task w pid)))) [
+            | inl same ↦ is_v ∙ ap (λ x. Some x.v) (exact_runtimes (waiting_task v pid) (waiting_task w pid) same)
             | inr other ↦
-                let e : None ≡ Some w = sym none ∙ (waits_where f a old w pid).0 (sym (u.2 (w, pid) other) ∙ h) in absurd cc
+                let e : None ≡ Some w = sym none ∙ (waits_where f a old w pid).0 (sym (u.2 (waiting_task w pid) other) ∙ h) in absurd cc
           ]
 
   -- it doesn't wait, and may have before
-  pub parts : (a b : BTreeSet (ℤ × ℕ)) (v : ℤ) → IsWaitingSet f a → set.Updates by_runtime a b (v, pid) false
+  pub parts : (a b : BTreeSet WaitingTask) (v : ℤ) → IsWaitingSet f a → set.Updates by_runtime a b (waiting_task v pid) false
       → ((w : ℤ) → waiting_runtime (f pid) ≡ Some w → w ≡ v) → waiting_runtime s ≡ None → IsWaitingSet g b
   parts a b v old u own none = by_pid a b v false old u (λ w. (forth w, back w))
     where
-      back : (w : ℤ) → waiting_runtime (g pid) ≡ Some w → IsTrue (contains by_runtime b (w, pid))
+      back : (w : ℤ) → waiting_runtime (g pid) ≡ Some w → IsTrue (contains by_runtime b (waiting_task w pid))
       back w e = let f : None ≡ Some w = sym none ∙ sym (ap waiting_runtime here) ∙ e in absurd cc
 
-      not_v : (w : ℤ) → w ≡ v → IsTrue (contains by_runtime b (w, pid)) → ⊥
-      not_v w e h = true≢false (sym h ∙ ap (λ x. contains by_runtime b (x, pid)) e ∙ u.1)
+      not_v : (w : ℤ) → w ≡ v → IsTrue (contains by_runtime b (waiting_task w pid)) → ⊥
+      not_v w e h = true≢false (sym h ∙ ap (λ x. contains by_runtime b (waiting_task x pid)) e ∙ u.1)
 
-      forth : (w : ℤ) → IsTrue (contains by_runtime b (w, pid)) → waiting_runtime (g pid) ≡ Some w
+      forth : (w : ℤ) → IsTrue (contains by_runtime b (waiting_task w pid)) → waiting_runtime (g pid) ≡ Some w
       forth w h =
-          elim (cases_Bool (is_eq (by_runtime (v, pid) (w, pid)))) [
-            | inl same ↦ absurd (not_v w (sym (ap (λ x. x.0) (exact_runtimes (v, pid) (w, pid) same))) h)
-            | inr other ↦ absurd (not_v w (own w ((waits_where f a old w pid).0 (sym (u.2 (w, pid) other) ∙ h))) h)
+          elim (cases_Bool (is_eq (by_runtime (waiting_task v pid) (waiting_task w pid)))) [
+            | inl same ↦ absurd (not_v w (sym (ap (λ x. x.v) (exact_runtimes (waiting_task v pid) (waiting_task w pid) same))) h)
+            | inr other ↦ absurd (not_v w (own w ((waits_where f a old w pid).0 (sym (u.2 (waiting_task w pid) other) ∙ h))) h)
           ]
 
   -- it waits as before, or doesn't
-  pub stays : (a : BTreeSet (ℤ × ℕ)) → IsWaitingSet f a → waiting_runtime s ≡ waiting_runtime (f pid) → IsWaitingSet g a
+  pub stays : (a : BTreeSet WaitingTask) → IsWaitingSet f a → waiting_runtime s ≡ waiting_runtime (f pid) → IsWaitingSet g a
   unfolding IsWaitingSet
   stays a old same w q =
       elim (cases_eq q pid) [
-        | inl e ↦ subst (λ x. IsTrue (contains by_runtime a (w, x)) ↔ (waiting_runtime (g x) ≡ Some w)) (sym e) (
+        | inl e ↦ subst (λ x. IsTrue (contains by_runtime a (waiting_task w x)) ↔ (waiting_runtime (g x) ≡ Some w)) (sym e) (
           (λ x. ap waiting_runtime here ∙ same ∙ (old w pid).0 x),
           (λ x. (old w pid).1 (sym same ∙ sym (ap waiting_runtime here) ∙ x)),
         )
@@ -307,8 +309,8 @@ pub standing_same : (runner : Option Task) (m n : BTreeMap ℕ Task) → ((q : �
 standing_same None m n same q = ap (option_map entity_of) (same q)
 standing_same (Some t) m n same q = put-under (listed n) (listed m) t.pid (Some (entity_of t)) q (ap (option_map entity_of) (same q))
 
-pub same_queue : (runner : Option Task) (m n : BTreeMap ℕ Task) (a b : BTreeSet (ℤ × ℕ)) → ((q : ℕ) → get nat_cmp n q ≡ get nat_cmp m q)
-    → ((v : ℤ) (q : ℕ) → contains by_runtime b (v, q) ≡ contains by_runtime a (v, q)) → IsQueue runner m a → IsQueue runner n b
+pub same_queue : (runner : Option Task) (m n : BTreeMap ℕ Task) (a b : BTreeSet WaitingTask) → ((q : ℕ) → get nat_cmp n q ≡ get nat_cmp m q)
+    → ((v : ℤ) (q : ℕ) → contains by_runtime b (waiting_task v q) ≡ contains by_runtime a (waiting_task v q)) → IsQueue runner m a → IsQueue runner n b
 unfolding IsQueue IsWaitingSet IsOnlyRunner IsRunnerListed
 same_queue runner m n a b same also kept =
     let s = standing_same runner m n same in (

@@ -8,7 +8,7 @@ use Rattle.replay_model.specs.declared.step.Deed.{Deed}
 use Rattle.replay_model.specs.declared.step.Deed.TheVariants.{Switch, Wake, Born, Leave, Arrive}
 use Rattle.cfs_model.specs.declared.task.Place.TheVariants.{Run, Wait}
 use Rattle.cfs_model.specs.declared.task.Task.{Task}
-use Rattle.queue_replay.specs.Standing.{standing, by_runtime}
+use Rattle.queue_replay.specs.Standing.{standing, by_runtime, waiting_task}
 use Rattle.queue_replay.specs.Tasks.{entity_of}
 use Rattle.queue_replay.specs.declared.runqueue.Runqueue.{Runqueue}
 
@@ -19,7 +19,7 @@ runqueue_view queue = record { tasks = standing queue.runner queue.tasks; floor 
 -- the map and the set of a runqueue are as they were
 pub record HoldsSame (old new : Runqueue) : Type 0 where
   pub tasks : (pid : ℕ) → get nat_cmp new.tasks pid ≡ get nat_cmp old.tasks pid
-  pub waiting : (v : ℤ) (pid : ℕ) → contains by_runtime new.waiting (v, pid) ≡ contains by_runtime old.waiting (v, pid)
+  pub waiting : (v : ℤ) (pid : ℕ) → contains by_runtime new.waiting (waiting_task v pid) ≡ contains by_runtime old.waiting (waiting_task v pid)
 
 -- the one who runs here, if somebody does
 abbrev pub IsTheRunner : Part → Option Task → Type 0

@@ -12,10 +12,15 @@ use Rattle.cfs_model.specs.declared.task.Place.{Place}
 use Rattle.cfs_model.specs.declared.task.Place.TheVariants.{Run, Wait}
 use Rattle.cfs_model.specs.declared.task.Task.{Task}
 use Rattle.queue_replay.specs.Tasks.{entity_of}
+use Rattle.queue_replay.specs.declared.waiting_task.WaitingTask.{WaitingTask}
+
+-- one who waits, by its virtual runtime and its pid
+abbrev pub waiting_task : ℤ → ℕ → WaitingTask
+waiting_task v pid = record { v = v; pid = pid }
 
 -- the order of those who wait: the lesser virtual runtime first, and of equal ones the lesser pid
-abbrev pub by_runtime : ℤ × ℕ → ℤ × ℕ → Ordering
-by_runtime x y = ordering_then (int_cmp x.0 y.0) (nat_cmp x.1 y.1)
+abbrev pub by_runtime : WaitingTask → WaitingTask → Ordering
+by_runtime x y = ordering_then (int_cmp x.v y.v) (nat_cmp x.pid y.pid)
 
 -- what the map has of a pid
 abbrev pub listed : BTreeMap ℕ Task → ℕ → Option Entity
@@ -36,8 +41,8 @@ waiting_runtime None = None
 waiting_runtime (Some s) = runtime_if s.place s.runtime
 
 -- the set has those who wait, each at its virtual runtime, and nobody else
-unfoldable pub IsWaitingSet : (ℕ → Option Entity) → BTreeSet (ℤ × ℕ) → Type 0
-IsWaitingSet tasks waiting = (v : ℤ) (pid : ℕ) → IsTrue (contains by_runtime waiting (v, pid)) ↔ (waiting_runtime (tasks pid) ≡ Some v)
+unfoldable pub IsWaitingSet : (ℕ → Option Entity) → BTreeSet WaitingTask → Type 0
+IsWaitingSet tasks waiting = (v : ℤ) (pid : ℕ) → IsTrue (contains by_runtime waiting (waiting_task v pid)) ↔ (waiting_runtime (tasks pid) ≡ Some v)
 
 -- nobody runs but the runner
 unfoldable pub IsOnlyRunner : (ℕ → Option Entity) → Option Task → Type 0
@@ -49,10 +54,10 @@ unfoldable pub IsRunnerListed : Option Task → BTreeMap ℕ Task → Type 0
 IsRunnerListed runner tasks = (t : Task) → runner ≡ Some t → (t.place ≡ Run) × IsSome (get nat_cmp tasks t.pid)
 
 -- map, set and runner tell of the same tasks
-unfoldable pub IsQueue : Option Task → BTreeMap ℕ Task → BTreeSet (ℤ × ℕ) → Type 0
+unfoldable pub IsQueue : Option Task → BTreeMap ℕ Task → BTreeSet WaitingTask → Type 0
 IsQueue runner tasks waiting =
     IsWaitingSet (standing runner tasks) waiting × IsOnlyRunner (standing runner tasks) runner × IsRunnerListed runner tasks
 
-pub IsQueue-prop : (runner : Option Task) (tasks : BTreeMap ℕ Task) (waiting : BTreeSet (ℤ × ℕ)) → IsProp (IsQueue runner tasks waiting)
+pub IsQueue-prop : (runner : Option Task) (tasks : BTreeMap ℕ Task) (waiting : BTreeSet WaitingTask) → IsProp (IsQueue runner tasks waiting)
 unfolding IsQueue IsWaitingSet IsOnlyRunner IsRunnerListed
 IsQueue-prop runner tasks waiting = Prim.hlevel props

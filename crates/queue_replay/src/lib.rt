@@ -20,6 +20,7 @@ mod state;
 mod step_table;
 mod tag;
 mod tally_book;
+mod waiting_task;
 
 pub use lists::{LifeEvents, Tallies, Tickets};
 pub use page::Page;

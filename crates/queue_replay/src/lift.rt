@@ -70,7 +70,7 @@ impl Runqueue {
         ensures { IsLeastWaiting (runqueue_view self.now) result }
     {
         match self.waiting.first() {
-            Some(first) => Some(first.0),
+            Some(first) => Some(first.v),
             None => None,
         }
     }

@@ -11,6 +11,7 @@ ghost use Rattle.queue_replay.specs.Tasks.{entity_of};
 ghost use Rattle.queue_replay.specs.Queue.{HoldsSame, IsTaskAt, runqueue_view};
 
 use crate::runqueue::Runqueue;
+use crate::waiting_task::WaitingTask;
 use cfs_model::{Claim, IDLE_PID, Memory, Place, Task, Way};
 use std::alloc::Global;
 use std::collections::{BTreeMap, BTreeSet};
@@ -81,7 +82,10 @@ impl Runqueue {
         ensures nobody { OnOk result (self.new.runner ≡ None) }
         ensures same { OnErr result (HoldsSame self.old self.new) }
     {
-        self.waiting.insert((runner.v, runner.pid))?;
+        self.waiting.insert(WaitingTask {
+            v: runner.v,
+            pid: runner.pid,
+        })?;
         let mut task = runner;
         task.place = Place::Wait;
         write_over(&mut self.tasks, task);
@@ -120,7 +124,11 @@ impl Runqueue {
             return;
         }
         if let Some(task) = self.tasks.get(&next).copied() {
-            self.waiting.remove(&(task.v, next));
+            let waited = WaitingTask {
+                v: task.v,
+                pid: next,
+            };
+            self.waiting.remove(&waited);
             let mut runner = task;
             runner.pid = next;
             runner.place = Place::Run;
@@ -134,7 +142,7 @@ impl Runqueue {
         ensures { runqueue_view self.new ≡ with_entity (runqueue_view self.old) pid None }
     {
         if let Some(task) = self.tasks.remove(&pid) {
-            self.waiting.remove(&(task.v, pid));
+            self.waiting.remove(&WaitingTask { v: task.v, pid });
         }
     }
 
@@ -149,7 +157,7 @@ impl Runqueue {
         match task.place {
             Place::Run | Place::Wait => Ok(()),
             Place::Rest => {
-                self.waiting.insert((claim.v, pid))?;
+                self.waiting.insert(WaitingTask { v: claim.v, pid })?;
                 let mut woken = task;
                 woken.pid = pid;
                 woken.place = Place::Wait;
@@ -173,7 +181,10 @@ impl Runqueue {
                 self.runner = Some(task);
                 Ok(())
             }
-            Place::Wait => match self.waiting.insert((task.v, task.pid)) {
+            Place::Wait => match self.waiting.insert(WaitingTask {
+                v: task.v,
+                pid: task.pid,
+            }) {
                 Ok(_) => Ok(()),
                 Err(_) => {
                     self.tasks.remove(&task.pid);

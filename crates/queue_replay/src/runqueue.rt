@@ -1,5 +1,6 @@
 ghost use Rattle.queue_replay.specs.Standing.{IsQueue, IsQueue-prop};
 
+use crate::waiting_task::WaitingTask;
 use cfs_model::Task;
 use std::collections::{BTreeMap, BTreeSet};
 
@@ -10,8 +11,8 @@ pub(crate) struct Runqueue {
     pub runner: Option<Task>,
     /// Everybody by pid; who runs as it stood before.
     pub tasks: BTreeMap<u32, Task>,
-    /// Those who wait: virtual runtimes, in virtual nanoseconds, and pids.
-    pub waiting: BTreeSet<(i64, u32)>,
+    /// Those who wait, in their order.
+    pub waiting: BTreeSet<WaitingTask>,
     /// In virtual nanoseconds.
     pub floor: i64,
     /// The time of the last charge, in nanoseconds.

@@ -5,7 +5,7 @@ use Rattle.std.specs.Ordering.{nat_cmp}
 use Rattle.cfs_model.specs.declared.task.Task.{Task}
 use Rattle.replay_model.specs.declared.page.Tally.{Tally}
 use Rattle.queue_replay.specs.Counting.{stretched}
-use Rattle.queue_replay.specs.Standing.{by_runtime, IsQueue}
+use Rattle.queue_replay.specs.Standing.{by_runtime, IsQueue, waiting_task}
 use Rattle.queue_replay.specs.Stretches.{IsWithin}
 use Rattle.queue_replay.specs.FirstTest.{IsFirst, pick_tests}
 use Rattle.queue_replay.specs.Queue.{runqueue_view, IsTheRunner}
@@ -62,7 +62,7 @@ restore-requires c =
     subst (λ (r : Option Task). IsQueue r made.tasks made.waiting) (sym c.unlifted-before.ensures.runner)
     (same_queue q.runner q.tasks made.tasks q.waiting made.waiting
     (λ p. s.tasks p ∙ ap (λ m. get nat_cmp m p) c.lift.ensures.same.0)
-    (λ v p. s.waiting v p ∙ ap (λ w. contains by_runtime w (v, p)) c.lift.ensures.same.1) q.kept)
+    (λ v p. s.waiting v p ∙ ap (λ w. contains by_runtime w (waiting_task v p)) c.lift.ensures.same.1) q.kept)
 
 pub returns-in-Err-make-clause-memory : goal.returns-in-Err-make-clause-memory
 returns-in-Err-make-clause-memory c =

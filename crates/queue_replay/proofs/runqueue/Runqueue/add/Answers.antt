@@ -1,6 +1,6 @@
 use Rattle.std.proofs.Common.{◌≡◌, ℤ, true, refl, subst, rules, to_z, of_z, w64}
 use Rattle.std.specs.BTreeSet as set
-use Rattle.queue_replay.specs.Standing.{by_runtime}
+use Rattle.queue_replay.specs.Standing.{by_runtime, waiting_task}
 use Rattle.queue_replay.proofs.Standings.{same_queue}
 use Rattle.queue_replay.proofs.Moved.{same_entries, same_keys}
 use Rattle.queue_replay.proofs.Coming.{come_runs_alone, run_part_alone, come_rests, come_waits, come_part, come_undone}
@@ -42,7 +42,7 @@ invariant_of-self-in-Ok c =
     let whole : to_z w64 (of_z w64 t.v) ≡ t.v = search rules in
     record {
       kept = come_waits q.runner q.tasks c.insert.new.self q.waiting q.kept t c.requires.apart c.in_ok-insert.ensures.updates c.insert-in-Wait.new.self
-          (subst (λ (v : ℤ). set.Updates by_runtime q.waiting c.insert-in-Wait.new.self (v, t.pid) true) whole c.in-Ok.ensures.updates) c.in-Wait.is;
+          (subst (λ (v : ℤ). set.Updates by_runtime q.waiting c.insert-in-Wait.new.self (waiting_task v t.pid) true) whole c.in-Ok.ensures.updates) c.in-Wait.is;
     }
 
 pub returns-in-Ok-clause-part : goal.returns-in-Ok-clause-part

@@ -7,7 +7,7 @@ pub returns-in-Some : goal.returns-in-Some
 returns-in-Some c =
     let q = c.args.self.now in
     let k = c.in-Some.first.now in
-    let whole : to_z w64 (of_z w64 k.0) ≡ k.0 = search rules in
+    let whole : to_z w64 (of_z w64 k.v) ≡ k.v = search rules in
     subst (λ (v : ℤ). IsLeastOfWaiting (runqueue_view q) v) (sym whole)
     (least_is q.runner q.tasks q.waiting q.floor q.mark q.kept k c.in-Some.ensures.member c.in-Some.ensures.least)
 

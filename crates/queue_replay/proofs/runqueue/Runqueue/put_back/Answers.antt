@@ -1,7 +1,7 @@
 use Rattle.std.proofs.Common.{◌≡◌, ℤ, true, subst, refl, rules, Some, to_z, of_z, w64}
 use Rattle.std.specs.BTreeSet as set
 use Rattle.cfs_model.specs.declared.act.Way.TheVariants.{Stays}
-use Rattle.queue_replay.specs.Standing.{by_runtime}
+use Rattle.queue_replay.specs.Standing.{by_runtime, waiting_task}
 use Rattle.queue_replay.proofs.Moved.{runner_listed, kept_runner, back_queue, runner_leaves}
 use Rattle.queue_replay.proofs.runqueue.Runqueue.put_back.Goals as goal
 
@@ -17,7 +17,7 @@ invariant_of-self-2 c =
     let whole : to_z w64 (of_z w64 t.v) ≡ t.v = search rules in
     record {
       kept = back_queue q.tasks c.write_over.new.tasks q.waiting t (kept_runner q.runner q.tasks q.waiting (Some t) q.kept c.requires) _ c.write_over.ensures
-          c.insert.new.self (subst (λ (v : ℤ). set.Updates by_runtime q.waiting c.insert.new.self (v, t.pid) true) whole c.in_ok-insert.ensures.updates) refl;
+          c.insert.new.self (subst (λ (v : ℤ). set.Updates by_runtime q.waiting c.insert.new.self (waiting_task v t.pid) true) whole c.in_ok-insert.ensures.updates) refl;
     }
 
 pub returns-clause-part : goal.returns-clause-part

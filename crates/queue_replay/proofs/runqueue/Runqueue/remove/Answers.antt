@@ -1,6 +1,6 @@
 use Rattle.std.proofs.Common.{◌≡◌, ℤ, false, subst, sym, ◌∙◌, rules, to_z, of_z, w64}
 use Rattle.std.specs.BTreeSet as set
-use Rattle.queue_replay.specs.Standing.{by_runtime}
+use Rattle.queue_replay.specs.Standing.{by_runtime, waiting_task}
 use Rattle.queue_replay.proofs.Moved.{gone_queue, nowhere_queue, gone_part}
 use Rattle.queue_replay.proofs.runqueue.Runqueue.remove.Goals as goal
 
@@ -12,7 +12,7 @@ invariant_of-self c =
     record {
       kept = gone_queue q.runner q.tasks c.remove.new.self q.waiting q.kept c.args.pid c.requires c.remove.ensures.updates c.remove-in-Some.new.self t
           (sym c.remove.ensures.value ∙ c.in-Some.is)
-          (subst (λ (v : ℤ). set.Updates by_runtime q.waiting c.remove-in-Some.new.self (v, c.args.pid) false) whole c.remove-in-Some.ensures.updates);
+          (subst (λ (v : ℤ). set.Updates by_runtime q.waiting c.remove-in-Some.new.self (waiting_task v c.args.pid) false) whole c.remove-in-Some.ensures.updates);
     }
 
 pub invariant_of-self-in_default : goal.invariant_of-self-in_default

@@ -5,7 +5,7 @@ use Rattle.std.specs.Ordering.{nat_cmp}
 use Rattle.cfs_model.specs.declared.task.Task.{Task}
 use Rattle.replay_model.specs.Deeds.{part_after_next}
 use Rattle.replay_model.specs.Part.{Part}
-use Rattle.queue_replay.specs.Standing.{by_runtime, standing}
+use Rattle.queue_replay.specs.Standing.{by_runtime, standing, waiting_task}
 use Rattle.queue_replay.proofs.Moved.{kept_runner, next_queue, no_next}
 use Rattle.queue_replay.proofs.runqueue.Runqueue.set_next.Goals as goal
 
@@ -17,7 +17,7 @@ invariant_of-self c =
     record {
       kept = next_queue q.tasks q.waiting c.remove.new.self t _ (kept_runner q.runner q.tasks q.waiting None q.kept c.requires)
           (sym (sym c.in-Some.is ∙ c.copied.ensures ∙ c.get.ensures.value))
-          (subst (λ (v : ℤ). set.Updates by_runtime q.waiting c.remove.new.self (v, c.args.next) false) whole c.remove.ensures.updates) refl;
+          (subst (λ (v : ℤ). set.Updates by_runtime q.waiting c.remove.new.self (waiting_task v c.args.next) false) whole c.remove.ensures.updates) refl;
     }
 
 pub returns-in_default : goal.returns-in_default

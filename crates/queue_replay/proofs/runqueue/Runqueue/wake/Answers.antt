@@ -2,7 +2,7 @@ use Rattle.std.proofs.Common.{◌≡◌, ℤ, true, refl, subst, sym, ap, ◌∙
 use Rattle.std.specs.BTreeSet as set
 use Rattle.cfs_model.specs.declared.task.Place.TheVariants.{Wait}
 use Rattle.queue_replay.specs.Queue.{runqueue_view}
-use Rattle.queue_replay.specs.Standing.{by_runtime, standing}
+use Rattle.queue_replay.specs.Standing.{by_runtime, standing, waiting_task}
 use Rattle.queue_replay.specs.Tasks.{entity_of}
 use Rattle.queue_replay.proofs.Moved.{nobody_woken, not_woken, wake_has, woken_queue, woken_part}
 use Rattle.queue_replay.proofs.runqueue.Runqueue.wake.Goals as goal
@@ -36,7 +36,7 @@ invariant_of-self-in-Rest c =
     record {
       kept = woken_queue q.runner q.tasks c.write_over.new.tasks q.waiting q.kept c.args.pid t e c.in-Rest.is _ c.write_over.ensures v
           (ap (λ (x : ℤ). record { place = Wait; nice = t.nice; runtime = x }) whole) c.insert.new.self
-          (subst (λ (x : ℤ). set.Updates by_runtime q.waiting c.insert.new.self (x, c.args.pid) true) whole c.in_ok-insert-in-Rest.ensures.updates);
+          (subst (λ (x : ℤ). set.Updates by_runtime q.waiting c.insert.new.self (waiting_task x c.args.pid) true) whole c.in_ok-insert-in-Rest.ensures.updates);
     }
 
 pub returns-in_ok-insert-in-Rest-clause-part : goal.returns-in_ok-insert-in-Rest-clause-part

@@ -152,23 +152,34 @@ nobody_leaves runner m a kept e floor mark way prev =
     (subst (IsTheRunner (part_of (standing runner m) floor mark)) e (the_runner runner m a floor mark kept)) way prev
 
 -- the next task runs
-pub next_queue : (m : BTreeMap ℕ Task) (a b : BTreeSet WaitingTask) (t new : Task) → IsQueue None m a → get nat_cmp m new.pid ≡ Some t
+pub next_queue : (m : BTreeMap ℕ Task) (a b : BTreeSet WaitingTask) (t new : Task) → IsQueue None m a → listed m new.pid ≡ Some (entity_of t)
     → set.Updates by_runtime a b (waiting_task t.v new.pid) false → new.place ≡ Run → IsQueue (Some new) m b
 next_queue m a b t new kept has s runs =
     let own : (v : ℤ) → waiting_runtime (listed m new.pid) ≡ Some v → v ≡ t.v = λ v e.
-    runtime_own t.place t.v v (sym (ap (λ (o : Option Task). waiting_runtime (option_map entity_of o)) has) ∙ e) in
+    runtime_own t.place t.v v (sym (ap waiting_runtime has) ∙ e) in
     queue_is (Some new) m b
     (parts (listed m) (standing (Some new) m) new.pid (Some (entity_of new)) (λ q. refl) a b t.v (waiting_in None m a kept) s own (ap (λ p. runtime_if p new.v) runs))
     (only_comes (listed m) (standing (Some new) m) new.pid (Some (entity_of new)) (λ q. refl) new refl (only_in None m a kept))
-    (listed_some m new runs (ap is_some has))
+    (listed_some m new runs (go (get nat_cmp m new.pid) has))
+  where
+    go : (o : Option Task) → option_map entity_of o ≡ Some (entity_of t) → IsSome o
+    go None e = cc
+    go (Some x) e = refl
 
-pub no_next : (m : BTreeMap ℕ Task) (next : ℕ) (floor : ℤ) (mark : ℕ) → get nat_cmp m next ≡ None → next ≢ 0
+pub next_part : (m : BTreeMap ℕ Task) (t new : Task) (floor : ℤ) (mark : ℕ) → listed m new.pid ≡ Some (entity_of t) → new.pid ≢ 0
+    → entity_of new ≡ record { place = Run; nice = t.nice; runtime = t.v }
+    → part_of (standing (Some new) m) floor mark ≡ part_after_next (part_of (standing None m) floor mark) new.pid
+next_part m t new floor mark has ne is =
+    ap (with_entity (part_of (listed m) floor mark) new.pid)
+    (ap Some is ∙ sym (ap (option_map (λ (s : Entity). record s { place = Run })) has))
+    ∙ after_next (part_of (standing None m) floor mark) new.pid ne
+
+pub no_next : (m : BTreeMap ℕ Task) (next : ℕ) (floor : ℤ) (mark : ℕ) → listed m next ≡ None → next ≢ 0
     → part_of (standing None m) floor mark ≡ part_after_next (part_of (standing None m) floor mark) next
 no_next m next floor mark none ne =
     let x : Option Entity = option_map (λ (s : Entity). record s { place = Run }) (listed m next) in
-    let f : listed m next ≡ None = ap (option_map entity_of) none in
     same_tasks (listed m) (put (listed m) next (option_map (λ (s : Entity). record s { place = Run }) (listed m next))) floor mark
-    (put_same (listed m) next (option_map (λ (s : Entity). record s { place = Run }) (listed m next)) (ap (option_map (λ (s : Entity). record s { place = Run })) f ∙ sym f))
+    (put_same (listed m) next (option_map (λ (s : Entity). record s { place = Run }) (listed m next)) (ap (option_map (λ (s : Entity). record s { place = Run })) none ∙ sym none))
     ∙ after_next (part_of (standing None m) floor mark) next ne
 
 -- one who doesn't run leaves

@@ -1,11 +1,9 @@
 -- A runqueue, as the part of a machine at its processor (this project's profile).
-use Rattle.std.specs.Prelude.{◌≡◌, ℕ, zero, suc, ⊤, Option, Some, None, option_map, ℤ, pos, ◌+ℤ◌, ◌≤ℤ◌, ◌<ℤ◌}
+use Rattle.std.specs.Prelude.{◌≡◌, ◌≢◌, ℕ, zero, suc, Option, Some, None, option_map, ℤ, pos, ◌+ℤ◌, ◌≤ℤ◌, ◌<ℤ◌}
 use Rattle.std.specs.BTreeMap.{get}
 use Rattle.std.specs.BTreeSet.{contains}
 use Rattle.std.specs.Ordering.{nat_cmp}
 use Rattle.replay_model.specs.Part.{Part, Entity, IsIn, NobodyIn, IsQueuedHere, IsLeastHere}
-use Rattle.replay_model.specs.declared.step.Deed.{Deed}
-use Rattle.replay_model.specs.declared.step.Deed.TheVariants.{Switch, Wake, Born, Leave, Arrive}
 use Rattle.cfs_model.specs.declared.task.Place.TheVariants.{Run, Wait}
 use Rattle.cfs_model.specs.declared.task.Task.{Task}
 use Rattle.queue_replay.specs.Standing.{standing, by_runtime, waiting_task}
@@ -62,15 +60,6 @@ IsAboveGranularity granularity own part (suc n) pid =
 abbrev pub IsTaskAt : Part → ℕ → Option Task → Type 0
 IsTaskAt part pid task = option_map entity_of task ≡ part.tasks pid
 
--- the task that a deed is of, if it stands here; of a switch's two that is the previous one
-abbrev pub IsSubject : Part → Deed → Option Task → Type 0
-IsSubject part (Switch prev prev_nice way next next_nice) task = IsTaskAt part prev task
-IsSubject part (Wake pid nice) task = IsTaskAt part pid task
-IsSubject part (Born pid nice) task = IsTaskAt part pid task
-IsSubject part (Leave pid nice dest) task = IsTaskAt part pid task
-IsSubject part (Arrive pid nice orig) task = IsTaskAt part pid task
-
--- a switch's next task, if it stands here
-abbrev pub IsNext : Part → Deed → Option Task → Type 0
-IsNext part (Switch prev prev_nice way next next_nice) task = IsTaskAt part next task
-IsNext part _ task = ⊤
+-- the task of a pid that a switch names, if it stands here; pid 0 is no task
+abbrev pub IsSwitchTask : Part → ℕ → Option Task → Type 0
+IsSwitchTask part pid task = pid ≢ 0 → IsTaskAt part pid task

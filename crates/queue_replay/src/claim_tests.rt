@@ -1,101 +1,71 @@
-ghost use Rattle.std.specs.Prelude.{◌≡◌, ◌≢◌, ℕ, IsTrue, ◌↔◌, Some, option_map, pos, ◌+ℤ◌, ◌-ℤ◌, ◌≤ℤ◌, ◌<ℤ◌};
-ghost use Rattle.replay_model.specs.ClaimTests.{claimant, HasClaim, IsClaimMissing, IsClaimExtra, IsClaimPid, IsWrongPutBack, IsInWakeBounds, IsWakeOutside, IsInForkBounds, IsForkOutside, IsNextNotWaiting};
-ghost use Rattle.replay_model.specs.Part.{Part, Entity};
+ghost use Rattle.std.specs.Prelude.{◌≡◌, ◌≢◌, ℕ, ℤ, IsTrue, ◌↔◌, Some, option_map, pos, ◌+ℤ◌, ◌-ℤ◌, ◌≤ℤ◌, ◌<ℤ◌};
+ghost use Rattle.replay_model.specs.ClaimTests.{if_resting, IsClaimMissing, IsInWakeBounds, IsWakeOutside, IsInForkBounds, IsForkOutside};
+ghost use Rattle.replay_model.specs.Part.{Part, Entity, place_in};
+ghost use Rattle.replay_model.specs.declared.step.Deed.TheVariants.{Wake, Born, Arrive};
 ghost use Rattle.cfs_model.specs.declared.task.Place.TheVariants.{Rest};
-ghost use Rattle.queue_replay.specs.Queue.{runqueue_view, IdlesBeside, IsAboveGranularity, IsSubject, IsNext, IsTaskAt};
+ghost use Rattle.queue_replay.specs.Queue.{runqueue_view, IdlesBeside, IsAboveGranularity, IsTaskAt};
 ghost use Rattle.queue_replay.specs.Tasks.{entity_of};
 ghost use Rattle.queue_replay.specs.FirstTest.{Decides};
+ghost use Rattle.queue_replay.specs.Rows.{HasClaimAt, IsUnclaimed, IsNeedless, IsOfAnother};
 
 use crate::queue_tests::stands_in;
 use crate::runqueue::Runqueue;
-use cfs_model::{Claim, ClaimSort, IDLE_PID, Place, Task, Way};
-use replay_model::{Deed, Step};
+use cfs_model::{Claim, ClaimSort, IDLE_PID, Place, Task};
 
-/// The pid of which the deed needs a claim, if it needs one.
-fn claimant(step: &Step, subject: &Option<Task>) -> Option<u32>
-    ensures { (part : Part) → IsSubject part step.now.deed subject.now
-        → result ≡ claimant part step.now.deed }
+/// The pid, if its task rests here.
+pub(crate) fn if_resting(pid: u32, task: &Option<Task>) -> Option<u32>
+    ensures { (part : Part) → IsTaskAt part pid task.now → result ≡ if_resting pid (place_in part pid) }
 {
-    let deed = step.deed;
-    match deed {
-        Deed::Switch { prev, way, .. } => match way {
-            Way::Stays => { if prev == IDLE_PID { None } else { Some(prev) } }
-            Way::Sleeps | Way::Ends => None,
-        },
-        Deed::Wake { pid, .. } => {
-            if stands_in(*subject, Place::Rest) {
-                Some(pid)
-            } else {
-                None
-            }
-        }
-        Deed::Born { pid, .. } | Deed::Arrive { pid, .. } => Some(pid),
-        Deed::Leave { .. } => None,
+    if stands_in(*task, Place::Rest) {
+        Some(pid)
+    } else {
+        None
     }
 }
 
-/// The line has a claim of the sort that the deed can need.
-fn has_claim(step: &Step) -> bool
-    ensures { IsTrue result ↔ HasClaim step.now.deed step.now.claim }
+/// The line has a claim of the sort `at`.
+fn has_claim_at(claim: Option<Claim>) -> bool
+    ensures { IsTrue result ↔ HasClaimAt claim }
 {
-    match step.claim {
-        Some(claim) => matches!(step.deed, Deed::Arrive { .. }) || claim.sort == ClaimSort::At,
-        None => false,
-    }
+    matches!(claim, Some(claim) if claim.sort == ClaimSort::At)
 }
 
-/// A claim is needed, and the line has none that serves.
-pub(crate) fn claim_missing(step: &Step, subject: &Option<Task>) -> Option<u32>
-    ensures { (part : Part) → IsSubject part step.now.deed subject.now
-        → Decides result (IsClaimMissing part step.now.deed step.now.claim) }
+/// A claim of this pid is needed, and the line has none of the sort `at`.
+pub(crate) fn claim_missing(needed: Option<u32>, claim: Option<Claim>) -> Option<u32>
+    ensures { Decides result (IsUnclaimed needed claim) }
 {
-    let pid = claimant(step, subject)?;
-    if has_claim(step) { None } else { Some(pid) }
+    if has_claim_at(claim) { None } else { needed }
+}
+
+/// A task comes, and the line has no claim.
+pub(crate) fn arrival_claim_missing(pid: u32, claim: Option<Claim>) -> Option<u32>
+    ensures { (part : Part) (nice : ℤ) (orig : ℕ) → Decides result (IsClaimMissing part (Arrive pid nice orig) claim) }
+{
+    match claim {
+        Some(_) => None,
+        None => Some(pid),
+    }
 }
 
 /// No claim is needed, and the line has one.
-pub(crate) fn claim_extra(step: &Step, subject: &Option<Task>) -> Option<u32>
-    ensures { (part : Part) → IsSubject part step.now.deed subject.now
-        → Decides result (IsClaimExtra part step.now.deed step.now.claim) }
+pub(crate) fn claim_extra(needed: Option<u32>, claim: Option<Claim>) -> Option<u32>
+    ensures { Decides result (IsNeedless needed claim) }
 {
-    let claim = step.claim?;
-    if claimant(step, subject).is_some() || matches!(step.deed, Deed::Leave { .. }) {
-        None
-    } else {
-        Some(claim.pid)
+    let claim = claim?;
+    match needed {
+        Some(_) => None,
+        None => Some(claim.pid),
     }
 }
 
 /// A claim is needed, and the line's names another task.
-pub(crate) fn claim_pid(step: &Step, subject: &Option<Task>) -> Option<u32>
-    ensures { (part : Part) → IsSubject part step.now.deed subject.now
-        → Decides result (IsClaimPid part step.now.deed step.now.claim) }
+pub(crate) fn claim_pid(needed: Option<u32>, claim: Option<Claim>) -> Option<u32>
+    ensures { Decides result (IsOfAnother needed claim) }
 {
-    let claim = step.claim?;
-    let pid = claimant(step, subject)?;
+    let claim = claim?;
+    let pid = needed?;
     if claim.pid != pid {
         Some(claim.pid)
-    } else {
-        None
-    }
-}
-
-/// A previous task that stays is claimed at another virtual runtime than its own.
-pub(crate) fn wrong_put_back(step: &Step, subject: &Option<Task>) -> Option<u32>
-    ensures { (part : Part) → IsSubject part step.now.deed subject.now
-        → Decides result (IsWrongPutBack part step.now.deed step.now.claim) }
-{
-    let Deed::Switch {
-        prev,
-        way: Way::Stays,
-        ..
-    } = step.deed
-    else {
-        return None;
-    };
-    let claim = step.claim?;
-    if prev != IDLE_PID && is_at_other(*subject, claim) {
-        Some(prev)
     } else {
         None
     }
@@ -104,18 +74,16 @@ pub(crate) fn wrong_put_back(step: &Step, subject: &Option<Task>) -> Option<u32>
 /// A woken task that rests is claimed outside its bounds; the credit is in nanoseconds.
 pub(crate) fn wake_outside(
     queue: &Runqueue,
-    step: &Step,
-    subject: &Option<Task>,
+    pid: u32,
+    task: &Option<Task>,
+    claim: Option<Claim>,
     credit: u64,
 ) -> Option<u32>
-    requires { IsSubject (runqueue_view queue.now) step.now.deed subject.now }
-    ensures { Decides result (IsWakeOutside credit (runqueue_view queue.now) step.now.deed step.now.claim) }
+    requires { IsTaskAt (runqueue_view queue.now) pid task.now }
+    ensures { (nice : ℤ) → Decides result (IsWakeOutside credit (runqueue_view queue.now) (Wake pid nice) claim) }
 {
-    let Deed::Wake { pid, .. } = step.deed else {
-        return None;
-    };
-    let claim = step.claim?;
-    if rests_outside(queue, claim, credit, *subject) {
+    let claim = claim?;
+    if rests_outside(queue, claim, credit, *task) {
         Some(pid)
     } else {
         None
@@ -123,29 +91,16 @@ pub(crate) fn wake_outside(
 }
 
 /// A new task is claimed outside its bounds; the debit is in nanoseconds.
-pub(crate) fn fork_outside(queue: &Runqueue, step: &Step, debit: u64) -> Option<u32>
-    ensures { Decides result (IsForkOutside debit (runqueue_view queue.now) step.now.deed step.now.claim) }
+pub(crate) fn fork_outside(
+    queue: &Runqueue,
+    pid: u32,
+    claim: Option<Claim>,
+    debit: u64,
+) -> Option<u32>
+    ensures { (nice : ℤ) → Decides result (IsForkOutside debit (runqueue_view queue.now) (Born pid nice) claim) }
 {
-    let Deed::Born { pid, .. } = step.deed else {
-        return None;
-    };
-    let claim = step.claim?;
+    let claim = claim?;
     if is_in_fork_bounds(queue, claim, debit) {
-        None
-    } else {
-        Some(pid)
-    }
-}
-
-/// The next task of a switch doesn't wait here.
-pub(crate) fn next_not_waiting(step: &Step, next: &Option<Task>) -> Option<u32>
-    ensures { (part : Part) → IsNext part step.now.deed next.now
-        → Decides result (IsNextNotWaiting part step.now.deed) }
-{
-    let Deed::Switch { next: pid, .. } = step.deed else {
-        return None;
-    };
-    if pid == IDLE_PID || stands_in(*next, Place::Wait) {
         None
     } else {
         Some(pid)
@@ -159,10 +114,7 @@ pub(crate) fn idle_beside_waiting(moved: &Runqueue, next: u32) -> Option<u32>
     if next != IDLE_PID {
         return None;
     }
-    match moved.least_waiting() {
-        Some(_) => Some(IDLE_PID),
-        None => None,
-    }
+    moved.least_waiting().is_some().then_some(IDLE_PID)
 }
 
 /// The next task, as it stood, is above one that waits here by more than the granularity, in nanoseconds; the
@@ -195,7 +147,7 @@ fn is_below(runtime: i64, task: Task, granularity: u64) -> bool
 }
 
 /// The task stands here, at another virtual runtime than the claimed one.
-fn is_at_other(task: Option<Task>, claim: Claim) -> bool
+pub(crate) fn is_at_other(task: Option<Task>, claim: Claim) -> bool
     ensures { (part : Part) (pid : ℕ) → IsTaskAt part pid task
         → (IsTrue result ↔ ((s : Entity) × (part.tasks pid ≡ Some s) × (claim.v ≢ s.runtime))) }
 {

@@ -3,11 +3,15 @@
 
 mod charging;
 mod claim_tests;
+mod claimed;
+mod context_switch;
 mod counting;
+mod deeds;
 mod failed_test;
 mod lift;
 mod lists;
 mod moves;
+mod outcome;
 mod page;
 mod page_draft;
 mod queue_tests;

@@ -8,7 +8,7 @@ ghost use Rattle.replay_model.specs.Part.{IsIn, start_part};
 ghost use Rattle.replay_model.specs.QueueTests.{IsRunner};
 ghost use Rattle.queue_replay.specs.Standing.{listed};
 ghost use Rattle.queue_replay.specs.Tasks.{entity_of};
-ghost use Rattle.queue_replay.specs.Queue.{HoldsSame, IsTaskAt, runqueue_view};
+ghost use Rattle.queue_replay.specs.Queue.{HoldsSame, IsSwitchTask, IsTaskAt, runqueue_view};
 
 use crate::runqueue::Runqueue;
 use crate::waiting_task::WaitingTask;
@@ -43,6 +43,17 @@ impl Runqueue {
                 }
             }
             None => self.listed(pid),
+        }
+    }
+
+    /// The task of a pid that a switch names, if it stands here; none of pid 0.
+    pub fn switch_task(&self, pid: u32) -> Option<Task>
+        ensures { IsSwitchTask (runqueue_view self.now) pid result }
+    {
+        if pid == IDLE_PID {
+            None
+        } else {
+            self.task_at(pid)
         }
     }
 
@@ -115,15 +126,16 @@ impl Runqueue {
         self.runner = None;
     }
 
-    /// The next task of a switch runs.
-    pub fn set_next(&mut self, next: u32)
-        requires { self.old.runner ≡ None }
+    /// The next task of a switch runs, as it stands here.
+    pub fn set_next(&mut self, next: u32, task: Option<Task>)
+        requires nobody { self.old.runner ≡ None }
+        requires task { IsSwitchTask (runqueue_view self.old) next task }
         ensures { runqueue_view self.new ≡ part_after_next (runqueue_view self.old) next }
     {
         if next == IDLE_PID {
             return;
         }
-        if let Some(task) = self.tasks.get(&next).copied() {
+        if let Some(task) = task {
             let waited = WaitingTask {
                 v: task.v,
                 pid: next,
@@ -146,12 +158,14 @@ impl Runqueue {
         }
     }
 
-    /// The task of this pid waits at the claimed virtual runtime, if it rests. Where memory is wanted nothing changes.
-    pub fn wake(&mut self, pid: u32, claim: Claim) -> Result<(), Memory>
+    /// The task of this pid, as it stands here, waits at the claimed virtual runtime, if it rests. Where memory is wanted
+    /// nothing changes.
+    pub fn wake(&mut self, pid: u32, task: Option<Task>, claim: Claim) -> Result<(), Memory>
+        requires { IsTaskAt (runqueue_view self.old) pid task }
         ensures part { OnOk result (runqueue_view self.new ≡ wakes (runqueue_view self.old) pid (Some claim)) }
         ensures same { OnErr result (HoldsSame self.old self.new) }
     {
-        let Some(task) = self.task_at(pid) else {
+        let Some(task) = task else {
             return Ok(());
         };
         match task.place {

@@ -1,152 +1,64 @@
-ghost use Rattle.std.specs.Prelude.{◌≡◌, ◌≢◌, ℕ, IsTrue, ◌↔◌};
+ghost use Rattle.std.specs.Prelude.{◌≡◌, ◌≢◌, ℕ, ℤ, IsTrue, IsSome, None, ◌↔◌};
+ghost use Rattle.cfs_model.specs.declared.task.Place.TheVariants.{Run};
 ghost use Rattle.replay_model.specs.Part.{Part, IsIn};
-ghost use Rattle.replay_model.specs.QueueTests.{IsMoveHome, IsSelfSwitch, IsRunner, IsPrevNotRunning, IsStrange, IsAlready, IsMoveRunning, HasOtherNice, HasOtherPrio, IsWrongPrio};
-ghost use Rattle.queue_replay.specs.Queue.{runqueue_view, IsSubject, IsNext, IsTaskAt};
+ghost use Rattle.replay_model.specs.QueueTests.{IsMoveHome, IsRunner, HasOtherNice, HasOtherPrio};
+ghost use Rattle.replay_model.specs.declared.step.Deed.TheVariants.{Leave};
+ghost use Rattle.queue_replay.specs.Queue.{runqueue_view, IsSwitchTask, IsTaskAt};
 ghost use Rattle.queue_replay.specs.FirstTest.{Decides};
 
 use crate::runqueue::Runqueue;
 use cfs_model::{IDLE_PID, Nice, Place, Task};
-use replay_model::{Deed, Step};
 
-/// The task that the step is of, if it stands here; of a switch's two the previous one.
-pub(crate) fn subject_of(queue: &Runqueue, step: &Step) -> Option<Task>
-    ensures { IsSubject (runqueue_view queue.now) step.now.deed result }
+/// The task goes to the processor where it is.
+pub(crate) fn move_home(cpu: u32, pid: u32, dest: u32) -> Option<u32>
+    ensures { (nice : ℤ) → Decides result (IsMoveHome cpu (Leave pid nice dest)) }
 {
-    let deed = step.deed;
-    match deed {
-        Deed::Switch { prev, .. } => queue.task_at(prev),
-        Deed::Wake { pid, .. }
-        | Deed::Born { pid, .. }
-        | Deed::Leave { pid, .. }
-        | Deed::Arrive { pid, .. } => queue.task_at(pid),
-    }
-}
-
-/// The next task of a switch, if it stands here.
-pub(crate) fn next_of(queue: &Runqueue, step: &Step) -> Option<Task>
-    ensures { IsNext (runqueue_view queue.now) step.now.deed result }
-{
-    let deed = step.deed;
-    match deed {
-        Deed::Switch { next, .. } => queue.task_at(next),
-        Deed::Wake { .. } | Deed::Born { .. } | Deed::Leave { .. } | Deed::Arrive { .. } => None,
-    }
-}
-
-/// A task goes to the processor where it is.
-pub(crate) fn move_home(cpu: u32, step: &Step) -> Option<u32>
-    ensures { Decides result (IsMoveHome cpu step.now.deed) }
-{
-    let Deed::Leave { pid, dest, .. } = step.deed else {
-        return None;
-    };
     (dest == cpu).then_some(pid)
 }
 
-/// A switch goes from a task to itself.
-pub(crate) fn self_switch(step: &Step) -> Option<u32>
-    ensures { Decides result (IsSelfSwitch step.now.deed) }
+/// The pid doesn't stand here.
+pub(crate) fn strange(pid: u32, task: &Option<Task>) -> Option<u32>
+    ensures { (part : Part) → IsTaskAt part pid task.now
+        → Decides result (λ named. (part.tasks pid ≡ None) × (named ≡ pid)) }
 {
-    let Deed::Switch { prev, next, .. } = step.deed else {
-        return None;
-    };
-    (prev == next).then_some(prev)
+    if task.is_none() { Some(pid) } else { None }
 }
 
-/// The previous task of a switch isn't what runs here.
-pub(crate) fn prev_not_running(queue: &Runqueue, step: &Step, subject: &Option<Task>) -> Option<u32>
-    requires { IsSubject (runqueue_view queue.now) step.now.deed subject.now }
-    ensures { Decides result (IsPrevNotRunning (runqueue_view queue.now) step.now.deed) }
+/// The pid stands here.
+pub(crate) fn already(pid: u32, task: &Option<Task>) -> Option<u32>
+    ensures { (part : Part) → IsTaskAt part pid task.now
+        → Decides result (λ named. IsSome (part.tasks pid) × (named ≡ pid)) }
 {
-    let Deed::Switch { prev, .. } = step.deed else {
-        return None;
-    };
-    if is_runner(queue, prev, *subject) {
-        None
-    } else {
-        Some(prev)
-    }
+    if task.is_some() { Some(pid) } else { None }
 }
 
-/// A wakeup or a leave names a pid that doesn't stand here.
-pub(crate) fn strange(step: &Step, subject: &Option<Task>) -> Option<u32>
-    ensures { (part : Part) → IsSubject part step.now.deed subject.now
-        → Decides result (IsStrange part step.now.deed) }
+/// The task runs here.
+pub(crate) fn move_running(pid: u32, task: &Option<Task>) -> Option<u32>
+    ensures { (part : Part) → IsTaskAt part pid task.now
+        → Decides result (λ named. IsIn part Run pid × (named ≡ pid)) }
 {
-    let deed = step.deed;
-    match deed {
-        Deed::Wake { pid, .. } | Deed::Leave { pid, .. } => {
-            if subject.is_none() { Some(pid) } else { None }
-        }
-        Deed::Switch { .. } | Deed::Born { .. } | Deed::Arrive { .. } => None,
-    }
-}
-
-/// A birth or an arrival names a pid that stands here.
-pub(crate) fn already(step: &Step, subject: &Option<Task>) -> Option<u32>
-    ensures { (part : Part) → IsSubject part step.now.deed subject.now
-        → Decides result (IsAlready part step.now.deed) }
-{
-    let deed = step.deed;
-    match deed {
-        Deed::Born { pid, .. } | Deed::Arrive { pid, .. } => {
-            if subject.is_some() { Some(pid) } else { None }
-        }
-        Deed::Switch { .. } | Deed::Wake { .. } | Deed::Leave { .. } => None,
-    }
-}
-
-/// The task that runs here leaves.
-pub(crate) fn move_running(step: &Step, subject: &Option<Task>) -> Option<u32>
-    ensures { (part : Part) → IsSubject part step.now.deed subject.now
-        → Decides result (IsMoveRunning part step.now.deed) }
-{
-    let Deed::Leave { pid, .. } = step.deed else {
-        return None;
-    };
-    if stands_in(*subject, Place::Run) {
+    if stands_in(*task, Place::Run) {
         Some(pid)
     } else {
         None
     }
 }
 
-/// A task that the step names stands here with another nice value; of a switch's two the previous one first.
-pub(crate) fn wrong_prio(step: &Step, subject: &Option<Task>, next: &Option<Task>) -> Option<u32>
-    ensures { (part : Part) → IsSubject part step.now.deed subject.now → IsNext part step.now.deed next.now
-        → Decides result (IsWrongPrio part step.now.deed) }
+/// The task stands here, with another nice value than the printed one.
+pub(crate) fn wrong_prio(pid: u32, nice: Nice, task: &Option<Task>) -> Option<u32>
+    ensures { (part : Part) → IsTaskAt part pid task.now
+        → Decides result (λ named. HasOtherNice part pid nice × (named ≡ pid)) }
 {
-    let deed = step.deed;
-    match deed {
-        Deed::Switch {
-            prev,
-            prev_nice,
-            next: pid,
-            next_nice,
-            ..
-        } => {
-            if has_other_prio(*subject, prev, prev_nice) {
-                Some(prev)
-            } else if has_other_prio(*next, pid, next_nice) {
-                Some(pid)
-            } else {
-                None
-            }
-        }
-        Deed::Wake { pid, nice } | Deed::Leave { pid, nice, .. } => {
-            if has_other_nice(*subject, nice) {
-                Some(pid)
-            } else {
-                None
-            }
-        }
-        Deed::Born { .. } | Deed::Arrive { .. } => None,
+    if has_other_nice(*task, nice) {
+        Some(pid)
+    } else {
+        None
     }
 }
 
 /// The pid is what runs here; pid 0 where nobody does.
-fn is_runner(queue: &Runqueue, pid: u32, task: Option<Task>) -> bool
-    requires { IsTaskAt (runqueue_view queue.now) pid task }
+pub(crate) fn is_runner(queue: &Runqueue, pid: u32, task: Option<Task>) -> bool
+    requires { IsSwitchTask (runqueue_view queue.now) pid task }
     ensures { IsTrue result ↔ IsRunner (runqueue_view queue.now) pid }
 {
     if pid == IDLE_PID {
@@ -174,8 +86,8 @@ fn has_other_nice(task: Option<Task>, nice: Nice) -> bool
 }
 
 /// The same at a switch, where that of pid 0 isn't looked at.
-fn has_other_prio(task: Option<Task>, pid: u32, nice: Nice) -> bool
-    ensures { (part : Part) → IsTaskAt part pid task → (IsTrue result ↔ HasOtherPrio part pid nice) }
+pub(crate) fn has_other_prio(task: Option<Task>, pid: u32, nice: Nice) -> bool
+    ensures { (part : Part) → IsSwitchTask part pid task → (IsTrue result ↔ HasOtherPrio part pid nice) }
 {
     pid != IDLE_PID && has_other_nice(task, nice)
 }

@@ -1,15 +1,30 @@
-ghost use Rattle.std.specs.Prelude.{◌≡◌, ◌≢◌, ℕ, Some, None, MatchOption};
-ghost use Rattle.replay_model.specs.Deeds.{place_of_sort};
-ghost use Rattle.replay_model.specs.Page.{IsSince, deadline_of};
+ghost use Rattle.std.specs.Prelude.{◌≡◌, ◌≢◌, ℕ, ◌+◌, ◌-◌, ◌^◌, ◌<◌, Some, None, MatchOption, IfSome, IfOk, OnOk, OnErr};
+ghost use Rattle.replay_model.specs.Page.{FailsTest, IsSince, deadline_of};
 ghost use Rattle.replay_model.specs.QueueTests.{IsIdleTooLong};
 ghost use Rattle.cfs_model.specs.declared.kind.Kind.TheVariants.{IdleTooLong};
-ghost use Rattle.queue_replay.specs.Counting.{ticket_by};
-ghost use Rattle.queue_replay.specs.Queue.{runqueue_view, IsSubject};
+ghost use Rattle.queue_replay.specs.Counting.{HasDraftRoom, page_draft_view, faulted_page};
+ghost use Rattle.queue_replay.specs.Queue.{runqueue_view};
+ghost use Rattle.queue_replay.specs.ReplayState.{IsGoing, IsPassed, IsStepped, IsUndone, replay_state_view};
 
+use crate::deeds::try_deed;
+use crate::failed_test::FailedTest;
+use crate::outcome::Outcome;
 use crate::page_draft::PageDraft;
 use crate::runqueue::Runqueue;
-use cfs_model::{Claim, ClaimSort, Place, Task};
-use replay_model::{Deed, Step, Ticket};
+use cfs_model::{IDLE_PID, Kind, Knobs, Memory};
+use replay_model::{Step, StepFault};
+
+// A charge with its lift, up to a time in nanoseconds.
+macro_rules! lift {
+    ($queue:expr, $time:expr) => {
+        if let Err(pid) = $queue.lift($time) {
+            return Ok(Some(FailedTest {
+                kind: Kind::Range,
+                pid,
+            }));
+        }
+    };
+}
 
 /// A replay under way.
 #[derive(Drop)]
@@ -20,6 +35,91 @@ pub(crate) struct ReplayState {
     /// Since when nothing has run here while somebody waited, in nanoseconds; if that is so.
     pub since: Option<u64>,
     pub draft: PageDraft,
+}
+
+impl ReplayState {
+    /// One step: it passes and is made, or its fault is noted.
+    pub fn step(&mut self, cpu: u32, step: &Step, knobs: Knobs) -> Result<(), Memory>
+        requires going { IsGoing self.old }
+        requires few { self.old.made < 2 ^ 64 - 1 }
+        ensures made { OnOk result (self.new.made ≡ self.old.made + 1) }
+        ensures stepped { OnOk result (IsStepped knobs cpu (replay_state_view self.old) step.now self.new) }
+        ensures memory { OnErr result (IsGoing self.new × (replay_state_view self.new ≡ replay_state_view self.old) × (self.new.made ≡ self.old.made)) }
+    {
+        self.draft.make_room(step.deed)?;
+        self.test_step(cpu, step, knobs)
+    }
+
+    /// The same, where there is room for what the step adds to the draft.
+    fn test_step(&mut self, cpu: u32, step: &Step, knobs: Knobs) -> Result<(), Memory>
+        requires going { IsGoing self.old }
+        requires few { self.old.made < 2 ^ 64 - 1 }
+        requires draft { HasDraftRoom step.now.deed self.old.draft }
+        ensures made { OnOk result (self.new.made ≡ self.old.made + 1) }
+        ensures stepped { OnOk result (IsStepped knobs cpu (replay_state_view self.old) step.now self.new) }
+        ensures memory { OnErr result (IsUndone self.old self.new) }
+    {
+        if let Some(deadline) = idle_deadline(self.since, step.time, knobs.slack()) {
+            let failed = FailedTest {
+                kind: Kind::IdleTooLong,
+                pid: IDLE_PID,
+            };
+            self.fail(step.line, failed, Some(deadline));
+            return Ok(());
+        }
+        let found = self.pass(cpu, step, knobs)?;
+        if let Some(failed) = found {
+            self.fail(step.line, failed, None);
+            return Ok(());
+        }
+        self.made += 1;
+        Ok(())
+    }
+
+    /// Notes a fault, and counts its step.
+    fn fail(&mut self, line: u32, failed: FailedTest, deadline: Option<u64>)
+        requires { self.old.made < 2 ^ 64 - 1 }
+        ensures made { self.new.made ≡ self.old.made + 1 }
+        ensures noted { page_draft_view self.new.draft ≡ faulted_page (page_draft_view self.old.draft) (record { line = line; kind = failed.kind; pid = failed.pid; deadline = deadline }) }
+    {
+        self.draft.fault = Some(StepFault {
+            line,
+            kind: failed.kind,
+            pid: failed.pid,
+            deadline,
+        });
+        self.made += 1;
+    }
+
+    /// The tests of a step but for the first. If it passes them it is made. Where memory is wanted nothing changes.
+    fn pass(&mut self, cpu: u32, step: &Step, knobs: Knobs) -> Result<Option<FailedTest>, Memory>
+        requires going { IsGoing self.old }
+        requires few { self.old.made < 2 ^ 64 - 1 }
+        requires draft { HasDraftRoom step.now.deed self.old.draft }
+        requires in_time { (pid : ℕ) → IsIdleTooLong knobs.slack self.old.since step.now.time pid → ⊥ }
+        ensures made { self.new.made ≡ self.old.made }
+        ensures passes { IfOk result (λ found. found ≡ None → IsPassed knobs cpu self.old step.now self.new) }
+        ensures fails { IfOk result (λ found. IfSome found (λ failed. FailsTest knobs cpu (replay_state_view self.old) step.now failed.kind failed.pid)) }
+        ensures later { IfOk result (λ found. IfSome found (λ failed. failed.kind ≢ IdleTooLong)) }
+        ensures noted { IfOk result (λ found. found ≢ None → (page_draft_view self.new.draft ≡ page_draft_view self.old.draft) × (self.new.since ≡ self.old.since)) }
+        ensures memory { OnErr result (IsUndone self.old self.new) }
+    {
+        let before = self.queue.unlifted();
+        let time = step.time.saturating_sub(before.mark);
+        lift!(self.queue, step.time);
+        let ticket = match try_deed(&mut self.queue, cpu, step, knobs) {
+            Ok(Outcome::Made(ticket)) => ticket,
+            Ok(Outcome::Failed(failed)) => return Ok(Some(failed)),
+            Err(memory) => {
+                self.queue.restore(before);
+                return Err(memory);
+            }
+        };
+        self.draft.note_stretch(before.runner, time, self.made);
+        self.draft.note(step, ticket, self.made);
+        self.since = since_after(self.since, step.time, &self.queue);
+        Ok(None)
+    }
 }
 
 /// Until when the processor could idle beside a waiting task, if it has idled for longer; times in nanoseconds.
@@ -46,46 +146,5 @@ pub(crate) fn since_after(before: Option<u64>, time: u64, queue: &Runqueue) -> O
     match queue.least_waiting() {
         Some(_) => Some(before.unwrap_or(time)),
         None => None,
-    }
-}
-
-/// The ticket of a step by which a task leaves or comes.
-pub(crate) fn ticket_of(queue: &Runqueue, step: &Step, subject: &Option<Task>) -> Option<Ticket>
-    requires { IsSubject (runqueue_view queue.now) step.now.deed subject.now }
-    ensures { result ≡ ticket_by (runqueue_view queue.now) step.now step.now.deed }
-{
-    match step.deed {
-        Deed::Switch { .. } | Deed::Wake { .. } | Deed::Born { .. } => None,
-        Deed::Leave { pid, .. } => {
-            let task = (*subject)?;
-            Some(Ticket {
-                line: step.line,
-                pid,
-                nice: task.nice,
-                place: task.place,
-                offset: i128::from(task.v) - i128::from(queue.floor),
-            })
-        }
-        Deed::Arrive { pid, nice, .. } => {
-            let claim = step.claim?;
-            Some(Ticket {
-                line: step.line,
-                pid,
-                nice,
-                place: place_of(claim),
-                offset: i128::from(claim.v) - i128::from(queue.floor),
-            })
-        }
-    }
-}
-
-/// The place that a migration's claim tells.
-pub(crate) fn place_of(claim: Claim) -> Place
-    ensures { result ≡ place_of_sort claim.sort }
-{
-    let sort = claim.sort;
-    match sort {
-        ClaimSort::At => Place::Wait,
-        ClaimSort::Pass => Place::Rest,
     }
 }

@@ -59,8 +59,8 @@ fn advance(stream: &Stream, knobs: Knobs, state: &mut ReplayState) -> Result<(),
     ensures made { OnOk result (state.new.made ≡ state.old.made + 1) }
     ensures memory { OnErr result ((state.new.made ≡ state.old.made) × (page_draft_view state.new.draft ≡ page_draft_view state.old.draft)) }
 {
-    let step = stream.steps()[state.made];
-    state.step(stream.cpu(), &step, knobs)?;
+    let step = &stream.steps()[state.made];
+    state.step(stream.cpu(), step, knobs)?;
     if state.made == stream.steps().len() {
         end_test(stream, knobs, state);
     }

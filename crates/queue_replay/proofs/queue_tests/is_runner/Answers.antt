@@ -13,4 +13,4 @@ returns-then-pid-eq-IDLE_PID c =
 pub returns-else-pid-eq-IDLE_PID : goal.returns-else-pid-eq-IDLE_PID
 returns-else-pid-eq-IDLE_PID c =
     let part = runqueue_view c.args.queue.now in
-    task_runs part c.args.pid c.if-pid-eq-IDLE_PID.false c.stands_in.result (c.stands_in.ensures part c.args.pid c.requires)
+    task_runs part c.args.pid c.if-pid-eq-IDLE_PID.false c.stands_in.result (c.stands_in.ensures part c.args.pid (c.requires c.if-pid-eq-IDLE_PID.false))

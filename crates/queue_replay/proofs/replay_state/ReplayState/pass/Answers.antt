@@ -7,73 +7,51 @@ use Rattle.replay_model.specs.declared.page.Tally.{Tally}
 use Rattle.queue_replay.specs.Counting.{stretched}
 use Rattle.queue_replay.specs.Standing.{by_runtime, IsQueue, waiting_task}
 use Rattle.queue_replay.specs.Stretches.{IsWithin}
-use Rattle.queue_replay.specs.FirstTest.{IsFirst, pick_tests}
+use Rattle.queue_replay.specs.Rows.{IsTried}
 use Rattle.queue_replay.specs.Queue.{runqueue_view, IsTheRunner}
-use Rattle.queue_replay.specs.declared.failed_test.FailedTest.{FailedTest}
+use Rattle.queue_replay.specs.declared.outcome.Outcome.{Outcome}
 use Rattle.queue_replay.proofs.Counts.{charged_same}
 use Rattle.queue_replay.proofs.Growing.{IsRan, noted_ran, ran_picks, tallied_within}
 use Rattle.queue_replay.proofs.Moved.{restored_part}
 use Rattle.queue_replay.proofs.Noting.{page_is}
+use Rattle.queue_replay.proofs.Rows.{is_later}
 use Rattle.queue_replay.proofs.Standings.{same_queue, the_runner}
 use Rattle.queue_replay.proofs.replay_state.ReplayState.pass.Goals as goal
 
-pub returns-in-Some-clause-fails : goal.returns-in-Some-clause-fails
-returns-in-Some-clause-fails c =
+pub returns-in-Ok-Failed-clause-fails : goal.returns-in-Ok-Failed-clause-fails
+returns-in-Ok-Failed-clause-fails c =
     let l = c.in_default.ensures in
-    inr (runqueue_view c.lift.new.self, (c.requires.in_time, (l.in_range, tt)), l.lifted, c.in-Some.ensures.first)
+    let lifted = runqueue_view c.lift.new.self in
+    let T : Outcome → Type 0 = λ o. IsTried c.args.knobs c.args.cpu lifted c.args.step.now (runqueue_view c.try_deed.new.queue) o in
+    inr (lifted, (c.requires.in_time, (l.in_range, tt)), l.lifted, subst T c.in-Ok-Failed.field-0-is c.in-Ok-Failed.ensures.tried)
 
-pub returns-in-Some-first_claim_test-clause-fails : goal.returns-in-Some-first_claim_test-clause-fails
-returns-in-Some-first_claim_test-clause-fails c =
-    let l = c.in_default.ensures in
-    inr (
-      runqueue_view c.lift.new.self,
-      (c.requires.in_time, (l.in_range, tt)),
-      l.lifted,
-      c.in_default-first_queue_test.ensures.first (Some c.in-Some-first_claim_test.failed) c.in-Some-first_claim_test.ensures.first,
-    )
-
-pub make-requires-clause-cleared : goal.make-requires-clause-cleared
-make-requires-clause-cleared c =
-    let e = c.in_default-first_queue_test.ensures in
-    record {
-      runner = e.runner refl;
-      apart = e.apart refl;
-      at_rest = e.at_rest refl;
-      claimed = c.in_default-first_claim_test.ensures.claimed refl;
-    }
-
-pub returns-in-Ok-Some-clause-fails : goal.returns-in-Ok-Some-clause-fails
-returns-in-Ok-Some-clause-fails c =
-    let l = c.in_default.ensures in
-    let b = Some c.in-Ok-Some.failed in
-    let F : Option FailedTest → Type 0 = λ o. IsFirst o (pick_tests c.args.knobs (runqueue_view c.lift.new.self) c.args.step.now) in
-    inr (
-      runqueue_view c.lift.new.self,
-      (c.requires.in_time, (l.in_range, tt)),
-      l.lifted,
-      c.in_default-first_queue_test.ensures.first b (c.in_default-first_claim_test.ensures.first b (subst F c.in-Ok-Some.field-0-is c.in-Ok-Some.ensures.first)),
-    )
+pub returns-in-Ok-Failed-clause-later : goal.returns-in-Ok-Failed-clause-later
+returns-in-Ok-Failed-clause-later c =
+    let lifted = runqueue_view c.lift.new.self in
+    let failed = c.in-Ok-Failed.failed in
+    let T : Outcome → Type 0 = λ o. IsTried c.args.knobs c.args.cpu lifted c.args.step.now (runqueue_view c.try_deed.new.queue) o in
+    is_later c.args.knobs c.args.cpu lifted c.args.step.now failed.kind failed.pid (subst T c.in-Ok-Failed.field-0-is c.in-Ok-Failed.ensures.tried)
 
 pub restore-requires : goal.restore-requires
 restore-requires c =
     let q = c.args.self.now.queue in
-    let made = c.make.new.queue in
-    let s = c.in-Err-make.ensures.same in
+    let made = c.try_deed.new.queue in
+    let s = c.in-Err-try_deed.ensures.same in
     subst (λ (r : Option Task). IsQueue r made.tasks made.waiting) (sym c.unlifted-before.ensures.runner)
     (same_queue q.runner q.tasks made.tasks q.waiting made.waiting
     (λ p. s.tasks p ∙ ap (λ m. get nat_cmp m p) c.lift.ensures.same.0)
     (λ v p. s.waiting v p ∙ ap (λ w. contains by_runtime w (waiting_task v p)) c.lift.ensures.same.1) q.kept)
 
-pub returns-in-Err-make-clause-memory : goal.returns-in-Err-make-clause-memory
-returns-in-Err-make-clause-memory c =
+pub returns-in-Err-try_deed-clause-memory : goal.returns-in-Err-try_deed-clause-memory
+returns-in-Err-try_deed-clause-memory c =
     let q = c.args.self.now.queue in
-    let made = c.make.new.queue in
+    let made = c.try_deed.new.queue in
     let before = c.unlifted-before.result in
     let e = c.unlifted-before.ensures in
     record {
       made = refl;
       part = c.restore.ensures ∙ restored_part q.runner before.runner q.tasks made.tasks q.floor before.floor q.mark before.mark e.runner e.floor e.mark
-          (λ p. c.in-Err-make.ensures.same.tasks p ∙ ap (λ m. get nat_cmp m p) c.lift.ensures.same.0);
+          (λ p. c.in-Err-try_deed.ensures.same.tasks p ∙ ap (λ m. get nat_cmp m p) c.lift.ensures.same.0);
       since = refl;
       noted = refl;
     }
@@ -107,8 +85,8 @@ returns-clause-passes c _ =
     let step = c.args.step.now in
     let lifted = runqueue_view c.lift.new.self in
     let l = c.in_default.ensures in
-    let m = c.in-Ok-None.ensures in
-    let F : Option FailedTest → Type 0 = λ o. IsFirst o (pick_tests c.args.knobs lifted step) in
+    let T : Outcome → Type 0 = λ o. IsTried c.args.knobs c.args.cpu lifted step (runqueue_view c.try_deed.new.queue) o in
+    let tried = subst T c.in-Ok-Made.field-0-is c.in-Ok-Made.ensures.tried in
     let mid = c.note_stretch.new.self in
     let s = c.note_stretch.ensures.same in
     let ran = (noted_ran (runqueue_view q) step.time c.saturating_sub-time.result old.made c.in_default.ensures.in_range
@@ -124,11 +102,11 @@ returns-clause-passes c _ =
         passes = record {
           in_range = l.in_range;
           is_lifted = l.lifted;
-          none = c.in_default-first_queue_test.ensures.first None (c.in_default-first_claim_test.ensures.first None (subst F c.in-Ok-None.field-0-is m.first));
+          none = tried.0;
         };
-        part = m.part c.in-Ok-None.field-0-is;
+        part = tried.1;
         since = c.since_after-self.ensures;
-        page = page_is old.draft mid c.note.new.self (runqueue_view q) lifted step c.ticket_of-ticket.result c.requires.going.fault
+        page = page_is old.draft mid c.note.new.self (runqueue_view q) lifted step c.in-Ok-Made.ticket c.requires.going.fault
             (record { line = s.0; fault = s.1; left = s.2; came = s.3; births = s.4; deaths = s.5 })
             (c.note_stretch.ensures.tallies
             ∙ ap (λ n. stretched c.unlifted-before.result.runner n old.draft.tallies.list.items)
@@ -136,7 +114,7 @@ returns-clause-passes c _ =
             ∙ sym (charged_same (runqueue_view q) step.time c.unlifted-before.result.runner
             (subst (IsTheRunner (runqueue_view q)) (sym c.unlifted-before.ensures.runner) (the_runner q.runner q.tasks q.waiting q.floor q.mark q.kept))
             old.draft.tallies.list.items))
-            c.ticket_of-ticket.ensures
+            tried.2
             (let n = c.note.ensures in record {
               line = n.line;
               fault = n.fault;

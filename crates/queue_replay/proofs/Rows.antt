@@ -1,0 +1,114 @@
+-- Each deed's row of tests against the ordered list of all: the tests that are left out hold of no pid at that deed.
+use Rattle.std.proofs.Common.{◌≡◌, ◌≢◌, ℕ, List, [], ◌∷◌, Option, Some, None, ℤ, inl, inr, refl, sym, ap, ◌∙◌, subst}
+use Rattle.std.specs.Prelude.{⊤}
+use Rattle.replay_model.specs.Deeds.{after_deed}
+use Rattle.replay_model.specs.Part.{Part}
+use Rattle.replay_model.specs.Tests.{Test, NoneHolds, FirstHolds, late_tests}
+use Rattle.replay_model.specs.declared.page.Ticket.{Ticket}
+use Rattle.replay_model.specs.declared.step.Deed.{Deed}
+use Rattle.replay_model.specs.declared.step.Deed.TheVariants.{Switch, Wake, Born, Leave, Arrive}
+use Rattle.replay_model.specs.declared.step.Step.{Step}
+use Rattle.cfs_model.specs.Settings.{Settings}
+use Rattle.cfs_model.specs.declared.act.Way.{Way}
+use Rattle.cfs_model.specs.declared.claim.Claim.{Claim}
+use Rattle.cfs_model.specs.declared.kind.Kind.{Kind}
+use Rattle.cfs_model.specs.declared.kind.Kind.TheVariants.{IdleTooLong}
+use Rattle.queue_replay.specs.Counting.{ticket_by}
+use Rattle.queue_replay.specs.FirstTest.{IsFirst}
+use Rattle.queue_replay.specs.Rows.{IsTried, arrival_tests, birth_tests, leave_tests, switch_tests, wake_tests}
+use Rattle.queue_replay.specs.declared.failed_test.FailedTest.{FailedTest}
+use Rattle.queue_replay.specs.declared.outcome.Outcome.TheVariants.{Made, Failed}
+
+-- what is first among some tests is first among more
+pub record Widens (less more : List Test) : Type 0 where
+  pub first : (found : Option FailedTest) → IsFirst found less → IsFirst found more
+
+end : Widens [] []
+end = record { first = λ found h. h }
+
+-- a test that holds of no pid
+skip : {less more : List Test} {test : Test} → ((pid : ℕ) → ¬ test.holds pid) → Widens less more → Widens less (test ∷ more)
+skip {less} {more} {test} none w = record { first = go }
+  where
+    go : (found : Option FailedTest) → IsFirst found less → IsFirst found (test ∷ more)
+    go None h = (none, w.first None h)
+    go (Some failed) h = inr (none, w.first (Some failed) h)
+
+-- a test that both have
+keep : {less more : List Test} {test : Test} → Widens less more → Widens (test ∷ less) (test ∷ more)
+keep {less} {more} {test} w = record { first = go }
+  where
+    go : (found : Option FailedTest) → IsFirst found (test ∷ less) → IsFirst found (test ∷ more)
+    go None h = (h.0, w.first None h.1)
+    go (Some failed) (inl h) = inl h
+    go (Some failed) (inr h) = inr (h.0, w.first (Some failed) h.1)
+
+-- the ordered list, for a deed and its claim
+abbrev pub all_tests : Settings → ℕ → Part → Deed → Option Claim → List Test
+all_tests knobs cpu part deed claim = late_tests knobs cpu part (record { line = 0; time = 0; deed = deed; claim = claim })
+
+-- a switch
+pub switch_row : (knobs : Settings) (cpu : ℕ) (part : Part) (prev : ℕ) (prev_nice : ℤ) (way : Way) (next : ℕ) (next_nice : ℤ) (claim : Option Claim)
+    → Widens (switch_tests knobs part (Switch prev prev_nice way next next_nice) claim) (all_tests knobs cpu part (Switch prev prev_nice way next next_nice) claim)
+switch_row knobs cpu part prev prev_nice way next next_nice None = skip (λ p h. h) (keep (keep (skip (λ p h. h) (skip (λ p h. h) (skip (λ p h. h) (keep (keep (keep (keep (keep (skip (λ p h. h) (skip (λ p h. h) (keep (keep (keep end)))))))))))))))
+switch_row knobs cpu part prev prev_nice way next next_nice (Some c) = skip (λ p h. h) (keep (keep (skip (λ p h. h) (skip (λ p h. h) (skip (λ p h. h) (keep (keep (keep (keep (keep (skip (λ p h. h) (skip (λ p h. h) (keep (keep (keep end)))))))))))))))
+
+-- a wakeup
+pub wake_row : (knobs : Settings) (cpu : ℕ) (part : Part) (pid : ℕ) (nice : ℤ) (claim : Option Claim)
+    → Widens (wake_tests knobs.credit part (Wake pid nice) claim) (all_tests knobs cpu part (Wake pid nice) claim)
+wake_row knobs cpu part pid nice None = skip (λ p h. h) (skip (λ p h. h) (skip (λ p h. h) (keep (skip (λ p h. h) (skip (λ p h. h) (keep (keep (keep (keep (skip (λ p h. h) (keep (skip (λ p h. h) (skip (λ p h. h) (skip (λ p h. h) (skip (λ p h. h) end)))))))))))))))
+wake_row knobs cpu part pid nice (Some c) = skip (λ p h. h) (skip (λ p h. h) (skip (λ p h. h) (keep (skip (λ p h. h) (skip (λ p h. h) (keep (keep (keep (keep (skip (λ p h. h) (keep (skip (λ p h. h) (skip (λ p h. h) (skip (λ p h. h) (skip (λ p h. h) end)))))))))))))))
+
+-- a birth
+pub birth_row : (knobs : Settings) (cpu : ℕ) (part : Part) (pid : ℕ) (nice : ℤ) (claim : Option Claim)
+    → Widens (birth_tests knobs.debit part (Born pid nice) claim) (all_tests knobs cpu part (Born pid nice) claim)
+birth_row knobs cpu part pid nice None = skip (λ p h. h) (skip (λ p h. h) (skip (λ p h. h) (skip (λ p h. h) (keep (skip (λ p h. h) (skip (λ p h. h) (keep (skip (λ p h. h) (keep (skip (λ p h. h) (skip (λ p h. h) (keep (skip (λ p h. h) (skip (λ p h. h) (skip (λ p h. h) end)))))))))))))))
+birth_row knobs cpu part pid nice (Some c) = skip (λ p h. h) (skip (λ p h. h) (skip (λ p h. h) (skip (λ p h. h) (keep (skip (λ p h. h) (skip (λ p h. h) (keep (skip (λ p h. let e : Some pid ≡ None = h.0 in absurd cc) (keep (skip (λ p h. h) (skip (λ p h. h) (keep (skip (λ p h. h) (skip (λ p h. h) (skip (λ p h. h) end)))))))))))))))
+
+-- a task that leaves
+pub leave_row : (knobs : Settings) (cpu : ℕ) (part : Part) (pid : ℕ) (nice : ℤ) (dest : ℕ) (claim : Option Claim)
+    → Widens (leave_tests cpu part (Leave pid nice dest)) (all_tests knobs cpu part (Leave pid nice dest) claim)
+leave_row knobs cpu part pid nice dest None = keep (skip (λ p h. h) (skip (λ p h. h) (keep (skip (λ p h. h) (keep (keep (skip (λ p h. let e : None ≡ Some p = h.0 in absurd cc) (skip (λ p h. h) (skip (λ p h. h) (skip (λ p h. h) (skip (λ p h. h) (skip (λ p h. h) (skip (λ p h. h) (skip (λ p h. h) (skip (λ p h. h) end)))))))))))))))
+leave_row knobs cpu part pid nice dest (Some c) = keep (skip (λ p h. h) (skip (λ p h. h) (keep (skip (λ p h. h) (keep (keep (skip (λ p h. let e : None ≡ Some p = h.0 in absurd cc) (skip (λ p h. h) (skip (λ p h. let e : None ≡ Some h.0.0 = h.0.1 in absurd cc) (skip (λ p h. h) (skip (λ p h. h) (skip (λ p h. h) (skip (λ p h. h) (skip (λ p h. h) (skip (λ p h. h) end)))))))))))))))
+
+-- a task that comes
+pub arrival_row : (knobs : Settings) (cpu : ℕ) (part : Part) (pid : ℕ) (nice : ℤ) (orig : ℕ) (claim : Option Claim)
+    → Widens (arrival_tests part (Arrive pid nice orig) claim) (all_tests knobs cpu part (Arrive pid nice orig) claim)
+arrival_row knobs cpu part pid nice orig None = skip (λ p h. h) (skip (λ p h. h) (skip (λ p h. h) (skip (λ p h. h) (keep (skip (λ p h. h) (skip (λ p h. h) (keep (skip (λ p h. h) (keep (skip (λ p h. h) (skip (λ p h. h) (skip (λ p h. h) (skip (λ p h. h) (skip (λ p h. h) (skip (λ p h. h) end)))))))))))))))
+arrival_row knobs cpu part pid nice orig (Some c) = skip (λ p h. h) (skip (λ p h. h) (skip (λ p h. h) (skip (λ p h. h) (keep (skip (λ p h. h) (skip (λ p h. h) (keep (skip (λ p h. let e : Some pid ≡ None = h.0 in absurd cc) (keep (skip (λ p h. h) (skip (λ p h. h) (skip (λ p h. h) (skip (λ p h. h) (skip (λ p h. h) (skip (λ p h. h) end)))))))))))))))
+
+-- a step's deed, by its row
+module _ (knobs : Settings) (cpu : ℕ) (part : Part) (step : Step) (deed : Deed) (claim : Option Claim) (tests : List Test)
+    (row : Widens tests (all_tests knobs cpu part deed claim)) (is : step.deed ≡ deed) (says : step.claim ≡ claim) where
+  among : (found : Option FailedTest) → IsFirst found tests → IsFirst found (late_tests knobs cpu part step)
+  among found h =
+      subst (λ (d : Deed). IsFirst found (all_tests knobs cpu part d step.claim)) (sym is)
+      (subst (λ (c : Option Claim). IsFirst found (all_tests knobs cpu part deed c)) (sym says) (row.first found h))
+
+  -- it fails
+  pub fails : (after : Part) (failed : FailedTest) → IsFirst (Some failed) tests → IsTried knobs cpu part step after (Failed failed)
+  fails after failed h = among (Some failed) h
+
+  -- it passes
+  pub passes : (after : Part) (ticket : Option Ticket) → IsFirst None tests → after ≡ after_deed part deed claim
+      → ticket ≡ ticket_by part (record step { claim = claim }) deed → IsTried knobs cpu part step after (Made ticket)
+  passes after ticket h e t = (
+    among None h,
+    e ∙ sym (ap (after_deed part deed) says) ∙ sym (ap (λ (d : Deed). after_deed part d step.claim) is),
+    t ∙ sym (ap (λ (c : Option Claim). ticket_by part (record step { claim = c }) deed) says)
+        ∙ sym (ap (λ (d : Deed). ticket_by part step d) is),
+  )
+
+-- none of the tests is the first of a step's
+abbrev AreLater : List Test → Type 0
+AreLater [] = ⊤
+AreLater (test ∷ tests) = (test.kind ≢ IdleTooLong) × AreLater tests
+
+later_kind : (tests : List Test) → AreLater tests → (kind : Kind) (pid : ℕ) → FirstHolds tests kind pid → kind ≢ IdleTooLong
+later_kind [] all kind pid h = absurd h
+later_kind (test ∷ tests) all kind pid (inl h) = λ e. all.0 (sym h.1 ∙ e)
+later_kind (test ∷ tests) all kind pid (inr h) = later_kind tests all.1 kind pid h.1
+
+pub is_later : (knobs : Settings) (cpu : ℕ) (part : Part) (step : Step) (kind : Kind) (pid : ℕ) → FirstHolds (late_tests knobs cpu part step) kind pid
+    → kind ≢ IdleTooLong
+is_later knobs cpu part step = later_kind (late_tests knobs cpu part step) (λ e. cc, (λ e. cc, (λ e. cc, (λ e. cc, (λ e. cc, (λ e. cc, (λ e. cc, (λ e. cc, (λ e. cc, (λ e. cc, (λ e. cc, (λ e. cc, (λ e. cc, (λ e. cc, (λ e. cc, (λ e. cc, tt))))))))))))))))

@@ -1,0 +1,42 @@
+use Rattle.std.proofs.Common.{◌≡◌, ◌∙◌, sym, ap, refl, Some, None, subst}
+use Rattle.replay_model.specs.Deeds.{after_deed, with_entity}
+use Rattle.replay_model.specs.Part.{Entity, Part}
+use Rattle.replay_model.specs.declared.step.Deed.TheVariants.{Born}
+use Rattle.queue_replay.specs.Queue.{runqueue_view}
+use Rattle.queue_replay.specs.Rows.{birth_tests}
+use Rattle.queue_replay.specs.Tasks.{entity_of}
+use Rattle.queue_replay.proofs.Passed.{is_apart, birth_claimed}
+use Rattle.queue_replay.proofs.Rows.{birth_row, fails, passes}
+use Rattle.queue_replay.proofs.deeds.try_birth.Goals as goal
+
+pub returns-in-Some-clause-tried : goal.returns-in-Some-clause-tried
+returns-in-Some-clause-tried c =
+    let part = runqueue_view c.args.queue.now in
+    let step = c.args.step.now in
+    let deed = Born c.args.pid c.args.nice in
+    fails c.args.knobs c.args.cpu part step deed step.claim (birth_tests c.args.knobs.debit part deed step.claim)
+    (birth_row c.args.knobs c.args.cpu part c.args.pid c.args.nice step.claim) c.requires refl part c.in-Some.failed
+    (c.in-Some.ensures c.args.nice)
+
+pub add-requires-clause-apart : goal.add-requires-clause-apart
+add-requires-clause-apart c =
+    let part = runqueue_view c.args.queue.now in
+    ap part.tasks c.claimed_task.ensures.pid ∙ is_apart part c.args.pid (c.in_default.ensures c.args.nice).0
+
+pub unreachable-requires : goal.unreachable-requires
+unreachable-requires c = birth_claimed c.args.pid c.args.step.now.claim (c.in_default.ensures c.args.nice).1.0 c.in-None.is
+
+pub returns-clause-tried : goal.returns-clause-tried
+returns-clause-tried c =
+    let part = runqueue_view c.args.queue.now in
+    let step = c.args.step.now in
+    let pid = c.args.pid in
+    let nice = c.args.nice in
+    let deed = Born pid nice in
+    let task = c.claimed_task in
+    passes c.args.knobs c.args.cpu part step deed step.claim (birth_tests c.args.knobs.debit part deed step.claim)
+    (birth_row c.args.knobs c.args.cpu part pid nice step.claim) c.requires refl _ None (c.in_default.ensures nice)
+    (c.in_ok-add-in-Some-claim.ensures.part ∙ ap (λ p. with_entity part p (Some (entity_of task.result))) task.ensures.pid
+    ∙ ap (λ (s : Entity). with_entity part pid (Some s)) task.ensures.entity
+    ∙ ap (after_deed part deed) (sym c.in-Some-claim.is))
+    refl

@@ -1,0 +1,24 @@
+use Rattle.std.proofs.Common.{◌≡◌, ◌∙◌, sym, ap, refl, Some, None, subst}
+use Rattle.replay_model.specs.Deeds.{after_deed}
+use Rattle.replay_model.specs.Part.{Entity, Part}
+use Rattle.replay_model.specs.declared.step.Deed.TheVariants.{Leave}
+use Rattle.queue_replay.specs.Queue.{runqueue_view}
+use Rattle.queue_replay.specs.Rows.{leave_tests}
+use Rattle.queue_replay.specs.Tasks.{entity_of}
+use Rattle.queue_replay.proofs.Passed.{unwoken}
+use Rattle.queue_replay.proofs.Rows.{leave_row, fails, passes}
+use Rattle.queue_replay.proofs.deeds.try_leave.Goals as goal
+
+pub remove-requires : goal.remove-requires
+remove-requires c i =
+    let part = runqueue_view c.args.queue.now in
+    (c.in_default.ensures part c.task_at-task.ensures).1.1.0 c.args.pid (i, refl)
+
+pub returns-clause-tried : goal.returns-clause-tried
+returns-clause-tried c knobs =
+    let part = runqueue_view c.args.queue.now in
+    let step = c.args.step.now in
+    let deed = Leave c.args.pid c.args.nice c.args.dest in
+    passes knobs c.args.cpu part step deed step.claim (leave_tests c.args.cpu part deed)
+    (leave_row knobs c.args.cpu part c.args.pid c.args.nice c.args.dest step.claim) c.requires refl _ _
+    (c.in_default.ensures part c.task_at-task.ensures) c.remove.ensures c.left_ticket-ticket.ensures

@@ -1,0 +1,52 @@
+use Rattle.std.proofs.Common.{◌≡◌, ◌∙◌, sym, ap, refl, Some, None, option_map}
+use Rattle.replay_model.specs.Deeds.{after_deed, part_after_next}
+use Rattle.replay_model.specs.Part.{Part}
+use Rattle.queue_replay.specs.Queue.{runqueue_view}
+use Rattle.queue_replay.specs.Rows.{switch_deed, switch_tests}
+use Rattle.queue_replay.specs.Tasks.{entity_of}
+use Rattle.queue_replay.proofs.Passed.{next_stays, picks_same, ran_prev}
+use Rattle.queue_replay.proofs.Rows.{switch_row, fails, passes}
+use Rattle.queue_replay.proofs.deeds.try_switch.Goals as goal
+
+pub returns-in-Some-clause-tried : goal.returns-in-Some-clause-tried
+returns-in-Some-clause-tried c cpu =
+    let part = runqueue_view c.args.queue.now in
+    let step = c.args.step.now in
+    let s = c.args.switch.now in
+    fails c.args.knobs cpu part step (switch_deed s) step.claim (switch_tests c.args.knobs part (switch_deed s) step.claim)
+    (switch_row c.args.knobs cpu part s.prev s.prev_nice s.way s.next s.next_nice step.claim) c.requires refl part c.in-Some.failed
+    (c.in-Some.ensures.first c.args.knobs)
+
+pub returns-in-Some-first_pick_test-clause-tried : goal.returns-in-Some-first_pick_test-clause-tried
+returns-in-Some-first_pick_test-clause-tried c cpu =
+    let part = runqueue_view c.args.queue.now in
+    let step = c.args.step.now in
+    let s = c.args.switch.now in
+    let runner = ran_prev part s.prev s.prev_nice s.way s.next s.next_nice (c.in_default.ensures.runner refl) in
+    let failed = c.in-Some-first_pick_test.failed in
+    fails c.args.knobs cpu part step (switch_deed s) step.claim (switch_tests c.args.knobs part (switch_deed s) step.claim)
+    (switch_row c.args.knobs cpu part s.prev s.prev_nice s.way s.next s.next_nice step.claim) c.requires refl part failed
+    (c.in_default.ensures.first c.args.knobs (Some failed)
+    (picks_same c.args.knobs part (runqueue_view c.put_prev.new.self) s.prev s.prev_nice s.way s.next s.next_nice (option_map entity_of c.switch_task-next.result)
+    (c.in_ok-put_prev.ensures.part s.prev runner) c.switch_task-next.ensures (Some failed) c.in-Some-first_pick_test.ensures))
+
+pub set_next-requires-clause-task : goal.set_next-requires-clause-task
+set_next-requires-clause-task c ne =
+    let part = runqueue_view c.args.queue.now in
+    let s = c.args.switch.now in
+    let runner = ran_prev part s.prev s.prev_nice s.way s.next s.next_nice (c.in_default.ensures.runner refl) in
+    c.switch_task-next.ensures ne ∙ sym (next_stays part s.prev s.way s.next (c.in_default.ensures.two refl))
+    ∙ sym (ap (λ (p : Part). p.tasks s.next) (c.in_ok-put_prev.ensures.part s.prev runner))
+
+pub returns-clause-tried : goal.returns-clause-tried
+returns-clause-tried c cpu =
+    let part = runqueue_view c.args.queue.now in
+    let step = c.args.step.now in
+    let s = c.args.switch.now in
+    let runner = ran_prev part s.prev s.prev_nice s.way s.next s.next_nice (c.in_default.ensures.runner refl) in
+    passes c.args.knobs cpu part step (switch_deed s) step.claim (switch_tests c.args.knobs part (switch_deed s) step.claim)
+    (switch_row c.args.knobs cpu part s.prev s.prev_nice s.way s.next s.next_nice step.claim) c.requires refl _ None
+    (c.in_default.ensures.first c.args.knobs None
+    (picks_same c.args.knobs part (runqueue_view c.put_prev.new.self) s.prev s.prev_nice s.way s.next s.next_nice (option_map entity_of c.switch_task-next.result)
+    (c.in_ok-put_prev.ensures.part s.prev runner) c.switch_task-next.ensures None c.in_default-first_pick_test.ensures))
+    (c.set_next.ensures ∙ ap (λ (p : Part). part_after_next p s.next) (c.in_ok-put_prev.ensures.part s.prev runner)) refl

@@ -1,0 +1,36 @@
+use Rattle.std.proofs.Common.{◌≡◌, ◌∙◌, sym, ap, refl, Some, None, subst}
+use Rattle.replay_model.specs.Deeds.{after_deed}
+use Rattle.replay_model.specs.Part.{Entity, Part}
+use Rattle.replay_model.specs.declared.step.Deed.TheVariants.{Wake}
+use Rattle.queue_replay.specs.Queue.{runqueue_view}
+use Rattle.queue_replay.specs.Rows.{wake_tests}
+use Rattle.queue_replay.specs.Tasks.{entity_of}
+use Rattle.queue_replay.proofs.Passed.{unwoken}
+use Rattle.queue_replay.proofs.Rows.{wake_row, fails, passes}
+use Rattle.queue_replay.proofs.deeds.try_wake.Goals as goal
+
+pub returns-in-Some-clause-tried : goal.returns-in-Some-clause-tried
+returns-in-Some-clause-tried c cpu =
+    let part = runqueue_view c.args.queue.now in
+    let step = c.args.step.now in
+    let deed = Wake c.args.pid c.args.nice in
+    fails c.args.knobs cpu part step deed step.claim (wake_tests c.args.knobs.credit part deed step.claim)
+    (wake_row c.args.knobs cpu part c.args.pid c.args.nice step.claim) c.requires refl part c.in-Some.failed c.in-Some.ensures
+
+pub returns-in_default-claim-clause-tried : goal.returns-in_default-claim-clause-tried
+returns-in_default-claim-clause-tried c cpu =
+    let part = runqueue_view c.args.queue.now in
+    let step = c.args.step.now in
+    let deed = Wake c.args.pid c.args.nice in
+    passes c.args.knobs cpu part step deed step.claim (wake_tests c.args.knobs.credit part deed step.claim)
+    (wake_row c.args.knobs cpu part c.args.pid c.args.nice step.claim) c.requires refl part None c.in_default.ensures
+    (sym (unwoken part c.args.pid) ∙ ap (after_deed part deed) (sym c.in_default-claim.is)) refl
+
+pub returns-clause-tried : goal.returns-clause-tried
+returns-clause-tried c cpu =
+    let part = runqueue_view c.args.queue.now in
+    let step = c.args.step.now in
+    let deed = Wake c.args.pid c.args.nice in
+    passes c.args.knobs cpu part step deed step.claim (wake_tests c.args.knobs.credit part deed step.claim)
+    (wake_row c.args.knobs cpu part c.args.pid c.args.nice step.claim) c.requires refl _ None c.in_default.ensures
+    (c.in_ok-wake.ensures.part ∙ ap (after_deed part deed) (sym c.in-Some-claim.is)) refl

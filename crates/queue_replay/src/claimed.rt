@@ -1,0 +1,66 @@
+ghost use Rattle.std.specs.Prelude.{◌≡◌, Some};
+ghost use Rattle.replay_model.specs.Deeds.{came_ticket, left_ticket, place_of_sort};
+ghost use Rattle.queue_replay.specs.Queue.{runqueue_view, IsTaskAt};
+ghost use Rattle.queue_replay.specs.Tasks.{entity_of};
+
+use crate::runqueue::Runqueue;
+use cfs_model::{Claim, ClaimSort, Nice, Place, Task};
+use replay_model::Ticket;
+
+/// A task at the claimed virtual runtime.
+pub(crate) fn claimed_task(place: Place, pid: u32, nice: Nice, cpu: u32, claim: Claim) -> Task
+    ensures pid { result.pid ≡ pid }
+    ensures entity { entity_of result ≡ record { place = place; nice = nice; runtime = claim.v } }
+{
+    Task {
+        pid,
+        nice,
+        cpu,
+        place,
+        v: claim.v,
+    }
+}
+
+/// The ticket of a task that leaves, if it stands here.
+pub(crate) fn left_ticket(
+    queue: &Runqueue,
+    line: u32,
+    pid: u32,
+    task: &Option<Task>,
+) -> Option<Ticket>
+    requires { IsTaskAt (runqueue_view queue.now) pid task.now }
+    ensures { result ≡ left_ticket (runqueue_view queue.now) line pid }
+{
+    let task = (*task)?;
+    Some(Ticket {
+        line,
+        pid,
+        nice: task.nice,
+        place: task.place,
+        offset: i128::from(task.v) - i128::from(queue.floor),
+    })
+}
+
+/// The ticket of a task that comes by this claim.
+pub(crate) fn came_ticket(queue: &Runqueue, line: u32, pid: u32, nice: Nice, claim: Claim) -> Ticket
+    ensures { Some result ≡ came_ticket (runqueue_view queue.now) line pid nice (Some claim) }
+{
+    Ticket {
+        line,
+        pid,
+        nice,
+        place: place_of(claim),
+        offset: i128::from(claim.v) - i128::from(queue.floor),
+    }
+}
+
+/// The place that a migration's claim tells.
+pub(crate) fn place_of(claim: Claim) -> Place
+    ensures { result ≡ place_of_sort claim.sort }
+{
+    let sort = claim.sort;
+    match sort {
+        ClaimSort::At => Place::Wait,
+        ClaimSort::Pass => Place::Rest,
+    }
+}

@@ -1,0 +1,187 @@
+ghost use Rattle.std.specs.Prelude.{◌≡◌, ℕ, IfOk, OnErr};
+ghost use Rattle.cfs_model.specs.Settings.{Settings};
+ghost use Rattle.replay_model.specs.declared.step.Deed.TheVariants.{Wake, Born, Leave, Arrive};
+ghost use Rattle.queue_replay.specs.Queue.{runqueue_view, HoldsSame};
+ghost use Rattle.queue_replay.specs.Rows.{IsTried, switch_deed};
+
+use crate::claimed::{came_ticket, claimed_task, left_ticket, place_of};
+use crate::context_switch::ContextSwitch;
+use crate::outcome::Outcome;
+use crate::runqueue::Runqueue;
+use crate::step_table::{
+    first_arrival_test, first_birth_test, first_leave_test, first_pick_test, first_switch_test,
+    first_wake_test,
+};
+use cfs_model::{Knobs, Memory, Nice, Place};
+use replay_model::{Deed, Step};
+
+// A move of a task between places: waiting, running, resting and none.
+macro_rules! moves {
+    ($queue:ident: runner leaves by $way:ident) => {
+        $queue.put_prev($way)?
+    };
+    ($queue:ident: $task:ident of $pid:ident runs) => {
+        $queue.set_next($pid, $task)
+    };
+    ($queue:ident: $task:ident of $pid:ident wakes at $claim:ident) => {
+        $queue.wake($pid, $task, $claim)?
+    };
+    ($queue:ident: $pid:ident is gone) => {
+        $queue.remove($pid)
+    };
+    ($queue:ident: $task:expr, comes) => {
+        $queue.add($task)?
+    };
+}
+
+/// A step's deed is tried on a runqueue that is charged and lifted: the moves that it makes, or the first test that it
+/// fails. Where memory is wanted nothing changes.
+pub(crate) fn try_deed(
+    queue: &mut Runqueue,
+    cpu: u32,
+    step: &Step,
+    knobs: Knobs,
+) -> Result<Outcome, Memory>
+    ensures tried { IfOk result (IsTried knobs cpu (runqueue_view queue.old) step.now (runqueue_view queue.new)) }
+    ensures same { OnErr result (HoldsSame queue.old queue.new) }
+{
+    let deed = step.deed;
+    match deed {
+        Deed::Switch {
+            prev,
+            prev_nice,
+            way,
+            next,
+            next_nice,
+        } => {
+            let switch = ContextSwitch {
+                prev,
+                prev_nice,
+                way,
+                next,
+                next_nice,
+            };
+            try_switch(queue, step, &switch, knobs)
+        }
+        Deed::Wake { pid, nice } => try_wake(queue, step, pid, nice, knobs),
+        Deed::Born { pid, nice } => try_birth(queue, cpu, step, pid, nice, knobs),
+        Deed::Leave { pid, nice, dest } => try_leave(queue, cpu, step, pid, nice, dest),
+        Deed::Arrive { pid, nice, .. } => try_arrival(queue, cpu, step, pid, nice),
+    }
+}
+
+fn try_switch(
+    queue: &mut Runqueue,
+    step: &Step,
+    switch: &ContextSwitch,
+    knobs: Knobs,
+) -> Result<Outcome, Memory>
+    requires { step.now.deed ≡ switch_deed switch.now }
+    ensures tried { (cpu : ℕ) → IfOk result (IsTried knobs cpu (runqueue_view queue.old) step.now (runqueue_view queue.new)) }
+    ensures same { OnErr result (HoldsSame queue.old queue.new) }
+{
+    let prev = queue.switch_task(switch.prev);
+    let pid = switch.next;
+    let next = queue.switch_task(pid);
+    let way = switch.way;
+    if let Some(failed) = first_switch_test(queue, switch, &prev, &next, step.claim) {
+        return Ok(Outcome::Failed(failed));
+    }
+    moves!(queue: runner leaves by way);
+    if let Some(failed) = first_pick_test(queue, pid, &next, knobs) {
+        return Ok(Outcome::Failed(failed));
+    }
+    moves!(queue: next of pid runs);
+    Ok(Outcome::Made(None))
+}
+
+fn try_wake(
+    queue: &mut Runqueue,
+    step: &Step,
+    pid: u32,
+    nice: Nice,
+    knobs: Knobs,
+) -> Result<Outcome, Memory>
+    requires { step.now.deed ≡ Wake pid nice }
+    ensures tried { (cpu : ℕ) → IfOk result (IsTried knobs cpu (runqueue_view queue.old) step.now (runqueue_view queue.new)) }
+    ensures same { OnErr result (HoldsSame queue.old queue.new) }
+{
+    let task = queue.task_at(pid);
+    if let Some(failed) = first_wake_test(queue, pid, nice, &task, step.claim, knobs) {
+        return Ok(Outcome::Failed(failed));
+    }
+    let Some(claim) = step.claim else {
+        return Ok(Outcome::Made(None));
+    };
+    moves!(queue: task of pid wakes at claim);
+    Ok(Outcome::Made(None))
+}
+
+fn try_birth(
+    queue: &mut Runqueue,
+    cpu: u32,
+    step: &Step,
+    pid: u32,
+    nice: Nice,
+    knobs: Knobs,
+) -> Result<Outcome, Memory>
+    requires { step.now.deed ≡ Born pid nice }
+    ensures tried { IfOk result (IsTried knobs cpu (runqueue_view queue.old) step.now (runqueue_view queue.new)) }
+    ensures same { OnErr result (HoldsSame queue.old queue.new) }
+{
+    let task = queue.task_at(pid);
+    if let Some(failed) = first_birth_test(queue, pid, &task, step.claim, knobs) {
+        return Ok(Outcome::Failed(failed));
+    }
+    match step.claim {
+        Some(claim) => moves!(queue: claimed_task(Place::Wait, pid, nice, cpu, claim), comes),
+        None => unreachable!(),
+    }
+    Ok(Outcome::Made(None))
+}
+
+fn try_leave(
+    queue: &mut Runqueue,
+    cpu: u32,
+    step: &Step,
+    pid: u32,
+    nice: Nice,
+    dest: u32,
+) -> Result<Outcome, Memory>
+    requires { step.now.deed ≡ Leave pid nice dest }
+    ensures tried { (knobs : Settings) → IfOk result (IsTried knobs cpu (runqueue_view queue.old) step.now (runqueue_view queue.new)) }
+    ensures same { OnErr result (HoldsSame queue.old queue.new) }
+{
+    let task = queue.task_at(pid);
+    if let Some(failed) = first_leave_test(cpu, pid, nice, dest, &task) {
+        return Ok(Outcome::Failed(failed));
+    }
+    let ticket = left_ticket(queue, step.line, pid, &task);
+    moves!(queue: pid is gone);
+    Ok(Outcome::Made(ticket))
+}
+
+fn try_arrival(
+    queue: &mut Runqueue,
+    cpu: u32,
+    step: &Step,
+    pid: u32,
+    nice: Nice,
+) -> Result<Outcome, Memory>
+    requires { (orig : ℕ) × (step.now.deed ≡ Arrive pid nice orig) }
+    ensures tried { (knobs : Settings) → IfOk result (IsTried knobs cpu (runqueue_view queue.old) step.now (runqueue_view queue.new)) }
+    ensures same { OnErr result (HoldsSame queue.old queue.new) }
+{
+    let task = queue.task_at(pid);
+    if let Some(failed) = first_arrival_test(pid, &task, step.claim) {
+        return Ok(Outcome::Failed(failed));
+    }
+    match step.claim {
+        Some(claim) => {
+            let ticket = came_ticket(queue, step.line, pid, nice, claim);
+            moves!(queue: claimed_task(place_of(claim), pid, nice, cpu, claim), comes);
+            Ok(Outcome::Made(Some(ticket)))
+        }
+        None => unreachable!(),
+    }
+}

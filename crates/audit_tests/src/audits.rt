@@ -1,6 +1,6 @@
 //! What no clause says: the words of faults, reports as they are printed, and ends that fail.
 
-use crate::ends::{Broken, Narrow, Pieces};
+use crate::ends::{Broken, Drip, Narrow, Pieces};
 use cfs_model::{Kind, Knobs};
 use queue_replay::Tallies;
 use replay_model::Tally;
@@ -10,7 +10,9 @@ use sched_audit::{
 };
 use std::alloc::{AllocError, Global};
 use std::io::ErrorKind;
+use std::sync::Wait;
 use std::test::Fail;
+use std::thread::Threads;
 
 /// One processor: task 101 runs for 4 ms and is put back, and task 102 runs next.
 const TRACE: &[u8] =
@@ -332,6 +334,83 @@ fn a_failed_write_leaves_a_front_of_the_report(rt: HostRuntime) -> Result<(), Fa
         }
     }
     Ok(())
+}
+
+#[test]
+fn a_read_that_fails_once_is_the_last(rt: HostRuntime) {
+    for call in [1, 2, 100] {
+        let mut trace = Pieces::new(TRACE, 1, call);
+        let mut companion = Pieces::new(COMPANION, 1, 0);
+        let mut out = Narrow::new(rt.alloc(), usize::MAX, false);
+        let status = run(
+            &rt,
+            rt.alloc(),
+            &mut trace,
+            &mut companion,
+            Knobs::standard(),
+            &OpenGate,
+            &mut out,
+        );
+        assert_eq!(rt; status, Err(Fault::ReadTrace));
+        assert_eq!(rt; (trace.calls, companion.calls), (call, 0));
+        assert!(rt; out.taken.is_empty());
+
+        let mut companion = Pieces::new(COMPANION, 1, call);
+        let status = run(
+            &rt,
+            rt.alloc(),
+            &mut FeedOf::new(TRACE),
+            &mut companion,
+            Knobs::standard(),
+            &OpenGate,
+            &mut out,
+        );
+        assert_eq!(rt; status, Err(Fault::ReadCompanion));
+        assert_eq!(rt; companion.calls, call);
+        assert!(rt; out.taken.is_empty());
+    }
+}
+
+/// What a run of the one switch answers that is written byte by byte, with a failure at this call.
+fn dripped<R: Threads + Wait + Sync>(
+    rt: &R,
+    alloc: Global,
+    fails_at: u64,
+) -> (Result<Status, Fault>, Drip) {
+    let mut out = Drip::new(alloc, fails_at);
+    let status = run(
+        rt,
+        alloc,
+        &mut FeedOf::new(TRACE),
+        &mut FeedOf::new(COMPANION),
+        Knobs::standard(),
+        &OpenGate,
+        &mut out,
+    );
+    (status, out)
+}
+
+#[test]
+fn a_report_may_be_taken_byte_by_byte(rt: HostRuntime) {
+    let (status, out) = dripped(&rt, rt.alloc(), 0);
+    assert_eq!(rt; status, Ok(Status::Yes));
+    assert_eq!(rt;
+        (out.taken.as_slice(), out.calls),
+        (REPORT, REPORT.len() as u64)
+    );
+}
+
+#[test]
+fn a_write_that_fails_once_is_the_last(rt: HostRuntime) {
+    for written in [0, 1, 3, REPORT.len() - 1] {
+        let call = written as u64 + 1;
+        let (status, out) = dripped(&rt, rt.alloc(), call);
+        assert_eq!(rt; status, Err(Fault::Write));
+        assert_eq!(rt;
+            (out.taken.as_slice(), out.calls),
+            (&REPORT[..written], call)
+        );
+    }
 }
 
 #[test]

@@ -6,13 +6,13 @@ use std::alloc::Global;
 use std::io;
 use std::io::{ErrorKind, Read, Write};
 
-/// Gives its bytes in pieces of at most this many, and fails at this call, from 1 (0 for none).
+/// Gives its bytes in pieces of at most this many, and fails at this call alone, from 1 (0 for none).
 #[derive(Drop)]
 pub struct Pieces<'a> {
     bytes: &'a [u8],
     piece: usize,
     fails_at: u64,
-    calls: u64,
+    pub calls: u64,
     has_failed: bool,
     has_ended: bool,
     ghost some: { 0 < piece },
@@ -103,6 +103,44 @@ impl Sink for Narrow {
         self.room -= count;
         if count == 0 && !buf.is_empty() {
             self.has_failed = true;
+        }
+        Ok(count)
+    }
+}
+
+/// Takes one byte a call, and fails at this call alone, from 1 (0 for none).
+#[derive(Drop)]
+pub struct Drip {
+    pub taken: Vec<u8>,
+    fails_at: u64,
+    pub calls: u64,
+    has_failed: bool,
+}
+
+impl Drip {
+    pub fn new(alloc: Global, fails_at: u64) -> Drip
+        ensures { ⟦<Drip as Sink>⟧.has_failed result ≡ false }
+    {
+        Drip {
+            taken: Vec::new(alloc),
+            fails_at,
+            calls: 0,
+            has_failed: false,
+        }
+    }
+}
+
+impl Sink for Drip {
+    ghost taken = { λ drip. Some drip.taken.items };
+
+    ghost has_failed = { λ drip. drip.has_failed };
+
+    fn write(&mut self, buf: &[u8]) -> Result<usize, Failed> {
+        self.calls = self.calls.saturating_add(1);
+        let count = buf.len().min(1);
+        if self.calls == self.fails_at || self.taken.extend_from_slice(&buf[..count]).is_err() {
+            self.has_failed = true;
+            return Err(Failed);
         }
         Ok(count)
     }

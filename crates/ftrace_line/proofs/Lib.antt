@@ -5,3 +5,5 @@ pub mod Losses
 pub mod Marks
 pub mod OneReading
 pub mod Answered
+pub mod Beginnings
+pub mod Settling

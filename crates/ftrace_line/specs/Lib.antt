@@ -1,3 +1,5 @@
 pub mod Head
 pub mod Line
+pub mod Front
 pub mod Meaning
+pub mod Behind

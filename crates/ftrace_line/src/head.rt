@@ -36,7 +36,7 @@ pub(crate) fn head_at(line: &[u8]) -> Option<HeadParts<'_>>
 /// What follows the space, the fifteen columns of the name, and the `-` behind them.
 #[inline(always)]
 #[tactic(auto, unfolding(crate::specs::Meaning::after_name))]
-fn after_name(line: &[u8]) -> Option<&[u8]>
+pub(crate) fn after_name(line: &[u8]) -> Option<&[u8]>
     ensures { Gives (λ x. x.now) result (after_name line.now) }
 {
     if line.len() > 16 && line[0] == b' ' && line[16] == b'-' {
@@ -72,7 +72,7 @@ fn after_brackets(text: &[u8]) -> Option<&[u8]>
 /// What follows one or more bytes of a thread group.
 #[inline(always)]
 #[tactic(auto, unfolding(text_parts::specs::Reading::after_run))]
-fn beyond_group(text: &[u8]) -> Option<&[u8]>
+pub(crate) fn beyond_group(text: &[u8]) -> Option<&[u8]>
     ensures { Gives (λ x. x.now) result (after_run is_group_byte text.now) }
 {
     beyond(text, group_width(text))
@@ -139,7 +139,7 @@ fn flagged_stamp_at(text: &[u8]) -> Option<(Time, &[u8])>
 /// What follows one or more bytes of a word of flags.
 #[inline(always)]
 #[tactic(auto, unfolding(text_parts::specs::Reading::after_run))]
-fn beyond_flags(text: &[u8]) -> Option<&[u8]>
+pub(crate) fn beyond_flags(text: &[u8]) -> Option<&[u8]>
     ensures { Gives (λ x. x.now) result (after_run is_flag text.now) }
 {
     beyond(text, flags_width(text))

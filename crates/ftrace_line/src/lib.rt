@@ -4,8 +4,11 @@
 mod fault;
 mod head;
 mod kinds;
+mod past;
 mod reading;
+mod settled;
 
 pub use fault::LineFault;
 pub use kinds::{Line, Sched, Which};
 pub use reading::{one_reading, read_line};
+pub use settled::is_settled;

@@ -14,6 +14,7 @@ pub mod Reader
 pub mod Rising
 pub mod Seeking
 pub mod Same
+pub mod Settled
 pub mod Splits
 pub mod Telling
 pub mod Walk

@@ -40,6 +40,8 @@ impl TraceReader {
     ghost use Rattle.std.specs.Prelude.{ℕ, ◌∷◌, ◌++◌, [], List, IfOk, OnOk, OnErr, IsErrOf};
     ghost use Rattle.std.specs.Bool.{OnTrue};
     ghost use Rattle.text_parts.specs.Lines.{lines_of};
+    ghost use Rattle.ftrace_line.specs.Front.{IsSettled};
+    ghost use Rattle.sched_record.specs.declared.trace_reader.TraceReader.{TraceReader as Reader};
     ghost use Rattle.sched_record.specs.Reader.{HasRead, HasReadFront, TakesOn};
     ghost use Rattle.sched_record.specs.Trace.{LinesAnswer, Tells};
 
@@ -129,6 +131,11 @@ impl TraceReader {
             bad: None,
         })
     }
+
+    /// A law: a reader that has read a settled line last has read that line with anything behind it.
+    pub fn settled_line()
+        ensures { (reader : Reader) (lines : List (List ℕ)) (front more : List ℕ) → IsSettled front → HasRead reader (lines ++ front ∷ []) → HasRead reader (lines ++ (front ++ more) ∷ []) }
+    {}
 
     /// The trace of the lines that were read, or the first bad one. It takes no memory.
     pub fn finish(self) -> Result<Trace, TraceFault>

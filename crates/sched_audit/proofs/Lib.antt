@@ -1,3 +1,4 @@
 mod Counting
+mod Holding
 mod Outcomes
 mod Passing

@@ -1,17 +1,34 @@
-ghost use Rattle.std.specs.Prelude.{◌≡◌, ◌+◌, ◌≤◌, ◌⊎◌, true, false, IfOk, IfErr, OnOk, take, vec_len};
+ghost use Rattle.std.specs.Prelude.{◌≡◌, ◌+◌, ◌-◌, ◌<◌, ◌≤◌, ◌⊎◌, ◌++◌, ℕ, List, true, false, IfOk, IfErr, OnOk, take, drop, length, vec_len};
+ghost use Rattle.std.specs.Bool.{OnTrue};
+ghost use Rattle.std.specs.List.{list_any};
 ghost use Rattle.std.specs.Io.KnownBytes.{IsAtEnd};
+ghost use Rattle.text_parts.specs.Lines.{is_line_feed, lines_of};
+ghost use Rattle.ftrace_line.specs.Front.{IsSettled};
+ghost use Rattle.sched_record.specs.Reader.{HasRead};
 ghost use Rattle.sched_audit.specs.Known.{IsCutShort, most_reads};
-ghost use Rattle.sched_audit.specs.Run.{IsReadFrom, PassesWhole};
+ghost use Rattle.sched_audit.specs.Run.{IsHeld, IsReadFrom, PassesOn, PassesWhole};
 
 use crate::reading::{MOST_READS, read_chunk};
 use crate::{Fault, Feed};
 use cfs_model::Memory;
+use ftrace_line::is_settled;
 use sched_record::TraceReader;
 use std::alloc::Global;
-use text_parts::lines::{lines_after_whole, whole_lines};
+use text_parts::lines::{lines_after_whole, next_line, whole_lines};
 
-/// Reads the lines that an input still gives, as they come: only the beginning of a line is held over from read to read.
-/// Where a read fails, or the most reads don't reach the end, `ReadTrace`.
+/// What is held of a line whose end hasn't come yet: so many bytes at the front of a buffer.
+#[derive(Clone, Copy)]
+struct Held {
+    length: usize,
+    /// How many were held when it was last asked whether they settle what the line says.
+    asked: usize,
+    /// Whether they do. What then comes of the line isn't held.
+    settled: bool,
+}
+
+/// Reads the lines that an input still gives, as they come: only the beginning of a line is held over from read to read,
+/// and no more of it once it is settled what the line says. Where a read fails, or the most reads don't reach the end,
+/// `ReadTrace`.
 pub(crate) fn read_lines<F: Feed>(alloc: Global, feed: &mut F) -> Result<TraceReader, Fault>
     requires { F.calls feed.old ≡ 0 }
     ensures all { IfOk result (λ reader. IsReadFrom reader (F.left feed.old)) }
@@ -23,18 +40,114 @@ pub(crate) fn read_lines<F: Feed>(alloc: Global, feed: &mut F) -> Result<TraceRe
     ensures bounded { F.calls feed.new ≤ most_reads }
 {
     lines_after_whole();
+    TraceReader::settled_line();
     let mut reader = TraceReader::new(alloc);
     let mut bytes = Vec::new(alloc);
-    let mut filled = 0;
+    let mut held = Held {
+        length: 0,
+        asked: 0,
+        settled: false,
+    };
     for _ in 0..MOST_READS {
-        let count = read_chunk(feed, &mut bytes, filled, Fault::ReadTrace)?;
+        let count = read_chunk(feed, &mut bytes, held.length, Fault::ReadTrace)?;
         if count == 0 {
-            reader.read(&bytes[..filled])?;
+            reader.read(&bytes[..held.length])?;
             return Ok(reader);
         }
-        filled = read_whole(&mut reader, &mut bytes, filled, count)?;
+        held = read_on(&mut reader, &mut bytes, held, count)?;
     }
     Err(Fault::ReadTrace)
+}
+
+/// Reads on where a line is held, by so many new bytes behind it.
+fn read_on(
+    reader: &mut TraceReader,
+    bytes: &mut Vec<u8>,
+    held: Held,
+    count: usize,
+) -> Result<Held, Memory>
+    requires { held.length + count ≤ vec_len bytes.old }
+    ensures length { vec_len bytes.new ≡ vec_len bytes.old }
+    ensures passed { IfOk result (λ next. (line : List ℕ) → IsHeld bytes.old.items held line
+        → PassesOn reader.old reader.new (line ++ take count (drop held.length bytes.old.items)) bytes.new.items next) }
+    ensures within { IfOk result (λ next. next.length ≤ held.length + count) }
+    // Of a settled line nothing more is held.
+    ensures let_go { IfOk result (λ next. held.settled ≡ true → (next.length ≡ held.length) ⊎ (next.length < count)) }
+{
+    lines_after_whole();
+    TraceReader::settled_line();
+    if !held.settled {
+        return read_open(reader, bytes, held.length, count, held.asked);
+    }
+    let width = next_line(&bytes[held.length..held.length + count]).0.len();
+    if width == count {
+        return Ok(held);
+    }
+    let end = width + 1;
+    end_settled(reader, bytes, held.length, end, count)?;
+    read_open(reader, bytes, 0, count - end, 0)
+}
+
+/// Reads a settled line of which so many bytes are held, now that it ends with so many of the new bytes, and moves those
+/// that follow to the front.
+fn end_settled(
+    reader: &mut TraceReader,
+    bytes: &mut Vec<u8>,
+    held: usize,
+    end: usize,
+    count: usize,
+) -> Result<(), Memory>
+    requires fits { held + count ≤ vec_len bytes.old }
+    requires within { end ≤ count }
+    ensures length { vec_len bytes.new ≡ vec_len bytes.old }
+    ensures read { OnOk result ((lines : List (List ℕ)) → HasRead reader.old lines → HasRead reader.new (lines ++ lines_of (take held bytes.old.items))) }
+    ensures moved { OnOk result (take (count - end) bytes.new.items ≡ take (count - end) (drop (held + end) bytes.old.items)) }
+{
+    reader.read(&bytes[..held])?;
+    bytes.copy_within(held + end..held + count, 0);
+    Ok(())
+}
+
+/// Reads the whole lines of so many bytes and of so many new ones behind them, and holds the beginning of a line behind
+/// those.
+fn read_open(
+    reader: &mut TraceReader,
+    bytes: &mut Vec<u8>,
+    filled: usize,
+    count: usize,
+    asked: usize,
+) -> Result<Held, Memory>
+    requires { filled + count ≤ vec_len bytes.old }
+    ensures length { vec_len bytes.new ≡ vec_len bytes.old }
+    ensures passed { IfOk result (λ next. list_any is_line_feed (take filled bytes.old.items) ≡ false
+        → PassesOn reader.old reader.new (take (filled + count) bytes.old.items) bytes.new.items next) }
+    ensures within { IfOk result (λ next. next.length ≤ filled + count) }
+{
+    let left = read_whole(reader, bytes, filled, count)?;
+    let asked = if left < filled + count { 0 } else { asked };
+    Ok(held_of(&bytes[..left], asked))
+}
+
+/// The beginning of a line. Whether it settles the line is asked when it is twice as long as when that was last asked, so
+/// that a long line isn't gone over for each read.
+fn held_of(line: &[u8], asked: usize) -> Held
+    ensures length { result.length ≡ length line.now }
+    ensures settled { OnTrue result.settled (IsSettled line.now) }
+{
+    let length = line.len();
+    if length / 2 < asked {
+        Held {
+            length,
+            asked,
+            settled: false,
+        }
+    } else {
+        Held {
+            length,
+            asked: length,
+            settled: is_settled(line),
+        }
+    }
 }
 
 /// Reads the whole lines of what is filled, of which the last so many bytes are new, moves the beginning of a line behind
@@ -48,6 +161,7 @@ fn read_whole(
     requires { filled + count ≤ vec_len bytes.old }
     ensures length { vec_len bytes.new ≡ vec_len bytes.old }
     ensures passed { IfOk result (λ left. PassesWhole reader.old reader.new (take (filled + count) bytes.old.items) (take left bytes.new.items)) }
+    ensures one { IfOk result (λ left. list_any is_line_feed (take filled bytes.old.items) ≡ false → list_any is_line_feed (take left bytes.new.items) ≡ false) }
     ensures within { IfOk result (λ left. left ≤ filled + count) }
 {
     let end = filled + count;

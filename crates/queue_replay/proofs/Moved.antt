@@ -1,5 +1,5 @@
 -- What a move of one task makes of the runqueue, and of the part that it stands for.
-use Rattle.std.proofs.Common.{◌≡◌, ◌≢◌, ℕ, zero, suc, true, false, IsSome, List, Option, Some, None, is_some, option_map, ℤ, pos, inl, inr, refl, sym, ap, ◌∙◌, subst}
+use Rattle.std.proofs.Common.{◌≡◌, ◌≢◌, ℕ, zero, suc, true, false, IsSome, List, Option, Some, None, option_map, ℤ, pos, inl, inr, refl, sym, ap, ◌∙◌, subst}
 use Rattle.std.specs.BTreeMap.{BTreeMap, get, is_at, Updates}
 use Rattle.std.specs.BTreeSet as set
 use Rattle.std.specs.BTreeSet.{BTreeSet, contains}

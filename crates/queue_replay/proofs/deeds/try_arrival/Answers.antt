@@ -1,6 +1,6 @@
-use Rattle.std.proofs.Common.{◌≡◌, ◌∙◌, sym, ap, refl, Some, None, subst}
-use Rattle.replay_model.specs.Deeds.{after_deed, came_ticket, place_of_sort, with_entity}
-use Rattle.replay_model.specs.Part.{Entity, Part}
+use Rattle.std.proofs.Common.{◌∙◌, sym, ap, refl, Some}
+use Rattle.replay_model.specs.Deeds.{after_deed, came_ticket, with_entity}
+use Rattle.replay_model.specs.Part.{Entity}
 use Rattle.replay_model.specs.declared.step.Deed.TheVariants.{Arrive}
 use Rattle.queue_replay.specs.Queue.{runqueue_view}
 use Rattle.queue_replay.specs.Rows.{arrival_tests}

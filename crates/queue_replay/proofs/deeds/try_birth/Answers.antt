@@ -1,6 +1,6 @@
-use Rattle.std.proofs.Common.{◌≡◌, ◌∙◌, sym, ap, refl, Some, None, subst}
+use Rattle.std.proofs.Common.{◌∙◌, sym, ap, refl, Some, None}
 use Rattle.replay_model.specs.Deeds.{after_deed, with_entity}
-use Rattle.replay_model.specs.Part.{Entity, Part}
+use Rattle.replay_model.specs.Part.{Entity}
 use Rattle.replay_model.specs.declared.step.Deed.TheVariants.{Born}
 use Rattle.queue_replay.specs.Queue.{runqueue_view}
 use Rattle.queue_replay.specs.Rows.{birth_tests}

@@ -1,12 +1,8 @@
-use Rattle.std.proofs.Common.{◌≡◌, ◌∙◌, sym, ap, refl, Some, None, subst}
-use Rattle.replay_model.specs.Deeds.{after_deed}
-use Rattle.replay_model.specs.Part.{Entity, Part}
+use Rattle.std.proofs.Common.{refl}
 use Rattle.replay_model.specs.declared.step.Deed.TheVariants.{Leave}
 use Rattle.queue_replay.specs.Queue.{runqueue_view}
 use Rattle.queue_replay.specs.Rows.{leave_tests}
-use Rattle.queue_replay.specs.Tasks.{entity_of}
-use Rattle.queue_replay.proofs.Passed.{unwoken}
-use Rattle.queue_replay.proofs.Rows.{leave_row, fails, passes}
+use Rattle.queue_replay.proofs.Rows.{leave_row, passes}
 use Rattle.queue_replay.proofs.deeds.try_leave.Goals as goal
 
 pub remove-requires : goal.remove-requires

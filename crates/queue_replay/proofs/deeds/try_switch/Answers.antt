@@ -1,5 +1,5 @@
-use Rattle.std.proofs.Common.{◌≡◌, ◌∙◌, sym, ap, refl, Some, None, option_map}
-use Rattle.replay_model.specs.Deeds.{after_deed, part_after_next}
+use Rattle.std.proofs.Common.{◌∙◌, sym, ap, refl, Some, None, option_map}
+use Rattle.replay_model.specs.Deeds.{part_after_next}
 use Rattle.replay_model.specs.Part.{Part}
 use Rattle.queue_replay.specs.Queue.{runqueue_view}
 use Rattle.queue_replay.specs.Rows.{switch_deed, switch_tests}

@@ -1,10 +1,8 @@
-use Rattle.std.proofs.Common.{◌≡◌, ◌∙◌, sym, ap, refl, Some, None, subst}
+use Rattle.std.proofs.Common.{◌∙◌, sym, ap, refl, None}
 use Rattle.replay_model.specs.Deeds.{after_deed}
-use Rattle.replay_model.specs.Part.{Entity, Part}
 use Rattle.replay_model.specs.declared.step.Deed.TheVariants.{Wake}
 use Rattle.queue_replay.specs.Queue.{runqueue_view}
 use Rattle.queue_replay.specs.Rows.{wake_tests}
-use Rattle.queue_replay.specs.Tasks.{entity_of}
 use Rattle.queue_replay.proofs.Passed.{unwoken}
 use Rattle.queue_replay.proofs.Rows.{wake_row, fails, passes}
 use Rattle.queue_replay.proofs.deeds.try_wake.Goals as goal

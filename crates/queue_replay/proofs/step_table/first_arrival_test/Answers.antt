@@ -1,4 +1,4 @@
-use Rattle.std.proofs.Common.{◌≡◌, ℕ, Option, None, Some, inl, inr, refl, subst}
+use Rattle.std.proofs.Common.{inl, inr, refl}
 use Rattle.queue_replay.proofs.step_table.first_arrival_test.Goals as goal
 
 pub returns-in-Some : goal.returns-in-Some

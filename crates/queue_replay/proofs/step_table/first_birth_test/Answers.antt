@@ -1,4 +1,4 @@
-use Rattle.std.proofs.Common.{◌≡◌, ℕ, Option, None, Some, inl, inr, refl, subst}
+use Rattle.std.proofs.Common.{ℕ, inl, inr, refl, subst}
 use Rattle.replay_model.specs.ClaimTests.{IsForkOutside}
 use Rattle.replay_model.specs.declared.step.Deed.TheVariants.{Born}
 use Rattle.queue_replay.specs.Queue.{runqueue_view}

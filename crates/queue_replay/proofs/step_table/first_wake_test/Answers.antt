@@ -1,4 +1,4 @@
-use Rattle.std.proofs.Common.{◌≡◌, ℕ, Option, None, Some, inl, inr, refl, subst}
+use Rattle.std.proofs.Common.{ℕ, Option, inl, inr, refl, subst}
 use Rattle.replay_model.specs.ClaimTests.{IsWakeOutside}
 use Rattle.replay_model.specs.declared.step.Deed.TheVariants.{Wake}
 use Rattle.queue_replay.specs.Queue.{runqueue_view}

@@ -1,4 +1,4 @@
-use Rattle.std.proofs.Common.{◌∙◌, ◌+◌, ◌-◌, List, All, Option, Some, None, sym, ap, subst, inr, refl}
+use Rattle.std.proofs.Common.{◌∙◌, ◌+◌, ◌-◌, List, All, Option, sym, ap, subst, inr, refl}
 use Rattle.std.specs.BTreeMap.{get}
 use Rattle.std.specs.BTreeSet.{contains}
 use Rattle.std.specs.Ordering.{nat_cmp}

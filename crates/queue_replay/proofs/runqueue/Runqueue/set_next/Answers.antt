@@ -3,7 +3,7 @@ use Rattle.std.specs.BTreeSet as set
 use Rattle.cfs_model.specs.declared.task.Place.TheVariants.{Run}
 use Rattle.cfs_model.specs.declared.task.Task.{Task}
 use Rattle.replay_model.specs.Deeds.{part_after_next}
-use Rattle.replay_model.specs.Part.{Entity, Part}
+use Rattle.replay_model.specs.Part.{Part}
 use Rattle.queue_replay.specs.Standing.{by_runtime, standing, waiting_task}
 use Rattle.queue_replay.specs.Tasks.{entity_of}
 use Rattle.queue_replay.proofs.Moved.{kept_runner, next_part, next_queue, no_next}

@@ -1,4 +1,4 @@
-ghost use Rattle.std.specs.Prelude.{◌≡◌, ◌≢◌, ℕ, ◌-◌, ◌^◌, ◌<◌, ◌≤◌, true, false, None, Some, IfOk, OnOk, [], map, get_or, length, All};
+ghost use Rattle.std.specs.Prelude.{◌≡◌, ◌≢◌, ℕ, ◌-◌, ◌^◌, ◌<◌, ◌≤◌, true, false, None, Some, IfOk, OnOk, OnErr, [], map, get_or, length, All};
 ghost use Rattle.cfs_model.specs.Charge.{greatest};
 ghost use Rattle.replay_model.specs.Noted.{new_tally, with_tally};
 ghost use Rattle.replay_model.specs.declared.page.Tally.{Tally as TallyOf};
@@ -51,7 +51,8 @@ impl TallyBook {
 
     /// Lets the pid have a tally, unless a growth is refused: one that has a tally keeps it.
     pub fn name(&mut self, pid: u32) -> Result<(), Memory>
-        ensures { OnOk result (self.new.list.items ≡ with_tally pid self.old.list.items) }
+        ensures named { OnOk result (self.new.list.items ≡ with_tally pid self.old.list.items) }
+        ensures same { OnErr result (self.new.list.items ≡ self.old.list.items) }
     {
         self.make_room(pid)?;
         self.add(pid);

@@ -1,6 +1,6 @@
 -- Small recordings against the definitions of a step and of a run (this project's profile), each both ways: the value
 -- at which there is a step, and that there is none at any other.
-use Rattle.std.specs.Prelude.{◌≡◌, ℕ, ◌≤◌, ℤ, pos, ◌≤ℤ◌, ◌↔◌, Some, List, [], ◌∷◌}
+use Rattle.std.specs.Prelude.{◌≡◌, ℕ, ◌≤◌, ℤ, pos, ◌≤ℤ◌, ◌↔◌, Some, None, List, [], ◌∷◌}
 use Rattle.cfs_model.specs.Settings.{Settings}
 use Rattle.cfs_model.specs.Machine.{Machine}
 use Rattle.cfs_model.specs.Start.{start_machine}
@@ -45,6 +45,7 @@ abbrev pub switch_event : ℤ → ℤ → Claimed
 switch_event nice w = record {
   entry = record { line = 1; time = 100004000000; act = Switch 0 101 nice Stays 102 (pos 0) };
   claim = Some (at_claim 1 101 w);
+  nice = None;
 }
 
 -- 101 was charged 4 ms, and is put back at just that
@@ -72,6 +73,7 @@ abbrev pub migration_event : ℕ → ℤ → Claimed
 migration_event time w = record {
   entry = record { line = 1; time = time; act = Shift 0 1 101 (pos 0) };
   claim = Some (at_claim 1 101 w);
+  nice = None;
 }
 
 -- at once: 5, less the first floor, and above the second
@@ -92,6 +94,7 @@ abbrev pub wake_event : ℤ → Claimed
 wake_event w = record {
   entry = record { line = 1; time = start_time; act = Wake 0 101 (pos 0) };
   claim = Some (at_claim 1 101 w);
+  nice = None;
 }
 
 -- from 3 ms below the floor to the floor
@@ -105,7 +108,7 @@ idle_start = start_machine start_time (pos 0 ∷ []) (
 
 -- 102 is woken 1 ms after the start and placed at 0, woken again 0.05 ms later, and picked at the time given
 abbrev pub idle_events : ℕ → List Claimed
-idle_events time = claimed (at_claim 1 102 (pos 0) ∷ []) (
+idle_events time = claimed (at_claim 1 102 (pos 0) ∷ []) [] (
     record { line = 1; time = 100001000000; act = Wake 0 102 (pos 0) }
     ∷ record { line = 2; time = 100001050000; act = Wake 0 102 (pos 0) }
     ∷ record { line = 3; time = time; act = Switch 0 0 (pos 0) Stays 102 (pos 0) } ∷ [])
@@ -122,7 +125,7 @@ birth_start = start_machine start_time (pos 0 ∷ pos 0 ∷ []) (
 
 -- 101 leaves the first in a way, and 1 ms later a task of that pid is born at the second; the claim places it at w
 abbrev pub birth_events : Way → ℤ → List Claimed
-birth_events way w = claimed (at_claim 2 101 w ∷ []) (
+birth_events way w = claimed (at_claim 2 101 w ∷ []) [] (
     record { line = 1; time = 100001000000; act = Switch 0 101 (pos 0) way 0 (pos 0) }
     ∷ record { line = 2; time = 100002000000; act = Born 1 101 (pos 0) } ∷ [])
 
@@ -136,6 +139,7 @@ abbrev pub idle_switch : ℤ → Claimed
 idle_switch w = record {
   entry = record { line = 1; time = 100001000000; act = Switch 0 101 (pos 0) Stays 0 (pos 0) };
   claim = Some (at_claim 1 101 w);
+  nice = None;
 }
 
 -- a processor doesn't go idle beside the task that was just put back

@@ -9,6 +9,7 @@ pub mod Start
 pub mod Claimed
 pub mod Touch
 pub mod Lifted
+pub mod Reniced
 pub mod Step
 pub mod Idle
 pub mod Run

@@ -1,4 +1,5 @@
--- One event's step from a machine to the next. The values spoken of are those after the charge and the lift. Source:
+-- One event's step from a machine to the next. The values spoken of are those after the charge, the lift and the change of
+-- a nice value. Source:
 -- sched-design-CFS.rst, "Few implementation details" (the task with the smallest virtual runtime is run) and "The
 -- rbtree" (within a granularity of it; min_vruntime places newly activated tasks). The bounds of a placement, the
 -- claims and what a migration keeps are this project's profile.
@@ -9,6 +10,7 @@ use Rattle.cfs_model.specs.Machine.{Machine, Stands, NobodyStands, IsQueued, Are
 use Rattle.cfs_model.specs.Claimed.{Claimed, ClaimSays}
 use Rattle.cfs_model.specs.Touch.{touched}
 use Rattle.cfs_model.specs.Lifted.{IsLifted}
+use Rattle.cfs_model.specs.Reniced.{home_of, IsReniced}
 use Rattle.cfs_model.specs.declared.act.Act.{Act}
 use Rattle.cfs_model.specs.declared.act.Act.TheVariants.{Switch, Wake, Born, Shift}
 use Rattle.cfs_model.specs.declared.act.Way.{Way}
@@ -117,7 +119,7 @@ pub record IsMigration (m : Machine) (orig dest pid : ℕ) (nice : ℤ) (claim :
   pub claimed : ClaimSays claim sort pid ((own -ℤ m.floor orig) +ℤ m.floor dest)
   pub result : after ≡ with_runtime (with_move m pid place orig place dest) pid ((own -ℤ m.floor orig) +ℤ m.floor dest)
 
--- what an event changes in the lifted machine
+-- what an event changes in the machine as it finds it
 abbrev pub Changes : Settings → Machine → Act → Option Claim → Machine → Type 0
 Changes knobs m (Switch cpu prev prev_nice way next next_nice) claim after =
     IsSwitch knobs m cpu prev prev_nice way next next_nice claim after
@@ -126,9 +128,12 @@ Changes knobs m (Wake cpu pid nice) claim after =
 Changes knobs m (Born cpu pid nice) claim after = IsBirth knobs m cpu pid nice claim after
 Changes knobs m (Shift orig dest pid nice) claim after = IsMigration m orig dest pid nice claim after
 
--- the event leads from a machine to the next: by the lift, the event's own change, and with every value in range
+-- the event leads from a machine to the next: by the lift, the change of a nice value and the event's own change, and
+-- with every value in range
 pub record IsStep (knobs : Settings) (before : Machine) (event : Claimed) (after : Machine) : Type 0 where
   pub lifted : Machine
   pub is_lifted : IsLifted event.entry.time (touched event.entry.act) before lifted
-  pub changes : Changes knobs lifted event.entry.act event.claim after
+  pub found : Machine
+  pub is_reniced : IsReniced (home_of event.entry.act) event.nice lifted found
+  pub changes : Changes knobs found event.entry.act event.claim after
   pub in_range : AreValuesInRange after

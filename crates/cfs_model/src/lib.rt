@@ -11,6 +11,7 @@ mod laws;
 mod limits;
 mod memory;
 mod nice;
+mod nice_line;
 mod task;
 mod weights;
 
@@ -28,5 +29,6 @@ pub use limits::{
 };
 pub use memory::Memory;
 pub use nice::{Nice, PrioFault};
+pub use nice_line::NiceLine;
 pub use task::{Place, Task};
 pub use weights::{charge, weight};

@@ -5,7 +5,8 @@ use Rattle.cfs_model.specs.Settings.{Settings}
 use Rattle.cfs_model.specs.Machine.{Machine, Stands}
 use Rattle.cfs_model.specs.Claimed.{Claimed}
 use Rattle.cfs_model.specs.Run.{times_of, IsRun}
-use Rattle.replay_model.specs.Part.{Part, IsLiftedPart, part_of}
+use Rattle.replay_model.specs.Part.{Part, part_of}
+use Rattle.replay_model.specs.Found.{IsFound}
 use Rattle.replay_model.specs.Deeds.{left_ticket, came_ticket}
 use Rattle.replay_model.specs.QueueTests.{IsOutOfRange}
 use Rattle.replay_model.specs.Tests.{FirstHolds, PassesTests, late_tests}
@@ -24,21 +25,22 @@ pub record FaultCause : Type 0 where
   pub pid : ℕ
   pub kind : Kind
 
--- the first test of a step that fails on a part: the charge and what it leads to, then those on the lifted part
+-- the first test of a step that fails on a part: the charge and what it leads to, then those on the part as the deed finds
+-- it
 abbrev pub FailsOn : Settings → ℕ → Part → Step → Kind → ℕ → Type 0
 FailsOn knobs cpu part step kind pid =
     (IsOutOfRange part step.time pid × (kind ≡ Range))
     ⊎ (((other : ℕ) → ¬ IsOutOfRange part step.time other)
-    × ((lifted : Part) × IsLiftedPart step.time part lifted × FirstHolds (late_tests knobs cpu lifted step) kind pid))
+    × ((found : Part) × IsFound step part found × FirstHolds (late_tests knobs cpu found step) kind pid))
 
 -- the first of the event's tests that fails at a processor of the machine is this cause
 pub record FailsAt (knobs : Settings) (m : Machine) (cpu : ℕ) (event : Claimed) (cause : FaultCause) : Type 0 where
   pub here : cause.cpu ≡ cpu
   pub fails : FailsOn knobs cpu (part_of m cpu) (step_at cpu event) cause.kind cause.pid
 
--- the event's tests pass at a processor of the machine, and lifted is the part as the event finds it there
+-- the event's tests pass at a processor of the machine, and found is the part as the event finds it there
 abbrev pub PassesAt : Settings → Machine → ℕ → Claimed → Part → Type 0
-PassesAt knobs m cpu event lifted = PassesTests knobs cpu (part_of m cpu) (step_at cpu event) lifted
+PassesAt knobs m cpu event found = PassesTests knobs cpu (part_of m cpu) (step_at cpu event) found
 
 -- the tests of a migration pass at its origin, and the first that fails at its destination is this cause
 pub record FailsAtArrival (knobs : Settings) (m : Machine) (orig dest : ℕ) (event : Claimed) (cause : FaultCause)
@@ -59,8 +61,8 @@ pub record IsUnequal (knobs : Settings) (m : Machine) (orig dest pid : ℕ) (nic
 
 -- the tests of a birth pass at its processor, and the pid stands at another
 pub record IsBornTwice (knobs : Settings) (m : Machine) (cpu pid : ℕ) (event : Claimed) (cause : FaultCause) : Type 0 where
-  pub lifted : Part
-  pub passes : PassesAt knobs m cpu event lifted
+  pub found : Part
+  pub passes : PassesAt knobs m cpu event found
   pub place : Place
   pub other : ℕ
   pub elsewhere : other ≢ cpu

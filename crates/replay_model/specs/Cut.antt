@@ -7,6 +7,7 @@ use Rattle.std.specs.List.{list_any}
 use Rattle.cfs_model.specs.declared.act.Act.{Act}
 use Rattle.cfs_model.specs.declared.act.Act.TheVariants as act
 use Rattle.cfs_model.specs.declared.claim.Claim.{Claim}
+use Rattle.cfs_model.specs.declared.nice_line.NiceLine.{NiceLine}
 use Rattle.replay_model.specs.declared.step.Deed.{Deed}
 use Rattle.replay_model.specs.declared.step.Deed.TheVariants.{Switch, Wake, Born, Leave, Arrive}
 use Rattle.replay_model.specs.declared.step.Step.{Step}
@@ -39,6 +40,11 @@ abbrev pub claim_for : Deed → Option Claim → Option Claim
 claim_for (Leave pid nice dest) claim = None
 claim_for _ claim = claim
 
+-- the change of a nice value on the event's line, but for the destination of a migration, which has none
+abbrev pub nice_for : Deed → Option NiceLine → Option NiceLine
+nice_for (Arrive pid nice orig) change = None
+nice_for _ change = change
+
 -- the event as a processor that it touches sees it
 abbrev pub step_at : ℕ → Claimed → Step
 step_at cpu event = record {
@@ -46,6 +52,7 @@ step_at cpu event = record {
   time = event.entry.time;
   deed = deed_at cpu event.entry.act;
   claim = claim_for (deed_at cpu event.entry.act) event.claim;
+  nice = nice_for (deed_at cpu event.entry.act) event.nice;
 }
 
 -- the steps of the events that touch the processor, in their order

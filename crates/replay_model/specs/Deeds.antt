@@ -1,4 +1,5 @@
--- What each deed changes in a processor's part (this project's profile). The part spoken of is charged and lifted.
+-- What a change of a nice value and each deed change in a processor's part (this project's profile). The part spoken of is
+-- charged and lifted.
 use Rattle.std.specs.Prelude.{ℕ, zero, suc, Option, Some, None, option_map, ℤ, ◌-ℤ◌}
 use Rattle.cfs_model.specs.Machine.{put}
 use Rattle.replay_model.specs.Part.{Part, Entity}
@@ -7,6 +8,7 @@ use Rattle.cfs_model.specs.declared.act.Way.TheVariants.{Stays, Sleeps, Ends}
 use Rattle.cfs_model.specs.declared.claim.Claim.{Claim}
 use Rattle.cfs_model.specs.declared.claim.ClaimSort.{ClaimSort}
 use Rattle.cfs_model.specs.declared.claim.ClaimSort.TheVariants.{At, Pass}
+use Rattle.cfs_model.specs.declared.nice_line.NiceLine.{NiceLine}
 use Rattle.replay_model.specs.declared.page.Ticket.{Ticket}
 use Rattle.replay_model.specs.declared.step.Deed.{Deed}
 use Rattle.replay_model.specs.declared.step.Deed.TheVariants.{Switch, Wake, Born, Leave, Arrive}
@@ -16,6 +18,12 @@ use Rattle.cfs_model.specs.declared.task.Place.TheVariants.{Run, Wait, Rest}
 -- the pid stands here so, or no more
 abbrev pub with_entity : Part → ℕ → Option Entity → Part
 with_entity part pid s = record part { tasks = put part.tasks pid s }
+
+-- the task that a change of a nice value names has the new one, where it stands here
+abbrev pub reniced : Option NiceLine → Part → Part
+reniced None part = part
+reniced (Some change) part =
+    with_entity part change.pid (option_map (λ (s : Entity). record s { nice = change.nice }) (part.tasks change.pid))
 
 -- the pid goes to another place here
 abbrev pub goes : Part → ℕ → Place → Part

@@ -2,6 +2,7 @@ pub mod Part
 pub mod Deeds
 pub mod QueueTests
 pub mod ClaimTests
+pub mod Found
 pub mod Tests
 pub mod Cut
 pub mod Noted

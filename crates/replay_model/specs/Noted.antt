@@ -39,13 +39,13 @@ deaths_of line _ = []
 
 -- the ticket of a step by which a task leaves
 abbrev pub left_by : Part → Step → Deed → List Ticket
-left_by lifted step (Leave pid nice dest) = option_to_list (left_ticket lifted step.line pid)
-left_by lifted step _ = []
+left_by found step (Leave pid nice dest) = option_to_list (left_ticket found step.line pid)
+left_by found step _ = []
 
 -- the ticket of a step by which a task comes
 abbrev pub came_by : Part → Step → Deed → List Ticket
-came_by lifted step (Arrive pid nice orig) = option_to_list (came_ticket lifted step.line pid nice step.claim)
-came_by lifted step _ = []
+came_by found step (Arrive pid nice orig) = option_to_list (came_ticket found step.line pid nice step.claim)
+came_by found step _ = []
 
 -- the tally of a task in this place, where one who runs ran so long and was charged so much
 abbrev pub tallies_after_run : Place → ℕ → ℕ → Tally → Tally
@@ -85,11 +85,11 @@ tallied _ tallies = tallies
 
 -- the page after a step that passed, by the part before it and the part as its deed found it
 abbrev pub noted : PageView → Part → Part → Step → PageView
-noted page part lifted step = record {
+noted page part found step = record {
   line = step.line;
   fault = None;
-  left = page.left ++ left_by lifted step step.deed;
-  came = page.came ++ came_by lifted step step.deed;
+  left = page.left ++ left_by found step step.deed;
+  came = page.came ++ came_by found step step.deed;
   births = page.births ++ births_of step.line step.deed;
   deaths = page.deaths ++ deaths_of step.line step.deed;
   tallies = tallied step.deed (charged_tallies part step.time page.tallies);

@@ -2,7 +2,8 @@
 use Rattle.std.specs.Prelude.{◌≡◌, ℕ, ◌+◌, if◌then◌else◌, nat_lt, nat_le, Option, Some, None, unwrap_or, ◌⊎◌, List, [], ◌∷◌, map, length, take}
 use Rattle.cfs_model.specs.Limits.{no_line}
 use Rattle.cfs_model.specs.Settings.{Settings}
-use Rattle.replay_model.specs.Part.{Part, IsIdlePart, IsLiftedPart, start_part}
+use Rattle.replay_model.specs.Part.{Part, IsIdlePart, start_part}
+use Rattle.replay_model.specs.Found.{IsFound}
 use Rattle.replay_model.specs.Deeds.{after_deed}
 use Rattle.replay_model.specs.Tests.{FirstHolds, NoneHolds, early_tests, late_tests, PassesTests}
 use Rattle.replay_model.specs.QueueTests.{IsIdleTooLong}
@@ -28,18 +29,18 @@ IsSince before time part since =
 -- the replay goes on by a step that passes
 pub record PassesStep (knobs : Settings) (cpu : ℕ) (before : ReplayStateView) (step : Step) (after : ReplayStateView) : Type 0 where
   pub in_time : (pid : ℕ) → ¬ IsIdleTooLong knobs.slack before.since step.time pid
-  pub lifted : Part
-  pub passes : PassesTests knobs cpu before.part step lifted
-  pub part : after.part ≡ after_deed lifted step.deed step.claim
+  pub found : Part
+  pub passes : PassesTests knobs cpu before.part step found
+  pub part : after.part ≡ after_deed found step.deed step.claim
   pub since : IsSince before.since step.time after.part after.since
-  pub page : after.page ≡ noted before.page before.part lifted step
+  pub page : after.page ≡ noted before.page before.part found step
 
 -- the first test that holds at a step is of this kind, and names this pid
 abbrev pub FailsTest : Settings → ℕ → ReplayStateView → Step → Kind → ℕ → Type 0
 FailsTest knobs cpu before step kind pid =
     FirstHolds (early_tests knobs before.since before.part step) kind pid
-    ⊎ ((lifted : Part) × NoneHolds (early_tests knobs before.since before.part step)
-    × IsLiftedPart step.time before.part lifted × FirstHolds (late_tests knobs cpu lifted step) kind pid)
+    ⊎ ((found : Part) × NoneHolds (early_tests knobs before.since before.part step)
+    × IsFound step before.part found × FirstHolds (late_tests knobs cpu found step) kind pid)
 
 -- until when the processor could idle; for a fault of that kind alone
 abbrev pub deadline_of : Kind → ℕ → Option ℕ → Option ℕ

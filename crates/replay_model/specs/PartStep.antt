@@ -18,9 +18,9 @@ use Rattle.cfs_model.specs.declared.task.Place.{Place}
 
 -- a part goes by a step that passes the tests on it to the part after
 pub record PartStep (knobs : Settings) (cpu : ℕ) (before : Part) (step : Step) (after : Part) : Type 0 where
-  pub lifted : Part
-  pub passes : PassesTests knobs cpu before step lifted
-  pub result : after ≡ after_deed lifted step.deed step.claim
+  pub found : Part
+  pub passes : PassesTests knobs cpu before step found
+  pub result : after ≡ after_deed found step.deed step.claim
 
 -- an event's claim, if it has one, is in range
 abbrev pub ClaimInRange : Claimed → Type 0

@@ -3,6 +3,7 @@
 use Rattle.std.specs.Prelude.{◌≡◌, ◌≢◌, ℕ, zero, suc, ◌+◌, ◌<◌, Option, Some, None, IsSome, ℤ, pos, ◌+ℤ◌, ◌<ℤ◌, ◌⊎◌}
 use Rattle.cfs_model.specs.Charge.{greatest}
 use Rattle.replay_model.specs.Part.{Part, Entity, IsIn, NobodyIn, cost_in}
+use Rattle.cfs_model.specs.declared.nice_line.NiceLine.{NiceLine}
 use Rattle.replay_model.specs.declared.step.Deed.{Deed}
 use Rattle.replay_model.specs.declared.step.Deed.TheVariants.{Switch, Wake, Born, Leave, Arrive}
 use Rattle.cfs_model.specs.declared.task.Place.TheVariants.{Run}
@@ -18,6 +19,11 @@ pub record IsOutOfRange (part : Part) (time pid : ℕ) : Type 0 where
   pub stands : part.tasks pid ≡ Some task
   pub runs : task.place ≡ Run
   pub above : (greatest < cost_in part time task) ⊎ (pos greatest <ℤ (task.runtime +ℤ pos (cost_in part time task)))
+
+-- a change of the nice value of a pid that doesn't stand here
+abbrev pub IsStrangeNice : Part → Option NiceLine → ℕ → Type 0
+IsStrangeNice part None pid = ⊥
+IsStrangeNice part (Some change) pid = (part.tasks change.pid ≡ None) × (pid ≡ change.pid)
 
 -- a task goes to the processor where it is
 abbrev pub IsMoveHome : ℕ → Deed → ℕ → Type 0

@@ -2,8 +2,9 @@
 -- project's profile).
 use Rattle.std.specs.Prelude.{◌≡◌, ℕ, Option, ◌⊎◌, ⊤, List, [], ◌∷◌}
 use Rattle.cfs_model.specs.Settings.{Settings}
-use Rattle.replay_model.specs.Part.{Part, IsLiftedPart}
-use Rattle.replay_model.specs.QueueTests.{IsIdleTooLong, IsOutOfRange, IsMoveHome, IsSelfSwitch, IsPrevNotRunning, IsStrange, IsAlready, IsMoveRunning, IsWrongPrio}
+use Rattle.replay_model.specs.Part.{Part}
+use Rattle.replay_model.specs.Found.{IsFound}
+use Rattle.replay_model.specs.QueueTests.{IsIdleTooLong, IsOutOfRange, IsStrangeNice, IsMoveHome, IsSelfSwitch, IsPrevNotRunning, IsStrange, IsAlready, IsMoveRunning, IsWrongPrio}
 use Rattle.replay_model.specs.ClaimTests.{IsClaimMissing, IsClaimExtra, IsClaimPid, IsWrongPutBack, IsWakeOutside, IsForkOutside, IsNextNotWaiting, IsIdleBesideWaiting, IsNotLeast}
 use Rattle.cfs_model.specs.declared.kind.Kind.{Kind}
 use Rattle.cfs_model.specs.declared.kind.Kind.TheVariants as kind
@@ -31,9 +32,10 @@ early_tests knobs since part step =
     record { kind = kind.IdleTooLong; holds = IsIdleTooLong knobs.slack since step.time } ∷
     record { kind = kind.Range; holds = IsOutOfRange part step.time } ∷ []
 
--- the tests after them, at this processor's part as it then is
+-- the tests after them, at this processor's part as the deed finds it
 abbrev pub late_tests : Settings → ℕ → Part → Step → List Test
 late_tests knobs cpu part step =
+    record { kind = kind.Strange; holds = IsStrangeNice part step.nice } ∷
     record { kind = kind.MoveHome; holds = IsMoveHome cpu step.deed } ∷
     record { kind = kind.SelfSwitch; holds = IsSelfSwitch step.deed } ∷
     record { kind = kind.PrevNotRunning; holds = IsPrevNotRunning part step.deed } ∷
@@ -51,8 +53,8 @@ late_tests knobs cpu part step =
     record { kind = kind.IdleBesideWaiting; holds = IsIdleBesideWaiting part step.deed } ∷
     record { kind = kind.NotLeast; holds = IsNotLeast knobs.granularity part step.deed } ∷ []
 
--- no test on the part holds, and lifted is the part as the deed finds it
-pub record PassesTests (knobs : Settings) (cpu : ℕ) (part : Part) (step : Step) (lifted : Part) : Type 0 where
+-- no test on the part holds, and found is the part as the deed finds it
+pub record PassesTests (knobs : Settings) (cpu : ℕ) (part : Part) (step : Step) (found : Part) : Type 0 where
   pub in_range : (pid : ℕ) → ¬ IsOutOfRange part step.time pid
-  pub is_lifted : IsLiftedPart step.time part lifted
-  pub none : NoneHolds (late_tests knobs cpu lifted step)
+  pub is_found : IsFound step part found
+  pub none : NoneHolds (late_tests knobs cpu found step)

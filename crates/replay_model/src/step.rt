@@ -1,4 +1,4 @@
-use cfs_model::{Claim, Nice, Way};
+use cfs_model::{Claim, Nice, NiceLine, Way};
 
 /// What an event does at one processor. A migration is two deeds, one at each of its ends. Pid 0 is the
 /// processor's idle task.
@@ -47,4 +47,7 @@ pub struct Step {
     pub deed: Deed,
     /// The claim on the line. A task that leaves has none: it is the destination's.
     pub claim: Option<Claim>,
+    /// The change of a task's nice value on the line, which this step makes before its deed. A task that comes has none:
+    /// it is the origin's.
+    pub nice: Option<NiceLine>,
 }

@@ -48,6 +48,7 @@ first_event way = record {
         (pos 0);
   };
   claim = None;
+  nice = None;
 }
 
 abbrev first_lifted : Machine
@@ -95,6 +96,8 @@ first_step =
     record {
       lifted = first_lifted;
       is_lifted = first_lift;
+      found = first_lifted;
+      is_reniced = refl;
       changes = changes;
       in_range = change_range standard first_lifted (first_event Ends).entry.act None first_state changes tt
           (lifted_range 100001000000 (0 ∷ []) birth_start first_lifted first_lift
@@ -107,6 +110,7 @@ second_event w = record {
   entry = record { line = 2; time = 100002000000; act = Born 1 101 (pos 0) };
   claim = Some
       (at_claim 2 101 w);
+  nice = None;
 }
 
 abbrev second_lifted : Machine
@@ -159,6 +163,8 @@ second_step w low high =
     record {
       lifted = second_lifted;
       is_lifted = second_lift;
+      found = second_lifted;
+      is_reniced = refl;
       changes = changes;
       in_range = change_range standard second_lifted (second_event w).entry.act (second_event w).claim
           (second_state w) changes
@@ -180,7 +186,7 @@ asleep : (w : ℤ) (between after : Machine) → IsStep standard birth_start (fi
 unfolding put put_pair
 asleep w between after s t =
     let rests : Stands between Rest 0 101 = ap (λ (m : Machine). m.resting 0 101) s.changes.result in
-    t.changes.nowhere Rest 0 (ap (λ (m : Machine). m.resting 0 101) (t.is_lifted.2 ∙ t.is_lifted.1.result) ∙ rests)
+    t.changes.nowhere Rest 0 (ap (λ (m : Machine). m.resting 0 101) (t.is_reniced ∙ t.is_lifted.2 ∙ t.is_lifted.1.result) ∙ rests)
 
 -- and a birth after the end is placed from the floor to the debit above it
 placed_at : (w : ℤ) (between after : Machine) → IsStep standard birth_start (first_event Ends) between
@@ -190,7 +196,7 @@ placed_at w between after s t =
     let same = one_next standard birth_start (first_event Ends) between first_state s first_step in
     let u : IsStep standard first_state (second_event w) after = subst
     (λ m. IsStep standard m (second_event w) after) same t in
-    let lift = one_lifted 100002000000 (1 ∷ []) first_state u.lifted second_lifted u.is_lifted second_lift in
+    let lift = u.is_reniced ∙ one_lifted 100002000000 (1 ∷ []) first_state u.lifted second_lifted u.is_lifted second_lift in
     let born : IsBirth standard second_lifted 1 101 (pos 0) (second_event w).claim after = subst
     (λ m. IsBirth standard m 1 101 (pos 0) (second_event w).claim after) lift u.changes in
     (subst (λ x. pos 0 ≤ℤ x) (sym born.claimed.2) born.from, subst (λ x. x ≤ℤ pos 3000000) (sym born.claimed.2) born.to)

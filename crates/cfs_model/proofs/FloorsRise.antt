@@ -1,4 +1,5 @@
--- No floor is lowered: a lift takes a maximum with the floor itself, and no event's own change names a floor.
+-- No floor is lowered: a lift takes a maximum with the floor itself, and neither a change of a nice value nor an event's own
+-- change names a floor.
 use Rattle.std.proofs.Common.{◌≡◌, ◌≢◌, ℕ, zero, suc, true, false, ℤ, ◌≤ℤ◌, ◌⊎◌, inl, inr, List, [], ◌∷◌, Option, refl, sym, ap, ◌∙◌, subst, arith}
 use Rattle.std.proofs.lemmas.Int.{ints, clamps}
 use Rattle.std.specs.Int.{int_max}
@@ -7,8 +8,10 @@ use Rattle.cfs_model.specs.Machine.{Pairs, Machine, pairs_of, put, with_pairs, p
 use Rattle.cfs_model.specs.Claimed.{Claimed}
 use Rattle.cfs_model.specs.Touch.{touched}
 use Rattle.cfs_model.specs.Lifted.{charged, IsRaised, IsLiftedAt, IsLifted}
+use Rattle.cfs_model.specs.Reniced.{home_of}
 use Rattle.cfs_model.specs.Step.{after_prev, after_next, Changes, IsStep}
 use Rattle.cfs_model.proofs.Moves.{put-same, put-other, same_or_not}
+use Rattle.cfs_model.proofs.Renice.{reniced_is}
 use Rattle.cfs_model.specs.declared.act.Act.{Act}
 use Rattle.cfs_model.specs.declared.act.Act.TheVariants.{Switch, Wake, Born, Shift}
 use Rattle.cfs_model.specs.declared.act.Way.{Way}
@@ -79,5 +82,6 @@ same_floors knobs m (Shift orig dest pid nice) claim after s =
 pub floors_rise : (knobs : Settings) (before : Machine) (event : Claimed) (after : Machine)
     → IsStep knobs before event after → (cpu : ℕ) → before.floor cpu ≤ℤ after.floor cpu
 floors_rise knobs before event after s cpu =
-    subst (λ f. before.floor cpu ≤ℤ f cpu) (sym (same_floors knobs s.lifted event.entry.act event.claim after s.changes))
+    subst (λ f. before.floor cpu ≤ℤ f cpu) (sym (same_floors knobs s.found event.entry.act event.claim after s.changes
+    ∙ ap (λ (m : Machine). m.floor) (reniced_is (home_of event.entry.act) event.nice s.lifted s.found s.is_reniced)))
     (lifted_above event.entry.time (touched event.entry.act) before s.lifted s.is_lifted cpu)

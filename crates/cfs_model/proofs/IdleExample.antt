@@ -52,6 +52,7 @@ first_event = record {
   entry = record { line = 1; time = 100001000000; act = Wake 0 102 (pos 0) };
   claim = Some
       (at_claim 1 102 (pos 0));
+  nice = None;
 }
 
 first_lift : IsLifted 100001000000 (0 ∷ []) idle_start first_lifted
@@ -84,6 +85,8 @@ first_step : IsStep standard idle_start first_event first_state
 first_step = record {
   lifted = first_lifted;
   is_lifted = first_lift;
+  found = first_lifted;
+  is_reniced = refl;
   changes = inr first_change;
   in_range = change_range standard first_lifted first_event.entry.act first_event.claim first_state (inr first_change)
       (omega (arith, ints), omega (arith, ints))
@@ -121,7 +124,7 @@ abbrev second_state : Machine
 second_state = with_floor (charged first_state 0 100001050000) 0 (pos 0)
 
 abbrev second_event : Claimed
-second_event = record { entry = record { line = 2; time = 100001050000; act = Wake 0 102 (pos 0) }; claim = None }
+second_event = record { entry = record { line = 2; time = 100001050000; act = Wake 0 102 (pos 0) }; claim = None; nice = None }
 
 second_lift : IsLifted 100001050000 (0 ∷ []) first_state second_state
 unfolding put
@@ -143,6 +146,8 @@ second_step =
     record {
       lifted = second_state;
       is_lifted = second_lift;
+      found = second_state;
+      is_reniced = refl;
       changes = inl changes;
       in_range = lifted_range 100001050000 (0 ∷ []) first_state second_state second_lift first_step.in_range;
     }
@@ -156,7 +161,7 @@ module _ (time : ℕ) where
   third_state = after_next third_lifted 0 102
 
   abbrev third_event : Claimed
-  third_event = record { entry = record { line = 3; time = time; act = Switch 0 0 (pos 0) Stays 102 (pos 0) }; claim = None }
+  third_event = record { entry = record { line = 3; time = time; act = Switch 0 0 (pos 0) Stays 102 (pos 0) }; claim = None; nice = None }
 
 third_lift : (time : ℕ) → IsLifted time (0 ∷ []) second_state (third_lifted time)
 unfolding put
@@ -193,6 +198,8 @@ third_step time =
     record {
       lifted = third_lifted time;
       is_lifted = third_lift time;
+      found = third_lifted time;
+      is_reniced = refl;
       changes = changes;
       in_range = change_range standard (third_lifted time) (third_event time).entry.act None (third_state time) changes tt
           (lifted_range time (0 ∷ []) second_state (third_lifted time) (third_lift time) second_step.in_range);

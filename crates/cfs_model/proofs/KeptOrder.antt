@@ -29,7 +29,7 @@ pub stands_same : (m after : Machine) → ((r : Place) → pairs_of after r ≡ 
 stands_same m after e r d q h = ap (λ s. s d q) (sym (e r)) ∙ h
 
 -- the same sets, and maps over the same pids
-apart_values : (m after : Machine) → ((r : Place) → pairs_of after r ≡ pairs_of m r)
+pub apart_values : (m after : Machine) → ((r : Place) → pairs_of after r ≡ pairs_of m r)
     → ((pid : ℕ) → is_some (after.runtime pid) ≡ is_some (m.runtime pid))
     → ((pid : ℕ) → is_some (after.nice pid) ≡ is_some (m.nice pid))
     → IsApart m → IsApart after

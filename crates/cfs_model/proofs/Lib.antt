@@ -10,6 +10,7 @@ pub mod OneNext
 pub mod Positive
 pub mod Prefix
 pub mod Range
+pub mod Renice
 pub mod StartOrder
 pub mod StepOrder
 pub mod SwitchExample

@@ -6,8 +6,10 @@ use Rattle.cfs_model.specs.Settings.{Settings}
 use Rattle.cfs_model.specs.Machine.{Pairs, Machine, pairs_of, put, with_pairs, put_pair, without_task}
 use Rattle.cfs_model.specs.Touch.{touched}
 use Rattle.cfs_model.specs.Lifted.{IsLifted}
+use Rattle.cfs_model.specs.Reniced.{home_of}
 use Rattle.cfs_model.specs.Step.{after_prev, after_next, Changes}
 use Rattle.cfs_model.proofs.Moves.{put-same, put-other, same_or_not}
+use Rattle.cfs_model.proofs.Renice.{reniced_is}
 use Rattle.cfs_model.specs.declared.act.Act.{Act}
 use Rattle.cfs_model.specs.declared.act.Act.TheVariants.{Switch, Wake, Born, Shift}
 use Rattle.cfs_model.specs.declared.act.Way.{Way}
@@ -77,7 +79,8 @@ same_marks knobs m (Shift orig dest pid nice) claim after s =
 
 pub marks_move : MarksMove
 marks_move knobs before event after s =
-    let same = same_marks knobs s.lifted event.entry.act event.claim after s.changes in (
+    let same = same_marks knobs s.found event.entry.act event.claim after s.changes
+    ∙ ap (λ (m : Machine). m.mark) (reniced_is (home_of event.entry.act) event.nice s.lifted s.found s.is_reniced) in (
       subst (λ (f : ℕ → ℕ). AllByRecursion (λ cpu. f cpu ≡ event.entry.time) (touched event.entry.act)) (sym same)
           (marks_moved event.entry.time (touched event.entry.act) before s.lifted s.is_lifted),
       (λ cpu h. ap (λ (f : ℕ → ℕ). f cpu) same ∙ marks_stay event.entry.time

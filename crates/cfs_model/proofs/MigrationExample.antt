@@ -100,6 +100,8 @@ module _ (time : ℕ) (v least w : ℤ) (is_v : (after_charge time).runtime 102 
         record {
           lifted = lifted;
           is_lifted = lift;
+          found = lifted;
+          is_reniced = refl;
           changes = changes;
           in_range = change_range standard lifted (migration_event time w).entry.act
               (migration_event time w).claim after changes range
@@ -112,7 +114,7 @@ module _ (time : ℕ) (v least w : ℤ) (is_v : (after_charge time).runtime 102 
   moved_to : (x : ℤ) (after : Machine) → IsStep standard migration_start (migration_event time x) after → x ≡ w
   unfolding put
   moved_to x after s =
-      let same = one_lifted time (0 ∷ 1 ∷ []) migration_start s.lifted lifted s.is_lifted lift in
+      let same = s.is_reniced ∙ one_lifted time (0 ∷ 1 ∷ []) migration_start s.lifted lifted s.is_lifted lift in
       let moves : IsMigration lifted 0 1 101 (pos 0) (migration_event time x).claim after =
       subst (λ m. IsMigration m 0 1 101 (pos 0) (migration_event time x).claim after) same s.changes in
       moves.claimed.2 ∙ ap (λ own. (own -ℤ int_max (pos 3) least) +ℤ pos 100)

@@ -8,8 +8,10 @@ use Rattle.cfs_model.specs.Machine.{Machine, with_floor, with_move, with_runtime
 use Rattle.cfs_model.specs.Claimed.{Claimed, ClaimSays}
 use Rattle.cfs_model.specs.Touch.{touched}
 use Rattle.cfs_model.specs.Lifted.{charged, IsLeast, IsRaised, IsLiftedAt, IsLifted}
+use Rattle.cfs_model.specs.Reniced.{home_of, IsReniced}
 use Rattle.cfs_model.specs.Step.{IsWakeQueued, IsWakeResting, IsMigration, MovesBy, Changes, IsStep}
 use Rattle.cfs_model.specs.Run.{AreSteps}
+use Rattle.cfs_model.proofs.Renice.{one_reniced}
 use Rattle.cfs_model.specs.declared.act.Act.{Act}
 use Rattle.cfs_model.specs.declared.act.Act.TheVariants.{Switch, Wake, Born, Shift}
 use Rattle.cfs_model.specs.declared.claim.Claim.{Claim}
@@ -97,7 +99,7 @@ one_move m orig dest pid nice claim after other a b =
     (one_place a.place b.place b.sort (subst (λ sort. MovesBy a.place sort) said.0 a.moves) b.moves) said.1
     ∙ sym b.result
 
--- an event changes a lifted machine in one way
+-- an event changes the machine that it finds in one way
 pub one_change : (knobs : Settings) (m : Machine) (act : Act) (claim : Option Claim) (after other : Machine)
     → Changes knobs m act claim after → Changes knobs m act claim other → after ≡ other
 one_change knobs m (Switch cpu prev prev_nice way next next_nice) claim after other a b = a.result ∙ sym b.result
@@ -107,12 +109,20 @@ one_change knobs m (Born cpu pid nice) claim after other a b =
     (one_said claim At At pid a.placed b.placed a.claimed b.claimed).1 ∙ sym b.result
 one_change knobs m (Shift orig dest pid nice) claim after other a b = one_move m orig dest pid nice claim after other a b
 
+-- there is one machine as an event finds it
+pub one_found : (knobs : Settings) (before : Machine) (event : Claimed) (after other : Machine)
+    → (a : IsStep knobs before event after) → (b : IsStep knobs before event other) → a.found ≡ b.found
+one_found knobs before event after other a b =
+    one_reniced (home_of event.entry.act) event.nice b.lifted a.found b.found
+    (subst (λ m. IsReniced (home_of event.entry.act) event.nice m a.found)
+    (one_lifted event.entry.time (touched event.entry.act) before a.lifted b.lifted a.is_lifted b.is_lifted) a.is_reniced)
+    b.is_reniced
+
 pub one_next : (knobs : Settings) (before : Machine) (event : Claimed) (after other : Machine)
     → IsStep knobs before event after → IsStep knobs before event other → after ≡ other
 one_next knobs before event after other a b =
-    one_change knobs b.lifted event.entry.act event.claim after other
-    (subst (λ m. Changes knobs m event.entry.act event.claim after)
-    (one_lifted event.entry.time (touched event.entry.act) before a.lifted b.lifted a.is_lifted b.is_lifted) a.changes)
+    one_change knobs b.found event.entry.act event.claim after other
+    (subst (λ m. Changes knobs m event.entry.act event.claim after) (one_found knobs before event after other a b) a.changes)
     b.changes
 
 pub one_list : (knobs : Settings) (first : Machine) (events : List Claimed) (states others : List Machine)

@@ -5,11 +5,13 @@ use Rattle.cfs_model.specs.Settings.{Settings}
 use Rattle.cfs_model.specs.Machine.{Pairs, Machine, pairs_of, Stands, NobodyStands, with_pairs, put_pair, with_task, without_task, with_move, with_runtime, with_nice, without_values}
 use Rattle.cfs_model.specs.Claimed.{Claimed}
 use Rattle.cfs_model.specs.Touch.{touched}
+use Rattle.cfs_model.specs.Reniced.{home_of}
 use Rattle.cfs_model.specs.Step.{IsCurrent, IsPick, after_prev, after_next, IsMigration, MovesBy, Changes, IsStep}
 use Rattle.cfs_model.specs.Run.{AreSteps}
 use Rattle.cfs_model.specs.Order.{IsInOrder}
 use Rattle.cfs_model.proofs.Moves.{put-same, put-other, IsPutAt, IsGone, join_placed, leave_gone, move_placed}
 use Rattle.cfs_model.proofs.KeptOrder.{IsApart, same_sets, stands_same, lifted_apart, placed_apart, gone_apart}
+use Rattle.cfs_model.proofs.Renice.{reniced_apart}
 use Rattle.cfs_model.specs.declared.act.Act.{Act}
 use Rattle.cfs_model.specs.declared.act.Act.TheVariants.{Switch, Wake, Born, Shift}
 use Rattle.cfs_model.specs.declared.act.Way.{Way}
@@ -162,7 +164,8 @@ pub step_in_order : (knobs : Settings) (before : Machine) (event : Claimed) (aft
     → IsStep knobs before event after → IsInOrder after
 step_in_order knobs before event after o s =
     let lifted = lifted_apart event.entry.time (touched event.entry.act) before s.lifted s.is_lifted (apart_of before o) in
-    let a = change_apart knobs s.lifted event.entry.act event.claim after lifted s.changes in
+    let found = reniced_apart (home_of event.entry.act) event.nice s.lifted s.found s.is_reniced lifted in
+    let a = change_apart knobs s.found event.entry.act event.claim after found s.changes in
     record { one_place = a.one_place; one_runs = a.one_runs; runtimes = a.runtimes; nices = a.nices; in_range = s.in_range }
 
 pub steps_in_order : (knobs : Settings) (first : Machine) (events : List Claimed) (states : List Machine)

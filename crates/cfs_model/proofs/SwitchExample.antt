@@ -102,6 +102,8 @@ module _ (nice cost u v : ℤ) (is_cost : (after_charge nice u).runtime 101 ≡ 
         record {
           lifted = lifted;
           is_lifted = lift;
+          found = lifted;
+          is_reniced = refl;
           changes = changes;
           in_range = change_range (standard_with granularity) lifted (switch_event nice cost).entry.act
               (switch_event nice cost).claim after changes within_range
@@ -112,17 +114,17 @@ module _ (nice cost u v : ℤ) (is_cost : (after_charge nice u).runtime 101 ≡ 
 
   module _ (w : ℤ) (granularity : ℕ) (after : Machine) (s : IsStep (standard_with granularity) (switch_start nice u)
       (switch_event nice w) after) where
-    -- the two virtual runtimes in the lifted machine of any step
-    lifted_first : s.lifted.runtime 101 ≡ Some cost
-    lifted_first = ap (λ (m : Machine). m.runtime 101) (s.is_lifted.2 ∙ s.is_lifted.1.result) ∙ is_cost
+    -- the two virtual runtimes in the machine that the event of any step finds
+    found_first : s.found.runtime 101 ≡ Some cost
+    found_first = ap (λ (m : Machine). m.runtime 101) (s.is_reniced ∙ s.is_lifted.2 ∙ s.is_lifted.1.result) ∙ is_cost
 
-    lifted_second : s.lifted.runtime 102 ≡ Some u
-    lifted_second = ap (λ (m : Machine). m.runtime 102) (s.is_lifted.2 ∙ s.is_lifted.1.result)
+    found_second : s.found.runtime 102 ≡ Some u
+    found_second = ap (λ (m : Machine). m.runtime 102) (s.is_reniced ∙ s.is_lifted.2 ∙ s.is_lifted.1.result)
 
     -- any step puts 101 back at its charge
     put_back_at : w ≡ cost
     put_back_at = let back = s.changes.put_back in back.2.2
-        ∙ value_at s.lifted.runtime 101 101 back.0 cost refl back.1 lifted_first
+        ∙ value_at s.found.runtime 101 101 back.0 cost refl back.1 found_first
 
     -- any step picks within the granularity of 101
     picked_at : u ≤ℤ (cost +ℤ pos granularity)
@@ -130,7 +132,7 @@ module _ (nice cost u v : ℤ) (is_cost : (after_charge nice u).runtime 101 ≡ 
     picked_at =
         let pick = s.changes.pick in
         subst (λ x. x ≤ℤ (cost +ℤ pos granularity))
-        (value_at s.lifted.runtime 102 102 pick.0 u refl pick.1 lifted_second) (pick.3 101 cost refl lifted_first)
+        (value_at s.found.runtime 102 102 pick.0 u refl pick.1 found_second) (pick.3 101 cost refl found_first)
 
 -- 102 is the least where it waits at 0, and 101 where 102 waits at 5 ms
 least_second : (nice cost : ℤ) → (after_charge nice (pos 0)).runtime 101 ≡ Some cost → pos 0 ≤ℤ cost

@@ -67,6 +67,8 @@ wake_step w low high =
       record {
         lifted = lifted;
         is_lifted = lift;
+        found = lifted;
+        is_reniced = refl;
         changes = inr changes;
         in_range = change_range standard lifted (wake_event w).entry.act (wake_event w).claim after (inr changes)
             (omega (arith, ints), omega (arith, ints)) (lifted_range start_time (0 ∷ []) wake_start lifted lift
@@ -74,12 +76,12 @@ wake_step w low high =
       },
     )
 
--- the lifted machine of any step
-wake_lifted : (w : ℤ) (after : Machine) (s : IsStep standard wake_start (wake_event w) after)
-    → (s.lifted.runtime 101 ≡ Some (pos 0)) × (s.lifted.floor 0 ≡ pos 10000000)
+-- the machine that the event of any step finds
+wake_found : (w : ℤ) (after : Machine) (s : IsStep standard wake_start (wake_event w) after)
+    → (s.found.runtime 101 ≡ Some (pos 0)) × (s.found.floor 0 ≡ pos 10000000)
 unfolding put
-wake_lifted w after s =
-    let e = s.is_lifted.2 ∙ s.is_lifted.1.result in
+wake_found w after s =
+    let e = s.is_reniced ∙ s.is_lifted.2 ∙ s.is_lifted.1.result in
     (ap (λ (m : Machine). m.runtime 101) e, ap (λ (m : Machine). m.floor 0) e ∙ floor_stays s.is_lifted.1.raised)
   where
     floor_stays : IsRaised (charged wake_start 0 start_time) 0 s.is_lifted.1.floor → s.is_lifted.1.floor ≡ pos 10000000
@@ -90,14 +92,14 @@ wake_bounds : (w : ℤ) (after : Machine) → IsStep standard wake_start (wake_e
     × (w ≤ℤ pos 10000000)
 wake_bounds w after s = go s.changes
   where
-    known : (s.lifted.runtime 101 ≡ Some (pos 0)) × (s.lifted.floor 0 ≡ pos 10000000)
-    known = wake_lifted w after s
+    known : (s.found.runtime 101 ≡ Some (pos 0)) × (s.found.floor 0 ≡ pos 10000000)
+    known = wake_found w after s
 
-    go : IsWakeQueued s.lifted 0 101 (pos 0) (wake_event w).claim after ⊎ IsWakeResting standard s.lifted 0 101
+    go : IsWakeQueued s.found 0 101 (pos 0) (wake_event w).claim after ⊎ IsWakeResting standard s.found 0 101
         (pos 0) (wake_event w).claim after → (pos 7000000 ≤ℤ w) × (w ≤ℤ pos 10000000)
     go (inl x) = let e = x.no_claim in absurd cc
     go (inr x) =
-        let own = value_at s.lifted.runtime 101 101 x.own (pos 0) refl x.runtime known.0 in
+        let own = value_at s.found.runtime 101 101 x.own (pos 0) refl x.runtime known.0 in
         let from : int_max (pos 0) (pos 10000000 -ℤ pos 3000000) ≤ℤ x.placed = subst
         (λ o. int_max o (pos 10000000 -ℤ pos 3000000) ≤ℤ x.placed) own
         (subst (λ f. int_max x.own (f -ℤ pos 3000000) ≤ℤ x.placed) known.1 x.from) in

@@ -40,9 +40,9 @@ all_map P Q f (x ∷ xs) h = (f x h.0, all_map P Q f xs h.1)
 
 -- one of the two lists of tickets on a page
 pub record IsTickets (tickets : PageView → List Ticket) (by : Part → Step → List Ticket) : Type 0 where
-  pub grows : (page : PageView) (part lifted : Part) (step : Step)
-      → tickets (noted page part lifted step) ≡ tickets page ++ by lifted step
-  pub lines : (lifted : Part) (step : Step) → AllByRecursion (λ (t : Ticket). t.line ≡ step.line) (by lifted step)
+  pub grows : (page : PageView) (part found : Part) (step : Step)
+      → tickets (noted page part found step) ≡ tickets page ++ by found step
+  pub lines : (found : Part) (step : Step) → AllByRecursion (λ (t : Ticket). t.line ≡ step.line) (by found step)
   pub keeps : (page : PageView) (fault : Option StepFault) → tickets (record page { fault = fault }) ≡ tickets page
 
 module _ (tickets : PageView → List Ticket) (by : Part → Step → List Ticket) (is : IsTickets tickets by) where
@@ -69,13 +69,13 @@ module _ (tickets : PageView → List Ticket) (by : Part → Step → List Ticke
       go None (inr f) rest =
           (rest.0, rest.1 ∙ ap (λ xs. xs ++ rest.0) (ap (λ x. tickets x.page) f.result ∙ is.keeps s.page _), rest.2)
       go None (inl p) rest =
-          let mine = by p.lifted step in (
+          let mine = by p.found step in (
             mine ++ rest.0,
-            rest.1 ∙ ap (λ xs. xs ++ rest.0) (ap tickets p.page ∙ is.grows s.page s.part p.lifted step)
+            rest.1 ∙ ap (λ xs. xs ++ rest.0) (ap tickets p.page ∙ is.grows s.page s.part p.found step)
                 ∙ append_assoc (tickets s.page) mine rest.0,
             all_append (λ t. Is t.line) mine rest.0
                 (all_map (λ t. t.line ≡ step.line) (λ t. Is t.line) (λ t e. subst Is (sym e) h.0) mine
-                (is.lines p.lifted step)) rest.2,
+                (is.lines p.found step)) rest.2,
           )
 
   -- the ticket of an earlier line stays
@@ -94,63 +94,63 @@ module _ (tickets : PageView → List Ticket) (by : Part → Step → List Ticke
       → IsReplay knobs cpu next steps end
       → AllByRecursion (λ (t : Ticket). t.line < step.line) (tickets s.page)
       → AllByRecursion (λ (x : Step). step.line < x.line) steps
-      → ticket_at step.line (tickets end.page) ≡ ticket_at step.line (by p.lifted step)
+      → ticket_at step.line (tickets end.page) ≡ ticket_at step.line (by p.found step)
   ticket_found knobs cpu s step next steps end p r low high =
       ticket_kept step.line knobs cpu next steps end r high
-      ∙ ap (ticket_at step.line) (ap tickets p.page ∙ is.grows s.page s.part p.lifted step)
-      ∙ ticket_later step.line (tickets s.page) (by p.lifted step)
+      ∙ ap (ticket_at step.line) (ap tickets p.page ∙ is.grows s.page s.part p.found step)
+      ∙ ticket_later step.line (tickets s.page) (by p.found step)
       (all_map (λ t. t.line < step.line) (λ t. t.line ≢ step.line) (λ t a k. absurd (omega arith)) (tickets s.page) low)
 
   -- the lines on a page after a step
-  pub lines_up_to : (n : ℕ) (page : PageView) (part lifted : Part) (step : Step)
+  pub lines_up_to : (n : ℕ) (page : PageView) (part found : Part) (step : Step)
       → AllByRecursion (λ (t : Ticket). t.line ≤ n) (tickets page) → n ≤ step.line
-      → AllByRecursion (λ (t : Ticket). t.line ≤ step.line) (tickets (noted page part lifted step))
-  lines_up_to n page part lifted step h k =
-      subst (AllByRecursion (λ t. t.line ≤ step.line)) (sym (is.grows page part lifted step))
-      (all_append (λ t. t.line ≤ step.line) (tickets page) (by lifted step)
+      → AllByRecursion (λ (t : Ticket). t.line ≤ step.line) (tickets (noted page part found step))
+  lines_up_to n page part found step h k =
+      subst (AllByRecursion (λ t. t.line ≤ step.line)) (sym (is.grows page part found step))
+      (all_append (λ t. t.line ≤ step.line) (tickets page) (by found step)
       (all_map (λ t. t.line ≤ n) (λ t. t.line ≤ step.line) (λ t a. omega arith) (tickets page) h)
-      (all_map (λ t. t.line ≡ step.line) (λ t. t.line ≤ step.line) (λ t a. omega arith) (by lifted step)
-      (is.lines lifted step)))
+      (all_map (λ t. t.line ≡ step.line) (λ t. t.line ≤ step.line) (λ t a. omega arith) (by found step)
+      (is.lines found step)))
 
 -- the tickets that left
 abbrev pub left_of : Part → Step → List Ticket
-left_of lifted step = left_by lifted step step.deed
+left_of found step = left_by found step step.deed
 
 abbrev pub came_of : Part → Step → List Ticket
-came_of lifted step = came_by lifted step step.deed
+came_of found step = came_by found step step.deed
 
 one_line : {A : Type 0} (f : A → Ticket) (n : ℕ) → ((a : A) → (f a).line ≡ n) → (o : Option A)
     → AllByRecursion (λ (t : Ticket). t.line ≡ n) (option_to_list (option_map f o))
 one_line f n h None = tt
 one_line f n h (Some a) = (h a, tt)
 
-left_lines : (lifted : Part) (step : Step) (deed : Deed)
-    → AllByRecursion (λ (t : Ticket). t.line ≡ step.line) (left_by lifted step deed)
-left_lines lifted step (Switch prev pn way next nn) = tt
-left_lines lifted step (Wake pid nice) = tt
-left_lines lifted step (Born pid nice) = tt
-left_lines lifted step (Leave pid nice dest) = one_line _ step.line (λ a. refl) (lifted.tasks pid)
-left_lines lifted step (Arrive pid nice orig) = tt
+left_lines : (found : Part) (step : Step) (deed : Deed)
+    → AllByRecursion (λ (t : Ticket). t.line ≡ step.line) (left_by found step deed)
+left_lines found step (Switch prev pn way next nn) = tt
+left_lines found step (Wake pid nice) = tt
+left_lines found step (Born pid nice) = tt
+left_lines found step (Leave pid nice dest) = one_line _ step.line (λ a. refl) (found.tasks pid)
+left_lines found step (Arrive pid nice orig) = tt
 
-came_lines : (lifted : Part) (step : Step) (deed : Deed)
-    → AllByRecursion (λ (t : Ticket). t.line ≡ step.line) (came_by lifted step deed)
-came_lines lifted step (Switch prev pn way next nn) = tt
-came_lines lifted step (Wake pid nice) = tt
-came_lines lifted step (Born pid nice) = tt
-came_lines lifted step (Leave pid nice dest) = tt
-came_lines lifted step (Arrive pid nice orig) = one_line _ step.line (λ a. refl) step.claim
+came_lines : (found : Part) (step : Step) (deed : Deed)
+    → AllByRecursion (λ (t : Ticket). t.line ≡ step.line) (came_by found step deed)
+came_lines found step (Switch prev pn way next nn) = tt
+came_lines found step (Wake pid nice) = tt
+came_lines found step (Born pid nice) = tt
+came_lines found step (Leave pid nice dest) = tt
+came_lines found step (Arrive pid nice orig) = one_line _ step.line (λ a. refl) step.claim
 
 pub left_tickets : IsTickets (λ page. page.left) left_of
 left_tickets = record {
-  grows = λ page part lifted step. refl;
-  lines = λ lifted step. left_lines lifted step step.deed;
+  grows = λ page part found step. refl;
+  lines = λ found step. left_lines found step step.deed;
   keeps = λ page fault. refl;
 }
 
 pub came_tickets : IsTickets (λ page. page.came) came_of
 came_tickets = record {
-  grows = λ page part lifted step. refl;
-  lines = λ lifted step. came_lines lifted step step.deed;
+  grows = λ page part found step. refl;
+  lines = λ found step. came_lines found step step.deed;
   keeps = λ page fault. refl;
 }
 

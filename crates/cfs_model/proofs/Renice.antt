@@ -1,5 +1,5 @@
 -- A change of a nice value changes that of one task that stands: all else is as it was, so the order and the range are kept.
-use Rattle.std.proofs.Common.{◌≡◌, ◌≢◌, ℕ, Option, Some, None, ℤ, ◌⊎◌, inl, inr, is_some, refl, sym, ap, ◌∙◌, subst}
+use Rattle.std.proofs.Common.{◌≡◌, ◌≢◌, ℕ, Option, Some, None, ◌⊎◌, inl, inr, is_some, sym, ap, ◌∙◌, subst}
 use Rattle.cfs_model.specs.Machine.{Machine, AreValuesInRange, with_nice}
 use Rattle.cfs_model.specs.Reniced.{IsReniced}
 use Rattle.cfs_model.proofs.Moves.{put-same, put-other, same_or_not}
@@ -18,21 +18,29 @@ pub one_reniced : (cpu : ℕ) (change : Option NiceLine) (m after other : Machin
 one_reniced cpu None m after other a b = a ∙ sym b
 one_reniced cpu (Some change) m after other a b = a.1 ∙ sym b.1
 
+-- the same pids have a nice value
+pub reniced_keys : (cpu : ℕ) (change : Option NiceLine) (m after : Machine) → IsReniced cpu change m after → IsApart m
+    → (pid : ℕ) → is_some (after.nice pid) ≡ is_some (m.nice pid)
+reniced_keys cpu None m after r a pid = ap (λ (x : Machine). is_some (x.nice pid)) r
+reniced_keys cpu (Some change) m after r a pid = ap (λ (x : Machine). is_some (x.nice pid)) r.1
+    ∙ go (same_or_not pid change.pid)
+  where
+    go : (pid ≡ change.pid) ⊎ (pid ≢ change.pid)
+        → is_some ((with_nice m change.pid change.nice).nice pid) ≡ is_some (m.nice pid)
+    go (inl e) =
+        ap is_some (ap (with_nice m change.pid change.nice).nice e ∙ put-same m.nice change.pid (Some change.nice))
+        ∙ sym (ap (λ p. is_some (m.nice p)) e ∙ (a.nices change.pid).1 (r.0.0, cpu, r.0.1))
+    go (inr ne) = ap is_some (put-other m.nice change.pid (Some change.nice) pid ne)
+
 -- a change keeps the order
 pub reniced_apart : (cpu : ℕ) (change : Option NiceLine) (m after : Machine) → IsReniced cpu change m after → IsApart m
     → IsApart after
-reniced_apart cpu None m after r a = subst IsApart (sym r) a
-reniced_apart cpu (Some change) m after r a =
-    let found = with_nice m change.pid change.nice in
-    subst IsApart (sym r.1)
-    (apart_values m found (same_sets m found refl refl refl) (λ pid. refl) (λ pid. keys pid (same_or_not pid change.pid)) a)
-  where
-    keys : (pid : ℕ) → (pid ≡ change.pid) ⊎ (pid ≢ change.pid)
-        → is_some ((with_nice m change.pid change.nice).nice pid) ≡ is_some (m.nice pid)
-    keys pid (inl e) =
-        ap is_some (ap (with_nice m change.pid change.nice).nice e ∙ put-same m.nice change.pid (Some change.nice))
-        ∙ sym (ap (λ p. is_some (m.nice p)) e ∙ (a.nices change.pid).1 (r.0.0, cpu, r.0.1))
-    keys pid (inr ne) = ap is_some (put-other m.nice change.pid (Some change.nice) pid ne)
+reniced_apart cpu change m after r a =
+    let is = reniced_is cpu change m after r in
+    apart_values m after
+    (same_sets m after (ap (λ (x : Machine). x.running) is) (ap (λ (x : Machine). x.waiting) is)
+    (ap (λ (x : Machine). x.resting) is))
+    (λ pid. ap (λ (x : Machine). is_some (x.runtime pid)) is) (reniced_keys cpu change m after r a) a
 
 -- and the range
 pub reniced_range : (cpu : ℕ) (change : Option NiceLine) (m after : Machine) → IsReniced cpu change m after

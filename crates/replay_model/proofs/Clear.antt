@@ -1,9 +1,10 @@
--- The sixteen tests after the lift by name, and what can be decided.
+-- The tests on the part as a deed finds it: that of the change of a nice value, the sixteen of the deed by name, and what
+-- can be decided.
 use Rattle.std.proofs.Common.{◌≡◌, ◌≢◌, ℕ, Option, Some, None, ℤ, ◌⊎◌, inl, inr, refl, arith}
 use Rattle.std.proofs.lemmas.Int.{ints, by_lt_z}
 use Rattle.cfs_model.specs.Settings.{Settings}
 use Rattle.replay_model.specs.Part.{Part}
-use Rattle.replay_model.specs.QueueTests.{IsMoveHome, IsSelfSwitch, IsPrevNotRunning, IsStrange, IsAlready, IsMoveRunning, IsWrongPrio}
+use Rattle.replay_model.specs.QueueTests.{IsStrangeNice, IsMoveHome, IsSelfSwitch, IsPrevNotRunning, IsStrange, IsAlready, IsMoveRunning, IsWrongPrio}
 use Rattle.replay_model.specs.ClaimTests.{IsClaimMissing, IsClaimExtra, IsClaimPid, IsWrongPutBack, IsWakeOutside, IsForkOutside, IsNextNotWaiting, IsIdleBesideWaiting, IsNotLeast}
 use Rattle.replay_model.specs.Tests.{NoneHolds, late_tests}
 use Rattle.cfs_model.specs.declared.claim.Claim.{Claim}
@@ -14,7 +15,7 @@ use Rattle.replay_model.specs.declared.step.Step.{Step}
 use Rattle.cfs_model.specs.declared.task.Place.{Place}
 use Rattle.cfs_model.specs.declared.task.Place.TheVariants.{Run, Wait, Rest}
 
--- none of the tests after the lift holds
+-- none of the tests of a deed holds
 pub record IsClear (knobs : Settings) (cpu : ℕ) (part : Part) (deed : Deed) (claim : Option Claim) : Type 0 where
   pub home : (pid : ℕ) → ¬ IsMoveHome cpu deed pid
   pub self : (pid : ℕ) → ¬ IsSelfSwitch deed pid
@@ -36,11 +37,11 @@ pub record IsClear (knobs : Settings) (cpu : ℕ) (part : Part) (deed : Deed) (c
 pub clear_of : (knobs : Settings) (cpu : ℕ) (part : Part) (step : Step) → NoneHolds (late_tests knobs cpu part step)
     → IsClear knobs cpu part step.deed step.claim
 clear_of knobs cpu part step h =
-    let h3 = h.1.1.1 in let h7 = h3.1.1.1.1 in let h11 = h7.1.1.1.1 in
+    let h0 = h.1 in let h3 = h0.1.1.1 in let h7 = h3.1.1.1.1 in let h11 = h7.1.1.1.1 in
     record {
-      home = h.0;
-      self = h.1.0;
-      prev = h.1.1.0;
+      home = h0.0;
+      self = h0.1.0;
+      prev = h0.1.1.0;
       strange = h3.0;
       already = h3.1.0;
       running = h3.1.1.0;
@@ -56,31 +57,40 @@ clear_of knobs cpu part step h =
       least = h11.1.1.1.1.0;
     }
 
-pub none_of : (knobs : Settings) (cpu : ℕ) (part : Part) (step : Step) → IsClear knobs cpu part step.deed step.claim
+-- the task whose nice value changes stands here
+pub stands_of : (knobs : Settings) (cpu : ℕ) (part : Part) (step : Step) → NoneHolds (late_tests knobs cpu part step)
+    → (pid : ℕ) → ¬ IsStrangeNice part step.nice pid
+stands_of knobs cpu part step h = h.0
+
+pub none_of : (knobs : Settings) (cpu : ℕ) (part : Part) (step : Step)
+    → ((pid : ℕ) → ¬ IsStrangeNice part step.nice pid) → IsClear knobs cpu part step.deed step.claim
     → NoneHolds (late_tests knobs cpu part step)
-none_of knobs cpu part step c = (
-  c.home,
+none_of knobs cpu part step stands c = (
+  stands,
   (
-    c.self,
+    c.home,
     (
-      c.prev,
+      c.self,
       (
-        c.strange,
+        c.prev,
         (
-          c.already,
+          c.strange,
           (
-            c.running,
+            c.already,
             (
-              c.prio,
+              c.running,
               (
-                c.missing,
+                c.prio,
                 (
-                  c.extra,
+                  c.missing,
                   (
-                    c.other,
+                    c.extra,
                     (
-                      c.put_back,
-                      (c.wake, (c.fork, (c.next, (c.idle, (c.least, tt))))),
+                      c.other,
+                      (
+                        c.put_back,
+                        (c.wake, (c.fork, (c.next, (c.idle, (c.least, tt))))),
+                      ),
                     ),
                   ),
                 ),

@@ -119,7 +119,7 @@ later knobs m time s event events end alive at after step a = record {
   times_rise = at.times_rise.1;
   claims = at.claims.1;
   agree = at.agree.1;
-  roll = roll_step alive knobs m event after at.roll step;
+  roll = roll_step alive knobs m event after (at.follows 0).order at.roll step;
   new = at.new.1;
 }
 

@@ -44,7 +44,7 @@ pub record Advanced (knobs : Settings) (cpu : ℕ) (event : Claimed) (after : Ma
   pub replay : IsReplay knobs cpu next (steps_at cpu events) last
   pub begun : (x : ℕ) → next.since ≡ Some x → (s.since ≡ Some x) ⊎ (x ≡ event.entry.time)
   pub kept : (x : ℕ) → s.since ≡ Some x → IsIdlePart next.part → next.since ≡ Some x
-  pub page : (next.page ≡ s.page) ⊎ ((lifted : Part) × (next.page ≡ noted s.page s.part lifted (step_at cpu event)))
+  pub page : (next.page ≡ s.page) ⊎ ((found : Part) × (next.page ≡ noted s.page s.part found (step_at cpu event)))
 
 -- what a since says of the one before
 pub since_idles : (before : Option ℕ) (time : ℕ) (part : Part) (since : Option ℕ) → IsSince before time part since
@@ -122,7 +122,7 @@ advance_here knobs cpu m time s event after events last f o late slack step r = 
       begun = since_begun s.since event.entry.time r.0.part r.0.since k.since;
       kept = λ x e i. since_told s.since event.entry.time r.0.part r.0.since k.since i
           ∙ ap (λ y. Some (unwrap_or y event.entry.time)) e;
-      page = inr (k.lifted, k.page);
+      page = inr (k.found, k.page);
     }
 
 -- an event that touches another

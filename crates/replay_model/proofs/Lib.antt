@@ -30,6 +30,7 @@ pub mod PartLift
 pub mod PartMigration
 pub mod PartMoves
 pub mod PartPlaced
+pub mod PartRenice
 pub mod PartSteps
 pub mod PartSwitch
 pub mod PlacedClear

@@ -14,7 +14,7 @@ use Rattle.replay_model.specs.Cut.{step_at}
 use Rattle.replay_model.specs.Following.{last_of, SlackFails}
 use Rattle.replay_model.specs.Cause.{FaultCause, FailsOn, FailsAt, PassesAt, IsActCause, IsIdlingCause, IsCause}
 use Rattle.cfs_model.proofs.OneNext.{one_list}
-use Rattle.replay_model.proofs.OneLift.{same_lift, none_first}
+use Rattle.replay_model.proofs.OneLift.{same_found, none_first}
 use Rattle.replay_model.proofs.OnePid.{range_one, late_one, one_first}
 use Rattle.replay_model.proofs.PartFacts.{stands_at}
 use Rattle.replay_model.proofs.RunEndings.{order_after}
@@ -39,17 +39,17 @@ one_test knobs cpu part step one kind other p q (inl h) (inr k) = absurd (k.0 p 
 one_test knobs cpu part step one kind other p q (inr h) (inl k) = absurd (h.0 q k.0)
 one_test knobs cpu part step one kind other p q (inr h) (inr k) =
     one_first (late_tests knobs cpu k.1.0 step) (late_one knobs cpu k.1.0 step) kind other p q
-    (subst (λ x. FirstHolds (late_tests knobs cpu x step) kind p) (same_lift step.time part h.1.0 k.1.0 h.1.1 k.1.1)
+    (subst (λ x. FirstHolds (late_tests knobs cpu x step) kind p) (same_found step part h.1.0 k.1.0 h.1.1 k.1.1)
     h.1.2) k.1.2
 
 -- none fails on a part that passes
-passes_or_fails : (knobs : Settings) (cpu : ℕ) (part : Part) (step : Step) (lifted : Part) (kind : Kind) (pid : ℕ)
-    → PassesTests knobs cpu part step lifted → FailsOn knobs cpu part step kind pid → ⊥
-passes_or_fails knobs cpu part step lifted kind pid p (inl h) = p.in_range pid h.0
-passes_or_fails knobs cpu part step lifted kind pid p (inr h) =
-    none_first (late_tests knobs cpu lifted step) kind pid p.none
+passes_or_fails : (knobs : Settings) (cpu : ℕ) (part : Part) (step : Step) (found : Part) (kind : Kind) (pid : ℕ)
+    → PassesTests knobs cpu part step found → FailsOn knobs cpu part step kind pid → ⊥
+passes_or_fails knobs cpu part step found kind pid p (inl h) = p.in_range pid h.0
+passes_or_fails knobs cpu part step found kind pid p (inr h) =
+    none_first (late_tests knobs cpu found step) kind pid p.none
     (subst (λ x. FirstHolds (late_tests knobs cpu x step) kind pid)
-    (same_lift step.time part h.1.0 lifted h.1.1 p.is_lifted) h.1.2)
+    (same_found step part h.1.0 found h.1.1 p.is_found) h.1.2)
 
 -- at most one task runs at a processor of an ordered machine
 one_runs_at : (m : Machine) → IsInOrder m → (cpu : ℕ) → OneRunsIn (part_of m cpu)
@@ -63,10 +63,10 @@ module _ (knobs : Settings) (m : Machine) (o : IsInOrder m) (event : Claimed) (a
       same_cause a b (f.here ∙ sym g.here) t.1 t.0
 
   -- a test fails at a processor, or all pass there
-  not_both : (cpu : ℕ) (c : FaultCause) (lifted : Part) → FailsAt knobs m cpu event c → PassesAt knobs m cpu event lifted
+  not_both : (cpu : ℕ) (c : FaultCause) (found : Part) → FailsAt knobs m cpu event c → PassesAt knobs m cpu event found
       → a ≡ b
-  not_both cpu c lifted f p = absurd
-      (passes_or_fails knobs cpu (part_of m cpu) (step_at cpu event) lifted c.kind c.pid p f.fails)
+  not_both cpu c found f p = absurd
+      (passes_or_fails knobs cpu (part_of m cpu) (step_at cpu event) found c.kind c.pid p f.fails)
 
   one_shift : (orig dest pid : ℕ) (nice : ℤ) → IsActCause knobs m event (Shift orig dest pid nice) a
       → IsActCause knobs m event (Shift orig dest pid nice) b → a ≡ b
@@ -84,8 +84,8 @@ module _ (knobs : Settings) (m : Machine) (o : IsInOrder m) (event : Claimed) (a
   one_act (Switch cpu prev pn way next nn) f g = one_failure cpu f g
   one_act (Wake cpu pid nice) f g = one_failure cpu f g
   one_act (Born cpu pid nice) (inl f) (inl g) = one_failure cpu f g
-  one_act (Born cpu pid nice) (inl f) (inr g) = not_both cpu a g.lifted f g.passes
-  one_act (Born cpu pid nice) (inr f) (inl g) = not_both cpu b f.lifted g f.passes
+  one_act (Born cpu pid nice) (inl f) (inr g) = not_both cpu a g.found f g.passes
+  one_act (Born cpu pid nice) (inr f) (inl g) = not_both cpu b f.found g f.passes
   one_act (Born cpu pid nice) (inr f) (inr g) = f.is ∙ sym g.is
   one_act (Shift orig dest pid nice) f g = one_shift orig dest pid nice f g
 

@@ -1,10 +1,11 @@
--- A part has at most one lift and one since, and what the first test that holds says is against none holding.
+-- A part has at most one lift, one way in which a deed finds it and one since, and what the first test that holds says is against none holding.
 use Rattle.std.proofs.Common.{◌≡◌, ℕ, Option, ℤ, ◌≤ℤ◌, inl, inr, List, [], ◌∷◌, sym, ap, ◌∙◌, subst, arith}
 use Rattle.std.proofs.lemmas.Int.{ints}
 use Rattle.std.specs.Int.{int_max}
 use Rattle.cfs_model.specs.Settings.{Settings}
 use Rattle.replay_model.specs.Part.{Part, charged_part, IsLeastHere, IsRaisedHere, IsLiftedPart}
-use Rattle.replay_model.specs.Deeds.{after_deed}
+use Rattle.replay_model.specs.Found.{IsFound}
+use Rattle.replay_model.specs.Deeds.{reniced, after_deed}
 use Rattle.replay_model.specs.QueueTests.{IsIdleTooLong}
 use Rattle.replay_model.specs.Tests.{Test, NoneHolds, FirstHolds, early_tests, late_tests}
 use Rattle.replay_model.specs.PartStep.{PartStep}
@@ -30,6 +31,12 @@ pub same_lift : (time : ℕ) (before one other : Part) → IsLiftedPart time bef
 same_lift time before one other a b =
     a.result ∙ ap (λ f. record (charged_part before time) { floor = f })
     (same_floor (charged_part before time) a.floor b.floor a.raised b.raised) ∙ sym b.result
+
+-- at most one part as a deed finds it
+pub same_found : (step : Step) (before one other : Part) → IsFound step before one → IsFound step before other → one ≡ other
+same_found step before one other a b =
+    a.is_reniced ∙ ap (reniced step.nice) (same_lift step.time before a.lifted b.lifted a.is_lifted b.is_lifted)
+    ∙ sym b.is_reniced
 
 -- at most one since
 pub same_since : (before : Option ℕ) (time : ℕ) (part : Part) (one other : Option ℕ) → IsSince before time part one
@@ -57,7 +64,7 @@ step_no_fault knobs cpu before step part after s in_time f = go f.fails
     go (inr late) =
         none_first (late_tests knobs cpu late.0 step) f.kind f.pid
         (subst (λ p. NoneHolds (late_tests knobs cpu p step))
-        (same_lift step.time before.part s.lifted late.0 s.passes.is_lifted late.2) s.passes.none) late.3
+        (same_found step before.part s.found late.0 s.passes.is_found late.2) s.passes.none) late.3
 
 -- the part after a step that passes is that of the part's step
 pub step_same_part : (knobs : Settings) (cpu : ℕ) (before : ReplayStateView) (step : Step) (part : Part) (after : ReplayStateView)
@@ -65,4 +72,4 @@ pub step_same_part : (knobs : Settings) (cpu : ℕ) (before : ReplayStateView) (
     → PassesStep knobs cpu before step after → after.part ≡ part
 step_same_part knobs cpu before step part after s p =
     p.part ∙ ap (λ x. after_deed x step.deed step.claim)
-    (same_lift step.time before.part p.lifted s.lifted p.passes.is_lifted s.passes.is_lifted) ∙ sym s.result
+    (same_found step before.part p.found s.found p.passes.is_found s.passes.is_found) ∙ sym s.result

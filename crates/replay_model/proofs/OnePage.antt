@@ -9,7 +9,7 @@ use Rattle.replay_model.specs.Noted.{noted}
 use Rattle.replay_model.specs.Page.{ReplayStateView, IsSince, PassesStep, FailsTest, FailsStep, deadline_of, with_fault, IsReplayStep, IsReplay, IsStartOf, end_page}
 use Rattle.replay_model.specs.OnePage.{OneRunsIn, OnePage}
 use Rattle.replay_model.proofs.Clear.{clear_of}
-use Rattle.replay_model.proofs.OneLift.{same_lift, same_since, none_first, step_no_fault}
+use Rattle.replay_model.proofs.OneLift.{same_found, same_since, none_first, step_no_fault}
 use Rattle.replay_model.proofs.OnePid.{one_first, early_one, late_one}
 use Rattle.replay_model.proofs.OneRunner.{step_one_runs}
 use Rattle.cfs_model.specs.declared.kind.Kind.{Kind}
@@ -25,18 +25,17 @@ same_progress a b e f g =
 -- the part's step of a step that passes
 mine : (knobs : Settings) (cpu : ℕ) (s : ReplayStateView) (step : Step) (a : ReplayStateView) → PassesStep knobs cpu s step a
     → PartStep knobs cpu s.part step a.part
-mine knobs cpu s step a p = record { lifted = p.lifted; passes = p.passes; result = p.part }
+mine knobs cpu s step a p = record { found = p.found; passes = p.passes; result = p.part }
 
 pass_one : (knobs : Settings) (cpu : ℕ) (s : ReplayStateView) (step : Step) (a b : ReplayStateView) → PassesStep knobs cpu s step a
     → PassesStep knobs cpu s step b → a ≡ b
 pass_one knobs cpu s step a b p q =
-    let lift : p.lifted ≡ q.lifted = same_lift step.time s.part p.lifted q.lifted p.passes.is_lifted
-    q.passes.is_lifted in
-    let part : a.part ≡ b.part = p.part ∙ ap (λ x. after_deed x step.deed step.claim) lift ∙ sym q.part in
+    let found : p.found ≡ q.found = same_found step s.part p.found q.found p.passes.is_found q.passes.is_found in
+    let part : a.part ≡ b.part = p.part ∙ ap (λ x. after_deed x step.deed step.claim) found ∙ sym q.part in
     same_progress a b part
     (same_since s.since step.time b.part a.since b.since
     (subst (λ x. IsSince s.since step.time x a.since) part p.since) q.since)
-    (p.page ∙ ap (λ x. noted s.page s.part x step) lift ∙ sym q.page)
+    (p.page ∙ ap (λ x. noted s.page s.part x step) found ∙ sym q.page)
 
 fail_test_one : (knobs : Settings) (cpu : ℕ) (s : ReplayStateView) (step : Step) → OneRunsIn s.part
     → (kind other : Kind) (p q : ℕ) → FailsTest knobs cpu s step kind p → FailsTest knobs cpu s step other q
@@ -49,7 +48,7 @@ fail_test_one knobs cpu s step one kind other p q (inr h) (inl k) = absurd
     (none_first (early_tests knobs s.since s.part step) other q h.1 k)
 fail_test_one knobs cpu s step one kind other p q (inr h) (inr k) =
     one_first (late_tests knobs cpu k.0 step) (late_one knobs cpu k.0 step) kind other p q
-    (subst (λ x. FirstHolds (late_tests knobs cpu x step) kind p) (same_lift step.time s.part h.0 k.0 h.2 k.2) h.3) k.3
+    (subst (λ x. FirstHolds (late_tests knobs cpu x step) kind p) (same_found step s.part h.0 k.0 h.2 k.2) h.3) k.3
 
 fail_one : (knobs : Settings) (cpu : ℕ) (s : ReplayStateView) (step : Step) → OneRunsIn s.part → (a b : ReplayStateView)
     → FailsStep knobs cpu s step a → FailsStep knobs cpu s step b → a ≡ b
@@ -76,8 +75,8 @@ step_keeps : (knobs : Settings) (cpu : ℕ) (s : ReplayStateView) (step : Step) 
 step_keeps knobs cpu s step one (Some fault) a p = subst (λ x. OneRunsIn x.part) (sym p) one
 step_keeps knobs cpu s step one None a (inl p) =
     subst OneRunsIn (sym p.part)
-    (step_one_runs knobs cpu step.time s.part p.lifted step.deed step.claim one p.passes.is_lifted
-    (clear_of knobs cpu p.lifted step p.passes.none))
+    (step_one_runs knobs cpu s.part p.found step one p.passes.is_found
+    (clear_of knobs cpu p.found step p.passes.none))
 step_keeps knobs cpu s step one None a (inr p) = subst (λ x. OneRunsIn x.part) (sym p.result) one
 
 pub replay_one : (knobs : Settings) (cpu : ℕ) (s : ReplayStateView) (steps : List Step) (a b : ReplayStateView) → OneRunsIn s.part

@@ -3,7 +3,7 @@ use Rattle.std.proofs.Common.{◌≡◌, ℕ, zero, suc, Option, Some, None, opt
 use Rattle.std.specs.Bool.{⊤}
 use Rattle.cfs_model.specs.Settings.{Settings}
 use Rattle.replay_model.specs.Part.{Part, Entity, IsIn}
-use Rattle.replay_model.specs.QueueTests.{IsIdleTooLong, IsOutOfRange, IsMoveHome, IsSelfSwitch, IsPrevNotRunning, IsStrange, IsAlready, IsMoveRunning, IsWrongPrio}
+use Rattle.replay_model.specs.QueueTests.{IsIdleTooLong, IsOutOfRange, IsStrangeNice, IsMoveHome, IsSelfSwitch, IsPrevNotRunning, IsStrange, IsAlready, IsMoveRunning, IsWrongPrio}
 use Rattle.replay_model.specs.ClaimTests.{claimant, IsClaimMissing, IsClaimExtra, IsClaimPid, IsWrongPutBack, IsWakeOutside, IsForkOutside, IsNextNotWaiting, IsIdleBesideWaiting, IsNotLeast}
 use Rattle.replay_model.specs.OnePage.{OneRunsIn}
 use Rattle.replay_model.specs.Tests.{Test, FirstHolds, early_tests, late_tests}
@@ -11,6 +11,7 @@ use Rattle.replay_model.proofs.SwitchClear.{same_some}
 use Rattle.cfs_model.specs.declared.act.Way.TheVariants.{Stays, Sleeps, Ends}
 use Rattle.cfs_model.specs.declared.claim.Claim.{Claim}
 use Rattle.cfs_model.specs.declared.kind.Kind.{Kind}
+use Rattle.cfs_model.specs.declared.nice_line.NiceLine.{NiceLine}
 use Rattle.replay_model.specs.declared.step.Deed.{Deed}
 use Rattle.replay_model.specs.declared.step.Deed.TheVariants.{Switch, Wake, Born, Leave, Arrive}
 use Rattle.replay_model.specs.declared.step.Step.{Step}
@@ -46,6 +47,10 @@ range_one part time one p q h k = one p q (runs p h) (runs q k)
   where
     runs : (pid : ℕ) → IsOutOfRange part time pid → IsIn part Run pid
     runs pid h = ap (option_map (λ (s : Entity). s.place)) h.stands ∙ ap Some h.runs
+
+nice_one : (part : Part) (change : Option NiceLine) → OfOne (IsStrangeNice part change)
+nice_one part None p q h k = absurd h
+nice_one part (Some change) p q h k = both change.pid p q h.1 k.1
 
 module _ (cpu : ℕ) (part : Part) where
   home_one : (deed : Deed) → OfOne (IsMoveHome cpu deed)
@@ -176,32 +181,35 @@ early_one knobs since part step one = (idle_one knobs.slack since step.time, (ra
 pub late_one : (knobs : Settings) (cpu : ℕ) (part : Part) (step : Step) → EachOfOne (late_tests knobs cpu part step)
 late_one knobs cpu part step =
     let d = step.deed in let c = step.claim in (
-      home_one cpu part d,
+      nice_one part step.nice,
       (
-        self_one cpu part d,
+        home_one cpu part d,
         (
-          prev_one cpu part d,
+          self_one cpu part d,
           (
-            strange_one cpu part d,
+            prev_one cpu part d,
             (
-              already_one cpu part d,
+              strange_one cpu part d,
               (
-                running_one cpu part d,
+                already_one cpu part d,
                 (
-                  prio_one cpu part d,
+                  running_one cpu part d,
                   (
-                    missing_one cpu part d c,
+                    prio_one cpu part d,
                     (
-                      extra_one cpu part d c,
+                      missing_one cpu part d c,
                       (
-                        other_one cpu part d c,
+                        extra_one cpu part d c,
                         (
-                          put_back_one cpu part d c,
+                          other_one cpu part d c,
                           (
-                            wake_one cpu part knobs.credit d c,
+                            put_back_one cpu part d c,
                             (
-                              fork_one cpu part knobs.debit d c,
-                              (next_one cpu part d, (beside_one cpu part d, (least_one cpu part knobs.granularity d, tt))),
+                              wake_one cpu part knobs.credit d c,
+                              (
+                                fork_one cpu part knobs.debit d c,
+                                (next_one cpu part d, (beside_one cpu part d, (least_one cpu part knobs.granularity d, tt))),
+                              ),
                             ),
                           ),
                         ),

@@ -2,11 +2,13 @@
 use Rattle.std.proofs.Common.{◌≡◌, ◌≢◌, ℕ, zero, suc, Option, Some, None, option_map, ℤ, ◌⊎◌, inl, inr, refl, sym, ap, ◌∙◌, subst}
 use Rattle.cfs_model.specs.Settings.{Settings}
 use Rattle.replay_model.specs.Part.{Part, Entity, place_in, IsIn, NobodyIn, charged_in, IsLiftedPart}
+use Rattle.replay_model.specs.Found.{IsFound}
 use Rattle.replay_model.specs.Deeds.{with_entity, goes, part_after_prev, part_after_next, woken, place_of_sort, after_deed}
 use Rattle.replay_model.specs.QueueTests.{IsRunner}
 use Rattle.replay_model.specs.OnePage.{OneRunsIn}
 use Rattle.cfs_model.proofs.Moves.{put-same, put-other, same_or_not}
 use Rattle.replay_model.proofs.Clear.{IsClear, place_or}
+use Rattle.replay_model.proofs.PartRenice.{reniced_in}
 use Rattle.replay_model.proofs.SwitchClear.{no_some}
 use Rattle.cfs_model.specs.declared.act.Way.{Way}
 use Rattle.cfs_model.specs.declared.act.Way.TheVariants.{Stays, Sleeps, Ends}
@@ -15,6 +17,7 @@ use Rattle.cfs_model.specs.declared.claim.ClaimSort.{ClaimSort}
 use Rattle.cfs_model.specs.declared.claim.ClaimSort.TheVariants.{At, Pass}
 use Rattle.replay_model.specs.declared.step.Deed.{Deed}
 use Rattle.replay_model.specs.declared.step.Deed.TheVariants.{Switch, Wake, Born, Leave, Arrive}
+use Rattle.replay_model.specs.declared.step.Step.{Step}
 use Rattle.cfs_model.specs.declared.task.Place.{Place}
 use Rattle.cfs_model.specs.declared.task.Place.TheVariants.{Run, Wait, Rest}
 
@@ -120,10 +123,17 @@ deed_one_runs knobs cpu l (Leave pid nice dest) claim one c = none_more l one pi
 deed_one_runs knobs cpu l (Arrive pid nice orig) claim one c = none_more l one pid _
     (λ h. absurd (come_run nice claim h))
 
--- after a lift and a deed that passes
-pub step_one_runs : (knobs : Settings) (cpu time : ℕ) (part lifted : Part) (deed : Deed) (claim : Option Claim)
-    → OneRunsIn part → IsLiftedPart time part lifted → IsClear knobs cpu lifted deed claim
-    → OneRunsIn (after_deed lifted deed claim)
-step_one_runs knobs cpu time part lifted deed claim one l c =
-    deed_one_runs knobs cpu lifted deed claim
-    (λ p q a b. one p q (sym (lifted_in time part lifted l p) ∙ a) (sym (lifted_in time part lifted l q) ∙ b)) c
+-- nor does a change of a nice value
+found_in : (step : Step) (part found : Part) → IsFound step part found → (pid : ℕ)
+    → place_in found pid ≡ place_in part pid
+found_in step part found f pid =
+    ap (λ (x : Part). place_in x pid) f.is_reniced ∙ reniced_in step.nice f.lifted pid
+    ∙ lifted_in step.time part f.lifted f.is_lifted pid
+
+-- after a step that passes
+pub step_one_runs : (knobs : Settings) (cpu : ℕ) (part found : Part) (step : Step)
+    → OneRunsIn part → IsFound step part found → IsClear knobs cpu found step.deed step.claim
+    → OneRunsIn (after_deed found step.deed step.claim)
+step_one_runs knobs cpu part found step one f c =
+    deed_one_runs knobs cpu found step.deed step.claim
+    (λ p q a b. one p q (sym (found_in step part found f p) ∙ a) (sym (found_in step part found f q) ∙ b)) c

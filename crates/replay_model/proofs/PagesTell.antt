@@ -151,12 +151,12 @@ module _ (knobs : Settings) (start : ℕ) (floors : List ℤ) (tasks : List Task
   passes_at : (cpu : ℕ) → (k : cpu < cpus) → touches cpu event ≡ true → (¬ IdlesBefore event (pages cpu).fault)
       → (¬ FailsHere event (pages cpu).fault)
       → (p : PassesFirst knobs cpu (at cpu).mid event (rest cpu) ((at cpu).back k).end)
-      × PassesAt knobs m cpu event p.passes.lifted
+      × PassesAt knobs m cpu event p.passes.found
   passes_at cpu k t idles here =
       let p = passes_there knobs start before (rest cpu) event cpu (pages cpu) (at cpu).mid (at cpu).passes.no_fault
       ((at cpu).back k) t idles here in (
         p,
-        subst (λ part. PassesTests knobs cpu part (step_at cpu event) p.passes.lifted) (sym (part_is cpu))
+        subst (λ part. PassesTests knobs cpu part (step_at cpu event) p.passes.found) (sym (part_is cpu))
             p.passes.passes,
       )
 
@@ -168,7 +168,7 @@ module _ (knobs : Settings) (start : ℕ) (floors : List ℤ) (tasks : List Task
   stands_somewhere : (pid : ℕ) → roll_of (named tasks) before pid ≡ true → StandsSomewhere m pid
   stands_somewhere pid alive = (order.nices pid).0
       (roll_run (named tasks) knobs (start_machine start floors tasks) before run.states run.steps
-      (start_roll start floors tasks) pid ∙ alive)
+      (start_in_order start floors tasks (r 0).is_start) (start_roll start floors tasks) pid ∙ alive)
 
   one_cause : (cpu : ℕ) (cause : FaultCause) → AllByRecursion (λ (c : ℕ). c < cpus) (cpu ∷ [])
       → touched event.entry.act ≡ cpu ∷ [] → IsPageCause event cpu (pages cpu) cause
@@ -183,11 +183,11 @@ module _ (knobs : Settings) (start : ℕ) (floors : List ℤ) (tasks : List Task
       let p = passes_at cpu k (touches_first cpu event.entry.act [] (ap touched e)) idles here in
       let s = stands_somewhere pid alive in (
         record {
-          lifted = p.0.passes.lifted;
+          found = p.0.passes.found;
           passes = p.1;
           place = s.0;
           other = s.1;
-          elsewhere = λ same. not_born_here knobs m order event cpu cpu pid nice p.0.passes.lifted e p.1 s.0
+          elsewhere = λ same. not_born_here knobs m order event cpu cpu pid nice p.0.passes.found e p.1 s.0
               (subst (λ x. Stands m s.0 x pid) same s.2);
           stands = s.2;
           is = is;
@@ -200,8 +200,8 @@ module _ (knobs : Settings) (start : ℕ) (floors : List ℤ) (tasks : List Task
       → (l : dest < cpus) → (o : PassesFirst knobs orig (at orig).mid event (rest orig) ((at orig).back k).end)
       → (d : PassesFirst knobs dest (at dest).mid event (rest dest) ((at dest).back l).end)
       → ticket_at event.entry.line (pages orig).left ≢ ticket_at event.entry.line (pages dest).came
-      → left_ticket o.passes.lifted event.entry.line pid
-      ≢ came_ticket d.passes.lifted event.entry.line pid nice event.claim
+      → left_ticket o.passes.found event.entry.line pid
+      ≢ came_ticket d.passes.found event.entry.line pid nice event.claim
   unequal orig dest pid nice e k l o d differ same =
       let line = event.entry.line in
       let left = left_is knobs event orig dest pid nice e (rest orig) (at orig).mid o.next ((at orig).back k).end o.passes
@@ -224,14 +224,14 @@ module _ (knobs : Settings) (start : ℕ) (floors : List ℤ) (tasks : List Task
   shift_cause orig dest pid nice cause e k l idles (inr (inl c)) =
       let p = passes_at orig k (touches_first orig event.entry.act (dest ∷ []) (ap touched e)) (idles orig k) c.0 in
       let f = fails_at dest cause l (touches_second dest orig event.entry.act (ap touched e)) c.1 in
-      (inr (inl (record { left = p.0.passes.lifted; leaves = p.1; fails = f.0 })), f.1)
+      (inr (inl (record { left = p.0.passes.found; leaves = p.1; fails = f.0 })), f.1)
   shift_cause orig dest pid nice cause e k l idles (inr (inr c)) =
       let o = passes_at orig k (touches_first orig event.entry.act (dest ∷ []) (ap touched e)) (idles orig k) c.0 in
       let d = passes_at dest l (touches_second dest orig event.entry.act (ap touched e)) (idles dest l) c.1 in
       let differ = unequal orig dest pid nice e k l o.0 d.0 c.2 in (
         inr (inr (record {
-          left = o.0.passes.lifted;
-          came = d.0.passes.lifted;
+          left = o.0.passes.found;
+          came = d.0.passes.found;
           leaves = o.1;
           arrives = d.1;
           differ = differ;

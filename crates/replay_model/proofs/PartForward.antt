@@ -1,17 +1,21 @@
 -- A step of the machine by an event that touches one processor is a step of the part there, and other parts stay.
-use Rattle.std.proofs.Common.{◌≡◌, ℕ, Option, [], ◌∷◌, sym, ◌∙◌, subst}
+use Rattle.std.proofs.Common.{◌≡◌, ℕ, Option, [], ◌∷◌, sym, ap, ◌∙◌, subst}
 use Rattle.cfs_model.specs.Settings.{Settings}
 use Rattle.cfs_model.specs.Machine.{Machine, Stands, with_floor}
 use Rattle.cfs_model.specs.Touch.{touched}
 use Rattle.cfs_model.specs.Lifted.{charged, IsLiftedAt, IsLifted}
+use Rattle.cfs_model.specs.Reniced.{IsReniced}
 use Rattle.cfs_model.specs.Step.{Changes}
 use Rattle.replay_model.specs.Part.{part_of}
-use Rattle.replay_model.specs.Deeds.{after_deed}
+use Rattle.replay_model.specs.Deeds.{reniced, after_deed}
+use Rattle.replay_model.specs.QueueTests.{IsStrangeNice}
 use Rattle.replay_model.specs.Cut.{deed_at, claim_for, step_at}
 use Rattle.replay_model.specs.PartStep.{BornNowhere, OthersStay, PartSteps}
 use Rattle.cfs_model.proofs.KeptOrder.{IsApart, lifted_apart}
 use Rattle.cfs_model.proofs.StepOrder.{apart_of}
+use Rattle.cfs_model.proofs.Renice.{reniced_apart}
 use Rattle.replay_model.proofs.PartLift.{lifted_here}
+use Rattle.replay_model.proofs.PartRenice.{reniced_here, reniced_stands, home_is, nice_is}
 use Rattle.replay_model.proofs.PartSwitch.{switch_part}
 use Rattle.replay_model.proofs.SwitchClear.{switch_clear}
 use Rattle.replay_model.proofs.PartPlaced.{wake_part, birth_part}
@@ -66,13 +70,12 @@ still_stands m lifted time cpu l place d pid h = subst (λ x. Stands x place d p
     go Wait h = h
     go Rest h = h
 
-nowhere_before : (m lifted : Machine) (time cpu : ℕ) → IsLiftedAt time cpu m lifted → (act : Act)
-    → BornNowhere lifted act → BornNowhere m act
-nowhere_before m lifted time cpu l (Switch here prev pn way next nn) b = tt
-nowhere_before m lifted time cpu l (Wake here pid nice) b = tt
-nowhere_before m lifted time cpu l (Born here pid nice) b = λ place other h. b place other
-    (still_stands m lifted time cpu l place other pid h)
-nowhere_before m lifted time cpu l (Shift orig dest pid nice) b = tt
+nowhere_before : (m found : Machine) → ((place : Place) (d pid : ℕ) → Stands m place d pid → Stands found place d pid)
+    → (act : Act) → BornNowhere found act → BornNowhere m act
+nowhere_before m found still (Switch here prev pn way next nn) b = tt
+nowhere_before m found still (Wake here pid nice) b = tt
+nowhere_before m found still (Born here pid nice) b = λ place other h. b place other (still place other pid h)
+nowhere_before m found still (Shift orig dest pid nice) b = tt
 
 pub part_steps : PartSteps
 part_steps knobs before after event cpu o t s =
@@ -82,19 +85,29 @@ part_steps knobs before after event cpu o t s =
     (λ cpus. IsLifted time cpus before s.lifted) t s.is_lifted in
     let l : IsLiftedAt time cpu before s.lifted = subst (λ x. IsLiftedAt time cpu before x) (sym one.2) one.1 in
     let h = lifted_here before (apart_of before o) time cpu s.lifted l in
-    let c = change_says knobs s.lifted
-    (lifted_apart time (touched act) before s.lifted s.is_lifted (apart_of before o)) cpu act event.claim after t
+    let a = lifted_apart time (touched act) before s.lifted s.is_lifted (apart_of before o) in
+    let r : IsReniced cpu event.nice s.lifted s.found = subst (λ x. IsReniced x event.nice s.lifted s.found)
+    (home_is act cpu t) s.is_reniced in
+    let n = reniced_here s.lifted a cpu event.nice s.found r in
+    let nice = nice_is act cpu event.nice t in
+    let c = change_says knobs s.found (reniced_apart cpu event.nice s.lifted s.found r a) cpu act event.claim after t
     s.changes in (
-      nowhere_before before s.lifted time cpu l act c.nowhere,
+      nowhere_before before s.found
+          (λ place d pid k. reniced_stands cpu event.nice s.lifted s.found r place d pid
+          (still_stands before s.lifted time cpu l place d pid k)) act c.nowhere,
       record {
-        lifted = part_of s.lifted cpu;
+        found = part_of s.found cpu;
         passes = record {
           in_range = h.0;
-          is_lifted = h.1;
-          none = none_of knobs cpu (part_of s.lifted cpu)
-              (step_at cpu event) c.clear;
+          is_found = record {
+            lifted = part_of s.lifted cpu;
+            is_lifted = h.1;
+            is_reniced = n.0 ∙ ap (λ x. reniced x (part_of s.lifted cpu)) (sym nice);
+          };
+          none = none_of knobs cpu (part_of s.found cpu) (step_at cpu event)
+              (subst (λ x. (pid : ℕ) → ¬ IsStrangeNice (part_of s.found cpu) x pid) (sym nice) n.2) c.clear;
         };
         result = c.here;
       },
-      (λ d ne. c.others d ne ∙ h.2 d ne),
+      (λ d ne. c.others d ne ∙ n.1 d ne ∙ h.2 d ne),
     )

@@ -1,8 +1,8 @@
 -- A migration's own change in the machine, and in the parts at its two ends.
-use Rattle.std.proofs.Common.{◌≡◌, ◌≢◌, ℕ, Bool, true, false, Option, Some, None, option_map, ℤ, ◌+ℤ◌, ◌-ℤ◌, inl, inr, refl, sym, ap, ◌∙◌, subst, arith}
+use Rattle.std.proofs.Common.{◌≡◌, ◌≢◌, ℕ, true, false, Option, Some, None, option_map, ℤ, ◌+ℤ◌, ◌-ℤ◌, inl, inr, refl, sym, ap, ◌∙◌, subst, arith}
 use Rattle.std.proofs.lemmas.Int.{ints}
 use Rattle.cfs_model.specs.Settings.{Settings}
-use Rattle.cfs_model.specs.Machine.{Machine, Stands, put_pair, pairs_of, with_pairs, with_move, without_task, with_runtime}
+use Rattle.cfs_model.specs.Machine.{Machine, Stands, put_pair, pairs_of, with_move, without_task, with_runtime}
 use Rattle.cfs_model.specs.Claimed.{ClaimSays}
 use Rattle.cfs_model.specs.Step.{MovesBy, IsMigration}
 use Rattle.replay_model.specs.Part.{Part, Entity, part_of, entity_at}

@@ -3,20 +3,24 @@ use Rattle.std.proofs.Common.{◌≡◌, ℕ, Option, ℤ, [], ◌∷◌, refl, 
 use Rattle.cfs_model.specs.Settings.{Settings}
 use Rattle.cfs_model.specs.Machine.{Machine, Stands, with_floor}
 use Rattle.cfs_model.specs.Touch.{touched}
-use Rattle.cfs_model.specs.Lifted.{charged, IsLiftedAt, IsLifted}
+use Rattle.cfs_model.specs.Lifted.{charged, IsLifted}
+use Rattle.cfs_model.specs.Reniced.{home_of, IsReniced}
 use Rattle.cfs_model.specs.Step.{after_prev, after_next, Changes, IsStep}
 use Rattle.replay_model.specs.Part.{part_of}
-use Rattle.replay_model.specs.Deeds.{after_deed}
+use Rattle.replay_model.specs.Deeds.{reniced, after_deed}
+use Rattle.replay_model.specs.QueueTests.{IsStrangeNice}
 use Rattle.replay_model.specs.Tests.{NoneHolds, late_tests}
 use Rattle.replay_model.specs.Cut.{deed_at, claim_for, step_at}
 use Rattle.replay_model.specs.PartStep.{BornNowhere, OthersStay, MachineSteps}
 use Rattle.cfs_model.proofs.KeptOrder.{IsApart, lifted_apart}
 use Rattle.cfs_model.proofs.StepOrder.{apart_of, step_in_order}
 use Rattle.cfs_model.proofs.Range.{lifted_range, change_range}
+use Rattle.cfs_model.proofs.Renice.{reniced_apart, reniced_range}
 use Rattle.replay_model.proofs.PartLift.{lift_exists}
+use Rattle.replay_model.proofs.PartRenice.{renice_exists, reniced_stood, home_is, nice_is}
 use Rattle.replay_model.proofs.PartSwitch.{switch_part, switch_exists}
 use Rattle.replay_model.proofs.PartPlaced.{wake_part, wake_exists, birth_part, birth_exists}
-use Rattle.replay_model.proofs.Clear.{IsClear, clear_of}
+use Rattle.replay_model.proofs.Clear.{IsClear, clear_of, stands_of}
 use Rattle.cfs_model.specs.declared.act.Act.{Act}
 use Rattle.cfs_model.specs.declared.act.Act.TheVariants.{Switch, Wake, Born, Shift}
 use Rattle.cfs_model.specs.declared.claim.Claim.{Claim}
@@ -68,36 +72,46 @@ lifted_sets m cpu time f Run d pid h = h
 lifted_sets m cpu time f Wait d pid h = h
 lifted_sets m cpu time f Rest d pid h = h
 
-lifted_nowhere : (m lifted : Machine) (time cpu : ℕ) → IsLiftedAt time cpu m lifted → (act : Act) → BornNowhere m act
-    → BornNowhere lifted act
-lifted_nowhere m lifted time cpu l (Switch here prev pn way next nn) b = tt
-lifted_nowhere m lifted time cpu l (Wake here pid nice) b = tt
-lifted_nowhere m lifted time cpu l (Born here pid nice) b =
-    λ place other h. b place other
-    (lifted_sets m cpu time l.floor place other pid (subst (λ x. Stands x place other pid) l.result h))
-lifted_nowhere m lifted time cpu l (Shift orig dest pid nice) b = tt
+found_nowhere : (m found : Machine) → ((place : Place) (d pid : ℕ) → Stands found place d pid → Stands m place d pid)
+    → (act : Act) → BornNowhere m act → BornNowhere found act
+found_nowhere m found stood (Switch here prev pn way next nn) b = tt
+found_nowhere m found stood (Wake here pid nice) b = tt
+found_nowhere m found stood (Born here pid nice) b = λ place other h. b place other (stood place other pid h)
+found_nowhere m found stood (Shift orig dest pid nice) b = tt
 
 pub machine_steps : MachineSteps
 machine_steps knobs before event cpu part o r t b s =
     let act = event.entry.act in
     let time = event.entry.time in
-    let l = lift_exists before (apart_of before o) time cpu s.lifted s.passes.in_range s.passes.is_lifted in
+    let f = s.passes.is_found in
+    let l = lift_exists before (apart_of before o) time cpu f.lifted s.passes.in_range f.is_lifted in
     let lifted : IsLifted time (touched act) before l.0 = subst (λ cpus. IsLifted time cpus before l.0) (sym t)
     (l.0, l.1, refl) in
     let a = lifted_apart time (touched act) before l.0 lifted (apart_of before o) in
-    let clear = clear_of knobs cpu (part_of l.0 cpu) (step_at cpu event)
-    (subst (λ p. NoneHolds (late_tests knobs cpu p (step_at cpu event))) (sym l.2) s.passes.none) in
-    let c = change_exists knobs l.0 a cpu act event.claim t (lifted_nowhere before l.0 time cpu l.1 act b) clear in
+    let nice = nice_is act cpu event.nice t in
+    let n = renice_exists l.0 a cpu event.nice s.found
+    (f.is_reniced ∙ ap (λ x. reniced x f.lifted) nice ∙ ap (reniced event.nice) (sym l.2))
+    (subst (λ x. (pid : ℕ) → ¬ IsStrangeNice s.found x pid) nice
+    (stands_of knobs cpu s.found (step_at cpu event) s.passes.none)) in
+    let renices : IsReniced (home_of act) event.nice l.0 n.0 = subst (λ x. IsReniced x event.nice l.0 n.0)
+    (sym (home_is act cpu t)) n.1 in
+    let clear = clear_of knobs cpu (part_of n.0 cpu) (step_at cpu event)
+    (subst (λ p. NoneHolds (late_tests knobs cpu p (step_at cpu event))) (sym n.2) s.passes.none) in
+    let nowhere = found_nowhere before n.0 (λ place d pid h. lifted_sets before cpu time l.1.floor place d pid
+    (subst (λ x. Stands x place d pid) l.1.result (reniced_stood cpu event.nice l.0 n.0 n.1 place d pid h))) act b in
+    let c = change_exists knobs n.0 (reniced_apart cpu event.nice l.0 n.0 n.1 a) cpu act event.claim t nowhere clear in
     let step : IsStep knobs before event c.after = record {
       lifted = l.0;
       is_lifted = lifted;
+      found = n.0;
+      is_reniced = renices;
       changes = c.changes;
-      in_range = change_range knobs l.0 act event.claim c.after c.changes r
-          (lifted_range time (touched act) before l.0 lifted o.in_range);
+      in_range = change_range knobs n.0 act event.claim c.after c.changes r
+          (reniced_range cpu event.nice l.0 n.0 n.1 (lifted_range time (touched act) before l.0 lifted o.in_range));
     } in (
       c.after,
       step,
       step_in_order knobs before event c.after o step,
-      c.here ∙ ap (λ p. after_deed p (deed_at cpu act) (claim_for (deed_at cpu act) event.claim)) l.2 ∙ sym s.result,
-      (λ d ne. c.others d ne ∙ l.3 d ne),
+      c.here ∙ ap (λ p. after_deed p (deed_at cpu act) (claim_for (deed_at cpu act) event.claim)) n.2 ∙ sym s.result,
+      (λ d ne. c.others d ne ∙ n.3 d ne ∙ l.3 d ne),
     )

@@ -5,12 +5,15 @@ use Rattle.cfs_model.specs.Machine.{Machine, put, put_pair, pairs_of, without_ta
 use Rattle.cfs_model.specs.Claimed.{Claimed}
 use Rattle.cfs_model.specs.Touch.{touched}
 use Rattle.cfs_model.specs.Lifted.{IsLifted}
+use Rattle.cfs_model.specs.Reniced.{home_of}
 use Rattle.cfs_model.specs.Step.{after_prev, after_next, Changes, IsStep}
 use Rattle.cfs_model.specs.Order.{IsInOrder}
 use Rattle.replay_model.specs.PartStep.{BornNowhere}
 use Rattle.replay_model.specs.Composition.{roll_after, BirthIsNew}
 use Rattle.cfs_model.proofs.Moves.{put-same, put-other, same_or_not}
-use Rattle.cfs_model.proofs.StepOrder.{nice-with_pairs}
+use Rattle.cfs_model.proofs.KeptOrder.{lifted_apart}
+use Rattle.cfs_model.proofs.StepOrder.{nice-with_pairs, apart_of}
+use Rattle.cfs_model.proofs.Renice.{reniced_keys}
 use Rattle.cfs_model.specs.declared.act.Act.{Act}
 use Rattle.cfs_model.specs.declared.act.Act.TheVariants.{Switch, Wake, Born, Shift}
 use Rattle.cfs_model.specs.declared.act.Way.{Way}
@@ -21,7 +24,7 @@ use Rattle.cfs_model.specs.declared.claim.Claim.{Claim}
 abbrev pub RollIs : (ℕ → Bool) → Machine → Type 0
 RollIs alive m = (pid : ℕ) → is_some (m.nice pid) ≡ alive pid
 
-pub lifted_nice : (time : ℕ) (cpus : List ℕ) (before lifted : Machine) → IsLifted time cpus before lifted
+lifted_nice : (time : ℕ) (cpus : List ℕ) (before lifted : Machine) → IsLifted time cpus before lifted
     → lifted.nice ≡ before.nice
 lifted_nice time [] before lifted l = ap (λ m. m.nice) l
 lifted_nice time (cpu ∷ cpus) before lifted l = lifted_nice time cpus l.0 lifted l.2 ∙ ap (λ m. m.nice) l.1.result
@@ -62,13 +65,22 @@ change_roll alive knobs m (Shift orig dest pid nice) claim after h s =
     (put_pair (pairs_of (without_task m s.place orig pid) s.place) dest pid true)
     ∙ nice-with_pairs m s.place (put_pair (pairs_of m s.place) orig pid false)) ∙ h q)
 
+-- the same pids have a nice value in the machine as an event finds it
+pub found_keys : (knobs : Settings) (m : Machine) (event : Claimed) (after : Machine) → IsInOrder m
+    → (s : IsStep knobs m event after) → (q : ℕ) → is_some (s.found.nice q) ≡ is_some (m.nice q)
+found_keys knobs m event after o s q =
+    let act = event.entry.act in
+    let time = event.entry.time in
+    reniced_keys (home_of act) event.nice s.lifted s.found s.is_reniced
+    (lifted_apart time (touched act) m s.lifted s.is_lifted (apart_of m o)) q
+    ∙ ap (λ f. is_some (f q)) (lifted_nice time (touched act) m s.lifted s.is_lifted)
+
 -- the roll after a step
-pub roll_step : (alive : ℕ → Bool) (knobs : Settings) (m : Machine) (event : Claimed) (after : Machine) → RollIs alive m
-    → IsStep knobs m event after → RollIs (roll_after alive event.entry.act) after
-roll_step alive knobs m event after h s =
-    change_roll alive knobs s.lifted event.entry.act event.claim after
-    (λ q. ap (λ f. is_some (f q)) (lifted_nice event.entry.time (touched event.entry.act) m s.lifted s.is_lifted) ∙ h q)
-    s.changes
+pub roll_step : (alive : ℕ → Bool) (knobs : Settings) (m : Machine) (event : Claimed) (after : Machine) → IsInOrder m
+    → RollIs alive m → IsStep knobs m event after → RollIs (roll_after alive event.entry.act) after
+roll_step alive knobs m event after o h s =
+    change_roll alive knobs s.found event.entry.act event.claim after
+    (λ q. found_keys knobs m event after o s q ∙ h q) s.changes
 
 -- who isn't alive stands nowhere
 pub born_nowhere : (alive : ℕ → Bool) (m : Machine) → IsInOrder m → RollIs alive m → (act : Act) → BirthIsNew alive act

@@ -8,8 +8,9 @@ use Rattle.cfs_model.specs.Touch.{touched}
 use Rattle.cfs_model.specs.Idle.{KeepsSlack}
 use Rattle.cfs_model.specs.Run.{AreSteps, times_of, IsRun}
 use Rattle.cfs_model.specs.Order.{IsInOrder}
-use Rattle.replay_model.specs.Part.{IsLiftedPart}
+use Rattle.replay_model.specs.Found.{IsFound}
 use Rattle.replay_model.specs.Deeds.{left_ticket, came_ticket}
+use Rattle.replay_model.specs.Cut.{step_at}
 use Rattle.replay_model.specs.PartStep.{BornNowhere}
 use Rattle.replay_model.specs.Following.{last_of}
 use Rattle.replay_model.specs.Composition.{roll_after}
@@ -19,7 +20,7 @@ use Rattle.cfs_model.proofs.StepOrder.{step_in_order}
 use Rattle.cfs_model.proofs.Prefix.{steps_length, front_slack}
 use Rattle.replay_model.proofs.PartForward.{part_steps}
 use Rattle.replay_model.proofs.MigrationSteps.{parts_migrate}
-use Rattle.replay_model.proofs.OneLift.{same_lift}
+use Rattle.replay_model.proofs.OneLift.{same_found}
 use Rattle.replay_model.proofs.FollowLaws.{followed_run, slack_follows}
 use Rattle.replay_model.proofs.RunEnds.{LastStep, last_step, slack_holds}
 use Rattle.replay_model.proofs.Roll.{RollIs, roll_step}
@@ -55,21 +56,22 @@ order_after knobs m (event ∷ events) (after ∷ states) steps o =
     order_after knobs after events states steps.1 (step_in_order knobs m event after o steps.0)
 
 pub roll_run : (alive : ℕ → Bool) (knobs : Settings) (m : Machine) (events : List Claimed) (states : List Machine)
-    → AreSteps knobs m events states → RollIs alive m → RollIs (roll_of alive events) (last_of m states)
-roll_run alive knobs m [] [] steps h = h
-roll_run alive knobs m [] (after ∷ states) steps h = absurd steps
-roll_run alive knobs m (event ∷ events) [] steps h = absurd steps
-roll_run alive knobs m (event ∷ events) (after ∷ states) steps h =
+    → AreSteps knobs m events states → IsInOrder m → RollIs alive m → RollIs (roll_of alive events) (last_of m states)
+roll_run alive knobs m [] [] steps o h = h
+roll_run alive knobs m [] (after ∷ states) steps o h = absurd steps
+roll_run alive knobs m (event ∷ events) [] steps o h = absurd steps
+roll_run alive knobs m (event ∷ events) (after ∷ states) steps o h =
     roll_run (roll_after alive event.entry.act) knobs after events states steps.1
-    (roll_step alive knobs m event after h steps.0)
+    (step_in_order knobs m event after o steps.0) (roll_step alive knobs m event after o h steps.0)
 
 pub birth_ends_run : BirthEndsRun
 birth_ends_run knobs start floors tasks before event cpu pid nice s e alive run =
     let m = start_machine start floors tasks in
     let l = last_step knobs m before event run.states run.steps in
     let last = last_of m l.front in
-    let o = order_after knobs m before l.front l.steps (start_in_order start floors tasks s) in
-    let roll = roll_run _ knobs m before l.front l.steps (start_roll start floors tasks) in
+    let order = start_in_order start floors tasks s in
+    let o = order_after knobs m before l.front l.steps order in
+    let roll = roll_run _ knobs m before l.front l.steps order (start_roll start floors tasks) in
     let nowhere : BornNowhere last (Born cpu pid nice) =
     subst (BornNowhere last) e (part_steps knobs last l.after event cpu o (ap touched e) l.last).0 in
     let stands = (o.nices pid).0 (roll pid ∙ alive) in
@@ -86,11 +88,11 @@ tickets_end_run knobs start floors tasks before event orig dest pid nice at_orig
     let o = followed_run knobs start floors tasks before orig at_orig s rise front ro in
     let d = followed_run knobs start floors tasks before dest at_dest s rise front rd in
     let p = (parts_migrate knobs last l.after event orig dest pid nice o.at.order e l.last).1 in
-    let at : p.leave.lifted ≡ leave.lifted = same_lift event.entry.time at_orig.part p.leave.lifted leave.lifted
-    (subst (λ x. IsLiftedPart event.entry.time x p.leave.lifted) o.at.part p.leave.passes.is_lifted)
-    leave.passes.is_lifted in
-    let to : p.arrive.lifted ≡ arrive.lifted = same_lift event.entry.time at_dest.part p.arrive.lifted arrive.lifted
-    (subst (λ x. IsLiftedPart event.entry.time x p.arrive.lifted) d.at.part p.arrive.passes.is_lifted)
-    arrive.passes.is_lifted in
+    let at : p.leave.found ≡ leave.found = same_found (step_at orig event) at_orig.part p.leave.found leave.found
+    (subst (λ x. IsFound (step_at orig event) x p.leave.found) o.at.part p.leave.passes.is_found)
+    leave.passes.is_found in
+    let to : p.arrive.found ≡ arrive.found = same_found (step_at dest event) at_dest.part p.arrive.found arrive.found
+    (subst (λ x. IsFound (step_at dest event) x p.arrive.found) d.at.part p.arrive.passes.is_found)
+    arrive.passes.is_found in
     differ (ap (λ x. left_ticket x event.entry.line pid) (sym at) ∙ p.tickets
     ∙ ap (λ x. came_ticket x event.entry.line pid nice event.claim) to)

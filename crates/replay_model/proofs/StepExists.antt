@@ -50,8 +50,8 @@ pub part_step : (knobs : Settings) (cpu : ℕ) (m : Machine) (s : ReplayStateVie
     → part_of m cpu ≡ s.part → PassesStep knobs cpu s (step_at cpu event) next
     → PartStep knobs cpu (part_of m cpu) (step_at cpu event) next.part
 part_step knobs cpu m s event next e p = record {
-  lifted = p.lifted;
-  passes = subst (λ x. PassesTests knobs cpu x (step_at cpu event) p.lifted) (sym e) p.passes;
+  found = p.found;
+  passes = subst (λ x. PassesTests knobs cpu x (step_at cpu event) p.found) (sym e) p.passes;
   result = p.part;
 }
 

@@ -1,6 +1,6 @@
 -- The tallies of one processor's replay along a run: of each pid they grow by what the run gives it at the events that
 -- touch the processor.
-use Rattle.std.proofs.Common.{◌≡◌, ℕ, zero, suc, ◌+◌, nat_eq, Bool, true, false, cond, Option, Some, None, option_map, inl, inr, List, [], ◌∷◌, refl, sym, ap, ◌∙◌, subst, arith}
+use Rattle.std.proofs.Common.{◌≡◌, ℕ, zero, suc, ◌+◌, nat_eq, Bool, true, false, cond, Option, Some, None, is_some, option_map, inl, inr, List, [], ◌∷◌, refl, sym, ap, ◌∙◌, subst, true≢false, arith}
 use Rattle.cfs_model.specs.Settings.{Settings}
 use Rattle.cfs_model.specs.Machine.{Machine}
 use Rattle.cfs_model.specs.Claimed.{Claimed}
@@ -9,6 +9,7 @@ use Rattle.cfs_model.specs.Order.{IsInOrder}
 use Rattle.cfs_model.proofs.KeptOrder.{IsApart}
 use Rattle.cfs_model.proofs.StepOrder.{apart_of, step_in_order}
 use Rattle.replay_model.specs.Part.{Part, Entity, charged_in, part_of, IsLiftedPart}
+use Rattle.replay_model.specs.Found.{IsFound}
 use Rattle.replay_model.specs.PartStep.{PartStep}
 use Rattle.replay_model.specs.Cut.{touches, deed_at, step_at, steps_at}
 use Rattle.replay_model.specs.Noted.{charged_tallies, tallied}
@@ -17,6 +18,7 @@ use Rattle.replay_model.specs.Summary.{picks, ran_at, charged_at}
 use Rattle.replay_model.proofs.Clear.{clear_of}
 use Rattle.replay_model.proofs.Follow.{touched_steps, untouched_steps}
 use Rattle.replay_model.proofs.OneLift.{step_same_part}
+use Rattle.replay_model.proofs.PartRenice.{reniced_some}
 use Rattle.replay_model.proofs.Replayed.{first_passes}
 use Rattle.replay_model.proofs.Touching.{steps_at_cpu}
 use Rattle.replay_model.proofs.TalliesSaid.{said, has_tally}
@@ -27,6 +29,7 @@ use Rattle.cfs_model.specs.declared.act.Act.{Act}
 use Rattle.cfs_model.specs.declared.act.Act.TheVariants.{Switch, Wake, Born, Shift}
 use Rattle.replay_model.specs.declared.page.Tally.{Tally}
 use Rattle.replay_model.specs.declared.step.Deed.TheVariants.{Leave, Arrive}
+use Rattle.replay_model.specs.declared.step.Step.{Step}
 
 -- an amount that an event gives at a processor that it touches, from the machine before it
 abbrev pub Amount : Type 0
@@ -82,6 +85,18 @@ lifted_covers time part lifted tallies l covers pid s e =
     go None h k = absurd cc
     go (Some t) h k = covers pid t h
 
+-- nor does a change of a nice value
+found_covers : (step : Step) (part found : Part) (tallies : List Tally) → IsFound step part found
+    → Covers part tallies → Covers found (charged_tallies part step.time tallies)
+found_covers step part found tallies f covers pid s e =
+    go (f.lifted.tasks pid) refl
+    (sym (ap (λ (p : Part). is_some (p.tasks pid)) f.is_reniced ∙ reniced_some step.nice f.lifted pid) ∙ ap is_some e)
+  where
+    go : (o : Option Entity) → f.lifted.tasks pid ≡ o → is_some (f.lifted.tasks pid) ≡ true
+        → has_tally (charged_tallies part step.time tallies) pid ≡ true
+    go None h k = absurd (true≢false (sym k ∙ ap is_some h))
+    go (Some t) h k = lifted_covers step.time part f.lifted tallies f.is_lifted covers pid t h
+
 module _ (knobs : Settings) (cpu : ℕ) (m : Machine) (apart : IsApart m) (event : Claimed) (s next : ReplayStateView)
     (same : part_of m cpu ≡ s.part) (covers : Covers s.part s.page.tallies)
     (p : PassesStep knobs cpu s (step_at cpu event) next) where
@@ -89,8 +104,8 @@ module _ (knobs : Settings) (cpu : ℕ) (m : Machine) (apart : IsApart m) (event
       ≡ tallied (deed_at cpu event.entry.act) (charged_tallies s.part event.entry.time s.page.tallies)
   tallies_are = ap (λ page. page.tallies) p.page
 
-  lifted : Covers p.lifted (charged_tallies s.part event.entry.time s.page.tallies)
-  lifted = lifted_covers event.entry.time s.part p.lifted s.page.tallies p.passes.is_lifted covers
+  found : Covers p.found (charged_tallies s.part event.entry.time s.page.tallies)
+  found = found_covers (step_at cpu event) s.part p.found s.page.tallies p.passes.is_found covers
 
   grows : Grows cpu m event s next
   grows =
@@ -115,13 +130,13 @@ module _ (knobs : Settings) (cpu : ℕ) (m : Machine) (apart : IsApart m) (event
         picks = λ pid.
             let a = ap (λ ts. said (λ t. t.picks) ts pid) tallies_are in
             let b = tallied_picks deed after pid
-            (picked_has p.lifted deed after lifted
-            (clear_of knobs cpu p.lifted (step_at cpu event) p.passes.none).next pid) in
+            (picked_has p.found deed after found
+            (clear_of knobs cpu p.found (step_at cpu event) p.passes.none).next pid) in
             let c = charged_picks s.part now s.page.tallies covers pid in
             let d = picks_same cpu pid event.entry.act in
             omega arith;
         covers = λ pid x e. ap (λ ts. has_tally ts pid) tallies_are
-            ∙ deed_covers p.lifted deed (step_at cpu event).claim after lifted pid x
+            ∙ deed_covers p.found deed (step_at cpu event).claim after found pid x
             (ap (λ q. q.tasks pid) (sym p.part) ∙ e);
       }
 

@@ -8,10 +8,12 @@ use Rattle.cfs_model.specs.Settings.{Settings}
 use Rattle.cfs_model.specs.Machine.{Machine, put}
 use Rattle.cfs_model.specs.Start.{task_of, start_machine}
 use Rattle.cfs_model.specs.Claimed.{Claimed}
-use Rattle.cfs_model.specs.Touch.{touched}
 use Rattle.cfs_model.specs.Step.{Changes, IsStep}
 use Rattle.cfs_model.specs.Run.{AreSteps}
+use Rattle.cfs_model.specs.Order.{IsInOrder}
 use Rattle.cfs_model.proofs.Moves.{put-same, put-other, same_or_not}
+use Rattle.cfs_model.proofs.StartOrder.{start_in_order}
+use Rattle.cfs_model.proofs.StepOrder.{step_in_order}
 use Rattle.replay_model.specs.Cut.{touches, deed_at, step_at, steps_at, tasks_at}
 use Rattle.replay_model.specs.Composition.{named, roll_after}
 use Rattle.replay_model.specs.Noted.{PageView, tallied, with_tally, new_tally}
@@ -20,7 +22,7 @@ use Rattle.replay_model.specs.Totals.{tallies_below, TalliesOfTasks}
 use Rattle.replay_model.proofs.Among.{is_among, among_append, among_once, among_at}
 use Rattle.replay_model.proofs.PagesCompose.{start_roll}
 use Rattle.replay_model.proofs.FrontRun.{pages_tell_run}
-use Rattle.replay_model.proofs.Roll.{RollIs, roll_step, lifted_nice}
+use Rattle.replay_model.proofs.Roll.{RollIs, roll_step, found_keys}
 use Rattle.replay_model.proofs.TalliesSaid.{has_tally, KeepsPid}
 use Rattle.replay_model.proofs.TalliesCharged.{charged_one, charge_keeps}
 use Rattle.replay_model.proofs.TalliesOfDeeds.{pick_one, pick_keeps}
@@ -135,37 +137,34 @@ module _ (K : ℕ → Type 0) where
 
   -- who comes to a processor is alive
   act_brings : (knobs : Settings) (m : Machine) (event : Claimed) (after : Machine) (alive : ℕ → Bool)
-      → RollIs alive m → IsStep knobs m event after → ((pid : ℕ) → alive pid ≡ true → K pid)
+      → IsInOrder m → RollIs alive m → IsStep knobs m event after → ((pid : ℕ) → alive pid ≡ true → K pid)
       → ((pid : ℕ) → is_among (born_by event.entry.act) pid ≡ true → K pid) → Brings event.entry.act
-  act_brings knobs m event after alive roll s old born = go event.entry.act born s.changes
+  act_brings knobs m event after alive o roll s old born = go event.entry.act born s.changes
     where
       go : (act : Act) → ((pid : ℕ) → is_among (born_by act) pid ≡ true → K pid)
-          → Changes knobs s.lifted act event.claim after → Brings act
+          → Changes knobs s.found act event.claim after → Brings act
       go (Switch cpu prev pn way next nn) b c = tt
       go (Wake cpu pid nice) b c = tt
       go (Born cpu pid nice) b c = b pid (or_left (nat_eq pid pid) false (eq-eqb pid pid refl))
       go (Shift orig dest pid nice) b c = old pid
-          (sym (roll pid)
-          ∙ ap (λ f. is_some (f pid))
-          (sym (lifted_nice event.entry.time (touched event.entry.act) m s.lifted s.is_lifted))
-          ∙ ap is_some c.prio)
+          (sym (roll pid) ∙ sym (found_keys knobs m event after o s pid) ∙ ap is_some c.prio)
 
   events_bring : (knobs : Settings) (m : Machine) (events : List Claimed) (states : List Machine) (alive : ℕ → Bool)
-      → RollIs alive m → AreSteps knobs m events states → ((pid : ℕ) → alive pid ≡ true → K pid)
+      → IsInOrder m → RollIs alive m → AreSteps knobs m events states → ((pid : ℕ) → alive pid ≡ true → K pid)
       → ((pid : ℕ) → is_among (born_in events) pid ≡ true → K pid)
       → AllByRecursion (λ (event : Claimed). Brings event.entry.act) events
-  events_bring knobs m [] states alive roll steps old born = tt
-  events_bring knobs m (event ∷ events) [] alive roll steps old born = absurd steps
-  events_bring knobs m (event ∷ events) (after ∷ states) alive roll steps old born =
+  events_bring knobs m [] states alive o roll steps old born = tt
+  events_bring knobs m (event ∷ events) [] alive o roll steps old born = absurd steps
+  events_bring knobs m (event ∷ events) (after ∷ states) alive o roll steps old born =
       let here : (pid : ℕ) → is_among (born_by event.entry.act) pid ≡ true → K pid =
       λ pid h. born pid (among_append (born_by event.entry.act) (born_in events) pid
       ∙ or_left (is_among (born_by event.entry.act) pid) (is_among (born_in events) pid) h) in
       let later : (pid : ℕ) → is_among (born_in events) pid ≡ true → K pid =
       λ pid h. born pid (among_append (born_by event.entry.act) (born_in events) pid
       ∙ or_right (is_among (born_by event.entry.act) pid) (is_among (born_in events) pid) h) in (
-        act_brings knobs m event after alive roll steps.0 old here,
+        act_brings knobs m event after alive o roll steps.0 old here,
         events_bring knobs after events states (roll_after alive event.entry.act)
-            (roll_step alive knobs m event after roll steps.0) steps.1 (alive_after alive event.entry.act old here)
+            (step_in_order knobs m event after o steps.0) (roll_step alive knobs m event after o roll steps.0) steps.1 (alive_after alive event.entry.act old here)
             later,
       )
 
@@ -198,7 +197,7 @@ pub tallies_of_tasks : TalliesOfTasks
 tallies_of_tasks knobs start floors tasks events cpus pages r enough say =
     let run = pages_tell_run knobs start floors tasks events cpus pages r enough say in
     let brings = events_bring (IsOfRun tasks events) knobs (start_machine start floors tasks) events run.states
-    (named tasks) (start_roll start floors tasks) run.steps (λ pid h. in_tasks pid (named_among tasks pid h))
+    (named tasks) (start_in_order start floors tasks r.is_start) (start_roll start floors tasks) run.steps (λ pid h. in_tasks pid (named_among tasks pid h))
     in_births in
     All-from_recursion (λ (tally : Tally). IsOfRun tasks events tally.pid) (tallies_below pages cpus)
     (below cpus (λ cpu k. page_of cpu k brings))

@@ -6,6 +6,7 @@ pub mod KeptOrder
 pub mod MarksMove
 pub mod MigrationExample
 pub mod Moves
+pub mod NiceChangeExample
 pub mod OneNext
 pub mod Positive
 pub mod Prefix

@@ -18,16 +18,16 @@ use Rattle.cfs_model.specs.declared.task.Place.TheVariants.{Run, Wait}
 use Rattle.cfs_model.specs.declared.task.Task.{Task}
 
 -- the two tasks
-abbrev first_task : ℤ → Task
+abbrev pub first_task : ℤ → Task
 first_task nice = record { pid = 101; nice = nice; cpu = 0; place = Run; v = pos 0 }
 
-abbrev second_task : ℤ → Task
+abbrev pub second_task : ℤ → Task
 second_task u = record { pid = 102; nice = pos 0; cpu = 0; place = Wait; v = u }
 
 abbrev time : ℕ
 time = 100004000000
 
-start_is : (nice u : ℤ) → IsInRange u → IsStart (pos 0 ∷ []) (first_task nice ∷ second_task u ∷ [])
+pub start_is : (nice u : ℤ) → IsInRange u → IsStart (pos 0 ∷ []) (first_task nice ∷ second_task u ∷ [])
 start_is nice u h = record {
   pids_rise = ((lit< tt, tt), (tt, tt));
   one_runs = (((λ t. cc), tt), (tt, tt));
@@ -36,11 +36,11 @@ start_is nice u h = record {
 }
 
 -- 101 alone runs
-runs_one : (nice u : ℤ) (q : ℕ) → Stands (switch_start nice u) Run 0 q → 101 ≡ q
+pub runs_one : (nice u : ℤ) (q : ℕ) → Stands (switch_start nice u) Run 0 q → 101 ≡ q
 runs_one nice u q h = elim (of_two (first_task nice) (second_task u) Run 0 q h) [ inl x ↦ x.0 | inr x ↦ let e = x.2 in cc ]
 
 -- 102 alone waits
-waits_one : (nice u : ℤ) (q : ℕ) → Stands (switch_start nice u) Wait 0 q → 102 ≡ q
+pub waits_one : (nice u : ℤ) (q : ℕ) → Stands (switch_start nice u) Wait 0 q → 102 ≡ q
 waits_one nice u q h = elim (of_two (first_task nice) (second_task u) Wait 0 q h) [ inl x ↦ let e = x.2 in cc | inr x ↦ x.0 ]
 
 -- the machine after the charge
@@ -135,7 +135,7 @@ module _ (nice cost u v : ℤ) (is_cost : (after_charge nice u).runtime 101 ≡ 
         (value_at s.found.runtime 102 102 pick.0 u refl pick.1 found_second) (pick.3 101 cost refl found_first)
 
 -- 102 is the least where it waits at 0, and 101 where 102 waits at 5 ms
-least_second : (nice cost : ℤ) → (after_charge nice (pos 0)).runtime 101 ≡ Some cost → pos 0 ≤ℤ cost
+pub least_second : (nice cost : ℤ) → (after_charge nice (pos 0)).runtime 101 ≡ Some cost → pos 0 ≤ℤ cost
     → IsLeast (after_charge nice (pos 0)) 0 (pos 0)
 least_second nice cost e h = record {
   pid = 102;
@@ -154,7 +154,7 @@ least_first = record {
       (pos 5000000) (pos 4000000) refl (omega (arith, ints)) (omega (arith, ints));
 }
 
-can_charge_even : (u : ℤ) → CanCharge (switch_start (pos 0) u) 0 time
+pub can_charge_even : (u : ℤ) → CanCharge (switch_start (pos 0) u) 0 time
 can_charge_even u = can_charge_one (switch_start (pos 0) u) 0 time 101 (pos 0) (pos 0) (runs_one (pos 0) u) refl refl
     (lit≤ tt) (omega (arith, ints))
 

@@ -62,6 +62,18 @@ PickExample = (granularity : ℕ)
     → HasStep (standard_with granularity) (switch_start (pos 0) (pos 5000000)) (switch_event (pos 0) (pos 4000000))
     ↔ (1000000 ≤ granularity)
 
+-- 4 ms after the start 101 is woken while it runs, printed with a nice value, and the companion says that its nice value
+-- is 5 from then on; 4 ms later the processor goes from 101, which stays, to 102, and the claim puts 101 back at w
+abbrev pub nice_events : ℤ → ℤ → List Claimed
+nice_events printed w = claimed (at_claim 2 101 w ∷ []) (record { line = 1; pid = 101; nice = pos 5 } ∷ []) (
+    record { line = 1; time = 100004000000; act = Wake 0 101 printed }
+    ∷ record { line = 2; time = 100008000000; act = Switch 0 101 (pos 5) Stays 102 (pos 0) } ∷ [])
+
+-- the first 4 ms are charged by the old nice value, 0, the event prints the new one, and the next 4 ms are charged by it
+abbrev pub NiceChangeExample : Type 0
+NiceChangeExample = (printed w : ℤ) → IsRun standard start_time (switch_start (pos 0) (pos 0)) (nice_events printed w)
+    ↔ ((printed ≡ pos 5) × (w ≡ pos 16226865))
+
 -- two processors with floors 3 and 100, where 101 waits at 5 at the first and 102 runs there at 3
 abbrev pub migration_start : Machine
 migration_start = start_machine start_time (pos 3 ∷ pos 100 ∷ []) (
@@ -133,6 +145,19 @@ birth_events way w = claimed (at_claim 2 101 w ∷ []) [] (
 abbrev pub BirthExample : Type 0
 BirthExample = (way : Way) (w : ℤ)
     → IsRun standard start_time birth_start (birth_events way w) ↔ ((way ≡ Ends) × (pos 0 ≤ℤ w) × (w ≤ℤ pos 3000000))
+
+-- 102 is born at the second processor and placed at w, where the companion says that the nice value of a task is 5 from
+-- then on
+abbrev pub strange_event : ℕ → ℤ → Claimed
+strange_event pid w = record {
+  entry = record { line = 1; time = 100001000000; act = Born 1 102 (pos 0) };
+  claim = Some (at_claim 1 102 w);
+  nice = Some (record { line = 1; pid = pid; nice = pos 5 });
+}
+
+-- no task stands there, not even the one that is only being born
+abbrev pub StrangeNiceExample : Type 0
+StrangeNiceExample = (pid : ℕ) (w : ℤ) → ¬ HasStep standard birth_start (strange_event pid w)
 
 -- at the first processor 101 is put back at w, and nobody runs next
 abbrev pub idle_switch : ℤ → Claimed

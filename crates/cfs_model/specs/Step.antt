@@ -1,8 +1,7 @@
 -- One event's step from a machine to the next. The values spoken of are those after the charge, the lift and the change of
--- a nice value. Source:
--- sched-design-CFS.rst, "Few implementation details" (the task with the smallest virtual runtime is run) and "The
--- rbtree" (within a granularity of it; min_vruntime places newly activated tasks). The bounds of a placement, the
--- claims and what a migration keeps are this project's profile.
+-- a nice value. Source: sched-design-CFS.rst, "Few implementation details" (the task with the smallest virtual runtime is
+-- run) and "The rbtree" (within a granularity of it; min_vruntime places newly activated tasks). The bounds of a placement,
+-- the claims and what a migration keeps are this project's profile.
 use Rattle.std.specs.Prelude.{◌≡◌, ◌≢◌, ℕ, zero, suc, Option, Some, None, ℤ, pos, ◌+ℤ◌, ◌-ℤ◌, ◌≤ℤ◌, ◌⊎◌, ⊤}
 use Rattle.std.specs.Int.{int_max}
 use Rattle.cfs_model.specs.Settings.{Settings}

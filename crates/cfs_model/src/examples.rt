@@ -1,11 +1,18 @@
 //! Small recordings against the definitions of a step and of a run. Each is the contract of a function that does
 //! nothing.
-ghost use Rattle.cfs_model.specs.Examples.{PutBackExample, NiceExample, PickExample, MigrationExample, LaterMigrationExample, WakeExample, IdleExample, BirthExample, IdleSwitchExample};
+ghost use Rattle.cfs_model.specs.Examples.{PutBackExample, NiceExample, PickExample, MigrationExample, LaterMigrationExample, WakeExample, IdleExample, BirthExample, IdleSwitchExample, NiceChangeExample, StrangeNiceExample};
 
 /// A task that stays is put back at just what it was charged, by its weight and rounded down.
 pub fn put_back_example()
     ensures even { PutBackExample }
     ensures light { NiceExample }
+{}
+
+/// A change of a nice value takes effect between the charge at its event and what the event prints; the task that it names
+/// stands at the event's processor.
+pub fn nice_example()
+    ensures changes { NiceChangeExample }
+    ensures stands { StrangeNiceExample }
 {}
 
 /// A picked task lies within the granularity of the least waiting one, which may be the one that was put back; and

@@ -18,7 +18,8 @@ mod weights;
 pub use act::{Act, Entry, Way};
 pub use claim::{Claim, ClaimSort};
 pub use examples::{
-    birth_example, idle_example, migration_example, pick_example, put_back_example, wake_example,
+    birth_example, idle_example, migration_example, nice_example, pick_example, put_back_example,
+    wake_example,
 };
 pub use kind::Kind;
 pub use knobs::Knobs;

@@ -1,7 +1,8 @@
--- The machine that an event's time alone leads to, before a nice value changes and before the event's own change: at each
--- touched processor the running task is charged, and then the floor is raised. Sources: sched-design-CFS.rst, "The rbtree" (the time that a task just ran is added to its virtual
--- runtime; min_vruntime is monotonic and tracks the smallest virtual runtime of the runqueue); sched-nice-design.rst
--- (a nice value is a share, here a weight). That only events charge, and the rounding, are this project's profile.
+-- The machine that an event's time alone leads to, before a nice value changes and before the event's own change: at
+-- each touched processor the running task is charged, and then the floor is raised. Sources: sched-design-CFS.rst, "The
+-- rbtree" (the time that a task just ran is added to its virtual runtime; min_vruntime is monotonic and tracks the
+-- smallest virtual runtime of the runqueue); sched-nice-design.rst (a nice value is a share, here a weight). That only
+-- events charge, and the rounding, are this project's profile.
 use Rattle.std.specs.Prelude.{◌≡◌, ℕ, ◌-◌, ◌≤◌, if◌then◌else◌, Option, Some, option_map, option_and_then, ℤ, pos, ◌+ℤ◌, ◌≤ℤ◌, ◌⊎◌, List, [], ◌∷◌}
 use Rattle.std.specs.Int.{int_max}
 use Rattle.cfs_model.specs.Charge.{charge_of}

@@ -6,7 +6,7 @@ use Rattle.companion_file.specs.Reading.{IsCompanionInOrder}
 use Rattle.companion_file.specs.Draft.{KeepsOrder}
 
 pub in_order : (said : Said) (cpus start : ℕ) → KeepsOrder said → said.cpus ≡ Some cpus → said.start ≡ Some start → has_all_floors said ≡ true
-    → IsCompanionInOrder (record { cpus = cpus; start = start; floors = said.floors; tasks = said.tasks; claims = said.claims })
+    → IsCompanionInOrder (record { cpus = cpus; start = start; floors = said.floors; tasks = said.tasks; claims = said.claims; nices = said.nices })
 in_order said cpus start order e f whole =
     let count : eqb (length said.floors) cpus ≡ true = rw e at whole in
     record {
@@ -19,6 +19,8 @@ in_order said cpus start order e f whole =
       one_runs_a_cpu = order.one_runs_a_cpu;
       claims_in_limits = order.claims_kept;
       lines_rise = order.lines_rise;
+      nices_in_limits = order.nices_kept;
+      nice_lines_rise = order.nice_lines_rise;
     }
 
 -- at first nothing runs

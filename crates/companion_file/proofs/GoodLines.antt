@@ -12,7 +12,7 @@ use Rattle.companion_file.specs.declared.fault.CompanionCause.{CompanionCause}
 use Rattle.companion_file.specs.Shape.{Shape, version_line, cpus_line, start_line, floor_line, task_line, claim_line}
 use Rattle.text_parts.specs.Lines.{IsComment}
 use Rattle.companion_file.specs.VersionOne.{IsSpelled}
-use Rattle.companion_file.specs.Reading.{IsTaskInLimits, IsClaimInLimits}
+use Rattle.companion_file.specs.Reading.{IsTaskInLimits, IsClaimInLimits, IsNiceLineInLimits}
 use Rattle.companion_file.specs.Earlier.{Said, summed}
 use Rattle.companion_file.specs.Tests.{fault_of, tested, IsJudgedFirst, IsJudgedLater, IsJudged}
 use Rattle.companion_file.specs.Draft.{KeepsOrder}
@@ -45,6 +45,8 @@ nothing_order =
       one_runs_a_cpu = λ i j d lt within. absurd (omega arith);
       claims_kept = All-nil IsClaimInLimits;
       lines_rise = λ i j d lt within. absurd (omega arith);
+      nices_kept = All-nil IsNiceLineInLimits;
+      nice_lines_rise = λ i j d lt within. absurd (omega arith);
     }
 
 order_begun : (said : Said) → KeepsOrder said → KeepsOrder (record said { begun = true })
@@ -59,6 +61,8 @@ order_begun said order =
       one_runs_a_cpu = order.one_runs_a_cpu;
       claims_kept = order.claims_kept;
       lines_rise = order.lines_rise;
+      nices_kept = order.nices_kept;
+      nice_lines_rise = order.nice_lines_rise;
     }
 
 -- the outcome of the tests is what the line says only where none failed

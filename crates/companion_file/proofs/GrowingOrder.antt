@@ -50,6 +50,8 @@ order_cpus said n order passes =
       one_runs_a_cpu = order.one_runs_a_cpu;
       claims_kept = order.claims_kept;
       lines_rise = order.lines_rise;
+      nices_kept = order.nices_kept;
+      nice_lines_rise = order.nice_lines_rise;
     }
 
 order_start : (said : Said) (seconds nanoseconds : ℕ) → nanoseconds < nanoseconds_per_second → KeepsOrder said → Passes said (start_line seconds nanoseconds) → KeepsOrder (told said (start_line seconds nanoseconds))
@@ -66,6 +68,8 @@ order_start said seconds nanoseconds below order passes =
       one_runs_a_cpu = order.one_runs_a_cpu;
       claims_kept = order.claims_kept;
       lines_rise = order.lines_rise;
+      nices_kept = order.nices_kept;
+      nice_lines_rise = order.nice_lines_rise;
     }
 
 order_floor : (said : Said) (cpu : ℕ) (floor : ℤ) → KeepsOrder said → Passes said (floor_line cpu floor) → KeepsOrder (told said (floor_line cpu floor))
@@ -82,6 +86,8 @@ order_floor said cpu floor order passes =
       one_runs_a_cpu = order.one_runs_a_cpu;
       claims_kept = order.claims_kept;
       lines_rise = order.lines_rise;
+      nices_kept = order.nices_kept;
+      nice_lines_rise = order.nice_lines_rise;
     }
 
 -- a test of a conjunction that failed though its first part holds
@@ -116,6 +122,8 @@ order_task said t order passes =
           absurd cc);
       claims_kept = order.claims_kept;
       lines_rise = order.lines_rise;
+      nices_kept = order.nices_kept;
+      nice_lines_rise = order.nice_lines_rise;
     }
 
 order_claim : (said : Said) (claim : Claim) → KeepsOrder said → Passes said (claim_line claim) → KeepsOrder (told said (claim_line claim))
@@ -137,6 +145,8 @@ order_claim said claim order passes =
           (record { line = (low, high); pid = pid_fact claim.pid second.1; v = value_fact claim.v third.1 });
       lines_rise = rises_push (λ (c : Claim). c.line) said.claims claim order.lines_rise
           (λ l e. let above : ltb l.line claim.line ≡ true = rw e at passes.above in grind (arith, nat_tests));
+      nices_kept = order.nices_kept;
+      nice_lines_rise = order.nice_lines_rise;
     }
 
 pub order_told : (said : Said) (x : Shape) → FitsSecond x → KeepsOrder said → Passes said x → KeepsOrder (told said x)

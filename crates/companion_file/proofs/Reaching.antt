@@ -100,6 +100,7 @@ reached_whole text rest number kept r at empty whole =
       floors_is = rw at.kept_is at whole.floors_is;
       tasks_is = rw at.kept_is at whole.tasks_is;
       claims_is = rw at.kept_is at whole.claims_is;
+      nices_is = rw at.kept_is at whole.nices_is;
     }
 
 -- ---- the answers

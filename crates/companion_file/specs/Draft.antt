@@ -14,7 +14,7 @@ use Rattle.companion_file.specs.Earlier.{Said, has_all_floors, is_taken}
 use Rattle.text_parts.specs.Lines.{IsComment}
 use Rattle.cfs_model.specs.Limits.{most_processors, greatest_seconds, nanoseconds_per_second}
 use Rattle.cfs_model.specs.Charge.{IsInRange}
-use Rattle.companion_file.specs.Reading.{CompanionView, IsTaskInLimits, IsClaimInLimits}
+use Rattle.companion_file.specs.Reading.{CompanionView, IsTaskInLimits, IsClaimInLimits, IsNiceLineInLimits}
 use Rattle.cfs_model.specs.Order.{RunApart}
 use Rattle.companion_file.specs.Tests.{fault_of, IsJudged}
 
@@ -69,6 +69,8 @@ pub record KeepsOrder (said : Said) : Type 0 where
   pub one_runs_a_cpu : AllPairs RunApart said.tasks
   pub claims_kept : All IsClaimInLimits said.claims
   pub lines_rise : AllPairs (λ a b. a.line < b.line) said.claims
+  pub nices_kept : All IsNiceLineInLimits said.nices
+  pub nice_lines_rise : AllPairs (λ a b. a.line < b.line) said.nices
 
 -- no floor is missing, and this is what was said
 pub record IsCompleted (said : Said) (r : CompanionView) : Type 0 where
@@ -78,6 +80,7 @@ pub record IsCompleted (said : Said) (r : CompanionView) : Type 0 where
   pub floors_is : r.floors ≡ said.floors
   pub tasks_is : r.tasks ≡ said.tasks
   pub claims_is : r.claims ≡ said.claims
+  pub nices_is : r.nices ≡ said.nices
 
 -- the fault of a text whose line was refused
 abbrev pub fault_at : ℕ → Refusal → CompanionFault

@@ -7,6 +7,7 @@ use Rattle.cfs_model.specs.declared.task.Task.{Task}
 use Rattle.cfs_model.specs.declared.task.Place.{Place}
 use Rattle.cfs_model.specs.declared.task.Place.TheVariants.{Run, Wait, Rest}
 use Rattle.cfs_model.specs.declared.claim.Claim.{Claim}
+use Rattle.cfs_model.specs.declared.nice_line.NiceLine.{NiceLine}
 use Rattle.companion_file.specs.Shape.{Shape, cpus_line, start_line, floor_line, task_line, claim_line}
 
 -- the number of processors that a line says, if it says one
@@ -34,6 +35,10 @@ abbrev pub claim_in : Shape → Option Claim
 claim_in (claim_line claim) = Some claim
 claim_in _ = None
 
+-- the change of a nice value that a line tells
+abbrev pub nice_in : Shape → Option NiceLine
+nice_in _ = None
+
 -- what lines say, taken together
 pub record Said : Type 0 where
   -- whether there is a line
@@ -48,6 +53,8 @@ pub record Said : Type 0 where
   pub tasks : List Task
   -- the claims so far
   pub claims : List Claim
+  -- the changes of nice values so far
+  pub nices : List NiceLine
 
 -- there is a line
 abbrev pub is_begun : List Shape → Bool
@@ -64,6 +71,7 @@ summed lines =
       floors = filter_map floor_in lines;
       tasks = filter_map task_named_on lines;
       claims = filter_map claim_in lines;
+      nices = filter_map nice_in lines;
     }
 
 -- the last task so far

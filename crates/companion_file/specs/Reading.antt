@@ -2,12 +2,13 @@
 use Rattle.std.specs.Prelude.{◌≡◌, ℕ, ◌+◌, ◌*◌, ◌<◌, ◌≤◌, ℤ, List, length, All, AllPairs}
 use Rattle.cfs_model.specs.declared.task.Task.{Task}
 use Rattle.cfs_model.specs.declared.claim.Claim.{Claim}
+use Rattle.cfs_model.specs.declared.nice_line.NiceLine.{NiceLine}
 use Rattle.cfs_model.specs.Limits.{greatest_pid, greatest_line, most_processors, greatest_seconds, nanoseconds_per_second}
 use Rattle.cfs_model.specs.Charge.{IsInRange}
 use Rattle.cfs_model.specs.Nice.{IsNice}
 use Rattle.cfs_model.specs.Order.{RunApart}
 
--- the start state and the claims
+-- the start state, the claims and the changes of nice values
 pub record CompanionView : Type 0 where
   -- the number of processors
   pub cpus : ℕ
@@ -17,6 +18,7 @@ pub record CompanionView : Type 0 where
   pub floors : List ℤ
   pub tasks : List Task
   pub claims : List Claim
+  pub nices : List NiceLine
 
 -- a pid is from 1 to the greatest
 abbrev pub IsPid : ℕ → Type 0
@@ -35,6 +37,12 @@ pub record IsClaimInLimits (claim : Claim) : Type 0 where
   pub pid : IsPid claim.pid
   pub v : IsInRange claim.v
 
+-- the numbers of a change of a nice value are within their limits
+pub record IsNiceLineInLimits (change : NiceLine) : Type 0 where
+  pub line : (1 ≤ change.line) × (change.line ≤ greatest_line)
+  pub pid : IsPid change.pid
+  pub nice : IsNice change.nice
+
 -- what every companion keeps
 pub record IsCompanionInOrder (r : CompanionView) : Type 0 where
   pub cpus_in_limits : (1 ≤ r.cpus) × (r.cpus ≤ most_processors)
@@ -46,3 +54,5 @@ pub record IsCompanionInOrder (r : CompanionView) : Type 0 where
   pub one_runs_a_cpu : AllPairs RunApart r.tasks
   pub claims_in_limits : All IsClaimInLimits r.claims
   pub lines_rise : AllPairs (λ a b. a.line < b.line) r.claims
+  pub nices_in_limits : All IsNiceLineInLimits r.nices
+  pub nice_lines_rise : AllPairs (λ a b. a.line < b.line) r.nices

@@ -1,10 +1,10 @@
 ghost use Rattle.std.specs.Prelude.{◌≡◌};
 ghost use Rattle.companion_file.specs.Reading.{IsCompanionInOrder};
 
-use crate::lists::{Claims, Floors, Tasks};
-use cfs_model::{Claim, Task};
+use crate::lists::{Claims, Floors, Nices, Tasks};
+use cfs_model::{Claim, NiceLine, Task};
 
-/// The start state of a schedule, and the virtual runtimes that are claimed of it.
+/// The start state of a schedule, the virtual runtimes that are claimed of it, and the changes of nice values.
 #[derive(Debug, Drop)]
 pub struct Companion {
     cpus: u32,
@@ -12,7 +12,8 @@ pub struct Companion {
     floors: Floors,
     tasks: Tasks,
     claims: Claims,
-    pub ghost in_order: { IsCompanionInOrder (record { cpus = cpus; start = start; floors = floors; tasks = tasks; claims = claims }) },
+    nices: Nices,
+    pub ghost in_order: { IsCompanionInOrder (record { cpus = cpus; start = start; floors = floors; tasks = tasks; claims = claims; nices = nices }) },
 }
 
 impl Companion {
@@ -22,13 +23,15 @@ impl Companion {
         floors: Floors,
         tasks: Tasks,
         claims: Claims,
+        nices: Nices,
     ) -> Companion
-        requires { IsCompanionInOrder (record { cpus = cpus; start = start; floors = floors; tasks = tasks; claims = claims }) }
+        requires { IsCompanionInOrder (record { cpus = cpus; start = start; floors = floors; tasks = tasks; claims = claims; nices = nices }) }
         ensures cpus { result.cpus ≡ cpus }
         ensures start { result.start ≡ start }
         ensures floors { result.floors ≡ floors }
         ensures tasks { result.tasks ≡ tasks }
         ensures claims { result.claims ≡ claims }
+        ensures nices { result.nices ≡ nices }
     {
         Companion {
             cpus,
@@ -36,6 +39,7 @@ impl Companion {
             floors,
             tasks,
             claims,
+            nices,
         }
     }
 
@@ -72,5 +76,12 @@ impl Companion {
         ensures { result.now ≡ self.now.claims }
     {
         self.claims.as_slice()
+    }
+
+    /// The changes of nice values, by rising line of the trace.
+    pub fn nices(&self) -> &[NiceLine]
+        ensures { result.now ≡ self.now.nices }
+    {
+        self.nices.as_slice()
     }
 }

@@ -14,8 +14,8 @@ mod saying;
 use crate::companion::Companion;
 use crate::fault::Refusal;
 use crate::limits::{is_pid, is_running, is_value, nice_within};
-use crate::lists::{Claims, Floors, Tasks};
-use cfs_model::{Claim, MOST_PROCESSORS, Place, Task};
+use crate::lists::{Claims, Floors, Nices, Tasks};
+use cfs_model::{Claim, MOST_PROCESSORS, NiceLine, Place, Task};
 use std::alloc::Global;
 use std::marker::Model;
 
@@ -28,6 +28,7 @@ pub(crate) struct Draft {
     floors: Vec<i64>,
     tasks: Vec<Task>,
     claims: Vec<Claim>,
+    nices: Vec<NiceLine>,
     // By processor, whether a task runs there.
     running: [bool; MOST_PROCESSORS],
 }
@@ -38,7 +39,7 @@ impl Model for Draft {
 
     ghost Value = { Said };
 
-    ghost view = { λ d. record { begun = d.begun; cpus = d.cpus; start = d.start; floors = d.floors.items; tasks = d.tasks.items; claims = d.claims.items } };
+    ghost view = { λ d. record { begun = d.begun; cpus = d.cpus; start = d.start; floors = d.floors.items; tasks = d.tasks.items; claims = d.claims.items; nices = d.nices.items } };
 
     ghost invariant = { λ d. KnowsRunning d.cpus d.tasks.items d.running };
 }
@@ -61,6 +62,7 @@ impl Draft {
             floors: Vec::new(alloc),
             tasks: Vec::new(alloc),
             claims: Vec::new(alloc),
+            nices: Vec::new(alloc),
             running: [false; MOST_PROCESSORS],
         }
     }
@@ -166,6 +168,7 @@ impl Draft {
             floors,
             tasks,
             claims,
+            nices,
             running: _,
         } = self;
         Some(Companion::new(
@@ -174,6 +177,7 @@ impl Draft {
             Floors::from_vec(floors),
             Tasks::from_vec(tasks),
             Claims::from_vec(claims),
+            Nices::from_vec(nices),
         ))
     }
 }

@@ -16,5 +16,5 @@ mod version_one;
 pub use companion::Companion;
 pub use fault::{CompanionCause, CompanionFault};
 pub use laws::one_companion_answer;
-pub use lists::{Claims, Floors, Tasks};
+pub use lists::{Claims, Floors, Nices, Tasks};
 pub use reading::read_companion;

@@ -1,8 +1,11 @@
-use cfs_model::{Claim, Task};
+use cfs_model::{Claim, NiceLine, Task};
 use plain_list::PlainList;
 
 /// Claims of virtual runtimes at lines of the trace.
 pub type Claims = PlainList<Claim>;
+
+/// Changes of nice values at lines of the trace.
+pub type Nices = PlainList<NiceLine>;
 
 /// The tasks of a start state.
 pub type Tasks = PlainList<Task>;

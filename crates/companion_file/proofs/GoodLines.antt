@@ -1,6 +1,6 @@
 -- Lines that are all good, one after another: their order is kept, and one more good line makes one more of them.
-use Rattle.std.proofs.Common.{◌≡◌, ℕ, ◌^◌, ◌<◌, Bool, true, false, List, [], ◌∷◌, ◌++◌, length, Option, Some, None, Result, Ok, Err, refl, sym, ap, subst, inl, inr, arith}
-use Rattle.std.specs.Prelude.{MatchBool}
+use Rattle.std.proofs.Common.{◌≡◌, ℕ, ◌^◌, ◌<◌, List, [], ◌∷◌, ◌++◌, length, Option, Some, None, Result, Ok, Err, refl, sym, ap, subst, inl, inr, arith}
+use Rattle.std.specs.Prelude.{MatchOption}
 use Rattle.std.specs.Option.{option_map_or}
 use Rattle.std.proofs.lemmas.List.Elements.{All-nil}
 use Rattle.cfs_model.specs.Charge.{IsInRange}
@@ -9,29 +9,30 @@ use Rattle.text_parts.specs.Time.{IsFraction}
 use Rattle.text_parts.proofs.Times.{value_below}
 use Rattle.cfs_model.specs.Limits.{nanoseconds_per_second}
 use Rattle.companion_file.specs.declared.fault.CompanionCause.{CompanionCause}
-use Rattle.companion_file.specs.Shape.{Shape, version_line, cpus_line, start_line, floor_line, task_line, claim_line}
+use Rattle.companion_file.specs.Shape.{Shape, version_line, cpus_line, start_line, floor_line, task_line, claim_line, nice_line}
 use Rattle.text_parts.specs.Lines.{IsComment}
-use Rattle.companion_file.specs.VersionOne.{IsSpelled}
+use Rattle.companion_file.specs.Spelling.{IsSpelled}
 use Rattle.companion_file.specs.Reading.{IsTaskInLimits, IsClaimInLimits, IsNiceLineInLimits}
 use Rattle.companion_file.specs.Earlier.{Said, summed}
 use Rattle.companion_file.specs.Tests.{fault_of, tested, IsJudgedFirst, IsJudgedLater, IsJudged}
-use Rattle.companion_file.specs.Draft.{KeepsOrder}
+use Rattle.companion_file.specs.Draft.{KeepsOrder, with_line}
 use Rattle.companion_file.specs.Companion.{AreGood}
-use Rattle.companion_file.proofs.Summing.{told, summed-push}
+use Rattle.companion_file.proofs.Summing.{summed-push}
 use Rattle.companion_file.proofs.KeptOrder.{all_passed}
-use Rattle.companion_file.proofs.GrowingOrder.{FitsSecond, order_told}
+use Rattle.companion_file.proofs.GrowingOrder.{FitsSecond, order_with}
 
 fraction_below : (digits : List ℕ) (n : ℕ) → value_of digits < 10 ^ length digits → IsFraction digits n → n < nanoseconds_per_second
 fraction_below digits n below (inl p) = let low : value_of digits < 10 ^ 6 = rw p.0 at below in omega (arith, p.1)
 fraction_below digits n below (inr p) = let low : value_of digits < 10 ^ 9 = rw p.0 at below in omega (arith, p.1)
 
-second_fits : (line : List ℕ) (x : Shape) → IsSpelled line x → FitsSecond x
-second_fits line (version_line n) p = tt
-second_fits line (cpus_line n) p = tt
-second_fits line (start_line seconds nanoseconds) p = fraction_below p.1.fraction_digits nanoseconds (value_below p.1.fraction_digits p.1.fraction_numeral.all) p.1.fraction_value
-second_fits line (floor_line cpu floor) p = tt
-second_fits line (task_line t) p = tt
-second_fits line (claim_line k) p = tt
+second_fits : (version : ℕ) (line : List ℕ) (x : Shape) → IsSpelled version line x → FitsSecond x
+second_fits version line (version_line n) p = tt
+second_fits version line (cpus_line n) p = tt
+second_fits version line (start_line seconds nanoseconds) p = fraction_below p.1.fraction_digits nanoseconds (value_below p.1.fraction_digits p.1.fraction_numeral.all) p.1.fraction_value
+second_fits version line (floor_line cpu floor) p = tt
+second_fits version line (task_line t) p = tt
+second_fits version line (claim_line k) p = tt
+second_fits version line (nice_line k) p = tt
 
 pub nothing_order : KeepsOrder (summed [])
 nothing_order =
@@ -49,8 +50,8 @@ nothing_order =
       nice_lines_rise = λ i j d lt within. absurd (omega arith);
     }
 
-order_begun : (said : Said) → KeepsOrder said → KeepsOrder (record said { begun = true })
-order_begun said order =
+order_first_line : (said : Said) (version : ℕ) → KeepsOrder said → KeepsOrder (record said { version = Some version })
+order_first_line said version order =
     record {
       cpus_kept = order.cpus_kept;
       start_kept = order.start_kept;
@@ -73,29 +74,29 @@ tested_from (Some cause) x y e = absurd cc
 pub tested_ok : (said : Said) (x y : Shape) → Ok y ≡ tested said x → (fault_of said x ≡ None) × (y ≡ x)
 tested_ok said x y e = tested_from (fault_of said x) x y e
 
-order_later : (said : Said) (line : List ℕ) (y : Shape) → KeepsOrder said → IsJudgedLater said line (Ok y) → KeepsOrder (told said y)
-order_later said line y order (inl p) = let wrong = p.1 in absurd cc
-order_later said line y order (inr (inl p)) = let wrong = p.2 in absurd cc
-order_later said line y order (inr (inr p)) =
+order_later : (version : ℕ) (said : Said) (line : List ℕ) (y : Shape) → KeepsOrder said → IsJudgedLater version said line (Ok y) → KeepsOrder (with_line said y)
+order_later version said line y order (inl p) = let wrong = p.1 in absurd cc
+order_later version said line y order (inr (inl p)) = let wrong = p.2 in absurd cc
+order_later version said line y order (inr (inr p)) =
     let t = tested_ok said p.1.0 y p.1.2 in
-    subst (λ (x : Shape). KeepsOrder (told said x)) (sym t.1) (order_told said p.1.0 (second_fits line p.1.0 p.1.1) order (all_passed said p.1.0 t.0))
+    subst (λ (x : Shape). KeepsOrder (with_line said x)) (sym t.1) (order_with said p.1.0 (second_fits version line p.1.0 p.1.1) order (all_passed said p.1.0 t.0))
 
 ok_is : (x y : Shape) (c : CompanionCause) → ◌≡◌ {A = Result Shape CompanionCause} (Ok x) (Ok y) → x ≡ y
 ok_is x y c e = cc
 
-order_first : (said : Said) (line : List ℕ) (y : Shape) → KeepsOrder said → IsJudgedFirst line (Ok y) → KeepsOrder (told said y)
+order_first : (said : Said) (line : List ℕ) (y : Shape) → KeepsOrder said → IsJudgedFirst line (Ok y) → KeepsOrder (with_line said y)
 order_first said line y order (inl p) =
-    let same : y ≡ version_line 1 = let e = p.1 in cc in
-    subst (λ (x : Shape). KeepsOrder (told said x)) (sym same) (order_begun said order)
+    let same : y ≡ version_line p.0 = let e = p.2 in cc in
+    subst (λ (x : Shape). KeepsOrder (with_line said x)) (sym same) (order_first_line said p.0 order)
 order_first said line y order (inr p) = let wrong = p.1 in absurd cc
 
-order_judged_at : (begun : Bool) (said : Said) (line : List ℕ) (y : Shape) → KeepsOrder said → MatchBool begun (IsJudgedLater said line (Ok y)) (IsJudgedFirst line (Ok y)) → KeepsOrder (told said y)
-order_judged_at true said line y order judged = order_later said line y order judged
-order_judged_at false said line y order judged = order_first said line y order judged
+order_judged_at : (version : Option ℕ) (said : Said) (line : List ℕ) (y : Shape) → KeepsOrder said → MatchOption version (IsJudgedFirst line (Ok y)) (λ v. IsJudgedLater v said line (Ok y)) → KeepsOrder (with_line said y)
+order_judged_at (Some version) said line y order judged = order_later version said line y order judged
+order_judged_at None said line y order judged = order_first said line y order judged
 
 -- a good line keeps the order of the lines before it
 pub order_judged : (earlier : List Shape) (line : List ℕ) (y : Shape) → KeepsOrder (summed earlier) → IsJudged (summed earlier) line (Ok y) → KeepsOrder (summed (earlier ++ y ∷ []))
-order_judged earlier line y order judged = rw (summed-push earlier y) (order_judged_at (summed earlier).begun (summed earlier) line y order judged)
+order_judged earlier line y order judged = rw (summed-push earlier y) (order_judged_at (summed earlier).version (summed earlier) line y order judged)
 
 pub order_good : (earlier : List Shape) (lines : List (List ℕ)) (said : List Shape) → KeepsOrder (summed earlier) → AreGood earlier lines said → KeepsOrder (summed said)
 order_good earlier [] said order good = rw good order

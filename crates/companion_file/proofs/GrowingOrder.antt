@@ -1,24 +1,24 @@
 -- One more good line keeps the order: a case for each shape.
 use Rattle.std.proofs.Common.{◌≡◌, ℕ, ◌+◌, ◌*◌, ◌<◌, ◌≤◌, Bool, true, false, not, ◌&&◌, eqb, leb, ltb, ℤ, get_or, Option, Some, None, refl, ap, arith}
 use Rattle.std.specs.Prelude.{unwrap_or, is_some}
-use Rattle.std.specs.Option.{is_none}
+use Rattle.std.specs.Option.{is_none, option_map_or}
 use Rattle.std.proofs.lemmas.Bool.{and_parts, and_from, eq-eqb}
 use Rattle.std.proofs.lemmas.Bool.Decides.{nat_tests}
 use Rattle.std.proofs.lemmas.List.Elements.{All-push, All-weaker}
 use Rattle.std.proofs.lemmas.List.Quantifiers.{all_pairs_push}
 use Rattle.cfs_model.specs.declared.task.Task.{Task}
 use Rattle.cfs_model.specs.declared.claim.Claim.{Claim}
+use Rattle.cfs_model.specs.declared.nice_line.NiceLine.{NiceLine}
 use Rattle.cfs_model.specs.Charge.{IsInRange}
 use Rattle.cfs_model.specs.Limits.{greatest_line, greatest_seconds, most_processors, nanoseconds_per_second}
-use Rattle.companion_file.specs.Shape.{Shape, version_line, cpus_line, start_line, floor_line, task_line, claim_line}
-use Rattle.companion_file.specs.Earlier.{Said, has_all_floors, is_run, is_taken}
-use Rattle.companion_file.specs.Tests.{is_pid, is_value, is_nice}
-use Rattle.companion_file.specs.Reading.{IsTaskInLimits, IsClaimInLimits}
+use Rattle.companion_file.specs.Shape.{Shape, version_line, cpus_line, start_line, floor_line, task_line, claim_line, nice_line}
+use Rattle.companion_file.specs.Earlier.{Said, last_nice, has_all_floors, is_run, is_taken}
+use Rattle.companion_file.specs.Tests.{is_pid, is_value, is_nice, is_above_claims}
+use Rattle.companion_file.specs.Reading.{IsTaskInLimits, IsClaimInLimits, IsNiceLineInLimits}
 use Rattle.cfs_model.specs.Order.{RunApart}
-use Rattle.companion_file.specs.Draft.{KeepsOrder}
 use Rattle.companion_file.proofs.KeptOrder.{Passes, value_fact, nice_fact, pid_fact}
 use Rattle.companion_file.proofs.Rising.{rises_push, none_passes}
-use Rattle.companion_file.proofs.Summing.{told}
+use Rattle.companion_file.specs.Draft.{KeepsOrder, with_line}
 
 -- the nanoseconds of a start are less than a second
 abbrev pub FitsSecond : Shape → Type 0
@@ -28,12 +28,13 @@ FitsSecond (start_line seconds nanoseconds) = nanoseconds < nanoseconds_per_seco
 FitsSecond (floor_line cpu floor) = Unit {0}
 FitsSecond (task_line t) = Unit {0}
 FitsSecond (claim_line k) = Unit {0}
+FitsSecond (nice_line k) = Unit {0}
 
 none_is : (o : Option ℕ) → is_none o ≡ true → o ≡ None
 none_is None e = refl
 none_is (Some n) e = absurd cc
 
-order_cpus : (said : Said) (n : ℕ) → KeepsOrder said → Passes said (cpus_line n) → KeepsOrder (told said (cpus_line n))
+order_cpus : (said : Said) (n : ℕ) → KeepsOrder said → Passes said (cpus_line n) → KeepsOrder (with_line said (cpus_line n))
 order_cpus said n order passes =
     let none : said.cpus ≡ None = none_is said.cpus passes.turn in
     let parts = and_parts (leb 1 n) (leb n most_processors) passes.limits in
@@ -54,7 +55,7 @@ order_cpus said n order passes =
       nice_lines_rise = order.nice_lines_rise;
     }
 
-order_start : (said : Said) (seconds nanoseconds : ℕ) → nanoseconds < nanoseconds_per_second → KeepsOrder said → Passes said (start_line seconds nanoseconds) → KeepsOrder (told said (start_line seconds nanoseconds))
+order_start : (said : Said) (seconds nanoseconds : ℕ) → nanoseconds < nanoseconds_per_second → KeepsOrder said → Passes said (start_line seconds nanoseconds) → KeepsOrder (with_line said (start_line seconds nanoseconds))
 order_start said seconds nanoseconds below order passes =
     let limits : leb seconds greatest_seconds ≡ true = passes.limits in
     let high : seconds ≤ greatest_seconds = grind (arith, nat_tests) in
@@ -72,7 +73,7 @@ order_start said seconds nanoseconds below order passes =
       nice_lines_rise = order.nice_lines_rise;
     }
 
-order_floor : (said : Said) (cpu : ℕ) (floor : ℤ) → KeepsOrder said → Passes said (floor_line cpu floor) → KeepsOrder (told said (floor_line cpu floor))
+order_floor : (said : Said) (cpu : ℕ) (floor : ℤ) → KeepsOrder said → Passes said (floor_line cpu floor) → KeepsOrder (with_line said (floor_line cpu floor))
 order_floor said cpu floor order passes =
     let turn = and_parts (is_some said.start) (not (has_all_floors said)) passes.turn in
     let limits = and_parts (ltb cpu (unwrap_or said.cpus 0)) (is_value floor) passes.limits in
@@ -96,7 +97,7 @@ second_fails true true e f = absurd cc
 second_fails true false e f = refl
 second_fails false b e f = absurd cc
 
-order_task : (said : Said) (t : Task) → KeepsOrder said → Passes said (task_line t) → KeepsOrder (told said (task_line t))
+order_task : (said : Said) (t : Task) → KeepsOrder said → Passes said (task_line t) → KeepsOrder (with_line said (task_line t))
 order_task said t order passes =
     let third = and_parts (is_pid t.pid && is_nice t.nice && ltb t.cpu (unwrap_or said.cpus 0)) (is_value t.v) passes.limits in
     let second = and_parts (is_pid t.pid && is_nice t.nice) (ltb t.cpu (unwrap_or said.cpus 0)) third.0 in
@@ -126,13 +127,14 @@ order_task said t order passes =
       nice_lines_rise = order.nice_lines_rise;
     }
 
-order_claim : (said : Said) (claim : Claim) → KeepsOrder said → Passes said (claim_line claim) → KeepsOrder (told said (claim_line claim))
+order_claim : (said : Said) (claim : Claim) → KeepsOrder said → Passes said (claim_line claim) → KeepsOrder (with_line said (claim_line claim))
 order_claim said claim order passes =
     let third = and_parts (leb 1 claim.line && leb claim.line greatest_line && is_pid claim.pid) (is_value claim.v) passes.limits in
     let second = and_parts (leb 1 claim.line && leb claim.line greatest_line) (is_pid claim.pid) third.0 in
     let first = and_parts (leb 1 claim.line) (leb claim.line greatest_line) second.0 in
     let low : 1 ≤ claim.line = grind (arith, nat_tests) in
     let high : claim.line ≤ greatest_line = grind (arith, nat_tests) in
+    let parts = and_parts (is_above_claims said claim.line) (option_map_or (λ last. leb last.line claim.line) (last_nice said) true) passes.above in
     record {
       cpus_kept = order.cpus_kept;
       start_kept = order.start_kept;
@@ -144,15 +146,40 @@ order_claim said claim order passes =
       claims_kept = All-push IsClaimInLimits said.claims claim order.claims_kept
           (record { line = (low, high); pid = pid_fact claim.pid second.1; v = value_fact claim.v third.1 });
       lines_rise = rises_push (λ (c : Claim). c.line) said.claims claim order.lines_rise
-          (λ l e. let above : ltb l.line claim.line ≡ true = rw e at passes.above in grind (arith, nat_tests));
+          (λ l e. let above : ltb l.line claim.line ≡ true = rw e at parts.0 in grind (arith, nat_tests));
       nices_kept = order.nices_kept;
       nice_lines_rise = order.nice_lines_rise;
     }
 
-pub order_told : (said : Said) (x : Shape) → FitsSecond x → KeepsOrder said → Passes said x → KeepsOrder (told said x)
-order_told said (version_line n) fits order passes = let turn : false ≡ true = passes.turn in absurd cc
-order_told said (cpus_line n) fits order passes = order_cpus said n order passes
-order_told said (start_line seconds nanoseconds) fits order passes = order_start said seconds nanoseconds fits order passes
-order_told said (floor_line cpu floor) fits order passes = order_floor said cpu floor order passes
-order_told said (task_line t) fits order passes = order_task said t order passes
-order_told said (claim_line claim) fits order passes = order_claim said claim order passes
+order_nice : (said : Said) (change : NiceLine) → KeepsOrder said → Passes said (nice_line change) → KeepsOrder (with_line said (nice_line change))
+order_nice said change order passes =
+    let third = and_parts (leb 1 change.line && leb change.line greatest_line && is_pid change.pid) (is_nice change.nice) passes.limits in
+    let second = and_parts (leb 1 change.line && leb change.line greatest_line) (is_pid change.pid) third.0 in
+    let first = and_parts (leb 1 change.line) (leb change.line greatest_line) second.0 in
+    let low : 1 ≤ change.line = grind (arith, nat_tests) in
+    let high : change.line ≤ greatest_line = grind (arith, nat_tests) in
+    let parts = and_parts (option_map_or (λ last. ltb last.line change.line) (last_nice said) true) (is_above_claims said change.line) passes.above in
+    record {
+      cpus_kept = order.cpus_kept;
+      start_kept = order.start_kept;
+      floors_after_start = order.floors_after_start;
+      floors_kept = order.floors_kept;
+      tasks_kept = order.tasks_kept;
+      pids_rise = order.pids_rise;
+      one_runs_a_cpu = order.one_runs_a_cpu;
+      claims_kept = order.claims_kept;
+      lines_rise = order.lines_rise;
+      nices_kept = All-push IsNiceLineInLimits said.nices change order.nices_kept
+          (record { line = (low, high); pid = pid_fact change.pid second.1; nice = nice_fact change.nice third.1 });
+      nice_lines_rise = rises_push (λ (c : NiceLine). c.line) said.nices change order.nice_lines_rise
+          (λ l e. let above : ltb l.line change.line ≡ true = rw e at parts.0 in grind (arith, nat_tests));
+    }
+
+pub order_with : (said : Said) (x : Shape) → FitsSecond x → KeepsOrder said → Passes said x → KeepsOrder (with_line said x)
+order_with said (version_line n) fits order passes = let turn : false ≡ true = passes.turn in absurd cc
+order_with said (cpus_line n) fits order passes = order_cpus said n order passes
+order_with said (start_line seconds nanoseconds) fits order passes = order_start said seconds nanoseconds fits order passes
+order_with said (floor_line cpu floor) fits order passes = order_floor said cpu floor order passes
+order_with said (task_line t) fits order passes = order_task said t order passes
+order_with said (claim_line claim) fits order passes = order_claim said claim order passes
+order_with said (nice_line change) fits order passes = order_nice said change order passes

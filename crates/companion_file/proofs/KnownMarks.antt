@@ -1,24 +1,12 @@
 -- The first line and lines about groups, by what follows their first bytes.
-use Rattle.std.proofs.Common.{◌≡◌, ◌≢◌, ◌⊎◌, ℕ, ◌<◌, true, eqb, List, [], ◌∷◌, ◌++◌, length, get_or, Some, None, sym, ap, ◌∙◌, inl, inr, arith}
+use Rattle.std.proofs.Common.{◌≡◌, ◌⊎◌, ℕ, ◌<◌, true, eqb, List, [], ◌∷◌, ◌++◌, length, get_or, Some, None, sym, ap, ◌∙◌, inl, inr, arith}
 use Rattle.std.specs.Prelude.{codes}
 use Rattle.std.proofs.lemmas.Bool.{eqb-true, eq-eqb}
 use Rattle.std.proofs.lemmas.List.{nil_from_length}
 use Rattle.text_parts.specs.Reading.{after_text}
 use Rattle.text_parts.proofs.Runs.{text_taken, text_again}
 use Rattle.std.proofs.lemmas.Option.{same_Some}
-use Rattle.companion_file.specs.VersionOne.{first_line, IsControlGroup}
-
-pub not_first : (line : List ℕ) → after_text first_line line ≡ None → line ≢ first_line
-not_first line e same = let found : after_text first_line line ≡ Some [] = ap (after_text first_line) same ∙ text_again first_line [] in absurd cc
-
-pub first_ends : (line rest : List ℕ) → after_text first_line line ≡ Some rest → (eqb (length rest) 0 ≡ true → line ≡ first_line) × (line ≡ first_line → eqb (length rest) 0 ≡ true)
-first_ends line rest e = (
-  λ empty. text_taken first_line line rest e ∙ ap (λ (s : List ℕ). first_line ++ s) (nil_from_length rest (eqb-true (length rest) 0 empty)),
-  λ same.
-      let found : after_text first_line line ≡ Some [] = ap (after_text first_line) same ∙ text_again first_line [] in
-      let end : rest ≡ [] = same_Some rest [] (sym e ∙ found) in
-      ap (λ (s : List ℕ). eqb (length s) 0) end,
-)
+use Rattle.companion_file.specs.Spelling.{IsControlGroup}
 
 -- what stands behind the word in a line about a group
 behind_group : (line : List ℕ) → IsControlGroup line → (after_text (codes "cgroup") line ≡ Some []) ⊎ ((rest : List ℕ) × (after_text (codes "cgroup") line ≡ Some (32 ∷ rest)))

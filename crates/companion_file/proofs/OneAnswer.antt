@@ -1,15 +1,15 @@
 -- A text has at most one answer. A line comes to one thing after what was said before it: two shapes that it spells
 -- are read as one, and they fail the same test or are the same. So two first bad lines stand at one place.
-use Rattle.std.proofs.Common.{◌≡◌, ℕ, suc, ◌≤◌, Bool, true, false, List, [], ◌∷◌, ◌++◌, length, Option, Some, None, Result, Ok, Err, refl, sym, ap, subst, ◌∙◌, inl, inr}
-use Rattle.std.specs.Prelude.{unwrap_or, MatchBool}
+use Rattle.std.proofs.Common.{◌≡◌, ℕ, suc, ◌≤◌, List, [], ◌∷◌, ◌++◌, length, get_or, Option, Some, None, Result, Ok, Err, refl, sym, ap, subst, ◌∙◌, inl, inr, arith}
+use Rattle.std.specs.Prelude.{codes, unwrap_or, MatchOption}
 use Rattle.std.specs.Option.{option_map_or}
 use Rattle.std.proofs.lemmas.Option.{same_Some}
 use Rattle.cfs_model.specs.Limits.{most_processors}
 use Rattle.std.proofs.lemmas.Option.{same_Some}
 use Rattle.companion_file.specs.declared.fault.CompanionCause.{CompanionCause}
-use Rattle.companion_file.specs.Shape.{Shape}
+use Rattle.companion_file.specs.Shape.{Shape, version_line}
 use Rattle.text_parts.specs.Lines.{IsComment}
-use Rattle.companion_file.specs.VersionOne.{IsSpelled}
+use Rattle.companion_file.specs.Spelling.{IsFirstLine, IsSpelled}
 use Rattle.companion_file.specs.Earlier.{Said, summed}
 use Rattle.companion_file.specs.Tests.{fault_of, tested, IsJudgedFirst, IsJudgedLater, IsJudged}
 use Rattle.companion_file.specs.Draft.{KeepsOrder}
@@ -32,36 +32,51 @@ same_outcome said x y None few same e f =
     ap (tested said) one
 same_outcome said x y (Some cause) few same e f = tested_by said x (Some cause) e ∙ sym (tested_by said y (Some cause) f)
 
-spelled_once : (said : Said) (line : List ℕ) (x y : Shape) → KeepsOrder said → IsSpelled line x → IsSpelled line y → tested said x ≡ tested said y
-spelled_once said line x y order p q =
+spelled_once : (version : ℕ) (said : Said) (line : List ℕ) (x y : Shape) → KeepsOrder said → IsSpelled version line x → IsSpelled version line y → tested said x ≡ tested said y
+spelled_once version said line x y order p q =
     let few = few_of said order in
-    let same : clip x ≡ clip y = same_Some (clip x) (clip y) (sym (shape_again line x p) ∙ shape_again line y q) in
+    let same : clip x ≡ clip y = same_Some (clip x) (clip y) (sym (shape_again version line x p) ∙ shape_again version line y q) in
     let faults : fault_of said y ≡ fault_of said x = sym (fault_clip said y few) ∙ ap (fault_of said) (sym same) ∙ fault_clip said x few in
     same_outcome said x y (fault_of said x) few same refl faults
 
-later_once : (said : Said) (line : List ℕ) (r s : Result Shape CompanionCause) → KeepsOrder said → IsJudgedLater said line r → IsJudgedLater said line s → r ≡ s
-later_once said line r s order (inl p) (inl q) = p.1 ∙ sym q.1
-later_once said line r s order (inl p) (inr (inl q)) = absurd (q.0 p.0)
-later_once said line r s order (inl p) (inr (inr q)) = absurd (q.0 p.0)
-later_once said line r s order (inr (inl p)) (inl q) = absurd (p.0 q.0)
-later_once said line r s order (inr (inl p)) (inr (inl q)) = p.2 ∙ sym q.2
-later_once said line r s order (inr (inl p)) (inr (inr q)) = absurd (p.1 q.1.0 q.1.1)
-later_once said line r s order (inr (inr p)) (inl q) = absurd (p.0 q.0)
-later_once said line r s order (inr (inr p)) (inr (inl q)) = absurd (q.1 p.1.0 p.1.1)
-later_once said line r s order (inr (inr p)) (inr (inr q)) = p.1.2 ∙ spelled_once said line p.1.0 q.1.0 order p.1.1 q.1.1 ∙ sym q.1.2
+later_once : (version : ℕ) (said : Said) (line : List ℕ) (r s : Result Shape CompanionCause) → KeepsOrder said → IsJudgedLater version said line r → IsJudgedLater version said line s → r ≡ s
+later_once version said line r s order (inl p) (inl q) = p.1 ∙ sym q.1
+later_once version said line r s order (inl p) (inr (inl q)) = absurd (q.0 p.0)
+later_once version said line r s order (inl p) (inr (inr q)) = absurd (q.0 p.0)
+later_once version said line r s order (inr (inl p)) (inl q) = absurd (p.0 q.0)
+later_once version said line r s order (inr (inl p)) (inr (inl q)) = p.2 ∙ sym q.2
+later_once version said line r s order (inr (inl p)) (inr (inr q)) = absurd (p.1 q.1.0 q.1.1)
+later_once version said line r s order (inr (inr p)) (inl q) = absurd (p.0 q.0)
+later_once version said line r s order (inr (inr p)) (inr (inl q)) = absurd (q.1 p.1.0 p.1.1)
+later_once version said line r s order (inr (inr p)) (inr (inr q)) = p.1.2 ∙ spelled_once version said line p.1.0 q.1.0 order p.1.1 q.1.1 ∙ sym q.1.2
+
+other_digits : ◌≡◌ {A = ℕ} 49 50 → ⊥
+other_digits e = absurd (omega (arith, e))
+
+-- the two first lines differ in their digit
+no_two_digits : codes "cfs-companion 1" ≡ codes "cfs-companion 2" → ⊥
+no_two_digits e = other_digits (ap (λ (s : List ℕ). get_or s 14 0) e)
+
+-- a first line names one version
+one_version : (line : List ℕ) (m n : ℕ) → IsFirstLine line m → IsFirstLine line n → m ≡ n
+one_version line m n (inl p) (inl q) = p.1 ∙ sym q.1
+one_version line m n (inl p) (inr q) = absurd (no_two_digits (sym p.0 ∙ q.0))
+one_version line m n (inr p) (inl q) = absurd (no_two_digits (sym q.0 ∙ p.0))
+one_version line m n (inr p) (inr q) = p.1 ∙ sym q.1
 
 first_once : (line : List ℕ) (r s : Result Shape CompanionCause) → IsJudgedFirst line r → IsJudgedFirst line s → r ≡ s
-first_once line r s (inl p) (inl q) = p.1 ∙ sym q.1
-first_once line r s (inl p) (inr q) = absurd (q.0 p.0)
-first_once line r s (inr p) (inl q) = absurd (p.0 q.0)
+first_once line r s (inl p) (inl q) = p.2 ∙ ap (λ (n : ℕ). Ok (version_line n)) (one_version line p.0 q.0 p.1 q.1) ∙ sym q.2
+first_once line r s (inl p) (inr q) = absurd (q.0 p.0 p.1)
+first_once line r s (inr p) (inl q) = absurd (p.0 q.0 q.1)
 first_once line r s (inr p) (inr q) = p.1 ∙ sym q.1
 
-judged_once_at : (begun : Bool) (said : Said) (line : List ℕ) (r s : Result Shape CompanionCause) → KeepsOrder said → MatchBool begun (IsJudgedLater said line r) (IsJudgedFirst line r) → MatchBool begun (IsJudgedLater said line s) (IsJudgedFirst line s) → r ≡ s
-judged_once_at true said line r s order p q = later_once said line r s order p q
-judged_once_at false said line r s order p q = first_once line r s p q
+judged_once_at : (version : Option ℕ) (said : Said) (line : List ℕ) (r s : Result Shape CompanionCause) → KeepsOrder said → MatchOption version (IsJudgedFirst line r) (λ v. IsJudgedLater v said line r)
+    → MatchOption version (IsJudgedFirst line s) (λ v. IsJudgedLater v said line s) → r ≡ s
+judged_once_at (Some version) said line r s order p q = later_once version said line r s order p q
+judged_once_at None said line r s order p q = first_once line r s p q
 
 judged_once : (said : Said) (line : List ℕ) (r s : Result Shape CompanionCause) → KeepsOrder said → IsJudged said line r → IsJudged said line s → r ≡ s
-judged_once said line r s order p q = judged_once_at said.begun said line r s order p q
+judged_once said line r s order p q = judged_once_at said.version said line r s order p q
 
 same_shape : (said : Said) (line : List ℕ) (x y : Shape) → KeepsOrder said → IsJudged said line (Ok x) → IsJudged said line (Ok y) → x ≡ y
 same_shape said line x y order p q = let e = judged_once said line (Ok x) (Ok y) order p q in cc

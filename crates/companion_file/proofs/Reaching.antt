@@ -12,9 +12,9 @@ use Rattle.companion_file.specs.Shape.{Shape}
 use Rattle.companion_file.specs.Earlier.{Said, summed, has_all_floors}
 use Rattle.companion_file.specs.Reading.{CompanionView}
 use Rattle.companion_file.specs.declared.fault.CompanionFault.TheVariants as faults
-use Rattle.companion_file.specs.Draft.{Takes, KeepsOrder, IsCompleted, fault_at}
+use Rattle.companion_file.specs.Draft.{Takes, KeepsOrder, IsCompleted, fault_at, with_line}
 use Rattle.companion_file.specs.Companion.{AreGood, IsFirstBadCompanionLine, IsShort, IsRead, IsAnswered}
-use Rattle.companion_file.proofs.Summing.{told, summed-push}
+use Rattle.companion_file.proofs.Summing.{summed-push}
 use Rattle.companion_file.proofs.GoodLines.{order_of_good, comment_after, line_after}
 
 pub record IsReadUpTo (text rest : List ℕ) (number : ℕ) (kept : Said) : Type 0 where
@@ -48,7 +48,7 @@ reached_more text rest line after number old new u at cut shorter (inr p) =
       parts = at.parts ∙ ap (λ (ls : List (List ℕ)). at.before ++ ls) cut ∙ sym (append_assoc at.before (line ∷ []) (lines_of after));
       count = omega (arith, at.count, length-append at.before (line ∷ []));
       good = line_after [] at.before at.said line p.1.0 at.good p.0 (rw at.kept_is at p.1.1);
-      kept_is = p.1.2 ∙ ap (λ (s : Said). told s p.1.0) at.kept_is ∙ sym (summed-push at.said p.1.0);
+      kept_is = p.1.2 ∙ ap (λ (s : Said). with_line s p.1.0) at.kept_is ∙ sym (summed-push at.said p.1.0);
       fits = omega (arith, at.fits);
     }
 

@@ -11,7 +11,7 @@ use Rattle.text_parts.specs.Reading.{◌>>=◌, or_else, after_text, numeral_at}
 use Rattle.text_parts.proofs.Runs.{Stops, bind_some, at_end_taken, numeral_again, numeral_taken, text_taken}
 use Rattle.text_parts.specs.Reading.{if_at_end}
 use Rattle.std.proofs.lemmas.Option.{same_Some}
-use Rattle.companion_file.specs.VersionOne.{IsNumber, IsInteger, place_word}
+use Rattle.companion_file.specs.Spelling.{IsNumber, IsInteger, place_word}
 use Rattle.companion_file.specs.ShapeReading.{beyond_range, place_and_rest, signed_at, number_field, number_whole, integer_at, integer_field, integer_whole, place_field}
 use Rattle.companion_file.proofs.Clip.{clip_integer, clip-neg}
 

@@ -1,15 +1,15 @@
 -- What the reader keeps of the lines so far, and what one more line makes of it. It is proved that this is what
 -- those lines say, taken together.
-use Rattle.std.specs.Prelude.{◌≡◌, ◌≢◌, ℕ, ◌+◌, ◌*◌, ◌<◌, ◌≤◌, Bool, true, false, List, [], ◌∷◌, ◌++◌, length, unwrap_or, All, AllPairs, Option, Some, None, Result, Ok, Err, slice_index_or, ◌⊎◌}
+use Rattle.std.specs.Prelude.{◌≡◌, ℕ, ◌+◌, ◌*◌, ◌<◌, ◌≤◌, Bool, true, false, List, [], ◌∷◌, ◌++◌, length, unwrap_or, All, AllPairs, Option, Some, None, Result, Ok, Err, slice_index_or, ◌⊎◌}
 use Rattle.std.specs.Option.{ForSome}
 use Rattle.cfs_model.specs.declared.task.Task.{Task}
 use Rattle.companion_file.specs.declared.fault.Refusal.{Refusal}
 use Rattle.companion_file.specs.declared.fault.Refusal.TheVariants as refusals
-use Rattle.companion_file.specs.Shape.{Shape, version_line, cpus_line, start_line, floor_line, task_line, claim_line}
+use Rattle.companion_file.specs.Shape.{Shape, version_line, cpus_line, start_line, floor_line, task_line, claim_line, nice_line}
 use Rattle.companion_file.specs.declared.fault.CompanionCause.TheVariants.{Version}
 use Rattle.companion_file.specs.declared.fault.CompanionFault.{CompanionFault}
 use Rattle.companion_file.specs.declared.fault.CompanionFault.TheVariants as faults
-use Rattle.companion_file.specs.VersionOne.{first_line}
+use Rattle.companion_file.specs.Spelling.{IsFirstLine}
 use Rattle.companion_file.specs.Earlier.{Said, has_all_floors, is_taken}
 use Rattle.text_parts.specs.Lines.{IsComment}
 use Rattle.cfs_model.specs.Limits.{most_processors, greatest_seconds, nanoseconds_per_second}
@@ -25,12 +25,13 @@ pub record KnowsRunning (cpus : Option ℕ) (tasks : List Task) (running : List 
 
 -- what is said with one more line
 abbrev pub with_line : Said → Shape → Said
-with_line said (version_line n) = said
+with_line said (version_line n) = record said { version = Some n }
 with_line said (cpus_line n) = record said { cpus = Some n }
 with_line said (start_line seconds nanoseconds) = record said { start = Some (seconds * nanoseconds_per_second + nanoseconds) }
 with_line said (floor_line cpu floor) = record said { floors = said.floors ++ floor ∷ [] }
 with_line said (task_line task) = record said { tasks = said.tasks ++ task ∷ [] }
 with_line said (claim_line claim) = record said { claims = said.claims ++ claim ∷ [] }
+with_line said (nice_line change) = record said { nices = said.nices ++ change ∷ [] }
 
 -- the line with this shape was added, if memory sufficed
 abbrev pub Adds : Said → Shape → Result Unit Refusal → Said → Type 0
@@ -46,15 +47,15 @@ AddsTested old x (Err refusals.Memory) new = Unit {0}
 
 -- the first line was taken, or it is bad
 abbrev pub TakesFirst : Said → List ℕ → Result Unit Refusal → Said → Type 0
-TakesFirst old line (Ok _) new = (line ≡ first_line) × (new ≡ record old { begun = true })
-TakesFirst old line (Err (refusals.Bad cause)) new = (line ≢ first_line) × (cause ≡ Version)
+TakesFirst old line (Ok _) new = (version : ℕ) × IsFirstLine line version × (new ≡ record old { version = Some version })
+TakesFirst old line (Err (refusals.Bad cause)) new = ((version : ℕ) → ¬ IsFirstLine line version) × (cause ≡ Version)
 TakesFirst old line (Err refusals.Memory) new = Unit {0}
 
 -- the line was a comment, or it was taken, or it is bad
 abbrev pub Takes : Said → List ℕ → Result Unit Refusal → Said → Type 0
 Takes old line (Ok _) new =
     (IsComment line × (new ≡ old))
-    ⊎ ((¬ IsComment line) × ((x : Shape) × IsJudged old line (Ok x) × (new ≡ record (with_line old x) { begun = true })))
+    ⊎ ((¬ IsComment line) × ((x : Shape) × IsJudged old line (Ok x) × (new ≡ with_line old x)))
 Takes old line (Err (refusals.Bad cause)) new = (¬ IsComment line) × IsJudged old line (Err cause)
 Takes old line (Err refusals.Memory) new = Unit {0}
 

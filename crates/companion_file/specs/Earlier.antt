@@ -1,5 +1,5 @@
 -- What the lines of a companion up to a place say, taken together (this project's companion format).
-use Rattle.std.specs.Prelude.{ℕ, ◌+◌, ◌*◌, ℤ, Bool, true, false, ◌==◌, ◌&&◌, List, [], ◌∷◌, length, filter_map, Option, Some, None}
+use Rattle.std.specs.Prelude.{ℕ, ◌+◌, ◌*◌, ℤ, Bool, true, false, ◌==◌, ◌&&◌, List, length, filter_map, Option, Some, None}
 use Rattle.std.specs.Option.{option_map_or}
 use Rattle.std.specs.List.{last_or, list_any}
 use Rattle.cfs_model.specs.Limits.{nanoseconds_per_second}
@@ -8,7 +8,12 @@ use Rattle.cfs_model.specs.declared.task.Place.{Place}
 use Rattle.cfs_model.specs.declared.task.Place.TheVariants.{Run, Wait, Rest}
 use Rattle.cfs_model.specs.declared.claim.Claim.{Claim}
 use Rattle.cfs_model.specs.declared.nice_line.NiceLine.{NiceLine}
-use Rattle.companion_file.specs.Shape.{Shape, cpus_line, start_line, floor_line, task_line, claim_line}
+use Rattle.companion_file.specs.Shape.{Shape, version_line, cpus_line, start_line, floor_line, task_line, claim_line, nice_line}
+
+-- the format's version that a line names, if it names one
+abbrev pub version_in : Shape → Option ℕ
+version_in (version_line n) = Some n
+version_in _ = None
 
 -- the number of processors that a line says, if it says one
 abbrev pub cpus_in : Shape → Option ℕ
@@ -37,12 +42,13 @@ claim_in _ = None
 
 -- the change of a nice value that a line tells
 abbrev pub nice_in : Shape → Option NiceLine
+nice_in (nice_line change) = Some change
 nice_in _ = None
 
 -- what lines say, taken together
 pub record Said : Type 0 where
-  -- whether there is a line
-  pub begun : Bool
+  -- the format's version, once the first line has named it
+  pub version : Option ℕ
   -- the number of processors, once a line has said it
   pub cpus : Option ℕ
   -- the start in nanoseconds, once a line has said it
@@ -56,16 +62,11 @@ pub record Said : Type 0 where
   -- the changes of nice values so far
   pub nices : List NiceLine
 
--- there is a line
-abbrev pub is_begun : List Shape → Bool
-is_begun [] = false
-is_begun (x ∷ xs) = true
-
 -- what these lines say, taken together
 abbrev pub summed : List Shape → Said
 summed lines =
     record {
-      begun = is_begun lines;
+      version = last_or None (filter_map version_in lines);
       cpus = last_or None (filter_map cpus_in lines);
       start = last_or None (filter_map start_in lines);
       floors = filter_map floor_in lines;
@@ -81,6 +82,10 @@ last_task said = last_or None said.tasks
 -- the last claim so far
 abbrev pub last_claim : Said → Option Claim
 last_claim said = last_or None said.claims
+
+-- the last change of a nice value so far
+abbrev pub last_nice : Said → Option NiceLine
+last_nice said = last_or None said.nices
 
 -- each processor has its floor
 abbrev pub has_all_floors : Said → Bool

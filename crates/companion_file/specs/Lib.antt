@@ -4,6 +4,6 @@ pub mod Earlier
 pub mod ShapeReading
 pub mod Reading
 pub mod Shape
+pub mod Spelling
 pub mod Statement
 pub mod Tests
-pub mod VersionOne

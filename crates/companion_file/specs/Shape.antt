@@ -2,6 +2,7 @@
 use Rattle.std.specs.Prelude.{ℕ, ℤ}
 use Rattle.cfs_model.specs.declared.task.Task.{Task}
 use Rattle.cfs_model.specs.declared.claim.Claim.{Claim}
+use Rattle.cfs_model.specs.declared.nice_line.NiceLine.{NiceLine}
 
 -- what a line that is no comment says, its numbers as they are spelled, within their limits or not
 pub data Shape : Type 0 where
@@ -17,3 +18,5 @@ pub data Shape : Type 0 where
   task_line : Task → Shape
   -- a virtual runtime claimed at a line of the trace
   claim_line : Claim → Shape
+  -- a change of a task's nice value at a line of the trace
+  nice_line : NiceLine → Shape

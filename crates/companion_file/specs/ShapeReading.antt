@@ -1,7 +1,7 @@
 -- How one line of a companion is read from left to right: what each part takes from the front of a text, and what it
--- leaves. Nothing here is to be believed: it is proved to give what `VersionOne` spells, but for numbers far out of
+-- leaves. Nothing here is to be believed: it is proved to give what `Spelling` spells, but for numbers far out of
 -- their limits, which are read as other numbers out of their limits.
-use Rattle.std.specs.Prelude.{ℕ, ◌+◌, ℤ, pos, neg_ℤ, min, List, codes, Option, None, Some, option_map}
+use Rattle.std.specs.Prelude.{ℕ, ◌+◌, ◌==◌, not, if◌then◌else◌, ℤ, pos, neg_ℤ, min, List, codes, Option, None, Some, option_map}
 use Rattle.std.specs.Option.{option_map_or}
 use Rattle.cfs_model.specs.Limits.{greatest_runtime}
 use Rattle.cfs_model.specs.declared.task.Place.{Place}
@@ -9,7 +9,7 @@ use Rattle.cfs_model.specs.declared.task.Place.TheVariants.{Run, Wait, Rest}
 use Rattle.cfs_model.specs.declared.claim.ClaimSort.{ClaimSort}
 use Rattle.cfs_model.specs.declared.claim.ClaimSort.TheVariants.{At, Pass}
 use Rattle.text_parts.specs.Reading.{◌>>=◌, or_else, if_at_end, after_text, numeral_at, time_at}
-use Rattle.companion_file.specs.Shape.{Shape, version_line, cpus_line, start_line, floor_line, task_line, claim_line}
+use Rattle.companion_file.specs.Shape.{Shape, version_line, cpus_line, start_line, floor_line, task_line, claim_line, nice_line}
 
 -- a number above each virtual runtime; larger ones are read as this one
 abbrev pub beyond_range : ℕ
@@ -93,6 +93,14 @@ claim_shape_at sort text = do
   v ← integer_whole pid.1
   Some (claim_line (record { line = line.0; pid = pid.0; v = v; sort = sort }))
 
+-- what follows the word `nice`, which only version 2 has
+unfoldable pub nice_shape_at : ℕ → List ℕ → Option Shape
+nice_shape_at version text = if not (version == 2) then None else do
+  line ← number_field text
+  pid ← number_field line.1
+  nice ← integer_whole pid.1
+  Some (nice_line (record { line = line.0; pid = pid.0; nice = nice }))
+
 -- the first word decides the shape: of those that stand before the floors
 unfoldable pub front_shape_at : List ℕ → Option Shape
 front_shape_at line =
@@ -100,10 +108,11 @@ front_shape_at line =
     (option_map_or cpus_shape_at (after_text (codes "cpus ") line)
     (option_map_or version_shape_at (after_text (codes "cfs-companion ") line) None))
 
--- and of all
-unfoldable pub shape_at : List ℕ → Option Shape
-shape_at line =
+-- and of all, in a text of this version
+unfoldable pub shape_at : ℕ → List ℕ → Option Shape
+shape_at version line =
     option_map_or (claim_shape_at At) (after_text (codes "at ") line)
     (option_map_or (claim_shape_at Pass) (after_text (codes "pass ") line)
     (option_map_or task_shape_at (after_text (codes "task ") line)
-    (option_map_or floor_shape_at (after_text (codes "floor ") line) (front_shape_at line))))
+    (option_map_or floor_shape_at (after_text (codes "floor ") line)
+    (option_map_or (nice_shape_at version) (after_text (codes "nice ") line) (front_shape_at line)))))

@@ -1,22 +1,23 @@
 -- The tests of a line of a companion, after what the lines before it say (this project's companion format).
-use Rattle.std.specs.Prelude.{◌≡◌, ◌≢◌, ℕ, ℤ, pos, negsuc, neg_ℤ, int_le, Bool, true, false, not, ◌&&◌, nat_le, nat_lt, ◌==◌, if◌then◌else◌, List, length, Option, Some, None, Result, Ok, Err, unwrap_or, is_some, ◌⊎◌, MatchBool}
+use Rattle.std.specs.Prelude.{◌≡◌, ℕ, ℤ, pos, negsuc, neg_ℤ, int_le, Bool, true, false, not, ◌&&◌, nat_le, nat_lt, ◌==◌, if◌then◌else◌, List, length, Option, Some, None, Result, Ok, Err, unwrap_or, is_some, ◌⊎◌, MatchOption}
 use Rattle.std.specs.Option.{option_map_or, is_none}
 use Rattle.cfs_model.specs.Limits.{greatest_runtime, greatest_pid, most_processors, greatest_seconds, greatest_line}
 use Rattle.companion_file.specs.declared.fault.CompanionCause.{CompanionCause}
 use Rattle.companion_file.specs.declared.fault.CompanionCause.TheVariants.{Version, Group, BadLine, Order, NumberRange, TwiceNamed, TwiceRunning, LineOrder}
-use Rattle.companion_file.specs.Shape.{Shape, version_line, cpus_line, start_line, floor_line, task_line, claim_line}
-use Rattle.companion_file.specs.VersionOne.{first_line, IsControlGroup, IsSpelled}
-use Rattle.companion_file.specs.Earlier.{Said, last_task, last_claim, has_all_floors, is_run, is_taken}
+use Rattle.companion_file.specs.Shape.{Shape, version_line, cpus_line, start_line, floor_line, task_line, claim_line, nice_line}
+use Rattle.companion_file.specs.Spelling.{IsFirstLine, IsControlGroup, IsSpelled}
+use Rattle.companion_file.specs.Earlier.{Said, last_task, last_claim, last_nice, has_all_floors, is_run, is_taken}
 
 -- a line of this sort is allowed here: after the first line `cpus` once, then `start` once, then a `floor` for each
--- processor, then tasks, then claims
+-- processor, then tasks, then claims and changes of nice values
 abbrev pub is_in_turn : Said → Shape → Bool
 is_in_turn said (version_line n) = false
 is_in_turn said (cpus_line n) = is_none said.cpus
 is_in_turn said (start_line seconds nanoseconds) = is_some said.cpus && is_none said.start
 is_in_turn said (floor_line cpu floor) = is_some said.start && not (has_all_floors said)
-is_in_turn said (task_line task) = has_all_floors said && (length said.claims == 0)
+is_in_turn said (task_line task) = has_all_floors said && (length said.claims == 0) && (length said.nices == 0)
 is_in_turn said (claim_line claim) = has_all_floors said
+is_in_turn said (nice_line change) = has_all_floors said
 
 -- a task's pid is from 1 to the greatest
 abbrev pub is_pid : ℕ → Bool
@@ -38,6 +39,7 @@ is_in_limits cpus (start_line seconds nanoseconds) = nat_le seconds greatest_sec
 is_in_limits cpus (floor_line cpu floor) = nat_lt cpu cpus && is_value floor
 is_in_limits cpus (task_line task) = is_pid task.pid && is_nice task.nice && nat_lt task.cpu cpus && is_value task.v
 is_in_limits cpus (claim_line claim) = nat_le 1 claim.line && nat_le claim.line greatest_line && is_pid claim.pid && is_value claim.v
+is_in_limits cpus (nice_line change) = nat_le 1 change.line && nat_le change.line greatest_line && is_pid change.pid && is_nice change.nice
 
 -- a floor's processor is the next one, and a task's pid is not less than the last task's
 abbrev pub is_next : Said → Shape → Bool
@@ -55,9 +57,24 @@ abbrev pub is_alone : Said → Shape → Bool
 is_alone said (task_line task) = not (is_run task.place && is_taken said.tasks task.cpu)
 is_alone said _ = true
 
--- a claim's line is above the last claim's
+-- the line is above that of the last claim
+abbrev pub is_above_claims : Said → ℕ → Bool
+is_above_claims said line = option_map_or (λ last. nat_lt last.line line) (last_claim said) true
+
+-- a claim's line is above the last claim's, and not below that of the last change of a nice value, which may be of the
+-- same line
+abbrev pub may_claim_at : Said → ℕ → Bool
+may_claim_at said line = is_above_claims said line && option_map_or (λ last. nat_le last.line line) (last_nice said) true
+
+-- a change's line is above the last change's and the last claim's: so at one line at most one change stands, before the
+-- line's claim
+abbrev pub may_change_at : Said → ℕ → Bool
+may_change_at said line = option_map_or (λ last. nat_lt last.line line) (last_nice said) true && is_above_claims said line
+
+-- the line of the trace that a claim or a change names may follow those before it
 abbrev pub is_above : Said → Shape → Bool
-is_above said (claim_line claim) = option_map_or (λ last. nat_lt last.line claim.line) (last_claim said) true
+is_above said (claim_line claim) = may_claim_at said claim.line
+is_above said (nice_line change) = may_change_at said change.line
 is_above said _ = true
 
 -- the cause of the first test that what the line says fails, if it fails one
@@ -78,16 +95,16 @@ tested said x = option_map_or (λ cause. Err cause) (fault_of said x) (Ok x)
 -- what the first line comes to
 abbrev pub IsJudgedFirst : List ℕ → Result Shape CompanionCause → Type 0
 IsJudgedFirst line r =
-    ((line ≡ first_line) × (r ≡ Ok (version_line 1)))
-    ⊎ ((line ≢ first_line) × (r ≡ Err Version))
+    ((version : ℕ) × IsFirstLine line version × (r ≡ Ok (version_line version)))
+    ⊎ (((version : ℕ) → ¬ IsFirstLine line version) × (r ≡ Err Version))
 
--- what a later line comes to, after what was said
-abbrev pub IsJudgedLater : Said → List ℕ → Result Shape CompanionCause → Type 0
-IsJudgedLater said line r =
+-- what a later line of a text of this version comes to, after what was said
+abbrev pub IsJudgedLater : ℕ → Said → List ℕ → Result Shape CompanionCause → Type 0
+IsJudgedLater version said line r =
     (IsControlGroup line × (r ≡ Err Group))
-    ⊎ ((¬ IsControlGroup line) × ((x : Shape) → ¬ IsSpelled line x) × (r ≡ Err BadLine))
-    ⊎ ((¬ IsControlGroup line) × ((x : Shape) × IsSpelled line x × (r ≡ tested said x)))
+    ⊎ ((¬ IsControlGroup line) × ((x : Shape) → ¬ IsSpelled version line x) × (r ≡ Err BadLine))
+    ⊎ ((¬ IsControlGroup line) × ((x : Shape) × IsSpelled version line x × (r ≡ tested said x)))
 
 -- what a line that is no comment comes to, after what was said: what it says, or why it is bad
 abbrev pub IsJudged : Said → List ℕ → Result Shape CompanionCause → Type 0
-IsJudged said line r = MatchBool said.begun (IsJudgedLater said line r) (IsJudgedFirst line r)
+IsJudged said line r = MatchOption said.version (IsJudgedFirst line r) (λ version. IsJudgedLater version said line r)

@@ -1,14 +1,14 @@
-ghost use Rattle.std.specs.Prelude.{◌≡◌, ◌≤◌, ◌<◌, ◌&&◌, nat_le, nat_lt, not, true, false, ◌==◌, unwrap_or, Some, MatchOption, [], IsTrue, slice_set};
-ghost use Rattle.std.specs.Option.{option_map_or};
+ghost use Rattle.std.specs.Prelude.{◌≡◌, ◌<◌, ◌&&◌, nat_lt, not, true, false, ◌==◌, unwrap_or, Some, MatchOption, [], IsTrue, slice_set};
 ghost use Rattle.cfs_model.specs.declared.task.Task.{Task};
 ghost use Rattle.cfs_model.specs.declared.claim.Claim.{Claim};
 ghost use Rattle.cfs_model.specs.Limits.{most_processors};
 ghost use Rattle.companion_file.specs.Shape.{task_line};
-ghost use Rattle.companion_file.specs.Earlier.{summed, has_all_floors, last_task, last_claim, is_run, is_taken};
+ghost use Rattle.companion_file.specs.Earlier.{summed, has_all_floors, is_run, is_taken};
 ghost use Rattle.companion_file.specs.Tests.{is_in_limits};
 ghost use Rattle.companion_file.specs.Draft.{Adds, KeepsOrder, IsCompleted};
 ghost use Rattle.companion_file.specs.Companion.{companion_view};
 
+mod rising;
 mod saying;
 
 use crate::companion::Companion;
@@ -22,7 +22,7 @@ use std::marker::Model;
 /// What the lines so far have said.
 #[derive(Drop)]
 pub(crate) struct Draft {
-    begun: bool,
+    version: Option<u32>,
     cpus: Option<u32>,
     start: Option<u64>,
     floors: Vec<i64>,
@@ -39,7 +39,7 @@ impl Model for Draft {
 
     ghost Value = { Said };
 
-    ghost view = { λ d. record { begun = d.begun; cpus = d.cpus; start = d.start; floors = d.floors.items; tasks = d.tasks.items; claims = d.claims.items; nices = d.nices.items } };
+    ghost view = { λ d. record { version = d.version; cpus = d.cpus; start = d.start; floors = d.floors.items; tasks = d.tasks.items; claims = d.claims.items; nices = d.nices.items } };
 
     ghost invariant = { λ d. KnowsRunning d.cpus d.tasks.items d.running };
 }
@@ -56,7 +56,7 @@ impl Draft {
         ensures { result ≡ summed [] }
     {
         Draft {
-            begun: false,
+            version: None,
             cpus: None,
             start: None,
             floors: Vec::new(alloc),
@@ -79,39 +79,6 @@ impl Draft {
         ensures few { IsTrue result → cpu < most_processors }
     {
         cpu < u64::from(self.cpus.unwrap_or(0))
-    }
-
-    fn last_task(&self) -> Option<Task>
-        ensures { result ≡ last_task self.now }
-    {
-        self.tasks.last().copied()
-    }
-
-    fn last_claim(&self) -> Option<Claim>
-        ensures { result ≡ last_claim self.now }
-    {
-        self.claims.last().copied()
-    }
-
-    fn is_pid_next(&self, pid: u64) -> bool
-        ensures { result ≡ option_map_or (λ last. nat_le last.pid pid) (last_task self.now) true }
-    {
-        self.last_task()
-            .is_none_or(|last| u64::from(last.pid) <= pid)
-    }
-
-    fn is_pid_new(&self, pid: u64) -> bool
-        ensures { result ≡ option_map_or (λ last. not (last.pid == pid)) (last_task self.now) true }
-    {
-        self.last_task()
-            .is_none_or(|last| u64::from(last.pid) != pid)
-    }
-
-    fn is_line_above(&self, line: u64) -> bool
-        ensures { result ≡ option_map_or (λ last. nat_lt last.line line) (last_claim self.now) true }
-    {
-        self.last_claim()
-            .is_none_or(|last| u64::from(last.line) < line)
     }
 
     fn task_within(&self, pid: u64, nice: i64, cpu: u64, place: Place, v: i64) -> Option<Task>
@@ -162,7 +129,7 @@ impl Draft {
             return None;
         }
         let Draft {
-            begun: _,
+            version: _,
             cpus,
             start,
             floors,

@@ -6,7 +6,7 @@ use std::alloc::AllocFailed;
 /// What is wrong with the first bad line of a companion, in the order in which a line is tested.
 #[derive(Clone, Copy, Debug, PartialEq, Eq)]
 pub enum CompanionCause {
-    /// The first line names another format or another version of it.
+    /// The first line names another format or a version of it that isn't known.
     Version,
     /// The line speaks of a control group.
     Group,
@@ -20,7 +20,7 @@ pub enum CompanionCause {
     TwiceNamed,
     /// A task runs at this processor already.
     TwiceRunning,
-    /// The claim's line is not above the last claim's.
+    /// The line of the trace that a claim or a change of a nice value names doesn't rise.
     LineOrder,
     /// The text ends before the floor of the last processor.
     Short,

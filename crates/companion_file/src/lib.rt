@@ -1,4 +1,5 @@
-//! The companion of a trace: the state that a schedule starts from, and the virtual runtimes that it claims.
+//! The companion of a trace: the state that a schedule starts from, the virtual runtimes that it claims, and the
+//! changes of nice values.
 #![tactic(auto)]
 
 mod companion;
@@ -10,8 +11,8 @@ mod limits;
 mod lists;
 mod marks;
 mod reading;
+mod shapes;
 mod statement;
-mod version_one;
 
 pub use companion::Companion;
 pub use fault::{CompanionCause, CompanionFault};

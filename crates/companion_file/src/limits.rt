@@ -1,10 +1,13 @@
 ghost use Rattle.std.specs.Prelude.{◌≡◌, ℕ, true, false, MatchOption};
 ghost use Rattle.cfs_model.specs.declared.claim.Claim.{Claim};
-ghost use Rattle.companion_file.specs.Shape.{claim_line};
+ghost use Rattle.cfs_model.specs.declared.nice_line.NiceLine.{NiceLine};
+ghost use Rattle.companion_file.specs.Shape.{claim_line, nice_line};
 ghost use Rattle.companion_file.specs.Earlier.{is_run};
 ghost use Rattle.companion_file.specs.Tests.{is_value, is_pid, is_nice, is_in_limits};
 
-use cfs_model::{Claim, ClaimSort, GREATEST_LINE, GREATEST_PID, GREATEST_RUNTIME, Nice, Place};
+use cfs_model::{
+    Claim, ClaimSort, GREATEST_LINE, GREATEST_PID, GREATEST_RUNTIME, Nice, NiceLine, Place,
+};
 
 pub(crate) fn is_value(v: i64) -> bool
     ensures { result ≡ is_value v }
@@ -45,6 +48,23 @@ pub(crate) fn claim_within(line: u64, pid: u64, v: i64, sort: ClaimSort) -> Opti
             pid: pid as u32,
             v,
             sort,
+        })
+    } else {
+        None
+    }
+}
+
+pub(crate) fn change_within(line: u64, pid: u64, nice: i64) -> Option<NiceLine>
+    ensures { let change : NiceLine = record { line = line; pid = pid; nice = nice } in
+        MatchOption result ((cpus : ℕ) → is_in_limits cpus (nice_line change) ≡ false)
+        (λ within. (within ≡ change) × ((cpus : ℕ) → is_in_limits cpus (nice_line change) ≡ true)) }
+{
+    let nice = nice_within(nice)?;
+    if 1 <= line && line <= GREATEST_LINE && is_pid(pid) {
+        Some(NiceLine {
+            line: line as u32,
+            pid: pid as u32,
+            nice,
         })
     } else {
         None

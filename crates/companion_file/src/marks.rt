@@ -1,16 +1,25 @@
-ghost use Rattle.std.specs.Prelude.{◌≡◌, ◌↔◌, IsTrue};
-ghost use Rattle.companion_file.specs.VersionOne.{first_line, IsControlGroup};
+ghost use Rattle.std.specs.Prelude.{◌≡◌, ◌↔◌, ℕ, IsTrue, MatchOption};
+ghost use Rattle.companion_file.specs.Spelling.{IsFirstLine, IsControlGroup};
 
 use text_parts::pieces::after_front;
 
-/// The line that names the format and its version.
-pub(crate) fn is_first(line: &[u8]) -> bool
-    ensures { IsTrue result ↔ (line.now ≡ first_line) }
+/// The version of the format that a first line names, if it names one that is known.
+pub(crate) fn version_of(line: &[u8]) -> Option<u32>
+    ensures { MatchOption result ((version : ℕ) → ¬ IsFirstLine line.now version) (λ version. IsFirstLine line.now version) }
 {
-    match after_front(line, b"cfs-companion 1") {
-        None => false,
-        Some(rest) => rest.is_empty(),
+    if is_text(line, b"cfs-companion 1") {
+        Some(1)
+    } else if is_text(line, b"cfs-companion 2") {
+        Some(2)
+    } else {
+        None
     }
+}
+
+fn is_text(line: &[u8], text: &[u8]) -> bool
+    ensures { IsTrue result ↔ (line.now ≡ text.now) }
+{
+    line == text
 }
 
 /// A line about a control group.

@@ -24,4 +24,9 @@ pub(crate) enum Statement {
         v: i64,
         sort: ClaimSort,
     },
+    Nice {
+        line: u64,
+        pid: u64,
+        nice: i64,
+    },
 }

@@ -1,14 +1,14 @@
 ghost use Rattle.std.specs.Prelude.{◌≡◌};
-ghost use Rattle.companion_file.specs.Shape.{cpus_line, start_line, floor_line, task_line, claim_line};
+ghost use Rattle.companion_file.specs.Shape.{cpus_line, start_line, floor_line, task_line, claim_line, nice_line};
 ghost use Rattle.companion_file.specs.Draft.{AddsTested, TakesFirst, Takes};
 ghost use Rattle.companion_file.specs.Statement.{stated};
 
 use crate::draft::Draft;
 use crate::fault::{CompanionCause, Refusal};
-use crate::limits::{claim_within, is_value};
-use crate::marks::{is_first, is_group};
+use crate::limits::{change_within, claim_within, is_value};
+use crate::marks::{is_group, version_of};
+use crate::shapes::statement_of;
 use crate::statement::Statement;
-use crate::version_one::statement_of;
 use cfs_model::{ClaimSort, GREATEST_SECONDS, MOST_PROCESSORS, NANOSECONDS_PER_SECOND, Place};
 use text_parts::lines::is_comment;
 use text_parts::time::Time;
@@ -66,7 +66,7 @@ impl Draft {
     ) -> Result<(), Refusal>
         ensures { AddsTested self.old (task_line (record { pid = pid; nice = nice; cpu = cpu; place = place; v = v })) result self.new }
     {
-        if !self.has_all_floors() || !self.claims.is_empty() {
+        if !self.has_all_floors() || !self.claims.is_empty() || !self.nices.is_empty() {
             return Err(Refusal::Bad(CompanionCause::Order));
         }
         let Some(task) = self.task_within(pid, nice, cpu, place, v) else {
@@ -94,10 +94,26 @@ impl Draft {
         let Some(claim) = claim_within(line, pid, v, sort) else {
             return Err(Refusal::Bad(CompanionCause::NumberRange));
         };
-        if !self.is_line_above(line) {
+        if !self.may_claim_at(line) {
             return Err(Refusal::Bad(CompanionCause::LineOrder));
         }
         self.claims.push(claim)?;
+        Ok(())
+    }
+
+    fn say_nice(&mut self, line: u64, pid: u64, nice: i64) -> Result<(), Refusal>
+        ensures { AddsTested self.old (nice_line (record { line = line; pid = pid; nice = nice })) result self.new }
+    {
+        if !self.has_all_floors() {
+            return Err(Refusal::Bad(CompanionCause::Order));
+        }
+        let Some(change) = change_within(line, pid, nice) else {
+            return Err(Refusal::Bad(CompanionCause::NumberRange));
+        };
+        if !self.may_change_at(line) {
+            return Err(Refusal::Bad(CompanionCause::LineOrder));
+        }
+        self.nices.push(change)?;
         Ok(())
     }
 
@@ -117,16 +133,17 @@ impl Draft {
                 v,
             } => self.say_task(pid, nice, cpu, place, v),
             Statement::Claim { line, pid, v, sort } => self.say_claim(line, pid, v, sort),
+            Statement::Nice { line, pid, nice } => self.say_nice(line, pid, nice),
         }
     }
 
     fn take_first(&mut self, line: &[u8]) -> Result<(), Refusal>
         ensures { TakesFirst self.old line.now result self.new }
     {
-        if !is_first(line) {
+        let Some(version) = version_of(line) else {
             return Err(Refusal::Bad(CompanionCause::Version));
-        }
-        self.begun = true;
+        };
+        self.version = Some(version);
         Ok(())
     }
 
@@ -137,13 +154,13 @@ impl Draft {
         if is_comment(line) {
             return Ok(());
         }
-        if !self.begun {
+        let Some(version) = self.version else {
             return self.take_first(line);
-        }
+        };
         if is_group(line) {
             return Err(Refusal::Bad(CompanionCause::Group));
         }
-        let Some(statement) = statement_of(line) else {
+        let Some(statement) = statement_of(version, line) else {
             return Err(Refusal::Bad(CompanionCause::BadLine));
         };
         self.say(statement)

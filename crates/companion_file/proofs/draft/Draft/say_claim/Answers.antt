@@ -10,18 +10,18 @@ returns-in_default c =
     (sym c.has_all_floors.ensures ∙ c.if-not-has_all_floors.false)
     (rw (to_z-of_z w64 c.args.v c.ranges.v) at (c.in_default.ensures 0))
 
-pub returns-then-not-is_line_above : goal.returns-then-not-is_line_above
-returns-then-not-is_line_above c =
+pub returns-then-not-may_claim_at : goal.returns-then-not-may_claim_at
+returns-then-not-may_claim_at c =
     fault_above c.args.self.now (claim_line (record { line = c.args.line; pid = c.args.pid; v = c.args.v; sort = c.args.sort }))
     (sym c.has_all_floors.ensures ∙ c.if-not-has_all_floors.false)
     (rw (to_z-of_z w64 c.args.v c.ranges.v) at (c.in-Some.ensures.1 0)) refl refl refl
-    (sym c.is_line_above.ensures ∙ c.if-not-is_line_above.true)
+    (sym c.may_claim_at.ensures ∙ c.if-not-may_claim_at.true)
 
 pub returns : goal.returns
 returns c = (
   no_fault c.args.self.now (claim_line (record { line = c.args.line; pid = c.args.pid; v = c.args.v; sort = c.args.sort }))
       (sym c.has_all_floors.ensures ∙ c.if-not-has_all_floors.false)
       (rw (to_z-of_z w64 c.args.v c.ranges.v) at (c.in-Some.ensures.1 0)) refl refl refl
-      (sym c.is_line_above.ensures ∙ c.if-not-is_line_above.false),
+      (sym c.may_claim_at.ensures ∙ c.if-not-may_claim_at.false),
   rw (← c.self.view_is, c.in_ok-push.ensures.items, c.in-Some.ensures.0, to_z-of_z w64 c.args.v c.ranges.v) refl,
 )

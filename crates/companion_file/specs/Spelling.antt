@@ -1,4 +1,4 @@
--- How the lines of a companion are spelled (this project's companion format, version 1).
+-- How the lines of a companion are spelled (this project's companion format, versions 1 and 2).
 use Rattle.std.specs.Prelude.{◌≡◌, ℕ, ℤ, pos, neg_ℤ, List, [], ◌∷◌, ◌++◌, codes, ◌⊎◌}
 use Rattle.std.specs.List.{join_with_byte}
 use Rattle.cfs_model.specs.declared.task.Place.{Place}
@@ -7,11 +7,13 @@ use Rattle.cfs_model.specs.declared.claim.ClaimSort.{ClaimSort}
 use Rattle.cfs_model.specs.declared.claim.ClaimSort.TheVariants.{At, Pass}
 use Rattle.text_parts.specs.Numerals.{IsNumeral, value_of}
 use Rattle.text_parts.specs.Time.{IsTime}
-use Rattle.companion_file.specs.Shape.{Shape, version_line, cpus_line, start_line, floor_line, task_line, claim_line}
+use Rattle.companion_file.specs.Shape.{Shape, version_line, cpus_line, start_line, floor_line, task_line, claim_line, nice_line}
 
--- the first line of every companion of this version
-abbrev pub first_line : List ℕ
-first_line = codes "cfs-companion 1"
+-- the line is the first one of every companion of this version
+abbrev pub IsFirstLine : List ℕ → ℕ → Type 0
+IsFirstLine line version =
+    ((line ≡ codes "cfs-companion 1") × (version ≡ 1))
+    ⊎ ((line ≡ codes "cfs-companion 2") × (version ≡ 2))
 
 -- a line about a control group
 abbrev pub IsControlGroup : List ℕ → Type 0
@@ -43,19 +45,22 @@ abbrev pub sort_word : ClaimSort → List ℕ
 sort_word At = codes "at"
 sort_word Pass = codes "pass"
 
--- the line has the shape, and says this
-abbrev pub IsSpelled : List ℕ → Shape → Type 0
-IsSpelled line (version_line n) =
+-- in a text of this version the line has the shape, and says this
+abbrev pub IsSpelled : ℕ → List ℕ → Shape → Type 0
+IsSpelled version line (version_line n) =
     (a : List ℕ) × IsNumber a n × (line ≡ spaced (codes "cfs-companion" ∷ a ∷ []))
-IsSpelled line (cpus_line n) =
+IsSpelled version line (cpus_line n) =
     (a : List ℕ) × IsNumber a n × (line ≡ spaced (codes "cpus" ∷ a ∷ []))
-IsSpelled line (start_line seconds nanoseconds) =
+IsSpelled version line (start_line seconds nanoseconds) =
     (a : List ℕ) × IsTime a seconds nanoseconds × (line ≡ spaced (codes "start" ∷ a ∷ []))
-IsSpelled line (floor_line cpu floor) =
+IsSpelled version line (floor_line cpu floor) =
     (a b : List ℕ) × IsNumber a cpu × IsInteger b floor × (line ≡ spaced (codes "floor" ∷ a ∷ b ∷ []))
-IsSpelled line (task_line task) =
+IsSpelled version line (task_line task) =
     (a b c d : List ℕ) × IsNumber a task.pid × IsInteger b task.nice × IsNumber c task.cpu × IsInteger d task.v
     × (line ≡ spaced (codes "task" ∷ a ∷ b ∷ c ∷ place_word task.place ∷ d ∷ []))
-IsSpelled line (claim_line claim) =
+IsSpelled version line (claim_line claim) =
     (a b c : List ℕ) × IsNumber a claim.line × IsNumber b claim.pid × IsInteger c claim.v
     × (line ≡ spaced (sort_word claim.sort ∷ a ∷ b ∷ c ∷ []))
+IsSpelled version line (nice_line change) =
+    (version ≡ 2) × (a b c : List ℕ) × IsNumber a change.line × IsNumber b change.pid × IsInteger c change.nice
+    × (line ≡ spaced (codes "nice" ∷ a ∷ b ∷ c ∷ []))

@@ -1,5 +1,5 @@
 use Rattle.companion_file.proofs.Starts.{start_again, no_start}
-use Rattle.companion_file.proofs.version_one.start_shape.Goals as goal
+use Rattle.companion_file.proofs.shapes.start_shape.Goals as goal
 
 pub returns-in_err-read_time : goal.returns-in_err-read_time
 returns-in_err-read_time c = rw c.from_residual.ensures (no_start c.args.text.now c.in_err-read_time.ensures.reads)

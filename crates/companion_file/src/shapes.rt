@@ -1,6 +1,6 @@
 ghost use Rattle.std.specs.Prelude.{◌≡◌};
 ghost use Rattle.text_parts.specs.Reading.{Gives};
-ghost use Rattle.companion_file.specs.ShapeReading.{version_shape_at, cpus_shape_at, start_shape_at, floor_shape_at, task_shape_at, claim_shape_at, front_shape_at, shape_at};
+ghost use Rattle.companion_file.specs.ShapeReading.{version_shape_at, cpus_shape_at, start_shape_at, floor_shape_at, task_shape_at, claim_shape_at, nice_shape_at, front_shape_at, shape_at};
 ghost use Rattle.companion_file.specs.Statement.{stated};
 
 use crate::fields::{integer_field, integer_whole, number_field, number_whole, place_field};
@@ -9,10 +9,10 @@ use cfs_model::ClaimSort;
 use text_parts::pieces::after_front;
 use text_parts::time::read_time;
 
-/// What a line says that has one of the shapes of version 1.
+/// What a line says that has one of the shapes of this version.
 #[tactic(auto, unfolding(crate::specs::ShapeReading::shape_at))]
-pub(crate) fn statement_of(line: &[u8]) -> Option<Statement>
-    ensures { Gives stated result (shape_at line.now) }
+pub(crate) fn statement_of(version: u32, line: &[u8]) -> Option<Statement>
+    ensures { Gives stated result (shape_at version line.now) }
 {
     if let Some(text) = after_front(line, b"at ") {
         claim_shape(text, ClaimSort::At)
@@ -22,6 +22,8 @@ pub(crate) fn statement_of(line: &[u8]) -> Option<Statement>
         task_shape(text)
     } else if let Some(text) = after_front(line, b"floor ") {
         floor_shape(text)
+    } else if let Some(text) = after_front(line, b"nice ") {
+        nice_shape(version, text)
     } else {
         front_statement_of(line)
     }
@@ -100,4 +102,18 @@ fn claim_shape(text: &[u8], sort: ClaimSort) -> Option<Statement>
     let (pid, text) = number_field(text)?;
     let v = integer_whole(text)?;
     Some(Statement::Claim { line, pid, v, sort })
+}
+
+/// Version 2 alone has this one.
+#[tactic(auto, unfolding(crate::specs::ShapeReading::nice_shape_at))]
+fn nice_shape(version: u32, text: &[u8]) -> Option<Statement>
+    ensures { Gives stated result (nice_shape_at version text.now) }
+{
+    if version != 2 {
+        return None;
+    }
+    let (line, text) = number_field(text)?;
+    let (pid, text) = number_field(text)?;
+    let nice = integer_whole(text)?;
+    Some(Statement::Nice { line, pid, nice })
 }

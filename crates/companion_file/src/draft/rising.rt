@@ -1,0 +1,65 @@
+ghost use Rattle.std.specs.Prelude.{◌≡◌, nat_le, not, true, ◌==◌};
+ghost use Rattle.std.specs.Option.{option_map_or};
+ghost use Rattle.companion_file.specs.Earlier.{last_task, last_claim, last_nice};
+ghost use Rattle.companion_file.specs.Tests.{is_above_claims, may_claim_at, may_change_at};
+
+use crate::draft::Draft;
+use cfs_model::{Claim, NiceLine, Task};
+
+impl Draft {
+    fn last_task(&self) -> Option<Task>
+        ensures { result ≡ last_task self.now }
+    {
+        self.tasks.last().copied()
+    }
+
+    fn last_claim(&self) -> Option<Claim>
+        ensures { result ≡ last_claim self.now }
+    {
+        self.claims.last().copied()
+    }
+
+    fn last_nice(&self) -> Option<NiceLine>
+        ensures { result ≡ last_nice self.now }
+    {
+        self.nices.last().copied()
+    }
+
+    pub(super) fn is_pid_next(&self, pid: u64) -> bool
+        ensures { result ≡ option_map_or (λ last. nat_le last.pid pid) (last_task self.now) true }
+    {
+        self.last_task()
+            .is_none_or(|last| u64::from(last.pid) <= pid)
+    }
+
+    pub(super) fn is_pid_new(&self, pid: u64) -> bool
+        ensures { result ≡ option_map_or (λ last. not (last.pid == pid)) (last_task self.now) true }
+    {
+        self.last_task()
+            .is_none_or(|last| u64::from(last.pid) != pid)
+    }
+
+    fn is_above_claims(&self, line: u64) -> bool
+        ensures { result ≡ is_above_claims self.now line }
+    {
+        self.last_claim()
+            .is_none_or(|last| u64::from(last.line) < line)
+    }
+
+    pub(super) fn may_claim_at(&self, line: u64) -> bool
+        ensures { result ≡ may_claim_at self.now line }
+    {
+        self.is_above_claims(line)
+            && self
+                .last_nice()
+                .is_none_or(|change| u64::from(change.line) <= line)
+    }
+
+    pub(super) fn may_change_at(&self, line: u64) -> bool
+        ensures { result ≡ may_change_at self.now line }
+    {
+        self.last_nice()
+            .is_none_or(|change| u64::from(change.line) < line)
+            && self.is_above_claims(line)
+    }
+}

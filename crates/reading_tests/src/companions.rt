@@ -1,10 +1,17 @@
-use cfs_model::{Claim, ClaimSort, Nice, Place, Task};
+use cfs_model::{Claim, ClaimSort, Nice, NiceLine, Place, Task};
 use companion_file::{Companion, CompanionCause, CompanionFault, read_companion};
 use std::alloc::Global;
 use std::test::Fail;
 
 /// The lines up to the floor of the only processor.
 const ONE: &str = "cfs-companion 1\ncpus 1\nstart 100.000000\nfloor 0 0\n";
+
+/// The same in version 2.
+const TWO: &str = "cfs-companion 2\ncpus 1\nstart 100.000000\nfloor 0 0\n";
+
+/// Changes of nice values among the claims, one of them at a claim's line, with numbers at their limits.
+const NICED: &[u8] =
+    b"cfs-companion 2\ncpus 1\nstart 100.000000\nfloor 0 0\ntask 101 0 0 run 0\ntask 102 0 0 wait 0\nnice 1 101 5\nat 1 101 4000000\n# a\npass 2 102 7\nnice 3 4194304 -20\nnice 004 1 19\nnice 4294967295 101 -0";
 
 /// The last line has no line feed.
 const CUT: &[u8] =
@@ -19,7 +26,7 @@ fn read(alloc: Global, text: &[u8]) -> Result<Companion, CompanionFault> {
     read_companion(alloc, text)
 }
 
-/// All that a companion says.
+/// All that a companion of version 1 says.
 fn said(companion: &Companion) -> (u32, u64, &[i64], &[Task], &[Claim]) {
     (
         companion.cpus(),
@@ -39,6 +46,11 @@ fn task(pid: u32, nice: i32, cpu: u32, place: Place, v: i64) -> Result<Task, Fai
         place,
         v,
     })
+}
+
+fn change(line: u32, pid: u32, nice: i32) -> Result<NiceLine, Fail> {
+    let nice = Nice::new(nice).ok_or("a nice value")?;
+    Ok(NiceLine { line, pid, nice })
 }
 
 /// The first bad line and its cause; None where the text is read.
@@ -101,11 +113,64 @@ fn what_comments_hold_is_not_looked_at(rt: HostRuntime) -> Result<(), Fail> {
 }
 
 #[test]
+fn changes_of_nice_values_among_the_claims(rt: HostRuntime) -> Result<(), Fail> {
+    let companion = read(rt.alloc(), NICED)?;
+    let claims = [
+        Claim {
+            line: 1,
+            pid: 101,
+            v: 4_000_000,
+            sort: ClaimSort::At,
+        },
+        Claim {
+            line: 2,
+            pid: 102,
+            v: 7,
+            sort: ClaimSort::Pass,
+        },
+    ];
+    let changes = [
+        change(1, 101, 5)?,
+        change(3, 4_194_304, -20)?,
+        change(4, 1, 19)?,
+        change(4_294_967_295, 101, 0)?,
+    ];
+    assert_eq!(rt; companion.claims(), claims.as_slice());
+    assert_eq!(rt; companion.nices(), changes.as_slice());
+    Ok(())
+}
+
+#[test]
+fn texts_without_a_change_say_the_same_in_both_versions(rt: HostRuntime) -> Result<(), Fail> {
+    let lines = "task 101 0 0 run 0\ntask 102 0 0 wait 0\nat 1 101 400\npass 2 102 0\n";
+    let first = format!(in rt.alloc(); "{ONE}{lines}")?;
+    let second = format!(in rt.alloc(); "{TWO}{lines}")?;
+    let first = read(rt.alloc(), first.as_bytes())?;
+    let second = read(rt.alloc(), second.as_bytes())?;
+    assert_eq!(rt; said(&first), said(&second));
+    assert_eq!(rt; first.nices().len(), 0);
+    assert_eq!(rt; second.nices().len(), 0);
+    Ok(())
+}
+
+#[test]
 fn first_bad_lines_of_whole_texts(rt: HostRuntime) {
     for (text, expected) in [
         ("", (1, CompanionCause::Short)),
         ("# a\n\n", (3, CompanionCause::Short)),
-        ("cfs-companion 2\n", (1, CompanionCause::Version)),
+        ("cfs-companion 3\n", (1, CompanionCause::Version)),
+        ("cfs-companion 2\n", (2, CompanionCause::Short)),
+        ("cfs-companion 02\n", (1, CompanionCause::Version)),
+        ("cfs-companion 2 \n", (1, CompanionCause::Version)),
+        ("cfs-companion\n", (1, CompanionCause::Version)),
+        (
+            "cfs-companion 2\nnice 1 101 5\n",
+            (2, CompanionCause::Order),
+        ),
+        (
+            "cfs-companion 2\ncpus 1\nstart 100.000000\nnice 1 101 5\n",
+            (4, CompanionCause::Order),
+        ),
         ("# a\ncgroup /a\n", (2, CompanionCause::Version)),
         ("cfs-companion 01\n", (1, CompanionCause::Version)),
         (
@@ -207,6 +272,167 @@ fn lines_after_the_floors(rt: HostRuntime) -> Result<(), Fail> {
     ] {
         let text = format!(in rt.alloc(); "{ONE}{lines}\n")?;
         assert_eq!(rt; refusal(rt.alloc(), text.as_bytes()), expected, "{lines}");
+    }
+    Ok(())
+}
+
+#[test]
+fn lines_that_version_one_has_no_shape_for(rt: HostRuntime) -> Result<(), Fail> {
+    for (lines, expected) in [
+        ("nice 1 101 5", Some((5, CompanionCause::BadLine))),
+        (
+            "task 101 0 0 run 0\ntask 102 0 0 wait 0\nnice 1 101 5\nat 1 101 4000000",
+            Some((7, CompanionCause::BadLine)),
+        ),
+        (
+            "at 1 101 4000000\nnice 1 101 5",
+            Some((6, CompanionCause::BadLine)),
+        ),
+        ("nice 0 0 20", Some((5, CompanionCause::BadLine))),
+        ("idle 0 101", Some((5, CompanionCause::BadLine))),
+    ] {
+        let text = format!(in rt.alloc(); "{ONE}{lines}\n")?;
+        assert_eq!(rt; refusal(rt.alloc(), text.as_bytes()), expected, "{lines}");
+    }
+    Ok(())
+}
+
+#[test]
+fn where_nice_lines_may_stand(rt: HostRuntime) -> Result<(), Fail> {
+    for (lines, expected) in [
+        // at a claim's line, before the claim
+        ("nice 1 101 5\nat 1 101 0", None),
+        ("nice 1 101 5\npass 1 102 0", None),
+        (
+            "at 1 101 0\nnice 1 101 5",
+            Some((6, CompanionCause::LineOrder)),
+        ),
+        (
+            "pass 1 101 0\nnice 1 102 5",
+            Some((6, CompanionCause::LineOrder)),
+        ),
+        (
+            "nice 1 101 5\nat 1 101 0\nnice 1 102 5",
+            Some((7, CompanionCause::LineOrder)),
+        ),
+        // one at a line
+        (
+            "nice 1 101 5\nnice 1 102 5",
+            Some((6, CompanionCause::LineOrder)),
+        ),
+        (
+            "nice 1 101 5\nnice 1 101 5",
+            Some((6, CompanionCause::LineOrder)),
+        ),
+        ("nice 1 101 5\nnice 2 101 5", None),
+        // one claim at a line still
+        (
+            "nice 1 101 5\nat 1 101 0\nat 1 101 0",
+            Some((7, CompanionCause::LineOrder)),
+        ),
+        // lines rise
+        (
+            "nice 5 101 5\nnice 4 101 5",
+            Some((6, CompanionCause::LineOrder)),
+        ),
+        (
+            "nice 5 101 5\nat 4 101 0",
+            Some((6, CompanionCause::LineOrder)),
+        ),
+        (
+            "at 3 101 0\nnice 5 101 5\nat 4 101 0",
+            Some((7, CompanionCause::LineOrder)),
+        ),
+        (
+            "at 5 101 0\nnice 4 101 5",
+            Some((6, CompanionCause::LineOrder)),
+        ),
+        (
+            "nice 3 101 5\nat 5 101 0\nnice 4 101 5",
+            Some((7, CompanionCause::LineOrder)),
+        ),
+        ("at 5 101 0\nnice 6 101 5\npass 7 101 0", None),
+        // behind the tasks
+        (
+            "nice 1 101 5\ntask 101 0 0 run 0",
+            Some((6, CompanionCause::Order)),
+        ),
+        ("nice 1 101 5\nfloor 0 0", Some((6, CompanionCause::Order))),
+        (
+            "nice 1 101 5\ncfs-companion 2",
+            Some((6, CompanionCause::Order)),
+        ),
+        ("task 101 0 0 run 0\nnice 1 101 5", None),
+        // a number out of its limits comes first
+        (
+            "at 5 101 0\nnice 5 0 5",
+            Some((6, CompanionCause::NumberRange)),
+        ),
+    ] {
+        let text = format!(in rt.alloc(); "{TWO}{lines}\n")?;
+        assert_eq!(rt; refusal(rt.alloc(), text.as_bytes()), expected, "{lines}");
+    }
+    Ok(())
+}
+
+#[test]
+fn nice_lines_that_have_no_shape(rt: HostRuntime) -> Result<(), Fail> {
+    for line in [
+        "nice",
+        "nice ",
+        "nice 1",
+        "nice 1 101",
+        "nice 1 101 ",
+        "nice 1 101 5 ",
+        "nice 1 101 5 5",
+        "nice  1 101 5",
+        " nice 1 101 5",
+        "nice 1 101 +5",
+        "nice 1 101 - 5",
+        "nice -1 101 5",
+        "nice 1 -101 5",
+        "nice 1 101 5.0",
+        "nices 1 101 5",
+    ] {
+        let text = format!(in rt.alloc(); "{TWO}{line}\n")?;
+        assert_eq!(rt;
+            refusal(rt.alloc(), text.as_bytes()),
+            Some((5, CompanionCause::BadLine)),
+            "{line}"
+        );
+    }
+    Ok(())
+}
+
+#[test]
+fn both_sides_of_each_limit_of_a_nice_line(rt: HostRuntime) -> Result<(), Fail> {
+    for (line, within) in [
+        ("nice 0 1 0", false),
+        ("nice 1 1 0", true),
+        ("nice 4294967295 1 0", true),
+        ("nice 4294967296 1 0", false),
+        ("nice 99999999999999999999999999 1 0", false),
+        ("nice 00000000000000000000000001 1 0", true),
+        ("nice 1 0 0", false),
+        ("nice 1 4194304 0", true),
+        ("nice 1 4194305 0", false),
+        ("nice 1 99999999999999999999999999 0", false),
+        ("nice 1 1 -21", false),
+        ("nice 1 1 -20", true),
+        ("nice 1 1 -0", true),
+        ("nice 1 1 19", true),
+        ("nice 1 1 20", false),
+        ("nice 1 1 99999999999999999999999999", false),
+        ("nice 1 1 -99999999999999999999999999", false),
+        ("nice 1 1 00000000000000000000000019", true),
+    ] {
+        let expected = if within {
+            None
+        } else {
+            Some((5, CompanionCause::NumberRange))
+        };
+        let text = format!(in rt.alloc(); "{TWO}{line}\n")?;
+        assert_eq!(rt; refusal(rt.alloc(), text.as_bytes()), expected, "{line}");
     }
     Ok(())
 }

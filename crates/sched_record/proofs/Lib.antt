@@ -16,5 +16,6 @@ pub mod Seeking
 pub mod Same
 pub mod Settled
 pub mod Splits
+pub mod Straying
 pub mod Telling
 pub mod Walk

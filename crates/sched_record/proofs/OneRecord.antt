@@ -1,14 +1,16 @@
 -- Joining gives one answer: a first element that isn't so is one, and where all are so there is none.
-use Rattle.std.proofs.Common.{◌≡◌, ℕ, ◌≤◌, List, ◌∷◌, Result, Ok, Err, IsTrue, ◌↔◌, refl, sym, ap, ◌∙◌, subst, arith}
+use Rattle.std.proofs.Common.{◌≡◌, ℕ, ◌<◌, ◌≤◌, List, ◌∷◌, Result, Ok, Err, IsTrue, ◌↔◌, ◌⊎◌, inl, inr, refl, sym, ap, ◌∙◌, subst, arith}
 use Rattle.std.specs.Prelude.{All, Any}
+use Rattle.std.proofs.lemmas.Bool.{cases_order}
 use Rattle.cfs_model.specs.declared.act.Entry.{Entry}
 use Rattle.cfs_model.specs.declared.claim.Claim.{Claim}
+use Rattle.cfs_model.specs.declared.nice_line.NiceLine.{NiceLine}
 use Rattle.cfs_model.specs.Touch.{touched}
 use Rattle.companion_file.specs.Companion.{CompanionView}
 use Rattle.sched_record.specs.declared.joining.JoinCause.{JoinCause}
 use Rattle.sched_record.specs.declared.joining.JoinCause.TheVariants.{CpuOutside, StartLate, ClaimNoEvent}
 use Rattle.sched_record.specs.Kept.{RecordView, IsInside, is_event_line}
-use Rattle.sched_record.specs.Join.{IsFirstOutside, IsBeforeStart, BeginsInTime, IsFirstStray, Refuses, GoTogether, RecordAnswer}
+use Rattle.sched_record.specs.Join.{IsFirstOutside, IsBeforeStart, BeginsInTime, IsSaidOf, IsFirstStray, Refuses, GoTogether, RecordAnswer}
 use Rattle.sched_record.proofs.Splits.{one_first, all_at_cut}
 
 -- an event outside isn't inside
@@ -36,21 +38,33 @@ one_early start events m n x y =
     let same : x.event ≡ y.event = cc in
     x.placed ∙ ap (λ (e : Entry). e.line) same ∙ sym y.placed
 
-none_stray : (events : List Entry) (claims : List Claim) (line : ℕ) → All (λ claim. IsTrue (is_event_line events claim.line)) claims
-    → IsFirstStray events claims line → ⊥
-none_stray events claims line all x = x.stray (all_at_cut (λ claim. IsTrue (is_event_line events claim.line)) claims x.before x.claim x.after x.parts all)
+-- a line on which an item stands is an event's, where those of all are
+said_line : {X : Type 0} (f : X → ℕ) (events : List Entry) (items : List X) (line : ℕ) → All (λ item. IsTrue (is_event_line events (f item))) items
+    → Any (λ item. f item ≡ line) items → IsTrue (is_event_line events line)
+said_line {X} f events items line all (k, item, h, at, on) =
+    subst (λ n. IsTrue (is_event_line events n)) on (subst (λ (x : X). IsTrue (is_event_line events (f x))) at (all k item h))
 
-one_stray : (events : List Entry) (claims : List Claim) (m n : ℕ) → IsFirstStray events claims m → IsFirstStray events claims n → m ≡ n
-one_stray events claims m n x y =
-    let same = one_first (λ claim. IsTrue (is_event_line events claim.line)) claims x.before y.before x.claim y.claim x.after y.after
-    x.parts y.parts x.claimed y.claimed x.stray y.stray in
-    x.placed ∙ ap (λ (c : Claim). c.line) same ∙ sym y.placed
+none_stray : (events : List Entry) (companion : CompanionView) (line : ℕ) → All (λ claim. IsTrue (is_event_line events claim.line)) companion.claims
+    → All (λ change. IsTrue (is_event_line events change.line)) companion.nices → IsFirstStray events companion line → ⊥
+none_stray events companion line claimed reniced x = x.stray (on x.said)
+  where
+    on : IsSaidOf companion line → IsTrue (is_event_line events line)
+    on (inl claim) = said_line (λ (c : Claim). c.line) events companion.claims line claimed claim
+    on (inr change) = said_line (λ (n : NiceLine). n.line) events companion.nices line reniced change
+
+one_stray : (events : List Entry) (companion : CompanionView) (m n : ℕ) → IsFirstStray events companion m → IsFirstStray events companion n → m ≡ n
+one_stray events companion m n x y = go (cases_order m n)
+  where
+    go : (m ≡ n) ⊎ ((m < n) ⊎ (n < m)) → m ≡ n
+    go (inl same) = same
+    go (inr (inl less)) = absurd (x.stray (y.least m x.said less))
+    go (inr (inr more)) = absurd (y.stray (x.least n y.said more))
 
 not_mixed : (events : List Entry) (companion : CompanionView) (line : ℕ) (cause : JoinCause) → GoTogether events companion
     → Refuses events companion line cause → ⊥
 not_mixed events companion line CpuOutside good bad = none_outside companion.cpus events line good.inside bad
 not_mixed events companion line StartLate good bad = none_early companion.start events line good.in_time bad.1
-not_mixed events companion line ClaimNoEvent good bad = none_stray events companion.claims line good.claimed bad.2
+not_mixed events companion line ClaimNoEvent good bad = none_stray events companion line good.claimed good.reniced bad.2
 
 one_refusal : (events : List Entry) (companion : CompanionView) (m n : ℕ) (c d : JoinCause) → Refuses events companion m c
     → Refuses events companion n d → (m ≡ n) × (c ≡ d)
@@ -62,7 +76,7 @@ one_refusal events companion m n StartLate StartLate p q = (one_early companion.
 one_refusal events companion m n StartLate ClaimNoEvent p q = absurd (none_early companion.start events m q.1 p.1)
 one_refusal events companion m n ClaimNoEvent CpuOutside p q = absurd (none_outside companion.cpus events n p.0 q)
 one_refusal events companion m n ClaimNoEvent StartLate p q = absurd (none_early companion.start events n p.1 q.1)
-one_refusal events companion m n ClaimNoEvent ClaimNoEvent p q = (one_stray events companion.claims m n p.2 q.2, refl)
+one_refusal events companion m n ClaimNoEvent ClaimNoEvent p q = (one_stray events companion m n p.2 q.2, refl)
 
 pub one_record : (events : List Entry) (companion : CompanionView) (a b : Result RecordView (ℕ × JoinCause))
     → RecordAnswer events companion a → RecordAnswer events companion b → a ≡ b

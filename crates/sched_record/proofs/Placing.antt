@@ -5,10 +5,11 @@ use Rattle.std.specs.Prelude.{All, filter}
 use Rattle.std.specs.List.{enumerate_from}
 use Rattle.std.proofs.lemmas.List.{get_or-map, get_or_default, map-append, length-map}
 use Rattle.std.proofs.lemmas.List.Elements.{All-cons, All-nil, All-weaker, filter-append}
-use Rattle.cfs_model.specs.Claimed.{claim_at, claimed}
+use Rattle.cfs_model.specs.Claimed.{claimed, with_claim}
 use Rattle.cfs_model.specs.Limits.{most_processors}
 use Rattle.cfs_model.specs.declared.act.Entry.{Entry}
 use Rattle.cfs_model.specs.declared.claim.Claim.{Claim}
+use Rattle.cfs_model.specs.declared.nice_line.NiceLine.{NiceLine}
 use Rattle.replay_model.specs.Cut.{step_at, steps_at, touches}
 use Rattle.replay_model.specs.declared.step.Step.{Step}
 use Rattle.sched_record.specs.Places.{ArePlacesOf, places_at, places_touching, touches_cpu}
@@ -105,20 +106,21 @@ unfolding places_touching
 places_within cpu events =
     All-weaker (λ place. place < 0 + length events) (λ place. place < length events) (λ place lt. omega arith) _ (within_from cpu 0 events)
 
--- an event with the claim on its line, as a processor sees it
-abbrev pub step_of : ℕ → List Claim → Entry → Step
-step_of cpu claims event = step_at cpu (record { entry = event; claim = claim_at claims event.line })
+-- an event with what is said on its line, as a processor sees it
+abbrev pub step_of : ℕ → List Claim → List NiceLine → Entry → Step
+step_of cpu claims nices event = step_at cpu (with_claim claims nices event)
 
 -- the steps at a processor are those of the events that touch it
-pub steps_are : (cpu : ℕ) (claims : List Claim) (events : List Entry) → steps_at cpu (claimed claims events) ≡ map (step_of cpu claims) (touching cpu events)
-steps_are cpu claims [] = refl
-steps_are cpu claims (event ∷ events) = by (touches_cpu cpu event.act) refl (steps_are cpu claims events)
+pub steps_are : (cpu : ℕ) (claims : List Claim) (nices : List NiceLine) (events : List Entry)
+    → steps_at cpu (claimed claims nices events) ≡ map (step_of cpu claims nices) (touching cpu events)
+steps_are cpu claims nices [] = refl
+steps_are cpu claims nices (event ∷ events) = by (touches_cpu cpu event.act) refl (steps_are cpu claims nices events)
   where
-    by : (b : Bool) → touches_cpu cpu event.act ≡ b → steps_at cpu (claimed claims events) ≡ map (step_of cpu claims) (touching cpu events)
-        → map (step_at cpu) (cond (touches_cpu cpu event.act) (record { entry = event; claim = claim_at claims event.line } ∷ filter (touches cpu) (claimed claims events))
-        (filter (touches cpu) (claimed claims events)))
-        ≡ map (step_of cpu claims) (cond (touches_cpu cpu event.act) (event ∷ touching cpu events) (touching cpu events))
-    by true e rest = rw e (ap (λ xs. step_of cpu claims event ∷ xs) rest)
+    by : (b : Bool) → touches_cpu cpu event.act ≡ b → steps_at cpu (claimed claims nices events) ≡ map (step_of cpu claims nices) (touching cpu events)
+        → map (step_at cpu) (cond (touches_cpu cpu event.act) (with_claim claims nices event ∷ filter (touches cpu) (claimed claims nices events))
+        (filter (touches cpu) (claimed claims nices events)))
+        ≡ map (step_of cpu claims nices) (cond (touches_cpu cpu event.act) (event ∷ touching cpu events) (touching cpu events))
+    by true e rest = rw e (ap (λ xs. step_of cpu claims nices event ∷ xs) rest)
     by false e rest = rw e rest
 
 -- what stands at the next place is the next of these events

@@ -9,6 +9,7 @@ use Rattle.cfs_model.specs.declared.act.Way.TheVariants.{Stays, Sleeps, Ends}
 use Rattle.cfs_model.specs.declared.claim.Claim.{Claim}
 use Rattle.cfs_model.specs.declared.claim.ClaimSort.{ClaimSort}
 use Rattle.cfs_model.specs.declared.claim.ClaimSort.TheVariants.{At, Pass}
+use Rattle.cfs_model.specs.declared.nice_line.NiceLine.{NiceLine}
 use Rattle.replay_model.specs.declared.step.Deed.{Deed}
 use Rattle.replay_model.specs.declared.step.Deed.TheVariants.{Switch, Wake, Born, Leave, Arrive}
 use Rattle.replay_model.specs.declared.step.Step.{Step}
@@ -18,6 +19,7 @@ use Rattle.sched_record.specs.Same.{is_same}
 use Rattle.cfs_model.specs.contracts.act.WayPartialEq.TheImpl as way_eq
 use Rattle.cfs_model.specs.contracts.claim.ClaimPartialEq.TheImpl as claim_eq
 use Rattle.cfs_model.specs.contracts.claim.ClaimSortPartialEq.TheImpl as sort_eq
+use Rattle.cfs_model.specs.contracts.nice_line.NiceLinePartialEq.TheImpl as nice_eq
 use Rattle.replay_model.specs.contracts.step.DeedPartialEq.TheImpl as deed_eq
 use Rattle.replay_model.specs.contracts.step.StepPartialEq.TheImpl as step_eq
 use Rattle.cfs_model.specs.contracts.task.TaskPartialEq.TheImpl as task_eq
@@ -44,6 +46,16 @@ option_decides None None = (λ _. refl, λ _. refl)
 option_decides (Some a) (Some b) = Decides-like _ (λ h. cc) (λ e. cc) (claim_decides a b)
 option_decides a b = (λ h. cc, λ h. cc)
 
+nice_decides : (a b : NiceLine) → Decides ((nice_eq.ghosts).eq a b) (a ≡ b)
+nice_decides a b =
+    Decides-like _ (λ h i. record { line = h.0 i; pid = h.1.0 i; nice = h.1.1 i }) (λ e. (cc, (cc, cc)))
+    (Decides-and _ _ (Decides-eqb a.line b.line) (Decides-and _ _ (Decides-eqb a.pid b.pid) (Decides-int_eq a.nice b.nice)))
+
+change_decides : (a b : Option NiceLine) → Decides (option_eq (nice_eq.ghosts).eq a b) (a ≡ b)
+change_decides None None = (λ _. refl, λ _. refl)
+change_decides (Some a) (Some b) = Decides-like _ (λ h. cc) (λ e. cc) (nice_decides a b)
+change_decides a b = (λ h. cc, λ h. cc)
+
 deed_decides : (a b : Deed) → Decides ((deed_eq.ghosts).eq a b) (a ≡ b)
 deed_decides (Switch prev prev_nice way next next_nice) (Switch prev' prev_nice' way' next' next_nice') =
     Decides-like _ (λ h. cc) (λ e. (cc, (cc, (cc, (cc, cc)))))
@@ -69,9 +81,10 @@ task_decides a b =
 
 pub step_decides : (a b : Step) → Decides ((step_eq.ghosts).eq a b) (a ≡ b)
 step_decides a b =
-    Decides-like _ (λ h i. record { line = h.0 i; time = h.1.0 i; deed = h.1.1.0 i; claim = h.1.1.1 i }) (λ e. (cc, (cc, (cc, cc))))
+    Decides-like _ (λ h i. record { line = h.0 i; time = h.1.0 i; deed = h.1.1.0 i; claim = h.1.1.1.0 i; nice = h.1.1.1.1 i })
+    (λ e. (cc, (cc, (cc, (cc, cc)))))
     (Decides-and _ _ (Decides-eqb a.line b.line) (Decides-and _ _ (Decides-eqb a.time b.time)
-    (Decides-and _ _ (deed_decides a.deed b.deed) (option_decides a.claim b.claim))))
+    (Decides-and _ _ (deed_decides a.deed b.deed) (Decides-and _ _ (option_decides a.claim b.claim) (change_decides a.nice b.nice)))))
 
 -- two streams hold the same where each of what they hold is equal
 pub is_same_decides : (a b : StreamView) → Decides (is_same a b) (a ≡ b)

@@ -1,6 +1,6 @@
 -- A settled line says the same with anything behind it. So what a reader keeps of lines that end with it, it keeps of
 -- those that end with the longer one.
-use Rattle.std.proofs.Common.{◌≡◌, ℕ, ◌+◌, ◌≤◌, List, [], ◌∷◌, ◌++◌, length, Option, Some, None, Result, Ok, Err, ◌⊎◌, inl, inr, refl, sym, ap, ◌∙◌, subst, arith, length-append}
+use Rattle.std.proofs.Common.{◌≡◌, ℕ, ◌+◌, List, [], ◌∷◌, ◌++◌, length, Option, Some, None, Result, Ok, Err, ◌⊎◌, inl, inr, refl, sym, ap, ◌∙◌, subst, arith, length-append}
 use Rattle.std.specs.Prelude.{MatchOption}
 use Rattle.std.specs.List.{AllZip, enumerate_from}
 use Rattle.std.proofs.lemmas.List.{length_push}
@@ -13,7 +13,7 @@ use Rattle.sched_record.specs.declared.trace_reader.TraceReader.{TraceReader}
 use Rattle.sched_record.specs.Said.{LineSays}
 use Rattle.sched_record.specs.ReadLines.{AreRead}
 use Rattle.sched_record.specs.Reader.{HasRead}
-use Rattle.sched_record.specs.Trace.{AreEventsOf, IsBadAfter, IsFirstBadTraceLine}
+use Rattle.sched_record.specs.Trace.{IsBadAfter, IsFirstBadTraceLine}
 
 -- what the one line says, the other says too
 abbrev SaysToo : List ℕ → List ℕ → Type 0

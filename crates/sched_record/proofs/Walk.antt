@@ -1,16 +1,12 @@
--- Claims and events walked side by side: the place in the events never goes back, since every event before it stands
--- on a line above that of the claim in hand, and so above those of all later claims.
-use Rattle.std.proofs.Common.{◌≡◌, ℕ, ◌+◌, ◌<◌, ◌≤◌, ◌≢◌, List, length, get_or, take, drop, eqb, IsTrue, inl, inr, ◌⊎◌, ap, arith, subst}
-use Rattle.std.specs.Prelude.{All}
+-- What the companion says on lines and events walked side by side: the place in the events never goes back, since every
+-- event before it stands on a line above that of the item in hand, and so above those of all later items.
+use Rattle.std.proofs.Common.{◌≡◌, ℕ, ◌+◌, ◌<◌, ◌≤◌, ◌≢◌, List, length, get_or, eqb, IsTrue, inl, inr, ◌⊎◌, ap, ◌∙◌, arith, subst}
 use Rattle.std.specs.List.{AllPairs}
 use Rattle.std.proofs.lemmas.Bool.{both_ways, ne_eqb, eq-eqb, cases_lt, cases_order}
 use Rattle.std.proofs.lemmas.List.{get_or_default}
 use Rattle.std.proofs.lemmas.List.Folds.{list_any_none, list_any_at}
 use Rattle.cfs_model.specs.declared.act.Entry.{Entry}
-use Rattle.cfs_model.specs.declared.claim.Claim.{Claim}
-use Rattle.sched_record.specs.Join.{IsFirstStray}
 use Rattle.sched_record.specs.Kept.{is_event_line}
-use Rattle.sched_record.proofs.Rising.{split_at}
 
 -- everything before the place lies above this line
 abbrev pub AllAbove : {X : Type 0} → (X → ℕ) → List X → ℕ → ℕ → Type 0
@@ -91,17 +87,37 @@ pub event_line_at : (events : List Entry) (line place : ℕ) (d : Entry) → pla
     → IsTrue (is_event_line events line)
 event_line_at events line place d h same = list_any_at (λ (event : Entry). eqb event.line line) events place d h (eq-eqb _ _ same)
 
--- the first claim on no event's line
-pub first_stray : (events : List Entry) (claims : List Claim) (index line : ℕ) (e : Claim) → index < length claims
-    → line ≡ (get_or claims index e).line
-    → All (λ claim. IsTrue (is_event_line events claim.line)) (take index claims) → ¬ IsTrue (is_event_line events line)
-    → IsFirstStray events claims line
-first_stray events claims index line e h is_line claimed stray = record {
-  before = take index claims;
-  claim = get_or claims index e;
-  after = drop (index + 1) claims;
-  parts = split_at claims index (get_or claims index e) h (get_or_default claims index e (get_or claims index e) h);
-  claimed = claimed;
-  stray = subst (λ n. ¬ IsTrue (is_event_line events n)) is_line stray;
-  placed = is_line;
-}
+-- the items before a place stand on events' lines
+abbrev pub AreOnEvents : {X : Type 0} → (X → ℕ) → List Entry → List X → ℕ → Type 0
+AreOnEvents {X} f events items index = (k : ℕ) (d : X) → k < index → IsTrue (is_event_line events (f (get_or items k d)))
+
+-- one more does
+pub on_events_more : {X : Type 0} (f : X → ℕ) (events : List Entry) (items : List X) (index : ℕ) (item : X) → index < length items
+    → item ≡ get_or items index item → AreOnEvents f events items index → IsTrue (is_event_line events (f item)) → AreOnEvents f events items (index + 1)
+on_events_more {X} f events items index item h is before here k d lt =
+    elim (cases_lt k index) [
+      | inl less ↦ before k d less
+      | inr ge ↦ (
+          let last : index ≡ k = omega arith in
+          let same : item ≡ get_or items k d = is ∙ get_or_default items index item d h ∙ ap (λ n. get_or items n d) last in
+          subst (λ (x : X). IsTrue (is_event_line events (f x))) same here)
+    ]
+
+-- those above the item in hand do
+pub on_events_above : {X : Type 0} (f : X → ℕ) (events : List Entry) (items : List X) (index : ℕ) (item : X) → AllPairs (λ a b. f a < f b) items
+    → index < length items → item ≡ get_or items index item → AreOnEvents f events items index
+    → (k : ℕ) (d : X) → k < length items → f (get_or items k d) < f item → IsTrue (is_event_line events (f (get_or items k d)))
+on_events_above {X} f events items index item rise h is before k d has less =
+    let here = ap f is in
+    elim (cases_order k index) [
+      | inl same ↦ (
+          let at = ap f (ap (λ n. get_or items n d) same ∙ get_or_default items index d item h) in
+          absurd (omega (arith, here, at, less)))
+      | inr apart ↦ elim apart [
+        | inl ahead ↦ before k d ahead
+        | inr behind ↦ (
+            let at = rise index k d behind has in
+            let default = ap f (get_or_default items index d item h) in
+            absurd (omega (arith, here, at, default, less)))
+      ]
+    ]

@@ -1,12 +1,19 @@
--- Events and claims walked side by side (this project's profile).
-use Rattle.std.specs.Prelude.{ℕ, ◌<◌, ◌≤◌, length, slice_index_or}
+-- What the companion says on the events' lines, walked side by side with the events (this project's profile).
+use Rattle.std.specs.Prelude.{ℕ, ◌<◌, ◌≤◌, List, length, slice_index_or}
 use Rattle.cfs_model.specs.declared.act.Entry.{Entry}
-use Rattle.cfs_model.specs.declared.claim.Claim.{Claim}
 use Rattle.sched_record.specs.Kept.{RecordView}
 
--- a place in the claims, as the walk has it at an event: the claims before it stand on lines above this event's and those
--- of all later ones
-pub record IsClaimPlace (r : RecordView) (event place : ℕ) : Type 0 where
-  pub within : place ≤ length r.claims
-  pub passed : (k j : ℕ) (claim : Claim) (entry : Entry) → k < place → event ≤ j → j < length r.events
-      → (slice_index_or r.claims k claim).line < (slice_index_or r.events j entry).line
+-- a place in what stands on lines, as the walk has it at an event: what is before the place stands on lines above this
+-- event's and those of all later ones
+pub record IsPlaceBeside (X : Type 0) (line : X → ℕ) (items : List X) (events : List Entry) (event place : ℕ) : Type 0 where
+  pub within : place ≤ length items
+  pub passed : (k j : ℕ) (item : X) (entry : Entry) → k < place → event ≤ j → j < length events
+      → line (slice_index_or items k item) < (slice_index_or events j entry).line
+
+-- such a place in a record's claims
+abbrev pub IsClaimPlace : RecordView → ℕ → ℕ → Type 0
+IsClaimPlace r = IsPlaceBeside _ (λ claim. claim.line) r.claims r.events
+
+-- such a place in a record's changes of nice values
+abbrev pub IsNicePlace : RecordView → ℕ → ℕ → Type 0
+IsNicePlace r = IsPlaceBeside _ (λ change. change.line) r.nices r.events

@@ -5,6 +5,7 @@ use Rattle.cfs_model.specs.declared.act.Act.{Act}
 use Rattle.cfs_model.specs.declared.act.Act.TheVariants.{Switch, Wake, Born, Shift}
 use Rattle.cfs_model.specs.declared.act.Entry.{Entry}
 use Rattle.cfs_model.specs.declared.claim.Claim.{Claim}
+use Rattle.cfs_model.specs.declared.nice_line.NiceLine.{NiceLine}
 use Rattle.cfs_model.specs.declared.task.Task.{Task}
 use Rattle.cfs_model.specs.Limits.{greatest_pid}
 use Rattle.cfs_model.specs.Touch.{touched}
@@ -52,10 +53,12 @@ pub record RecordView : Type 0 where
   pub tasks : List Task
   pub events : List Entry
   pub claims : List Claim
+  pub nices : List NiceLine
 
 -- the companion's part of a record
 abbrev pub companion_part : RecordView → CompanionView
-companion_part r = record { cpus = r.cpus; start = r.start; floors = r.floors; tasks = r.tasks; claims = r.claims }
+companion_part r =
+    record { cpus = r.cpus; start = r.start; floors = r.floors; tasks = r.tasks; claims = r.claims; nices = r.nices }
 
 -- both parts are in order, and they go together
 pub record IsRecordInOrder (r : RecordView) : Type 0 where
@@ -64,3 +67,4 @@ pub record IsRecordInOrder (r : RecordView) : Type 0 where
   pub inside : All (IsInside r.cpus) r.events
   pub started : All (λ event. r.start ≤ event.time) r.events
   pub claimed : All (λ claim. IsTrue (is_event_line r.events claim.line)) r.claims
+  pub reniced : All (λ change. IsTrue (is_event_line r.events change.line)) r.nices

@@ -2,8 +2,10 @@
 use Rattle.std.specs.Prelude.{◌≡◌, ℕ, ◌<◌, ◌≤◌, List, [], ◌∷◌, Some, All, AllPairs}
 use Rattle.cfs_model.specs.Charge.{IsInRange}
 use Rattle.cfs_model.specs.Claimed.{claimed}
+use Rattle.cfs_model.specs.Nice.{IsNice}
 use Rattle.replay_model.specs.Cut.{StreamView, cut}
 use Rattle.cfs_model.specs.declared.claim.Claim.{Claim}
+use Rattle.cfs_model.specs.declared.nice_line.NiceLine.{NiceLine}
 use Rattle.replay_model.specs.declared.step.Deed.{Deed}
 use Rattle.replay_model.specs.declared.step.Deed.TheVariants.{Switch, Wake, Born, Leave, Arrive}
 use Rattle.replay_model.specs.declared.step.Step.{Step}
@@ -23,6 +25,11 @@ pub record OwnsClaim (step : Step) (claim : Claim) : Type 0 where
   pub line : claim.line ≡ step.line
   pub in_range : IsInRange claim.v
 
+-- a step's change of a nice value stands on its line, with a value in range
+pub record OwnsNice (step : Step) (change : NiceLine) : Type 0 where
+  pub line : change.line ≡ step.line
+  pub in_range : IsNice change.nice
+
 -- what every stream keeps
 pub record IsShare (s : StreamView) : Type 0 where
   pub here : All (λ task. task.cpu ≡ s.cpu) s.tasks
@@ -36,7 +43,8 @@ pub record IsShare (s : StreamView) : Type 0 where
   pub times_within : All (λ step. (s.start ≤ step.time) × (step.time ≤ s.last_time)) s.steps
   pub no_idle : All (λ step. All (λ pid. 0 < pid) (tasks_of_deed step.deed)) s.steps
   pub claims : All (λ step. (claim : Claim) → step.claim ≡ Some claim → OwnsClaim step claim) s.steps
+  pub nices : All (λ step. (change : NiceLine) → step.nice ≡ Some change → OwnsNice step change) s.steps
 
 -- what a processor sees of a record
 abbrev pub cut_of : RecordView → ℕ → StreamView
-cut_of r cpu = cut r.start r.floors r.tasks (claimed r.claims r.events) cpu
+cut_of r cpu = cut r.start r.floors r.tasks (claimed r.claims r.nices r.events) cpu

@@ -1,17 +1,16 @@
 ghost use Rattle.std.specs.Prelude.{◌≡◌, ◌==◌, ℕ, ◌<◌, ◌≤◌, length, pos, IfOk, slice_index_or};
 ghost use Rattle.std.specs.List.{AllPairs};
-ghost use Rattle.cfs_model.specs.Claimed.{claim_at, claimed};
-ghost use Rattle.replay_model.specs.Cut.{claim_for, deed_at as deed_here, step_at as step_here, steps_at, tasks_at};
-ghost use Rattle.cfs_model.specs.declared.claim.Claim.{Claim};
+ghost use Rattle.cfs_model.specs.Claimed.{claim_at, claimed, nice_at};
+ghost use Rattle.replay_model.specs.Cut.{claim_for, deed_at as deed_here, nice_for, step_at as step_here, steps_at, tasks_at};
 ghost use Rattle.cfs_model.specs.Limits.{most_processors};
 ghost use Rattle.sched_record.specs.Trace.{trace_view};
 
 use crate::lists::Steps;
-use crate::on_line::{claim_place, place_from};
+use crate::on_line::{item_on, place_from, place_near};
 use crate::record::Record;
 use crate::stream::Stream;
 use crate::trace::Trace;
-use cfs_model::{Act, Claim, Entry, Memory, Task};
+use cfs_model::{Act, Claim, Entry, Memory, NiceLine, Task};
 use companion_file::Tasks;
 use replay_model::{Deed, Step};
 use std::alloc::Global;
@@ -19,7 +18,7 @@ use std::alloc::Global;
 impl Record {
     ghost use Rattle.std.specs.Prelude.{◌+◌};
     ghost use Rattle.cfs_model.specs.declared.act.Entry.{Entry};
-    ghost use Rattle.sched_record.specs.Beside.{IsClaimPlace};
+    ghost use Rattle.sched_record.specs.Beside.{IsClaimPlace, IsNicePlace};
     ghost use Rattle.sched_record.specs.Record.{record_view};
     ghost use Rattle.sched_record.specs.Stream.{cut_of, stream_view};
 
@@ -30,7 +29,7 @@ impl Record {
     {
         let alloc = self.allocator();
         let tasks = tasks_of(alloc, self.tasks(), cpu)?;
-        let steps = steps_of(alloc, self.trace(), self.claims(), cpu)?;
+        let steps = steps_of(alloc, self.trace(), self.claims(), self.nices(), cpu)?;
         Ok(Stream {
             cpu,
             tasks,
@@ -53,7 +52,21 @@ impl Record {
         let claims = self.claims();
         let line = self.events()[event].line;
         let place = place_from(claims, from, line);
-        (claim_on(claims, place, line), place)
+        (item_on(claims, place, line), place)
+    }
+
+    /// The change of a nice value on an event's line, sought from a place in the changes on, and the place for the next
+    /// event. The walk begins at place 0.
+    pub fn nice_beside(&self, event: usize, from: usize) -> (Option<NiceLine>, usize)
+        requires event { event < length (record_view self.now).events }
+        requires from { IsNicePlace (record_view self.now) event from }
+        ensures nice { (entry : Entry) → result.0 ≡ nice_at (record_view self.now).nices (slice_index_or (record_view self.now).events event entry).line }
+        ensures next { IsNicePlace (record_view self.now) (event + 1) result.1 }
+    {
+        let nices = self.nices();
+        let line = self.events()[event].line;
+        let place = place_from(nices, from, line);
+        (item_on(nices, place, line), place)
     }
 }
 
@@ -79,33 +92,47 @@ fn tasks_of(alloc: Global, tasks: &[Task], cpu: u32) -> Result<Tasks, Memory>
 }
 
 /// The steps of the events that touch a processor.
-fn steps_of(alloc: Global, trace: &Trace, claims: &[Claim], cpu: u32) -> Result<Steps, Memory>
+fn steps_of(
+    alloc: Global,
+    trace: &Trace,
+    claims: &[Claim],
+    nices: &[NiceLine],
+    cpu: u32,
+) -> Result<Steps, Memory>
     requires cpu { cpu < most_processors }
     requires claims_rise { AllPairs (λ a b. a.line < b.line) claims.now }
-    ensures { IfOk result (λ list. list ≡ steps_at cpu (claimed claims.now (trace_view trace.now))) }
+    requires nices_rise { AllPairs (λ a b. a.line < b.line) nices.now }
+    ensures { IfOk result (λ list. list ≡ steps_at cpu (claimed claims.now nices.now (trace_view trace.now))) }
 {
     let events = trace.events();
     let places = trace.places(cpu);
     let mut steps = Vec::with_capacity(alloc, places.len())?;
-    let mut from = 0;
+    let mut claims_from = 0;
+    let mut nices_from = 0;
     for place in places {
         let event = events[*place as usize];
-        from = claim_place(claims, from, trace.claim_hint(*place), event.line);
+        let hint = trace.hint(*place);
+        claims_from = place_near(claims, claims_from, hint.claim, event.line);
+        nices_from = place_near(nices, nices_from, hint.nice, event.line);
+        let claimed = item_on(claims, claims_from, event.line);
+        let change = item_on(nices, nices_from, event.line);
         let deed = deed_at(event.act, cpu);
-        let claim = claim_for(&deed, claim_on(claims, from, event.line));
+        let claim = claim_for(&deed, claimed);
+        let nice = nice_for(&deed, change);
         steps.push(Step {
             line: event.line,
             time: event.time,
             deed,
             claim,
+            nice,
         })?;
     }
     Ok(Steps::from_vec(steps))
 }
 
-/// An event with the claim on its line, as a processor that it touches sees it.
-pub fn step_at(event: Entry, claim: Option<Claim>, cpu: u32) -> Step
-    ensures { result ≡ step_here cpu (record { entry = event; claim = claim }) }
+/// An event with the claim and the change of a nice value on its line, as a processor that it touches sees it.
+pub fn step_at(event: Entry, claim: Option<Claim>, nice: Option<NiceLine>, cpu: u32) -> Step
+    ensures { result ≡ step_here cpu (record { entry = event; claim = claim; nice = nice }) }
 {
     let deed = deed_at(event.act, cpu);
     Step {
@@ -113,6 +140,7 @@ pub fn step_at(event: Entry, claim: Option<Claim>, cpu: u32) -> Step
         time: event.time,
         deed,
         claim: claim_for(&deed, claim),
+        nice: nice_for(&deed, nice),
     }
 }
 
@@ -162,16 +190,12 @@ fn claim_for(deed: &Deed, claim: Option<Claim>) -> Option<Claim>
     }
 }
 
-/// The claim at a place, if it stands on the line.
-fn claim_on(claims: &[Claim], place: usize, line: u32) -> Option<Claim>
-    requires rise { AllPairs (λ a b. a.line < b.line) claims.now }
-    requires above { (k : ℕ) (d : Claim) → k < place → (slice_index_or claims.now k d).line < line }
-    requires reached { (d : Claim) → place < length claims.now → line ≤ (slice_index_or claims.now place d).line }
-    ensures { result ≡ claim_at claims.now line }
+/// The change of a nice value of a step: a task that comes has none.
+fn nice_for(deed: &Deed, change: Option<NiceLine>) -> Option<NiceLine>
+    ensures { result ≡ nice_for deed.now change }
 {
-    if place < claims.len() && claims[place].line == line {
-        Some(claims[place])
-    } else {
-        None
+    match *deed {
+        Deed::Arrive { .. } => None,
+        Deed::Switch { .. } | Deed::Wake { .. } | Deed::Born { .. } | Deed::Leave { .. } => change,
     }
 }

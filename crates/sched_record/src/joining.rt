@@ -8,10 +8,10 @@ ghost use Rattle.sched_record.specs.Kept.{AreInOrder, IsInside, is_event_line};
 ghost use Rattle.sched_record.specs.Record.{RecordAnswer, RecordView, join_answer_view};
 ghost use Rattle.sched_record.specs.Trace.{trace_view};
 
-use crate::on_line::place_from;
+use crate::on_line::{OnLine, place_from};
 use crate::record::Record;
 use crate::trace::Trace;
-use cfs_model::{Act, Claim, Entry};
+use cfs_model::{Act, Entry};
 use companion_file::Companion;
 
 /// Why a trace and a companion don't go together, in the order of the tests, each over the whole.
@@ -21,7 +21,7 @@ pub enum JoinCause {
     CpuOutside,
     /// The first event comes before the start.
     StartLate,
-    /// A claim stands on a line that is no event's: the first such claim.
+    /// A claim or a change of a nice value stands on a line that is no event's: the least such line.
     ClaimNoEvent,
 }
 
@@ -76,7 +76,7 @@ fn refusal_of(events: &[Entry], companion: &Companion) -> Option<JoinFault>
     if let Some(line) = early_line(events, companion.start()) {
         return Some(refusal(line, JoinCause::StartLate));
     }
-    stray_line(events, companion.claims()).map(|line| refusal(line, JoinCause::ClaimNoEvent))
+    stray_line(events, companion).map(|line| refusal(line, JoinCause::ClaimNoEvent))
 }
 
 fn refusal(line: u32, cause: JoinCause) -> JoinFault
@@ -123,18 +123,37 @@ fn early_line(events: &[Entry], start: u64) -> Option<u32>
     }
 }
 
-/// The line of the first claim that stands on no event's line. Claims and events are walked side by side.
-fn stray_line(events: &[Entry], claims: &[Claim]) -> Option<u32>
+/// The least line of a claim or of a change of a nice value that is no event's line.
+fn stray_line(events: &[Entry], companion: &Companion) -> Option<u32>
+    requires { AllPairs (λ a b. a.line < b.line) events.now }
+    ensures claimed { IfNone result (All (λ claim. IsTrue (is_event_line events.now claim.line)) (companion_view companion.now).claims) }
+    ensures reniced { IfNone result (All (λ change. IsTrue (is_event_line events.now change.line)) (companion_view companion.now).nices) }
+    ensures found { IfSome result (λ line. IsFirstStray events.now (companion_view companion.now) line) }
+{
+    let claim = first_stray(events, companion.claims());
+    let change = first_stray(events, companion.nices());
+    match (claim, change) {
+        (Some(claim), Some(change)) => Some(claim.min(change)),
+        (Some(line), None) | (None, Some(line)) => Some(line),
+        (None, None) => None,
+    }
+}
+
+/// The line of the first of these items that stands on no event's line. Items and events are walked side by side.
+fn first_stray<T: OnLine>(events: &[Entry], items: &[T]) -> Option<u32>
     requires events_rise { AllPairs (λ a b. a.line < b.line) events.now }
-    requires claims_rise { AllPairs (λ a b. a.line < b.line) claims.now }
-    ensures none { IfNone result (All (λ claim. IsTrue (is_event_line events.now claim.line)) claims.now) }
-    ensures found { IfSome result (λ line. IsFirstStray events.now claims.now line) }
+    requires items_rise { AllPairs (λ a b. T.line a < T.line b) items.now }
+    ensures none { IfNone result (All (λ item. IsTrue (is_event_line events.now (T.line item))) items.now) }
+    ensures said { IfSome result (λ line. Any (λ item. T.line item ≡ line) items.now) }
+    ensures stray { IfSome result (λ line. ¬ IsTrue (is_event_line events.now line)) }
+    ensures earlier { IfSome result (λ line. All (λ item. T.line item < line → IsTrue (is_event_line events.now (T.line item))) items.now) }
 {
     let mut place = 0;
-    for claim in claims {
-        place = place_from(events, place, claim.line);
-        if place == events.len() || events[place].line != claim.line {
-            return Some(claim.line);
+    for item in items {
+        let line = item.line();
+        place = place_from(events, place, line);
+        if place == events.len() || events[place].line != line {
+            return Some(line);
         }
     }
     None

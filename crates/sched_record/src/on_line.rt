@@ -1,8 +1,7 @@
-ghost use Rattle.std.specs.Prelude.{◌≡◌, ℕ, ◌<◌, ◌≤◌, length, slice_index_or};
+ghost use Rattle.std.specs.Prelude.{◌≡◌, ◌==◌, ℕ, ◌<◌, ◌≤◌, find, length, slice_index_or};
 ghost use Rattle.std.specs.List.{AllPairs};
-ghost use Rattle.cfs_model.specs.declared.claim.Claim.{Claim};
 
-use cfs_model::{Claim, Entry};
+use cfs_model::{Claim, Entry, NiceLine};
 
 /// What stands on a line of the trace.
 pub(crate) trait OnLine {
@@ -29,6 +28,14 @@ impl OnLine for Claim {
     }
 }
 
+impl OnLine for NiceLine {
+    ghost line = { λ change. change.line };
+
+    fn line(&self) -> u32 {
+        self.line
+    }
+}
+
 /// The place of the first item, from a place on, that stands on this line or below it.
 pub(crate) fn place_from<T: OnLine>(items: &[T], from: usize, line: u32) -> usize
     requires { from ≤ length items.now }
@@ -43,18 +50,32 @@ pub(crate) fn place_from<T: OnLine>(items: &[T], from: usize, line: u32) -> usiz
     place
 }
 
-/// The place of the first claim, from a place on, that stands on this line or below it. The hint is where to begin, if all
-/// claims before it stand above the line.
-pub(crate) fn claim_place(claims: &[Claim], from: usize, hint: usize, line: u32) -> usize
-    requires within { from ≤ length claims.now }
-    requires rise { AllPairs (λ a b. a.line < b.line) claims.now }
-    ensures within { (from ≤ result) × (result ≤ length claims.now) }
-    ensures below { (k : ℕ) (d : Claim) → from ≤ k → k < result → (slice_index_or claims.now k d).line < line }
-    ensures reached { (d : Claim) → result < length claims.now → line ≤ (slice_index_or claims.now result d).line }
+/// The place of the first item, from a place on, that stands on this line or below it. The hint is where to begin, if all
+/// items before it stand above the line.
+pub(crate) fn place_near<T: OnLine>(items: &[T], from: usize, hint: usize, line: u32) -> usize
+    requires within { from ≤ length items.now }
+    requires rise { AllPairs (λ a b. T.line a < T.line b) items.now }
+    ensures within { (from ≤ result) × (result ≤ length items.now) }
+    ensures below { (k : ℕ) (d : T) → from ≤ k → k < result → T.line (slice_index_or items.now k d) < line }
+    ensures reached { (d : T) → result < length items.now → line ≤ T.line (slice_index_or items.now result d) }
 {
-    if from < hint && hint <= claims.len() && claims[hint - 1].line < line {
-        place_from(claims, hint, line)
+    if from < hint && hint <= items.len() && items[hint - 1].line() < line {
+        place_from(items, hint, line)
     } else {
-        place_from(claims, from, line)
+        place_from(items, from, line)
+    }
+}
+
+/// The item at a place, if it stands on the line.
+pub(crate) fn item_on<T: OnLine + Copy>(items: &[T], place: usize, line: u32) -> Option<T>
+    requires rise { AllPairs (λ a b. T.line a < T.line b) items.now }
+    requires above { (k : ℕ) (d : T) → k < place → T.line (slice_index_or items.now k d) < line }
+    requires reached { (d : T) → place < length items.now → line ≤ T.line (slice_index_or items.now place d) }
+    ensures { result ≡ find (λ item. T.line item == line) items.now }
+{
+    if place < items.len() && items[place].line() == line {
+        Some(items[place])
+    } else {
+        None
     }
 }

@@ -3,13 +3,23 @@ ghost use Rattle.cfs_model.specs.Limits.{most_processors};
 ghost use Rattle.sched_record.specs.Places.{places_at, touches_cpu};
 
 use crate::on_line::place_from;
-use cfs_model::{Act, Claim, Entry, MOST_PROCESSORS, Memory};
+use cfs_model::{Act, Claim, Entry, MOST_PROCESSORS, Memory, NiceLine};
 use plain_list::PlainList;
 use std::alloc::Global;
 use std::marker::Model;
 
-/// How many events share a mark. The claims of so many are passed over one by one.
+/// How many events share a mark. What the companion says of so many is passed over one by one.
 const EVENTS_A_MARK: usize = 16;
+
+/// Where in a record's claims, and in its changes of nice values, those on an event's line or below it begin.
+#[derive(Clone, Copy, Debug)]
+pub(crate) struct Mark {
+    pub(crate) claim: usize,
+    pub(crate) nice: usize,
+}
+
+/// The mark of an event that has none.
+const NO_MARK: Mark = Mark { claim: 0, nice: 0 };
 
 /// For each processor the places of the events that touch it, so that a processor's share of a record is found without
 /// going over all of it. Processors from `MOST_PROCESSORS` on have none: no record has them.
@@ -17,9 +27,8 @@ const EVENTS_A_MARK: usize = 16;
 pub struct Places {
     /// One a processor, from 0 on, as far as a processor was met.
     lists: Vec<PlainList<u32>>,
-    /// For each `EVENTS_A_MARK`th event, from the first on, where in a record's claims those on its line or below it begin.
-    /// They are hints alone, which nothing rests on.
-    marks: Vec<usize>,
+    /// For each `EVENTS_A_MARK`th event, from the first on, its mark. They are hints alone, which nothing rests on.
+    marks: Vec<Mark>,
 }
 
 impl Model for Places {
@@ -51,26 +60,29 @@ impl Places {
         }
     }
 
-    /// Marks where in these claims those of the events begin. Takes no memory.
-    pub(crate) fn mark(&mut self, events: &[Entry], claims: &[Claim])
+    /// Marks where in these claims and these changes of nice values those of the events begin. Takes no memory.
+    pub(crate) fn mark(&mut self, events: &[Entry], claims: &[Claim], nices: &[NiceLine])
         ensures { self.new ≡ self.old }
     {
         let mut first = 0;
-        let mut claim = 0;
+        let mut last = NO_MARK;
         for mark in self.marks.as_mut_slice() {
             if let Some(event) = events.get(first) {
-                claim = place_from(claims, claim, event.line);
-                *mark = claim;
+                last = Mark {
+                    claim: place_from(claims, last.claim, event.line),
+                    nice: place_from(nices, last.nice, event.line),
+                };
+                *mark = last;
             }
             first = first.saturating_add(EVENTS_A_MARK);
         }
     }
 
     /// The mark of the event at a place.
-    pub(crate) fn claim_hint(&self, place: u32) -> usize {
+    pub(crate) fn hint(&self, place: u32) -> Mark {
         match self.marks.get(place as usize / EVENTS_A_MARK) {
             Some(mark) => *mark,
-            None => 0,
+            None => NO_MARK,
         }
     }
 
@@ -80,7 +92,7 @@ impl Places {
         ensures kept { OnErr result ((cpu : ℕ) → cpu < most_processors → places_at self.new cpu ≡ places_at self.old cpu) }
     {
         if (place as usize).is_multiple_of(EVENTS_A_MARK) {
-            self.marks.push(0)?;
+            self.marks.push(NO_MARK)?;
         }
         match act {
             Act::Switch { cpu, .. } | Act::Wake { cpu, .. } | Act::Born { cpu, .. } => {

@@ -4,7 +4,7 @@ ghost use Rattle.sched_record.specs.Join.{joined_record};
 ghost use Rattle.sched_record.specs.Kept.{IsRecordInOrder};
 
 use crate::trace::Trace;
-use cfs_model::{Claim, Entry, NO_LINE, Task};
+use cfs_model::{Claim, Entry, NO_LINE, NiceLine, Task};
 use companion_file::Companion;
 use std::alloc::Global;
 
@@ -26,7 +26,7 @@ impl Record {
         ensures { record_view result ≡ joined_record (trace_view trace) (companion_view companion) }
     {
         let mut trace = trace;
-        trace.mark(companion.claims());
+        trace.mark(companion.claims(), companion.nices());
         Record { trace, companion }
     }
 
@@ -56,6 +56,13 @@ impl Record {
         ensures { result.now ≡ (record_view self.now).claims }
     {
         self.companion.claims()
+    }
+
+    /// The changes of nice values, in the order of their lines.
+    pub fn nices(&self) -> &[NiceLine]
+        ensures { result.now ≡ (record_view self.now).nices }
+    {
+        self.companion.nices()
     }
 
     /// The tasks of the start state, by rising pid.

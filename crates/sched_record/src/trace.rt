@@ -5,8 +5,8 @@ ghost use Rattle.sched_record.specs.Places.{ArePlacesOf, places_touching};
 ghost use Rattle.sched_record.specs.Kept.{AreInOrder};
 
 use crate::lists::Events;
-use crate::places::Places;
-use cfs_model::{Claim, Entry};
+use crate::places::{Mark, Places};
+use cfs_model::{Claim, Entry, NiceLine};
 use std::alloc::Global;
 use std::mem::size_of;
 
@@ -49,16 +49,16 @@ impl Trace {
         self.places.at(cpu)
     }
 
-    /// Marks where in these claims those of the events begin, for `claim_hint`. Takes no memory.
-    pub(crate) fn mark(&mut self, claims: &[Claim])
+    /// Marks where in these claims and these changes of nice values those of the events begin, for `hint`. Takes no memory.
+    pub(crate) fn mark(&mut self, claims: &[Claim], nices: &[NiceLine])
         ensures { trace_view self.new ≡ trace_view self.old }
     {
-        self.places.mark(self.events.as_slice(), claims);
+        self.places.mark(self.events.as_slice(), claims, nices);
     }
 
-    /// Where in the claims that were marked those from this event on may begin.
-    pub(crate) fn claim_hint(&self, place: u32) -> usize {
-        self.places.claim_hint(place)
+    /// Where in what was marked that of this event and later ones may begin.
+    pub(crate) fn hint(&self, place: u32) -> Mark {
+        self.places.hint(place)
     }
 
     pub(crate) fn allocator(&self) -> Global {

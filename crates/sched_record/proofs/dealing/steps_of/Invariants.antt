@@ -1,13 +1,16 @@
-use Rattle.std.proofs.Common.{◌≡◌, ℕ, ◌<◌, ◌≤◌, length, map, take, slice_index_or}
+use Rattle.std.proofs.Common.{◌≡◌, ◌≤◌, length, map, take}
 use Rattle.cfs_model.specs.declared.act.Entry.{Entry}
 use Rattle.cfs_model.specs.declared.claim.Claim.{Claim}
+use Rattle.cfs_model.specs.declared.nice_line.NiceLine.{NiceLine}
 use Rattle.sched_record.proofs.Placing.{step_of, touching}
+use Rattle.sched_record.proofs.Walk.{HasPassed}
 use Rattle.sched_record.proofs.dealing.steps_of.Given as goal
 
 abbrev pub invariant-loop-place : goal.invariant-loop-place
 invariant-loop-place l = record {
-  within : l.from ≤ length l.claims;
-  passed : (k j : ℕ) (d : Claim) (e : Entry) → k < l.from → l.place-index ≤ j → j < length (touching l.cpu l.events) →
-      (slice_index_or l.claims k d).line < (slice_index_or (touching l.cpu l.events) j e).line;
-  dealt : l.steps.items ≡ map (step_of l.cpu l.claims) (take l.place-index (touching l.cpu l.events));
+  claims_within : l.claims_from ≤ length l.claims;
+  claims_passed : HasPassed (λ (claim : Claim). claim.line) (λ (event : Entry). event.line) l.claims (touching l.cpu l.events) l.claims_from l.place-index;
+  nices_within : l.nices_from ≤ length l.nices;
+  nices_passed : HasPassed (λ (change : NiceLine). change.line) (λ (event : Entry). event.line) l.nices (touching l.cpu l.events) l.nices_from l.place-index;
+  dealt : l.steps.items ≡ map (step_of l.cpu l.claims l.nices) (take l.place-index (touching l.cpu l.events));
 }

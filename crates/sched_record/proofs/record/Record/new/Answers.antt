@@ -15,6 +15,7 @@ joined_in_order events companion kept in_order together = record {
   inside = together.inside;
   started = started_from events companion.start together.in_time in_order.never_falls;
   claimed = together.claimed;
+  reniced = together.reniced;
 }
 
 pub invariant_of-result : goal.invariant_of-result

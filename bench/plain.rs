@@ -891,8 +891,10 @@ fn read_line(line: &[u8]) -> (Result<Line, &'static str>, Option<(usize, usize)>
 enum Sort {
     At,
     Pass,
+    Nice,
 }
 
+/// A claim; or a change of a nice value, which is of sort `Nice` and has the new prio in place of a virtual runtime.
 #[derive(Clone, Copy)]
 struct Claim {
     /// The line of the trace, or `NEVER`.
@@ -900,6 +902,14 @@ struct Claim {
     pid: u32,
     v: i64,
     sort: Sort,
+}
+
+impl Claim {
+    /// Rises from one to the next: on one line a change may stand before a claim, and nothing else.
+    #[inline(always)]
+    fn rank(&self) -> u64 {
+        2 * self.line + (self.sort != Sort::Nice) as u64
+    }
 }
 
 #[derive(Clone, Copy, PartialEq, Eq)]
@@ -916,7 +926,7 @@ const NO_CLAIM: Claim = Claim { line: NEVER, pid: 0, v: 0, sort: Sort::At };
 
 /// What a line of a companion says.
 enum Said {
-    Version,
+    Version(u32),
     Cpus(u64),
     Start(u64),
     Floor(i64),
@@ -949,12 +959,15 @@ struct Companion {
     place: usize,
     /// The lines read so far.
     lines: u64,
+    /// 1 or 2.
+    version: u32,
     due: Due,
     cpus: u64,
     /// The processors that a task was said to run at, a bit each.
     running: u64,
     last_pid: u32,
-    last_line: u64,
+    /// The rank of the last claim, or change of a nice value.
+    last_rank: u64,
     stop: Option<Stop>,
 }
 
@@ -975,6 +988,10 @@ fn virtual_runtime(value: i128) -> Option<i64> {
     (value.abs() <= MOST_VIRTUAL as i128).then_some(value as i64)
 }
 
+fn prio_of(nice: i128) -> Option<u32> {
+    (-20..=19).contains(&nice).then_some((120 + nice) as u32)
+}
+
 fn pid_of(value: u64) -> Option<u32> {
     (1..=MOST_PID).contains(&value).then_some(value as u32)
 }
@@ -986,11 +1003,12 @@ enum Shape {
     Start(u64, u64),
     Floor(u64, i128),
     Task(u64, i128, u64, Place, i128),
+    /// A line, a pid, and a virtual runtime or a nice value.
     Claim(Sort, u64, u64, i128),
 }
 
-/// The shape of a line of words with one space between them.
-fn shape_of(line: &[u8]) -> Option<Shape> {
+/// The shape of a line of words with one space between them, in a companion of this version.
+fn shape_of(line: &[u8], version: u32) -> Option<Shape> {
     let mut words = line.split(|&byte| byte == b' ');
     let mut word = || words.next();
     let shape = match word()? {
@@ -1019,6 +1037,9 @@ fn shape_of(line: &[u8]) -> Option<Shape> {
         }
         b"at" => Shape::Claim(Sort::At, whole_number(word()?)?, whole_number(word()?)?, integer(word()?)?),
         b"pass" => Shape::Claim(Sort::Pass, whole_number(word()?)?, whole_number(word()?)?, integer(word()?)?),
+        b"nice" if version == 2 => {
+            Shape::Claim(Sort::Nice, whole_number(word()?)?, whole_number(word()?)?, integer(word()?)?)
+        }
         _ => return None,
     };
     word().is_none().then_some(shape)
@@ -1031,11 +1052,12 @@ impl Companion {
             blocks,
             place: 0,
             lines: 0,
+            version: 0,
             due: Due::Version,
             cpus: 0,
             running: 0,
             last_pid: 0,
-            last_line: 0,
+            last_rank: 0,
             stop: None,
         }
     }
@@ -1143,12 +1165,16 @@ impl Companion {
 
     fn judged(&self, line: &[u8]) -> Result<Said, &'static str> {
         if self.due == Due::Version {
-            return if line == b"cfs-companion 1" { Ok(Said::Version) } else { Err("Version") };
+            return match line {
+                b"cfs-companion 1" => Ok(Said::Version(1)),
+                b"cfs-companion 2" => Ok(Said::Version(2)),
+                _ => Err("Version"),
+            };
         }
         if line == b"cgroup" || line.starts_with(b"cgroup ") {
             return Err("Group");
         }
-        let shape = shape_of(line).ok_or("BadLine")?;
+        let shape = shape_of(line, self.version).ok_or("BadLine")?;
         let is_due = match shape {
             Shape::Version => false,
             Shape::Cpus(_) => self.due == Due::Cpus,
@@ -1166,24 +1192,26 @@ impl Companion {
             (_, Said::Task { pid, .. }) if *pid < self.last_pid => Err("Order"),
             (_, Said::Task { pid, .. }) if *pid == self.last_pid => Err("TwiceNamed"),
             (_, Said::Task { cpu, place: Place::Run, .. }) if self.running >> cpu & 1 != 0 => Err("TwiceRunning"),
-            (_, Said::Claim(claim)) if claim.line <= self.last_line => Err("LineOrder"),
+            (_, Said::Claim(claim)) if claim.rank() <= self.last_rank => Err("LineOrder"),
             _ => Ok(said),
         }
     }
 
     fn in_range(&self, shape: &Shape) -> Option<Said> {
         Some(match *shape {
-            Shape::Version => Said::Version,
             Shape::Cpus(count) if (1..=MOST_PROCESSORS).contains(&count) => Said::Cpus(count),
             Shape::Start(seconds, nanos) if seconds <= MOST_SECONDS => Said::Start(seconds * 1_000_000_000 + nanos),
             Shape::Floor(cpu, v) if cpu < self.cpus => Said::Floor(virtual_runtime(v)?),
-            Shape::Task(pid, nice, cpu, place, v) if (-20..=19).contains(&nice) && cpu < self.cpus => Said::Task {
+            Shape::Task(pid, nice, cpu, place, v) if cpu < self.cpus => Said::Task {
                 pid: pid_of(pid)?,
-                prio: (120 + nice) as u32,
+                prio: prio_of(nice)?,
                 cpu: cpu as u32,
                 place,
                 v: virtual_runtime(v)?,
             },
+            Shape::Claim(Sort::Nice, line, pid, nice) if (1..=MOST_LINE).contains(&line) => {
+                Said::Claim(Claim { line, pid: pid_of(pid)?, v: prio_of(nice)? as i64, sort: Sort::Nice })
+            }
             Shape::Claim(sort, line, pid, v) if (1..=MOST_LINE).contains(&line) => {
                 Said::Claim(Claim { line, pid: pid_of(pid)?, v: virtual_runtime(v)?, sort })
             }
@@ -1194,7 +1222,10 @@ impl Companion {
     /// What the next line may be, after this one.
     fn note(&mut self, said: &Said) {
         match said {
-            Said::Version => self.due = Due::Cpus,
+            Said::Version(version) => {
+                self.version = *version;
+                self.due = Due::Cpus;
+            }
             Said::Cpus(count) => {
                 self.cpus = *count;
                 self.due = Due::Start;
@@ -1212,18 +1243,18 @@ impl Companion {
             }
             Said::Claim(claim) => {
                 self.due = Due::Claim;
-                self.last_line = claim.line;
+                self.last_rank = claim.rank();
             }
         }
     }
 
-    /// The claim that comes next, after the first.
+    /// The claim or change that comes next, after the first.
     #[inline(always)]
     fn next_claim(&mut self) -> Claim {
         if self.place < self.blocks.whole {
             if let Some((claim, length)) = usual_claim(self.blocks.at(self.place)) {
-                if claim.line > self.last_line {
-                    self.last_line = claim.line;
+                if claim.rank() > self.last_rank {
+                    self.last_rank = claim.rank();
                     self.lines += 1;
                     self.place += length;
                     return claim;
@@ -1453,6 +1484,8 @@ struct Machine {
     idle: u64,
     /// No later than the first moment at which one of them has idled for too long.
     deadline: u64,
+    /// The change of a nice value on the next event's line.
+    change: Option<Claim>,
     counts: Counts,
 }
 
@@ -1494,6 +1527,7 @@ impl Machine {
             slots: vec![0; MOST_PID as usize + 1],
             idle: 0,
             deadline: u64::MAX,
+            change: None,
             counts: Counts::default(),
         }
     }
@@ -1604,6 +1638,28 @@ impl Machine {
         Ok(())
     }
 
+    /// A processor as the event finds it: charged, with the nice value changed that the companion changes on its line.
+    #[inline(always)]
+    fn find(&mut self, cpu: usize, time: u64) -> Judged {
+        self.charge(cpu, time)?;
+        if self.change.is_none() {
+            return Ok(());
+        }
+        self.renice(cpu)
+    }
+
+    #[cold]
+    #[inline(never)]
+    fn renice(&mut self, cpu: usize) -> Judged {
+        let Some(change) = self.change.take() else { return Ok(()) };
+        let slot = self.here(change.pid, cpu);
+        if slot == NONE {
+            return wrong(cpu, change.pid, Kind::Strange);
+        }
+        self.tasks[slot as usize].prio = change.v as u8;
+        Ok(())
+    }
+
     /// A task begins to wait at a processor with a virtual runtime.
     #[inline(always)]
     fn enqueue(&mut self, slot: u32, cpu: usize, v: i64) {
@@ -1661,7 +1717,7 @@ impl Machine {
         }
     }
 
-    /// One event with the claim on its line, judged by the tests in their order and made.
+    /// One event with what the companion says on its line, judged by the tests in their order and made.
     #[inline(always)]
     fn step(&mut self, event: Event, claim: Option<Claim>) -> Judged {
         let time = event.time;
@@ -1691,7 +1747,7 @@ impl Machine {
         (next, next_prio): (u32, u32),
         claim: Option<Claim>,
     ) -> Judged {
-        self.charge(cpu, time)?;
+        self.find(cpu, time)?;
         if prev == next {
             return wrong(cpu, prev, Kind::SelfSwitch);
         }
@@ -1771,7 +1827,7 @@ impl Machine {
 
     #[inline(always)]
     fn wake(&mut self, time: u64, cpu: usize, pid: u32, prio: u32, claim: Option<Claim>) -> Judged {
-        self.charge(cpu, time)?;
+        self.find(cpu, time)?;
         let slot = self.here(pid, cpu);
         if slot == NONE {
             return wrong(cpu, pid, Kind::Strange);
@@ -1809,7 +1865,7 @@ impl Machine {
 
     #[inline(always)]
     fn bear(&mut self, time: u64, cpu: usize, pid: u32, prio: u32, claim: Option<Claim>) -> Judged {
-        self.charge(cpu, time)?;
+        self.find(cpu, time)?;
         if self.here(pid, cpu) != NONE {
             return wrong(cpu, pid, Kind::Already);
         }
@@ -1834,8 +1890,16 @@ impl Machine {
     }
 
     #[inline(never)]
-    fn migrate(&mut self, time: u64, orig: usize, dest: usize, pid: u32, prio: u32, claim: Option<Claim>) -> Judged {
-        self.charge(orig, time)?;
+    fn migrate(
+        &mut self,
+        time: u64,
+        orig: usize,
+        dest: usize,
+        pid: u32,
+        prio: u32,
+        claim: Option<Claim>,
+    ) -> Judged {
+        self.find(orig, time)?;
         if orig == dest {
             return wrong(orig, pid, Kind::MoveHome);
         }
@@ -1892,7 +1956,7 @@ enum Verdict {
 struct Audit {
     companion: Companion,
     machine: Machine,
-    /// The claim that comes next, or `NO_CLAIM`.
+    /// The claim or change that comes next, or `NO_CLAIM`.
     claim: Claim,
     start: u64,
     /// Whether events are still judged: until something is wrong that no later event can mend.
@@ -1905,14 +1969,14 @@ struct Audit {
 }
 
 impl Audit {
-    /// Reads the companion up to its first claim.
+    /// Reads the companion up to its first claim or change.
     fn new(companion: File, settings: Settings) -> Audit {
         let mut companion = Companion::new(companion);
         let mut machine = Machine::new(settings);
         let (mut start, mut claim) = (0, NO_CLAIM);
         while let Some(said) = companion.next() {
             match said {
-                Said::Version | Said::Cpus(_) => {}
+                Said::Version(_) | Said::Cpus(_) => {}
                 Said::Start(time) => start = time,
                 Said::Floor(floor) => machine.add_processor(start, floor),
                 Said::Task { pid, prio, cpu, place, v } => machine.add_task(pid, prio, cpu, place, v),
@@ -1951,7 +2015,7 @@ impl Audit {
         }
     }
 
-    /// The claim on the line of an event, where the next is not on a later one.
+    /// The claim on the line of an event, where what comes next is not on a later one.
     #[inline(always)]
     fn claim_on(&mut self, line: u64) -> Option<Claim> {
         if self.claim.line < line {
@@ -1960,12 +2024,29 @@ impl Audit {
         if self.claim.line != line {
             return None;
         }
+        if self.claim.sort == Sort::Nice {
+            return self.change_on(line);
+        }
         let claim = self.claim;
         self.claim = self.companion.next_claim();
         Some(claim)
     }
 
-    /// Claims before the line of an event are on that of none.
+    /// The change on the line of an event, which the machine is told, and the claim behind it.
+    #[cold]
+    #[inline(never)]
+    fn change_on(&mut self, line: u64) -> Option<Claim> {
+        self.machine.change = Some(self.claim);
+        self.claim = self.companion.next_claim();
+        if self.claim.line != line {
+            return None;
+        }
+        let claim = self.claim;
+        self.claim = self.companion.next_claim();
+        Some(claim)
+    }
+
+    /// Claims and changes before the line of an event are on that of none.
     #[cold]
     #[inline(never)]
     fn pass_over(&mut self, line: u64) {

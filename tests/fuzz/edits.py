@@ -7,7 +7,9 @@ from recordings import MOST_PID, MOST_SETTING, OPTIONS, Input
 
 NUMBER = re.compile(rb"\d+")
 TIME = re.compile(rb"(\d+)\.(\d{9}|\d{6})(?=: )")
-CLAIM = re.compile(rb"(at|pass) (\d{1,10}) (\d+) (-?\d+)$")
+CLAIM = re.compile(rb"(at|pass|nice) (\d{1,10}) (\d+) (-?\d+)$")
+NICE = re.compile(rb"^nice (\d{1,10}) (\d+) (-?\d+)$")
+VERSION = re.compile(rb"^cfs-companion ")
 PID = re.compile(rb"(?<= pid=)\d+|(?<=_pid=)\d+")
 
 # At each limit of a number in the two formats, and one beyond.
@@ -19,15 +21,18 @@ STATES = (b"R", b"R+", b"S", b"D", b"X", b"Z", b"x", b"I", b"t", b"RX", b"S|K", 
 EVENTS = (b"sched_switch", b"sched_wakeup", b"sched_wakeup_new", b"sched_migrate_task", b"sched_waking", b"sched_switch:")
 STARTS = (0, 1, 2, 3, -1, -20, -21, 19, 20, 100, 10**6, 2**62)
 PLACES = (b"run", b"wait", b"rest", b"gone")
-SORTS = (b"at", b"pass", b"task", b"floor")
+SORTS = (b"at", b"pass", b"nice", b"task", b"floor")
+NICES = (-21, -20, -5, -1, 0, 0, 1, 5, 19, 20)
+VERSIONS = (b"1", b"2", b"2", b"3", b"02", b"2 ", b"")
 KEYS = (b"pid=", b"prio=", b"success=1", b"")
 WORDS = ((re.compile(rb"(?<=prev_state=)[^ ]*"), STATES), (re.compile(rb"sched_[a-z_]+"), EVENTS),
          (re.compile(rb"[a-z_]+="), KEYS), (re.compile(rb"\b(run|wait|rest)\b"), PLACES),
-         (re.compile(rb"^(at|pass)\b"), SORTS))
+         (re.compile(rb"^(at|pass|nice)\b"), SORTS))
 NAMES = (b"", b"a" * 15, b"a" * 16, b" next_pid=1", b" pid=1", b" prev_pid=0 prev", b"\xff" * 15, b" ==> next_comm=",
          b"x prio=120")
 STRANGE = (b"", b"#", b"# tracer: nop", b"CPU:0 [LOST 12 EVENTS]", b"CPU:3 [LOST EVENTS]", b"CPU: [LOST EVENTS]",
-           b"cgroup", b"cgroup /a", b"cfs-companion 1", b"cfs-companion 2", b"hello", b" ", b"\r", b"\0" * 20,
+           b"cgroup", b"cgroup /a", b"cfs-companion 1", b"cfs-companion 2", b"nice 1 101 0", b"hello", b" ", b"\r",
+           b"\0" * 20,
            b"            t101-101     [000] d..2.   100.004000: sched_stat_runtime: comm=t101 pid=101 runtime=1 [ns]")
 
 
@@ -46,7 +51,7 @@ class Draft:
         return self.trace if rng.random() < 0.6 else self.companion
 
     def claims(self):
-        """Which lines of the companion are claims, and what they say."""
+        """Which lines of the companion are claims or changes of nice values, and what they say."""
         return [(place, found) for place, found in enumerate(map(CLAIM.match, self.companion)) if found]
 
     def renumber(self, line, by):
@@ -61,6 +66,12 @@ class Draft:
             return place == self.here
         claim = self.here is not None and CLAIM.match(lines[place])
         return bool(claim) and int(claim.group(2)) == self.here + 1
+
+    def call_it(self, version):
+        """Writes another version into the companion's first line."""
+        place = next((place for place, line in enumerate(self.companion) if VERSION.match(line)), None)
+        if place is not None:
+            self.companion[place] = b"cfs-companion " + version
 
     def drop_claim(self, line):
         self.companion = [text for text in self.companion
@@ -296,6 +307,42 @@ def claim_changed(rng, draft):
     draft.companion[place] = b" ".join((sort, line, pid, value))
 
 
+def nice_added(rng, draft):
+    """One more change of a nice value, mostly of a task that its line's event names, before the line's claim or behind it."""
+    line = rng.randrange(1, len(draft.trace) + 1) if draft.here is None else draft.here + 1
+    events = draft.trace[line - 1:line] if rng.random() < 0.7 else draft.trace
+    pids = PID.findall(rng.choice(events or draft.trace))
+    after = line + (rng.random() < 0.2)
+    at = next((place for place, claim in draft.claims() if int(claim.group(2)) >= after), max(len(draft.companion) - 1, 0))
+    draft.companion.insert(at, b"nice %d %s %d" % (line, rng.choice(pids or [b"101"]), rng.choice(NICES)))
+    if rng.random() < 0.8:
+        draft.call_it(b"2")
+
+
+def nice_changed(rng, draft):
+    """A change of a nice value on the line before or behind it, of another task, or to another value; or gone."""
+    found = a_line_with(rng, draft, draft.companion, NICE)
+    if not found:
+        return
+    place, change = found
+    words, at = list(change.groups()), rng.randrange(4)
+    if at == 3:
+        del draft.companion[place]
+        return
+    if at == 1:
+        words[1] = rng.choice(PID.findall(rng.choice(draft.trace)) or [b"101"])
+    elif at == 2 and rng.random() < 0.5:
+        words[2] = b"%d" % rng.choice(NICES)
+    else:
+        words[at] = b"%d" % (int(words[at]) + rng.choice((-1, 1)))
+    draft.companion[place] = b" ".join([b"nice", *words])
+
+
+def version_changed(rng, draft):
+    """A companion of the other version, or of one that there isn't."""
+    draft.call_it(rng.choice(VERSIONS))
+
+
 def idle_switched(rng, draft):
     """A switch from the idle task, or to it."""
     found = a_line_with(rng, draft, draft.trace, re.compile(rb"(?<=(?:prev|next)_pid=)\d+"))
@@ -341,7 +388,8 @@ EDITS = {
     carriage_returns: 0.3,
     number_changed: 3, zeros_in_front: 1, number_from_elsewhere: 3, pid_changed: 4, time_turned: 1, later: 2,
     nanoseconds: 1,
-    word_changed: 2, name_changed: 1, birth_for_a_wakeup: 1.5, claim_changed: 4, idle_switched: 1, task_named_again: 0.5,
+    word_changed: 2, name_changed: 1, birth_for_a_wakeup: 1.5, claim_changed: 4, nice_added: 2, nice_changed: 2,
+    version_changed: 0.4, idle_switched: 1, task_named_again: 0.5,
     start_changed: 2, option_changed: 2.5,
 }
 

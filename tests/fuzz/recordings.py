@@ -1,5 +1,6 @@
 """Random runs of the scheduler: a machine is led by the rules of docs/RULES.md, one event after another, and each event
-is written as a line of a trace, with its claim in a companion.  So what the report has to say of the run is known."""
+is written as a line of a trace, with its claim in a companion; a companion of version 2 tells changes of nice values too.
+So what the report has to say of the run is known."""
 
 from typing import NamedTuple
 
@@ -60,6 +61,8 @@ class Machine:
         self.settings = STANDARD if rng.random() < 0.6 else tuple(
             rng.choice((0, 1, 1000, standard, 10**9, MOST_SETTING)) for standard in STANDARD)
         self.granularity, self.credit, self.debit, self.slack = self.settings
+        self.version = rng.choice((1, 2))
+        self.changing = rng.choice((0, 0.05, 0.4)) if self.version == 2 else 0
         self.unit = rng.choice((1, 1000))
         seconds = rng.choice((0, 100, 1403, 2**32 - 10**8, 2**32 - 1))
         self.start = self.time = seconds * 10**9 + rng.randrange(10**6) * 1000
@@ -67,7 +70,7 @@ class Machine:
         base = rng.choice((0, 0, 0, 10**9, -10**9, 2**40, -2**61, -MOST_VIRTUAL, MOST_VIRTUAL - self.spread + 1))
         count = rng.choice((1, 1, 1, 2, 2, 3, 4, rng.randrange(5, 17), 64))
         self.processors = [Processor(number, base + rng.randrange(self.spread), self.start) for number in range(count)]
-        self.tasks, self.claims, self.lines = {}, [], []
+        self.tasks, self.claims, self.lines, self.changed = {}, [], [], None
         self.counts = dict.fromkeys((b"events", b"switches", b"migrations", b"births", b"deaths"), 0)
         self.settle(base)
         self.beginning = list(self.companion())
@@ -92,7 +95,7 @@ class Machine:
         return self.rng.choice((0, 0, 0, 5, -5, 19, -20, self.rng.randrange(-20, 20)))
 
     def companion(self):
-        yield b"cfs-companion 1"
+        yield b"cfs-companion %d" % self.version
         yield b"cpus %d" % len(self.processors)
         yield b"start " + self.written(self.start, 1000)
         for processor in self.processors:
@@ -141,6 +144,13 @@ class Machine:
         if queued:
             processor.floor = max(processor.floor, min(task.virtual for task in queued))
 
+    def changes(self, processor):
+        """Now and then the nice value of a task is another from this event on, whoever stands there."""
+        here = [task for task in self.tasks.values() if task.place and task.cpu == processor.number]
+        if here and self.rng.random() < self.changing:
+            self.changed = self.rng.choice(here)
+            self.changed.nice = self.nice()
+
     # Lines.
 
     @staticmethod
@@ -149,12 +159,15 @@ class Machine:
         return b"%d.%09d" % divmod(time, 10**9) if unit == 1 else b"%d.%06d" % (time // 10**9, time % 10**9 // 1000)
 
     def line(self, cpu, text, claim=None):
-        """An event, behind other lines now and then, with its claim."""
+        """An event, behind other lines now and then, with its change of a nice value and its claim."""
         rng = self.rng
         while rng.random() < 0.06:
             self.lines.append(rng.choice((*OTHERS, self.head(cpu) + b"sched_stat_runtime: comm=a pid=1")))
         self.lines.append(self.head(cpu) + text)
         self.counts[b"events"] += 1
+        if self.changed:
+            self.claims.append(b"nice %d %d %d" % (len(self.lines), self.changed.pid, self.changed.nice))
+            self.changed = None
         if claim:
             sort, task = claim
             self.claims.append(b"%s %d %d %d" % (sort, len(self.lines), task.pid, task.virtual))
@@ -176,6 +189,7 @@ class Machine:
         before, waiting = self.running(processor), self.who(b"wait", processor)
         if not (before or waiting) or not self.charge(processor):
             return False
+        self.changes(processor)
         states, place = rng.choice(((STAYS, b"wait"), (STAYS, b"wait"), (SLEEPS, b"rest"), (ENDS, None)))
         stays = before and states is STAYS
         most = min(task.virtual for task in waiting + [before] * bool(stays)) + self.granularity if waiting else 0
@@ -217,6 +231,7 @@ class Machine:
         processor = self.processors[task.cpu]
         if not self.charge(processor):
             return False
+        self.changes(processor)
         low, high = (max(task.virtual, bound) for bound in (processor.floor - self.credit, processor.floor))
         self.placed(task, low, high, b"sched_wakeup")
         return True
@@ -228,6 +243,7 @@ class Machine:
         task = self.rng.choice(awake)
         if not self.charge(self.processors[task.cpu]):
             return False
+        self.changes(self.processors[task.cpu])
         self.wakes(task, b"sched_wakeup")
         return True
 
@@ -238,6 +254,7 @@ class Machine:
         task = self.tasks.get(pid)
         if (task and task.place) or not self.charge(processor):
             return False
+        self.changes(processor)
         task = self.tasks.setdefault(pid, Task(pid, 0, 0, None, 0))
         task.nice, task.cpu = self.nice(), processor.number
         self.counts[b"births"] += 1
@@ -253,6 +270,7 @@ class Machine:
         too_far = abs(task.virtual + destination.floor - origin.floor) > MOST_VIRTUAL - MARGIN
         if origin is destination or too_far or not self.charge(origin, destination):
             return False
+        self.changes(origin)
         task.virtual += destination.floor - origin.floor
         task.cpu = destination.number
         self.counts[b"migrations"] += 1

@@ -11,7 +11,8 @@ NO_REPORT = 3, b"", b"sched_audit: cannot write the report\n"
 NO_MEMORY = 4, b"", b"sched_audit: out of memory\n"
 
 # One processor from 100 s on: task 101 runs, and 102 waits.
-BEGINNING = b"cfs-companion 1\ncpus 1\nstart 100.000000\nfloor 0 0\n"
+ONE_PROCESSOR = b"cpus 1\nstart 100.000000\nfloor 0 0\n"
+BEGINNING, SECOND_BEGINNING = b"cfs-companion 1\n" + ONE_PROCESSOR, b"cfs-companion 2\n" + ONE_PROCESSOR
 COMPANION = BEGINNING + b"task 101 0 0 run 0\ntask 102 0 0 wait 0\n"
 
 
@@ -43,8 +44,8 @@ def head(microseconds):
     return b"            name-1       [000] d..2. %5d.%06d: " % (100 + microseconds // 10**6, microseconds % 10**6)
 
 
-def wakeup(microseconds, pid):
-    return head(microseconds) + b"sched_wakeup: comm=name pid=%d prio=120 target_cpu=000\n" % pid
+def wakeup(microseconds, pid, prio=120):
+    return head(microseconds) + b"sched_wakeup: comm=name pid=%d prio=%d target_cpu=000\n" % (pid, prio)
 
 
 def birth(microseconds, pid):

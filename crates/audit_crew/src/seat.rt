@@ -1,11 +1,10 @@
-ghost use Rattle.std.specs.Prelude.{◌≡◌, ◌+◌, ◌<◌, ◌≤◌, false, None, [], if◌then◌else◌, IfOk, OnOk};
-ghost use Rattle.sched_record.specs.Record.{record_view};
+ghost use Rattle.std.specs.Prelude.{◌≡◌, ◌+◌, ◌≤◌, false, None, [], if◌then◌else◌, IfOk, OnOk};
 
 use crate::desk::Desk;
 use crate::shared_book::SharedBook;
 use crate::{AuditorFault, Gate, Shelf, auditor};
 use cfs_model::{Knobs, Memory};
-use sched_record::Record;
+use sched_record::Stream;
 use std::alloc::Global;
 use std::sync::ledger::{Ledger, Share};
 use std::sync::{Mutex, Wait};
@@ -13,9 +12,11 @@ use std::sync::{Mutex, Wait};
 /// The number of steps that an auditor of the crew makes from one entry of the gate to the next.
 const STRETCH: u64 = 4096;
 
-/// One processor's seat: what its auditor brings back to the caller.
+/// One processor's seat: what its auditor begins with, and what it brings back to the caller.
 #[derive(Drop)]
 pub(crate) struct Seat<L: Ledger> {
+    /// Its stream, until the auditor takes it.
+    stream: Option<Stream>,
     share: Share<L>,
     /// Whether its page was accepted.
     posted: bool,
@@ -27,39 +28,41 @@ pub(crate) struct Seat<L: Ledger> {
 
 impl<L: Ledger> Seat<L> {
     /// The seat of an auditor that hasn't begun.
-    pub(crate) fn new(share: Share<L>) -> Seat<L>
+    pub(crate) fn new(stream: Stream, share: Share<L>) -> Seat<L>
         requires part { share.parts ≡ 1 }
         requires none { share.amount ≡ 0 }
         ensures { result.posted ≡ false }
     {
         Seat {
+            stream: Some(stream),
             share,
             posted: false,
             memory: false,
         }
     }
 
-    /// Deals the stream of a processor of the record, and runs its auditor over the shared book.
+    /// Runs its auditor over the shared book.
     pub(crate) fn audit<R: Wait, G: Gate>(
         &mut self,
         rt: &R,
         alloc: Global,
         shared: &Mutex<SharedBook<L>>,
-        joined: &Record,
-        cpu: u32,
         knobs: Knobs,
         gate: &G,
     )
-        requires cpu { cpu < (record_view joined.now).cpus }
         requires free { self.old.posted ≡ false }
     {
         let Seat {
+            stream,
             share,
             posted,
             memory,
         } = self;
+        let Some(stream) = stream.take() else {
+            return;
+        };
         let mut desk = Desk::new(rt, shared, share.split_off(1, 0));
-        let answer = deal_and_audit(alloc, &mut desk, joined, cpu, knobs, gate);
+        let answer = audit_stream(alloc, &mut desk, stream, knobs, gate);
         let (back, accepted) = desk.leave();
         share.merge(back);
         *posted = accepted;
@@ -76,6 +79,7 @@ impl<L: Ledger> Seat<L> {
             share,
             posted,
             memory,
+            ..
         } = self;
         if memory {
             return Err(Memory);
@@ -85,20 +89,17 @@ impl<L: Ledger> Seat<L> {
     }
 }
 
-/// Deals the stream of a processor, and runs its auditor. A page that comes back is left to the book's closing.
-fn deal_and_audit<S: Shelf, G: Gate>(
+/// Runs the auditor of a stream. A page that comes back is left to the book's closing.
+fn audit_stream<S: Shelf, G: Gate>(
     alloc: Global,
     shelf: &mut S,
-    joined: &Record,
-    cpu: u32,
+    stream: Stream,
     knobs: Knobs,
     gate: &G,
 ) -> Result<(), Memory>
-    requires cpu { cpu < (record_view joined.now).cpus }
     requires accepted { S.accepted shelf.old ≡ [] }
     requires refused { S.refused shelf.old ≡ None }
 {
-    let stream = joined.deal(cpu)?;
     match auditor(alloc, shelf, gate, stream, knobs, STRETCH) {
         Ok(()) => Ok(()),
         Err(AuditorFault::Refused(_page, _fault)) => Ok(()),

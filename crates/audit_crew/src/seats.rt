@@ -1,4 +1,4 @@
-//! The seats of a crew: made, filled by the auditors of all processors at once, and gathered.
+//! The seats of a crew: dealt to all processors at once, filled by the auditors of all of them at once, and gathered.
 ghost use Rattle.std.specs.Prelude.{◌≡◌, ◌+◌, ◌<◌, ◌≤◌, false, length, vec_len, All, IfOk, OnOk};
 ghost use Rattle.sched_record.specs.Record.{record_view};
 
@@ -6,29 +6,47 @@ use crate::Gate;
 use crate::seat::Seat;
 use crate::shared_book::SharedBook;
 use cfs_model::{Knobs, Memory};
-use sched_record::Record;
+use sched_record::{Record, Stream};
 use std::alloc::Global;
 use std::sync::ledger::{Ledger, Share};
 use std::sync::{Mutex, Wait};
 use std::thread;
 use std::thread::Threads;
 
-/// A free seat for each of so many processors, each with one part of the ledger.
+/// The streams of all processors of a record, dealt at once.
+pub(crate) fn deal_all<R: Threads + Sync>(
+    rt: &R,
+    alloc: Global,
+    joined: &Record,
+) -> Result<Vec<Result<Stream, Memory>>, Memory>
+    ensures { IfOk result (λ streams. vec_len streams ≡ (record_view joined.now).cpus) }
+{
+    Ok(thread::map_indices(
+        rt,
+        alloc,
+        joined.cpus() as usize,
+        &|cpu: usize| -> Result<Stream, Memory>
+            requires { cpu < (record_view joined.now).cpus }
+        { joined.deal(cpu as u32) },
+    )?)
+}
+
+/// A free seat for each stream that was dealt, with one part of the ledger.
 pub(crate) fn seats_of<L: Ledger>(
     alloc: Global,
     all: &mut Share<L>,
-    cpus: u32,
+    streams: Vec<Result<Stream, Memory>>,
 ) -> Result<Vec<Seat<L>>, Memory>
-    requires parts { all.old.parts ≡ cpus }
+    requires parts { all.old.parts ≡ vec_len streams }
     requires none { all.old.amount ≡ 0 }
-    ensures count { IfOk result (λ seats. vec_len seats ≡ cpus) }
+    ensures count { IfOk result (λ seats. vec_len seats ≡ vec_len streams) }
     ensures free { IfOk result (λ seats. All (λ seat. seat.posted ≡ false) seats.items) }
     ensures rest { OnOk result (all.new.parts ≡ 0) }
     ensures none { OnOk result (all.new.amount ≡ 0) }
 {
-    let mut seats = Vec::with_capacity(alloc, cpus as usize)?;
-    for _cpu in 0..cpus {
-        seats.push(Seat::new(all.split_off(1, 0)))?;
+    let mut seats = Vec::with_capacity(alloc, streams.len())?;
+    for stream in streams {
+        seats.push(Seat::new(stream?, all.split_off(1, 0)))?;
     }
     Ok(seats)
 }
@@ -39,11 +57,10 @@ pub(crate) fn audit_all<L: Ledger + Send + Sync, R: Threads + Wait + Sync, G: Ga
     alloc: Global,
     seats: &mut [Seat<L>],
     shared: &Mutex<SharedBook<L>>,
-    joined: &Record,
     knobs: Knobs,
     gate: &G,
 )
-    requires one_each { length seats.old ≡ (record_view joined.now).cpus }
+    requires some { 0 < length seats.old }
     requires free { All (λ seat. seat.posted ≡ false) seats.old }
 {
     let threads = seats.len();
@@ -51,9 +68,9 @@ pub(crate) fn audit_all<L: Ledger + Send + Sync, R: Threads + Wait + Sync, G: Ga
         rt,
         seats,
         threads,
-        &|cpu: usize, seat: &mut Seat<L>|
-            requires { (cpu < (record_view joined.now).cpus) × (seat.old.posted ≡ false) }
-        { seat.audit(rt, alloc, shared, joined, cpu as u32, knobs, gate) },
+        &|_cpu: usize, seat: &mut Seat<L>|
+            requires { seat.old.posted ≡ false }
+        { seat.audit(rt, alloc, shared, knobs, gate) },
     );
 }
 

@@ -5,7 +5,7 @@ ghost use Rattle.sched_record.specs.Record.{record_view};
 ghost use Rattle.ticket_book.specs.BookView.{book_view};
 ghost use Rattle.ticket_book.specs.Verdict.{IsVerdict};
 
-use crate::seats::{audit_all, gather, seats_of};
+use crate::seats::{audit_all, deal_all, gather, seats_of};
 use crate::shared_book::SharedBook;
 use crate::{Gate, Gathered};
 use cfs_model::{Knobs, Memory};
@@ -32,8 +32,10 @@ pub fn audit<R: Threads + Wait + Sync, G: Gate>(
         .close(joined, knobs)
 }
 
-/// Audits each processor of a record in a thread of its own, all at once, and gathers their pages in one book. Where a
-/// thread can't be started its auditor runs in another, after that one's own.
+/// Audits each processor of a record in a thread of its own, all at once, and gathers their pages in one book. All streams
+/// are dealt, at once too, before the first auditor begins: else one whose stream is dealt early would replay most of it
+/// before another, whose stream begins with a fault, could tell of that. Where a thread can't be started its auditor runs in
+/// another, after that one's own.
 pub fn crew<R: Threads + Wait + Sync, G: Gate>(
     rt: &R,
     alloc: Global,
@@ -63,17 +65,9 @@ fn crew_of<L: Ledger + Send + Sync, R: Threads + Wait + Sync, G: Gate>(
 {
     let cpus = joined.cpus();
     let (posts, mut all) = blank.open::<L>();
-    let mut seats = seats_of(alloc, &mut all, cpus)?;
+    let mut seats = seats_of(alloc, &mut all, deal_all(rt, alloc, joined)?)?;
     let shared = Mutex::new(SharedBook::new(Book::new(alloc, cpus)?, posts));
-    audit_all(
-        rt,
-        alloc,
-        seats.as_mut_slice(),
-        &shared,
-        joined,
-        knobs,
-        gate,
-    );
+    audit_all(rt, alloc, seats.as_mut_slice(), &shared, knobs, gate);
     let posted = gather(seats, &mut all)?;
     Ok(shared.into_inner().gathered(all, posted))
 }

@@ -1,2 +1,4 @@
+mod InTurn
 mod Pages
 mod Reached
+mod Remaking

@@ -3,15 +3,15 @@ ghost use Rattle.std.specs.Option.{option_to_list};
 ghost use Rattle.audit_crew.specs.Tags.{tag_of};
 
 use crate::Shelf;
-use crate::shared_book::SharedBook;
+use crate::shared_book::{CrewLedger, SharedBook};
 use queue_replay::{Page, Tag};
-use std::sync::ledger::{Ledger, Share};
+use std::sync::ledger::Share;
 use std::sync::{Mutex, Wait};
 use ticket_book::{NO_FAULT, PostFault};
 
 /// One auditor's shelf: the shared book, which is locked within one call alone, and what the auditor did there.
 #[derive(Drop)]
-pub(crate) struct Desk<'b, L: Ledger, R: Wait> {
+pub(crate) struct Desk<'b, L: CrewLedger, R: Wait> {
     rt: &'b R,
     shared: &'b Mutex<SharedBook<L>>,
     share: Share<L>,
@@ -22,7 +22,7 @@ pub(crate) struct Desk<'b, L: Ledger, R: Wait> {
     ghost counted: { share.amount ≡ length (option_to_list posted) },
 }
 
-impl<'b, L: Ledger, R: Wait> Desk<'b, L, R> {
+impl<'b, L: CrewLedger, R: Wait> Desk<'b, L, R> {
     /// The desk of an auditor that has posted nothing.
     pub(crate) fn new(
         rt: &'b R,
@@ -54,7 +54,7 @@ impl<'b, L: Ledger, R: Wait> Desk<'b, L, R> {
     }
 }
 
-impl<L: Ledger, R: Wait> Shelf for Desk<'_, L, R> {
+impl<L: CrewLedger, R: Wait> Shelf for Desk<'_, L, R> {
     ghost accepted = { λ desk. option_to_list desk.posted };
 
     ghost told = { λ desk. desk.told };

@@ -13,6 +13,7 @@ mod serial;
 mod shared_book;
 mod shelf;
 mod threads;
+mod underway;
 
 pub use auditing::auditor;
 pub use auditor_fault::AuditorFault;

@@ -1,22 +1,24 @@
-ghost use Rattle.std.specs.Prelude.{◌≡◌, ◌+◌, ◌≤◌, false, None, [], if◌then◌else◌, IfOk, OnOk};
+ghost use Rattle.std.specs.Prelude.{◌≡◌, ◌+◌, ◌<◌, ◌≤◌, false, None, IsSome, if◌then◌else◌, IfOk, OnOk};
+ghost use Rattle.sched_record.specs.Record.{record_view};
 
 use crate::desk::Desk;
-use crate::shared_book::SharedBook;
-use crate::{AuditorFault, Gate, Shelf, auditor};
+use crate::shared_book::{CrewLedger, SharedBook};
+use crate::underway::Underway;
+use crate::{AuditorFault, Gate};
 use cfs_model::{Knobs, Memory};
-use sched_record::Stream;
+use sched_record::Record;
 use std::alloc::Global;
-use std::sync::ledger::{Ledger, Share};
+use std::sync::ledger::Share;
 use std::sync::{Mutex, Wait};
 
 /// The number of steps that an auditor of the crew makes from one entry of the gate to the next.
 const STRETCH: u64 = 4096;
 
-/// One processor's seat: what its auditor begins with, and what it brings back to the caller.
+/// One processor's seat: its auditor between two stretches, and what that brings back to the caller.
 #[derive(Drop)]
-pub(crate) struct Seat<L: Ledger> {
-    /// Its stream, until the auditor takes it.
-    stream: Option<Stream>,
+pub(crate) struct Seat<L: CrewLedger> {
+    /// Where it made its first stretch, and has to go on.
+    underway: Option<Underway>,
     share: Share<L>,
     /// Whether its page was accepted.
     posted: bool,
@@ -24,49 +26,83 @@ pub(crate) struct Seat<L: Ledger> {
     memory: bool,
     ghost part: { share.parts ≡ 1 },
     ghost counted: { share.amount ≡ (if posted then 1 else 0) },
+    ghost free: { IsSome underway → posted ≡ false },
 }
 
-impl<L: Ledger> Seat<L> {
+impl<L: CrewLedger> Seat<L> {
     /// The seat of an auditor that hasn't begun.
-    pub(crate) fn new(stream: Stream, share: Share<L>) -> Seat<L>
+    pub(crate) fn new(share: Share<L>) -> Seat<L>
         requires part { share.parts ≡ 1 }
         requires none { share.amount ≡ 0 }
-        ensures { result.posted ≡ false }
+        ensures free { result.posted ≡ false }
+        ensures idle { result.underway ≡ None }
     {
         Seat {
-            stream: Some(stream),
+            underway: None,
             share,
             posted: false,
             memory: false,
         }
     }
 
-    /// Runs its auditor over the shared book.
-    pub(crate) fn audit<R: Wait, G: Gate>(
+    /// Deals the stream of a processor of the record, and runs its auditor for one stretch, or to its end where no step is
+    /// left then.
+    pub(crate) fn begin<R: Wait, G: Gate>(
         &mut self,
         rt: &R,
         alloc: Global,
         shared: &Mutex<SharedBook<L>>,
+        joined: &Record,
+        cpu: u32,
         knobs: Knobs,
         gate: &G,
     )
+        requires cpu { cpu < (record_view joined.now).cpus }
         requires free { self.old.posted ≡ false }
+        requires idle { self.old.underway ≡ None }
+    {
+        match deal_and_begin(alloc, joined, cpu, knobs, gate) {
+            Ok(begun) if begun.is_going() => self.underway = Some(begun),
+            Ok(begun) => self.finish(rt, shared, begun, gate),
+            Err(Memory) => self.memory = true,
+        }
+    }
+
+    /// Runs its auditor to its end, where it hasn't come to that.
+    pub(crate) fn end<R: Wait, G: Gate>(
+        &mut self,
+        rt: &R,
+        shared: &Mutex<SharedBook<L>>,
+        gate: &G,
+    ) {
+        if let Some(begun) = self.underway.take() {
+            self.finish(rt, shared, begun, gate);
+        }
+    }
+
+    /// Runs an auditor to its end over the shared book. A page that comes back is left to the book's closing.
+    fn finish<R: Wait, G: Gate>(
+        &mut self,
+        rt: &R,
+        shared: &Mutex<SharedBook<L>>,
+        begun: Underway,
+        gate: &G,
+    )
+        requires free { self.old.posted ≡ false }
+        requires idle { self.old.underway ≡ None }
     {
         let Seat {
-            stream,
             share,
             posted,
             memory,
+            ..
         } = self;
-        let Some(stream) = stream.take() else {
-            return;
-        };
         let mut desk = Desk::new(rt, shared, share.split_off(1, 0));
-        let answer = audit_stream(alloc, &mut desk, stream, knobs, gate);
+        let answer = begun.end(&mut desk, gate, STRETCH);
         let (back, accepted) = desk.leave();
         share.merge(back);
         *posted = accepted;
-        *memory = answer.is_err();
+        *memory = matches!(answer, Err(AuditorFault::Memory));
     }
 
     /// Gives its share of the ledger back, and tells how many pages it posted.
@@ -89,20 +125,16 @@ impl<L: Ledger> Seat<L> {
     }
 }
 
-/// Runs the auditor of a stream. A page that comes back is left to the book's closing.
-fn audit_stream<S: Shelf, G: Gate>(
+/// Deals the stream of a processor, and makes the first stretch of its auditor.
+fn deal_and_begin<G: Gate>(
     alloc: Global,
-    shelf: &mut S,
-    stream: Stream,
+    joined: &Record,
+    cpu: u32,
     knobs: Knobs,
     gate: &G,
-) -> Result<(), Memory>
-    requires accepted { S.accepted shelf.old ≡ [] }
-    requires refused { S.refused shelf.old ≡ None }
+) -> Result<Underway, Memory>
+    requires { cpu < (record_view joined.now).cpus }
 {
-    match auditor(alloc, shelf, gate, stream, knobs, STRETCH) {
-        Ok(()) => Ok(()),
-        Err(AuditorFault::Refused(_page, _fault)) => Ok(()),
-        Err(AuditorFault::Memory) => Err(Memory),
-    }
+    let stream = joined.deal(cpu)?;
+    Underway::begin(alloc, gate, stream, knobs, STRETCH)
 }

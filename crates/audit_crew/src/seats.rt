@@ -1,81 +1,84 @@
-//! The seats of a crew: dealt to all processors at once, filled by the auditors of all of them at once, and gathered.
-ghost use Rattle.std.specs.Prelude.{◌≡◌, ◌+◌, ◌<◌, ◌≤◌, false, length, vec_len, All, IfOk, OnOk};
+//! The seats of a crew: made, filled by the auditors of all processors at once, and gathered.
+ghost use Rattle.std.specs.Prelude.{◌≡◌, ◌+◌, ◌<◌, ◌≤◌, false, None, length, vec_len, All, IfOk, OnOk};
 ghost use Rattle.sched_record.specs.Record.{record_view};
 
 use crate::Gate;
 use crate::seat::Seat;
-use crate::shared_book::SharedBook;
+use crate::shared_book::{CrewLedger, SharedBook};
 use cfs_model::{Knobs, Memory};
-use sched_record::{Record, Stream};
+use sched_record::Record;
 use std::alloc::Global;
-use std::sync::ledger::{Ledger, Share};
+use std::sync::ledger::Share;
 use std::sync::{Mutex, Wait};
 use std::thread;
 use std::thread::Threads;
 
-/// The streams of all processors of a record, dealt at once.
-pub(crate) fn deal_all<R: Threads + Sync>(
-    rt: &R,
-    alloc: Global,
-    joined: &Record,
-) -> Result<Vec<Result<Stream, Memory>>, Memory>
-    ensures { IfOk result (λ streams. vec_len streams ≡ (record_view joined.now).cpus) }
-{
-    Ok(thread::map_indices(
-        rt,
-        alloc,
-        joined.cpus() as usize,
-        &|cpu: usize| -> Result<Stream, Memory>
-            requires { cpu < (record_view joined.now).cpus }
-        { joined.deal(cpu as u32) },
-    )?)
-}
-
-/// A free seat for each stream that was dealt, with one part of the ledger.
-pub(crate) fn seats_of<L: Ledger>(
+/// A free seat for each of so many processors, each with one part of the ledger.
+pub(crate) fn seats_of<L: CrewLedger>(
     alloc: Global,
     all: &mut Share<L>,
-    streams: Vec<Result<Stream, Memory>>,
+    cpus: u32,
 ) -> Result<Vec<Seat<L>>, Memory>
-    requires parts { all.old.parts ≡ vec_len streams }
+    requires parts { all.old.parts ≡ cpus }
     requires none { all.old.amount ≡ 0 }
-    ensures count { IfOk result (λ seats. vec_len seats ≡ vec_len streams) }
+    ensures count { IfOk result (λ seats. vec_len seats ≡ cpus) }
     ensures free { IfOk result (λ seats. All (λ seat. seat.posted ≡ false) seats.items) }
+    ensures idle { IfOk result (λ seats. All (λ seat. seat.underway ≡ None) seats.items) }
     ensures rest { OnOk result (all.new.parts ≡ 0) }
     ensures none { OnOk result (all.new.amount ≡ 0) }
 {
-    let mut seats = Vec::with_capacity(alloc, streams.len())?;
-    for stream in streams {
-        seats.push(Seat::new(stream?, all.split_off(1, 0)))?;
+    let mut seats = Vec::with_capacity(alloc, cpus as usize)?;
+    for _cpu in 0..cpus {
+        seats.push(Seat::new(all.split_off(1, 0)))?;
     }
     Ok(seats)
 }
 
-/// Runs the auditors of all seats at once, and waits for their ends.
-pub(crate) fn audit_all<L: Ledger + Send + Sync, R: Threads + Wait + Sync, G: Gate>(
+/// Makes the first stretch of the auditors of all seats at once, and waits for its end at each.
+pub(crate) fn begin_all<L: CrewLedger + Send + Sync, R: Threads + Wait + Sync, G: Gate>(
     rt: &R,
     alloc: Global,
     seats: &mut [Seat<L>],
     shared: &Mutex<SharedBook<L>>,
+    joined: &Record,
     knobs: Knobs,
     gate: &G,
 )
-    requires some { 0 < length seats.old }
+    requires one_each { length seats.old ≡ (record_view joined.now).cpus }
     requires free { All (λ seat. seat.posted ≡ false) seats.old }
+    requires idle { All (λ seat. seat.underway ≡ None) seats.old }
 {
     let threads = seats.len();
     thread::for_each_mut(
         rt,
         seats,
         threads,
-        &|_cpu: usize, seat: &mut Seat<L>|
-            requires { seat.old.posted ≡ false }
-        { seat.audit(rt, alloc, shared, knobs, gate) },
+        &|cpu: usize, seat: &mut Seat<L>|
+            requires { (cpu < (record_view joined.now).cpus) × (seat.old.posted ≡ false) × (seat.old.underway ≡ None) }
+        { seat.begin(rt, alloc, shared, joined, cpu as u32, knobs, gate) },
+    );
+}
+
+/// Runs the auditors of all seats to their ends, at once, and waits for these.
+pub(crate) fn end_all<L: CrewLedger + Send + Sync, R: Threads + Wait + Sync, G: Gate>(
+    rt: &R,
+    seats: &mut [Seat<L>],
+    shared: &Mutex<SharedBook<L>>,
+    gate: &G,
+)
+    requires { 0 < length seats.old }
+{
+    let threads = seats.len();
+    thread::for_each_mut(
+        rt,
+        seats,
+        threads,
+        &|_cpu: usize, seat: &mut Seat<L>| { seat.end(rt, shared, gate) },
     );
 }
 
 /// Merges the shares of all seats, and counts their posts.
-pub(crate) fn gather<L: Ledger>(seats: Vec<Seat<L>>, all: &mut Share<L>) -> Result<u32, Memory>
+pub(crate) fn gather<L: CrewLedger>(seats: Vec<Seat<L>>, all: &mut Share<L>) -> Result<u32, Memory>
     requires few { vec_len seats ≤ 64 }
     requires none { all.old.amount ≡ 0 }
     ensures parts { OnOk result (all.new.parts ≡ all.old.parts + vec_len seats) }

@@ -1,4 +1,4 @@
-ghost use Rattle.std.specs.Prelude.{IfOk};
+ghost use Rattle.std.specs.Prelude.{◌≡◌, IfOk};
 ghost use Rattle.sched_record.specs.Record.{record_view};
 ghost use Rattle.ticket_book.specs.Verdict.{IsVerdict};
 
@@ -8,14 +8,15 @@ use std::alloc::Global;
 use ticket_book::{Book, Closed, whole_page};
 
 /// The audit of a record by one thread: each processor's stream is replayed in turn, its page posted, and the book
-/// closed.
+/// closed. Each suffices, so that none is made again.
 pub fn audit_serial(alloc: Global, joined: &Record, knobs: Knobs) -> Result<Closed, Memory>
-    ensures { IfOk result (λ closed. IsVerdict knobs (record_view joined.now) closed.verdict) }
+    ensures verdict { IfOk result (λ closed. IsVerdict knobs (record_view joined.now) closed.verdict) }
+    ensures nothing_remade { IfOk result (λ closed. closed.remade ≡ 0) }
 {
     let mut book = Book::new(alloc, joined.cpus())?;
     for cpu in 0..joined.cpus() {
         let page = whole_page(alloc, joined, cpu, knobs)?;
-        // What the book doesn't take is made again at its closing.
+        // The book takes it: each of the record's processors has a place there, and this one's is empty.
         let _told = book.post(page);
     }
     book.close(joined, knobs)

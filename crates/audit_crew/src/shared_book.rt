@@ -1,25 +1,37 @@
-ghost use Rattle.std.specs.Prelude.{◌≡◌, ◌+◌, ◌<◌, [], IfErr, OnOk, OnErr};
+ghost use Rattle.std.specs.Prelude.{◌≡◌, ℕ, ◌+◌, ◌<◌, [], length, IfErr, OnOk, OnErr};
 ghost use Rattle.audit_crew.specs.Filled.{filled};
 ghost use Rattle.ticket_book.specs.BookView.{book_view};
 
 use crate::Gathered;
 use queue_replay::Page;
+use std::marker::Brand;
 use std::sync::ledger;
 use std::sync::ledger::{Ledger, Share};
 use ticket_book::{Book, PostFault};
 
+/// Which ledger counts a crew's posts, and in a book of how many places.
+pub(crate) trait CrewLedger: Ledger {
+    ghost places: { ℕ };
+}
+
+impl CrewLedger for Brand {
+    ghost places = { 0 };
+}
+
 /// What the auditors share under their one lock: the book, and the ledger of the posts that it accepted.
 #[derive(Drop)]
-pub(crate) struct SharedBook<L: Ledger> {
+pub(crate) struct SharedBook<L: CrewLedger> {
     book: Book,
     posts: ledger::Book<L>,
+    ghost places: { length (book_view book) ≡ L.places },
     ghost counted: { filled (book_view book) ≡ posts.total },
 }
 
-impl<L: Ledger> SharedBook<L> {
+impl<L: CrewLedger> SharedBook<L> {
     /// A book without pages, and its ledger without posts.
     pub(crate) fn new(book: Book, posts: ledger::Book<L>) -> SharedBook<L>
-        requires { filled (book_view book) ≡ posts.total }
+        requires places { length (book_view book) ≡ L.places }
+        requires counted { filled (book_view book) ≡ posts.total }
     {
         SharedBook { book, posts }
     }
@@ -46,11 +58,13 @@ impl<L: Ledger> SharedBook<L> {
     pub(crate) fn least(&self) -> u64 {
         self.book.least()
     }
+
     /// What a crew gathered: the book, and the number of its posts, for who has all shares of the ledger again.
     pub(crate) fn gathered(self, mut all: Share<L>, posted: u32) -> Gathered
         requires whole { all.parts ≡ L.parts }
         requires posted { all.amount ≡ posted }
-        ensures { filled (book_view result.book) ≡ result.posted }
+        ensures places { length (book_view result.book) ≡ L.places }
+        ensures pages { filled (book_view result.book) ≡ result.posted }
     {
         let SharedBook { book, mut posts } = self;
         posts.audit(&mut all);

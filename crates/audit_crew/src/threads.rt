@@ -1,18 +1,18 @@
 //! The audit of a record by threads, one for each of its processors.
-ghost use Rattle.std.specs.Prelude.{◌≡◌, IfOk};
+ghost use Rattle.std.specs.Prelude.{◌≡◌, ◌≤◌, length, IfOk};
 ghost use Rattle.audit_crew.specs.Filled.{filled};
 ghost use Rattle.sched_record.specs.Record.{record_view};
 ghost use Rattle.ticket_book.specs.BookView.{book_view};
 ghost use Rattle.ticket_book.specs.Verdict.{IsVerdict};
 
-use crate::seats::{audit_all, deal_all, gather, seats_of};
-use crate::shared_book::SharedBook;
+use crate::seats::{begin_all, end_all, gather, seats_of};
+use crate::shared_book::{CrewLedger, SharedBook};
 use crate::{Gate, Gathered};
 use cfs_model::{Knobs, Memory};
 use sched_record::Record;
 use std::alloc::Global;
 use std::marker::Brand;
-use std::sync::ledger::{Blank, Ledger};
+use std::sync::ledger::Blank;
 use std::sync::{Mutex, Wait};
 use std::thread::Threads;
 use ticket_book::{Book, Closed};
@@ -25,17 +25,18 @@ pub fn audit<R: Threads + Wait + Sync, G: Gate>(
     knobs: Knobs,
     gate: &G,
 ) -> Result<Closed, Memory>
-    ensures { IfOk result (λ closed. IsVerdict knobs (record_view joined.now) closed.verdict) }
+    ensures verdict { IfOk result (λ closed. IsVerdict knobs (record_view joined.now) closed.verdict) }
+    ensures remade { IfOk result (λ closed. closed.remade ≤ (record_view joined.now).cpus) }
 {
     crew(rt, alloc, joined, knobs, gate)?
         .book
         .close(joined, knobs)
 }
 
-/// Audits each processor of a record in a thread of its own, all at once, and gathers their pages in one book. All streams
-/// are dealt, at once too, before the first auditor begins: else one whose stream is dealt early would replay most of it
-/// before another, whose stream begins with a fault, could tell of that. Where a thread can't be started its auditor runs in
-/// another, after that one's own.
+/// Audits each processor of a record in a thread of its own, all at once, and gathers their pages in one book. No auditor
+/// makes a second stretch before each has made its first: else one whose stream is dealt early would replay most of it
+/// before another could tell of a fault near the beginning. Where a thread can't be started its auditor runs in another,
+/// after that one's own.
 pub fn crew<R: Threads + Wait + Sync, G: Gate>(
     rt: &R,
     alloc: Global,
@@ -43,6 +44,7 @@ pub fn crew<R: Threads + Wait + Sync, G: Gate>(
     knobs: Knobs,
     gate: &G,
 ) -> Result<Gathered, Memory>
+    ensures places { IfOk result (λ gathered. length (book_view gathered.book) ≡ (record_view joined.now).cpus) }
     ensures pages { IfOk result (λ gathered. filled (book_view gathered.book) ≡ gathered.posted) }
 {
     let blank = Blank::new(u64::from(joined.cpus()));
@@ -50,7 +52,7 @@ pub fn crew<R: Threads + Wait + Sync, G: Gate>(
 }
 
 /// The crew, whose accepted posts this ledger counts.
-fn crew_of<L: Ledger + Send + Sync, R: Threads + Wait + Sync, G: Gate>(
+fn crew_of<L: CrewLedger + Send + Sync, R: Threads + Wait + Sync, G: Gate>(
     rt: &R,
     alloc: Global,
     blank: Blank,
@@ -61,13 +63,24 @@ fn crew_of<L: Ledger + Send + Sync, R: Threads + Wait + Sync, G: Gate>(
     requires name { blank.name ≡ L.name }
     requires parts { blank.parts ≡ L.parts }
     requires one_each { blank.parts ≡ (record_view joined.now).cpus }
-    ensures { IfOk result (λ gathered. filled (book_view gathered.book) ≡ gathered.posted) }
+    requires places { L.places ≡ (record_view joined.now).cpus }
+    ensures places { IfOk result (λ gathered. length (book_view gathered.book) ≡ L.places) }
+    ensures pages { IfOk result (λ gathered. filled (book_view gathered.book) ≡ gathered.posted) }
 {
     let cpus = joined.cpus();
     let (posts, mut all) = blank.open::<L>();
-    let mut seats = seats_of(alloc, &mut all, deal_all(rt, alloc, joined)?)?;
+    let mut seats = seats_of(alloc, &mut all, cpus)?;
     let shared = Mutex::new(SharedBook::new(Book::new(alloc, cpus)?, posts));
-    audit_all(rt, alloc, seats.as_mut_slice(), &shared, knobs, gate);
+    begin_all(
+        rt,
+        alloc,
+        seats.as_mut_slice(),
+        &shared,
+        joined,
+        knobs,
+        gate,
+    );
+    end_all(rt, seats.as_mut_slice(), &shared, gate);
     let posted = gather(seats, &mut all)?;
     Ok(shared.into_inner().gathered(all, posted))
 }

@@ -227,7 +227,8 @@ module _ (knobs : Settings) (r : RecordView) (core : Core) (k : KeepsCore knobs 
         enough = reaches page.page.fault page.page.line page.made (length page.stream.steps) kept.far;
       }
 
-none_remade : (knobs : Settings) (r : RecordView) (places : List (Option ReplayView)) (cpus count : ℕ)
+-- where each page suffices none is made again
+pub none_remade : (knobs : Settings) (r : RecordView) (places : List (Option ReplayView)) (cpus count : ℕ)
     → ((cpu : ℕ) → cpu < cpus → Suffices knobs r places cpu (page_at places cpu))
     → AreRemadeBelow knobs r places cpus count → count ≡ 0
 none_remade knobs r places zero count all h = h

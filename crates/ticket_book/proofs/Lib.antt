@@ -1,12 +1,12 @@
 mod Adding
-mod CoreKept
+pub mod CoreKept
 mod Cursors
 mod Deadlines
 mod Extent
 pub mod FewBelow
 mod StreamsFollowed
 mod Framed
-mod Gathering
+pub mod Gathering
 mod LeastFaults
 mod Living
 mod Naming

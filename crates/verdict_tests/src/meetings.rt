@@ -180,3 +180,36 @@ fn ten_thousand_wakeups_are_a_run(rt: HostRuntime) -> Result<(), Fail> {
     }
     Ok(())
 }
+
+/// At line 1 processor 0 switches away from a task that doesn't run there; then processor 1's task is woken for more than
+/// two stretches, of which its auditor makes one.
+fn fault_before_ten_thousand_wakeups(alloc: Global) -> Result<Meeting, Fail> {
+    let mut trace = Vec::new(alloc);
+    trace.extend_from_slice(
+        b"            t201-201     [000] d..2.   100.000000: sched_switch: prev_comm=t201 prev_pid=201 prev_prio=120 prev_state=S ==> next_comm=swapper/0 next_pid=0 next_prio=120\n",
+    )?;
+    for _ in 0..10000 {
+        trace.extend_from_slice(
+            b"            t102-102     [001] d..2.   100.000000: sched_wakeup: comm=t102 pid=102 prio=120 target_cpu=001\n",
+        )?;
+    }
+    Ok(Meeting {
+        trace,
+        companion: "cfs-companion 1\ncpus 2\nstart 100.000000\nfloor 0 0\nfloor 1 0\ntask 101 0 0 run 0\ntask 102 0 1 run 0\n",
+        entries: 2,
+    })
+}
+
+#[test]
+fn auditors_learn_of_a_fault_before_their_second_stretch(rt: HostRuntime) -> Result<(), Fail> {
+    let meeting = fault_before_ten_thousand_wakeups(rt.alloc())?;
+    let record = meeting.record(rt.alloc())?;
+    let alone = audit_serial(rt.alloc(), &record, Knobs::standard())?;
+    for _ in 0..3 {
+        let gate = Turnstile::new(&rt);
+        let closed = audit(&rt, rt.alloc(), &record, Knobs::standard(), &gate)?;
+        assert_eq!(rt; (&closed.verdict, closed.remade), (&alone.verdict, 0));
+        assert_eq!(rt; gate.entries(), (meeting.entries, meeting.entries, false));
+    }
+    Ok(())
+}

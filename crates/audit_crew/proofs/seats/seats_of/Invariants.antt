@@ -1,13 +1,12 @@
-use Rattle.std.proofs.Common.{◌≡◌, ◌+◌, false, All, length}
+use Rattle.std.proofs.Common.{◌≡◌, ◌+◌, false, None, All}
 use Rattle.std.specs.Prelude.{vec_len}
 use Rattle.audit_crew.proofs.seats.seats_of.Given as goal
 
-abbrev pub invariant-loop-stream : goal.invariant-loop-stream
-invariant-loop-stream g l = record {
-  can_next : (goal.iterator-loop-stream g).can_next l.stream-iterator;
-  is_finite : (goal.iterator-loop-stream g).is_finite l.stream-iterator;
-  parts : l.all.parts + length l.yielded ≡ l.initial.all.parts;
+abbrev pub invariant-loop-cpu : goal.invariant-loop-cpu
+invariant-loop-cpu g l = record {
+  parts : l.all.parts + l._cpu ≡ l.cpus;
   none : l.all.amount ≡ 0;
-  count : vec_len l.seats ≡ length l.yielded;
+  count : vec_len l.seats ≡ l._cpu;
   free : All (λ seat. seat.posted ≡ false) l.seats.items;
+  idle : All (λ seat. seat.underway ≡ None) l.seats.items;
 }

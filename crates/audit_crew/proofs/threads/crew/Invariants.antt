@@ -1,4 +1,7 @@
 use Rattle.audit_crew.proofs.threads.crew.Given as goal
 
-abbrev pub ghosts-crew_of : goal.ghosts-crew_of
-ghosts-crew_of g a = record { name = a.blank.name; parts = a.blank.parts }
+abbrev pub ghosts-crew_of-L-Ledger : goal.ghosts-crew_of-L-Ledger
+ghosts-crew_of-L-Ledger g a = record { name = a.blank.name; parts = a.blank.parts }
+
+abbrev pub ghosts-crew_of-L-CrewLedger : goal.ghosts-crew_of-L-CrewLedger
+ghosts-crew_of-L-CrewLedger g a = record { places = a.blank.parts }

@@ -1,7 +1,15 @@
-use Rattle.std.proofs.Common.{◌∙◌, sym, ap}
+use Rattle.std.proofs.Common.{◌∙◌, length, Option, None, sym, ap}
+use Rattle.std.proofs.lemmas.List.{length-replicate}
+use Rattle.queue_replay.specs.Replay.{ReplayView}
 use Rattle.audit_crew.specs.Filled.{filled}
 use Rattle.audit_crew.proofs.Pages.{none_filled}
 use Rattle.audit_crew.proofs.threads.crew_of.Goals as goal
 
 pub new-requires-2 : goal.new-requires-2
-new-requires-2 g c = ap filled c.in_ok-new.ensures ∙ none_filled c.cpus-cpus.result ∙ sym c.open-posts.ensures.total
+new-requires-2 g c =
+    let empty : Option ReplayView = None in
+    record {
+      places =
+          ap length c.in_ok-new.ensures ∙ length-replicate c.cpus-cpus.result empty ∙ c.cpus-cpus.ensures ∙ sym c.requires.places;
+      counted = ap filled c.in_ok-new.ensures ∙ none_filled c.cpus-cpus.result ∙ sym c.open-posts.ensures.total;
+    }

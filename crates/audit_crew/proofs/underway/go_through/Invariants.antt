@@ -1,5 +1,7 @@
-use Rattle.std.proofs.Common.{◌≡◌, ◌-◌, length}
-use Rattle.audit_crew.proofs.auditing.go_through.Given as goal
+use Rattle.std.proofs.Common.{◌≡◌, ◌-◌, ◌<◌, ◌≤◌, length}
+use Rattle.queue_replay.specs.Made.{state_of}
+use Rattle.queue_replay.specs.declared.state.State.TheVariants.{Going}
+use Rattle.audit_crew.proofs.underway.go_through.Given as goal
 
 abbrev pub invariant-stretches : goal.invariant-stretches
 invariant-stretches g l = record {
@@ -7,6 +9,9 @@ invariant-stretches g l = record {
   knobs : l.replay.knobs ≡ l.initial.replay.knobs;
   accepted : g.S.Shelf.accepted l.shelf ≡ g.S.Shelf.accepted l.initial.shelf;
   refused : g.S.Shelf.refused l.shelf ≡ g.S.Shelf.refused l.initial.shelf;
+  is_state : l.state ≡ state_of l.replay.page.fault l.replay.made (length l.replay.stream.steps);
+  within : l.replay.made ≤ length l.replay.stream.steps;
+  some : l.state ≡ Going → 0 < l.replay.made;
 }
 
 abbrev pub decreases-stretches : goal.decreases-stretches

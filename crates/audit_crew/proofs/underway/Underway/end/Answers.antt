@@ -1,9 +1,8 @@
 use Rattle.std.proofs.Common.{◌≡◌, ◌∙◌, sym, subst, ap}
 use Rattle.queue_replay.specs.Replay.{ReplayView}
-use Rattle.sched_record.specs.Stream.{stream_view}
 use Rattle.audit_crew.specs.Tags.{IsTagOf, IsThrough, tag_of}
 use Rattle.audit_crew.proofs.Reached.{tag_through}
-use Rattle.audit_crew.proofs.auditing.auditor.Goals as goal
+use Rattle.audit_crew.proofs.underway.Underway.end.Goals as goal
 
 pub returns-in-Ok-clause-posted : goal.returns-in-Ok-clause-posted
 returns-in-Ok-clause-posted g c =
@@ -12,14 +11,12 @@ returns-in-Ok-clause-posted g c =
     let through : IsThrough page told =
     subst (IsThrough page) (sym c.post.ensures.told)
     (subst (λ r. IsThrough r (g.S.Shelf.told c.go_through.new.shelf)) (sym c.page.ensures.same) c.in_ok-go_through.ensures.through) in
-    let stream : page.stream ≡ stream_view c.args.stream =
-    ap (λ (r : ReplayView). r.stream) c.page.ensures.same
-    ∙ c.in_ok-go_through.ensures.stream ∙ c.in_ok-replay.ensures.stream in
-    let knobs : page.knobs ≡ c.args.knobs =
-    ap (λ (r : ReplayView). r.knobs) c.page.ensures.same
-    ∙ c.in_ok-go_through.ensures.knobs ∙ c.in_ok-replay.ensures.knobs in (
+    let stream : page.stream ≡ c.args.self.replay.stream =
+    ap (λ (r : ReplayView). r.stream) c.page.ensures.same ∙ c.in_ok-go_through.ensures.stream in
+    let knobs : page.knobs ≡ c.args.self.replay.knobs =
+    ap (λ (r : ReplayView). r.knobs) c.page.ensures.same ∙ c.in_ok-go_through.ensures.knobs in (
       tag_of page,
       c.in-Ok.ensures.added,
-      subst (λ s. IsTagOf s c.args.knobs told (tag_of page)) stream
+      subst (λ s. IsTagOf s c.args.self.replay.knobs told (tag_of page)) stream
           (subst (λ k. IsTagOf page.stream k told (tag_of page)) knobs (tag_through page told c.page.ensures.is_page through)),
     )

@@ -1,0 +1,29 @@
+use Rattle.std.proofs.Common.{◌≡◌, ℕ, ◌<◌, subst, arith}
+use Rattle.std.proofs.lemmas.Result.{IfOk-weaker}
+use Rattle.sched_record.specs.Record.{record_view}
+use Rattle.ticket_book.specs.BookView.{book_view}
+use Rattle.audit_crew.proofs.InTurn.{AreFirst, nothing_remade, one_more}
+use Rattle.audit_crew.proofs.serial.audit_serial.Goals as goal
+
+pub loop-cpu-preserved : goal.loop-cpu-preserved
+loop-cpu-preserved c =
+    let r = record_view c.args.joined.now in
+    let within : c.loop-cpu.cpu < r.cpus =
+    (let below = c.loop-cpu-test.true in let end = c.cpus-cpu-end.ensures in omega (arith, below, end)) in
+    record {
+      posted =
+          one_more c.args.knobs r (book_view c.loop-cpu.book) (book_view c.post-told.new.self) c.loop-cpu.cpu
+          c.in_ok-page.page c.post-told.result c.loop-cpu.invariant.posted within c.in_ok-page.ensures
+          c.post-told.ensures.refused c.post-told.ensures.added;
+    }
+
+pub returns-clause-nothing_remade : goal.returns-clause-nothing_remade
+returns-clause-nothing_remade c =
+    let r = record_view c.args.joined.now in
+    let all : c.loop-cpu.cpu ≡ r.cpus =
+    (let not_below = c.loop-cpu-test.false in let at_most = c.loop-cpu.auto.cpu-end in let end = c.cpus-cpu-end.ensures in
+    omega (arith, not_below, at_most, end)) in
+    IfOk-weaker c.close.result _ _
+    (λ closed remade. nothing_remade c.args.knobs r (book_view c.loop-cpu.book) closed.remade
+    (subst (AreFirst c.args.knobs r (book_view c.loop-cpu.book)) all c.loop-cpu.invariant.posted) remade)
+    c.close.ensures.remade

@@ -107,6 +107,7 @@ impl Draft {
         !(is_running(task.place) && self.running[task.cpu as usize])
     }
 
+    #[inline(always)]
     fn add_task(&mut self, task: Task) -> Result<(), Refusal>
         requires { task.cpu < unwrap_or self.old.cpus 0 }
         ensures { Adds self.old (task_line task) result self.new }

@@ -105,6 +105,7 @@ fn claim_shape(text: &[u8], sort: ClaimSort) -> Option<Statement>
 }
 
 /// Version 2 alone has this one.
+#[inline(always)]
 #[tactic(auto, unfolding(crate::specs::ShapeReading::nice_shape_at))]
 fn nice_shape(version: u32, text: &[u8]) -> Option<Statement>
     ensures { Gives stated result (nice_shape_at version text.now) }

@@ -101,6 +101,7 @@ impl Draft {
         Ok(())
     }
 
+    #[inline(never)]
     fn say_nice(&mut self, line: u64, pid: u64, nice: i64) -> Result<(), Refusal>
         ensures { AddsTested self.old (nice_line (record { line = line; pid = pid; nice = nice })) result self.new }
     {

@@ -15,4 +15,5 @@ pub mod Growing
 pub mod Noting
 pub mod Faults
 pub mod Starts
+pub mod Renices
 pub mod Replays

@@ -23,19 +23,19 @@ same_page p q a b c d e f g =
     ∙ ap (λ (x : List LifeEvent). record q { deaths = x; tallies = p.tallies }) f
     ∙ ap (λ (x : List Tally). record q { tallies = x }) g
 
-left_is : (lifted : Part) (step : Step) (deed : Deed) → if_left deed (ticket_by lifted step deed) ≡ left_by lifted step deed
-left_is lifted step (Switch prev prev_nice way next next_nice) = refl
-left_is lifted step (Wake pid nice) = refl
-left_is lifted step (Born pid nice) = refl
-left_is lifted step (Leave pid nice dest) = refl
-left_is lifted step (Arrive pid nice orig) = refl
+left_is : (found : Part) (step : Step) (deed : Deed) → if_left deed (ticket_by found step deed) ≡ left_by found step deed
+left_is found step (Switch prev prev_nice way next next_nice) = refl
+left_is found step (Wake pid nice) = refl
+left_is found step (Born pid nice) = refl
+left_is found step (Leave pid nice dest) = refl
+left_is found step (Arrive pid nice orig) = refl
 
-came_is : (lifted : Part) (step : Step) (deed : Deed) → if_came deed (ticket_by lifted step deed) ≡ came_by lifted step deed
-came_is lifted step (Switch prev prev_nice way next next_nice) = refl
-came_is lifted step (Wake pid nice) = refl
-came_is lifted step (Born pid nice) = refl
-came_is lifted step (Leave pid nice dest) = refl
-came_is lifted step (Arrive pid nice orig) = refl
+came_is : (found : Part) (step : Step) (deed : Deed) → if_came deed (ticket_by found step deed) ≡ came_by found step deed
+came_is found step (Switch prev prev_nice way next next_nice) = refl
+came_is found step (Wake pid nice) = refl
+came_is found step (Born pid nice) = refl
+came_is found step (Leave pid nice dest) = refl
+came_is found step (Arrive pid nice orig) = refl
 
 -- pages that differ in their tallies alone
 pub record IsStretch (old mid : PageDraft) : Type 0 where
@@ -56,18 +56,18 @@ pub record IsNote (mid : PageDraft) (step : Step) (ticket : Option Ticket) (new 
   pub deaths : new.deaths.items ≡ mid.deaths.items ++ deaths_of step.line step.deed
   pub tallies : new.tallies.list.items ≡ tallied step.deed mid.tallies.list.items
 
-pub page_is : (old mid new : PageDraft) (part lifted : Part) (step : Step) (ticket : Option Ticket) → old.fault ≡ None
+pub page_is : (old mid new : PageDraft) (part found : Part) (step : Step) (ticket : Option Ticket) → old.fault ≡ None
     → IsStretch old mid → mid.tallies.list.items ≡ charged_tallies part step.time old.tallies.list.items
-    → ticket ≡ ticket_by lifted step step.deed → IsNote mid step ticket new
-    → page_draft_view new ≡ noted (page_draft_view old) part lifted step
-page_is old mid new part lifted step ticket none same tallies is n =
-    same_page (page_draft_view new) (noted (page_draft_view old) part lifted step)
+    → ticket ≡ ticket_by found step step.deed → IsNote mid step ticket new
+    → page_draft_view new ≡ noted (page_draft_view old) part found step
+page_is old mid new part found step ticket none same tallies is n =
+    same_page (page_draft_view new) (noted (page_draft_view old) part found step)
     n.line
     (n.fault ∙ same.fault ∙ none)
     (n.left ∙ ap (λ l. l.items ++ if_left step.deed ticket) same.left
-    ∙ ap (λ t. old.left.items ++ if_left step.deed t) is ∙ ap (λ l. old.left.items ++ l) (left_is lifted step step.deed))
+    ∙ ap (λ t. old.left.items ++ if_left step.deed t) is ∙ ap (λ l. old.left.items ++ l) (left_is found step step.deed))
     (n.came ∙ ap (λ l. l.items ++ if_came step.deed ticket) same.came
-    ∙ ap (λ t. old.came.items ++ if_came step.deed t) is ∙ ap (λ l. old.came.items ++ l) (came_is lifted step step.deed))
+    ∙ ap (λ t. old.came.items ++ if_came step.deed t) is ∙ ap (λ l. old.came.items ++ l) (came_is found step step.deed))
     (n.births ∙ ap (λ l. l.items ++ births_of step.line step.deed) same.births)
     (n.deaths ∙ ap (λ l. l.items ++ deaths_of step.line step.deed) same.deaths)
     (n.tallies ∙ ap (tallied step.deed) tallies)

@@ -29,9 +29,9 @@ page_draft_view draft = record {
 
 -- the ticket of a step, if it has one
 abbrev pub ticket_by : Part → Step → Deed → Option Ticket
-ticket_by lifted step (Leave pid nice dest) = left_ticket lifted step.line pid
-ticket_by lifted step (Arrive pid nice orig) = came_ticket lifted step.line pid nice step.claim
-ticket_by lifted step _ = None
+ticket_by found step (Leave pid nice dest) = left_ticket found step.line pid
+ticket_by found step (Arrive pid nice orig) = came_ticket found step.line pid nice step.claim
+ticket_by found step _ = None
 
 -- a ticket, if the task leaves, and if it comes
 abbrev pub if_left : Deed → Option Ticket → List Ticket

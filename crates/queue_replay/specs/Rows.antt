@@ -1,5 +1,6 @@
 -- The tests that each deed can fail, in their order: the others of the ordered list hold of no pid at that deed. What
--- becomes of a step whose processor is charged and lifted (this project's profile).
+-- becomes of a step whose processor is charged and lifted, and has the nice value that its line changes (this project's
+-- profile).
 use Rattle.std.specs.Prelude.{◌≡◌, ◌≢◌, ℕ, Option, Some, None, List, [], ◌∷◌}
 use Rattle.replay_model.specs.ClaimTests.{claimant, IsClaimMissing, IsWrongPutBack, IsWakeOutside, IsForkOutside, IsNextNotWaiting, IsIdleBesideWaiting, IsNotLeast}
 use Rattle.replay_model.specs.Deeds.{after_deed}
@@ -99,9 +100,13 @@ arrival_tests part deed claim =
     record { kind = kind.ClaimMissing; holds = IsClaimMissing part deed claim } ∷
     record { kind = kind.ClaimPid; holds = IsOfAnother (claimant part deed) claim } ∷ []
 
--- a step's deed passed its tests and made this of the part, with this ticket; or the first test that it fails
+-- a step passed its tests and its deed made this of the part, with this ticket; or the first test that it fails
 abbrev pub IsTried : Settings → ℕ → Part → Step → Part → Outcome → Type 0
 IsTried knobs cpu part step after (Made ticket) =
     NoneHolds (late_tests knobs cpu part step) × (after ≡ after_deed part step.deed step.claim)
     × (ticket ≡ ticket_by part step step.deed)
 IsTried knobs cpu part step after (Failed failed) = FirstHolds (late_tests knobs cpu part step) failed.kind failed.pid
+
+-- the same of a step's deed alone, whatever its line changes
+abbrev pub IsDeedTried : Settings → ℕ → Part → Step → Part → Outcome → Type 0
+IsDeedTried knobs cpu part step after outcome = IsTried knobs cpu part (record step { nice = None }) after outcome

@@ -1,6 +1,6 @@
 -- Who stands at a processor: who runs, kept by itself, everybody by pid, and those who wait in their order (this project's
 -- profile).
-use Rattle.std.specs.Prelude.{◌≡◌, ℕ, ◌↔◌, IsTrue, IsSome, Option, Some, None, option_map, ℤ}
+use Rattle.std.specs.Prelude.{◌≡◌, ◌≢◌, ℕ, ◌==◌, if◌then◌else◌, ◌↔◌, IsTrue, IsSome, Option, Some, None, option_map, ℤ}
 use Rattle.std.specs.BTreeMap.{BTreeMap, get}
 use Rattle.std.specs.BTreeSet.{BTreeSet, contains}
 use Rattle.std.specs.Ordering.{nat_cmp, int_cmp, ordering_then}
@@ -30,6 +30,15 @@ listed tasks pid = option_map entity_of (get nat_cmp tasks pid)
 abbrev pub standing : Option Task → BTreeMap ℕ Task → ℕ → Option Entity
 standing None tasks = listed tasks
 standing (Some t) tasks = put (listed tasks) t.pid (Some (entity_of t))
+
+-- a task with this nice value, if it is that of the pid
+abbrev pub with_nice : ℕ → ℤ → Task → Task
+with_nice pid nice t = if t.pid == pid then record t { nice = nice } else t
+
+-- the map's entry of a pid has this nice value, if there is one, and each other entry is as it was
+pub record HasNice (pid : ℕ) (nice : ℤ) (old new : BTreeMap ℕ Task) : Type 0 where
+  pub here : get nat_cmp new pid ≡ option_map (λ (t : Task). record t { nice = nice }) (get nat_cmp old pid)
+  pub there : (other : ℕ) → other ≢ pid → get nat_cmp new other ≡ get nat_cmp old other
 
 -- the virtual runtime of one who waits
 abbrev pub runtime_if : Place → ℤ → Option ℤ

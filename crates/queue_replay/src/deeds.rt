@@ -2,7 +2,7 @@ ghost use Rattle.std.specs.Prelude.{◌≡◌, ℕ, IfOk, OnErr};
 ghost use Rattle.cfs_model.specs.Settings.{Settings};
 ghost use Rattle.replay_model.specs.declared.step.Deed.TheVariants.{Wake, Born, Leave, Arrive};
 ghost use Rattle.queue_replay.specs.Queue.{runqueue_view, HoldsSame};
-ghost use Rattle.queue_replay.specs.Rows.{IsTried, switch_deed};
+ghost use Rattle.queue_replay.specs.Rows.{IsDeedTried, switch_deed};
 
 use crate::claimed::{came_ticket, claimed_task, left_ticket, place_of};
 use crate::context_switch::ContextSwitch;
@@ -34,15 +34,15 @@ macro_rules! moves {
     };
 }
 
-/// A step's deed is tried on a runqueue that is charged and lifted: the moves that it makes, or the first test that it
-/// fails. Where memory is wanted nothing changes.
+/// A step's deed is tried on a runqueue as it finds it: the moves that it makes, or the first test that it fails. Where
+/// memory is wanted nothing changes.
 pub(crate) fn try_deed(
     queue: &mut Runqueue,
     cpu: u32,
     step: &Step,
     knobs: Knobs,
 ) -> Result<Outcome, Memory>
-    ensures tried { IfOk result (IsTried knobs cpu (runqueue_view queue.old) step.now (runqueue_view queue.new)) }
+    ensures tried { IfOk result (IsDeedTried knobs cpu (runqueue_view queue.old) step.now (runqueue_view queue.new)) }
     ensures same { OnErr result (HoldsSame queue.old queue.new) }
 {
     let deed = step.deed;
@@ -77,7 +77,7 @@ fn try_switch(
     knobs: Knobs,
 ) -> Result<Outcome, Memory>
     requires { step.now.deed ≡ switch_deed switch.now }
-    ensures tried { (cpu : ℕ) → IfOk result (IsTried knobs cpu (runqueue_view queue.old) step.now (runqueue_view queue.new)) }
+    ensures tried { (cpu : ℕ) → IfOk result (IsDeedTried knobs cpu (runqueue_view queue.old) step.now (runqueue_view queue.new)) }
     ensures same { OnErr result (HoldsSame queue.old queue.new) }
 {
     let prev = queue.switch_task(switch.prev);
@@ -103,7 +103,7 @@ fn try_wake(
     knobs: Knobs,
 ) -> Result<Outcome, Memory>
     requires { step.now.deed ≡ Wake pid nice }
-    ensures tried { (cpu : ℕ) → IfOk result (IsTried knobs cpu (runqueue_view queue.old) step.now (runqueue_view queue.new)) }
+    ensures tried { (cpu : ℕ) → IfOk result (IsDeedTried knobs cpu (runqueue_view queue.old) step.now (runqueue_view queue.new)) }
     ensures same { OnErr result (HoldsSame queue.old queue.new) }
 {
     let task = queue.task_at(pid);
@@ -126,7 +126,7 @@ fn try_birth(
     knobs: Knobs,
 ) -> Result<Outcome, Memory>
     requires { step.now.deed ≡ Born pid nice }
-    ensures tried { IfOk result (IsTried knobs cpu (runqueue_view queue.old) step.now (runqueue_view queue.new)) }
+    ensures tried { IfOk result (IsDeedTried knobs cpu (runqueue_view queue.old) step.now (runqueue_view queue.new)) }
     ensures same { OnErr result (HoldsSame queue.old queue.new) }
 {
     let task = queue.task_at(pid);
@@ -149,7 +149,7 @@ fn try_leave(
     dest: u32,
 ) -> Result<Outcome, Memory>
     requires { step.now.deed ≡ Leave pid nice dest }
-    ensures tried { (knobs : Settings) → IfOk result (IsTried knobs cpu (runqueue_view queue.old) step.now (runqueue_view queue.new)) }
+    ensures tried { (knobs : Settings) → IfOk result (IsDeedTried knobs cpu (runqueue_view queue.old) step.now (runqueue_view queue.new)) }
     ensures same { OnErr result (HoldsSame queue.old queue.new) }
 {
     let task = queue.task_at(pid);
@@ -169,7 +169,7 @@ fn try_arrival(
     nice: Nice,
 ) -> Result<Outcome, Memory>
     requires { (orig : ℕ) × (step.now.deed ≡ Arrive pid nice orig) }
-    ensures tried { (knobs : Settings) → IfOk result (IsTried knobs cpu (runqueue_view queue.old) step.now (runqueue_view queue.new)) }
+    ensures tried { (knobs : Settings) → IfOk result (IsDeedTried knobs cpu (runqueue_view queue.old) step.now (runqueue_view queue.new)) }
     ensures same { OnErr result (HoldsSame queue.old queue.new) }
 {
     let task = queue.task_at(pid);

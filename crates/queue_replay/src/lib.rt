@@ -15,6 +15,7 @@ mod outcome;
 mod page;
 mod page_draft;
 mod queue_tests;
+mod renice;
 mod replay;
 mod replay_state;
 mod room;

@@ -99,7 +99,7 @@ impl Runqueue {
         })?;
         let mut task = runner;
         task.place = Place::Wait;
-        write_over(&mut self.tasks, task);
+        write_over(&mut self.tasks, task.pid, task);
         self.runner = None;
         Ok(())
     }
@@ -112,7 +112,7 @@ impl Runqueue {
     {
         let mut task = runner;
         task.place = Place::Rest;
-        write_over(&mut self.tasks, task);
+        write_over(&mut self.tasks, task.pid, task);
         self.runner = None;
     }
 
@@ -176,7 +176,7 @@ impl Runqueue {
                 woken.pid = pid;
                 woken.place = Place::Wait;
                 woken.v = claim.v;
-                write_over(&mut self.tasks, woken);
+                write_over(&mut self.tasks, pid, woken);
                 Ok(())
             }
         }
@@ -210,12 +210,12 @@ impl Runqueue {
     }
 }
 
-/// Writes over the entry that the map has of the task's pid.
-fn write_over(tasks: &mut BTreeMap<u32, Task>, task: Task)
-    requires { IsSome (get nat_cmp tasks.old task.pid) }
-    ensures { Updates nat_cmp tasks.old tasks.new task.pid (Some task) }
+/// Writes over the entry that the map has of the pid.
+pub(crate) fn write_over(tasks: &mut BTreeMap<u32, Task>, pid: u32, task: Task)
+    requires { IsSome (get nat_cmp tasks.old pid) }
+    ensures { Updates nat_cmp tasks.old tasks.new pid (Some task) }
 {
-    if tasks.insert(task.pid, task).is_err() {
+    if tasks.insert(pid, task).is_err() {
         unreachable!();
     }
 }

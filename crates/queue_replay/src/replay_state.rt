@@ -6,10 +6,10 @@ ghost use Rattle.queue_replay.specs.Counting.{HasDraftRoom, page_draft_view, fau
 ghost use Rattle.queue_replay.specs.Queue.{runqueue_view};
 ghost use Rattle.queue_replay.specs.ReplayState.{IsGoing, IsPassed, IsStepped, IsUndone, replay_state_view};
 
-use crate::deeds::try_deed;
 use crate::failed_test::FailedTest;
 use crate::outcome::Outcome;
 use crate::page_draft::PageDraft;
+use crate::renice::try_step;
 use crate::runqueue::Runqueue;
 use cfs_model::{IDLE_PID, Kind, Knobs, Memory};
 use replay_model::{Step, StepFault};
@@ -107,7 +107,7 @@ impl ReplayState {
         let before = self.queue.unlifted();
         let time = step.time.saturating_sub(before.mark);
         lift!(self.queue, step.time);
-        let ticket = match try_deed(&mut self.queue, cpu, step, knobs) {
+        let ticket = match try_step(&mut self.queue, cpu, step, knobs) {
             Ok(Outcome::Made(ticket)) => ticket,
             Ok(Outcome::Failed(failed)) => return Ok(Some(failed)),
             Err(memory) => {

@@ -14,19 +14,29 @@ const IDLE_ABOVE_SLACK: usize = 1;
 
 const BIRTH: usize = 18;
 
-/// What processor 0 sees of a recording.
-fn stream_of(alloc: Global, trace: &[u8], companion: &[u8]) -> Result<Stream, Fail> {
+/// What a processor sees of a recording.
+pub(crate) fn stream_at(
+    alloc: Global,
+    trace: &[u8],
+    companion: &[u8],
+    cpu: u32,
+) -> Result<Stream, Fail> {
     let trace = read_trace(alloc, trace)?;
     let companion = read_companion(alloc, companion)?;
     let record = join(trace, companion).ok().ok_or("they go together")?;
-    if record.cpus() == 0 {
+    if record.cpus() <= cpu {
         return Err(Fail::from("a processor"));
     }
-    Ok(record.deal(0)?)
+    Ok(record.deal(cpu)?)
+}
+
+/// What processor 0 sees of a recording.
+fn stream_of(alloc: Global, trace: &[u8], companion: &[u8]) -> Result<Stream, Fail> {
+    stream_at(alloc, trace, companion, 0)
 }
 
 /// The page of a recording's replay, in calls of so many steps.
-fn page_of(alloc: Global, row: &Recording, steps: u64) -> Result<Page, Fail> {
+pub(crate) fn page_of(alloc: Global, row: &Recording, steps: u64) -> Result<Page, Fail> {
     let stream = stream_of(alloc, row.trace, row.companion)?;
     let mut replay = Replay::new(alloc, stream, Knobs::standard())
         .ok()

@@ -3,6 +3,7 @@ use Rattle.std.specs.BTreeMap.{get}
 use Rattle.std.specs.BTreeSet.{contains}
 use Rattle.std.specs.Ordering.{nat_cmp}
 use Rattle.cfs_model.specs.declared.task.Task.{Task}
+use Rattle.replay_model.specs.Deeds.{reniced}
 use Rattle.replay_model.specs.declared.page.Tally.{Tally}
 use Rattle.queue_replay.specs.Counting.{stretched}
 use Rattle.queue_replay.specs.Standing.{by_runtime, IsQueue, waiting_task}
@@ -22,36 +23,36 @@ pub returns-in-Ok-Failed-clause-fails : goal.returns-in-Ok-Failed-clause-fails
 returns-in-Ok-Failed-clause-fails c =
     let l = c.in_default.ensures in
     let lifted = runqueue_view c.lift.new.self in
-    let T : Outcome → Type 0 = λ o. IsTried c.args.knobs c.args.cpu lifted c.args.step.now (runqueue_view c.try_deed.new.queue) o in
-    inr (lifted, (c.requires.in_time, (l.in_range, tt)), l.lifted, subst T c.in-Ok-Failed.field-0-is c.in-Ok-Failed.ensures.tried)
+    let T : Outcome → Type 0 = λ o. IsTried c.args.knobs c.args.cpu (reniced c.args.step.now.nice lifted) c.args.step.now (runqueue_view c.try_step.new.queue) o in
+    inr (reniced c.args.step.now.nice lifted, (c.requires.in_time, (l.in_range, tt)), record { lifted = lifted; is_lifted = l.lifted; is_reniced = refl }, subst T c.in-Ok-Failed.field-0-is c.in-Ok-Failed.ensures.tried)
 
 pub returns-in-Ok-Failed-clause-later : goal.returns-in-Ok-Failed-clause-later
 returns-in-Ok-Failed-clause-later c =
     let lifted = runqueue_view c.lift.new.self in
     let failed = c.in-Ok-Failed.failed in
-    let T : Outcome → Type 0 = λ o. IsTried c.args.knobs c.args.cpu lifted c.args.step.now (runqueue_view c.try_deed.new.queue) o in
-    is_later c.args.knobs c.args.cpu lifted c.args.step.now failed.kind failed.pid (subst T c.in-Ok-Failed.field-0-is c.in-Ok-Failed.ensures.tried)
+    let T : Outcome → Type 0 = λ o. IsTried c.args.knobs c.args.cpu (reniced c.args.step.now.nice lifted) c.args.step.now (runqueue_view c.try_step.new.queue) o in
+    is_later c.args.knobs c.args.cpu (reniced c.args.step.now.nice lifted) c.args.step.now failed.kind failed.pid (subst T c.in-Ok-Failed.field-0-is c.in-Ok-Failed.ensures.tried)
 
 pub restore-requires : goal.restore-requires
 restore-requires c =
     let q = c.args.self.now.queue in
-    let made = c.try_deed.new.queue in
-    let s = c.in-Err-try_deed.ensures.same in
+    let made = c.try_step.new.queue in
+    let s = c.in-Err-try_step.ensures.same in
     subst (λ (r : Option Task). IsQueue r made.tasks made.waiting) (sym c.unlifted-before.ensures.runner)
     (same_queue q.runner q.tasks made.tasks q.waiting made.waiting
     (λ p. s.tasks p ∙ ap (λ m. get nat_cmp m p) c.lift.ensures.same.0)
     (λ v p. s.waiting v p ∙ ap (λ w. contains by_runtime w (waiting_task v p)) c.lift.ensures.same.1) q.kept)
 
-pub returns-in-Err-try_deed-clause-memory : goal.returns-in-Err-try_deed-clause-memory
-returns-in-Err-try_deed-clause-memory c =
+pub returns-in-Err-try_step-clause-memory : goal.returns-in-Err-try_step-clause-memory
+returns-in-Err-try_step-clause-memory c =
     let q = c.args.self.now.queue in
-    let made = c.try_deed.new.queue in
+    let made = c.try_step.new.queue in
     let before = c.unlifted-before.result in
     let e = c.unlifted-before.ensures in
     record {
       made = refl;
       part = c.restore.ensures ∙ restored_part q.runner before.runner q.tasks made.tasks q.floor before.floor q.mark before.mark e.runner e.floor e.mark
-          (λ p. c.in-Err-try_deed.ensures.same.tasks p ∙ ap (λ m. get nat_cmp m p) c.lift.ensures.same.0);
+          (λ p. c.in-Err-try_step.ensures.same.tasks p ∙ ap (λ m. get nat_cmp m p) c.lift.ensures.same.0);
       since = refl;
       noted = refl;
     }
@@ -85,7 +86,7 @@ returns-clause-passes c _ =
     let step = c.args.step.now in
     let lifted = runqueue_view c.lift.new.self in
     let l = c.in_default.ensures in
-    let T : Outcome → Type 0 = λ o. IsTried c.args.knobs c.args.cpu lifted step (runqueue_view c.try_deed.new.queue) o in
+    let T : Outcome → Type 0 = λ o. IsTried c.args.knobs c.args.cpu (reniced step.nice lifted) step (runqueue_view c.try_step.new.queue) o in
     let tried = subst T c.in-Ok-Made.field-0-is c.in-Ok-Made.ensures.tried in
     let mid = c.note_stretch.new.self in
     let s = c.note_stretch.ensures.same in
@@ -98,15 +99,15 @@ returns-clause-passes c _ =
     record {
       passes = record {
         in_time = c.requires.in_time;
-        lifted = lifted;
+        found = reniced step.nice lifted;
         passes = record {
           in_range = l.in_range;
-          is_lifted = l.lifted;
+          is_found = record { lifted = lifted; is_lifted = l.lifted; is_reniced = refl };
           none = tried.0;
         };
         part = tried.1;
         since = c.since_after-self.ensures;
-        page = page_is old.draft mid c.note.new.self (runqueue_view q) lifted step c.in-Ok-Made.ticket c.requires.going.fault
+        page = page_is old.draft mid c.note.new.self (runqueue_view q) (reniced step.nice lifted) step c.in-Ok-Made.ticket c.requires.going.fault
             (record { line = s.0; fault = s.1; left = s.2; came = s.3; births = s.4; deaths = s.5 })
             (c.note_stretch.ensures.tallies
             ∙ ap (λ n. stretched c.unlifted-before.result.runner n old.draft.tallies.list.items)

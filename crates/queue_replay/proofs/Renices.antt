@@ -1,0 +1,269 @@
+-- What another nice value of one task makes of the runqueue, and of the part that it stands for.
+use Rattle.std.proofs.Common.{◌≡◌, ◌≢◌, ℕ, Bool, true, false, cond, eqb, IsSome, Option, Some, None, option_map, Result, IfOk, ◌⊎◌, ℤ, inl, inr, refl, sym, ap, ◌∙◌, subst}
+use Rattle.std.specs.BTreeMap.{BTreeMap, get, Updates}
+use Rattle.std.specs.BTreeSet.{BTreeSet}
+use Rattle.std.specs.Ordering.{nat_cmp}
+use Rattle.std.proofs.lemmas.Bool.{cases_eq, cond-true, cond-false, eq-eqb, ne_eqb}
+use Rattle.cfs_model.specs.Machine.{put}
+use Rattle.cfs_model.specs.Settings.{Settings}
+use Rattle.cfs_model.specs.declared.kind.Kind.TheVariants.{Strange}
+use Rattle.cfs_model.specs.declared.nice_line.NiceLine.{NiceLine}
+use Rattle.cfs_model.specs.declared.task.Place.{Place}
+use Rattle.cfs_model.specs.declared.task.Task.{Task}
+use Rattle.replay_model.specs.Deeds.{reniced, with_entity}
+use Rattle.replay_model.specs.Part.{Part, Entity}
+use Rattle.replay_model.specs.QueueTests.{IsStrangeNice}
+use Rattle.replay_model.specs.declared.step.Step.{Step}
+use Rattle.queue_replay.specs.Rows.{IsDeedTried, IsTried}
+use Rattle.queue_replay.specs.Standing.{HasNice, IsOnlyRunner, IsQueue, IsRunnerListed, listed, standing, waiting_runtime, with_nice}
+use Rattle.queue_replay.specs.Tasks.{entity_of}
+use Rattle.queue_replay.specs.declared.outcome.Outcome.{Outcome}
+use Rattle.queue_replay.specs.declared.outcome.Outcome.TheVariants.{Made, Failed}
+use Rattle.queue_replay.specs.declared.waiting_task.WaitingTask.{WaitingTask}
+use Rattle.queue_replay.proofs.Parts.{put-at, put-other, same_tasks}
+use Rattle.queue_replay.proofs.Standings.{is_listed, listed_in, listed_none, listed_some, map_at, map_other, only_in, queue_is, stays, waiting_in}
+
+abbrev place_at : Option Entity → Option Place
+place_at o = option_map (λ s. s.place) o
+
+-- a task with another nice value
+abbrev changed : ℤ → Entity → Entity
+changed nice s = record s { nice = nice }
+
+abbrev pub part_of : (ℕ → Option Entity) → ℤ → ℕ → Part
+part_of tasks floor mark = record { tasks = tasks; floor = floor; mark = mark }
+
+-- the entry of a pid that is written over with another nice value
+pub written : (m n : BTreeMap ℕ Task) (pid : ℕ) (nice : ℤ) (t : Task) → get nat_cmp m pid ≡ Some t
+    → Updates nat_cmp m n pid (Some (record t { nice = nice })) → HasNice pid nice m n
+written m n pid nice t is u = record {
+  here = map_at m n pid (Some (record t { nice = nice })) u ∙ sym (ap (option_map (λ (x : Task). record x { nice = nice })) is);
+  there = map_other m n pid (Some (record t { nice = nice })) u;
+}
+
+-- written back, it is as it was
+pub written_back : (l m n : BTreeMap ℕ Task) (pid : ℕ) (nice before : ℤ) → HasNice pid nice l m → HasNice pid before m n
+    → Some before ≡ option_map (λ (t : Task). t.nice) (get nat_cmp l pid) → (q : ℕ) → get nat_cmp n q ≡ get nat_cmp l q
+written_back l m n pid nice before h back was q =
+    elim (cases_eq q pid) [
+      | inl same ↦ subst (λ k. get nat_cmp n k ≡ get nat_cmp l k) (sym same)
+          (back.here ∙ ap (option_map (λ (t : Task). record t { nice = before })) h.here ∙ go (get nat_cmp l pid) was)
+      | inr other ↦ back.there q other ∙ h.there q other
+    ]
+  where
+    go : (o : Option Task) → Some before ≡ option_map (λ (t : Task). t.nice) o
+        → option_map (λ (t : Task). record t { nice = before }) (option_map (λ (t : Task). record t { nice = nice }) o) ≡ o
+    go None e = cc
+    go (Some t) e = let same : before ≡ t.nice = cc in ap (λ (x : ℤ). Some (record t { nice = x })) same
+
+-- nobody of a pid stands here that the map has no entry of
+pub nobody_listed : (runner : Option Task) (m : BTreeMap ℕ Task) (a : BTreeSet WaitingTask) → IsQueue runner m a → (pid : ℕ) → get nat_cmp m pid ≡ None
+    → standing runner m pid ≡ None
+nobody_listed None m a kept pid none = ap (option_map entity_of) none
+nobody_listed (Some t) m a kept pid none =
+    elim (cases_eq t.pid pid) [
+      | inl own ↦
+          let has : IsSome (get nat_cmp m t.pid) = (is_listed (Some t) m (listed_in (Some t) m a kept) t refl).1 in
+          let gone : get nat_cmp m t.pid ≡ None = ap (get nat_cmp m) own ∙ none in
+          absurd (go (get nat_cmp m t.pid) has gone)
+      | inr other ↦ put-other (listed m) t.pid (Some (entity_of t)) pid (λ e. other (sym e)) ∙ ap (option_map entity_of) none
+    ]
+  where
+    go : (o : Option Task) → IsSome o → o ≡ None → ⊥
+    go None i e = cc
+    go (Some t) i e = cc
+
+-- a part where nobody of the pid stands
+pub nobody_changed : (part : Part) (pid : ℕ) (nice : ℤ) → part.tasks pid ≡ None
+    → part ≡ with_entity part pid (option_map (λ (s : Entity). record s { nice = nice }) (part.tasks pid))
+nobody_changed part pid nice none =
+    same_tasks part.tasks (put part.tasks pid (option_map (changed nice) (part.tasks pid))) part.floor part.mark (λ q.
+    elim (cases_eq q pid) [
+      | inl same ↦ ap part.tasks same ∙ none ∙ sym (ap (option_map (changed nice)) none)
+          ∙ sym (put-at part.tasks pid (option_map (changed nice) (part.tasks pid)) q same)
+      | inr other ↦ sym (put-other part.tasks pid (option_map (changed nice) (part.tasks pid)) q other)
+    ])
+
+module _ (m n : BTreeMap ℕ Task) (pid : ℕ) (nice : ℤ) (h : HasNice pid nice m n) where
+  listed_here : listed n pid ≡ option_map (changed nice) (listed m pid)
+  listed_here =
+      ap (option_map entity_of) h.here ∙ go (get nat_cmp m pid)
+    where
+      go : (o : Option Task) → option_map entity_of (option_map (λ (t : Task). record t { nice = nice }) o) ≡ option_map (changed nice) (option_map entity_of o)
+      go None = refl
+      go (Some t) = refl
+
+  listed_there : (q : ℕ) → q ≢ pid → listed n q ≡ listed m q
+  listed_there q other = ap (option_map entity_of) (h.there q other)
+
+  changed_own : (t : Task) → t.pid ≡ pid → with_nice pid nice t ≡ record t { nice = nice }
+  changed_own t own = cond-true (eqb t.pid pid) (record t { nice = nice }) t (eq-eqb t.pid pid own)
+
+  changed_other : (t : Task) → t.pid ≢ pid → with_nice pid nice t ≡ t
+  changed_other t other = cond-false (eqb t.pid pid) (record t { nice = nice }) t (ne_eqb t.pid pid other)
+
+  -- who stands
+  pub renices : (runner : Option Task) (q : ℕ) → standing (option_map (with_nice pid nice) runner) n q
+      ≡ put (standing runner m) pid (option_map (changed nice) (standing runner m pid)) q
+  renices None q =
+      elim (cases_eq q pid) [
+        | inl same ↦ ap (listed n) same ∙ listed_here ∙ sym (put-at (listed m) pid (option_map (changed nice) (listed m pid)) q same)
+        | inr other ↦ listed_there q other ∙ sym (put-other (listed m) pid (option_map (changed nice) (listed m pid)) q other)
+      ]
+  renices (Some t) q =
+      elim (cases_eq t.pid pid) [
+        | inl own ↦ ap (λ (u : Task). standing (Some u) n q) (changed_own t own) ∙ its_own own (cases_eq q pid)
+        | inr other ↦ ap (λ (u : Task). standing (Some u) n q) (changed_other t other) ∙ another other (cases_eq q t.pid) (cases_eq q pid)
+      ]
+    where
+      its_own : t.pid ≡ pid → (q ≡ pid) ⊎ (q ≡ pid → ⊥) → standing (Some (record t { nice = nice })) n q
+          ≡ put (standing (Some t) m) pid (option_map (changed nice) (standing (Some t) m pid)) q
+      its_own own (inl same) =
+          put-at (listed n) t.pid (Some (entity_of (record t { nice = nice }))) q (same ∙ sym own)
+          ∙ ap (option_map (changed nice)) (sym (put-at (listed m) t.pid (Some (entity_of t)) pid (sym own)))
+          ∙ sym (put-at (standing (Some t) m) pid (option_map (changed nice) (standing (Some t) m pid)) q same)
+      its_own own (inr away) =
+          put-other (listed n) t.pid (Some (entity_of (record t { nice = nice }))) q (λ e. away (e ∙ own))
+          ∙ listed_there q away ∙ sym (put-other (listed m) t.pid (Some (entity_of t)) q (λ e. away (e ∙ own)))
+          ∙ sym (put-other (standing (Some t) m) pid (option_map (changed nice) (standing (Some t) m pid)) q away)
+
+      another : t.pid ≢ pid → (q ≡ t.pid) ⊎ (q ≡ t.pid → ⊥) → (q ≡ pid) ⊎ (q ≡ pid → ⊥) → standing (Some t) n q
+          ≡ put (standing (Some t) m) pid (option_map (changed nice) (standing (Some t) m pid)) q
+      another other (inl is) at =
+          put-at (listed n) t.pid (Some (entity_of t)) q is ∙ sym (put-at (listed m) t.pid (Some (entity_of t)) q is)
+          ∙ sym (put-other (standing (Some t) m) pid (option_map (changed nice) (standing (Some t) m pid)) q (λ e. other (sym is ∙ e)))
+      another other (inr ne) (inl same) =
+          put-other (listed n) t.pid (Some (entity_of t)) q ne ∙ ap (listed n) same ∙ listed_here
+          ∙ ap (option_map (changed nice)) (sym (put-other (listed m) t.pid (Some (entity_of t)) pid (λ e. other (sym e))))
+          ∙ sym (put-at (standing (Some t) m) pid (option_map (changed nice) (standing (Some t) m pid)) q same)
+      another other (inr ne) (inr away) =
+          put-other (listed n) t.pid (Some (entity_of t)) q ne ∙ listed_there q away
+          ∙ sym (put-other (listed m) t.pid (Some (entity_of t)) q ne)
+          ∙ sym (put-other (standing (Some t) m) pid (option_map (changed nice) (standing (Some t) m pid)) q away)
+
+  pub reniced_part : (runner : Option Task) (floor : ℤ) (mark : ℕ) → part_of (standing (option_map (with_nice pid nice) runner) n) floor mark
+      ≡ with_entity (part_of (standing runner m) floor mark) pid (option_map (λ (s : Entity). record s { nice = nice }) (standing runner m pid))
+  reniced_part runner floor mark =
+      same_tasks (standing (option_map (with_nice pid nice) runner) n) (put (standing runner m) pid (option_map (changed nice) (standing runner m pid)))
+      floor mark (renices runner)
+
+  -- each stands where it did
+  places : (runner : Option Task) (q : ℕ) → place_at (standing (option_map (with_nice pid nice) runner) n q) ≡ place_at (standing runner m q)
+  places runner q =
+      ap place_at (renices runner q)
+      ∙ elim (cases_eq q pid) [
+        | inl same ↦ ap place_at (put-at (standing runner m) pid (option_map (changed nice) (standing runner m pid)) q same)
+            ∙ go (standing runner m pid) ∙ ap (λ k. place_at (standing runner m k)) (sym same)
+        | inr other ↦ ap place_at (put-other (standing runner m) pid (option_map (changed nice) (standing runner m pid)) q other)
+      ]
+    where
+      go : (o : Option Entity) → place_at (option_map (changed nice) o) ≡ place_at o
+      go None = refl
+      go (Some s) = refl
+
+  own_pid : (t : Task) → (with_nice pid nice t).pid ≡ t.pid
+  own_pid t = go (eqb t.pid pid)
+    where
+      go : (b : Bool) → (cond b (record t { nice = nice }) t).pid ≡ t.pid
+      go true = refl
+      go false = refl
+
+  own_place : (t : Task) → (with_nice pid nice t).place ≡ t.place
+  own_place t = go (eqb t.pid pid)
+    where
+      go : (b : Bool) → (cond b (record t { nice = nice }) t).place ≡ t.place
+      go true = refl
+      go false = refl
+
+  entry_kept : (k : ℕ) → IsSome (get nat_cmp m k) → IsSome (get nat_cmp n k)
+  entry_kept k has =
+      elim (cases_eq k pid) [
+        | inl same ↦ subst (λ (o : Option Task). IsSome o) (sym (ap (get nat_cmp n) same ∙ h.here))
+            (go (get nat_cmp m pid) (subst (λ x. IsSome (get nat_cmp m x)) same has))
+        | inr other ↦ subst (λ (o : Option Task). IsSome o) (sym (h.there k other)) has
+      ]
+    where
+      go : (o : Option Task) → IsSome o → IsSome (option_map (λ (t : Task). record t { nice = nice }) o)
+      go None i = cc
+      go (Some t) i = refl
+
+  only_it : (runner : Option Task) → IsOnlyRunner (standing runner m) runner
+      → IsOnlyRunner (standing (option_map (with_nice pid nice) runner) n) (option_map (with_nice pid nice) runner)
+  unfolding IsOnlyRunner
+  only_it runner only q i =
+      pids runner ∙ only q (sym (places runner q) ∙ i)
+    where
+      pids : (r : Option Task) → option_map (λ t. t.pid) (option_map (with_nice pid nice) r) ≡ option_map (λ t. t.pid) r
+      pids None = refl
+      pids (Some t) = ap Some (own_pid t)
+
+  has_entry : (runner : Option Task) → IsRunnerListed runner m → IsRunnerListed (option_map (with_nice pid nice) runner) n
+  has_entry None has = listed_none n
+  has_entry (Some t) has =
+      let l = is_listed (Some t) m has t refl in
+      listed_some n (with_nice pid nice t) (own_place t ∙ l.0) (subst (λ k. IsSome (get nat_cmp n k)) (sym (own_pid t)) (entry_kept t.pid l.1))
+
+  pub reniced_queue : (runner : Option Task) (a : BTreeSet WaitingTask) → IsQueue runner m a → IsQueue (option_map (with_nice pid nice) runner) n a
+  reniced_queue runner a kept =
+      queue_is (option_map (with_nice pid nice) runner) n a
+      (stays (standing runner m) (standing (option_map (with_nice pid nice) runner) n) pid (option_map (changed nice) (standing runner m pid)) (renices runner)
+      a (waiting_in runner m a kept) (go (standing runner m pid)))
+      (only_it runner (only_in runner m a kept))
+      (has_entry runner (listed_in runner m a kept))
+    where
+      go : (o : Option Entity) → waiting_runtime (option_map (changed nice) o) ≡ waiting_runtime o
+      go None = refl
+      go (Some s) = refl
+
+  -- who has an entry stands here
+  listed_stands : get nat_cmp m pid ≢ None → listed m pid ≢ None
+  listed_stands has none = has (go (get nat_cmp m pid) none)
+    where
+      go : (o : Option Task) → option_map entity_of o ≡ None → o ≡ None
+      go None e = refl
+      go (Some t) e = cc
+
+  pub stands_listed : (runner : Option Task) → get nat_cmp m pid ≢ None → standing runner m pid ≢ None
+  stands_listed None has none = listed_stands has none
+  stands_listed (Some t) has none =
+      elim (cases_eq pid t.pid) [
+        | inl own ↦ let e : Some (entity_of t) ≡ None = sym (put-at (listed m) t.pid (Some (entity_of t)) pid own) ∙ none in absurd cc
+        | inr other ↦ listed_stands has (sym (put-other (listed m) t.pid (Some (entity_of t)) pid other) ∙ none)
+      ]
+
+-- the change of a pid that doesn't stand here is the first test that a step fails
+pub strange_first : (knobs : Settings) (cpu : ℕ) (part : Part) (step : Step) (change : NiceLine) (after : Part) → step.nice ≡ Some change
+    → part.tasks change.pid ≡ None
+    → IsTried knobs cpu (reniced (Some change) part) step after (Failed (record { kind = Strange; pid = change.pid }))
+strange_first knobs cpu part step change after says none =
+    let gone : (reniced (Some change) part).tasks change.pid ≡ None =
+    put-at part.tasks change.pid (option_map (changed change.nice) (part.tasks change.pid)) change.pid refl ∙ ap (option_map (changed change.nice)) none in
+    inl (subst (λ o. IsStrangeNice (reniced (Some change) part) o change.pid) (sym says) (gone, refl), refl)
+
+-- a step without a change is its deed
+pub deed_alone : {E : Type 0} (knobs : Settings) (cpu : ℕ) (part : Part) (step : Step) (after : Part) (result : Result Outcome E) → step.nice ≡ None
+    → IfOk result (IsDeedTried knobs cpu part step after) → IfOk result (IsTried knobs cpu (reniced step.nice part) step after)
+deed_alone knobs cpu part step after result says h =
+    subst (λ n. IfOk result (IsTried knobs cpu (reniced n part) (record step { nice = n }) after)) (sym says) h
+
+-- a step whose change is of one who stands here goes by its deed
+pub deed_after : (knobs : Settings) (cpu : ℕ) (part : Part) (step : Step) (change : NiceLine) (after : Part) (outcome : Outcome) → step.nice ≡ Some change
+    → part.tasks change.pid ≢ None → IsDeedTried knobs cpu (reniced (Some change) part) step after outcome
+    → IsTried knobs cpu (reniced (Some change) part) step after outcome
+deed_after knobs cpu part step change after outcome says stands h =
+    go outcome h
+  where
+    kept : (o : Option Entity) → option_map (changed change.nice) o ≡ None → o ≡ None
+    kept None e = refl
+    kept (Some s) e = cc
+
+    not_strange : (pid : ℕ) → ¬ IsStrangeNice (reniced (Some change) part) step.nice pid
+    not_strange pid i =
+        let j : IsStrangeNice (reniced (Some change) part) (Some change) pid = subst (λ o. IsStrangeNice (reniced (Some change) part) o pid) says i in
+        stands (kept (part.tasks change.pid)
+        (sym (put-at part.tasks change.pid (option_map (changed change.nice) (part.tasks change.pid)) change.pid refl) ∙ j.0))
+
+    go : (o : Outcome) → IsDeedTried knobs cpu (reniced (Some change) part) step after o → IsTried knobs cpu (reniced (Some change) part) step after o
+    go (Made ticket) i = ((not_strange, i.0.1), i.1, i.2)
+    go (Failed failed) (inl i) = absurd i.0
+    go (Failed failed) (inr i) = inr (not_strange, i.1)

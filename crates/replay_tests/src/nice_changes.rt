@@ -1,0 +1,270 @@
+//! Recordings in which a nice value changes, each with the first fault of processor 0.
+
+use crate::recordings::Recording;
+use crate::replays::{page_of, stream_at};
+use cfs_model::{Kind, Knobs, Nice, Place};
+use queue_replay::{Page, Replay};
+use replay_model::{StepFault, Tally, Ticket};
+use std::alloc::Global;
+use std::test::Fail;
+
+/// Places in the table: a change while its task runs, while it waits and while it rests.
+const WHILE_RUNNING: usize = 0;
+
+const WHILE_WAITING: usize = 1;
+
+const WHILE_RESTING: usize = 2;
+
+const PUT_BACK: usize = 3;
+
+const UNKNOWN: usize = 4;
+
+const CHANGES: [Recording; 13] = [
+    Recording {
+        name: "changed while it runs",
+        trace: b"            t101-101     [000] d..2.   100.001000: sched_wakeup: comm=t101 pid=101 prio=125 target_cpu=000\n            t101-101     [000] d..2.   100.002000: sched_switch: prev_comm=t101 prev_pid=101 prev_prio=125 prev_state=R+ ==> next_comm=t102 next_pid=102 next_prio=120\n",
+        companion: b"cfs-companion 2\ncpus 1\nstart 100.000000\nfloor 0 0\ntask 101 0 0 run 0\ntask 102 0 0 wait 0\nnice 1 101 5\nat 2 101 4056716\n",
+        fault: None,
+    },
+    Recording {
+        name: "changed while it waits",
+        trace: b"            t101-101     [000] d..2.   100.001000: sched_wakeup: comm=t101 pid=101 prio=120 target_cpu=000\n            t101-101     [000] d..2.   100.002000: sched_switch: prev_comm=t101 prev_pid=101 prev_prio=120 prev_state=S ==> next_comm=t102 next_pid=102 next_prio=125\n            t102-102     [000] d..2.   100.003000: sched_wakeup: comm=t102 pid=102 prio=125 target_cpu=000\n",
+        companion: b"cfs-companion 2\ncpus 1\nstart 100.000000\nfloor 0 0\ntask 101 0 0 run 0\ntask 102 0 0 wait 0\nnice 1 102 5\n",
+        fault: None,
+    },
+    Recording {
+        name: "changed while it rests",
+        trace: b"            t101-101     [000] d..2.   100.001000: sched_wakeup: comm=t101 pid=101 prio=120 target_cpu=000\n            t101-101     [000] d..2.   100.001000: sched_wakeup: comm=t102 pid=102 prio=125 target_cpu=000\n            t101-101     [000] d..2.   100.002000: sched_switch: prev_comm=t101 prev_pid=101 prev_prio=120 prev_state=S ==> next_comm=t102 next_pid=102 next_prio=125\n            t102-102     [000] d..2.   100.003000: sched_wakeup: comm=t102 pid=102 prio=125 target_cpu=000\n",
+        companion: b"cfs-companion 2\ncpus 1\nstart 100.000000\nfloor 0 0\ntask 101 0 0 run 0\ntask 102 0 0 rest 0\nnice 1 102 5\nat 2 102 0\n",
+        fault: None,
+    },
+    Recording {
+        name: "changed at its put-back",
+        trace: b"            t101-101     [000] d..2.   100.004000: sched_switch: prev_comm=t101 prev_pid=101 prev_prio=125 prev_state=R+ ==> next_comm=t102 next_pid=102 next_prio=120\n",
+        companion: b"cfs-companion 2\ncpus 1\nstart 100.000000\nfloor 0 0\ntask 101 0 0 run 0\ntask 102 0 0 wait 0\nnice 1 101 5\nat 1 101 4000000\n",
+        fault: None,
+    },
+    Recording {
+        name: "changed of a task that isn't there",
+        trace: b"            t101-101     [000] d..2.   100.001000: sched_wakeup: comm=t101 pid=101 prio=125 target_cpu=000\n            t101-101     [000] d..2.   100.002000: sched_switch: prev_comm=t101 prev_pid=101 prev_prio=125 prev_state=R+ ==> next_comm=t102 next_pid=102 next_prio=120\n",
+        companion: b"cfs-companion 2\ncpus 1\nstart 100.000000\nfloor 0 0\ntask 101 0 0 run 0\ntask 102 0 0 wait 0\nnice 1 103 5\nat 2 101 4056716\n",
+        fault: Some(StepFault {
+            line: 1,
+            kind: Kind::Strange,
+            pid: 103,
+            deadline: None,
+        }),
+    },
+    Recording {
+        name: "both charges by the new weight",
+        trace: b"            t101-101     [000] d..2.   100.001000: sched_wakeup: comm=t101 pid=101 prio=125 target_cpu=000\n            t101-101     [000] d..2.   100.002000: sched_switch: prev_comm=t101 prev_pid=101 prev_prio=125 prev_state=R+ ==> next_comm=t102 next_pid=102 next_prio=120\n",
+        companion: b"cfs-companion 2\ncpus 1\nstart 100.000000\nfloor 0 0\ntask 101 0 0 run 0\ntask 102 0 0 wait 0\nnice 1 101 5\nat 2 101 6113432\n",
+        fault: Some(StepFault {
+            line: 2,
+            kind: Kind::WrongPutBack,
+            pid: 101,
+            deadline: None,
+        }),
+    },
+    Recording {
+        name: "a change that isn't told",
+        trace: b"            t101-101     [000] d..2.   100.001000: sched_wakeup: comm=t101 pid=101 prio=125 target_cpu=000\n            t101-101     [000] d..2.   100.002000: sched_switch: prev_comm=t101 prev_pid=101 prev_prio=125 prev_state=R+ ==> next_comm=t102 next_pid=102 next_prio=120\n",
+        companion: b"cfs-companion 2\ncpus 1\nstart 100.000000\nfloor 0 0\ntask 101 0 0 run 0\ntask 102 0 0 wait 0\nat 2 101 4056716\n",
+        fault: Some(StepFault {
+            line: 1,
+            kind: Kind::WrongPrio,
+            pid: 101,
+            deadline: None,
+        }),
+    },
+    Recording {
+        name: "the old prio after a change of one who waits",
+        trace: b"            t101-101     [000] d..2.   100.001000: sched_wakeup: comm=t101 pid=101 prio=120 target_cpu=000\n            t101-101     [000] d..2.   100.002000: sched_switch: prev_comm=t101 prev_pid=101 prev_prio=120 prev_state=S ==> next_comm=t102 next_pid=102 next_prio=120\n",
+        companion: b"cfs-companion 2\ncpus 1\nstart 100.000000\nfloor 0 0\ntask 101 0 0 run 0\ntask 102 0 0 wait 0\nnice 1 102 5\n",
+        fault: Some(StepFault {
+            line: 2,
+            kind: Kind::WrongPrio,
+            pid: 102,
+            deadline: None,
+        }),
+    },
+    Recording {
+        name: "the old prio on the line of a change",
+        trace: b"            t101-101     [000] d..2.   100.001000: sched_wakeup: comm=t101 pid=101 prio=120 target_cpu=000\n",
+        companion: b"cfs-companion 2\ncpus 1\nstart 100.000000\nfloor 0 0\ntask 101 0 0 run 0\nnice 1 101 5\n",
+        fault: Some(StepFault {
+            line: 1,
+            kind: Kind::WrongPrio,
+            pid: 101,
+            deadline: None,
+        }),
+    },
+    Recording {
+        name: "changed on the line of its birth",
+        trace: b"            t101-101     [000] d..2.   100.000000: sched_wakeup_new: comm=t101 pid=101 prio=125 target_cpu=000\n",
+        companion: b"cfs-companion 2\ncpus 1\nstart 100.000000\nfloor 0 0\nnice 1 101 5\nat 1 101 0\n",
+        fault: Some(StepFault {
+            line: 1,
+            kind: Kind::Strange,
+            pid: 101,
+            deadline: None,
+        }),
+    },
+    Recording {
+        name: "a strange change at a switch to the same task",
+        trace: b"            t101-101     [000] d..2.   100.001000: sched_switch: prev_comm=t101 prev_pid=101 prev_prio=120 prev_state=R+ ==> next_comm=t101 next_pid=101 next_prio=120\n",
+        companion: b"cfs-companion 2\ncpus 1\nstart 100.000000\nfloor 0 0\ntask 101 0 0 run 0\nnice 1 103 5\n",
+        fault: Some(StepFault {
+            line: 1,
+            kind: Kind::Strange,
+            pid: 103,
+            deadline: None,
+        }),
+    },
+    Recording {
+        name: "a strange change after a charge out of range",
+        trace: b"            t101-101     [000] d..2.   100.000001: sched_wakeup: comm=t101 pid=101 prio=139 target_cpu=000\n",
+        companion: b"cfs-companion 2\ncpus 1\nstart 100.000000\nfloor 0 0\ntask 101 19 0 run 4611686018427387904\nnice 1 103 5\n",
+        fault: Some(StepFault {
+            line: 1,
+            kind: Kind::Range,
+            pid: 101,
+            deadline: None,
+        }),
+    },
+    Recording {
+        name: "a strange change after an idle time above the slack",
+        trace: b"            t102-102     [000] d..2.   100.000101: sched_wakeup: comm=t102 pid=102 prio=120 target_cpu=000\n",
+        companion: b"cfs-companion 2\ncpus 1\nstart 100.000000\nfloor 0 0\ntask 102 0 0 wait 0\nnice 1 103 5\n",
+        fault: Some(StepFault {
+            line: 1,
+            kind: Kind::IdleTooLong,
+            pid: 0,
+            deadline: Some(100_000_100_000),
+        }),
+    },
+];
+
+/// The page of a recording of the table.
+fn changed_page(alloc: Global, place: usize) -> Result<Page, Fail> {
+    page_of(alloc, CHANGES.get(place).ok_or("a place in the table")?, 1)
+}
+
+#[test]
+fn a_change_of_a_nice_value_takes_effect_after_the_charge(rt: HostRuntime) -> Result<(), Fail> {
+    for row in &CHANGES {
+        for steps in [1, 2, 1000] {
+            let page = page_of(rt.alloc(), row, steps)?;
+            assert_eq!(rt;
+                page.fault(),
+                row.fault,
+                "{}, {steps} steps a call",
+                row.name
+            );
+        }
+    }
+    Ok(())
+}
+
+/// The tally of a task.
+fn tally(pid: u32, ran: u128, charged: u128, picks: u64) -> Tally {
+    Tally {
+        pid,
+        ran,
+        charged,
+        picks,
+    }
+}
+
+// One millisecond at nice 0 is charged as it is; at nice 5, where the weight is 335, it is charged 3 056 716 ns.
+#[test]
+fn stretches_before_a_change_are_tallied_by_the_old_weight(rt: HostRuntime) -> Result<(), Fail> {
+    for (place, first, second) in [
+        (
+            WHILE_RUNNING,
+            tally(101, 2_000_000, 4_056_716, 0),
+            tally(102, 0, 0, 1),
+        ),
+        (
+            WHILE_WAITING,
+            tally(101, 2_000_000, 2_000_000, 0),
+            tally(102, 1_000_000, 3_056_716, 1),
+        ),
+        (
+            WHILE_RESTING,
+            tally(101, 2_000_000, 2_000_000, 0),
+            tally(102, 1_000_000, 3_056_716, 1),
+        ),
+        (
+            PUT_BACK,
+            tally(101, 4_000_000, 4_000_000, 0),
+            tally(102, 0, 0, 1),
+        ),
+        (UNKNOWN, tally(101, 0, 0, 0), tally(102, 0, 0, 0)),
+    ] {
+        let page = changed_page(rt.alloc(), place)?;
+        assert_eq!(rt;
+            page.tallies(),
+            [first, second].as_slice(),
+            "recording {place}"
+        );
+    }
+    Ok(())
+}
+
+// 101 waits at processor 0, 2 ns above the floor, and goes to processor 1, where 103 runs.
+const MOVE: &[u8] =
+    b"            t101-101     [000] d..2.   100.000000: sched_migrate_task: comm=t101 pid=101 prio=115 orig_cpu=0 dest_cpu=1\n";
+
+const CHANGED_AND_MOVED: &[u8] =
+    b"cfs-companion 2\ncpus 2\nstart 100.000000\nfloor 0 3\nfloor 1 100\ntask 101 0 0 wait 5\ntask 102 0 0 run 3\ntask 103 0 1 run 100\nnice 1 101 -5\nat 1 101 102\n";
+
+const CHANGED_AT_THE_DESTINATION: &[u8] =
+    b"cfs-companion 2\ncpus 2\nstart 100.000000\nfloor 0 3\nfloor 1 100\ntask 101 -5 0 wait 5\ntask 102 0 0 run 3\ntask 103 0 1 run 100\nnice 1 103 -5\nat 1 101 102\n";
+
+/// The page of the migration at a processor.
+fn moved_page(alloc: Global, companion: &[u8], cpu: u32) -> Result<Page, Fail> {
+    let stream = stream_at(alloc, MOVE, companion, cpu)?;
+    let mut replay = Replay::new(alloc, stream, Knobs::standard())
+        .ok()
+        .ok_or("memory suffices")?;
+    replay.go_on(9)?;
+    Ok(replay.page())
+}
+
+#[test]
+fn a_ticket_has_the_new_nice_value(rt: HostRuntime) -> Result<(), Fail> {
+    let ticket = Ticket {
+        line: 1,
+        pid: 101,
+        nice: Nice::new(-5).ok_or("a nice value")?,
+        place: Place::Wait,
+        offset: 2,
+    };
+    let origin = moved_page(rt.alloc(), CHANGED_AND_MOVED, 0)?;
+    assert_eq!(rt;
+        (origin.fault(), origin.left()),
+        (None, [ticket].as_slice())
+    );
+    let destination = moved_page(rt.alloc(), CHANGED_AND_MOVED, 1)?;
+    assert_eq!(rt;
+        (destination.fault(), destination.came()),
+        (None, [ticket].as_slice())
+    );
+    Ok(())
+}
+
+#[test]
+fn a_change_at_a_migration_is_the_origins(rt: HostRuntime) -> Result<(), Fail> {
+    let strange = StepFault {
+        line: 1,
+        kind: Kind::Strange,
+        pid: 103,
+        deadline: None,
+    };
+    for (cpu, fault) in [(0, Some(strange)), (1, None)] {
+        let page = moved_page(rt.alloc(), CHANGED_AT_THE_DESTINATION, cpu)?;
+        assert_eq!(rt; page.fault(), fault, "processor {cpu}");
+    }
+    Ok(())
+}

@@ -3,10 +3,11 @@ use Rattle.std.proofs.Common.{◌≡◌, ℕ, ◌+◌, ◌<◌, ◌≤◌, Bool,
 use Rattle.std.specs.List.{count_by}
 use Rattle.std.proofs.lemmas.List.{length-take-le}
 use Rattle.std.proofs.lemmas.List.Sums.{count_by-le-length, sum_by-cons, sum_by_more}
-use Rattle.cfs_model.specs.Claimed.{Claimed, claim_at, claimed}
+use Rattle.cfs_model.specs.Claimed.{Claimed, claimed, with_claim}
 use Rattle.cfs_model.specs.declared.act.Act.{Act}
 use Rattle.cfs_model.specs.declared.act.Entry.{Entry}
 use Rattle.cfs_model.specs.declared.claim.Claim.{Claim}
+use Rattle.cfs_model.specs.declared.nice_line.NiceLine.{NiceLine}
 use Rattle.replay_model.specs.Summary.{how_many, is_birth, is_death, is_migration, is_switch}
 use Rattle.ticket_book.specs.EventCounts.{AreCountsBelow, counts_of, with_event}
 use Rattle.ticket_book.specs.declared.event_counts.EventCounts.{EventCounts}
@@ -45,12 +46,12 @@ counts_below events i bound within most = record {
         let n = length-take-le i events (omega arith) in
         omega (arith, few, n, within, most)
 
--- the counts among events with their claims
-pub count_claimed : (does : Act → Bool) (claims : List Claim) (events : List Entry)
-    → count_by (λ (e : Entry). does e.act) events ≡ how_many does (claimed claims events)
-count_claimed does claims [] = refl
-count_claimed does claims (event ∷ events) =
+-- the counts among events with what is said on their lines
+pub count_claimed : (does : Act → Bool) (claims : List Claim) (nices : List NiceLine) (events : List Entry)
+    → count_by (λ (e : Entry). does e.act) events ≡ how_many does (claimed claims nices events)
+count_claimed does claims nices [] = refl
+count_claimed does claims nices (event ∷ events) =
     sum_by-cons (λ (e : Entry). cond (does e.act) 1 0) event events
-    ∙ ap (λ n. cond (does event.act) 1 0 + n) (count_claimed does claims events)
+    ∙ ap (λ n. cond (does event.act) 1 0 + n) (count_claimed does claims nices events)
     ∙ sym (sum_by-cons (λ (e : Claimed). cond (does e.entry.act) 1 0)
-    (record { entry = event; claim = claim_at claims event.line }) (claimed claims events))
+    (with_claim claims nices event) (claimed claims nices events))

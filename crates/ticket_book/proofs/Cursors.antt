@@ -32,3 +32,11 @@ keeps_up xs front place x count same within here =
 pub stays_apart : {X : Type 0} (xs front : List X) (x : X) → front ≢ take (length front) xs
     → front ++ x ∷ [] ≢ take (length (front ++ x ∷ [])) xs
 stays_apart xs front x apart e = apart (pushed xs front x e).front_is
+
+-- one more that differs, or that the list hasn't
+pub falls_apart : {X : Type 0} (xs front : List X) (place : ℕ) (x : X) → place ≡ length front
+    → (place < length xs → get_or xs place x ≢ x) → front ++ x ∷ [] ≢ take (length (front ++ x ∷ [])) xs
+falls_apart xs front place x count differs e =
+    let there = pushed xs front x e in
+    let within = there.within in
+    differs (omega (arith, count, within)) (ap (λ n. get_or xs n x) count ∙ sym there.last_is)

@@ -9,6 +9,7 @@ use Rattle.cfs_model.specs.Claimed.{claimed}
 use Rattle.cfs_model.specs.Limits.{greatest_runtime, no_line}
 use Rattle.cfs_model.specs.declared.act.Entry.{Entry}
 use Rattle.cfs_model.specs.declared.claim.Claim.{Claim}
+use Rattle.cfs_model.specs.declared.nice_line.NiceLine.{NiceLine}
 use Rattle.replay_model.specs.declared.page.Tally.{Tally}
 use Rattle.sched_record.specs.Record.{last_event}
 use Rattle.ticket_book.specs.Tallying.{FitsTally}
@@ -47,12 +48,13 @@ events_few (event ∷ events) first rise =
     let count = counted_by (event ∷ events) first rise (length (event ∷ events) - 1) event (omega arith) in
     omega (arith, last, count)
 
--- the same of events with their claims
-pub times_below : (claims : List Claim) (events : List Entry) (last : ℕ) → All (λ event. event.time ≤ last) events
-    → AllByRecursion (λ event. event.entry.time ≤ last) (claimed claims events)
-times_below claims [] last below = tt
-times_below claims (event ∷ events) last below =
-    (below 0 event (omega arith), times_below claims events last (λ k d h. below (suc k) d (omega arith)))
+-- the same of events with what is said on their lines
+pub times_below : (claims : List Claim) (nices : List NiceLine) (events : List Entry) (last : ℕ)
+    → All (λ event. event.time ≤ last) events
+    → AllByRecursion (λ event. event.entry.time ≤ last) (claimed claims nices events)
+times_below claims nices [] last below = tt
+times_below claims nices (event ∷ events) last below =
+    (below 0 event (omega arith), times_below claims nices events last (λ k d h. below (suc k) d (omega arith)))
 
 -- what so many events by so late a time allow fits
 pub bounds_fit : (tally : Tally) (events last : ℕ) → events < 2 ^ 32 → last < 2 ^ 64

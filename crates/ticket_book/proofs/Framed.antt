@@ -34,11 +34,13 @@ cut_from : (r : RecordView) (cpu : ℕ) (s : StreamView) → s.steps ≡ (cut_of
     → IsFramed r cpu s → s ≡ cut_of r cpu
 cut_from r cpu s steps tasks framed =
     parts steps tasks framed.cpu_is framed.floor framed.start
-    (framed.last_time ∙ same_last_time r.start r.claims r.events) (framed.last_line ∙ same_last_line r.claims r.events)
+    (framed.last_time ∙ same_last_time r.start r.claims r.nices r.events)
+    (framed.last_line ∙ same_last_line r.claims r.nices r.events)
   where
     parts : s.steps ≡ (cut_of r cpu).steps → s.tasks ≡ (cut_of r cpu).tasks → s.cpu ≡ cpu
         → s.floor ≡ slice_index_or r.floors cpu (pos 0) → s.start ≡ r.start
-        → s.last_time ≡ last_time_of r.start (claimed r.claims r.events) → s.last_line ≡ last_line_after 0 (claimed r.claims r.events)
+        → s.last_time ≡ last_time_of r.start (claimed r.claims r.nices r.events)
+        → s.last_line ≡ last_line_after 0 (claimed r.claims r.nices r.events)
         → s ≡ cut_of r cpu
     parts a b c d e f g i = record { cpu = c i; tasks = b i; floor = d i; start = e i; steps = a i; last_time = f i; last_line = g i }
 
@@ -47,8 +49,8 @@ framed_from r cpu s same = record {
   cpu_is = ap (λ (t : StreamView). t.cpu) same;
   floor = ap (λ (t : StreamView). t.floor) same;
   start = ap (λ (t : StreamView). t.start) same;
-  last_time = ap (λ (t : StreamView). t.last_time) same ∙ sym (same_last_time r.start r.claims r.events);
-  last_line = ap (λ (t : StreamView). t.last_line) same ∙ sym (same_last_line r.claims r.events);
+  last_time = ap (λ (t : StreamView). t.last_time) same ∙ sym (same_last_time r.start r.claims r.nices r.events);
+  last_line = ap (λ (t : StreamView). t.last_line) same ∙ sym (same_last_line r.claims r.nices r.events);
 }
 
 pub cut_decides : (r : RecordView) (cpu : ℕ) (s : StreamView) (steps : List Step) (tasks all_tasks : List Task) (cursor : Cursor)

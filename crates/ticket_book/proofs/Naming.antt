@@ -10,6 +10,7 @@ use Rattle.cfs_model.proofs.Moves.{same_or_not}
 use Rattle.cfs_model.specs.Claimed.{claimed}
 use Rattle.cfs_model.specs.declared.act.Entry.{Entry}
 use Rattle.cfs_model.specs.declared.claim.Claim.{Claim}
+use Rattle.cfs_model.specs.declared.nice_line.NiceLine.{NiceLine}
 use Rattle.cfs_model.specs.declared.task.Task.{Task}
 use Rattle.replay_model.specs.Noted.{new_tally, with_tally}
 use Rattle.replay_model.specs.Summary.{born_by, born_in, each_once, tasks_of_run}
@@ -39,10 +40,11 @@ births_more events i event within is =
     flat_map_more (λ (e : Entry). born_by e.act) [] (take i events) event
     ∙ ap births_in (ap (λ e. take i events ++ e ∷ []) is ∙ sym (take_more events i event within))
 
--- the births among events with their claims
-pub births_claimed : (claims : List Claim) (events : List Entry) → births_in events ≡ born_in (claimed claims events)
-births_claimed claims [] = refl
-births_claimed claims (event ∷ events) = ap (λ pids. born_by event.act ++ pids) (births_claimed claims events)
+-- the births among events with what is said on their lines
+pub births_claimed : (claims : List Claim) (nices : List NiceLine) (events : List Entry)
+    → births_in events ≡ born_in (claimed claims nices events)
+births_claimed claims nices [] = refl
+births_claimed claims nices (event ∷ events) = ap (λ pids. born_by event.act ++ pids) (births_claimed claims nices events)
 
 -- whether a pid is among some
 abbrev pub names : List ℕ → ℕ → Bool
@@ -123,11 +125,11 @@ named_once xs (y ∷ ys) =
     ∙ ap (λ pids. map new_tally (each_once pids)) (append_assoc xs (y ∷ []) ys)
 
 -- the tasks that the start names, and then those that are born
-pub all_named : (tasks : List Task) (claims : List Claim) (events : List Entry) (none named all : List Tally) → none ≡ []
-    → named ≡ with_named (map (λ task. task.pid) tasks) none → all ≡ with_named (births_in events) named
-    → all ≡ map new_tally (tasks_of_run tasks (claimed claims events))
-all_named tasks claims events none named all empty first second =
+pub all_named : (tasks : List Task) (claims : List Claim) (nices : List NiceLine) (events : List Entry)
+    (none named all : List Tally) → none ≡ [] → named ≡ with_named (map (λ task. task.pid) tasks) none → all ≡ with_named (births_in events) named
+    → all ≡ map new_tally (tasks_of_run tasks (claimed claims nices events))
+all_named tasks claims nices events none named all empty first second =
     let pids : List ℕ = map (λ (task : Task). task.pid) tasks in
     both_named pids (births_in events) none named all first second
     ∙ ap (with_named (pids ++ births_in events)) empty ∙ named_once [] (pids ++ births_in events)
-    ∙ ap (λ born. map new_tally (each_once (pids ++ born))) (births_claimed claims events)
+    ∙ ap (λ born. map new_tally (each_once (pids ++ born))) (births_claimed claims nices events)

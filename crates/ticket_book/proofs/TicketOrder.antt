@@ -97,13 +97,13 @@ module _ (tickets : PageView → List Ticket) (by : Part → Step → List Ticke
       (subst (λ ts. Rise ts × AllByRecursion (λ (t : Ticket). t.line ≤ step.line) ts) (sym (kept before.page _))
       (keep_later line step.line before.page le keep))
   one_step knobs cpu line None before step after le (inl passes) keep =
-      let grown = ap tickets passes.page ∙ is.grows before.page before.part passes.lifted step in
-      let same = is.lines passes.lifted step in
+      let grown = ap tickets passes.page ∙ is.grows before.page before.part passes.found step in
+      let same = is.lines passes.found step in
       subst (λ ts. Rise ts × AllByRecursion (λ (t : Ticket). t.line ≤ step.line) ts) (sym grown) (
-        rise_append line step.line (tickets before.page) (by passes.lifted step) keep.0 keep.1 same le,
-        all_append (λ t. t.line ≤ step.line) (tickets before.page) (by passes.lifted step)
+        rise_append line step.line (tickets before.page) (by passes.found step) keep.0 keep.1 same le,
+        all_append (λ t. t.line ≤ step.line) (tickets before.page) (by passes.found step)
             (keep_later line step.line before.page le keep).1
-            (all_map (λ t. t.line ≡ step.line) (λ t. t.line ≤ step.line) (λ t e. omega arith) (by passes.lifted step) same),
+            (all_map (λ t. t.line ≡ step.line) (λ t. t.line ≤ step.line) (λ t e. omega arith) (by passes.found step) same),
       )
 
   all_steps : (knobs : Settings) (cpu line : ℕ) (before : ReplayStateView) (steps : List Step) (end : ReplayStateView)

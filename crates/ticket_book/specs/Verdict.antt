@@ -11,16 +11,16 @@ use Rattle.ticket_book.specs.SummaryView.{summary_view}
 use Rattle.ticket_book.specs.declared.verdict.Verdict.{Verdict}
 use Rattle.ticket_book.specs.declared.verdict.Verdict.TheVariants.{Run, Fault}
 
--- the record's events, with the claims on their lines, are a run of the scheduler from the record's start state, and
--- this is the summary of that run
+-- the record's events, with the claims and the changes of nice values on their lines, are a run of the scheduler from the
+-- record's start state, and this is the summary of that run
 abbrev pub IsScheduled : Settings → RecordView → SummaryView → Type 0
 IsScheduled knobs r summary =
-    IsSummary knobs r.start (start_machine r.start r.floors r.tasks) r.tasks (claimed r.claims r.events) summary
+    IsSummary knobs r.start (start_machine r.start r.floors r.tasks) r.tasks (claimed r.claims r.nices r.events) summary
 
 -- the record's events are none from this line on, which is the first, and this is what is wrong there
 abbrev pub IsFaulty : Settings → RecordView → ℕ → FaultCause → Type 0
 IsFaulty knobs r line cause =
-    IsFirstFault knobs r.start (start_machine r.start r.floors r.tasks) (claimed r.claims r.events) line cause
+    IsFirstFault knobs r.start (start_machine r.start r.floors r.tasks) (claimed r.claims r.nices r.events) line cause
 
 -- a verdict on a record: yes means that it is a run, and tells what the run did; a fault names the first line up to which
 -- the events are none, and what is wrong there

@@ -53,7 +53,7 @@ pub(crate) fn told_by(
     requires count { length pages.now ≡ (record_view joined.now).cpus }
     requires rise { TicketsRise pages.now }
     ensures { IfOk result (Tell (view_at pages.now) (length pages.now) (record_view joined.now).tasks
-        (claimed (record_view joined.now).claims (record_view joined.now).events)) }
+        (claimed (record_view joined.now).claims (record_view joined.now).nices (record_view joined.now).events)) }
 {
     let mut walk = Walk::new(alloc, pages, joined.tasks())?;
     for event in joined.events() {

@@ -9,7 +9,7 @@ ghost use Rattle.ticket_book.specs.Book.{page_at};
 ghost use Rattle.ticket_book.specs.Cursor.{AreFollowed, IsFollowed, steps_in};
 
 use crate::cursor::Cursor;
-use cfs_model::{Act, Claim, Entry, Memory};
+use cfs_model::{Act, Claim, Entry, Memory, NiceLine};
 use queue_replay::Page;
 use replay_model::Step;
 use sched_record::{Record, step_at};
@@ -23,27 +23,41 @@ pub(crate) fn cursors_of(
 ) -> Result<Vec<Cursor>, Memory>
     ensures count { IfOk result (λ cursors. vec_len cursors ≡ (record_view joined.now).cpus) }
     ensures followed { IfOk result (λ cursors. AreFollowed places.now cursors.items
-        (claimed (record_view joined.now).claims (record_view joined.now).events)) }
+        (claimed (record_view joined.now).claims (record_view joined.now).nices (record_view joined.now).events)) }
 {
     let mut cursors = Vec::from_elem(alloc, Cursor::At(0), joined.cpus() as usize)?;
-    let mut place = 0;
+    let mut claim_place = 0;
+    let mut nice_place = 0;
     for (index, event) in joined.events().iter().enumerate() {
-        let (claim, next) = joined.claim_beside(index, place);
-        follow(&mut cursors, places, event, claim);
-        place = next;
+        let (claim, next_claim) = joined.claim_beside(index, claim_place);
+        let (nice, next_nice) = joined.nice_beside(index, nice_place);
+        follow(&mut cursors, places, event, claim, &nice);
+        claim_place = next_claim;
+        nice_place = next_nice;
     }
     Ok(cursors)
 }
 
-/// Deals one more event, with the claim on its line.
-fn follow(cursors: &mut [Cursor], places: &[Option<Page>], event: &Entry, claim: Option<Claim>)
+/// Deals one more event, with the claim and the change of a nice value on its line.
+fn follow(
+    cursors: &mut [Cursor],
+    places: &[Option<Page>],
+    event: &Entry,
+    claim: Option<Claim>,
+    nice: &Option<NiceLine>,
+)
     ensures { (events : List Claimed) → AreFollowed places.now cursors.old events
-        → AreFollowed places.now cursors.new (events ++ record { entry = event.now; claim = claim } ∷ []) }
+        → AreFollowed places.now cursors.new (events ++ record { entry = event.now; claim = claim; nice = nice.now } ∷ []) }
 {
     let (first, second) = ends_of(event);
-    follow_at(cursors, places, first, step_at(*event, claim, first));
+    follow_at(cursors, places, first, step_at(*event, claim, *nice, first));
     if second != first {
-        follow_at(cursors, places, second, step_at(*event, claim, second));
+        follow_at(
+            cursors,
+            places,
+            second,
+            step_at(*event, claim, *nice, second),
+        );
     }
 }
 

@@ -25,7 +25,7 @@ pub(crate) fn least_fault(
 ) -> Option<u64>
     requires count { length cursors.now ≡ (record_view joined.now).cpus }
     requires followed { AreFollowed places.now cursors.now
-        (claimed (record_view joined.now).claims (record_view joined.now).events) }
+        (claimed (record_view joined.now).claims (record_view joined.now).nices (record_view joined.now).events) }
     ensures { IsLeastOf knobs (record_view joined.now) places.now (record_view joined.now).cpus result }
 {
     let mut least = None;

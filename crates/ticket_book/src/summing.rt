@@ -21,10 +21,10 @@ use std::alloc::Global;
 /// The summary of a record's events by the tallies on its processors' pages.
 pub(crate) fn summary_by(alloc: Global, pages: &[Page], joined: &Record) -> Result<Summary, Memory>
     requires { All (λ pid. FitsTally (total_of (tallies_below (view_at pages.now) (length pages.now)) pid))
-        (tasks_of_run (record_view joined.now).tasks (claimed (record_view joined.now).claims (record_view joined.now).events)) }
+        (tasks_of_run (record_view joined.now).tasks (claimed (record_view joined.now).claims (record_view joined.now).nices (record_view joined.now).events)) }
     ensures { IfOk result (λ summary. summary_view summary
         ≡ summary_by (tallies_below (view_at pages.now) (length pages.now)) (record_view joined.now).tasks
-        (claimed (record_view joined.now).claims (record_view joined.now).events)) }
+        (claimed (record_view joined.now).claims (record_view joined.now).nices (record_view joined.now).events)) }
 {
     let events = joined.events();
     let mut sums = TallyBook::new(alloc);

@@ -4,4 +4,5 @@ use Rattle.ticket_book.proofs.closing.told_by.Given as goal
 
 abbrev pub invariant-loop-event : goal.invariant-loop-event
 invariant-loop-event l =
-    HasCome l.pages (record_view l.joined).tasks (record_view l.joined).claims l.event-items l.event-index l.walk
+    let r = record_view l.joined in
+    HasCome l.pages r.tasks r.claims r.nices l.event-items l.event-index l.walk

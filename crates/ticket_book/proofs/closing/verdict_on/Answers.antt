@@ -15,25 +15,25 @@ returns-in-Some c =
     let r = record_view c.args.joined.now in
     let pages = c.args.pages.now in
     fault_of c.args.knobs r pages c.requires c.closing.ensures.fault c.args.joined.now.in_order c.in-Some.line c.in-Some.cause
-    (subst (Tell (view_at pages) (length pages) r.tasks (claimed r.claims r.events)) c.in-Some.is c.in_ok-line.ensures)
+    (subst (Tell (view_at pages) (length pages) r.tasks (claimed r.claims r.nices r.events)) c.in-Some.is c.in_ok-line.ensures)
 
 pub summary_by-requires : goal.summary_by-requires
 summary_by-requires c =
     let r = record_view c.args.joined.now in
     let pages = c.args.pages.now in
     let order = c.args.joined.now.in_order in
-    let nothing = subst (Tell (view_at pages) (length pages) r.tasks (claimed r.claims r.events)) c.in-None.is
+    let nothing = subst (Tell (view_at pages) (length pages) r.tasks (claimed r.claims r.nices r.events)) c.in-None.is
     c.in_ok-line.ensures in
     sums_fit c.args.knobs r pages c.requires order
     nothing c.tallying.ensures.totals c.tallying.ensures.bounded c.last_time.result c.last_line.result c.last_time.ensures
-    c.last_time.type_inv c.last_line.ensures c.last_line.type_inv (tasks_of_run r.tasks (claimed r.claims r.events))
+    c.last_time.type_inv c.last_line.ensures c.last_line.type_inv (tasks_of_run r.tasks (claimed r.claims r.nices r.events))
 
 pub returns-in_ok-summary_by-in-None : goal.returns-in_ok-summary_by-in-None
 returns-in_ok-summary_by-in-None c =
     let r = record_view c.args.joined.now in
     let pages = c.args.pages.now in
     let order = c.args.joined.now.in_order in
-    let nothing = subst (Tell (view_at pages) (length pages) r.tasks (claimed r.claims r.events)) c.in-None.is
+    let nothing = subst (Tell (view_at pages) (length pages) r.tasks (claimed r.claims r.nices r.events)) c.in-None.is
     c.in_ok-line.ensures in
     run_of c.args.knobs r pages c.requires order
     nothing c.tallying.ensures.summary c.in_ok-summary_by-in-None.field-0 c.in_ok-summary_by-in-None.ensures

@@ -11,5 +11,5 @@ returns-clause-followed c =
     let r = record_view c.args.joined.now in
     let count = ap length c.events-event-items.ensures in
     let all : length r.events ≤ c.loop-index.index = let end = c.loop-index-test.false in omega (arith, count, end) in
-    subst (λ (events : List Entry). AreFollowed c.args.places.now c.loop-index.cursors.items (claimed r.claims events))
+    subst (λ (events : List Entry). AreFollowed c.args.places.now c.loop-index.cursors.items (claimed r.claims r.nices events))
     (take_all c.loop-index.index r.events all) c.loop-index.invariant.followed

@@ -1,5 +1,5 @@
 -- A closing makes at most one page again for each processor.
-use Rattle.std.proofs.Common.{◌≡◌, ℕ, zero, suc, ◌≤◌, Option, List, inl, inr, arith}
+use Rattle.std.proofs.Common.{ℕ, zero, suc, ◌≤◌, Option, List, inl, inr, arith}
 use Rattle.cfs_model.specs.Settings.{Settings}
 use Rattle.queue_replay.specs.Replay.{ReplayView}
 use Rattle.sched_record.specs.Record.{RecordView}

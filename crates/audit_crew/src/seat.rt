@@ -68,6 +68,11 @@ impl<L: CrewLedger> Seat<L> {
         }
     }
 
+    /// Whether its auditor has to go on.
+    pub(crate) fn is_underway(&self) -> bool {
+        self.underway.is_some()
+    }
+
     /// Runs its auditor to its end, where it hasn't come to that.
     pub(crate) fn end<R: Wait, G: Gate>(
         &mut self,

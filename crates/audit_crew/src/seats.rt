@@ -59,7 +59,8 @@ pub(crate) fn begin_all<L: CrewLedger + Send + Sync, R: Threads + Wait + Sync, G
     );
 }
 
-/// Runs the auditors of all seats to their ends, at once, and waits for these.
+/// Runs the auditors of all seats to their ends, at once, and waits for these. Where all have come to them no thread is
+/// started.
 pub(crate) fn end_all<L: CrewLedger + Send + Sync, R: Threads + Wait + Sync, G: Gate>(
     rt: &R,
     seats: &mut [Seat<L>],
@@ -68,6 +69,9 @@ pub(crate) fn end_all<L: CrewLedger + Send + Sync, R: Threads + Wait + Sync, G: 
 )
     requires { 0 < length seats.old }
 {
+    if !seats.iter().any(|seat| seat.is_underway()) {
+        return;
+    }
     let threads = seats.len();
     thread::for_each_mut(
         rt,

@@ -1,127 +1,64 @@
 //! One auditor at a shelf of its own, and crews of auditors, which come to the verdict of one thread.
 
+use crate::calls::{
+    Ending, Told, alone, audited, book_of_first, ended, record_from, stream_of, together, told,
+};
 use crate::machines::{IDLE_FOUND_LATE, Lines, Recording, recording_at, recordings};
-use crate::meetings::{death_then_birth, ten_thousand_wakeups};
-use crate::verdicts::{record_of, told};
-use audit_crew::{AuditorFault, OpenGate, Shelf, audit, audit_serial, auditor};
-use cfs_model::{Kind, Knobs};
-use companion_file::read_companion;
-use queue_replay::{Page, Reached, Tag};
-use sched_record::{Record, join, read_trace};
+use crate::meetings::{death_then_birth, fault_before_wakeups, ten_thousand_wakeups};
+use crate::verdicts::record_of;
+use audit_crew::{AuditorFault, OpenGate};
+use cfs_model::Kind;
+use queue_replay::{Reached, Tag};
+use sched_record::Record;
 use std::alloc::Global;
 use std::sync::Wait;
 use std::test::Fail;
 use std::thread::Threads;
-use ticket_book::{Book, NO_FAULT, PostFault, whole_page};
+use ticket_book::Closed;
 
-/// A shelf over a book of its own.
-#[derive(Drop)]
-pub(crate) struct OwnShelf {
-    pub book: Book,
-    pub posted: Option<Tag>,
-    /// What the book answered to the page that it accepted.
-    pub answered: Option<u64>,
-    told: u64,
-    pub refused: Option<(Tag, PostFault)>,
-}
-
-impl OwnShelf {
-    ghost use Rattle.std.specs.Prelude.{◌≡◌, None};
-
-    pub fn new(book: Book) -> OwnShelf
-        ensures posted { result.posted ≡ None }
-        ensures refused { result.refused ≡ None }
-    {
-        OwnShelf {
-            book,
-            posted: None,
-            answered: None,
-            told: NO_FAULT,
-            refused: None,
-        }
-    }
-}
-
-impl Shelf for OwnShelf {
-    ghost use Rattle.std.specs.Option.{option_to_list};
-
-    ghost accepted = { λ shelf. option_to_list shelf.posted };
-
-    ghost told = { λ shelf. shelf.told };
-
-    ghost refused = { λ shelf. shelf.refused };
-
-    fn post(&mut self, page: Page) -> Result<(), (Page, PostFault)> {
-        let tag = page.tag();
-        match self.book.post(page) {
-            Ok(least) => {
-                self.posted = Some(tag);
-                self.answered = Some(least);
-                Ok(())
-            }
-            Err((page, fault)) => {
-                self.refused = Some((tag, fault));
-                Err((page, fault))
-            }
-        }
-    }
-
-    fn least(&mut self) -> u64 {
-        self.told = self.book.least();
-        self.told
-    }
+/// What the auditor of processor 1 leaves over a book with processor 0's page.
+fn ended_behind_first(alloc: Global, record: &Record) -> Result<Ending, Fail> {
+    let book = book_of_first(alloc, 2, record)?;
+    let (_book, ending) = ended(alloc, book, record, 1, 1)?;
+    Ok(ending)
 }
 
 #[test]
 fn an_auditor_goes_on_to_its_fault(rt: HostRuntime) -> Result<(), Fail> {
     let record = record_of(rt.alloc(), recording_at(IDLE_FOUND_LATE)?)?;
-    if record.cpus() != 2 {
-        return Err(Fail::from("two processors"));
-    }
-    let mut book = Book::new(rt.alloc(), 2)?;
-    let first = whole_page(rt.alloc(), &record, 0, Knobs::standard())?;
-    assert!(rt; book.post(first).is_ok());
-    let mut shelf = OwnShelf::new(book);
-    let stream = record.deal(1)?;
-    let answer = auditor(
-        rt.alloc(),
-        &mut shelf,
-        &OpenGate,
-        stream,
-        Knobs::standard(),
-        1,
-    );
-    assert!(rt; answer.is_ok());
+    let ending = ended_behind_first(rt.alloc(), &record)?;
     let reached = Reached::Faulted(100);
-    assert_eq!(rt; shelf.posted, Some(Tag { cpu: 1, reached }));
+    assert_eq!(rt;
+        (ending.posted, ending.back),
+        (Some(Tag { cpu: 1, reached }), None)
+    );
     Ok(())
 }
 
-/// What an auditor tells whose page comes back: the book has one of that processor.
+/// What the auditor of processor 0 answers over a book that has a page of that processor.
 fn refused_page(alloc: Global) -> Result<AuditorFault, Fail> {
     let record = death_then_birth(alloc)?.record(alloc)?;
-    if record.cpus() != 2 {
-        return Err(Fail::from("two processors"));
-    }
-    let mut book = Book::new(alloc, 2)?;
-    let _told = book.post(whole_page(alloc, &record, 0, Knobs::standard())?);
-    let mut shelf = OwnShelf::new(book);
-    let stream = record.deal(0)?;
-    match auditor(alloc, &mut shelf, &OpenGate, stream, Knobs::standard(), 1) {
-        Ok(()) => Err(Fail::from("a page that comes back")),
-        Err(fault) => Ok(fault),
-    }
+    let book = book_of_first(alloc, 2, &record)?;
+    let (_shelf, answer) = audited(alloc, book, stream_of(&record, 0)?, 1)?;
+    Ok(answer.err().ok_or("a page that comes back")?)
+}
+
+/// The words of an auditor's fault.
+fn words_of(alloc: Global, fault: &AuditorFault) -> Result<String, Fail> {
+    Ok(fault.to_string(alloc)?)
 }
 
 #[test]
 fn an_auditor_tells_its_fault_in_words(rt: HostRuntime) -> Result<(), Fail> {
-    let words = refused_page(rt.alloc())?.to_string(rt.alloc())?;
+    let fault = refused_page(rt.alloc())?;
     assert_eq!(rt;
-        words.as_str(),
+        words_of(rt.alloc(), &fault)?.as_str(),
         "processor 0: the page's processor has a page"
     );
-    let words = AuditorFault::Memory.to_string(rt.alloc())?;
-    assert_eq!(rt; words.as_str(), "out of memory");
+    assert_eq!(rt;
+        words_of(rt.alloc(), &AuditorFault::Memory)?.as_str(),
+        "out of memory"
+    );
     Ok(())
 }
 
@@ -191,15 +128,29 @@ static CROSSINGS: [Recording; 5] = [
     },
 ];
 
+/// Whether two are the same, and what the first tells.
+fn compared(closed: Closed, alone: Closed) -> (bool, Told) {
+    (closed == alone, told(closed))
+}
+
 /// What a crew and one thread come to on a record, and whether they agree in all.
 fn both<R: Threads + Wait + Sync>(
     rt: &R,
     alloc: Global,
     record: &Record,
-) -> Result<(bool, (u32, Option<(u32, u32, u32, Kind)>)), Fail> {
-    let closed = audit(rt, alloc, record, Knobs::standard(), &OpenGate)?;
-    let alone = audit_serial(alloc, record, Knobs::standard())?;
-    Ok((closed == alone, told(closed)))
+) -> Result<(bool, Told), Fail> {
+    let closed = together(rt, alloc, record, &OpenGate)?;
+    Ok(compared(closed, alone(alloc, record)?))
+}
+
+/// The same, on the record of a recording.
+fn both_on<R: Threads + Wait + Sync>(
+    rt: &R,
+    alloc: Global,
+    recording: &Recording,
+) -> Result<(bool, Told), Fail> {
+    let record = record_of(alloc, recording)?;
+    both(rt, alloc, &record)
 }
 
 /// The name of the first recording that a crew and one thread don't judge alike, or otherwise than the table says.
@@ -209,8 +160,7 @@ fn misjudged<R: Threads + Wait + Sync>(
     table: &[Recording],
 ) -> Result<Option<&'static str>, Fail> {
     for recording in table {
-        let record = record_of(alloc, recording)?;
-        if both(rt, alloc, &record)? != (true, (0, recording.fault)) {
+        if both_on(rt, alloc, recording)? != (true, (0, recording.fault)) {
             return Ok(Some(recording.name));
         }
     }
@@ -229,68 +179,68 @@ fn a_crew_comes_to_the_verdict_of_one_thread_on_migrations(rt: HostRuntime) -> R
     Ok(())
 }
 
-/// The first processor's fault is at line 4, before a thousand wakeups at the second.
-fn fault_before_many_wakeups(alloc: Global) -> Result<Record, Fail> {
-    let mut text = Vec::new(alloc);
-    text.extend_from_slice(
-        b"#\n#\n#\n            t201-201     [000] d..2.   100.001000: sched_switch: prev_comm=t201 prev_pid=201 prev_prio=120 prev_state=S ==> next_comm=swapper/0 next_pid=0 next_prio=120\n",
-    )?;
-    for _ in 0..1000 {
-        text.extend_from_slice(
-            b"            t102-102     [001] d..2.   100.002000: sched_wakeup: comm=t102 pid=102 prio=120 target_cpu=001\n",
-        )?;
-    }
-    let trace = read_trace(alloc, &text)?;
-    let companion = read_companion(
-        alloc,
-        b"cfs-companion 1\ncpus 2\nstart 100.000000\nfloor 0 0\nfloor 1 0\ntask 101 0 0 run 0\ntask 102 0 1 run 0\n",
-    )?;
-    Ok(join(trace, companion).ok().ok_or("they go together")?)
-}
-
 #[test]
 fn a_crew_comes_to_the_verdict_of_one_thread_on_many_events(rt: HostRuntime) -> Result<(), Fail> {
     let record = ten_thousand_wakeups(rt.alloc())?.record(rt.alloc())?;
     assert_eq!(rt; both(&rt, rt.alloc(), &record)?, (true, (0, None)));
-    let record = fault_before_many_wakeups(rt.alloc())?;
+    Ok(())
+}
+
+#[test]
+fn a_crew_comes_to_the_verdict_of_one_thread_before_many_events(
+    rt: HostRuntime,
+) -> Result<(), Fail> {
+    let record = fault_before_wakeups(rt.alloc(), 1000)?;
     let fault = Some((4, 0, 201, Kind::PrevNotRunning));
     assert_eq!(rt; both(&rt, rt.alloc(), &record)?, (true, (0, fault)));
     Ok(())
 }
 
-/// Each of 64 processors runs a task and wakes it; then 40, 7 and 63 switch from tasks that do not run there.
-fn three_faults_on_64_processors(alloc: Global) -> Result<Record, Fail> {
-    let mut trace = String::new(alloc);
-    let mut companion = String::new(alloc);
-    write!(companion, "cfs-companion 1\ncpus 64\nstart 100.000000\n")?;
+/// The companion of 64 processors, each of which runs a task.
+fn companion_of_64(alloc: Global) -> Result<String, Fail> {
+    let mut text = String::new(alloc);
+    write!(text, "cfs-companion 1\ncpus 64\nstart 100.000000\n")?;
     for cpu in 0..64 {
-        writeln!(companion, "floor {cpu} 0")?;
+        writeln!(text, "floor {cpu} 0")?;
     }
     for cpu in 0..64 {
         let pid = 101 + cpu;
-        writeln!(companion, "task {pid} 0 {cpu} run 0")?;
+        writeln!(text, "task {pid} 0 {cpu} run 0")?;
+    }
+    Ok(text)
+}
+
+/// Each of 64 processors wakes its task; then 40, 7 and 63 switch from tasks that do not run there.
+fn trace_of_64(alloc: Global) -> Result<String, Fail> {
+    let mut text = String::new(alloc);
+    for cpu in 0..64 {
+        let pid = 101 + cpu;
         writeln!(
-            trace,
+            text,
             "            t{pid}-{pid}     [{cpu:03}] d..2.   100.001000: sched_wakeup: comm=t{pid} pid={pid} prio=120 target_cpu={cpu:03}"
         )?;
     }
     for cpu in [40, 7, 63] {
         let pid = 201 + cpu;
         writeln!(
-            trace,
+            text,
             "            t{pid}-{pid}     [{cpu:03}] d..2.   100.002000: sched_switch: prev_comm=t{pid} prev_pid={pid} prev_prio=120 prev_state=S ==> next_comm=swapper/{cpu} next_pid=0 next_prio=120"
         )?;
     }
-    let trace = read_trace(alloc, trace.as_bytes())?;
-    let companion = read_companion(alloc, companion.as_bytes())?;
-    Ok(join(trace, companion).ok().ok_or("they go together")?)
+    Ok(text)
+}
+
+fn three_faults_on_64_processors(alloc: Global) -> Result<Record, Fail> {
+    let trace = trace_of_64(alloc)?;
+    let companion = companion_of_64(alloc)?;
+    record_from(alloc, trace.as_bytes(), companion.as_bytes())
 }
 
 #[test]
 fn a_thousand_crews_of_64_come_to_one_verdict(rt: HostRuntime) -> Result<(), Fail> {
     let record = three_faults_on_64_processors(rt.alloc())?;
     for _ in 0..1000 {
-        let closed = audit(&rt, rt.alloc(), &record, Knobs::standard(), &OpenGate)?;
+        let closed = together(&rt, rt.alloc(), &record, &OpenGate)?;
         assert_eq!(rt;
             told(closed),
             (0, Some((65, 40, 241, Kind::PrevNotRunning)))

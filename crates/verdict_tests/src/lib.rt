@@ -4,6 +4,8 @@
 #![tactic(auto)]
 
 #[cfg(test)]
+mod calls;
+#[cfg(test)]
 mod crews;
 #[cfg(test)]
 mod machines;
@@ -11,6 +13,8 @@ mod machines;
 mod meetings;
 #[cfg(test)]
 mod orders;
+#[cfg(test)]
+mod shelf;
 #[cfg(test)]
 mod stops;
 #[cfg(test)]

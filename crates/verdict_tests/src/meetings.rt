@@ -1,20 +1,26 @@
 //! Two auditors that wait for each other: they run at once, and hold no lock while they replay, in every call that audits.
 
+use crate::calls::{alone, gathered, record_from, together};
 use crate::machines::{DEATH_THEN_BIRTH, recording_at};
 use crate::verdicts::trace_of;
-use audit_crew::{Gate, audit, audit_serial, crew};
+use audit_crew::Gate;
 use cfs_model::Knobs;
-use companion_file::read_companion;
-use sched_audit::{FeedOf, Outcome, SinkOf, Status, Verdict, audit_texts, report, run};
-use sched_record::{Record, join, read_trace};
+use sched_audit::{Fault, FeedOf, Outcome, SinkOf, Status, Verdict, audit_texts, report, run};
+use sched_record::Record;
 use std::alloc::Global;
+use std::sync::Wait;
 use std::sync::atomic::{AtomicBool, AtomicU64, Ordering};
 use std::test::Fail;
 use std::thread;
+use std::thread::Threads;
 use std::time::{Clock, Duration};
+use ticket_book::Closed;
 
 /// The number of turns, each of a millisecond, for which an auditor waits for the other.
 const LIMIT: u32 = 10000;
+
+/// How often the auditors of processors 0 and 1 have entered, and whether one waited up to the limit.
+type Entries = (u64, u64, bool);
 
 /// A gate for two auditors, at which each entry waits until the other has entered as often, up to the limit.
 #[derive(Drop)]
@@ -35,8 +41,7 @@ impl<'c, C: Clock> Turnstile<'c, C> {
         }
     }
 
-    /// How often the auditors of processors 0 and 1 have entered, and whether one waited up to the limit.
-    fn entries(&self) -> (u64, u64, bool) {
+    fn entries(&self) -> Entries {
         (
             self.zero.load(Ordering::SeqCst),
             self.one.load(Ordering::SeqCst),
@@ -73,9 +78,7 @@ pub(crate) struct Meeting {
 
 impl Meeting {
     pub(crate) fn record(&self, alloc: Global) -> Result<Record, Fail> {
-        let trace = read_trace(alloc, &self.trace)?;
-        let companion = read_companion(alloc, self.companion.as_bytes())?;
-        Ok(join(trace, companion).ok().ok_or("they go together")?)
+        record_from(alloc, &self.trace, self.companion.as_bytes())
     }
 }
 
@@ -89,6 +92,25 @@ pub(crate) fn death_then_birth(alloc: Global) -> Result<Meeting, Fail> {
     })
 }
 
+/// Both processors run a task each from the start on.
+const BOTH_RUN: &str =
+    "cfs-companion 1\ncpus 2\nstart 100.000000\nfloor 0 0\nfloor 1 0\ntask 101 0 0 run 0\ntask 102 0 1 run 0\n";
+
+/// At line 4 processor 0 switches away from a task that doesn't run there; from line 5 on processor 1's task is woken so
+/// many times.
+pub(crate) fn fault_before_wakeups(alloc: Global, wakeups: usize) -> Result<Record, Fail> {
+    let mut text = Vec::new(alloc);
+    text.extend_from_slice(
+        b"#\n#\n#\n            t201-201     [000] d..2.   100.001000: sched_switch: prev_comm=t201 prev_pid=201 prev_prio=120 prev_state=S ==> next_comm=swapper/0 next_pid=0 next_prio=120\n",
+    )?;
+    for _ in 0..wakeups {
+        text.extend_from_slice(
+            b"            t102-102     [001] d..2.   100.002000: sched_wakeup: comm=t102 pid=102 prio=120 target_cpu=001\n",
+        )?;
+    }
+    record_from(alloc, &text, BOTH_RUN.as_bytes())
+}
+
 /// Both processors run a task each from the start on, and either is woken 5000 times: two stretches.
 pub(crate) fn ten_thousand_wakeups(alloc: Global) -> Result<Meeting, Fail> {
     let mut trace = Vec::new(alloc);
@@ -99,7 +121,7 @@ pub(crate) fn ten_thousand_wakeups(alloc: Global) -> Result<Meeting, Fail> {
     }
     Ok(Meeting {
         trace,
-        companion: "cfs-companion 1\ncpus 2\nstart 100.000000\nfloor 0 0\nfloor 1 0\ntask 101 0 0 run 0\ntask 102 0 1 run 0\n",
+        companion: BOTH_RUN,
         entries: 3,
     })
 }
@@ -109,75 +131,141 @@ fn meetings(alloc: Global) -> Result<[Meeting; 2], Fail> {
     Ok([death_then_birth(alloc)?, ten_thousand_wakeups(alloc)?])
 }
 
+/// How many pages a crew posts that meets at a gate, and the gate's entries.
+fn gathered_at<R: Threads + Wait + Clock + Sync>(
+    rt: &R,
+    alloc: Global,
+    record: &Record,
+) -> Result<(u32, Entries), Fail> {
+    let gate = Turnstile::new(rt);
+    let (posted, _least) = gathered(rt, alloc, record, &gate)?;
+    Ok((posted, gate.entries()))
+}
+
+/// What a crew comes to that meets at a gate, and the gate's entries.
+fn judged_at<R: Threads + Wait + Clock + Sync>(
+    rt: &R,
+    alloc: Global,
+    record: &Record,
+) -> Result<(Closed, Entries), Fail> {
+    let gate = Turnstile::new(rt);
+    let closed = together(rt, alloc, record, &gate)?;
+    Ok((closed, gate.entries()))
+}
+
+/// How many pages such a crew has made again, whether its verdict is that of one thread, and the gate's entries.
+fn compared_at<R: Threads + Wait + Clock + Sync>(
+    rt: &R,
+    alloc: Global,
+    record: &Record,
+) -> Result<(u32, bool, Entries), Fail> {
+    let (closed, entries) = judged_at(rt, alloc, record)?;
+    let same = closed.verdict == alone(alloc, record)?.verdict;
+    Ok((closed.remade, same, entries))
+}
+
+#[test]
+fn auditors_of_a_crew_wait_for_each_other(rt: HostRuntime) -> Result<(), Fail> {
+    for meeting in &meetings(rt.alloc())? {
+        let record = meeting.record(rt.alloc())?;
+        let entries = (meeting.entries, meeting.entries, false);
+        assert_eq!(rt; gathered_at(&rt, rt.alloc(), &record)?, (2, entries));
+    }
+    Ok(())
+}
+
 #[test]
 fn auditors_of_a_record_wait_for_each_other(rt: HostRuntime) -> Result<(), Fail> {
     for meeting in &meetings(rt.alloc())? {
         let record = meeting.record(rt.alloc())?;
-        let gate = Turnstile::new(&rt);
-        let gathered = crew(&rt, rt.alloc(), &record, Knobs::standard(), &gate)?;
-        assert_eq!(rt; gathered.posted, 2);
-        assert_eq!(rt; gate.entries(), (meeting.entries, meeting.entries, false));
-        let gate = Turnstile::new(&rt);
-        let closed = audit(&rt, rt.alloc(), &record, Knobs::standard(), &gate)?;
-        let alone = audit_serial(rt.alloc(), &record, Knobs::standard())?;
-        assert_eq!(rt; (closed.verdict, closed.remade), (alone.verdict, 0));
-        assert_eq!(rt; gate.entries(), (meeting.entries, meeting.entries, false));
+        let entries = (meeting.entries, meeting.entries, false);
+        assert_eq!(rt; compared_at(&rt, rt.alloc(), &record)?, (0, true, entries));
     }
     Ok(())
+}
+
+/// One thread's verdict.
+fn verdict_of(alloc: Global, meeting: &Meeting) -> Result<Verdict, Fail> {
+    let record = meeting.record(alloc)?;
+    Ok(alone(alloc, &record)?.verdict)
+}
+
+/// What the audit of two texts comes to whose auditors meet at a gate, and the gate's entries.
+fn texts_at<R: Threads + Wait + Clock + Sync>(
+    rt: &R,
+    alloc: Global,
+    meeting: &Meeting,
+) -> Result<(Verdict, Entries), Fail> {
+    let gate = Turnstile::new(rt);
+    let companion = meeting.companion.as_bytes();
+    let knobs = Knobs::standard();
+    let verdict = audit_texts(rt, alloc, &meeting.trace, companion, knobs, &gate)?;
+    Ok((verdict, gate.entries()))
 }
 
 #[test]
 fn auditors_of_two_texts_wait_for_each_other(rt: HostRuntime) -> Result<(), Fail> {
     for meeting in &meetings(rt.alloc())? {
-        let gate = Turnstile::new(&rt);
-        let verdict = audit_texts(
-            &rt,
-            rt.alloc(),
-            &meeting.trace,
-            meeting.companion.as_bytes(),
-            Knobs::standard(),
-            &gate,
-        )?;
-        let record = meeting.record(rt.alloc())?;
-        let alone = audit_serial(rt.alloc(), &record, Knobs::standard())?;
-        assert_eq!(rt; verdict, alone.verdict);
-        assert_eq!(rt; gate.entries(), (meeting.entries, meeting.entries, false));
+        let entries = (meeting.entries, meeting.entries, false);
+        assert_eq!(rt;
+            texts_at(&rt, rt.alloc(), meeting)?,
+            (verdict_of(rt.alloc(), meeting)?, entries)
+        );
     }
     Ok(())
+}
+
+/// What a run writes whose auditors meet at a gate, its status, and the gate's entries.
+fn run_at<R: Threads + Wait + Clock + Sync>(
+    rt: &R,
+    alloc: Global,
+    meeting: &Meeting,
+) -> (Vec<u8>, Result<Status, Fault>, Entries) {
+    let gate = Turnstile::new(rt);
+    let mut written = Vec::new(alloc);
+    let status = run(
+        rt,
+        alloc,
+        &mut FeedOf::new(meeting.trace.as_slice()),
+        &mut FeedOf::new(meeting.companion.as_bytes()),
+        Knobs::standard(),
+        &gate,
+        &mut SinkOf::new(&mut written),
+    );
+    (written, status, gate.entries())
+}
+
+/// The report of one thread's verdict.
+fn wanted(alloc: Global, meeting: &Meeting) -> Result<Vec<u8>, Fail> {
+    let verdict = verdict_of(alloc, meeting)?;
+    Ok(report(alloc, &Outcome::Judged(verdict))?)
 }
 
 #[test]
 fn auditors_of_a_run_wait_for_each_other(rt: HostRuntime) -> Result<(), Fail> {
     for meeting in &meetings(rt.alloc())? {
-        let gate = Turnstile::new(&rt);
-        let mut written = Vec::new(rt.alloc());
-        let status = run(
-            &rt,
-            rt.alloc(),
-            &mut FeedOf::new(meeting.trace.as_slice()),
-            &mut FeedOf::new(meeting.companion.as_bytes()),
-            Knobs::standard(),
-            &gate,
-            &mut SinkOf::new(&mut written),
+        let entries = (meeting.entries, meeting.entries, false);
+        assert_eq!(rt;
+            run_at(&rt, rt.alloc(), meeting),
+            (wanted(rt.alloc(), meeting)?, Ok(Status::Yes), entries)
         );
-        let record = meeting.record(rt.alloc())?;
-        let alone = audit_serial(rt.alloc(), &record, Knobs::standard())?;
-        let wanted = report(rt.alloc(), &Outcome::Judged(alone.verdict))?;
-        assert_eq!(rt; status, Ok(Status::Yes));
-        assert_eq!(rt; written, wanted);
-        assert_eq!(rt; gate.entries(), (meeting.entries, meeting.entries, false));
     }
     Ok(())
 }
 
+/// The number of events of a run.
+fn events_of(verdict: Verdict) -> Option<u64> {
+    match verdict {
+        Verdict::Run(summary) => Some(summary.events),
+        Verdict::Fault { .. } => None,
+    }
+}
+
 #[test]
 fn ten_thousand_wakeups_are_a_run(rt: HostRuntime) -> Result<(), Fail> {
-    let record = ten_thousand_wakeups(rt.alloc())?.record(rt.alloc())?;
-    let alone = audit_serial(rt.alloc(), &record, Knobs::standard())?;
-    match alone.verdict {
-        Verdict::Run(summary) => assert_eq!(rt; summary.events, 10000),
-        Verdict::Fault { .. } => return Err(Fail::from("a run")),
-    }
+    let meeting = ten_thousand_wakeups(rt.alloc())?;
+    let verdict = verdict_of(rt.alloc(), &meeting)?;
+    assert_eq!(rt; events_of(verdict), Some(10000));
     Ok(())
 }
 

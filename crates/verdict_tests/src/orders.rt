@@ -1,22 +1,27 @@
 //! Three auditors in each order in which they can come, and pages that aren't honest.
 
-use crate::crews::OwnShelf;
+use crate::calls::{
+    Ending, Told, book_for, book_of_first, closed, ended, gathered, page_of, together, told,
+    with_page,
+};
 use crate::machines::{DEATH_THEN_BIRTH, THREE_FAULTS, TWO_FAULTS, recording_at};
-use crate::verdicts::{Told, record_of, told};
-use audit_crew::{AuditorFault, Gate, OpenGate, audit, auditor, crew};
+use crate::verdicts::record_of;
+use audit_crew::Gate;
 use cfs_model::Knobs;
 use queue_replay::{Page, Reached, Tag};
 use sched_record::Record;
 use std::alloc::Global;
+use std::sync::Wait;
 use std::sync::atomic::{AtomicBool, AtomicU64, Ordering};
 use std::test::Fail;
 use std::thread;
+use std::thread::Threads;
 use std::time::{Clock, Duration};
-use ticket_book::{Book, PostFault, whole_page};
+use ticket_book::{Book, PostFault};
 
 /// Each order of three processors, and the least line of a fault that the book answers to each page in that order. The
 /// faults are at lines 4, 9 and 2.
-const ORDERS: [([u32; 3], [u64; 3]); 6] = [
+static ORDERS: [([u32; 3], [u64; 3]); 6] = [
     ([0, 1, 2], [4, 4, 2]),
     ([0, 2, 1], [4, 2, 2]),
     ([1, 0, 2], [9, 4, 2]),
@@ -25,35 +30,34 @@ const ORDERS: [([u32; 3], [u64; 3]); 6] = [
     ([2, 1, 0], [2, 2, 2]),
 ];
 
-/// The shelf over a book after the auditor of a processor, and what that auditor answered.
-fn audited(
+fn orders() -> &'static [([u32; 3], [u64; 3])] {
+    &ORDERS
+}
+
+/// What the book answers to the pages of auditors that come in this order, and what it then comes to.
+fn in_turn(
     alloc: Global,
-    book: Book,
     record: &Record,
-    cpu: u32,
-) -> Result<(OwnShelf, Result<(), AuditorFault>), Fail> {
-    if cpu >= record.cpus() {
-        return Err(Fail::from("a processor of the record"));
-    }
-    let stream = record.deal(cpu)?;
-    let mut shelf = OwnShelf::new(book);
-    let answer = auditor(alloc, &mut shelf, &OpenGate, stream, Knobs::standard(), 1);
-    Ok((shelf, answer))
+    order: [u32; 3],
+) -> Result<([Option<u64>; 3], Told), Fail> {
+    let [first, second, third] = order;
+    let (book, first) = ended(alloc, book_for(alloc, 3)?, record, first, 1)?;
+    let (book, second) = ended(alloc, book, record, second, 1)?;
+    let (book, third) = ended(alloc, book, record, third, 1)?;
+    let told = closed(book, record, Knobs::standard())?;
+    Ok(([first.answered, second.answered, third.answered], told))
 }
 
 #[test]
 fn three_auditors_come_to_one_verdict_in_each_order(rt: HostRuntime) -> Result<(), Fail> {
     let recording = recording_at(THREE_FAULTS)?;
     let record = record_of(rt.alloc(), recording)?;
-    for (order, answers) in &ORDERS {
-        let mut book = Book::new(rt.alloc(), 3)?;
-        for (cpu, answer) in order.iter().zip(answers.iter()) {
-            let (shelf, _posted) = audited(rt.alloc(), book, &record, *cpu)?;
-            assert_eq!(rt; shelf.answered, Some(*answer), "{cpu} of {order:?}");
-            book = shelf.book;
-        }
-        let closed = book.close(&record, Knobs::standard())?;
-        assert_eq!(rt; told(closed), (0, recording.fault), "{order:?}");
+    for (order, answers) in orders() {
+        assert_eq!(rt;
+            in_turn(rt.alloc(), &record, *order)?,
+            (answers.map(Some), (0, recording.fault)),
+            "{order:?}"
+        );
     }
     Ok(())
 }
@@ -117,19 +121,49 @@ impl<C: Clock + Sync> Gate for InOrder<'_, C> {
     }
 }
 
+/// What a crew that leaves in this order comes to, and whether one of it waited up to the limit.
+fn judged_in<R: Threads + Wait + Clock + Sync>(
+    rt: &R,
+    alloc: Global,
+    record: &Record,
+    order: [u32; 3],
+) -> Result<(Told, bool), Fail> {
+    let gate = InOrder::new(rt, order);
+    let closed = together(rt, alloc, record, &gate)?;
+    Ok((told(closed), gate.limit_reached.load(Ordering::SeqCst)))
+}
+
+/// How many pages such a crew posts, and the least line of a fault on them.
+fn gathered_in<R: Threads + Wait + Clock + Sync>(
+    rt: &R,
+    alloc: Global,
+    record: &Record,
+    order: [u32; 3],
+) -> Result<(u32, u64), Fail> {
+    let gate = InOrder::new(rt, order);
+    gathered(rt, alloc, record, &gate)
+}
+
 #[test]
 fn three_threads_come_to_one_verdict_in_each_order(rt: HostRuntime) -> Result<(), Fail> {
     let recording = recording_at(THREE_FAULTS)?;
     let record = record_of(rt.alloc(), recording)?;
-    for (order, _answers) in &ORDERS {
-        let gate = InOrder::new(&rt, *order);
-        let closed = audit(&rt, rt.alloc(), &record, Knobs::standard(), &gate)?;
-        assert_eq!(rt; told(closed), (0, recording.fault), "{order:?}");
-        assert!(rt; !gate.limit_reached.load(Ordering::SeqCst));
-        let gate = InOrder::new(&rt, *order);
-        let gathered = crew(&rt, rt.alloc(), &record, Knobs::standard(), &gate)?;
+    for (order, _answers) in orders() {
         assert_eq!(rt;
-            (gathered.posted, gathered.book.least()),
+            judged_in(&rt, rt.alloc(), &record, *order)?,
+            ((0, recording.fault), false),
+            "{order:?}"
+        );
+    }
+    Ok(())
+}
+
+#[test]
+fn three_threads_post_their_pages_in_each_order(rt: HostRuntime) -> Result<(), Fail> {
+    let record = record_of(rt.alloc(), recording_at(THREE_FAULTS)?)?;
+    for (order, _answers) in orders() {
+        assert_eq!(rt;
+            gathered_in(&rt, rt.alloc(), &record, *order)?,
             (3, 2),
             "{order:?}"
         );
@@ -137,80 +171,80 @@ fn three_threads_come_to_one_verdict_in_each_order(rt: HostRuntime) -> Result<()
     Ok(())
 }
 
-/// What the record of two faults comes to by these pages, in a book of so many processors.
-fn closed_with(alloc: Global, cpus: u32, pages: Vec<Page>) -> Result<Told, Fail> {
-    if cpus != 1 && cpus != 2 {
-        return Err(Fail::from("one processor or two"));
-    }
-    let record = record_of(alloc, recording_at(TWO_FAULTS)?)?;
-    let mut book = Book::new(alloc, cpus)?;
-    for page in pages {
-        book.post(page).ok().ok_or("the place is free")?;
-    }
-    Ok(told(book.close(&record, Knobs::standard())?))
+/// The record of two faults.
+fn two_faults(alloc: Global) -> Result<Record, Fail> {
+    record_of(alloc, recording_at(TWO_FAULTS)?)
 }
 
 /// The whole page of a processor of a recording, by these settings.
-fn page_of(alloc: Global, place: usize, cpu: u32, knobs: Knobs) -> Result<Page, Fail> {
+fn page_at(alloc: Global, place: usize, cpu: u32, knobs: Knobs) -> Result<Page, Fail> {
     let record = record_of(alloc, recording_at(place)?)?;
-    if cpu >= record.cpus() {
-        return Err(Fail::from("a processor of the record"));
-    }
-    Ok(whole_page(alloc, &record, cpu, knobs)?)
+    page_of(alloc, &record, cpu, knobs)
+}
+
+/// What the record of two faults comes to by this book.
+fn closed_on(alloc: Global, book: Book) -> Result<Told, Fail> {
+    let record = two_faults(alloc)?;
+    closed(book, &record, Knobs::standard())
+}
+
+/// What the record of two faults comes to by processor 0's page of another recording or settings, and its own of 1.
+fn with_other_page(alloc: Global, place: usize, knobs: Knobs) -> Result<Told, Fail> {
+    let book = with_page(book_for(alloc, 2)?, page_at(alloc, place, 0, knobs)?)?;
+    let own = page_at(alloc, TWO_FAULTS, 1, Knobs::standard())?;
+    closed_on(alloc, with_page(book, own)?)
 }
 
 #[test]
 fn a_page_that_is_not_honest_is_made_again(rt: HostRuntime) -> Result<(), Fail> {
     let fault = recording_at(TWO_FAULTS)?.fault;
-    let standard = Knobs::standard();
     let without_slack = Knobs::new(1_000_000, 3_000_000, 3_000_000, 0).ok_or("in range")?;
-    for (place, knobs) in [(DEATH_THEN_BIRTH, standard), (TWO_FAULTS, without_slack)] {
-        let mut pages = Vec::new(rt.alloc());
-        pages.push(page_of(rt.alloc(), place, 0, knobs)?)?;
-        pages.push(page_of(rt.alloc(), TWO_FAULTS, 1, standard)?)?;
-        assert_eq!(rt; closed_with(rt.alloc(), 2, pages)?, (1, fault), "{place}");
+    for (place, knobs) in [
+        (DEATH_THEN_BIRTH, Knobs::standard()),
+        (TWO_FAULTS, without_slack),
+    ] {
+        assert_eq!(rt;
+            with_other_page(rt.alloc(), place, knobs)?,
+            (1, fault),
+            "{place}"
+        );
     }
     Ok(())
+}
+
+/// A book of one processor with its page, of the record of two faults.
+fn book_of_one(alloc: Global) -> Result<Book, Fail> {
+    let record = two_faults(alloc)?;
+    book_of_first(alloc, 1, &record)
 }
 
 #[test]
 fn pages_that_are_missing_are_made_again(rt: HostRuntime) -> Result<(), Fail> {
     let fault = recording_at(TWO_FAULTS)?.fault;
-    let pages = Vec::new(rt.alloc());
-    assert_eq!(rt; closed_with(rt.alloc(), 2, pages)?, (2, fault));
+    let empty = book_for(rt.alloc(), 2)?;
+    assert_eq!(rt; closed_on(rt.alloc(), empty)?, (2, fault));
     // The book of one processor has no place for the other.
-    let mut pages = Vec::new(rt.alloc());
-    pages.push(page_of(rt.alloc(), TWO_FAULTS, 0, Knobs::standard())?)?;
-    assert_eq!(rt; closed_with(rt.alloc(), 1, pages)?, (1, fault));
+    let one = book_of_one(rt.alloc())?;
+    assert_eq!(rt; closed_on(rt.alloc(), one)?, (1, fault));
     Ok(())
 }
 
-/// A book of one processor with its page, of the record of two faults.
-fn book_of_first(alloc: Global) -> Result<Book, Fail> {
-    let mut book = Book::new(alloc, 1)?;
-    book.post(page_of(alloc, TWO_FAULTS, 0, Knobs::standard())?)
-        .ok()
-        .ok_or("the place is free")?;
-    Ok(book)
+/// What an auditor of the record of two faults leaves at a book of one processor with its page.
+fn ended_at_full(alloc: Global, cpu: u32) -> Result<Ending, Fail> {
+    let record = two_faults(alloc)?;
+    let (_book, ending) = ended(alloc, book_of_one(alloc)?, &record, cpu, 1)?;
+    Ok(ending)
 }
 
 #[test]
 fn an_auditor_hands_back_the_page_that_its_shelf_refuses(rt: HostRuntime) -> Result<(), Fail> {
-    let record = record_of(rt.alloc(), recording_at(TWO_FAULTS)?)?;
     for (cpu, line, wanted) in [(0, 4, PostFault::Twice), (1, 9, PostFault::Outside)] {
-        let book = book_of_first(rt.alloc())?;
-        let (shelf, answer) = audited(rt.alloc(), book, &record, cpu)?;
         let reached = Reached::Faulted(line);
-        let tag = Tag { cpu, reached };
-        match answer {
-            Err(AuditorFault::Refused(page, fault)) => {
-                assert_eq!(rt; (page.tag(), fault), (tag, wanted));
-            }
-            _ => return Err(Fail::from("a page that comes back")),
-        }
-        assert_eq!(rt; (shelf.posted, shelf.refused), (None, Some((tag, wanted))));
-        // The page that was there stays.
-        assert_eq!(rt; shelf.book.least(), 4);
+        let refused = Some((Tag { cpu, reached }, wanted));
+        let ending = ended_at_full(rt.alloc(), cpu)?;
+        assert_eq!(rt; (ending.posted, ending.refused), (None, refused));
+        // The page that was there stays, and its fault is at line 4.
+        assert_eq!(rt; (ending.back, ending.least), (refused, 4));
     }
     Ok(())
 }

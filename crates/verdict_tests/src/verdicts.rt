@@ -1,14 +1,12 @@
 //! Verdicts on recordings of several processors, and the books that they come from.
 
+use crate::calls::{MaybeFault, Told, alone, book_for, closed, page_of, posted, record_from, told};
 use crate::machines::{IDLE_FOUND_LATE, Lines, Recording, TWO_FAULTS, recording_at, recordings};
-use audit_crew::audit_serial;
-use cfs_model::{Kind, Knobs};
-use companion_file::read_companion;
-use queue_replay::Page;
-use sched_record::{Record, join, read_trace};
+use cfs_model::Knobs;
+use sched_record::Record;
 use std::alloc::Global;
 use std::test::Fail;
-use ticket_book::{Book, Closed, PostFault, Verdict, whole_page};
+use ticket_book::{Book, PostFault};
 
 /// A trace with these lines, and comments between them.
 pub(crate) fn trace_of(alloc: Global, lines: Lines) -> Result<Vec<u8>, Fail> {
@@ -27,68 +25,26 @@ pub(crate) fn trace_of(alloc: Global, lines: Lines) -> Result<Vec<u8>, Fail> {
 
 pub(crate) fn record_of(alloc: Global, recording: &Recording) -> Result<Record, Fail> {
     let text = trace_of(alloc, recording.lines)?;
-    let trace = read_trace(alloc, &text)?;
-    let companion = read_companion(alloc, recording.companion.as_bytes())?;
-    Ok(join(trace, companion).ok().ok_or("they go together")?)
+    record_from(alloc, &text, recording.companion.as_bytes())
 }
 
-fn fault_of(verdict: Verdict) -> Option<(u32, u32, u32, Kind)> {
-    match verdict {
-        Verdict::Run(_) => None,
-        Verdict::Fault {
-            line,
-            cpu,
-            pid,
-            kind,
-        } => Some((line, cpu, pid, kind)),
-    }
-}
-
-/// How many pages were made again, and the fault of the verdict.
-pub(crate) type Told = (u32, Option<(u32, u32, u32, Kind)>);
-
-/// What closing a book tells.
-pub(crate) fn told(closed: Closed) -> Told {
-    (closed.remade, fault_of(closed.verdict))
-}
-
-/// What a post tells, or why it is refused.
-fn posted(book: &mut Book, page: Page) -> Result<u64, PostFault> {
-    match book.post(page) {
-        Ok(least) => Ok(least),
-        Err((_page, fault)) => Err(fault),
-    }
+/// What one thread comes to on a recording.
+fn told_of(alloc: Global, recording: &Recording) -> Result<Told, Fail> {
+    let record = record_of(alloc, recording)?;
+    Ok(told(alone(alloc, &record)?))
 }
 
 #[test]
 fn the_first_line_is_named_with_its_cause(rt: HostRuntime) -> Result<(), Fail> {
     for recording in recordings() {
-        let record = record_of(rt.alloc(), recording)?;
-        let closed = audit_serial(rt.alloc(), &record, Knobs::standard())?;
-        assert_eq!(rt; told(closed), (0, recording.fault), "{}", recording.name);
+        assert_eq!(rt;
+            told_of(rt.alloc(), recording)?,
+            (0, recording.fault),
+            "{}",
+            recording.name
+        );
     }
     Ok(())
-}
-
-/// An empty book of one processor or two.
-fn book_for(alloc: Global, cpus: u32) -> Result<Book, Fail> {
-    if cpus != 1 && cpus != 2 {
-        return Err(Fail::from("one processor or two"));
-    }
-    Ok(Book::new(alloc, cpus)?)
-}
-
-/// What a book is closed with: how many pages were made again, and the fault.
-fn closed(book: Book, record: &Record, knobs: Knobs) -> Result<Told, Fail> {
-    Ok(told(book.close(record, knobs)?))
-}
-
-/// The whole page of a processor, by the settings that every table has.
-fn page_of(alloc: Global, record: &Record, cpu: u32) -> Result<Page, Fail> {
-    if cpu >= record.cpus() {
-        return Err(Fail::from("a processor of the record"));
-    }
-    Ok(whole_page(alloc, record, cpu, Knobs::standard())?)
 }
 
 /// What two posts told, how many pages were then made again, and the fault of the verdict.
@@ -97,10 +53,41 @@ struct Case {
     first: Result<u64, PostFault>,
     second: Result<u64, PostFault>,
     remade: u32,
-    fault: Option<(u32, u32, u32, Kind)>,
+    fault: MaybeFault,
+}
+
+/// What the post of a processor's whole page tells.
+fn post_of(
+    alloc: Global,
+    book: &mut Book,
+    record: &Record,
+    cpu: u32,
+) -> Result<Result<u64, PostFault>, Fail> {
+    let page = page_of(alloc, record, cpu, Knobs::standard())?;
+    Ok(posted(book, page))
 }
 
 /// A book of so many processors, with the pages of two posted in this order, and closed by these settings.
+fn case_by(
+    alloc: Global,
+    record: &Record,
+    cpus: u32,
+    posts: (u32, u32),
+    knobs: Knobs,
+) -> Result<Case, Fail> {
+    let mut book = book_for(alloc, cpus)?;
+    let first = post_of(alloc, &mut book, record, posts.0)?;
+    let second = post_of(alloc, &mut book, record, posts.1)?;
+    let (remade, fault) = closed(book, record, knobs)?;
+    Ok(Case {
+        first,
+        second,
+        remade,
+        fault,
+    })
+}
+
+/// The same of the record of a recording.
 fn case_of(
     alloc: Global,
     recording: &Recording,
@@ -109,18 +96,7 @@ fn case_of(
     knobs: Knobs,
 ) -> Result<Case, Fail> {
     let record = record_of(alloc, recording)?;
-    let first = page_of(alloc, &record, posts.0)?;
-    let second = page_of(alloc, &record, posts.1)?;
-    let mut book = book_for(alloc, cpus)?;
-    let first = posted(&mut book, first);
-    let second = posted(&mut book, second);
-    let (remade, fault) = closed(book, &record, knobs)?;
-    Ok(Case {
-        first,
-        second,
-        remade,
-        fault,
-    })
+    case_by(alloc, &record, cpus, posts, knobs)
 }
 
 #[test]

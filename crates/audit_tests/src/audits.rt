@@ -1,6 +1,7 @@
 //! What no clause says: the words of faults, reports as they are printed, and ends that fail.
 
 use crate::ends::{Broken, Drip, Narrow, Pieces};
+use crate::runs::{Ran, run_by_pieces, run_by_trace, run_into, run_of};
 use cfs_model::{Kind, Knobs};
 use queue_replay::Tallies;
 use replay_model::Tally;
@@ -166,73 +167,69 @@ fn reports_are_lines(rt: HostRuntime) -> Result<(), Fail> {
     Ok(())
 }
 
-#[test]
-fn a_run_is_judged_and_reported(rt: HostRuntime) -> Result<(), Fail> {
+/// Whether the audit of two texts comes to a run.
+fn is_run<R: Threads + Wait + Sync>(rt: &R, alloc: Global, trace: &[u8], companion: &[u8]) -> bool {
     let knobs = Knobs::standard();
-    let verdict = audit_texts(&rt, rt.alloc(), TRACE, COMPANION, knobs, &OpenGate);
-    assert!(rt; matches!(verdict, Ok(Verdict::Run(_))));
-    let mut written = Vec::new(rt.alloc());
+    let verdict = audit_texts(rt, alloc, trace, companion, knobs, &OpenGate);
+    matches!(verdict, Ok(Verdict::Run(_)))
+}
+
+/// What a run answers that writes to a vector of std, and what is written.
+fn run_to_vec<R: Threads + Wait + Sync>(rt: &R, alloc: Global) -> Ran {
+    let mut written = Vec::new(alloc);
     let status = run(
-        &rt,
-        rt.alloc(),
+        rt,
+        alloc,
         &mut FeedOf::new(TRACE),
         &mut FeedOf::new(COMPANION),
-        knobs,
+        Knobs::standard(),
         &OpenGate,
         &mut SinkOf::new(&mut written),
     );
+    (status, written)
+}
+
+#[test]
+fn a_run_is_judged_and_reported(rt: HostRuntime) {
+    assert!(rt; is_run(&rt, rt.alloc(), TRACE, COMPANION));
+    let (status, written) = run_to_vec(&rt, rt.alloc());
     assert_eq!(rt; status, Ok(Status::Yes));
     assert_eq!(rt; written.as_slice(), REPORT);
-    Ok(())
 }
 
 #[test]
-fn inputs_may_come_byte_by_byte(rt: HostRuntime) -> Result<(), Fail> {
-    let mut out = Narrow::new(rt.alloc(), usize::MAX, false);
-    let status = run(
-        &rt,
-        rt.alloc(),
-        &mut Pieces::new(TRACE, 1, 0),
-        &mut Pieces::new(COMPANION, 1, 0),
-        Knobs::standard(),
-        &OpenGate,
-        &mut out,
-    );
+fn inputs_may_come_byte_by_byte(rt: HostRuntime) {
+    let ((status, taken), _calls) = run_by_pieces(&rt, rt.alloc(), 1, (TRACE, 0), (COMPANION, 0));
     assert_eq!(rt; status, Ok(Status::Yes));
-    assert_eq!(rt; out.taken.as_slice(), REPORT);
-    Ok(())
+    assert_eq!(rt; taken.as_slice(), REPORT);
 }
 
 #[test]
-fn lines_may_be_cut_anywhere(rt: HostRuntime) -> Result<(), Fail> {
+fn lines_may_be_cut_anywhere(rt: HostRuntime) {
     for piece in 1..COMMENTED.len() + 1 {
         for (trace, status, text) in [
             (COMMENTED, Status::Yes, REPORT_AT_SLACK),
             (HELLO, Status::Refused, "refused trace line 1 BadHead\n"),
         ] {
-            let mut out = Narrow::new(rt.alloc(), usize::MAX, false);
-            let answer = run(
-                &rt,
-                rt.alloc(),
-                &mut Pieces::new(trace, piece, 0),
-                &mut FeedOf::new(WAITING),
-                Knobs::standard(),
-                &OpenGate,
-                &mut out,
-            );
+            let (answer, taken) = run_by_trace(&rt, rt.alloc(), trace, piece, 0, WAITING);
             assert_eq!(rt; answer, Ok(status), "pieces of {piece} bytes");
-            assert_eq!(rt; out.taken.as_slice(), text.as_bytes());
+            assert_eq!(rt; taken.as_slice(), text.as_bytes());
         }
     }
-    Ok(())
+}
+
+/// The one switch behind a comment of 200,000 bytes.
+fn behind_long_comment(alloc: Global) -> Result<Vec<u8>, Fail> {
+    let mut trace = Vec::new(alloc);
+    trace.resize(200_000, b'#')?;
+    trace.push(b'\n')?;
+    trace.extend_from_slice(TRACE)?;
+    Ok(trace)
 }
 
 #[test]
 fn a_line_may_be_longer_than_a_read(rt: HostRuntime) -> Result<(), Fail> {
-    let mut trace = Vec::new(rt.alloc());
-    trace.resize(200_000, b'#')?;
-    trace.push(b'\n')?;
-    trace.extend_from_slice(TRACE)?;
+    let trace = behind_long_comment(rt.alloc())?;
     // The switch now stands on line 2, where the companion claims line 1; and task 102 waits for 4 ms before it.
     for (companion, text) in [
         (COMPANION, "refused join line 1 ClaimNoEvent\n"),
@@ -241,17 +238,8 @@ fn a_line_may_be_longer_than_a_read(rt: HostRuntime) -> Result<(), Fail> {
             "fault line 2 cpu 0 pid 0 IdleTooLong: idle beside a waiting task\n",
         ),
     ] {
-        let mut out = Narrow::new(rt.alloc(), usize::MAX, false);
-        let _status = run(
-            &rt,
-            rt.alloc(),
-            &mut FeedOf::new(trace.as_slice()),
-            &mut FeedOf::new(companion),
-            Knobs::standard(),
-            &OpenGate,
-            &mut out,
-        );
-        assert_eq!(rt; out.taken.as_slice(), text.as_bytes());
+        let (_status, taken) = run_of(&rt, rt.alloc(), &trace, companion);
+        assert_eq!(rt; taken.as_slice(), text.as_bytes());
     }
     Ok(())
 }
@@ -260,114 +248,98 @@ fn a_line_may_be_longer_than_a_read(rt: HostRuntime) -> Result<(), Fail> {
 fn a_read_that_fails_behind_a_bad_line_is_told(rt: HostRuntime) {
     let calls = HELLO.len() as u64 + 1;
     for call in 1..calls + 1 {
-        let mut out = Narrow::new(rt.alloc(), usize::MAX, false);
-        let status = run(
-            &rt,
-            rt.alloc(),
-            &mut Pieces::new(HELLO, 1, call),
-            &mut FeedOf::new(WAITING),
-            Knobs::standard(),
-            &OpenGate,
-            &mut out,
-        );
+        let (status, taken) = run_by_trace(&rt, rt.alloc(), HELLO, 1, call, WAITING);
         assert_eq!(rt; status, Err(Fault::ReadTrace), "call {call}");
-        assert!(rt; out.taken.is_empty());
+        assert!(rt; taken.is_empty());
     }
 }
 
 #[test]
-fn a_failed_read_ends_the_run_with_nothing_written(rt: HostRuntime) -> Result<(), Fail> {
-    // Each input is read by one call for each piece and one for the end.
-    for (piece, trace_calls, companion_calls) in [(1, 168, 107), (usize::MAX, 2, 2)] {
-        for call in 1..trace_calls + 1 {
-            let mut out = Narrow::new(rt.alloc(), usize::MAX, false);
-            let status = run(
+fn a_failed_read_of_the_trace_ends_the_run_with_nothing_written(rt: HostRuntime) {
+    // By one call for each piece and one for the end.
+    for (piece, calls) in [(1, 168), (usize::MAX, 2)] {
+        for call in 1..calls + 1 {
+            let ((status, taken), _calls) = run_by_pieces(
                 &rt,
                 rt.alloc(),
-                &mut Pieces::new(TRACE, piece, call),
-                &mut Pieces::new(COMPANION, piece, 0),
-                Knobs::standard(),
-                &OpenGate,
-                &mut out,
+                piece,
+                (TRACE, call),
+                (COMPANION, 0),
             );
-            assert_eq!(rt; status, Err(Fault::ReadTrace), "call {call} of the trace");
-            assert!(rt; out.taken.is_empty());
-        }
-        for call in 1..companion_calls + 1 {
-            let mut out = Narrow::new(rt.alloc(), usize::MAX, false);
-            let status = run(
-                &rt,
-                rt.alloc(),
-                &mut Pieces::new(TRACE, piece, 0),
-                &mut Pieces::new(COMPANION, piece, call),
-                Knobs::standard(),
-                &OpenGate,
-                &mut out,
-            );
-            assert_eq!(rt;
-                status,
-                Err(Fault::ReadCompanion),
-                "call {call} of the companion"
-            );
-            assert!(rt; out.taken.is_empty());
+            assert_eq!(rt; status, Err(Fault::ReadTrace), "call {call}");
+            assert!(rt; taken.is_empty());
         }
     }
-    Ok(())
 }
 
 #[test]
-fn a_failed_write_leaves_a_front_of_the_report(rt: HostRuntime) -> Result<(), Fail> {
+fn a_failed_read_of_the_companion_ends_the_run_with_nothing_written(rt: HostRuntime) {
+    for (piece, calls) in [(1, 107), (usize::MAX, 2)] {
+        for call in 1..calls + 1 {
+            let ((status, taken), _calls) = run_by_pieces(
+                &rt,
+                rt.alloc(),
+                piece,
+                (TRACE, 0),
+                (COMPANION, call),
+            );
+            assert_eq!(rt; status, Err(Fault::ReadCompanion), "call {call}");
+            assert!(rt; taken.is_empty());
+        }
+    }
+}
+
+#[test]
+fn a_failed_write_leaves_a_front_of_the_report(rt: HostRuntime) {
     for fails in [true, false] {
         for room in 0..REPORT.len() {
-            let mut out = Narrow::new(rt.alloc(), room, fails);
-            let status = run(
-                &rt,
-                rt.alloc(),
-                &mut FeedOf::new(TRACE),
-                &mut FeedOf::new(COMPANION),
-                Knobs::standard(),
-                &OpenGate,
-                &mut out,
-            );
+            let (status, taken) = run_into(&rt, rt.alloc(), TRACE, COMPANION, room, fails);
             assert_eq!(rt; status, Err(Fault::Write), "room for {room} bytes");
-            assert_eq!(rt; out.taken.as_slice(), &REPORT[..room]);
+            assert_eq!(rt; taken.as_slice(), &REPORT[..room]);
         }
     }
-    Ok(())
 }
 
 #[test]
-fn a_read_that_fails_once_is_the_last(rt: HostRuntime) {
+fn a_read_of_the_trace_that_fails_once_is_the_last(rt: HostRuntime) {
     for call in [1, 2, 100] {
-        let mut trace = Pieces::new(TRACE, 1, call);
-        let mut companion = Pieces::new(COMPANION, 1, 0);
-        let mut out = Narrow::new(rt.alloc(), usize::MAX, false);
-        let status = run(
+        let ((status, taken), calls) = run_by_pieces(
             &rt,
             rt.alloc(),
-            &mut trace,
-            &mut companion,
-            Knobs::standard(),
-            &OpenGate,
-            &mut out,
+            1,
+            (TRACE, call),
+            (COMPANION, 0),
         );
         assert_eq!(rt; status, Err(Fault::ReadTrace));
-        assert_eq!(rt; (trace.calls, companion.calls), (call, 0));
-        assert!(rt; out.taken.is_empty());
+        assert_eq!(rt; calls, (call, 0));
+        assert!(rt; taken.is_empty());
+    }
+}
 
-        let mut companion = Pieces::new(COMPANION, 1, call);
-        let status = run(
-            &rt,
-            rt.alloc(),
-            &mut FeedOf::new(TRACE),
-            &mut companion,
-            Knobs::standard(),
-            &OpenGate,
-            &mut out,
-        );
+/// What a run answers whose companion comes byte by byte and fails at this call, what is written, and how often the
+/// companion was called.
+fn run_by_companion<R: Threads + Wait + Sync>(rt: &R, alloc: Global, fails_at: u64) -> (Ran, u64) {
+    let mut companion = Pieces::new(COMPANION, 1, fails_at);
+    let mut out = Narrow::new(alloc, usize::MAX, false);
+    let status = run(
+        rt,
+        alloc,
+        &mut FeedOf::new(TRACE),
+        &mut companion,
+        Knobs::standard(),
+        &OpenGate,
+        &mut out,
+    );
+    ((status, out.taken), companion.calls)
+}
+
+#[test]
+fn a_read_of_the_companion_that_fails_once_is_the_last(rt: HostRuntime) {
+    for call in [1, 2, 100] {
+        let ((status, taken), calls) = run_by_companion(&rt, rt.alloc(), call);
         assert_eq!(rt; status, Err(Fault::ReadCompanion));
-        assert_eq!(rt; companion.calls, call);
-        assert!(rt; out.taken.is_empty());
+        assert_eq!(rt; calls, call);
+        assert!(rt; taken.is_empty());
     }
 }
 
@@ -444,53 +416,75 @@ fn interrupted() -> Broken {
     }
 }
 
-#[test]
-fn an_interrupted_read_is_made_once_and_told(rt: HostRuntime) {
+/// What a run answers whose trace is interrupted, what is written, and how often the trace was called.
+fn run_by_interrupted_trace<R: Threads + Wait + Sync>(rt: &R, alloc: Global) -> (Ran, u32) {
     let mut trace = interrupted();
-    let mut out = Narrow::new(rt.alloc(), usize::MAX, false);
+    let mut out = Narrow::new(alloc, usize::MAX, false);
     let status = run(
-        &rt,
-        rt.alloc(),
+        rt,
+        alloc,
         &mut FeedOf::new(&mut trace),
         &mut FeedOf::new(COMPANION),
         Knobs::standard(),
         &OpenGate,
         &mut out,
     );
-    assert_eq!(rt; status, Err(Fault::ReadTrace));
-    assert_eq!(rt; trace.calls, 1);
-    assert!(rt; out.taken.is_empty());
+    ((status, out.taken), trace.calls)
+}
 
+/// The same of a companion.
+fn run_by_interrupted_companion<R: Threads + Wait + Sync>(rt: &R, alloc: Global) -> (Ran, u32) {
     let mut companion = interrupted();
-    let mut out = Narrow::new(rt.alloc(), usize::MAX, false);
+    let mut out = Narrow::new(alloc, usize::MAX, false);
     let status = run(
-        &rt,
-        rt.alloc(),
+        rt,
+        alloc,
         &mut FeedOf::new(TRACE),
         &mut FeedOf::new(&mut companion),
         Knobs::standard(),
         &OpenGate,
         &mut out,
     );
-    assert_eq!(rt; status, Err(Fault::ReadCompanion));
-    assert_eq!(rt; companion.calls, 1);
-    assert!(rt; out.taken.is_empty());
+    ((status, out.taken), companion.calls)
 }
 
 #[test]
-fn an_interrupted_write_is_made_once_and_told(rt: HostRuntime) {
+fn an_interrupted_read_is_made_once_and_told(rt: HostRuntime) {
+    let ((status, taken), calls) = run_by_interrupted_trace(&rt, rt.alloc());
+    assert_eq!(rt; status, Err(Fault::ReadTrace));
+    assert_eq!(rt; calls, 1);
+    assert!(rt; taken.is_empty());
+
+    let ((status, taken), calls) = run_by_interrupted_companion(&rt, rt.alloc());
+    assert_eq!(rt; status, Err(Fault::ReadCompanion));
+    assert_eq!(rt; calls, 1);
+    assert!(rt; taken.is_empty());
+}
+
+/// What a run answers whose sink is interrupted, and how often the sink was called.
+fn run_into_interrupted<R: Threads + Wait + Sync>(
+    rt: &R,
+    alloc: Global,
+) -> (Result<Status, Fault>, u32) {
     let mut writer = interrupted();
     let status = run(
-        &rt,
-        rt.alloc(),
+        rt,
+        alloc,
         &mut FeedOf::new(TRACE),
         &mut FeedOf::new(COMPANION),
         Knobs::standard(),
         &OpenGate,
         &mut SinkOf::new(&mut writer),
     );
-    assert_eq!(rt; status, Err(Fault::Write));
-    assert_eq!(rt; writer.calls, 1);
+    (status, writer.calls)
+}
+
+#[test]
+fn an_interrupted_write_is_made_once_and_told(rt: HostRuntime) {
+    assert_eq!(rt;
+        run_into_interrupted(&rt, rt.alloc()),
+        (Err(Fault::Write), 1)
+    );
 }
 
 /// The line, the task and the kind of a verdict's fault.
@@ -506,6 +500,17 @@ fn fault_of(answer: Result<Verdict, Refused>) -> Result<Option<(u32, u32, Kind)>
     }
 }
 
+/// The fault of the audit of two texts.
+fn fault_in<R: Threads + Wait + Sync>(
+    rt: &R,
+    alloc: Global,
+    trace: &[u8],
+    companion: &[u8],
+    knobs: Knobs,
+) -> Result<Option<(u32, u32, Kind)>, Refused> {
+    fault_of(audit_texts(rt, alloc, trace, companion, knobs, &OpenGate))
+}
+
 fn with_granularity(granularity: u64) -> Knobs {
     Knobs::new(granularity, 3_000_000, 3_000_000, 100_000).unwrap_or(Knobs::standard())
 }
@@ -514,8 +519,11 @@ fn with_granularity(granularity: u64) -> Knobs {
 fn a_pick_within_the_granularity_of_the_put_back_task_passes(rt: HostRuntime) {
     for (granularity, fault) in [(1_000_000, None), (999_999, Some((1, 102, Kind::NotLeast)))] {
         let knobs = with_granularity(granularity);
-        let answer = audit_texts(&rt, rt.alloc(), TRACE, BEHIND, knobs, &OpenGate);
-        assert_eq!(rt; fault_of(answer), Ok(fault), "{granularity} ns");
+        assert_eq!(rt;
+            fault_in(&rt, rt.alloc(), TRACE, BEHIND, knobs),
+            Ok(fault),
+            "{granularity} ns"
+        );
     }
 }
 
@@ -525,8 +533,9 @@ fn idling_beside_a_waiting_task_ends_with_the_slack(rt: HostRuntime) {
         (AT_SLACK, None),
         (ABOVE_SLACK, Some((1, 0, Kind::IdleTooLong))),
     ] {
-        let knobs = Knobs::standard();
-        let answer = audit_texts(&rt, rt.alloc(), trace, WAITING, knobs, &OpenGate);
-        assert_eq!(rt; fault_of(answer), Ok(fault));
+        assert_eq!(rt;
+            fault_in(&rt, rt.alloc(), trace, WAITING, Knobs::standard()),
+            Ok(fault)
+        );
     }
 }

@@ -10,3 +10,5 @@ mod command_lines;
 mod ends;
 #[cfg(test)]
 mod refusals;
+#[cfg(test)]
+mod runs;

@@ -1,8 +1,8 @@
 //! Refused traces, by both calls: `audit_texts`, which has the whole text, and `run`, which reads it as it comes.
 
-use crate::ends::Narrow;
+use crate::runs::{Ran, run_of};
 use cfs_model::Knobs;
-use sched_audit::{Cause, FeedOf, OpenGate, Refused, Source, Status, audit_texts, run};
+use sched_audit::{Cause, OpenGate, Refused, Source, Status, audit_texts};
 use std::alloc::Global;
 use std::sync::Wait;
 use std::test::Fail;
@@ -35,25 +35,17 @@ fn text_of(alloc: Global, lines: &[(&[u8], u32)]) -> Result<Vec<u8>, Fail> {
     Ok(text)
 }
 
+/// What `audit_texts` refuses.
+fn refused_by<R: Threads + Wait + Sync>(rt: &R, alloc: Global, trace: &[u8]) -> Option<Refused> {
+    audit_texts(rt, alloc, trace, COMPANION, Knobs::standard(), &OpenGate).err()
+}
+
 /// What `audit_texts` refuses, and what `run` ends with and writes.
-fn told<R: Threads + Wait + Sync>(
-    rt: &R,
-    alloc: Global,
-    trace: &[u8],
-) -> Result<(Option<Refused>, Status, Vec<u8>), Fail> {
-    let knobs = Knobs::standard();
-    let refused = audit_texts(rt, alloc, trace, COMPANION, knobs, &OpenGate).err();
-    let mut out = Narrow::new(alloc, usize::MAX, false);
-    let status = run(
-        rt,
-        alloc,
-        &mut FeedOf::new(trace),
-        &mut FeedOf::new(COMPANION),
-        knobs,
-        &OpenGate,
-        &mut out,
-    )?;
-    Ok((refused, status, out.taken))
+fn told<R: Threads + Wait + Sync>(rt: &R, alloc: Global, trace: &[u8]) -> (Option<Refused>, Ran) {
+    (
+        refused_by(rt, alloc, trace),
+        run_of(rt, alloc, trace, COMPANION),
+    )
 }
 
 fn refused(line: u64, cause: Cause) -> Option<Refused> {
@@ -75,9 +67,9 @@ fn the_first_of_two_bad_lines_is_named(rt: HostRuntime) -> Result<(), Fail> {
             (comment, 1),
         ];
         let text = text_of(rt.alloc(), &lines)?;
-        let (answer, status, report) = told(&rt, rt.alloc(), &text)?;
+        let (answer, (status, report)) = told(&rt, rt.alloc(), &text);
         assert_eq!(rt; answer, refused(4321, Cause::BadHead));
-        assert_eq!(rt; status, Status::Refused);
+        assert_eq!(rt; status, Ok(Status::Refused));
         assert_eq!(rt;
             report.as_slice(),
             b"refused trace line 4321 BadHead\n".as_slice()
@@ -99,9 +91,9 @@ fn a_time_that_goes_back_before_a_bad_line_is_named(rt: HostRuntime) -> Result<(
             (comment, 1500),
         ];
         let text = text_of(rt.alloc(), &lines)?;
-        let (answer, status, report) = told(&rt, rt.alloc(), &text)?;
+        let (answer, (status, report)) = told(&rt, rt.alloc(), &text);
         assert_eq!(rt; answer, refused(3000, Cause::TimeBack));
-        assert_eq!(rt; status, Status::Refused);
+        assert_eq!(rt; status, Ok(Status::Refused));
         assert_eq!(rt;
             report.as_slice(),
             b"refused trace line 3000 TimeBack\n".as_slice()

@@ -56,25 +56,67 @@ pub fn round_of<R: Clock + Threads + Wait + Sync>(
     trace: &[u8],
     companion: &[u8],
 ) -> io::Result<Round> {
-    let mut last = Instant::now(rt)?;
-    let (trace, companion) = read_both(alloc, trace, companion)?;
-    let reading = lap(rt, &mut last)?;
-    let record = join(trace, companion).map_err(|_| refused())?;
-    let joining = lap(rt, &mut last)?;
+    let (record, opening) = opened(rt, alloc, trace, companion)?;
     let alone = stages_of(rt, alloc, &record, 1)?;
     let together = stages_of(rt, alloc, &record, THREADS)?;
-    let _dropped = lap(rt, &mut last)?;
-    let _closed = audit_serial(alloc, &record, Knobs::standard()).map_err(out_of_memory)?;
-    let serial = lap(rt, &mut last)?;
-    let gate = CountingGate::new(alloc, record.cpus()).map_err(out_of_memory)?;
-    let closed = audit(rt, alloc, &record, Knobs::standard(), &gate).map_err(out_of_memory)?;
-    let crew = lap(rt, &mut last)?;
+    let serial = serial_of(rt, alloc, &record)?;
+    let Crew {
+        time: crew,
+        stretches,
+        closed,
+    } = crew_of(rt, alloc, &record)?;
     Ok(Round {
-        opening: Opening { reading, joining },
+        opening,
         alone,
         together,
         serial,
         crew,
+        stretches,
+        closed,
+    })
+}
+
+/// The record of two texts, and how long it took to come to it.
+fn opened<C: Clock>(
+    clock: &C,
+    alloc: Global,
+    trace: &[u8],
+    companion: &[u8],
+) -> io::Result<(Record, Opening)> {
+    let mut last = Instant::now(clock)?;
+    let (trace, companion) = read_both(alloc, trace, companion)?;
+    let reading = lap(clock, &mut last)?;
+    let record = join(trace, companion).map_err(|_| refused())?;
+    let joining = lap(clock, &mut last)?;
+    Ok((record, Opening { reading, joining }))
+}
+
+/// How long `audit_serial` takes.
+fn serial_of<C: Clock>(clock: &C, alloc: Global, record: &Record) -> io::Result<u128> {
+    let mut last = Instant::now(clock)?;
+    let _closed = audit_serial(alloc, record, Knobs::standard()).map_err(out_of_memory)?;
+    lap(clock, &mut last)
+}
+
+/// How long `audit` takes, the most stretches that one of its auditors replayed, and what it comes to.
+#[derive(Drop)]
+struct Crew {
+    time: u128,
+    stretches: u64,
+    closed: Closed,
+}
+
+fn crew_of<R: Clock + Threads + Wait + Sync>(
+    rt: &R,
+    alloc: Global,
+    record: &Record,
+) -> io::Result<Crew> {
+    let mut last = Instant::now(rt)?;
+    let gate = CountingGate::new(alloc, record.cpus()).map_err(out_of_memory)?;
+    let closed = audit(rt, alloc, record, Knobs::standard(), &gate).map_err(out_of_memory)?;
+    let time = lap(rt, &mut last)?;
+    Ok(Crew {
+        time,
         stretches: gate.most_stretches(),
         closed,
     })

@@ -1,5 +1,5 @@
 -- The laws of steps and runs (this project's profile), as the contracts in src/laws.rt state them.
-use Rattle.std.specs.Prelude.{◌≡◌, ◌≢◌, ℕ, ◌++◌, ℤ, ◌≤ℤ◌, List}
+use Rattle.std.specs.Prelude.{◌≡◌, ◌≢◌, ℕ, ◌++◌, ℤ, ◌≤ℤ◌, ◌↔◌, List}
 use Rattle.std.specs.List.{AllByRecursion}
 use Rattle.cfs_model.specs.Settings.{Settings}
 use Rattle.cfs_model.specs.Machine.{Machine}
@@ -9,6 +9,7 @@ use Rattle.cfs_model.specs.Touch.{touched}
 use Rattle.cfs_model.specs.Step.{IsStep}
 use Rattle.cfs_model.specs.Run.{AreSteps, IsRun}
 use Rattle.cfs_model.specs.Order.{IsInOrder, IsStart}
+use Rattle.cfs_model.specs.Least.{AtMost, lesser, AreLeast}
 use Rattle.cfs_model.specs.declared.task.Task.{Task}
 
 -- from a machine, by one event, there is at most one next machine
@@ -51,3 +52,33 @@ abbrev pub MarksMove : Type 0
 MarksMove = (knobs : Settings) (before : Machine) (event : Claimed) (after : Machine) → IsStep knobs before event after
     → AllByRecursion (λ cpu. after.mark cpu ≡ event.entry.time) (touched event.entry.act)
     × ((cpu : ℕ) → AllByRecursion (λ other. cpu ≢ other) (touched event.entry.act) → after.mark cpu ≡ before.mark cpu)
+
+-- a run at some settings is one at more generous ones
+abbrev pub MoreKeepsRun : Type 0
+MoreKeepsRun = (less more : Settings) (start : ℕ) (first : Machine) (events : List Claimed)
+    → AtMost less more → IsRun less start first events → IsRun more start first events
+
+-- a run at two settings is one at the lesser of each of the four
+abbrev pub LesserKeepsRun : Type 0
+LesserKeepsRun = (one other : Settings) (start : ℕ) (first : Machine) (events : List Claimed)
+    → IsRun one start first events → IsRun other start first events → IsRun (lesser one other) start first events
+
+-- the states of a run are the same at any settings at which it is one
+abbrev pub SameStates : Type 0
+SameStates = (one other : Settings) (start : ℕ) (first : Machine) (events : List Claimed)
+    → (run : IsRun one start first events) → (also : IsRun other start first events) → run.states ≡ also.states
+
+-- there are at most one least settings
+abbrev pub OneLeast : Type 0
+OneLeast = (start : ℕ) (first : Machine) (events : List Claimed) (one other : Settings)
+    → AreLeast start first events one → AreLeast start first events other → one ≡ other
+
+-- the events are a run just at the settings that are at least the least
+abbrev pub RunFromLeast : Type 0
+RunFromLeast = (start : ℕ) (first : Machine) (events : List Claimed) (least other : Settings)
+    → AreLeast start first events least → IsRun other start first events ↔ AtMost least other
+
+-- the least settings of a prefix are at most those of the whole
+abbrev pub LeastOfPrefix : Type 0
+LeastOfPrefix = (start : ℕ) (first : Machine) (events rest : List Claimed) (front whole : Settings)
+    → AreLeast start first events front → AreLeast start first (events ++ rest) whole → AtMost front whole

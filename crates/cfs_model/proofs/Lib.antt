@@ -3,8 +3,10 @@ pub mod Deciding
 pub mod FloorsRise
 pub mod IdleExample
 pub mod KeptOrder
+pub mod LeastSettings
 pub mod MarksMove
 pub mod MigrationExample
+pub mod MoreGenerous
 pub mod Moves
 pub mod NiceChangeExample
 pub mod OneNext

@@ -1,5 +1,5 @@
 //! The laws of steps and runs. Each is the contract of a function that does nothing.
-ghost use Rattle.cfs_model.specs.Laws.{OneNext, OneList, RunPrefix, StepKeepsOrder, RunKeepsOrder, StartInOrder, FloorsRise, MarksMove};
+ghost use Rattle.cfs_model.specs.Laws.{OneNext, OneList, RunPrefix, StepKeepsOrder, RunKeepsOrder, StartInOrder, FloorsRise, MarksMove, MoreKeepsRun, LesserKeepsRun, SameStates, OneLeast, RunFromLeast, LeastOfPrefix};
 
 /// From a machine an event leads to at most one machine, and events lead through at most one list of states.
 pub fn one_list()
@@ -29,4 +29,16 @@ pub fn floors_rise()
 /// A step charges at the processors that its event touches, up to its time.
 pub fn marks_move()
     ensures { MarksMove }
+{}
+
+/// More generous settings keep a run and its states, and so does the lesser of two settings that make one. So there are at
+/// most one least settings, the events are a run just at the settings that are at least these, and a prefix's are at
+/// most the whole's.
+pub fn least_settings()
+    ensures more { MoreKeepsRun }
+    ensures lesser { LesserKeepsRun }
+    ensures states { SameStates }
+    ensures one { OneLeast }
+    ensures exact { RunFromLeast }
+    ensures prefix { LeastOfPrefix }
 {}

@@ -1,0 +1,118 @@
+-- The least settings: the lesser of two settings that make a run makes one, since a step asks for one setting alone; and what
+-- follows.
+use Rattle.std.proofs.Common.{◌≡◌, ℕ, ◌+◌, ◌≤◌, min, max, ◌⊎◌, inl, inr, List, [], ◌∷◌, ◌++◌, refl, sym, ap, subst, ◌↔◌, arith}
+use Rattle.std.proofs.lemmas.Bool.{cases_lt}
+use Rattle.std.proofs.Math.Nat.{le-max_left, le-max_right}
+use Rattle.cfs_model.specs.Settings.{Settings}
+use Rattle.cfs_model.specs.Machine.{Machine}
+use Rattle.cfs_model.specs.Claimed.{Claimed}
+use Rattle.cfs_model.specs.Step.{IsStep}
+use Rattle.cfs_model.specs.Idle.{KeepsSlack}
+use Rattle.cfs_model.specs.Run.{AreSteps, times_of, IsRun}
+use Rattle.cfs_model.specs.Least.{AtMost, lesser, larger, AreLeast}
+use Rattle.cfs_model.specs.Laws.{LesserKeepsRun, SameStates, OneLeast, RunFromLeast, LeastOfPrefix}
+use Rattle.cfs_model.proofs.OneNext.{one_list}
+use Rattle.cfs_model.proofs.Prefix.{run_prefix}
+use Rattle.cfs_model.proofs.MoreGenerous.{asked, step_more, steps_more, run_more}
+use Rattle.cfs_model.specs.declared.act.Act.{Act}
+use Rattle.cfs_model.specs.declared.act.Act.TheVariants.{Switch, Wake, Born, Shift}
+
+-- the larger of two settings
+pub below_larger : (one other : Settings) → AtMost one (larger one other)
+below_larger one other = record {
+  granularity = le-max_left one.granularity other.granularity;
+  credit = le-max_left one.credit other.credit;
+  debit = le-max_left one.debit other.debit;
+  slack = le-max_left one.slack other.slack;
+}
+
+pub other_below_larger : (one other : Settings) → AtMost other (larger one other)
+other_below_larger one other = record {
+  granularity = le-max_right one.granularity other.granularity;
+  credit = le-max_right one.credit other.credit;
+  debit = le-max_right one.debit other.debit;
+  slack = le-max_right one.slack other.slack;
+}
+
+-- one of two numbers is at most the lesser
+pub one_or_other : (a b : ℕ) → (a ≤ min a b) ⊎ (b ≤ min a b)
+one_or_other a b = elim (cases_lt a b) [ inl h ↦ inl (omega arith) | inr h ↦ inr (omega arith) ]
+
+-- one of two settings asks no more of an event than the lesser
+asked_lesser : (one other : Settings) (act : Act)
+    → (asked act one ≤ asked act (lesser one other)) ⊎ (asked act other ≤ asked act (lesser one other))
+asked_lesser one other (Switch cpu prev prev_nice way next next_nice) = one_or_other one.granularity other.granularity
+asked_lesser one other (Wake cpu pid nice) = one_or_other one.credit other.credit
+asked_lesser one other (Born cpu pid nice) = one_or_other one.debit other.debit
+asked_lesser one other (Shift orig dest pid nice) = inl (omega arith)
+
+step_lesser : (one other : Settings) (before : Machine) (event : Claimed) (after : Machine)
+    → IsStep one before event after → IsStep other before event after → IsStep (lesser one other) before event after
+step_lesser one other before event after a b = elim (asked_lesser one other event.entry.act) [
+  | inl h ↦ step_more one (lesser one other) before event after h a
+  | inr h ↦ step_more other (lesser one other) before event after h b
+]
+
+steps_lesser : (one other : Settings) (before : Machine) (events : List Claimed) (states : List Machine)
+    → AreSteps one before events states → AreSteps other before events states
+    → AreSteps (lesser one other) before events states
+steps_lesser one other before [] [] a b = tt
+steps_lesser one other before [] (m ∷ states) a b = absurd a
+steps_lesser one other before (event ∷ events) [] a b = absurd a
+steps_lesser one other before (event ∷ events) (m ∷ states) a b = (
+  step_lesser one other before event m a.0 b.0,
+  steps_lesser one other m events states a.1 b.1,
+)
+
+slack_lesser : (one other : ℕ) (times : List ℕ) (states : List Machine) → KeepsSlack one times states
+    → KeepsSlack other times states → KeepsSlack (min one other) times states
+slack_lesser one other times states a b cpu i j below within idles =
+    let h = a cpu i j below within idles in
+    let k = b cpu i j below within idles in
+    elim (one_or_other one other) [ inl l ↦ omega arith | inr l ↦ omega arith ]
+
+-- a run's states are the same at any settings
+pub same_states : SameStates
+same_states one other start first events run also =
+    one_list (larger one other) first events run.states also.states
+    (steps_more one (larger one other) first events run.states (below_larger one other) run.steps)
+    (steps_more other (larger one other) first events also.states (other_below_larger one other) also.steps)
+
+pub run_lesser : LesserKeepsRun
+run_lesser one other start first events run also =
+    let same = sym (same_states one other start first events run also) in
+    record {
+      states = run.states;
+      steps = steps_lesser one other first events run.states run.steps
+          (subst (λ states. AreSteps other first events states) same also.steps);
+      slack = slack_lesser one.slack other.slack (times_of start events) (first ∷ run.states) run.slack
+          (subst (λ states. KeepsSlack other.slack (times_of start events) (first ∷ states)) same also.slack);
+    }
+
+nat_same : (a b : ℕ) → a ≤ b → b ≤ a → a ≡ b
+nat_same a b h k = omega arith
+
+abbrev settings : ℕ → ℕ → ℕ → ℕ → Settings
+settings g c d s = record { granularity = g; credit = c; debit = d; slack = s }
+
+settings_same : (g g' c c' d d' s s' : ℕ) → g ≡ g' → c ≡ c' → d ≡ d' → s ≡ s'
+    → settings g c d s ≡ settings g' c' d' s'
+settings_same g g' c c' d d' s s' p q r t = cc
+
+pub one_least : OneLeast
+one_least start first events one other a b =
+    let h = a.least other b.run in
+    let k = b.least one a.run in
+    settings_same one.granularity other.granularity one.credit other.credit one.debit other.debit one.slack other.slack
+    (nat_same one.granularity other.granularity h.granularity k.granularity)
+    (nat_same one.credit other.credit h.credit k.credit)
+    (nat_same one.debit other.debit h.debit k.debit)
+    (nat_same one.slack other.slack h.slack k.slack)
+
+pub run_from_least : RunFromLeast
+run_from_least start first events least other a =
+    (λ run. a.least other run, λ h. run_more least other start first events h a.run)
+
+pub least_of_prefix : LeastOfPrefix
+least_of_prefix start first events rest front whole a b =
+    a.least whole (run_prefix whole start first events rest b.run)

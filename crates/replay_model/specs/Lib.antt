@@ -18,3 +18,4 @@ pub mod Cause
 pub mod Closing
 pub mod Summary
 pub mod Totals
+pub mod Needs

@@ -1,0 +1,115 @@
+-- What the steps of one processor need of each setting, and how the needs of all processors tell the least settings at which
+-- a record is a run (this project's profile).
+use Rattle.std.specs.Prelude.{◌≡◌, ℕ, zero, suc, ◌-◌, ◌<◌, Option, Some, None, ℤ, pos, ◌+ℤ◌, ◌≤ℤ◌, ◌⊎◌, ◌↔◌, List, [], ◌∷◌}
+use Rattle.std.specs.List.{AllByRecursion}
+use Rattle.cfs_model.specs.Settings.{Settings}
+use Rattle.cfs_model.specs.Start.{start_machine}
+use Rattle.cfs_model.specs.Claimed.{Claimed}
+use Rattle.cfs_model.specs.Least.{AtMost, larger, AreLeast}
+use Rattle.replay_model.specs.Part.{Part, Entity}
+use Rattle.replay_model.specs.Deeds.{part_after_prev}
+use Rattle.replay_model.specs.QueueTests.{IsIdleTooLong}
+use Rattle.replay_model.specs.Cut.{steps_at, last_time_of, cut}
+use Rattle.replay_model.specs.Page.{ReplayStateView, IsStartOf, PassesStep}
+use Rattle.replay_model.specs.Composition.{IsRecord, TicketsAgree, BirthsAreNew, named}
+use Rattle.cfs_model.specs.declared.claim.Claim.{Claim}
+use Rattle.cfs_model.specs.declared.task.Place.TheVariants.{Wait}
+use Rattle.cfs_model.specs.declared.task.Task.{Task}
+use Rattle.replay_model.specs.declared.step.Deed.{Deed}
+use Rattle.replay_model.specs.declared.step.Deed.TheVariants.{Switch, Wake, Born}
+use Rattle.replay_model.specs.declared.step.Step.{Step}
+
+-- how far a value is above another; 0 where it isn't
+abbrev pub IsExcess : ℤ → ℤ → ℕ → Type 0
+IsExcess v from excess = ((v ≤ℤ from) × (excess ≡ 0)) ⊎ (v ≡ from +ℤ pos excess)
+
+-- v is the least virtual runtime of those who wait here
+pub record IsLeastWaiting (part : Part) (v : ℤ) : Type 0 where
+  pub pid : ℕ
+  pub task : Entity
+  pub stands : part.tasks pid ≡ Some task
+  pub waits : task.place ≡ Wait
+  pub runtime : task.runtime ≡ v
+  pub least : (other : ℕ) (s : Entity) → part.tasks other ≡ Some s → s.place ≡ Wait → v ≤ℤ s.runtime
+
+-- a pick needs a granularity of how far the next task's virtual runtime is above the least of those who wait, a previous
+-- task that stays among them; a switch to pid 0 and every other deed need none
+abbrev pub IsPickNeed : Part → Deed → ℕ → Type 0
+IsPickNeed part (Switch prev prev_nice way (suc n) next_nice) need =
+    (s : Entity) × (least : ℤ) × (part.tasks (suc n) ≡ Some s) × IsLeastWaiting (part_after_prev part prev way) least
+    × IsExcess s.runtime least need
+IsPickNeed part deed need = need ≡ 0
+
+-- a wakeup from rest, which is one with a claim, needs a credit of how far below the floor it places the task
+abbrev pub IsWakeNeed : Part → Deed → Option Claim → ℕ → Type 0
+IsWakeNeed part (Wake pid nice) (Some claim) need = IsExcess part.floor claim.v need
+IsWakeNeed part deed claim need = need ≡ 0
+
+-- a birth needs a debit of how far above the floor it places the task
+abbrev pub IsBirthNeed : Part → Deed → Option Claim → ℕ → Type 0
+IsBirthNeed part (Born pid nice) (Some claim) need = IsExcess claim.v part.floor need
+IsBirthNeed part deed claim need = need ≡ 0
+
+-- a processor that has idled beside a waiting task since a time needs a slack of how long that is; one that hasn't, none
+abbrev pub idle_need : Option ℕ → ℕ → ℕ
+idle_need None time = 0
+idle_need (Some since) time = time - since
+
+-- what a step needs, where the processor has idled beside a waiting task since a time, or hasn't, and the deed finds this
+-- part: of each setting what it is asked for
+pub record AreStepNeeds (since : Option ℕ) (found : Part) (step : Step) (needs : Settings) : Type 0 where
+  pub granularity : IsPickNeed found step.deed needs.granularity
+  pub credit : IsWakeNeed found step.deed step.claim needs.credit
+  pub debit : IsBirthNeed found step.deed step.claim needs.debit
+  pub slack : needs.slack ≡ idle_need since step.time
+
+-- the replay goes on by a step that passes, and this is what the step needs
+pub record PassesNeeding (knobs : Settings) (cpu : ℕ) (before : ReplayStateView) (step : Step) (after : ReplayStateView)
+    (needs : Settings) : Type 0 where
+  pub passes : PassesStep knobs cpu before step after
+  pub needs_are : AreStepNeeds before.since passes.found step needs
+
+-- settings of a slack alone
+abbrev pub only_slack : ℕ → Settings
+only_slack slack = record { granularity = 0; credit = 0; debit = 0; slack = slack }
+
+-- the replay goes on by steps that all pass, and needs has of each setting the greatest that one of them needs
+abbrev pub AllPassNeeding : Settings → ℕ → ReplayStateView → List Step → ReplayStateView → Settings → Type 0
+AllPassNeeding knobs cpu before [] after needs = (after ≡ before) × (needs ≡ only_slack 0)
+AllPassNeeding knobs cpu before (step ∷ steps) after needs =
+    (between : ReplayStateView) × (here later : Settings) × PassesNeeding knobs cpu before step between here
+    × AllPassNeeding knobs cpu between steps after later × (needs ≡ larger here later)
+
+-- a processor's replay of its steps among some events passes and ends like this, and needs has of each setting the
+-- greatest that one of the steps needs, or that the processor needs which still idles at the last of the events
+pub record PassesShareNeeding (knobs : Settings) (start : ℕ) (floors : List ℤ) (tasks : List Task) (events : List Claimed)
+    (cpu : ℕ) (last : ReplayStateView) (needs : Settings) : Type 0 where
+  pub first : ReplayStateView
+  pub is_start : IsStartOf (cut start floors tasks events cpu) first
+  pub of_steps : Settings
+  pub all_pass : AllPassNeeding knobs cpu first (steps_at cpu events) last of_steps
+  pub in_time : ¬ IsIdleTooLong knobs.slack last.since (last_time_of start events) 0
+  pub needs_are : needs ≡ larger of_steps (only_slack (idle_need last.since (last_time_of start events)))
+
+-- of each setting the greatest among those of the processors below a number
+abbrev pub largest : (ℕ → Settings) → ℕ → Settings
+largest needs zero = only_slack 0
+largest needs (suc cpu) = larger (largest needs cpu) (needs cpu)
+
+-- a step that passes under some settings passes under others just where these are at least what it needs
+abbrev pub PassesFromNeeds : Type 0
+PassesFromNeeds = (knobs other : Settings) (cpu : ℕ) (before : ReplayStateView) (step : Step) (after : ReplayStateView)
+    (needs : Settings)
+    → PassesNeeding knobs cpu before step after needs
+    → PassesStep other cpu before step after ↔ AtMost needs other
+
+-- where each processor's replay of its steps among the events of a record passes with its needs, the tickets of each
+-- migration agree and each birth is new, the largest needs are the least settings at which the events are a run
+abbrev pub SharesTellLeast : Type 0
+SharesTellLeast = (knobs : Settings) (start : ℕ) (floors : List ℤ) (tasks : List Task) (events : List Claimed)
+    (cpus : ℕ) (last : ℕ → ReplayStateView) (needs : ℕ → Settings)
+    → IsRecord start floors tasks events cpus
+    → ((cpu : ℕ) → cpu < cpus → PassesShareNeeding knobs start floors tasks events cpu (last cpu) (needs cpu))
+    → AllByRecursion (λ event. TicketsAgree (λ cpu. (last cpu).page) event.entry.line event.entry.act) events
+    → BirthsAreNew (named tasks) events
+    → AreLeast start (start_machine start floors tasks) events (largest needs cpus)

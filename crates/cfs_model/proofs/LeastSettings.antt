@@ -1,15 +1,15 @@
 -- The least settings: the lesser of two settings that make a run makes one, since a step asks for one setting alone; and what
 -- follows.
-use Rattle.std.proofs.Common.{◌≡◌, ℕ, ◌+◌, ◌≤◌, min, max, ◌⊎◌, inl, inr, List, [], ◌∷◌, ◌++◌, refl, sym, ap, subst, ◌↔◌, arith}
+use Rattle.std.proofs.Common.{◌≡◌, ℕ, ◌≤◌, min, ◌⊎◌, inl, inr, List, [], ◌∷◌, sym, subst, arith}
 use Rattle.std.proofs.lemmas.Bool.{cases_lt}
-use Rattle.std.proofs.Math.Nat.{le-max_left, le-max_right}
+use Rattle.std.proofs.Math.Nat.{le-max_left, le-max_right, max-le}
 use Rattle.cfs_model.specs.Settings.{Settings}
 use Rattle.cfs_model.specs.Machine.{Machine}
 use Rattle.cfs_model.specs.Claimed.{Claimed}
 use Rattle.cfs_model.specs.Step.{IsStep}
 use Rattle.cfs_model.specs.Idle.{KeepsSlack}
-use Rattle.cfs_model.specs.Run.{AreSteps, times_of, IsRun}
-use Rattle.cfs_model.specs.Least.{AtMost, lesser, larger, AreLeast}
+use Rattle.cfs_model.specs.Run.{AreSteps, times_of}
+use Rattle.cfs_model.specs.Least.{AtMost, lesser, larger}
 use Rattle.cfs_model.specs.Laws.{LesserKeepsRun, SameStates, OneLeast, RunFromLeast, LeastOfPrefix}
 use Rattle.cfs_model.proofs.OneNext.{one_list}
 use Rattle.cfs_model.proofs.Prefix.{run_prefix}
@@ -32,6 +32,26 @@ other_below_larger one other = record {
   credit = le-max_right one.credit other.credit;
   debit = le-max_right one.debit other.debit;
   slack = le-max_right one.slack other.slack;
+}
+
+-- what is at most something: along a chain, of the larger of two, and nothing at all
+pub at_most_trans : (less between more : Settings) → AtMost less between → AtMost between more → AtMost less more
+at_most_trans less between more h k = record {
+  granularity = le_through less.granularity between.granularity more.granularity h.granularity k.granularity;
+  credit = le_through less.credit between.credit more.credit h.credit k.credit;
+  debit = le_through less.debit between.debit more.debit h.debit k.debit;
+  slack = le_through less.slack between.slack more.slack h.slack k.slack;
+}
+  where
+    le_through : (a b c : ℕ) → a ≤ b → b ≤ c → a ≤ c
+    le_through a b c h k = omega arith
+
+pub larger_at_most : (one other more : Settings) → AtMost one more → AtMost other more → AtMost (larger one other) more
+larger_at_most one other more h k = record {
+  granularity = max-le h.granularity k.granularity;
+  credit = max-le h.credit k.credit;
+  debit = max-le h.debit k.debit;
+  slack = max-le h.slack k.slack;
 }
 
 -- one of two numbers is at most the lesser

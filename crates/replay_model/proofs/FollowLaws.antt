@@ -36,7 +36,7 @@ follows_start start floors tasks events cpu first s h = record {
   fault = ap (λ p. p.fault) h.page;
 }
 
-still_start : (slack start : ℕ) (m : Machine) (cpu : ℕ) (first : ReplayStateView) (events : List Claimed)
+pub still_start : (slack start : ℕ) (m : Machine) (cpu : ℕ) (first : ReplayStateView) (events : List Claimed)
     (states : List Machine) → IsSince None start first.part first.since
     → KeepsSlack slack (times_of start events) (m ∷ states) → Still slack cpu m start first events states
 still_start slack start m cpu first events states h keeps x e j a b idles =

@@ -71,7 +71,7 @@ followed_none cpu m time s last f e = subst (Followed cpu m time s [] []) (sym e
     early (suc i) below x e = absurd (omega arith)
 
 -- the slack of a processor one event later
-still_more : (slack cpu : ℕ) (m : Machine) (time : ℕ) (s : ReplayStateView) (event : Claimed) (events : List Claimed)
+pub still_more : (slack cpu : ℕ) (m : Machine) (time : ℕ) (s : ReplayStateView) (event : Claimed) (events : List Claimed)
     (after : Machine) (states : List Machine) (next : ReplayStateView)
     → KeepsUp cpu m time s → Still slack cpu m time s (event ∷ events) (after ∷ states)
     → KeepsSlack slack (times_of time (event ∷ events)) (m ∷ after ∷ states)
@@ -85,7 +85,7 @@ still_more slack cpu m time s event events after states next f still keeps begun
     go (inr h) = subst (λ y. slice_index (times_of event.entry.time events) j ≤ y + slack) (sym h)
         (keeps cpu 1 (suc j) (omega arith) (omega arith) (idles_later m (after ∷ states) cpu 0 j idles))
 
-keeps_more : (slack time : ℕ) (times : List ℕ) (m : Machine) (states : List Machine)
+pub keeps_more : (slack time : ℕ) (times : List ℕ) (m : Machine) (states : List Machine)
     → KeepsSlack slack (time ∷ times) (m ∷ states) → KeepsSlack slack times states
 keeps_more slack time times m states h cpu i j a b idles = h cpu (suc i) (suc j) (omega arith) (omega arith)
     (idles_later m states cpu i j idles)

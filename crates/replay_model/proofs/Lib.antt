@@ -39,12 +39,14 @@ pub mod Replayed
 pub mod Roll
 pub mod RunEndings
 pub mod RunEnds
+pub mod ShareNeeds
 pub mod Shares
 pub mod ShiftTickets
 pub mod StartFrom
 pub mod StartPart
 pub mod StepExists
 pub mod StepLines
+pub mod StepNeeds
 pub mod Stops
 pub mod SwitchClear
 pub mod TalliesAddedUp

@@ -6,6 +6,7 @@ ghost use Rattle.replay_model.specs.Endings.{BirthEndsRun, IdlingEndsRun, Ticket
 ghost use Rattle.replay_model.specs.Faults.{FaultEndsRun};
 ghost use Rattle.replay_model.specs.Following.{ReplayFollows, SlackFollows};
 ghost use Rattle.replay_model.specs.Migration.{MachineMigrates, PartsMigrate};
+ghost use Rattle.replay_model.specs.Needs.{PassesFromNeeds, SharesTellLeast};
 ghost use Rattle.replay_model.specs.OnePage.{OnePage};
 ghost use Rattle.replay_model.specs.PartStep.{MachineSteps, PartSteps};
 ghost use Rattle.replay_model.specs.Totals.{PagesAddUp, PagesTellSummary, TalliesBounded, TalliesOfTasks, TalliesOnce};
@@ -81,4 +82,12 @@ pub fn tallying()
     ensures tasks { TalliesOfTasks }
     ensures once { TalliesOnce }
     ensures bounded { TalliesBounded }
+{}
+
+/// A step that passes under some settings passes under others just where these are at least what it needs. So where the
+/// replays of all processors pass, the tickets of each migration agree and each birth is of a pid that isn't alive, the
+/// largest needs over the processors are the least settings at which the events are a run.
+pub fn needs()
+    ensures step { PassesFromNeeds }
+    ensures shares { SharesTellLeast }
 {}

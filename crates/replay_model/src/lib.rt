@@ -7,8 +7,8 @@ mod page;
 mod step;
 
 pub use laws::{
-    closing, composition, endings, faults_end_runs, first_faults, migrations, pages, part_steps,
-    replays, tallying,
+    closing, composition, endings, faults_end_runs, first_faults, migrations, needs, pages,
+    part_steps, replays, tallying,
 };
 pub use page::{LifeEvent, StepFault, Tally, Ticket};
 pub use step::{Deed, Step};

@@ -12,6 +12,8 @@ mod machines;
 #[cfg(test)]
 mod meetings;
 #[cfg(test)]
+mod nice_changes;
+#[cfg(test)]
 mod orders;
 #[cfg(test)]
 mod shelf;

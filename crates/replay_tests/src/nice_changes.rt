@@ -19,7 +19,7 @@ const PUT_BACK: usize = 3;
 
 const UNKNOWN: usize = 4;
 
-const CHANGES: [Recording; 13] = [
+static CHANGES: [Recording; 13] = [
     Recording {
         name: "changed while it runs",
         trace: b"            t101-101     [000] d..2.   100.001000: sched_wakeup: comm=t101 pid=101 prio=125 target_cpu=000\n            t101-101     [000] d..2.   100.002000: sched_switch: prev_comm=t101 prev_pid=101 prev_prio=125 prev_state=R+ ==> next_comm=t102 next_pid=102 next_prio=120\n",
@@ -145,14 +145,23 @@ const CHANGES: [Recording; 13] = [
     },
 ];
 
+/// The recordings, in the order of the table.
+fn changes() -> &'static [Recording] {
+    &CHANGES
+}
+
 /// The page of a recording of the table.
 fn changed_page(alloc: Global, place: usize) -> Result<Page, Fail> {
-    page_of(alloc, CHANGES.get(place).ok_or("a place in the table")?, 1)
+    page_of(
+        alloc,
+        changes().get(place).ok_or("a place in the table")?,
+        1,
+    )
 }
 
 #[test]
 fn a_change_of_a_nice_value_takes_effect_after_the_charge(rt: HostRuntime) -> Result<(), Fail> {
-    for row in &CHANGES {
+    for row in changes() {
         for steps in [1, 2, 1000] {
             let page = page_of(rt.alloc(), row, steps)?;
             assert_eq!(rt;

@@ -36,10 +36,15 @@ fn an_auditor_goes_on_to_its_fault(rt: HostRuntime) -> Result<(), Fail> {
 }
 
 /// What the auditor of processor 0 answers over a book that has a page of that processor.
-fn refused_page(alloc: Global) -> Result<AuditorFault, Fail> {
+fn refused_page(alloc: Global) -> Result<Result<(), AuditorFault>, Fail> {
     let record = death_then_birth(alloc)?.record(alloc)?;
     let book = book_of_first(alloc, 2, &record)?;
     let (_shelf, answer) = audited(alloc, book, stream_of(&record, 0)?, 1)?;
+    Ok(answer)
+}
+
+/// The fault of an auditor that tells one.
+fn fault_in(answer: Result<(), AuditorFault>) -> Result<AuditorFault, Fail> {
     Ok(answer.err().ok_or("a page that comes back")?)
 }
 
@@ -50,7 +55,7 @@ fn words_of(alloc: Global, fault: &AuditorFault) -> Result<String, Fail> {
 
 #[test]
 fn an_auditor_tells_its_fault_in_words(rt: HostRuntime) -> Result<(), Fail> {
-    let fault = refused_page(rt.alloc())?;
+    let fault = fault_in(refused_page(rt.alloc())?)?;
     assert_eq!(rt;
         words_of(rt.alloc(), &fault)?.as_str(),
         "processor 0: the page's processor has a page"

@@ -219,6 +219,7 @@ fn step(deed: Deed, claim: Option<Claim>) -> Step {
         time: 100_000_000_000,
         deed,
         claim,
+        nice: None,
     }
 }
 

@@ -283,7 +283,7 @@ fn fault_before_ten_thousand_wakeups(alloc: Global) -> Result<Meeting, Fail> {
     }
     Ok(Meeting {
         trace,
-        companion: "cfs-companion 1\ncpus 2\nstart 100.000000\nfloor 0 0\nfloor 1 0\ntask 101 0 0 run 0\ntask 102 0 1 run 0\n",
+        companion: BOTH_RUN,
         entries: 2,
     })
 }
@@ -292,12 +292,7 @@ fn fault_before_ten_thousand_wakeups(alloc: Global) -> Result<Meeting, Fail> {
 fn auditors_learn_of_a_fault_before_their_second_stretch(rt: HostRuntime) -> Result<(), Fail> {
     let meeting = fault_before_ten_thousand_wakeups(rt.alloc())?;
     let record = meeting.record(rt.alloc())?;
-    let alone = audit_serial(rt.alloc(), &record, Knobs::standard())?;
-    for _ in 0..3 {
-        let gate = Turnstile::new(&rt);
-        let closed = audit(&rt, rt.alloc(), &record, Knobs::standard(), &gate)?;
-        assert_eq!(rt; (&closed.verdict, closed.remade), (&alone.verdict, 0));
-        assert_eq!(rt; gate.entries(), (meeting.entries, meeting.entries, false));
-    }
+    let entries = (meeting.entries, meeting.entries, false);
+    assert_eq!(rt; compared_at(&rt, rt.alloc(), &record)?, (0, true, entries));
     Ok(())
 }

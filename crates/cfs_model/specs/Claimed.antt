@@ -1,15 +1,22 @@
 -- The events of a trace with what the companion says on their lines (this project's profile).
-use Rattle.std.specs.Prelude.{◌≡◌, ℕ, ◌==◌, Option, Some, None, ℤ, List, find, map}
+use Rattle.std.specs.Prelude.{◌≡◌, ℕ, ◌==◌, nat_lt, Bool, false, ◌&&◌, if◌then◌else◌, Option, Some, None, ℤ, List, [], ◌∷◌, find, map}
+use Rattle.std.specs.List.{list_any}
+use Rattle.cfs_model.specs.Machine.{put}
+use Rattle.cfs_model.specs.declared.act.Act.{Act}
+use Rattle.cfs_model.specs.declared.act.Act.TheVariants.{Born, Shift}
 use Rattle.cfs_model.specs.declared.act.Entry.{Entry}
 use Rattle.cfs_model.specs.declared.claim.Claim.{Claim}
 use Rattle.cfs_model.specs.declared.claim.ClaimSort.{ClaimSort}
+use Rattle.cfs_model.specs.declared.idle_line.IdleLine.{IdleLine}
 use Rattle.cfs_model.specs.declared.nice_line.NiceLine.{NiceLine}
 
--- an event with the claim and the change of a nice value on its line, if there are such
+-- an event with the claim and the change of a nice value on its line, if there are such, and with the policy of the task
+-- that is born or moves: whether it is the idle policy
 pub record Claimed : Type 0 where
   pub entry : Entry
   pub claim : Option Claim
   pub nice : Option NiceLine
+  pub idle : Bool
 
 -- the claim on a line
 abbrev pub claim_at : List Claim → ℕ → Option Claim
@@ -19,14 +26,47 @@ claim_at claims line = find (λ claim. claim.line == line) claims
 abbrev pub nice_at : List NiceLine → ℕ → Option NiceLine
 nice_at nices line = find (λ change. change.line == line) nices
 
--- an event with what is said on its line
-abbrev pub with_claim : List Claim → List NiceLine → Entry → Claimed
-with_claim claims nices entry =
-    record { entry = entry; claim = claim_at claims entry.line; nice = nice_at nices entry.line }
+-- the companion names the task of this pid as one of the idle policy from this line on
+abbrev pub is_named_idle : List IdleLine → ℕ → ℕ → Bool
+is_named_idle idles line pid = list_any (λ idle. (idle.line == line) && (idle.pid == pid)) idles
 
--- each event with what is said on its line
-abbrev pub claimed : List Claim → List NiceLine → List Entry → List Claimed
-claimed claims nices entries = map (λ entry. with_claim claims nices entry) entries
+-- who is of the idle policy after an event: a birth begins a task, of the policy that the companion names on its line
+abbrev pub policies_after : List IdleLine → (ℕ → Bool) → ℕ → Act → ℕ → Bool
+policies_after idles policies line (Born cpu pid nice) = put policies pid (is_named_idle idles line pid)
+policies_after idles policies line _ = policies
+
+-- who is of the idle policy before a line, by who is at the start and by the births among the events before it
+abbrev pub policies_before : List IdleLine → (ℕ → Bool) → List Entry → ℕ → ℕ → Bool
+policies_before idles policies [] line = policies
+policies_before idles policies (entry ∷ entries) line =
+    if nat_lt entry.line line
+    then policies_before idles (policies_after idles policies entry.line entry.act) entries line
+    else policies
+
+-- whether the task that is born or moves is of the idle policy: one that is born as the companion names it on the line, and
+-- one that moves as it was before
+abbrev pub policy_told : List IdleLine → (ℕ → ℕ → Bool) → ℕ → Act → Bool
+policy_told idles before line (Born cpu pid nice) = is_named_idle idles line pid
+policy_told idles before line (Shift orig dest pid nice) = before line pid
+policy_told idles before line _ = false
+
+-- the same of an event of a list, by who is of the idle policy at the start
+abbrev pub policy_in : List IdleLine → (ℕ → Bool) → List Entry → Entry → Bool
+policy_in idles policies entries entry =
+    policy_told idles (policies_before idles policies entries) entry.line entry.act
+
+-- an event with what is said on its line, and a policy
+abbrev pub with_claim : List Claim → List NiceLine → (Entry → Bool) → Entry → Claimed
+with_claim claims nices policy entry = record {
+  entry = entry;
+  claim = claim_at claims entry.line;
+  nice = nice_at nices entry.line;
+  idle = policy entry;
+}
+
+-- each event with what is said on its line, and its policy
+abbrev pub claimed : List Claim → List NiceLine → (Entry → Bool) → List Entry → List Claimed
+claimed claims nices policy entries = map (λ entry. with_claim claims nices policy entry) entries
 
 -- the claim is of this sort, and names this pid with this virtual runtime
 abbrev pub ClaimSays : Option Claim → ClaimSort → ℕ → ℤ → Type 0

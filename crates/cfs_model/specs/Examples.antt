@@ -1,6 +1,6 @@
 -- Small recordings against the definitions of a step and of a run (this project's profile), each both ways: the value
 -- at which there is a step, and that there is none at any other.
-use Rattle.std.specs.Prelude.{◌≡◌, ℕ, ◌≤◌, ℤ, pos, ◌≤ℤ◌, ◌↔◌, Some, None, List, [], ◌∷◌}
+use Rattle.std.specs.Prelude.{◌≡◌, ℕ, false, ◌≤◌, ℤ, pos, ◌≤ℤ◌, ◌↔◌, Some, None, List, [], ◌∷◌}
 use Rattle.cfs_model.specs.Settings.{Settings}
 use Rattle.cfs_model.specs.Machine.{Machine}
 use Rattle.cfs_model.specs.Start.{start_machine}
@@ -37,8 +37,8 @@ start_time = 100000000000
 -- one processor, where 101 runs at 0 with a nice value, and 102 waits at u
 abbrev pub switch_start : ℤ → ℤ → Machine
 switch_start nice u = start_machine start_time (pos 0 ∷ []) (
-    record { pid = 101; nice = nice; cpu = 0; place = Run; v = pos 0 }
-    ∷ record { pid = 102; nice = pos 0; cpu = 0; place = Wait; v = u } ∷ [])
+    record { pid = 101; nice = nice; idle = false; cpu = 0; place = Run; v = pos 0 }
+    ∷ record { pid = 102; nice = pos 0; idle = false; cpu = 0; place = Wait; v = u } ∷ [])
 
 -- 4 ms later it goes from 101, which stays, to 102; the claim puts 101 back at w
 abbrev pub switch_event : ℤ → ℤ → Claimed
@@ -46,6 +46,7 @@ switch_event nice w = record {
   entry = record { line = 1; time = 100004000000; act = Switch 0 101 nice Stays 102 (pos 0) };
   claim = Some (at_claim 1 101 w);
   nice = None;
+  idle = false;
 }
 
 -- 101 was charged 4 ms, and is put back at just that
@@ -65,7 +66,8 @@ PickExample = (granularity : ℕ)
 -- 4 ms after the start 101 is woken while it runs, printed with a nice value, and the companion says that its nice value
 -- is 5 from then on; 4 ms later the processor goes from 101, which stays, to 102, and the claim puts 101 back at w
 abbrev pub nice_events : ℤ → ℤ → List Claimed
-nice_events printed w = claimed (at_claim 2 101 w ∷ []) (record { line = 1; pid = 101; nice = pos 5 } ∷ []) (
+nice_events printed w =
+    claimed (at_claim 2 101 w ∷ []) (record { line = 1; pid = 101; nice = pos 5 } ∷ []) (λ entry. false) (
     record { line = 1; time = 100004000000; act = Wake 0 101 printed }
     ∷ record { line = 2; time = 100008000000; act = Switch 0 101 (pos 5) Stays 102 (pos 0) } ∷ [])
 
@@ -77,8 +79,8 @@ NiceChangeExample = (printed w : ℤ) → IsRun standard start_time (switch_star
 -- two processors with floors 3 and 100, where 101 waits at 5 at the first and 102 runs there at 3
 abbrev pub migration_start : Machine
 migration_start = start_machine start_time (pos 3 ∷ pos 100 ∷ []) (
-    record { pid = 101; nice = pos 0; cpu = 0; place = Wait; v = pos 5 }
-    ∷ record { pid = 102; nice = pos 0; cpu = 0; place = Run; v = pos 3 } ∷ [])
+    record { pid = 101; nice = pos 0; idle = false; cpu = 0; place = Wait; v = pos 5 }
+    ∷ record { pid = 102; nice = pos 0; idle = false; cpu = 0; place = Run; v = pos 3 } ∷ [])
 
 -- 101 moves to the second; the claim places it at w
 abbrev pub migration_event : ℕ → ℤ → Claimed
@@ -86,6 +88,7 @@ migration_event time w = record {
   entry = record { line = 1; time = time; act = Shift 0 1 101 (pos 0) };
   claim = Some (at_claim 1 101 w);
   nice = None;
+  idle = false;
 }
 
 -- at once: 5, less the first floor, and above the second
@@ -99,7 +102,7 @@ LaterMigrationExample = (w : ℤ) → HasStep standard migration_start (migratio
 -- one processor with floor 10 ms, where 101 rests at 0
 abbrev pub wake_start : Machine
 wake_start = start_machine start_time (pos 10000000 ∷ []) (
-    record { pid = 101; nice = pos 0; cpu = 0; place = Rest; v = pos 0 } ∷ [])
+    record { pid = 101; nice = pos 0; idle = false; cpu = 0; place = Rest; v = pos 0 } ∷ [])
 
 -- 101 is woken; the claim places it at w
 abbrev pub wake_event : ℤ → Claimed
@@ -107,6 +110,7 @@ wake_event w = record {
   entry = record { line = 1; time = start_time; act = Wake 0 101 (pos 0) };
   claim = Some (at_claim 1 101 w);
   nice = None;
+  idle = false;
 }
 
 -- from 3 ms below the floor to the floor
@@ -116,11 +120,11 @@ WakeExample = (w : ℤ) → HasStep standard wake_start (wake_event w) ↔ ((pos
 -- one processor, where 102 rests at 0
 abbrev pub idle_start : Machine
 idle_start = start_machine start_time (pos 0 ∷ []) (
-    record { pid = 102; nice = pos 0; cpu = 0; place = Rest; v = pos 0 } ∷ [])
+    record { pid = 102; nice = pos 0; idle = false; cpu = 0; place = Rest; v = pos 0 } ∷ [])
 
 -- 102 is woken 1 ms after the start and placed at 0, woken again 0.05 ms later, and picked at the time given
 abbrev pub idle_events : ℕ → List Claimed
-idle_events time = claimed (at_claim 1 102 (pos 0) ∷ []) [] (
+idle_events time = claimed (at_claim 1 102 (pos 0) ∷ []) [] (λ entry. false) (
     record { line = 1; time = 100001000000; act = Wake 0 102 (pos 0) }
     ∷ record { line = 2; time = 100001050000; act = Wake 0 102 (pos 0) }
     ∷ record { line = 3; time = time; act = Switch 0 0 (pos 0) Stays 102 (pos 0) } ∷ [])
@@ -133,11 +137,11 @@ IdleExample = (time : ℕ) → 100001050000 ≤ time
 -- two processors with floor 0, where 101 runs at the first
 abbrev pub birth_start : Machine
 birth_start = start_machine start_time (pos 0 ∷ pos 0 ∷ []) (
-    record { pid = 101; nice = pos 0; cpu = 0; place = Run; v = pos 0 } ∷ [])
+    record { pid = 101; nice = pos 0; idle = false; cpu = 0; place = Run; v = pos 0 } ∷ [])
 
 -- 101 leaves the first in a way, and 1 ms later a task of that pid is born at the second; the claim places it at w
 abbrev pub birth_events : Way → ℤ → List Claimed
-birth_events way w = claimed (at_claim 2 101 w ∷ []) [] (
+birth_events way w = claimed (at_claim 2 101 w ∷ []) [] (λ entry. false) (
     record { line = 1; time = 100001000000; act = Switch 0 101 (pos 0) way 0 (pos 0) }
     ∷ record { line = 2; time = 100002000000; act = Born 1 101 (pos 0) } ∷ [])
 
@@ -153,6 +157,7 @@ strange_event pid w = record {
   entry = record { line = 1; time = 100001000000; act = Born 1 102 (pos 0) };
   claim = Some (at_claim 1 102 w);
   nice = Some (record { line = 1; pid = pid; nice = pos 5 });
+  idle = false;
 }
 
 -- no task stands there, not even the one that is only being born
@@ -165,6 +170,7 @@ idle_switch w = record {
   entry = record { line = 1; time = 100001000000; act = Switch 0 101 (pos 0) Stays 0 (pos 0) };
   claim = Some (at_claim 1 101 w);
   nice = None;
+  idle = false;
 }
 
 -- a processor doesn't go idle beside the task that was just put back

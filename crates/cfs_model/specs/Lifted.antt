@@ -2,24 +2,24 @@
 -- each touched processor the running task is charged, and then the floor is raised. Sources: sched-design-CFS.rst, "The
 -- rbtree" (the time that a task just ran is added to its virtual runtime; min_vruntime is monotonic and tracks the
 -- smallest virtual runtime of the runqueue); sched-nice-design.rst (a nice value is a share, here a weight). That only
--- events charge, and the rounding, are this project's profile.
-use Rattle.std.specs.Prelude.{◌≡◌, ℕ, ◌-◌, ◌≤◌, if◌then◌else◌, Option, Some, option_map, option_and_then, ℤ, pos, ◌+ℤ◌, ◌≤ℤ◌, ◌⊎◌, List, [], ◌∷◌}
+-- events charge, the weight of the idle policy and the rounding are this project's profile.
+use Rattle.std.specs.Prelude.{◌≡◌, ℕ, Bool, ◌-◌, ◌≤◌, if◌then◌else◌, Option, Some, option_map, option_and_then, ℤ, pos, ◌+ℤ◌, ◌≤ℤ◌, ◌⊎◌, List, [], ◌∷◌}
 use Rattle.std.specs.Int.{int_max}
 use Rattle.cfs_model.specs.Charge.{charge_of}
 use Rattle.cfs_model.specs.Limits.{greatest_runtime}
-use Rattle.cfs_model.specs.Nice.{weight_of}
+use Rattle.cfs_model.specs.Nice.{task_weight}
 use Rattle.cfs_model.specs.Machine.{Machine, Stands, IsQueued, put, with_floor}
 use Rattle.cfs_model.specs.declared.task.Place.TheVariants.{Run}
 
--- what a task of this nice value is charged at this processor and time, in virtual nanoseconds: for the time since
+-- what a task of this nice value and policy is charged at this processor and time, in virtual nanoseconds: for the time since
 -- the processor's mark
-abbrev pub cost_at : Machine → ℕ → ℕ → ℤ → ℕ
-cost_at m cpu time nice = charge_of (time - m.mark cpu) (weight_of nice)
+abbrev pub cost_at : Machine → ℕ → ℕ → ℤ → Bool → ℕ
+cost_at m cpu time nice idle = charge_of (time - m.mark cpu) (task_weight nice idle)
 
 -- the virtual runtime of a task that is charged
 abbrev pub charged_runtime : Machine → ℕ → ℕ → ℕ → Option ℤ
 charged_runtime m cpu time pid =
-    option_and_then (λ nice. option_map (λ v. v +ℤ pos (cost_at m cpu time nice)) (m.runtime pid)) (m.nice pid)
+    option_and_then (λ nice. option_map (λ v. v +ℤ pos (cost_at m cpu time nice (m.idle pid))) (m.runtime pid)) (m.nice pid)
 
 -- who runs at the processor is charged, and its mark is the time
 abbrev pub charged : Machine → ℕ → ℕ → Machine
@@ -32,7 +32,8 @@ charged m cpu time = record m {
 abbrev pub CanCharge : Machine → ℕ → ℕ → Type 0
 CanCharge m cpu time =
     (pid : ℕ) (nice v : ℤ) → Stands m Run cpu pid → m.nice pid ≡ Some nice → m.runtime pid ≡ Some v
-    → (cost_at m cpu time nice ≤ greatest_runtime) × ((v +ℤ pos (cost_at m cpu time nice)) ≤ℤ pos greatest_runtime)
+    → (cost_at m cpu time nice (m.idle pid) ≤ greatest_runtime)
+    × ((v +ℤ pos (cost_at m cpu time nice (m.idle pid))) ≤ℤ pos greatest_runtime)
 
 -- v is the least virtual runtime of those who run or wait at the processor
 pub record IsLeast (m : Machine) (cpu : ℕ) (v : ℤ) : Type 0 where

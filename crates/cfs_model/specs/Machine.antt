@@ -1,6 +1,7 @@
 -- The state of the whole machine, and the words for what is changed in one. Sources: sched-design-CFS.rst, "Few
 -- implementation details" (a task's virtual runtime) and "The rbtree" (a runqueue's min_vruntime, here its floor);
--- sched-nice-design.rst (nice values). The three places and the marks are this project's profile.
+-- sched-nice-design.rst (nice values). The three places, the marks and that a policy is kept for life are this project's
+-- profile.
 use Rattle.std.specs.Prelude.{◌≡◌, ℕ, ◌==◌, Bool, true, false, if◌then◌else◌, IsTrue, Option, Some, None, ℤ, ◌⊎◌}
 use Rattle.cfs_model.specs.Charge.{IsInRange}
 use Rattle.cfs_model.specs.declared.task.Place.{Place}
@@ -19,6 +20,8 @@ pub record Machine : Type 0 where
   pub runtime : ℕ → Option ℤ
   -- the nice value of each task
   pub nice : ℕ → Option ℤ
+  -- who is of the idle policy, as told at the start or at a task's birth; of a pid without a task it says nothing
+  pub idle : ℕ → Bool
   -- the floor of each processor's runqueue, in virtual nanoseconds
   pub floor : ℕ → ℤ
   -- the time of the last charge at each processor, in nanoseconds
@@ -81,7 +84,11 @@ with_runtime m pid v = record m { runtime = put m.runtime pid (Some v) }
 abbrev pub with_nice : Machine → ℕ → ℤ → Machine
 with_nice m pid nice = record m { nice = put m.nice pid (Some nice) }
 
--- the pid has neither
+-- the pid is of the idle policy, or not
+abbrev pub with_policy : Machine → ℕ → Bool → Machine
+with_policy m pid idle = record m { idle = put m.idle pid idle }
+
+-- the pid has neither a virtual runtime nor a nice value
 abbrev pub without_values : Machine → ℕ → Machine
 without_values m pid = record m { runtime = put m.runtime pid None; nice = put m.nice pid None }
 

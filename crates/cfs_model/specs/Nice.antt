@@ -1,5 +1,5 @@
 -- Nice values and their weights (sched-nice-design.rst, and the scheduler's table of weights by nice).
-use Rattle.std.specs.Prelude.{ℕ, ℤ, pos, negsuc, ◌≤ℤ◌, ◌+ℤ◌, nat_abs, slice_index, List, [], ◌∷◌}
+use Rattle.std.specs.Prelude.{ℕ, Bool, if◌then◌else◌, ℤ, pos, negsuc, ◌≤ℤ◌, ◌+ℤ◌, nat_abs, slice_index, List, [], ◌∷◌}
 
 -- a nice value lies from -20 to 19
 abbrev pub IsNice : ℤ → Type 0
@@ -20,3 +20,11 @@ weights =
 -- the weight of a task of this nice value
 abbrev pub weight_of : ℤ → ℕ
 weight_of nice = slice_index weights (nat_abs (nice +ℤ pos 20))
+
+-- the weight of a task of the idle policy, whatever its nice value: less than that of the nicest fair task
+abbrev pub idle_weight : ℕ
+idle_weight = 3
+
+-- the weight of a task of this nice value, which is of the idle policy or not
+abbrev pub task_weight : ℤ → Bool → ℕ
+task_weight nice idle = if idle then idle_weight else weight_of nice

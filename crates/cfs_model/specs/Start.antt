@@ -1,6 +1,7 @@
 -- The machine that a companion's start, floors and tasks stand for (this project's profile).
 use Rattle.std.specs.Prelude.{ℕ, ◌==◌, Bool, true, false, ◌&&◌, Option, option_map, ℤ, pos, List, find, slice_index_or}
 use Rattle.std.specs.List.{list_any}
+use Rattle.std.specs.Option.{option_map_or}
 use Rattle.cfs_model.specs.Machine.{Machine, Pairs}
 use Rattle.cfs_model.specs.declared.task.Place.{Place}
 use Rattle.cfs_model.specs.declared.task.Place.TheVariants.{Run, Wait, Rest}
@@ -21,6 +22,10 @@ named_in tasks place cpu pid = list_any (λ t. (t.pid == pid) && ((t.cpu == cpu)
 abbrev pub task_of : List Task → ℕ → Option Task
 task_of tasks pid = find (λ t. t.pid == pid) tasks
 
+-- who is of the idle policy at the start
+abbrev pub starts_idle : List Task → ℕ → Bool
+starts_idle tasks pid = option_map_or (λ t. t.idle) (task_of tasks pid) false
+
 -- each task in its place with its values, and each processor with its floor and the start time as its mark; a
 -- processor past the list of floors has floor 0
 abbrev pub start_machine : ℕ → List ℤ → List Task → Machine
@@ -30,6 +35,7 @@ start_machine start floors tasks = record {
   resting = named_in tasks Rest;
   runtime = λ pid. option_map (λ t. t.v) (task_of tasks pid);
   nice = λ pid. option_map (λ t. t.nice) (task_of tasks pid);
+  idle = starts_idle tasks;
   floor = λ cpu. slice_index_or floors cpu (pos 0);
   mark = λ cpu. start;
 }

@@ -2,10 +2,10 @@
 -- a nice value. Source: sched-design-CFS.rst, "Few implementation details" (the task with the smallest virtual runtime is
 -- run) and "The rbtree" (within a granularity of it; min_vruntime places newly activated tasks). The bounds of a placement,
 -- the claims and what a migration keeps are this project's profile.
-use Rattle.std.specs.Prelude.{◌≡◌, ◌≢◌, ℕ, zero, suc, Option, Some, None, ℤ, pos, ◌+ℤ◌, ◌-ℤ◌, ◌≤ℤ◌, ◌⊎◌, ⊤}
+use Rattle.std.specs.Prelude.{◌≡◌, ◌≢◌, ℕ, Bool, zero, suc, Option, Some, None, ℤ, pos, ◌+ℤ◌, ◌-ℤ◌, ◌≤ℤ◌, ◌⊎◌, ⊤}
 use Rattle.std.specs.Int.{int_max}
 use Rattle.cfs_model.specs.Settings.{Settings}
-use Rattle.cfs_model.specs.Machine.{Machine, Stands, NobodyStands, IsQueued, AreValuesInRange, with_task, without_task, with_move, with_runtime, with_nice, without_values}
+use Rattle.cfs_model.specs.Machine.{Machine, Stands, NobodyStands, IsQueued, AreValuesInRange, with_task, without_task, with_move, with_runtime, with_nice, with_policy, without_values}
 use Rattle.cfs_model.specs.Claimed.{Claimed, ClaimSays}
 use Rattle.cfs_model.specs.Touch.{touched}
 use Rattle.cfs_model.specs.Lifted.{IsLifted}
@@ -88,15 +88,16 @@ pub record IsWakeResting (knobs : Settings) (m : Machine) (cpu pid : ℕ) (nice 
   pub to : placed ≤ℤ int_max own (m.floor cpu)
   pub result : after ≡ with_runtime (with_move m pid Rest cpu Wait cpu) pid placed
 
--- a task that stands nowhere is born: it waits, with a virtual runtime from the floor to the floor and the debit
-pub record IsBirth (knobs : Settings) (m : Machine) (cpu pid : ℕ) (nice : ℤ) (claim : Option Claim)
+-- a task that stands nowhere is born: it waits, with a virtual runtime from the floor to the floor and the debit, and
+-- with the policy told
+pub record IsBirth (knobs : Settings) (m : Machine) (cpu pid : ℕ) (nice : ℤ) (claim : Option Claim) (idle : Bool)
     (after : Machine) : Type 0 where
   pub nowhere : (place : Place) (other : ℕ) → ¬ Stands m place other pid
   pub placed : ℤ
   pub claimed : ClaimSays claim At pid placed
   pub from : m.floor cpu ≤ℤ placed
   pub to : placed ≤ℤ (m.floor cpu +ℤ pos knobs.debit)
-  pub result : after ≡ with_nice (with_runtime (with_task m Wait cpu pid) pid placed) pid nice
+  pub result : after ≡ with_policy (with_nice (with_runtime (with_task m Wait cpu pid) pid placed) pid nice) pid idle
 
 -- a task that waits moves by one sort of claim, one that rests by the other, and one that runs by none
 abbrev pub MovesBy : Place → ClaimSort → Type 0
@@ -104,13 +105,14 @@ MovesBy Wait At = ⊤
 MovesBy Rest Pass = ⊤
 MovesBy _ _ = ⊥
 
--- a task moves: it keeps its place, and its virtual runtime less the floor
-pub record IsMigration (m : Machine) (orig dest pid : ℕ) (nice : ℤ) (claim : Option Claim) (after : Machine)
+-- a task moves: it keeps its place, and its virtual runtime less the floor; nice value and policy are those that are told
+pub record IsMigration (m : Machine) (orig dest pid : ℕ) (nice : ℤ) (claim : Option Claim) (idle : Bool) (after : Machine)
     : Type 0 where
   pub differ : orig ≢ dest
   pub place : Place
   pub stands : Stands m place orig pid
   pub prio : m.nice pid ≡ Some nice
+  pub policy : m.idle pid ≡ idle
   pub own : ℤ
   pub runtime : m.runtime pid ≡ Some own
   pub sort : ClaimSort
@@ -119,13 +121,13 @@ pub record IsMigration (m : Machine) (orig dest pid : ℕ) (nice : ℤ) (claim :
   pub result : after ≡ with_runtime (with_move m pid place orig place dest) pid ((own -ℤ m.floor orig) +ℤ m.floor dest)
 
 -- what an event changes in the machine as it finds it
-abbrev pub Changes : Settings → Machine → Act → Option Claim → Machine → Type 0
-Changes knobs m (Switch cpu prev prev_nice way next next_nice) claim after =
+abbrev pub Changes : Settings → Machine → Act → Option Claim → Bool → Machine → Type 0
+Changes knobs m (Switch cpu prev prev_nice way next next_nice) claim idle after =
     IsSwitch knobs m cpu prev prev_nice way next next_nice claim after
-Changes knobs m (Wake cpu pid nice) claim after =
+Changes knobs m (Wake cpu pid nice) claim idle after =
     IsWakeQueued m cpu pid nice claim after ⊎ IsWakeResting knobs m cpu pid nice claim after
-Changes knobs m (Born cpu pid nice) claim after = IsBirth knobs m cpu pid nice claim after
-Changes knobs m (Shift orig dest pid nice) claim after = IsMigration m orig dest pid nice claim after
+Changes knobs m (Born cpu pid nice) claim idle after = IsBirth knobs m cpu pid nice claim idle after
+Changes knobs m (Shift orig dest pid nice) claim idle after = IsMigration m orig dest pid nice claim idle after
 
 -- the event leads from a machine to the next: by the lift, the change of a nice value and the event's own change, and
 -- with every value in range
@@ -134,5 +136,5 @@ pub record IsStep (knobs : Settings) (before : Machine) (event : Claimed) (after
   pub is_lifted : IsLifted event.entry.time (touched event.entry.act) before lifted
   pub found : Machine
   pub is_reniced : IsReniced (home_of event.entry.act) event.nice lifted found
-  pub changes : Changes knobs found event.entry.act event.claim after
+  pub changes : Changes knobs found event.entry.act event.claim event.idle after
   pub in_range : AreValuesInRange after

@@ -5,6 +5,7 @@
 mod act;
 mod claim;
 mod examples;
+mod idle_line;
 mod kind;
 mod knobs;
 mod laws;
@@ -21,6 +22,7 @@ pub use examples::{
     birth_example, idle_example, migration_example, nice_example, pick_example, put_back_example,
     wake_example,
 };
+pub use idle_line::IdleLine;
 pub use kind::Kind;
 pub use knobs::Knobs;
 pub use laws::{floors_rise, least_settings, marks_move, one_list, places, prefixes};
@@ -32,4 +34,4 @@ pub use memory::Memory;
 pub use nice::{Nice, PrioFault};
 pub use nice_line::NiceLine;
 pub use task::{Place, Task};
-pub use weights::{charge, weight};
+pub use weights::{charge, weight, weight_of};

@@ -17,6 +17,8 @@ pub struct Task {
     /// From 1.
     pub pid: u32,
     pub nice: Nice,
+    /// Whether it is of the idle policy (`SCHED_IDLE`), and weighs so, whatever its nice value.
+    pub idle: bool,
     /// The processor at which it stands.
     pub cpu: u32,
     pub place: Place,

@@ -1,7 +1,7 @@
 ghost use Rattle.std.specs.Prelude.{◌≡◌, ℕ, pos, ◌+ℤ◌, nat_abs, ◌*◌, ◌/◌, ◌<◌, ◌≤◌, SomeIff};
 ghost use Rattle.cfs_model.specs.Charge.{charge_of};
 ghost use Rattle.cfs_model.specs.Limits.{greatest_runtime};
-ghost use Rattle.cfs_model.specs.Nice.{weight_of};
+ghost use Rattle.cfs_model.specs.Nice.{task_weight, weight_of};
 
 use crate::limits::GREATEST_RUNTIME;
 use crate::nice::Nice;
@@ -37,6 +37,17 @@ pub fn weight(nice: Nice) -> u32
         15: 36, 29, 23, 18, 15;
     )
 }
+
+/// The weight of a task of this nice value and policy: `IDLE_WEIGHT` where it is of the idle policy. It is above 0.
+pub fn weight_of(nice: Nice, idle: bool) -> u32
+    ensures policy { result ≡ task_weight nice idle }
+    ensures positive { 0 < result }
+{
+    if idle { IDLE_WEIGHT } else { weight(nice) }
+}
+
+/// The weight of a task of the idle policy.
+const IDLE_WEIGHT: u32 = 3;
 
 /// The virtual nanoseconds that `delta` nanoseconds of running time cost at this weight.
 pub fn charge(delta: u64, weight: u32) -> Option<i64>

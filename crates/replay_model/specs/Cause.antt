@@ -56,7 +56,7 @@ pub record IsUnequal (knobs : Settings) (m : Machine) (orig dest pid : ℕ) (nic
   pub came : Part
   pub leaves : PassesAt knobs m orig event left
   pub arrives : PassesAt knobs m dest event came
-  pub differ : left_ticket left event.entry.line pid ≢ came_ticket came event.entry.line pid nice event.claim
+  pub differ : left_ticket left event.entry.line pid ≢ came_ticket came event.entry.line pid nice event.idle event.claim
   pub is : cause ≡ record { cpu = dest; pid = pid; kind = TicketUnequal }
 
 -- the tests of a birth pass at its processor, and the pid stands at another

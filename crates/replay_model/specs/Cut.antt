@@ -28,12 +28,14 @@ pub record StreamView : Type 0 where
 abbrev pub touches : ℕ → Claimed → Bool
 touches cpu event = list_any (λ other. other == cpu) (touched event.entry.act)
 
--- what an event does at a processor that it touches: a migration leaves its origin and comes to its destination
-abbrev pub deed_at : ℕ → Act → Deed
-deed_at cpu (act.Switch here prev prev_nice way next next_nice) = Switch prev prev_nice way next next_nice
-deed_at cpu (act.Wake here pid nice) = Wake pid nice
-deed_at cpu (act.Born here pid nice) = Born pid nice
-deed_at cpu (act.Shift orig dest pid nice) = if orig == cpu then Leave pid nice dest else Arrive pid nice orig
+-- what an event does at a processor that it touches, with the policy of who is born or comes: a migration leaves its
+-- origin and comes to its destination
+abbrev pub deed_at : ℕ → Bool → Act → Deed
+deed_at cpu idle (act.Switch here prev prev_nice way next next_nice) = Switch prev prev_nice way next next_nice
+deed_at cpu idle (act.Wake here pid nice) = Wake pid nice
+deed_at cpu idle (act.Born here pid nice) = Born pid nice idle
+deed_at cpu idle (act.Shift orig dest pid nice) =
+    if orig == cpu then Leave pid nice dest else Arrive pid nice orig idle
 
 -- the claim on the event's line, but for the origin of a migration, which has none
 abbrev pub claim_for : Deed → Option Claim → Option Claim
@@ -42,7 +44,7 @@ claim_for _ claim = claim
 
 -- the change of a nice value on the event's line, but for the destination of a migration, which has none
 abbrev pub nice_for : Deed → Option NiceLine → Option NiceLine
-nice_for (Arrive pid nice orig) change = None
+nice_for (Arrive pid nice orig idle) change = None
 nice_for _ change = change
 
 -- the event as a processor that it touches sees it
@@ -50,9 +52,9 @@ abbrev pub step_at : ℕ → Claimed → Step
 step_at cpu event = record {
   line = event.entry.line;
   time = event.entry.time;
-  deed = deed_at cpu event.entry.act;
-  claim = claim_for (deed_at cpu event.entry.act) event.claim;
-  nice = nice_for (deed_at cpu event.entry.act) event.nice;
+  deed = deed_at cpu event.idle event.entry.act;
+  claim = claim_for (deed_at cpu event.idle event.entry.act) event.claim;
+  nice = nice_for (deed_at cpu event.idle event.entry.act) event.nice;
 }
 
 -- the steps of the events that touch the processor, in their order

@@ -1,6 +1,6 @@
 -- What a change of a nice value and each deed change in a processor's part (this project's profile). The part spoken of is
 -- charged and lifted.
-use Rattle.std.specs.Prelude.{ℕ, zero, suc, Option, Some, None, option_map, ℤ, ◌-ℤ◌}
+use Rattle.std.specs.Prelude.{ℕ, zero, suc, Bool, Option, Some, None, option_map, ℤ, ◌-ℤ◌}
 use Rattle.cfs_model.specs.Machine.{put}
 use Rattle.replay_model.specs.Part.{Part, Entity}
 use Rattle.cfs_model.specs.declared.act.Way.{Way}
@@ -47,7 +47,7 @@ switches part prev way next = part_after_next (part_after_prev part prev way) ne
 
 -- a task that rests waits at the claimed virtual runtime; one that runs or waits stays as it is
 abbrev pub woken : Option Claim → Place → Entity → Entity
-woken (Some claim) Rest s = record { place = Wait; nice = s.nice; runtime = claim.v }
+woken (Some claim) Rest s = record { place = Wait; nice = s.nice; idle = s.idle; runtime = claim.v }
 woken claim place s = s
 
 -- a wakeup
@@ -55,9 +55,9 @@ abbrev pub wakes : Part → ℕ → Option Claim → Part
 wakes part pid claim = with_entity part pid (option_map (λ s. woken claim s.place s) (part.tasks pid))
 
 -- a birth: the task waits at the claimed virtual runtime
-abbrev pub is_born : Part → ℕ → ℤ → Option Claim → Part
-is_born part pid nice claim =
-    with_entity part pid (option_map (λ c. record { place = Wait; nice = nice; runtime = c.v }) claim)
+abbrev pub is_born : Part → ℕ → ℤ → Bool → Option Claim → Part
+is_born part pid nice idle claim =
+    with_entity part pid (option_map (λ c. record { place = Wait; nice = nice; idle = idle; runtime = c.v }) claim)
 
 -- a migration, at the processor that the task leaves
 abbrev pub leaves : Part → ℕ → Part
@@ -69,26 +69,27 @@ place_of_sort At = Wait
 place_of_sort Pass = Rest
 
 -- a migration, at the processor to which the task comes: place and virtual runtime are the claim's
-abbrev pub arrives : Part → ℕ → ℤ → Option Claim → Part
-arrives part pid nice claim =
-    with_entity part pid (option_map (λ c. record { place = place_of_sort c.sort; nice = nice; runtime = c.v }) claim)
+abbrev pub arrives : Part → ℕ → ℤ → Bool → Option Claim → Part
+arrives part pid nice idle claim =
+    with_entity part pid
+    (option_map (λ c. record { place = place_of_sort c.sort; nice = nice; idle = idle; runtime = c.v }) claim)
 
 -- the part after a deed
 abbrev pub after_deed : Part → Deed → Option Claim → Part
 after_deed part (Switch prev prev_nice way next next_nice) claim = switches part prev way next
 after_deed part (Wake pid nice) claim = wakes part pid claim
-after_deed part (Born pid nice) claim = is_born part pid nice claim
+after_deed part (Born pid nice idle) claim = is_born part pid nice idle claim
 after_deed part (Leave pid nice dest) claim = leaves part pid
-after_deed part (Arrive pid nice orig) claim = arrives part pid nice claim
+after_deed part (Arrive pid nice orig idle) claim = arrives part pid nice idle claim
 
--- the ticket of a task that leaves: its place, and its virtual runtime less the floor
+-- the ticket of a task that leaves: its nice value, policy and place, and its virtual runtime less the floor
 abbrev pub left_ticket : Part → ℕ → ℕ → Option Ticket
 left_ticket part line pid =
     option_map (λ s. record
-    { line = line; pid = pid; nice = s.nice; place = s.place; offset = s.runtime -ℤ part.floor }) (part.tasks pid)
+    { line = line; pid = pid; nice = s.nice; idle = s.idle; place = s.place; offset = s.runtime -ℤ part.floor }) (part.tasks pid)
 
 -- the ticket of a task that comes, by its claim
-abbrev pub came_ticket : Part → ℕ → ℕ → ℤ → Option Claim → Option Ticket
-came_ticket part line pid nice claim =
+abbrev pub came_ticket : Part → ℕ → ℕ → ℤ → Bool → Option Claim → Option Ticket
+came_ticket part line pid nice idle claim =
     option_map (λ c. record
-    { line = line; pid = pid; nice = nice; place = place_of_sort c.sort; offset = c.v -ℤ part.floor }) claim
+    { line = line; pid = pid; nice = nice; idle = idle; place = place_of_sort c.sort; offset = c.v -ℤ part.floor }) claim

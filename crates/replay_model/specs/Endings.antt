@@ -43,5 +43,6 @@ TicketsEndRun = (knobs : Settings) (start : ℕ) (floors : List ℤ) (tasks : Li
     → IsShareReplay knobs start floors tasks before dest at_dest
     → (leave : PassesStep knobs orig at_orig (step_at orig event) left)
     → (arrive : PassesStep knobs dest at_dest (step_at dest event) came)
-    → left_ticket leave.found event.entry.line pid ≢ came_ticket arrive.found event.entry.line pid nice event.claim
+    → left_ticket leave.found event.entry.line pid
+    ≢ came_ticket arrive.found event.entry.line pid nice event.idle event.claim
     → ¬ IsRun knobs start (start_machine start floors tasks) (before ++ event ∷ [])

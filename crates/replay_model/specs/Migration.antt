@@ -17,7 +17,7 @@ pub record MovesBetween (knobs : Settings) (before : Machine) (event : Claimed) 
   pub leave : PartStep knobs orig (part_of before orig) (step_at orig event) left
   pub arrive : PartStep knobs dest (part_of before dest) (step_at dest event) came
   pub tickets : left_ticket leave.found event.entry.line pid ≡ came_ticket arrive.found event.entry.line pid nice
-      event.claim
+      event.idle event.claim
 
 -- every part but two stays
 abbrev pub RestStays : Machine → Machine → ℕ → ℕ → Type 0

@@ -47,7 +47,7 @@ IsWakeNeed part deed claim need = need ≡ 0
 
 -- a birth needs a debit of how far above the floor it places the task
 abbrev pub IsBirthNeed : Part → Deed → Option Claim → ℕ → Type 0
-IsBirthNeed part (Born pid nice) (Some claim) need = IsExcess claim.v part.floor need
+IsBirthNeed part (Born pid nice idle) (Some claim) need = IsExcess claim.v part.floor need
 IsBirthNeed part deed claim need = need ≡ 0
 
 -- a processor that has idled beside a waiting task since a time needs a slack of how long that is; one that hasn't, none

@@ -1,11 +1,11 @@
 -- The part of a machine at one processor, and its charge and lift. Sources: sched-design-CFS.rst, "Few implementation
 -- details" and "The rbtree" (a running task's virtual runtime grows by the time that it ran, scaled by its weight;
--- min_vruntime is monotonic and follows the smallest virtual runtime of the runqueue). That only events charge, and the
--- rounding, are this project's profile.
+-- min_vruntime is monotonic and follows the smallest virtual runtime of the runqueue). That only events charge, the
+-- weight of the idle policy and the rounding are this project's profile.
 use Rattle.std.specs.Prelude.{◌≡◌, ◌≢◌, ℕ, ◌==◌, ◌-◌, Bool, true, false, Option, Some, None, option_map, ℤ, pos, ◌+ℤ◌, ◌≤ℤ◌, ◌⊎◌, List, find}
 use Rattle.std.specs.Int.{int_max}
 use Rattle.cfs_model.specs.Charge.{charge_of}
-use Rattle.cfs_model.specs.Nice.{weight_of}
+use Rattle.cfs_model.specs.Nice.{task_weight}
 use Rattle.cfs_model.specs.Machine.{Machine}
 use Rattle.cfs_model.specs.declared.task.Place.{Place}
 use Rattle.cfs_model.specs.declared.task.Place.TheVariants.{Run, Wait, Rest}
@@ -15,6 +15,8 @@ use Rattle.cfs_model.specs.declared.task.Task.{Task}
 pub record Entity : Type 0 where
   pub place : Place
   pub nice : ℤ
+  -- whether it is of the idle policy
+  pub idle : Bool
   -- the virtual runtime, in virtual nanoseconds
   pub runtime : ℤ
 
@@ -33,15 +35,17 @@ place_by false true rests = Some Wait
 place_by false false true = Some Rest
 place_by false false false = None
 
--- a task with this place, nice value and virtual runtime, where it has all three
-abbrev pub entity_by : Option Place → Option ℤ → Option ℤ → Option Entity
-entity_by (Some place) (Some nice) (Some v) = Some (record { place = place; nice = nice; runtime = v })
-entity_by _ _ _ = None
+-- a task of this policy with this place, nice value and virtual runtime, where it has all three
+abbrev pub entity_by : Bool → Option Place → Option ℤ → Option ℤ → Option Entity
+entity_by idle (Some place) (Some nice) (Some v) =
+    Some (record { place = place; nice = nice; idle = idle; runtime = v })
+entity_by idle _ _ _ = None
 
 -- what a machine has of a pid at a processor
 abbrev pub entity_at : Machine → ℕ → ℕ → Option Entity
 entity_at m cpu pid =
-    entity_by (place_by (m.running cpu pid) (m.waiting cpu pid) (m.resting cpu pid)) (m.nice pid) (m.runtime pid)
+    entity_by (m.idle pid) (place_by (m.running cpu pid) (m.waiting cpu pid) (m.resting cpu pid)) (m.nice pid)
+    (m.runtime pid)
 
 -- the part of a machine at a processor
 abbrev pub part_of : Machine → ℕ → Part
@@ -50,7 +54,7 @@ part_of m cpu = record { tasks = entity_at m cpu; floor = m.floor cpu; mark = m.
 -- the part that a processor's tasks, floor and start time stand for
 abbrev pub start_part : List Task → ℤ → ℕ → Part
 start_part tasks floor start = record {
-  tasks = λ pid. option_map (λ t. record { place = t.place; nice = t.nice; runtime = t.v })
+  tasks = λ pid. option_map (λ t. record { place = t.place; nice = t.nice; idle = t.idle; runtime = t.v })
       (find (λ t. t.pid == pid) tasks);
   floor = floor;
   mark = start;
@@ -76,7 +80,7 @@ pub record IsIdlePart (part : Part) : Type 0 where
 
 -- what a task is charged at a time, in virtual nanoseconds: for the time since the mark
 abbrev pub cost_in : Part → ℕ → Entity → ℕ
-cost_in part time s = charge_of (time - part.mark) (weight_of s.nice)
+cost_in part time s = charge_of (time - part.mark) (task_weight s.nice s.idle)
 
 -- a virtual runtime after a charge: it costs one who runs
 abbrev pub runtime_after : Place → ℕ → ℤ → ℤ

@@ -56,7 +56,7 @@ ran_at m time pid cpu = if m.running cpu pid then time - m.mark cpu else 0
 -- what it is charged then, in virtual nanoseconds
 abbrev pub charged_at : Machine → ℕ → ℕ → ℕ → ℕ
 charged_at m time pid cpu =
-    if m.running cpu pid then option_map_or (λ nice. cost_at m cpu time nice) (m.nice pid) 0 else 0
+    if m.running cpu pid then option_map_or (λ nice. cost_at m cpu time nice (m.idle pid)) (m.nice pid) 0 else 0
 
 -- an amount that events add up to, from the machine before each and the processors that it touches
 abbrev pub added_up : (Machine → ℕ → ℕ → ℕ) → Machine → List Claimed → List Machine → ℕ

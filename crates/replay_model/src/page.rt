@@ -19,6 +19,8 @@ pub struct Ticket {
     pub line: u32,
     pub pid: u32,
     pub nice: Nice,
+    /// Whether it is of the idle policy.
+    pub idle: bool,
     pub place: Place,
     /// The virtual runtime less the processor's floor, in virtual nanoseconds, signed.
     pub offset: i128,

@@ -22,6 +22,8 @@ pub enum Deed {
     Born {
         pid: u32,
         nice: Nice,
+        /// Whether it is of the idle policy.
+        idle: bool,
     },
     /// A task leaves for another processor.
     Leave {
@@ -34,6 +36,8 @@ pub enum Deed {
         pid: u32,
         nice: Nice,
         orig: u32,
+        /// Whether it is of the idle policy: as it was told at its last birth on an earlier line, or at the start.
+        idle: bool,
     },
 }
 

@@ -1,8 +1,8 @@
 -- The example of an end and a birth: once 101 has ended it stands nowhere; had it slept it would still rest at the first
 -- processor, and had it stayed its line would need a claim.
-use Rattle.std.proofs.Common.{◌≡◌, ℕ, zero, suc, Some, None, ℤ, pos, ◌≤ℤ◌, inl, inr, List, [], ◌∷◌, refl, sym, ap, ◌∙◌, subst, arith, lit≤}
+use Rattle.std.proofs.Common.{◌≡◌, ℕ, zero, suc, false, Some, None, ℤ, pos, ◌≤ℤ◌, inl, inr, List, [], ◌∷◌, refl, sym, ap, ◌∙◌, subst, arith, lit≤}
 use Rattle.std.proofs.lemmas.Int.{ints}
-use Rattle.cfs_model.specs.Machine.{Machine, Stands, put, put_pair, with_floor, with_task, without_task, with_runtime, with_nice, without_values}
+use Rattle.cfs_model.specs.Machine.{Machine, Stands, put, put_pair, with_floor, with_task, without_task, with_runtime, with_nice, without_values, with_policy}
 use Rattle.cfs_model.specs.Claimed.{Claimed}
 use Rattle.cfs_model.specs.Lifted.{charged, IsLeast, IsLifted}
 use Rattle.cfs_model.specs.Step.{IsSwitch, IsBirth, IsStep}
@@ -25,7 +25,7 @@ use Rattle.cfs_model.specs.declared.task.Place.TheVariants.{Run, Wait, Rest}
 use Rattle.cfs_model.specs.declared.task.Task.{Task}
 
 abbrev the_task : Task
-the_task = record { pid = 101; nice = pos 0; cpu = 0; place = Run; v = pos 0 }
+the_task = record { pid = 101; nice = pos 0; idle = false; cpu = 0; place = Run; v = pos 0 }
 
 start_is : IsStart (pos 0 ∷ pos 0 ∷ []) (the_task ∷ [])
 start_is = record {
@@ -49,6 +49,7 @@ first_event way = record {
   };
   claim = None;
   nice = None;
+  idle = false;
 }
 
 abbrev first_lifted : Machine
@@ -99,7 +100,7 @@ first_step =
       found = first_lifted;
       is_reniced = refl;
       changes = changes;
-      in_range = change_range standard first_lifted (first_event Ends).entry.act None first_state changes tt
+      in_range = change_range standard first_lifted (first_event Ends).entry.act None false first_state changes tt
           (lifted_range 100001000000 (0 ∷ []) birth_start first_lifted first_lift
           (start_in_order start_time (pos 0 ∷ pos 0 ∷ []) (the_task ∷ []) start_is).in_range);
     }
@@ -111,13 +112,15 @@ second_event w = record {
   claim = Some
       (at_claim 2 101 w);
   nice = None;
+  idle = false;
 }
 
 abbrev second_lifted : Machine
 second_lifted = with_floor (charged first_state 1 100002000000) 1 (pos 0)
 
 abbrev second_state : ℤ → Machine
-second_state w = with_nice (with_runtime (with_task second_lifted Wait 1 101) 101 w) 101 (pos 0)
+second_state w =
+    with_policy (with_nice (with_runtime (with_task second_lifted Wait 1 101) 101 w) 101 (pos 0)) 101 false
 
 -- 101 stood at the first processor alone, so it stands nowhere now
 was_alone : (r : Place) (d : ℕ) → Stands first_lifted r d 101 → (r ≡ Run) × (d ≡ 0)
@@ -152,7 +155,7 @@ second_lift = (
 second_step : (w : ℤ) → pos 0 ≤ℤ w → w ≤ℤ pos 3000000 → IsStep standard first_state (second_event w) (second_state w)
 unfolding put
 second_step w low high =
-    let changes : IsBirth standard second_lifted 1 101 (pos 0) (second_event w).claim (second_state w) = record {
+    let changes : IsBirth standard second_lifted 1 101 (pos 0) (second_event w).claim false (second_state w) = record {
       nowhere = nowhere;
       placed = w;
       claimed = (refl, refl, refl);
@@ -166,7 +169,7 @@ second_step w low high =
       found = second_lifted;
       is_reniced = refl;
       changes = changes;
-      in_range = change_range standard second_lifted (second_event w).entry.act (second_event w).claim
+      in_range = change_range standard second_lifted (second_event w).entry.act (second_event w).claim false
           (second_state w) changes
           (omega (arith, ints), omega (arith, ints))
           (lifted_range 100002000000 (1 ∷ []) first_state second_lifted second_lift first_step.in_range);
@@ -197,8 +200,8 @@ placed_at w between after s t =
     let u : IsStep standard first_state (second_event w) after = subst
     (λ m. IsStep standard m (second_event w) after) same t in
     let lift = u.is_reniced ∙ one_lifted 100002000000 (1 ∷ []) first_state u.lifted second_lifted u.is_lifted second_lift in
-    let born : IsBirth standard second_lifted 1 101 (pos 0) (second_event w).claim after = subst
-    (λ m. IsBirth standard m 1 101 (pos 0) (second_event w).claim after) lift u.changes in
+    let born : IsBirth standard second_lifted 1 101 (pos 0) (second_event w).claim false after = subst
+    (λ m. IsBirth standard m 1 101 (pos 0) (second_event w).claim false after) lift u.changes in
     (subst (λ x. pos 0 ≤ℤ x) (sym born.claimed.2) born.from, subst (λ x. x ≤ℤ pos 3000000) (sym born.claimed.2) born.to)
 
 in_a_run : (way : Way) (w : ℤ) (states : List Machine) → AreSteps standard birth_start (birth_events way w) states

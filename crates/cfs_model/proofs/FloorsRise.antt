@@ -1,6 +1,6 @@
 -- No floor is lowered: a lift takes a maximum with the floor itself, and neither a change of a nice value nor an event's own
 -- change names a floor.
-use Rattle.std.proofs.Common.{◌≡◌, ◌≢◌, ℕ, zero, suc, true, false, ℤ, ◌≤ℤ◌, ◌⊎◌, inl, inr, List, [], ◌∷◌, Option, refl, sym, ap, ◌∙◌, subst, arith}
+use Rattle.std.proofs.Common.{◌≡◌, ◌≢◌, ℕ, zero, suc, Bool, true, false, ℤ, ◌≤ℤ◌, ◌⊎◌, inl, inr, List, [], ◌∷◌, Option, refl, sym, ap, ◌∙◌, subst, arith}
 use Rattle.std.proofs.lemmas.Int.{ints, clamps}
 use Rattle.std.specs.Int.{int_max}
 use Rattle.cfs_model.specs.Settings.{Settings}
@@ -65,15 +65,15 @@ floor-after_next m cpu zero = refl
 floor-after_next m cpu (suc n) = refl
 
 -- an event's own change leaves the floors
-pub same_floors : (knobs : Settings) (m : Machine) (act : Act) (claim : Option Claim) (after : Machine)
-    → Changes knobs m act claim after → after.floor ≡ m.floor
-same_floors knobs m (Switch cpu prev prev_nice way next next_nice) claim after s =
+pub same_floors : (knobs : Settings) (m : Machine) (act : Act) (claim : Option Claim) (idle : Bool) (after : Machine)
+    → Changes knobs m act claim idle after → after.floor ≡ m.floor
+same_floors knobs m (Switch cpu prev prev_nice way next next_nice) claim idle after s =
     ap (λ (x : Machine). x.floor) s.result ∙ floor-after_next (after_prev m cpu prev way) cpu next
     ∙ floor-after_prev m cpu prev way
-same_floors knobs m (Wake cpu pid nice) claim after (inl s) = ap (λ (x : Machine). x.floor) s.result
-same_floors knobs m (Wake cpu pid nice) claim after (inr s) = ap (λ (x : Machine). x.floor) s.result
-same_floors knobs m (Born cpu pid nice) claim after s = ap (λ (x : Machine). x.floor) s.result
-same_floors knobs m (Shift orig dest pid nice) claim after s =
+same_floors knobs m (Wake cpu pid nice) claim idle after (inl s) = ap (λ (x : Machine). x.floor) s.result
+same_floors knobs m (Wake cpu pid nice) claim idle after (inr s) = ap (λ (x : Machine). x.floor) s.result
+same_floors knobs m (Born cpu pid nice) claim idle after s = ap (λ (x : Machine). x.floor) s.result
+same_floors knobs m (Shift orig dest pid nice) claim idle after s =
     let left = without_task m s.place orig pid in
     ap (λ (x : Machine). x.floor) s.result
     ∙ floor-with_pairs left s.place (put_pair (pairs_of left s.place) dest pid true)
@@ -82,6 +82,6 @@ same_floors knobs m (Shift orig dest pid nice) claim after s =
 pub floors_rise : (knobs : Settings) (before : Machine) (event : Claimed) (after : Machine)
     → IsStep knobs before event after → (cpu : ℕ) → before.floor cpu ≤ℤ after.floor cpu
 floors_rise knobs before event after s cpu =
-    subst (λ f. before.floor cpu ≤ℤ f cpu) (sym (same_floors knobs s.found event.entry.act event.claim after s.changes
-    ∙ ap (λ (m : Machine). m.floor) (reniced_is (home_of event.entry.act) event.nice s.lifted s.found s.is_reniced)))
+    subst (λ f. before.floor cpu ≤ℤ f cpu) (sym
+    (same_floors knobs s.found event.entry.act event.claim event.idle after s.changes ∙ ap (λ (m : Machine). m.floor) (reniced_is (home_of event.entry.act) event.nice s.lifted s.found s.is_reniced)))
     (lifted_above event.entry.time (touched event.entry.act) before s.lifted s.is_lifted cpu)

@@ -1,6 +1,6 @@
 -- The example of idle slack: the states are the same for every time of the last event, the first and the second of
 -- them idle, and the start doesn't.
-use Rattle.std.proofs.Common.{◌≡◌, ℕ, zero, suc, ◌<◌, ◌≤◌, true, Some, None, slice_index, pos, ◌+ℤ◌, ◌≤ℤ◌, inl, inr, List, [], ◌∷◌, refl, sym, ap, ◌∙◌, subst, arith, lit<, lit≤}
+use Rattle.std.proofs.Common.{◌≡◌, ℕ, zero, suc, ◌<◌, ◌≤◌, true, false, Some, None, slice_index, pos, ◌+ℤ◌, ◌≤ℤ◌, inl, inr, List, [], ◌∷◌, refl, sym, ap, ◌∙◌, subst, arith, lit<, lit≤}
 use Rattle.std.proofs.lemmas.Int.{ints, clamps}
 use Rattle.cfs_model.specs.Machine.{Machine, Stands, AreValuesInRange, put, put_pair, with_floor, with_move, with_runtime}
 use Rattle.cfs_model.specs.Lifted.{charged, IsLeast, IsLifted}
@@ -21,7 +21,7 @@ use Rattle.cfs_model.specs.declared.task.Place.TheVariants.{Run, Wait, Rest}
 use Rattle.cfs_model.specs.declared.task.Task.{Task}
 
 abbrev the_task : Task
-the_task = record { pid = 102; nice = pos 0; cpu = 0; place = Rest; v = pos 0 }
+the_task = record { pid = 102; nice = pos 0; idle = false; cpu = 0; place = Rest; v = pos 0 }
 
 start_is : IsStart (pos 0 ∷ []) (the_task ∷ [])
 start_is = record {
@@ -53,6 +53,7 @@ first_event = record {
   claim = Some
       (at_claim 1 102 (pos 0));
   nice = None;
+  idle = false;
 }
 
 first_lift : IsLifted 100001000000 (0 ∷ []) idle_start first_lifted
@@ -88,7 +89,7 @@ first_step = record {
   found = first_lifted;
   is_reniced = refl;
   changes = inr first_change;
-  in_range = change_range standard first_lifted first_event.entry.act first_event.claim first_state (inr first_change)
+  in_range = change_range standard first_lifted first_event.entry.act first_event.claim false first_state (inr first_change)
       (omega (arith, ints), omega (arith, ints))
       (lifted_range 100001000000 (0 ∷ []) idle_start first_lifted first_lift start_range);
 }
@@ -124,7 +125,12 @@ abbrev second_state : Machine
 second_state = with_floor (charged first_state 0 100001050000) 0 (pos 0)
 
 abbrev second_event : Claimed
-second_event = record { entry = record { line = 2; time = 100001050000; act = Wake 0 102 (pos 0) }; claim = None; nice = None }
+second_event = record {
+  entry = record { line = 2; time = 100001050000; act = Wake 0 102 (pos 0) };
+  claim = None;
+  nice = None;
+  idle = false;
+}
 
 second_lift : IsLifted 100001050000 (0 ∷ []) first_state second_state
 unfolding put
@@ -161,7 +167,12 @@ module _ (time : ℕ) where
   third_state = after_next third_lifted 0 102
 
   abbrev third_event : Claimed
-  third_event = record { entry = record { line = 3; time = time; act = Switch 0 0 (pos 0) Stays 102 (pos 0) }; claim = None; nice = None }
+  third_event = record {
+    entry = record { line = 3; time = time; act = Switch 0 0 (pos 0) Stays 102 (pos 0) };
+    claim = None;
+    nice = None;
+    idle = false;
+  }
 
 third_lift : (time : ℕ) → IsLifted time (0 ∷ []) second_state (third_lifted time)
 unfolding put
@@ -201,7 +212,8 @@ third_step time =
       found = third_lifted time;
       is_reniced = refl;
       changes = changes;
-      in_range = change_range standard (third_lifted time) (third_event time).entry.act None (third_state time) changes tt
+      in_range = change_range standard (third_lifted time) (third_event time).entry.act None false (third_state time) changes
+          tt
           (lifted_range time (0 ∷ []) second_state (third_lifted time) (third_lift time) second_step.in_range);
     }
 

@@ -1,5 +1,5 @@
 -- Marks move with the lift alone: along the touched processors each mark becomes the time, and stays so.
-use Rattle.std.proofs.Common.{◌≡◌, ◌≢◌, ℕ, zero, suc, true, false, ◌⊎◌, inl, inr, List, [], ◌∷◌, Option, refl, sym, ap, ◌∙◌, subst}
+use Rattle.std.proofs.Common.{◌≡◌, ◌≢◌, ℕ, zero, suc, Bool, true, false, ◌⊎◌, inl, inr, List, [], ◌∷◌, Option, refl, sym, ap, ◌∙◌, subst}
 use Rattle.std.specs.List.{AllByRecursion}
 use Rattle.cfs_model.specs.Laws.{MarksMove}
 use Rattle.cfs_model.specs.Settings.{Settings}
@@ -63,15 +63,15 @@ mark-after_next m cpu zero = refl
 mark-after_next m cpu (suc n) = refl
 
 -- an event's own change leaves the marks
-pub same_marks : (knobs : Settings) (m : Machine) (act : Act) (claim : Option Claim) (after : Machine)
-    → Changes knobs m act claim after → after.mark ≡ m.mark
-same_marks knobs m (Switch cpu prev prev_nice way next next_nice) claim after s =
+pub same_marks : (knobs : Settings) (m : Machine) (act : Act) (claim : Option Claim) (idle : Bool) (after : Machine)
+    → Changes knobs m act claim idle after → after.mark ≡ m.mark
+same_marks knobs m (Switch cpu prev prev_nice way next next_nice) claim idle after s =
     ap (λ (x : Machine). x.mark) s.result ∙ mark-after_next (after_prev m cpu prev way) cpu next
     ∙ mark-after_prev m cpu prev way
-same_marks knobs m (Wake cpu pid nice) claim after (inl s) = ap (λ (x : Machine). x.mark) s.result
-same_marks knobs m (Wake cpu pid nice) claim after (inr s) = ap (λ (x : Machine). x.mark) s.result
-same_marks knobs m (Born cpu pid nice) claim after s = ap (λ (x : Machine). x.mark) s.result
-same_marks knobs m (Shift orig dest pid nice) claim after s =
+same_marks knobs m (Wake cpu pid nice) claim idle after (inl s) = ap (λ (x : Machine). x.mark) s.result
+same_marks knobs m (Wake cpu pid nice) claim idle after (inr s) = ap (λ (x : Machine). x.mark) s.result
+same_marks knobs m (Born cpu pid nice) claim idle after s = ap (λ (x : Machine). x.mark) s.result
+same_marks knobs m (Shift orig dest pid nice) claim idle after s =
     let left = without_task m s.place orig pid in
     ap (λ (x : Machine). x.mark) s.result
     ∙ mark-with_pairs left s.place (put_pair (pairs_of left s.place) dest pid true)
@@ -79,7 +79,7 @@ same_marks knobs m (Shift orig dest pid nice) claim after s =
 
 pub marks_move : MarksMove
 marks_move knobs before event after s =
-    let same = same_marks knobs s.found event.entry.act event.claim after s.changes
+    let same = same_marks knobs s.found event.entry.act event.claim event.idle after s.changes
     ∙ ap (λ (m : Machine). m.mark) (reniced_is (home_of event.entry.act) event.nice s.lifted s.found s.is_reniced) in (
       subst (λ (f : ℕ → ℕ). AllByRecursion (λ cpu. f cpu ≡ event.entry.time) (touched event.entry.act)) (sym same)
           (marks_moved event.entry.time (touched event.entry.act) before s.lifted s.is_lifted),

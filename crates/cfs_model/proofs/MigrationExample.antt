@@ -1,6 +1,6 @@
 -- The examples of a migration. What hangs on the time, the virtual runtime that 102 is charged to and the least one, is
 -- a parameter; the second floor stays at 100, since nobody stands there.
-use Rattle.std.proofs.Common.{◌≡◌, ◌↔◌, ℕ, true, Some, ℤ, pos, ◌+ℤ◌, ◌-ℤ◌, ◌≤ℤ◌, inl, inr, [], ◌∷◌, refl, sym, ap, ◌∙◌, subst, arith, lit<, lit≤}
+use Rattle.std.proofs.Common.{◌≡◌, ◌↔◌, ℕ, true, false, Some, ℤ, pos, ◌+ℤ◌, ◌-ℤ◌, ◌≤ℤ◌, inl, inr, [], ◌∷◌, refl, sym, ap, ◌∙◌, subst, arith, lit<, lit≤}
 use Rattle.std.proofs.lemmas.Int.{ints}
 use Rattle.std.specs.Int.{int_max}
 use Rattle.cfs_model.specs.Charge.{IsInRange}
@@ -20,10 +20,10 @@ use Rattle.cfs_model.specs.declared.task.Place.TheVariants.{Run, Wait}
 use Rattle.cfs_model.specs.declared.task.Task.{Task}
 
 abbrev waiting_task : Task
-waiting_task = record { pid = 101; nice = pos 0; cpu = 0; place = Wait; v = pos 5 }
+waiting_task = record { pid = 101; nice = pos 0; idle = false; cpu = 0; place = Wait; v = pos 5 }
 
 abbrev running_task : Task
-running_task = record { pid = 102; nice = pos 0; cpu = 0; place = Run; v = pos 3 }
+running_task = record { pid = 102; nice = pos 0; idle = false; cpu = 0; place = Run; v = pos 3 }
 
 start_is : IsStart (pos 3 ∷ pos 100 ∷ []) (waiting_task ∷ running_task ∷ [])
 start_is = record {
@@ -84,11 +84,12 @@ module _ (time : ℕ) (v least w : ℤ) (is_v : (after_charge time).runtime 102 
   migration_step range =
       let after : Machine = with_runtime (with_move lifted 101 Wait 0 Wait 1) 101
       ((pos 5 -ℤ int_max (pos 3) least) +ℤ pos 100) in
-      let changes : IsMigration lifted 0 1 101 (pos 0) (migration_event time w).claim after = record {
+      let changes : IsMigration lifted 0 1 101 (pos 0) (migration_event time w).claim false after = record {
         differ = λ e. omega arith;
         place = Wait;
         stands = refl;
         prio = refl;
+        policy = refl;
         own = pos 5;
         runtime = refl;
         sort = At;
@@ -104,7 +105,7 @@ module _ (time : ℕ) (v least w : ℤ) (is_v : (after_charge time).runtime 102 
           is_reniced = refl;
           changes = changes;
           in_range = change_range standard lifted (migration_event time w).entry.act
-              (migration_event time w).claim after changes range
+              (migration_event time w).claim false after changes range
               (lifted_range time (0 ∷ 1 ∷ []) migration_start lifted lift
               (start_in_order start_time (pos 3 ∷ pos 100 ∷ []) (waiting_task ∷ running_task ∷ []) start_is).in_range);
         },
@@ -115,8 +116,8 @@ module _ (time : ℕ) (v least w : ℤ) (is_v : (after_charge time).runtime 102 
   unfolding put
   moved_to x after s =
       let same = s.is_reniced ∙ one_lifted time (0 ∷ 1 ∷ []) migration_start s.lifted lifted s.is_lifted lift in
-      let moves : IsMigration lifted 0 1 101 (pos 0) (migration_event time x).claim after =
-      subst (λ m. IsMigration m 0 1 101 (pos 0) (migration_event time x).claim after) same s.changes in
+      let moves : IsMigration lifted 0 1 101 (pos 0) (migration_event time x).claim false after =
+      subst (λ m. IsMigration m 0 1 101 (pos 0) (migration_event time x).claim false after) same s.changes in
       moves.claimed.2 ∙ ap (λ own. (own -ℤ int_max (pos 3) least) +ℤ pos 100)
       (value_at lifted.runtime 101 101 moves.own (pos 5) refl moves.runtime refl) ∙ sym is_w
 

@@ -1,6 +1,6 @@
 -- Settings and runs: a step asks for one setting alone, the one that its event names, so a step under some settings is one
 -- under others that give it at least as much.
-use Rattle.std.proofs.Common.{ℕ, zero, suc, ◌≤◌, Option, ℤ, pos, ◌+ℤ◌, ◌-ℤ◌, ◌≤ℤ◌, inl, inr, List, [], ◌∷◌, arith}
+use Rattle.std.proofs.Common.{ℕ, zero, suc, Bool, ◌≤◌, Option, ℤ, pos, ◌+ℤ◌, ◌-ℤ◌, ◌≤ℤ◌, inl, inr, List, [], ◌∷◌, arith}
 use Rattle.std.proofs.lemmas.Int.{ints, clamps}
 use Rattle.std.specs.Int.{int_max}
 use Rattle.cfs_model.specs.Settings.{Settings}
@@ -33,9 +33,9 @@ pick_more less more m cpu zero h pick = pick
 pick_more less more m cpu (suc n) h pick =
     (pick.0, pick.1, pick.2, λ other w waits e. more_above pick.0 w less more h (pick.3 other w waits e))
 
-pub changes_more : (knobs more : Settings) (m : Machine) (act : Act) (claim : Option Claim) (after : Machine)
-    → asked act knobs ≤ asked act more → Changes knobs m act claim after → Changes more m act claim after
-changes_more knobs more m (Switch cpu prev prev_nice way next next_nice) claim after h s = record {
+pub changes_more : (knobs more : Settings) (m : Machine) (act : Act) (claim : Option Claim) (idle : Bool) (after : Machine)
+    → asked act knobs ≤ asked act more → Changes knobs m act claim idle after → Changes more m act claim idle after
+changes_more knobs more m (Switch cpu prev prev_nice way next next_nice) claim idle after h s = record {
   differ = s.differ;
   current = s.current;
   prev_prio = s.prev_prio;
@@ -44,8 +44,8 @@ changes_more knobs more m (Switch cpu prev prev_nice way next next_nice) claim a
   pick = pick_more knobs.granularity more.granularity (after_prev m cpu prev way) cpu next h s.pick;
   result = s.result;
 }
-changes_more knobs more m (Wake cpu pid nice) claim after h (inl s) = inl s
-changes_more knobs more m (Wake cpu pid nice) claim after h (inr s) = inr (record {
+changes_more knobs more m (Wake cpu pid nice) claim idle after h (inl s) = inl s
+changes_more knobs more m (Wake cpu pid nice) claim idle after h (inr s) = inr (record {
   rests = s.rests;
   prio = s.prio;
   own = s.own;
@@ -56,7 +56,7 @@ changes_more knobs more m (Wake cpu pid nice) claim after h (inr s) = inr (recor
   to = s.to;
   result = s.result;
 })
-changes_more knobs more m (Born cpu pid nice) claim after h s = record {
+changes_more knobs more m (Born cpu pid nice) claim idle after h s = record {
   nowhere = s.nowhere;
   placed = s.placed;
   claimed = s.claimed;
@@ -64,7 +64,7 @@ changes_more knobs more m (Born cpu pid nice) claim after h s = record {
   to = more_above s.placed (m.floor cpu) knobs.debit more.debit h s.to;
   result = s.result;
 }
-changes_more knobs more m (Shift orig dest pid nice) claim after h s = s
+changes_more knobs more m (Shift orig dest pid nice) claim idle after h s = s
 
 -- a step under settings that give its event at least as much
 pub step_more : (knobs more : Settings) (before : Machine) (event : Claimed) (after : Machine)
@@ -75,7 +75,7 @@ step_more knobs more before event after h s = record {
   is_lifted = s.is_lifted;
   found = s.found;
   is_reniced = s.is_reniced;
-  changes = changes_more knobs more s.found event.entry.act event.claim after h s.changes;
+  changes = changes_more knobs more s.found event.entry.act event.claim event.idle after h s.changes;
   in_range = s.in_range;
 }
 

@@ -1,6 +1,6 @@
 -- The examples of a change of a nice value: the first lift charges by the old value, the wakeup prints the new one, and the
 -- second lift charges by it. Where no task stands at the event's processor, none can be named.
-use Rattle.std.proofs.Common.{◌≡◌, ℕ, zero, suc, true, Some, None, ℤ, pos, ◌+ℤ◌, ◌≤ℤ◌, ◌⊎◌, inl, inr, List, [], ◌∷◌, refl, sym, ap, ◌∙◌, subst, arith, lit≤}
+use Rattle.std.proofs.Common.{◌≡◌, ℕ, zero, suc, true, false, Some, None, ℤ, pos, ◌+ℤ◌, ◌≤ℤ◌, ◌⊎◌, inl, inr, List, [], ◌∷◌, refl, sym, ap, ◌∙◌, subst, arith, lit≤}
 use Rattle.std.proofs.lemmas.Int.{ints}
 use Rattle.cfs_model.specs.Machine.{Machine, Stands, IsQueued, AreValuesInRange, put, put_pair, with_floor, with_nice}
 use Rattle.cfs_model.specs.Start.{named_in}
@@ -42,6 +42,7 @@ first_event printed = record {
   entry = record { line = 1; time = 100004000000; act = Wake 0 101 printed };
   claim = None;
   nice = Some change;
+  idle = false;
 }
 
 abbrev first_lifted : Machine
@@ -86,6 +87,7 @@ second_event w = record {
   entry = record { line = 2; time = 100008000000; act = Switch 0 101 (pos 5) Stays 102 (pos 0) };
   claim = Some (at_claim 2 101 w);
   nice = None;
+  idle = false;
 }
 
 abbrev second_charged : Machine
@@ -156,7 +158,7 @@ second_step =
       is_reniced = refl;
       changes = changes;
       in_range = change_range standard second_lifted (second_event (pos 16226865)).entry.act
-          (second_event (pos 16226865)).claim second_state changes (omega (arith, ints), omega (arith, ints))
+          (second_event (pos 16226865)).claim false second_state changes (omega (arith, ints), omega (arith, ints))
           (lifted_range 100008000000 (0 ∷ []) first_state second_lifted second_lift first_step.in_range);
     }
 
@@ -225,7 +227,7 @@ nice_change_lem printed w = (
 
 -- 101 stands at the first processor, and nobody at the second
 abbrev elsewhere : Task
-elsewhere = record { pid = 101; nice = pos 0; cpu = 0; place = Run; v = pos 0 }
+elsewhere = record { pid = 101; nice = pos 0; idle = false; cpu = 0; place = Run; v = pos 0 }
 
 nobody : (place : Place) (pid : ℕ) → named_in (elsewhere ∷ []) place 1 pid ≡ true → ⊥
 nobody place pid h = let e = (of_one elsewhere place 1 pid h).1 in absurd (omega arith)

@@ -1,10 +1,10 @@
 -- At most one next machine: the least virtual runtime is one value, so the floor and with it the lifted machine are one;
 -- and each case's conditions say its result, where the claim keeps the cases of a wakeup and of a migration apart.
-use Rattle.std.proofs.Common.{◌≡◌, ℕ, ℤ, ◌+ℤ◌, ◌-ℤ◌, ◌≤ℤ◌, Option, Some, None, ◌⊎◌, inl, inr, List, [], ◌∷◌, refl, sym, ap, ap₂, ◌∙◌, subst, arith}
+use Rattle.std.proofs.Common.{◌≡◌, ℕ, Bool, ℤ, ◌+ℤ◌, ◌-ℤ◌, ◌≤ℤ◌, Option, Some, None, ◌⊎◌, inl, inr, List, [], ◌∷◌, refl, sym, ap, ap₂, ◌∙◌, subst, arith}
 use Rattle.std.proofs.lemmas.Int.{ints}
 use Rattle.std.specs.Int.{int_max}
 use Rattle.cfs_model.specs.Settings.{Settings}
-use Rattle.cfs_model.specs.Machine.{Machine, with_floor, with_move, with_runtime, with_nice, with_task}
+use Rattle.cfs_model.specs.Machine.{Machine, with_floor, with_move, with_runtime, with_nice, with_task, with_policy}
 use Rattle.cfs_model.specs.Claimed.{Claimed, ClaimSays}
 use Rattle.cfs_model.specs.Touch.{touched}
 use Rattle.cfs_model.specs.Lifted.{charged, IsLeast, IsRaised, IsLiftedAt, IsLifted}
@@ -89,9 +89,9 @@ one_waken knobs m cpu pid nice claim after other (inr a) (inr b) =
     a.result ∙ ap (with_runtime (with_move m pid Rest cpu Wait cpu) pid)
     (one_said claim At At pid a.placed b.placed a.claimed b.claimed).1 ∙ sym b.result
 
-one_move : (m : Machine) (orig dest pid : ℕ) (nice : ℤ) (claim : Option Claim) (after other : Machine)
-    → IsMigration m orig dest pid nice claim after → IsMigration m orig dest pid nice claim other → after ≡ other
-one_move m orig dest pid nice claim after other a b =
+one_move : (m : Machine) (orig dest pid : ℕ) (nice : ℤ) (claim : Option Claim) (idle : Bool) (after other : Machine)
+    → IsMigration m orig dest pid nice claim idle after → IsMigration m orig dest pid nice claim idle other → after ≡ other
+one_move m orig dest pid nice claim idle after other a b =
     let said = one_said claim a.sort b.sort pid ((a.own -ℤ m.floor orig) +ℤ m.floor dest)
     ((b.own -ℤ m.floor orig) +ℤ m.floor dest) a.claimed b.claimed in
     a.result
@@ -100,14 +100,15 @@ one_move m orig dest pid nice claim after other a b =
     ∙ sym b.result
 
 -- an event changes the machine that it finds in one way
-pub one_change : (knobs : Settings) (m : Machine) (act : Act) (claim : Option Claim) (after other : Machine)
-    → Changes knobs m act claim after → Changes knobs m act claim other → after ≡ other
-one_change knobs m (Switch cpu prev prev_nice way next next_nice) claim after other a b = a.result ∙ sym b.result
-one_change knobs m (Wake cpu pid nice) claim after other a b = one_waken knobs m cpu pid nice claim after other a b
-one_change knobs m (Born cpu pid nice) claim after other a b =
-    a.result ∙ ap (λ v. with_nice (with_runtime (with_task m Wait cpu pid) pid v) pid nice)
+pub one_change : (knobs : Settings) (m : Machine) (act : Act) (claim : Option Claim) (idle : Bool) (after other : Machine)
+    → Changes knobs m act claim idle after → Changes knobs m act claim idle other → after ≡ other
+one_change knobs m (Switch cpu prev prev_nice way next next_nice) claim idle after other a b = a.result ∙ sym b.result
+one_change knobs m (Wake cpu pid nice) claim idle after other a b = one_waken knobs m cpu pid nice claim after other a b
+one_change knobs m (Born cpu pid nice) claim idle after other a b =
+    a.result ∙ ap (λ v. with_policy (with_nice (with_runtime (with_task m Wait cpu pid) pid v) pid nice) pid idle)
     (one_said claim At At pid a.placed b.placed a.claimed b.claimed).1 ∙ sym b.result
-one_change knobs m (Shift orig dest pid nice) claim after other a b = one_move m orig dest pid nice claim after other a b
+one_change knobs m (Shift orig dest pid nice) claim idle after other a b =
+    one_move m orig dest pid nice claim idle after other a b
 
 -- there is one machine as an event finds it
 pub one_found : (knobs : Settings) (before : Machine) (event : Claimed) (after other : Machine)
@@ -121,8 +122,9 @@ one_found knobs before event after other a b =
 pub one_next : (knobs : Settings) (before : Machine) (event : Claimed) (after other : Machine)
     → IsStep knobs before event after → IsStep knobs before event other → after ≡ other
 one_next knobs before event after other a b =
-    one_change knobs b.found event.entry.act event.claim after other
-    (subst (λ m. Changes knobs m event.entry.act event.claim after) (one_found knobs before event after other a b) a.changes)
+    one_change knobs b.found event.entry.act event.claim event.idle after other
+    (subst (λ m. Changes knobs m event.entry.act event.claim event.idle after) (one_found knobs before event after other a b)
+    a.changes)
     b.changes
 
 pub one_list : (knobs : Settings) (first : Machine) (events : List Claimed) (states others : List Machine)

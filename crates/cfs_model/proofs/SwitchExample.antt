@@ -1,6 +1,6 @@
 -- The examples of a switch: 101 is charged by its weight and put back, and 102 is picked. What hangs on the nice value,
 -- the cost and the least virtual runtime, is a parameter.
-use Rattle.std.proofs.Common.{◌≡◌, ℕ, true, Some, ℤ, pos, ◌+ℤ◌, ◌≤ℤ◌, inl, inr, [], ◌∷◌, refl, sym, ap, ◌∙◌, subst, arith, lit<, lit≤}
+use Rattle.std.proofs.Common.{◌≡◌, ℕ, true, false, Some, ℤ, pos, ◌+ℤ◌, ◌≤ℤ◌, inl, inr, [], ◌∷◌, refl, sym, ap, ◌∙◌, subst, arith, lit<, lit≤}
 use Rattle.std.proofs.lemmas.Int.{ints}
 use Rattle.std.specs.Int.{int_max}
 use Rattle.cfs_model.specs.Charge.{IsInRange}
@@ -19,10 +19,10 @@ use Rattle.cfs_model.specs.declared.task.Task.{Task}
 
 -- the two tasks
 abbrev pub first_task : ℤ → Task
-first_task nice = record { pid = 101; nice = nice; cpu = 0; place = Run; v = pos 0 }
+first_task nice = record { pid = 101; nice = nice; idle = false; cpu = 0; place = Run; v = pos 0 }
 
 abbrev pub second_task : ℤ → Task
-second_task u = record { pid = 102; nice = pos 0; cpu = 0; place = Wait; v = u }
+second_task u = record { pid = 102; nice = pos 0; idle = false; cpu = 0; place = Wait; v = u }
 
 abbrev time : ℕ
 time = 100004000000
@@ -106,7 +106,7 @@ module _ (nice cost u v : ℤ) (is_cost : (after_charge nice u).runtime 101 ≡ 
           is_reniced = refl;
           changes = changes;
           in_range = change_range (standard_with granularity) lifted (switch_event nice cost).entry.act
-              (switch_event nice cost).claim after changes within_range
+              (switch_event nice cost).claim false after changes within_range
               (lifted_range time (0 ∷ []) (switch_start nice u) lifted lift (start_in_order start_time (pos 0 ∷ [])
               (first_task nice ∷ second_task u ∷ []) (start_is nice u range)).in_range);
         },

@@ -1,5 +1,5 @@
 -- The example of a wakeup: nobody is charged and the floor stays, so the bounds are those of the start.
-use Rattle.std.proofs.Common.{◌≡◌, ℕ, Some, ℤ, pos, ◌-ℤ◌, ◌≤ℤ◌, ◌⊎◌, inl, inr, [], ◌∷◌, refl, sym, ap, ◌∙◌, subst, arith}
+use Rattle.std.proofs.Common.{◌≡◌, ℕ, false, Some, ℤ, pos, ◌-ℤ◌, ◌≤ℤ◌, ◌⊎◌, inl, inr, [], ◌∷◌, refl, sym, ap, ◌∙◌, subst, arith}
 use Rattle.std.proofs.lemmas.Int.{ints}
 use Rattle.std.specs.Int.{int_max}
 use Rattle.cfs_model.specs.Machine.{Machine, IsQueued, put, put_pair, with_floor, with_move, with_runtime}
@@ -14,7 +14,7 @@ use Rattle.cfs_model.specs.declared.task.Place.TheVariants.{Run, Wait, Rest}
 use Rattle.cfs_model.specs.declared.task.Task.{Task}
 
 abbrev the_task : Task
-the_task = record { pid = 101; nice = pos 0; cpu = 0; place = Rest; v = pos 0 }
+the_task = record { pid = 101; nice = pos 0; idle = false; cpu = 0; place = Rest; v = pos 0 }
 
 start_is : IsStart (pos 10000000 ∷ []) (the_task ∷ [])
 start_is = record {
@@ -70,7 +70,7 @@ wake_step w low high =
         found = lifted;
         is_reniced = refl;
         changes = inr changes;
-        in_range = change_range standard lifted (wake_event w).entry.act (wake_event w).claim after (inr changes)
+        in_range = change_range standard lifted (wake_event w).entry.act (wake_event w).claim false after (inr changes)
             (omega (arith, ints), omega (arith, ints)) (lifted_range start_time (0 ∷ []) wake_start lifted lift
             (start_in_order start_time (pos 10000000 ∷ []) (the_task ∷ []) start_is).in_range);
       },

@@ -20,7 +20,7 @@ pub not_born_here : (knobs : Settings) (m : Machine) → IsInOrder m → (event 
     → PassesTests knobs cpu (part_of m cpu) (step_at cpu event) found → (place : Place) → ¬ Stands m place cpu pid
 not_born_here knobs m o event cpu here pid nice found e p place h =
     (clear_of knobs cpu found (step_at cpu event) p.none).already pid
-    (subst (λ act. IsAlready found (deed_at cpu act) pid) (sym e) (there, refl))
+    (subst (λ act. IsAlready found (deed_at cpu event.idle act) pid) (sym e) (there, refl))
   where
     there : IsSome (found.tasks pid)
     there = ap (λ (x : Part). is_some (x.tasks pid)) p.is_found.is_reniced

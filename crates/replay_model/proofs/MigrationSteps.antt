@@ -1,5 +1,5 @@
 -- A step of the machine by a migration, and the steps of the parts at its two ends.
-use Rattle.std.proofs.Common.{◌≡◌, ◌≢◌, ℕ, cond, Option, None, ℤ, [], ◌∷◌, refl, sym, ap, ◌∙◌, subst}
+use Rattle.std.proofs.Common.{◌≡◌, ◌≢◌, ℕ, Bool, cond, Option, None, ℤ, [], ◌∷◌, refl, sym, ap, ◌∙◌, subst}
 use Rattle.std.proofs.lemmas.Bool.{eq-eqb, ne_eqb}
 use Rattle.cfs_model.specs.Settings.{Settings}
 use Rattle.cfs_model.specs.Machine.{Machine}
@@ -29,15 +29,15 @@ use Rattle.cfs_model.specs.declared.nice_line.NiceLine.{NiceLine}
 use Rattle.replay_model.specs.declared.step.Deed.TheVariants.{Leave, Arrive}
 
 -- what a migration is at its two ends
-pub leave_deed : (act : Act) (orig dest pid : ℕ) (nice : ℤ) → act ≡ Shift orig dest pid nice
-    → deed_at orig act ≡ Leave pid nice dest
-leave_deed act orig dest pid nice e = ap (deed_at orig) e
-    ∙ ap (λ b. cond b (Leave pid nice dest) (Arrive pid nice orig)) (eq-eqb orig orig refl)
+pub leave_deed : (act : Act) (idle : Bool) (orig dest pid : ℕ) (nice : ℤ) → act ≡ Shift orig dest pid nice
+    → deed_at orig idle act ≡ Leave pid nice dest
+leave_deed act idle orig dest pid nice e = ap (deed_at orig idle) e
+    ∙ ap (λ b. cond b (Leave pid nice dest) (Arrive pid nice orig idle)) (eq-eqb orig orig refl)
 
-pub arrive_deed : (act : Act) (orig dest pid : ℕ) (nice : ℤ) → act ≡ Shift orig dest pid nice → orig ≢ dest
-    → deed_at dest act ≡ Arrive pid nice orig
-arrive_deed act orig dest pid nice e ne = ap (deed_at dest) e
-    ∙ ap (λ b. cond b (Leave pid nice dest) (Arrive pid nice orig)) (ne_eqb orig dest ne)
+pub arrive_deed : (act : Act) (idle : Bool) (orig dest pid : ℕ) (nice : ℤ) → act ≡ Shift orig dest pid nice → orig ≢ dest
+    → deed_at dest idle act ≡ Arrive pid nice orig idle
+arrive_deed act idle orig dest pid nice e ne = ap (deed_at dest idle) e
+    ∙ ap (λ b. cond b (Leave pid nice dest) (Arrive pid nice orig idle)) (ne_eqb orig dest ne)
 
 -- a lift at both ends, end by end
 pub record LiftsBoth (time orig dest : ℕ) (before lifted : Machine) : Type 0 where
@@ -66,13 +66,14 @@ both_lifted time orig dest before lifted a ne l =
     }
 
 -- the change of a nice value at the two ends
-leave_nice : (act : Act) (orig dest pid : ℕ) (nice : ℤ) (change : Option NiceLine) → act ≡ Shift orig dest pid nice
-    → nice_for (deed_at orig act) change ≡ change
-leave_nice act orig dest pid nice change e = ap (λ d. nice_for d change) (leave_deed act orig dest pid nice e)
+leave_nice : (act : Act) (idle : Bool) (orig dest pid : ℕ) (nice : ℤ) (change : Option NiceLine)
+    → act ≡ Shift orig dest pid nice → nice_for (deed_at orig idle act) change ≡ change
+leave_nice act idle orig dest pid nice change e = ap (λ d. nice_for d change) (leave_deed act idle orig dest pid nice e)
 
-arrive_nice : (act : Act) (orig dest pid : ℕ) (nice : ℤ) (change : Option NiceLine) → act ≡ Shift orig dest pid nice
-    → orig ≢ dest → nice_for (deed_at dest act) change ≡ None
-arrive_nice act orig dest pid nice change e ne = ap (λ d. nice_for d change) (arrive_deed act orig dest pid nice e ne)
+arrive_nice : (act : Act) (idle : Bool) (orig dest pid : ℕ) (nice : ℤ) (change : Option NiceLine)
+    → act ≡ Shift orig dest pid nice → orig ≢ dest → nice_for (deed_at dest idle act) change ≡ None
+arrive_nice act idle orig dest pid nice change e ne =
+    ap (λ d. nice_for d change) (arrive_deed act idle orig dest pid nice e ne)
 
 pub parts_migrate : PartsMigrate
 parts_migrate knobs before after event orig dest pid nice o e s =
@@ -83,15 +84,15 @@ parts_migrate knobs before after event orig dest pid nice o e s =
     (ap home_of e) s.is_reniced in
     let n = reniced_here s.lifted lifted_order orig event.nice s.found r in
     let a = reniced_apart orig event.nice s.lifted s.found r lifted_order in
-    let m : IsMigration s.found orig dest pid nice event.claim after = subst
-    (λ x. Changes knobs s.found x event.claim after) e s.changes in
+    let m : IsMigration s.found orig dest pid nice event.claim event.idle after = subst
+    (λ x. Changes knobs s.found x event.claim event.idle after) e s.changes in
     let l = both_lifted time orig dest before s.lifted (apart_of before o) m.differ
     (subst (λ x. IsLifted time (touched x) before s.lifted) e s.is_lifted) in
-    let p = migration_parts s.found a orig dest pid nice event.claim after m in
-    let leave = leave_deed act orig dest pid nice e in
-    let arrive = arrive_deed act orig dest pid nice e m.differ in
-    let left_nice = leave_nice act orig dest pid nice event.nice e in
-    let came_nice = arrive_nice act orig dest pid nice event.nice e m.differ in (
+    let p = migration_parts s.found a orig dest pid nice event.claim event.idle after m in
+    let leave = leave_deed act event.idle orig dest pid nice e in
+    let arrive = arrive_deed act event.idle orig dest pid nice e m.differ in
+    let left_nice = leave_nice act event.idle orig dest pid nice event.nice e in
+    let came_nice = arrive_nice act event.idle orig dest pid nice event.nice e m.differ in (
       m.differ,
       record {
         leave = record {
@@ -106,7 +107,7 @@ parts_migrate knobs before after event orig dest pid nice o e s =
             none = none_of knobs orig (part_of s.found orig) (step_at orig event)
                 (subst (λ x. (q : ℕ) → ¬ IsStrangeNice (part_of s.found orig) x q) (sym left_nice) n.2)
                 (subst (λ d. IsClear knobs orig (part_of s.found orig) d (claim_for d event.claim)) (sym leave)
-                (leave_clear knobs s.found a orig dest pid nice event.claim after m));
+                (leave_clear knobs s.found a orig dest pid nice event.claim event.idle after m));
           };
           result = p.0 ∙ ap (λ d. after_deed (part_of s.found orig) d (claim_for d event.claim)) (sym leave);
         };
@@ -123,11 +124,11 @@ parts_migrate knobs before after event orig dest pid nice o e s =
             none = none_of knobs dest (part_of s.found dest) (step_at dest event)
                 (subst (λ x. (q : ℕ) → ¬ IsStrangeNice (part_of s.found dest) x q) (sym came_nice) (λ q h. h))
                 (subst (λ d. IsClear knobs dest (part_of s.found dest) d (claim_for d event.claim)) (sym arrive)
-                (arrive_clear knobs s.found a orig dest pid nice event.claim after m));
+                (arrive_clear knobs s.found a orig dest pid nice event.claim event.idle after m));
           };
           result = p.1 ∙ ap (λ d. after_deed (part_of s.found dest) d (claim_for d event.claim)) (sym arrive);
         };
-        tickets = tickets_equal s.found a orig dest pid event.entry.line nice event.claim after m;
+        tickets = tickets_equal s.found a orig dest pid event.entry.line nice event.claim event.idle after m;
       },
       (λ d ne other. p.2 d ne other ∙ n.1 d ne ∙ l.others d ne other),
     )
@@ -138,7 +139,7 @@ not_home : (knobs : Settings) (before : Machine) (event : Claimed) (orig dest pi
     → MovesBetween knobs before event orig dest pid nice left came → orig ≢ dest
 not_home knobs before event orig dest pid nice left came e s same =
     (subst (λ d. IsClear knobs orig s.leave.found d (claim_for d event.claim))
-    (leave_deed event.entry.act orig dest pid nice e)
+    (leave_deed event.entry.act event.idle orig dest pid nice e)
     (clear_of knobs orig s.leave.found (step_at orig event) s.leave.passes.none)).home pid (sym same, refl)
 
 -- what is told of a migration by its ends
@@ -155,26 +156,26 @@ module _ (knobs : Settings) (before : Machine) (event : Claimed) (orig dest pid 
   after_change : (lifted found : Machine) → IsLifted event.entry.time (orig ∷ dest ∷ []) before lifted
       → IsReniced orig event.nice lifted found → IsApart found → part_of found orig ≡ s.leave.found
       → part_of found dest ≡ s.arrive.found → RestStays before found orig dest → (after : Machine)
-      → IsMigration found orig dest pid nice event.claim after → Migrates
+      → IsMigration found orig dest pid nice event.claim event.idle after → Migrates
   after_change lifted found both r a here there rest after m =
       let act = event.entry.act in
       let time = event.entry.time in
-      let leave = leave_deed act orig dest pid nice e in
-      let arrive = arrive_deed act orig dest pid nice e ne in
-      let p = migration_parts found a orig dest pid nice event.claim after m in
+      let leave = leave_deed act event.idle orig dest pid nice e in
+      let arrive = arrive_deed act event.idle orig dest pid nice e ne in
+      let p = migration_parts found a orig dest pid nice event.claim event.idle after m in
       let is_lifted : IsLifted time (touched act) before lifted = subst
       (λ x. IsLifted time (touched x) before lifted) (sym e) both in
       let is_reniced : IsReniced (home_of act) event.nice lifted found = subst
       (λ x. IsReniced (home_of x) event.nice lifted found) (sym e) r in
-      let changes : Changes knobs found act event.claim after = subst
-      (λ x. Changes knobs found x event.claim after) (sym e) m in
+      let changes : Changes knobs found act event.claim event.idle after = subst
+      (λ x. Changes knobs found x event.claim event.idle after) (sym e) m in
       let step : IsStep knobs before event after = record {
         lifted = lifted;
         is_lifted = is_lifted;
         found = found;
         is_reniced = is_reniced;
         changes = changes;
-        in_range = change_range knobs found act event.claim after changes range
+        in_range = change_range knobs found act event.claim event.idle after changes range
             (reniced_range orig event.nice lifted found r
             (lifted_range time (touched act) before lifted is_lifted o.in_range));
       } in (
@@ -183,7 +184,7 @@ module _ (knobs : Settings) (before : Machine) (event : Claimed) (orig dest pid 
         step_in_order knobs before event after o step,
         p.0 ∙ ap (λ x. after_deed x (Leave pid nice dest) None) here
             ∙ ap (λ d. after_deed s.leave.found d (claim_for d event.claim)) (sym leave) ∙ sym s.leave.result,
-        p.1 ∙ ap (λ x. after_deed x (Arrive pid nice orig) event.claim) there
+        p.1 ∙ ap (λ x. after_deed x (Arrive pid nice orig event.idle) event.claim) there
             ∙ ap (λ d. after_deed s.arrive.found d (claim_for d event.claim)) (sym arrive) ∙ sym s.arrive.result,
         (λ d no_orig no_dest. p.2 d no_orig no_dest ∙ rest d no_orig no_dest),
       )
@@ -194,17 +195,17 @@ module _ (knobs : Settings) (before : Machine) (event : Claimed) (orig dest pid 
       → part_of found dest ≡ s.arrive.found → RestStays before found orig dest → Migrates
   after_found lifted found both r a here there rest =
       let act = event.entry.act in
-      let leave = leave_deed act orig dest pid nice e in
-      let arrive = arrive_deed act orig dest pid nice e ne in
-      let c = migration_exists knobs found a orig dest pid event.entry.line nice event.claim
+      let leave = leave_deed act event.idle orig dest pid nice e in
+      let arrive = arrive_deed act event.idle orig dest pid nice e ne in
+      let c = migration_exists knobs found a orig dest pid event.entry.line nice event.claim event.idle
       (subst (λ p. IsClear knobs orig p (Leave pid nice dest) None) (sym here)
       (subst (λ d. IsClear knobs orig s.leave.found d (claim_for d event.claim)) leave
       (clear_of knobs orig s.leave.found (step_at orig event) s.leave.passes.none)))
-      (subst (λ p. IsClear knobs dest p (Arrive pid nice orig) event.claim) (sym there)
+      (subst (λ p. IsClear knobs dest p (Arrive pid nice orig event.idle) event.claim) (sym there)
       (subst (λ d. IsClear knobs dest s.arrive.found d (claim_for d event.claim)) arrive
       (clear_of knobs dest s.arrive.found (step_at dest event) s.arrive.passes.none)))
       (ap (λ p. left_ticket p event.entry.line pid) here ∙ s.tickets
-      ∙ ap (λ p. came_ticket p event.entry.line pid nice event.claim) (sym there)) in
+      ∙ ap (λ p. came_ticket p event.entry.line pid nice event.idle event.claim) (sym there)) in
       after_change lifted found both r a here there rest c.0 c.1
 
   -- from a machine lifted at both ends to the machine after
@@ -213,8 +214,8 @@ module _ (knobs : Settings) (before : Machine) (event : Claimed) (orig dest pid 
       → part_of lifted dest ≡ s.arrive.passes.is_found.lifted → RestStays before lifted orig dest → Migrates
   after_lift lifted both here there rest =
       let act = event.entry.act in
-      let left_nice = leave_nice act orig dest pid nice event.nice e in
-      let came_nice = arrive_nice act orig dest pid nice event.nice e ne in
+      let left_nice = leave_nice act event.idle orig dest pid nice event.nice e in
+      let came_nice = arrive_nice act event.idle orig dest pid nice event.nice e ne in
       let a = lifted_apart event.entry.time (orig ∷ dest ∷ []) before lifted both (apart_of before o) in
       let leaves = s.leave.passes.is_found in
       let arrives = s.arrive.passes.is_found in

@@ -1,5 +1,5 @@
 -- A step that passes the tests leaves at most one task running.
-use Rattle.std.proofs.Common.{◌≡◌, ◌≢◌, ℕ, zero, suc, Option, Some, None, option_map, ℤ, ◌⊎◌, inl, inr, refl, sym, ap, ◌∙◌, subst}
+use Rattle.std.proofs.Common.{◌≡◌, ◌≢◌, ℕ, zero, suc, Bool, Option, Some, None, option_map, ℤ, ◌⊎◌, inl, inr, refl, sym, ap, ◌∙◌, subst}
 use Rattle.cfs_model.specs.Settings.{Settings}
 use Rattle.replay_model.specs.Part.{Part, Entity, place_in, IsIn, NobodyIn, charged_in, IsLiftedPart}
 use Rattle.replay_model.specs.Found.{IsFound}
@@ -94,18 +94,18 @@ wake_run : (claim : Option Claim) (o : Option Entity) → place_of (option_map (
 wake_run claim None h = h
 wake_run claim (Some s) h = ap Some (woken_run claim s s.place refl cc)
 
-born_run : (nice : ℤ) (claim : Option Claim)
+born_run : (nice : ℤ) (idle : Bool) (claim : Option Claim)
     → place_of (option_map
-    (λ (c : Claim). let s : Entity = record { place = Wait; nice = nice; runtime = c.v } in s) claim) ≡ Some Run → ⊥
-born_run nice None h = no_some Run h
-born_run nice (Some claim) h = cc
+    (λ (c : Claim). let s : Entity = record { place = Wait; nice = nice; idle = idle; runtime = c.v } in s) claim) ≡ Some Run → ⊥
+born_run nice idle None h = no_some Run h
+born_run nice idle (Some claim) h = cc
 
-come_run : (nice : ℤ) (claim : Option Claim)
+come_run : (nice : ℤ) (idle : Bool) (claim : Option Claim)
     → place_of (option_map
-    (λ (c : Claim). let s : Entity = record { place = place_of_sort c.sort; nice = nice; runtime = c.v } in s) claim) ≡
+    (λ (c : Claim). let s : Entity = record { place = place_of_sort c.sort; nice = nice; idle = idle; runtime = c.v } in s) claim) ≡
     Some Run → ⊥
-come_run nice None h = no_some Run h
-come_run nice (Some claim) h = go claim.sort h
+come_run nice idle None h = no_some Run h
+come_run nice idle (Some claim) h = go claim.sort h
   where
     go : (sort : ClaimSort) → Some (place_of_sort sort) ≡ Some Run → ⊥
     go At h = cc
@@ -118,10 +118,10 @@ deed_one_runs knobs cpu l (Switch prev pn way next nn) claim one c =
     (prev_nobody l one prev way (runner_is l prev (λ h. c.prev prev (h, refl)))) next
 deed_one_runs knobs cpu l (Wake pid nice) claim one c =
     none_more l one pid (option_map (λ s. woken claim s.place s) (l.tasks pid)) (wake_run claim (l.tasks pid))
-deed_one_runs knobs cpu l (Born pid nice) claim one c = none_more l one pid _ (λ h. absurd (born_run nice claim h))
+deed_one_runs knobs cpu l (Born pid nice idle) claim one c = none_more l one pid _ (λ h. absurd (born_run nice idle claim h))
 deed_one_runs knobs cpu l (Leave pid nice dest) claim one c = none_more l one pid None (λ h. no_some Run h)
-deed_one_runs knobs cpu l (Arrive pid nice orig) claim one c = none_more l one pid _
-    (λ h. absurd (come_run nice claim h))
+deed_one_runs knobs cpu l (Arrive pid nice orig idle) claim one c = none_more l one pid _
+    (λ h. absurd (come_run nice idle claim h))
 
 -- nor does a change of a nice value
 found_in : (step : Step) (part found : Part) → IsFound step part found → (pid : ℕ)

@@ -201,7 +201,7 @@ module _ (knobs : Settings) (start : ℕ) (floors : List ℤ) (tasks : List Task
       → (d : PassesFirst knobs dest (at dest).mid event (rest dest) ((at dest).back l).end)
       → ticket_at event.entry.line (pages orig).left ≢ ticket_at event.entry.line (pages dest).came
       → left_ticket o.passes.found event.entry.line pid
-      ≢ came_ticket d.passes.found event.entry.line pid nice event.claim
+      ≢ came_ticket d.passes.found event.entry.line pid nice event.idle event.claim
   unequal orig dest pid nice e k l o d differ same =
       let line = event.entry.line in
       let left = left_is knobs event orig dest pid nice e (rest orig) (at orig).mid o.next ((at orig).back k).end o.passes

@@ -1,5 +1,5 @@
 -- A step of the machine by an event that touches one processor is a step of the part there, and other parts stay.
-use Rattle.std.proofs.Common.{◌≡◌, ℕ, Option, [], ◌∷◌, sym, ap, ◌∙◌, subst}
+use Rattle.std.proofs.Common.{◌≡◌, ℕ, Bool, Option, [], ◌∷◌, sym, ap, ◌∙◌, subst}
 use Rattle.cfs_model.specs.Settings.{Settings}
 use Rattle.cfs_model.specs.Machine.{Machine, Stands, with_floor}
 use Rattle.cfs_model.specs.Touch.{touched}
@@ -29,20 +29,20 @@ use Rattle.cfs_model.specs.declared.task.Place.{Place}
 use Rattle.cfs_model.specs.declared.task.Place.TheVariants.{Run, Wait, Rest}
 
 -- what an event's own change says of the parts
-record SaysParts (knobs : Settings) (m : Machine) (cpu : ℕ) (act : Act) (claim : Option Claim)
+record SaysParts (knobs : Settings) (m : Machine) (cpu : ℕ) (act : Act) (claim : Option Claim) (idle : Bool)
     (after : Machine) : Type 0 where
-  clear : IsClear knobs cpu (part_of m cpu) (deed_at cpu act) (claim_for (deed_at cpu act) claim)
-  here : part_of after cpu ≡ after_deed (part_of m cpu) (deed_at cpu act) (claim_for (deed_at cpu act) claim)
+  clear : IsClear knobs cpu (part_of m cpu) (deed_at cpu idle act) (claim_for (deed_at cpu idle act) claim)
+  here : part_of after cpu ≡ after_deed (part_of m cpu) (deed_at cpu idle act) (claim_for (deed_at cpu idle act) claim)
   others : OthersStay m after cpu
   nowhere : BornNowhere m act
 
 change_says : (knobs : Settings) (m : Machine) → IsApart m
-    → (cpu : ℕ) (act : Act) (claim : Option Claim) (after : Machine) → touched act ≡ cpu ∷ []
-    → Changes knobs m act claim after
-    → SaysParts knobs m cpu act claim after
-change_says knobs m a cpu (Switch here prev pn way next nn) claim after t s =
+    → (cpu : ℕ) (act : Act) (claim : Option Claim) (idle : Bool) (after : Machine) → touched act ≡ cpu ∷ []
+    → Changes knobs m act claim idle after
+    → SaysParts knobs m cpu act claim idle after
+change_says knobs m a cpu (Switch here prev pn way next nn) claim idle after t s =
     let p = switch_part knobs m a here prev pn way next nn claim after s in
-    subst (λ x. SaysParts knobs m x (Switch here prev pn way next nn) claim after) (heads here cpu t)
+    subst (λ x. SaysParts knobs m x (Switch here prev pn way next nn) claim idle after) (heads here cpu t)
     (record {
       clear = switch_clear knobs m a here prev pn way next nn claim after s;
       here = p.0;
@@ -50,15 +50,15 @@ change_says knobs m a cpu (Switch here prev pn way next nn) claim after t s =
       nowhere =
           tt;
     })
-change_says knobs m a cpu (Wake here pid nice) claim after t s =
+change_says knobs m a cpu (Wake here pid nice) claim idle after t s =
     let p = wake_part knobs m a here pid nice claim after s in
-    subst (λ x. SaysParts knobs m x (Wake here pid nice) claim after) (heads here cpu t)
+    subst (λ x. SaysParts knobs m x (Wake here pid nice) claim idle after) (heads here cpu t)
     (record { clear = wake_clear knobs m a here pid nice claim after s; here = p.0; others = p.1; nowhere = tt })
-change_says knobs m a cpu (Born here pid nice) claim after t s =
-    let p = birth_part knobs m here pid nice claim after s in
-    subst (λ x. SaysParts knobs m x (Born here pid nice) claim after) (heads here cpu t)
-    (record { clear = birth_clear knobs m here pid nice claim after s; here = p.0; others = p.1; nowhere = s.nowhere })
-change_says knobs m a cpu (Shift orig dest pid nice) claim after t s = absurd cc
+change_says knobs m a cpu (Born here pid nice) claim idle after t s =
+    let p = birth_part knobs m here pid nice claim idle after s in
+    subst (λ x. SaysParts knobs m x (Born here pid nice) claim idle after) (heads here cpu t)
+    (record { clear = birth_clear knobs m here pid nice claim idle after s; here = p.0; others = p.1; nowhere = s.nowhere })
+change_says knobs m a cpu (Shift orig dest pid nice) claim idle after t s = absurd cc
 
 -- who stands somewhere stands there in the lifted machine too
 pub still_stands : (m lifted : Machine) (time cpu : ℕ) → IsLiftedAt time cpu m lifted → (place : Place) (d pid : ℕ)
@@ -89,8 +89,8 @@ part_steps knobs before after event cpu o t s =
     let r : IsReniced cpu event.nice s.lifted s.found = subst (λ x. IsReniced x event.nice s.lifted s.found)
     (home_is act cpu t) s.is_reniced in
     let n = reniced_here s.lifted a cpu event.nice s.found r in
-    let nice = nice_is act cpu event.nice t in
-    let c = change_says knobs s.found (reniced_apart cpu event.nice s.lifted s.found r a) cpu act event.claim after t
+    let nice = nice_is act event.idle cpu event.nice t in
+    let c = change_says knobs s.found (reniced_apart cpu event.nice s.lifted s.found r a) cpu act event.claim event.idle after t
     s.changes in (
       nowhere_before before s.found
           (λ place d pid k. reniced_stands cpu event.nice s.lifted s.found r place d pid

@@ -17,16 +17,19 @@ same_truth false false f g = refl
 -- a pid that stands in the same places with the same values is the same task
 same_stander : (m after : Machine) (d q : ℕ) → ((r : Place) → Stands m r d q → Stands after r d q)
     → ((r : Place) → Stands after r d q → Stands m r d q)
-    → after.nice q ≡ m.nice q → after.runtime q ≡ m.runtime q → entity_at after d q ≡ entity_at m d q
-same_stander m after d q up down e f =
+    → after.idle q ≡ m.idle q → after.nice q ≡ m.nice q → after.runtime q ≡ m.runtime q → entity_at after d q ≡ entity_at m d q
+same_stander m after d q up down i e f =
     let r : after.running d q ≡ m.running d q = same_truth _ _ (down Run) (up Run) in
     let w : after.waiting d q ≡ m.waiting d q = same_truth _ _ (down Wait) (up Wait) in
     let s : after.resting d q ≡ m.resting d q = same_truth _ _ (down Rest) (up Rest) in
-    ap (λ x. entity_by (place_by x (after.waiting d q) (after.resting d q)) (after.nice q) (after.runtime q)) r
-    ∙ ap (λ x. entity_by (place_by (m.running d q) x (after.resting d q)) (after.nice q) (after.runtime q)) w
-    ∙ ap (λ x. entity_by (place_by (m.running d q) (m.waiting d q) x) (after.nice q) (after.runtime q)) s
-    ∙ ap (λ x. entity_by (place_by (m.running d q) (m.waiting d q) (m.resting d q)) x (after.runtime q)) e
-    ∙ ap (λ x. entity_by (place_by (m.running d q) (m.waiting d q) (m.resting d q)) (m.nice q) x) f
+    let at = place_by (m.running d q) (m.waiting d q) (m.resting d q) in
+    ap (λ x. entity_by x (place_by (after.running d q) (after.waiting d q) (after.resting d q)) (after.nice q)
+    (after.runtime q)) i
+    ∙ ap (λ x. entity_by (m.idle q) (place_by x (after.waiting d q) (after.resting d q)) (after.nice q) (after.runtime q)) r
+    ∙ ap (λ x. entity_by (m.idle q) (place_by (m.running d q) x (after.resting d q)) (after.nice q) (after.runtime q)) w
+    ∙ ap (λ x. entity_by (m.idle q) (place_by (m.running d q) (m.waiting d q) x) (after.nice q) (after.runtime q)) s
+    ∙ ap (λ x. entity_by (m.idle q) at x (after.runtime q)) e
+    ∙ ap (λ x. entity_by (m.idle q) at (m.nice q) x) f
 
 -- tasks that agree with a map with one pid changed, at that pid and elsewhere
 pub put_tasks : (f g : ℕ → Option Entity) (pid : ℕ) (o : Option Entity) → g pid ≡ o → ((q : ℕ) → q ≢ pid → g q ≡ f q)
@@ -41,23 +44,26 @@ put_tasks f g pid o here others q = go (same_or_not q pid)
 pub record KeepsRest (m after : Machine) (pid : ℕ) : Type 0 where
   pub runtimes : (q : ℕ) → q ≢ pid → after.runtime q ≡ m.runtime q
   pub nices : (q : ℕ) → q ≢ pid → after.nice q ≡ m.nice q
+  pub policies : (q : ℕ) → q ≢ pid → after.idle q ≡ m.idle q
   pub floors : after.floor ≡ m.floor
   pub marks : after.mark ≡ m.mark
 
 -- the part to which a task comes
-pub placed_part : (m after : Machine) (pid : ℕ) (to : Place) (dest : ℕ) (nice v : ℤ) → IsPutAt m after pid to dest
-    → KeepsRest m after pid
-    → after.nice pid ≡ Some nice → after.runtime pid ≡ Some v
-    → part_of after dest ≡ with_entity (part_of m dest) pid (Some (record { place = to; nice = nice; runtime = v }))
-placed_part m after pid to dest nice v p k e f =
-    let s : Option Entity = Some (record { place = to; nice = nice; runtime = v }) in
+pub placed_part : (m after : Machine) (pid : ℕ) (to : Place) (dest : ℕ) (nice : ℤ) (idle : Bool) (v : ℤ)
+    → IsPutAt m after pid to dest → KeepsRest m after pid
+    → after.nice pid ≡ Some nice → after.idle pid ≡ idle → after.runtime pid ≡ Some v
+    → part_of after dest
+    ≡ with_entity (part_of m dest) pid (Some (record { place = to; nice = nice; idle = idle; runtime = v }))
+placed_part m after pid to dest nice idle v p k e i f =
+    let s : Option Entity = Some (record { place = to; nice = nice; idle = idle; runtime = v }) in
     same_part (part_of after dest) (with_entity (part_of m dest) pid s)
     (put_tasks (entity_at m dest) (entity_at after dest) pid s
     (stander_at after to dest pid nice v p.itself
-    (λ r h. elim (p.cases r dest pid h) [ inl x ↦ x.1 | inr x ↦ absurd (x.0 refl) ]) e f)
+    (λ r h. elim (p.cases r dest pid h) [ inl x ↦ x.1 | inr x ↦ absurd (x.0 refl) ]) e f
+    ∙ ap (λ x. Some (record { place = to; nice = nice; idle = x; runtime = v })) i)
     (λ q ne. same_stander m after dest q (λ r h. p.kept r dest q ne h)
     (λ r h. elim (p.cases r dest q h) [ inl x ↦ absurd (ne x.0) | inr x ↦ x.1 ])
-    (k.nices q ne) (k.runtimes q ne)))
+    (k.policies q ne) (k.nices q ne) (k.runtimes q ne)))
     (ap (λ f. f dest) k.floors) (ap (λ f. f dest) k.marks)
 
 -- any other part: the task isn't there
@@ -70,7 +76,7 @@ placed_away m after pid to dest p k d ne =
     (no_stander after d pid (λ r h. elim (p.cases r d pid h) [ inl x ↦ ne x.2 | inr x ↦ x.0 refl ]))
     (λ q other. same_stander m after d q (λ r h. p.kept r d q other h)
     (λ r h. elim (p.cases r d q h) [ inl x ↦ absurd (other x.0) | inr x ↦ x.1 ])
-    (k.nices q other) (k.runtimes q other)))
+    (k.policies q other) (k.nices q other) (k.runtimes q other)))
     (ap (λ f. f d) k.floors) (ap (λ f. f d) k.marks)
 
 -- every part after an end: the task isn't there
@@ -80,8 +86,8 @@ gone_part m after pid p k d =
     same_part (part_of after d) (with_entity (part_of m d) pid None)
     (put_tasks (entity_at m d) (entity_at after d) pid None
     (no_stander after d pid (λ r h. (p.cases r d pid h).0 refl))
-    (λ q other. same_stander m after d q (λ r h. p.kept r d q other h) (λ r h. (p.cases r d q h).1) (k.nices q other)
-    (k.runtimes q other)))
+    (λ q other. same_stander m after d q (λ r h. p.kept r d q other h) (λ r h. (p.cases r d q h).1)
+    (k.policies q other) (k.nices q other) (k.runtimes q other)))
     (ap (λ f. f d) k.floors) (ap (λ f. f d) k.marks)
 
 -- to take out who isn't there changes nothing
@@ -99,14 +105,19 @@ elsewhere m a place cpu pid h d ne r k = ne (a.one_place pid r place d cpu k h).
 -- a task that goes to another place at its processor
 pub goes_here : (m after : Machine) → IsApart m → (place : Place) (cpu pid : ℕ) (to : Place) → Stands m place cpu pid
     → IsPutAt m after pid to cpu
-    → after.runtime ≡ m.runtime → after.nice ≡ m.nice → after.floor ≡ m.floor → after.mark ≡ m.mark
+    → after.runtime ≡ m.runtime → after.nice ≡ m.nice → after.idle ≡ m.idle → after.floor ≡ m.floor → after.mark ≡ m.mark
     → (part_of after cpu ≡ goes (part_of m cpu) pid to) × ((d : ℕ) → d ≢ cpu → part_of after d ≡ part_of m d)
-goes_here m after a place cpu pid to h p e f g k =
-    let keeps : KeepsRest m after pid = record
-    { runtimes = λ q _. ap (λ f. f q) e; nices = λ q _. ap (λ g. g q) f; floors = g; marks = k } in
+goes_here m after a place cpu pid to h p e f i g k =
+    let keeps : KeepsRest m after pid = record {
+      runtimes = λ q _. ap (λ f. f q) e;
+      nices = λ q _. ap (λ g. g q) f;
+      policies = λ q _. ap (λ h. h q) i;
+      floors = g;
+      marks = k;
+    } in
     let s = values_of m a place cpu pid h in (
-      placed_part m after pid to cpu s.0.nice s.0.runtime p keeps (ap (λ g. g pid) f ∙ s.3.nice)
-          (ap (λ g. g pid) e ∙ s.3.runtime)
+      placed_part m after pid to cpu s.0.nice s.0.idle s.0.runtime p keeps (ap (λ g. g pid) f ∙ s.3.nice)
+          (ap (λ h. h pid) i ∙ s.3.policy) (ap (λ g. g pid) e ∙ s.3.runtime)
           ∙ ap (with_entity (part_of m cpu) pid)
           (sym (ap (option_map (λ (t : Entity). record t { place = to })) s.2)),
       (λ d ne. placed_away m after pid to cpu p keeps d ne ∙ none_there m d pid (elsewhere m a place cpu pid h d ne)),

@@ -1,10 +1,10 @@
 -- A wakeup and a birth: the machine has one just where the processor's part passes the tests (and a pid that is born
 -- stands nowhere), and then the part changes so.
-use Rattle.std.proofs.Common.{◌≡◌, ◌≢◌, ℕ, Option, Some, None, option_map, ℤ, pos, ◌+ℤ◌, ◌-ℤ◌, ◌≤ℤ◌, ◌<ℤ◌, ◌⊎◌, inl, inr, refl, sym, ap, ◌∙◌, subst, arith}
+use Rattle.std.proofs.Common.{◌≡◌, ◌≢◌, ℕ, Bool, Option, Some, None, option_map, ℤ, pos, ◌+ℤ◌, ◌-ℤ◌, ◌≤ℤ◌, ◌<ℤ◌, ◌⊎◌, inl, inr, refl, sym, ap, ◌∙◌, subst, arith}
 use Rattle.std.proofs.lemmas.Int.{ints, by_lt_z}
 use Rattle.std.specs.Int.{int_max}
 use Rattle.cfs_model.specs.Settings.{Settings}
-use Rattle.cfs_model.specs.Machine.{Machine, Stands, with_move, with_runtime, with_nice, with_task}
+use Rattle.cfs_model.specs.Machine.{Machine, Stands, with_move, with_runtime, with_nice, with_task, with_policy}
 use Rattle.cfs_model.specs.Claimed.{ClaimSays}
 use Rattle.cfs_model.specs.Step.{IsWakeQueued, IsWakeResting, IsBirth}
 use Rattle.replay_model.specs.Part.{Part, Entity, part_of, entity_at, place_in}
@@ -35,17 +35,19 @@ wakes_none p pid =
     go (Some s) = refl
 
 -- the claimed place of a woken task
-woken_to : (claim : Option Claim) (pid : ℕ) (nice own placed : ℤ) → ClaimSays claim At pid placed
-    → option_map (λ s. woken claim s.place s) (Some (record { place = Rest; nice = nice; runtime = own })) ≡ Some
-    (record { place = Wait; nice = nice; runtime = placed })
-woken_to None pid nice own placed h = absurd h
-woken_to (Some claim) pid nice own placed h = ap (λ v. Some (record { place = Wait; nice = nice; runtime = v })) h.2
+woken_to : (claim : Option Claim) (pid : ℕ) (nice : ℤ) (idle : Bool) (own placed : ℤ) → ClaimSays claim At pid placed
+    → option_map (λ s. woken claim s.place s) (Some (record { place = Rest; nice = nice; idle = idle; runtime = own }))
+    ≡ Some (record { place = Wait; nice = nice; idle = idle; runtime = placed })
+woken_to None pid nice idle own placed h = absurd h
+woken_to (Some claim) pid nice idle own placed h =
+    ap (λ v. Some (record { place = Wait; nice = nice; idle = idle; runtime = v })) h.2
 
-born_to : (claim : Option Claim) (pid : ℕ) (nice placed : ℤ) → ClaimSays claim At pid placed
-    → option_map (λ (c : Claim). let s : Entity = record { place = Wait; nice = nice; runtime = c.v } in s) claim ≡
-    Some (record { place = Wait; nice = nice; runtime = placed })
-born_to None pid nice placed h = absurd h
-born_to (Some claim) pid nice placed h = ap (λ v. Some (record { place = Wait; nice = nice; runtime = v })) h.2
+born_to : (claim : Option Claim) (pid : ℕ) (nice : ℤ) (idle : Bool) (placed : ℤ) → ClaimSays claim At pid placed
+    → option_map (λ (c : Claim). let s : Entity = record { place = Wait; nice = nice; idle = idle; runtime = c.v } in s)
+    claim ≡ Some (record { place = Wait; nice = nice; idle = idle; runtime = placed })
+born_to None pid nice idle placed h = absurd h
+born_to (Some claim) pid nice idle placed h =
+    ap (λ v. Some (record { place = Wait; nice = nice; idle = idle; runtime = v })) h.2
 
 -- a wakeup of the machine is one of the part, and other parts stay
 pub wake_part : (knobs : Settings) (m : Machine) → IsApart m
@@ -63,39 +65,45 @@ wake_part knobs m a cpu pid nice claim after (inr s) =
     let next = with_runtime moved pid s.placed in
     let p = placed_same m moved next pid Wait cpu (same_sets moved next refl refl refl)
     (move_placed m pid Rest cpu Wait cpu (alone m a Rest cpu pid s.rests)) in
-    let keeps : KeepsRest m next pid = record
-    { runtimes = put-other m.runtime pid (Some s.placed); nices = λ q _. refl; floors = refl; marks = refl } in (
+    let keeps : KeepsRest m next pid = record {
+      runtimes = put-other m.runtime pid (Some s.placed);
+      nices = λ q _. refl;
+      policies = λ q _. refl;
+      floors = refl;
+      marks = refl;
+    } in (
       ap (λ x. part_of x cpu) s.result
-          ∙ placed_part m next pid Wait cpu nice s.placed p keeps s.prio (put-same m.runtime pid (Some s.placed))
+          ∙ placed_part m next pid Wait cpu nice (m.idle pid) s.placed p keeps s.prio refl
+          (put-same m.runtime pid (Some s.placed))
           ∙ ap (with_entity (part_of m cpu) pid)
           (sym (ap (option_map (λ (t : Entity). woken claim t.place t))
           (is_stander m a Rest cpu pid nice s.own s.rests s.prio s.runtime)
-          ∙ woken_to claim pid nice s.own s.placed s.claimed)),
+          ∙ woken_to claim pid nice (m.idle pid) s.own s.placed s.claimed)),
       (λ d ne. ap (λ x. part_of x d) s.result ∙ placed_away m next pid Wait cpu p keeps d ne
           ∙ none_there m d pid (elsewhere m a Rest cpu pid s.rests d ne)),
     )
 
 -- a birth of the machine is one of the part, and other parts stay
-pub birth_part : (knobs : Settings) (m : Machine) (cpu pid : ℕ) (nice : ℤ) (claim : Option Claim) (after : Machine)
-    → IsBirth knobs m cpu pid nice claim after
-    → (part_of after cpu ≡ after_deed (part_of m cpu) (Born pid nice) claim)
+pub birth_part : (knobs : Settings) (m : Machine) (cpu pid : ℕ) (nice : ℤ) (claim : Option Claim) (idle : Bool)
+    (after : Machine) → IsBirth knobs m cpu pid nice claim idle after
+    → (part_of after cpu ≡ after_deed (part_of m cpu) (Born pid nice idle) claim)
     × ((d : ℕ) → d ≢ cpu → part_of after d ≡ part_of m d)
-birth_part knobs m cpu pid nice claim after s =
+birth_part knobs m cpu pid nice claim idle after s =
     let joined = with_task m Wait cpu pid in
-    let next = with_nice (with_runtime joined pid s.placed) pid nice in
+    let next = with_policy (with_nice (with_runtime joined pid s.placed) pid nice) pid idle in
     let p = placed_same m joined next pid Wait cpu (same_sets joined next refl refl refl)
     (join_placed m pid Wait cpu s.nowhere) in
     let keeps : KeepsRest m next pid = record {
       runtimes = put-other m.runtime pid (Some s.placed);
-      nices = put-other m.nice pid
-          (Some nice);
+      nices = put-other m.nice pid (Some nice);
+      policies = put-other m.idle pid idle;
       floors = refl;
       marks = refl;
     } in (
       ap (λ x. part_of x cpu) s.result
-          ∙ placed_part m next pid Wait cpu nice s.placed p keeps (put-same m.nice pid (Some nice))
-          (put-same m.runtime pid (Some s.placed))
-          ∙ ap (with_entity (part_of m cpu) pid) (sym (born_to claim pid nice s.placed s.claimed)),
+          ∙ placed_part m next pid Wait cpu nice idle s.placed p keeps (put-same m.nice pid (Some nice))
+          (put-same m.idle pid idle) (put-same m.runtime pid (Some s.placed))
+          ∙ ap (with_entity (part_of m cpu) pid) (sym (born_to claim pid nice idle s.placed s.claimed)),
       (λ d ne. ap (λ x. part_of x d) s.result ∙ placed_away m next pid Wait cpu p keeps d ne
           ∙ none_there m d pid (λ r. s.nowhere r d)),
     )
@@ -189,16 +197,16 @@ wake_exists knobs m a cpu pid nice claim c = go (entity_at m cpu pid) refl
     go (Some s) e = at s e s.place refl
 
 -- a part that passes the tests of a birth lets the machine have it, where the pid stands nowhere
-pub birth_exists : (knobs : Settings) (m : Machine) (cpu pid : ℕ) (nice : ℤ) (claim : Option Claim)
-    → IsClear knobs cpu (part_of m cpu) (Born pid nice) claim
+pub birth_exists : (knobs : Settings) (m : Machine) (cpu pid : ℕ) (nice : ℤ) (claim : Option Claim) (idle : Bool)
+    → IsClear knobs cpu (part_of m cpu) (Born pid nice idle) claim
     → ((place : Place) (other : ℕ) → ¬ Stands m place other pid)
-    → (after : Machine) × IsBirth knobs m cpu pid nice claim after
-birth_exists knobs m cpu pid nice None c nowhere = absurd (c.missing pid (refl, (λ x. x)))
-birth_exists knobs m cpu pid nice (Some claim) c nowhere =
+    → (after : Machine) × IsBirth knobs m cpu pid nice claim idle after
+birth_exists knobs m cpu pid nice None idle c nowhere = absurd (c.missing pid (refl, (λ x. x)))
+birth_exists knobs m cpu pid nice (Some claim) idle c nowhere =
     let sort : claim.sort ≡ At = is_at claim.sort (λ ne. c.missing pid (refl, ne)) in
     let who : claim.pid ≡ pid = elim
     (same_or_not claim.pid pid) [ inl e ↦ e | inr ne ↦ absurd (c.other claim.pid ((pid, refl, ne), refl)) ] in
     let b = bounds_of (m.floor cpu) (m.floor cpu +ℤ pos knobs.debit) claim.v (λ h. c.fork pid (h, refl)) in (
-      with_nice (with_runtime (with_task m Wait cpu pid) pid claim.v) pid nice,
+      with_policy (with_nice (with_runtime (with_task m Wait cpu pid) pid claim.v) pid nice) pid idle,
       record { nowhere = nowhere; placed = claim.v; claimed = (sort, who, refl); from = b.0; to = b.1; result = refl },
     )

@@ -1,5 +1,5 @@
 -- A change of a nice value in the machine is one in the part at the processor where the task stands, and other parts stay.
-use Rattle.std.proofs.Common.{◌≡◌, ◌≢◌, ℕ, Option, Some, None, is_some, option_map, ℤ, ◌⊎◌, inl, inr, [], ◌∷◌, refl, sym, ap, ◌∙◌, subst}
+use Rattle.std.proofs.Common.{◌≡◌, ◌≢◌, ℕ, Bool, Option, Some, None, is_some, option_map, ℤ, ◌⊎◌, inl, inr, [], ◌∷◌, refl, sym, ap, ◌∙◌, subst}
 use Rattle.cfs_model.specs.Machine.{Machine, Stands, with_nice}
 use Rattle.cfs_model.specs.Touch.{touched}
 use Rattle.cfs_model.specs.Reniced.{home_of, IsReniced}
@@ -51,11 +51,11 @@ reniced_some change part pid = kept is_some go change part pid
     go nice None = refl
     go nice (Some s) = refl
 
-nice_by : (place : Option Place) (old nice : ℤ) (v : Option ℤ)
-    → entity_by place (Some nice) v ≡ option_map (with_new nice) (entity_by place (Some old) v)
-nice_by None old nice v = refl
-nice_by (Some place) old nice None = refl
-nice_by (Some place) old nice (Some v) = refl
+nice_by : (idle : Bool) (place : Option Place) (old nice : ℤ) (v : Option ℤ)
+    → entity_by idle place (Some nice) v ≡ option_map (with_new nice) (entity_by idle place (Some old) v)
+nice_by idle None old nice v = refl
+nice_by idle (Some place) old nice None = refl
+nice_by idle (Some place) old nice (Some v) = refl
 
 -- where a pid stands
 abbrev place_at : Machine → ℕ → ℕ → Option Place
@@ -65,19 +65,19 @@ module _ (m : Machine) (a : IsApart m) (cpu pid : ℕ) (nice : ℤ) (place : Pla
   nice_here : entity_at (with_nice m pid nice) cpu pid ≡ option_map (with_new nice) (entity_at m cpu pid)
   nice_here =
       let s = values_of m a place cpu pid h in
-      ap (λ n. entity_by (place_at m cpu pid) n (m.runtime pid)) (put-same m.nice pid (Some nice))
-      ∙ nice_by (place_at m cpu pid) s.0.nice nice (m.runtime pid)
-      ∙ ap (λ n. option_map (with_new nice) (entity_by (place_at m cpu pid) n (m.runtime pid))) (sym s.3.nice)
+      ap (λ n. entity_by (m.idle pid) (place_at m cpu pid) n (m.runtime pid)) (put-same m.nice pid (Some nice))
+      ∙ nice_by (m.idle pid) (place_at m cpu pid) s.0.nice nice (m.runtime pid)
+      ∙ ap (λ n. option_map (with_new nice) (entity_by (m.idle pid) (place_at m cpu pid) n (m.runtime pid))) (sym s.3.nice)
 
   nice_other : (d q : ℕ) → q ≢ pid → entity_at (with_nice m pid nice) d q ≡ entity_at m d q
-  nice_other d q ne = ap (λ n. entity_by (place_at m d q) n (m.runtime q)) (put-other m.nice pid (Some nice) q ne)
+  nice_other d q ne = ap (λ n. entity_by (m.idle q) (place_at m d q) n (m.runtime q)) (put-other m.nice pid (Some nice) q ne)
 
   -- the pid stands at no other processor
   nice_elsewhere : (d : ℕ) → d ≢ cpu → entity_at (with_nice m pid nice) d pid ≡ entity_at m d pid
   nice_elsewhere d ne =
       let none = no_place m d pid (λ other k. ne (a.one_place pid other place d cpu k h).1) in
-      ap (λ p. entity_by p ((with_nice m pid nice).nice pid) (m.runtime pid)) none
-      ∙ ap (λ p. entity_by p (m.nice pid) (m.runtime pid)) (sym none)
+      ap (λ p. entity_by (m.idle pid) p ((with_nice m pid nice).nice pid) (m.runtime pid)) none
+      ∙ ap (λ p. entity_by (m.idle pid) p (m.nice pid) (m.runtime pid)) (sym none)
 
 -- a change in the machine is one in the part where the task stands, which it does there; no other part changes
 pub reniced_here : (m : Machine) → IsApart m → (cpu : ℕ) (change : Option NiceLine) (found : Machine)
@@ -167,9 +167,9 @@ home_is (Wake here pid nice) cpu t = cc
 home_is (Born here pid nice) cpu t = cc
 home_is (Shift orig dest pid nice) cpu t = absurd cc
 
-pub nice_is : (act : Act) (cpu : ℕ) (change : Option NiceLine) → touched act ≡ cpu ∷ []
-    → nice_for (deed_at cpu act) change ≡ change
-nice_is (Switch here prev pn way next nn) cpu change t = refl
-nice_is (Wake here pid nice) cpu change t = refl
-nice_is (Born here pid nice) cpu change t = refl
-nice_is (Shift orig dest pid nice) cpu change t = absurd cc
+pub nice_is : (act : Act) (idle : Bool) (cpu : ℕ) (change : Option NiceLine) → touched act ≡ cpu ∷ []
+    → nice_for (deed_at cpu idle act) change ≡ change
+nice_is (Switch here prev pn way next nn) idle cpu change t = refl
+nice_is (Wake here pid nice) idle cpu change t = refl
+nice_is (Born here pid nice) idle cpu change t = refl
+nice_is (Shift orig dest pid nice) idle cpu change t = absurd cc

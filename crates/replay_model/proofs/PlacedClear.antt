@@ -1,5 +1,5 @@
 -- Where the machine wakes a task or has a birth, the processor's part passes the tests of it.
-use Rattle.std.proofs.Common.{◌≡◌, ℕ, Option, Some, None, IsSome, option_map, ℤ, ◌⊎◌, inl, inr, refl, sym, ap, ◌∙◌, subst, true≢false}
+use Rattle.std.proofs.Common.{◌≡◌, ℕ, Bool, Option, Some, None, IsSome, option_map, ℤ, ◌⊎◌, inl, inr, refl, sym, ap, ◌∙◌, subst, true≢false}
 use Rattle.cfs_model.specs.Settings.{Settings}
 use Rattle.cfs_model.specs.Machine.{Machine, Stands, IsQueued}
 use Rattle.cfs_model.specs.Claimed.{ClaimSays}
@@ -33,10 +33,10 @@ no_extra_wake : (part : Part) (task : ℕ) (nice : ℤ) (claim : Option Claim) �
 no_extra_wake part task nice None e pid k = k
 no_extra_wake part task nice (Some claim) e pid k = some_no task (sym e ∙ k.0)
 
-no_extra_born : (part : Part) (task : ℕ) (nice : ℤ) (claim : Option Claim) (pid : ℕ)
-    → ¬ IsClaimExtra part (Born task nice) claim pid
-no_extra_born part task nice None pid k = k
-no_extra_born part task nice (Some claim) pid k = some_no task k.0
+no_extra_born : (part : Part) (task : ℕ) (nice : ℤ) (idle : Bool) (claim : Option Claim) (pid : ℕ)
+    → ¬ IsClaimExtra part (Born task nice idle) claim pid
+no_extra_born part task nice idle None pid k = k
+no_extra_born part task nice idle (Some claim) pid k = some_no task k.0
 
 queued_place : (m : Machine) → IsApart m → (cpu pid : ℕ) → IsQueued m cpu pid
     → (place : Place) × (if_resting pid (Some place) ≡ None) × IsIn (part_of m cpu) place pid
@@ -116,11 +116,11 @@ wake_clear knobs m a cpu pid nice claim after (inl s) =
     (record { queued = s.queued; prio = s.prio; no_claim = refl; result = s.result }))
 wake_clear knobs m a cpu pid nice claim after (inr s) = resting_clear knobs m a cpu pid nice claim after s
 
-birth_fork : (knobs : Settings) (m : Machine) (cpu pid : ℕ) (nice : ℤ) (claim : Option Claim) (after : Machine)
-    → IsBirth knobs m cpu pid nice claim after
-    → (q : ℕ) → ¬ IsForkOutside knobs.debit (part_of m cpu) (Born pid nice) claim q
-birth_fork knobs m cpu pid nice None after s q k = k
-birth_fork knobs m cpu pid nice (Some claim) after s q k =
+birth_fork : (knobs : Settings) (m : Machine) (cpu pid : ℕ) (nice : ℤ) (claim : Option Claim) (idle : Bool)
+    (after : Machine) → IsBirth knobs m cpu pid nice claim idle after
+    → (q : ℕ) → ¬ IsForkOutside knobs.debit (part_of m cpu) (Born pid nice idle) claim q
+birth_fork knobs m cpu pid nice None idle after s q k = k
+birth_fork knobs m cpu pid nice (Some claim) idle after s q k =
     k.0 (subst (λ x. IsInForkBounds knobs.debit (m.floor cpu) x) (sym s.claimed.2) (s.from, s.to))
 
 pub nowhere_none : (m : Machine) (cpu pid : ℕ) → ((place : Place) → ¬ Stands m place cpu pid)
@@ -131,10 +131,10 @@ nowhere_none m cpu pid h k = go (entity_at m cpu pid) refl k
     go None e k = true≢false (sym k)
     go (Some s) e k = h s.place (stands_as m cpu pid s e).stands
 
-pub birth_clear : (knobs : Settings) (m : Machine) (cpu pid : ℕ) (nice : ℤ) (claim : Option Claim) (after : Machine)
-    → IsBirth knobs m cpu pid nice claim after
-    → IsClear knobs cpu (part_of m cpu) (Born pid nice) claim
-birth_clear knobs m cpu pid nice claim after s = record {
+pub birth_clear : (knobs : Settings) (m : Machine) (cpu pid : ℕ) (nice : ℤ) (claim : Option Claim) (idle : Bool)
+    (after : Machine) → IsBirth knobs m cpu pid nice claim idle after
+    → IsClear knobs cpu (part_of m cpu) (Born pid nice idle) claim
+birth_clear knobs m cpu pid nice claim idle after s = record {
   home = λ q h. h;
   self = λ q h. h;
   prev = λ q h. h;
@@ -142,12 +142,12 @@ birth_clear knobs m cpu pid nice claim after s = record {
   already = λ q h. nowhere_none m cpu pid (λ place. s.nowhere place cpu) h.0;
   running = λ q h. h;
   prio = λ q h. h;
-  missing = said_missing (part_of m cpu) (Born pid nice) claim pid s.placed s.claimed (λ c h. h);
-  extra = no_extra_born (part_of m cpu) pid nice claim;
-  other = said_pid (part_of m cpu) (Born pid nice) claim pid s.placed s.claimed refl;
+  missing = said_missing (part_of m cpu) (Born pid nice idle) claim pid s.placed s.claimed (λ c h. h);
+  extra = no_extra_born (part_of m cpu) pid nice idle claim;
+  other = said_pid (part_of m cpu) (Born pid nice idle) claim pid s.placed s.claimed refl;
   put_back = λ q h. h;
   wake = λ q h. h;
-  fork = birth_fork knobs m cpu pid nice claim after s;
+  fork = birth_fork knobs m cpu pid nice claim idle after s;
   next = λ q h. h;
   idle = λ q h. h;
   least = λ q h. h;

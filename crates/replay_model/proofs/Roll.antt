@@ -48,17 +48,18 @@ next_roll : (alive : ℕ → Bool) (m : Machine) (cpu next : ℕ) → RollIs ali
 next_roll alive m cpu zero h = h
 next_roll alive m cpu (suc n) h = h
 
-change_roll : (alive : ℕ → Bool) (knobs : Settings) (m : Machine) (act : Act) (claim : Option Claim) (after : Machine)
-    → RollIs alive m → Changes knobs m act claim after → RollIs (roll_after alive act) after
-change_roll alive knobs m (Switch cpu prev pn way next nn) claim after h s =
+change_roll : (alive : ℕ → Bool) (knobs : Settings) (m : Machine) (act : Act) (claim : Option Claim) (idle : Bool)
+    (after : Machine)
+    → RollIs alive m → Changes knobs m act claim idle after → RollIs (roll_after alive act) after
+change_roll alive knobs m (Switch cpu prev pn way next nn) claim idle after h s =
     subst (RollIs (roll_after alive (Switch cpu prev pn way next nn))) (sym s.result)
     (next_roll (roll_after alive (Switch cpu prev pn way next nn)) (after_prev m cpu prev way) cpu next
     (prev_roll alive m cpu prev pn way next nn h))
-change_roll alive knobs m (Wake cpu pid nice) claim after h (inl s) = subst (RollIs alive) (sym s.result) h
-change_roll alive knobs m (Wake cpu pid nice) claim after h (inr s) = subst (RollIs alive) (sym s.result) h
-change_roll alive knobs m (Born cpu pid nice) claim after h s = subst (RollIs (roll_after alive (Born cpu pid nice)))
+change_roll alive knobs m (Wake cpu pid nice) claim idle after h (inl s) = subst (RollIs alive) (sym s.result) h
+change_roll alive knobs m (Wake cpu pid nice) claim idle after h (inr s) = subst (RollIs alive) (sym s.result) h
+change_roll alive knobs m (Born cpu pid nice) claim idle after h s = subst (RollIs (roll_after alive (Born cpu pid nice)))
     (sym s.result) (put_roll m.nice alive pid (Some nice) true refl h)
-change_roll alive knobs m (Shift orig dest pid nice) claim after h s =
+change_roll alive knobs m (Shift orig dest pid nice) claim idle after h s =
     subst (RollIs alive) (sym s.result)
     (λ q. ap (λ f. is_some (f q))
     (nice-with_pairs (without_task m s.place orig pid) s.place
@@ -79,7 +80,7 @@ found_keys knobs m event after o s q =
 pub roll_step : (alive : ℕ → Bool) (knobs : Settings) (m : Machine) (event : Claimed) (after : Machine) → IsInOrder m
     → RollIs alive m → IsStep knobs m event after → RollIs (roll_after alive event.entry.act) after
 roll_step alive knobs m event after o h s =
-    change_roll alive knobs s.found event.entry.act event.claim after
+    change_roll alive knobs s.found event.entry.act event.claim event.idle after
     (λ q. found_keys knobs m event after o s q ∙ h q) s.changes
 
 -- who isn't alive stands nowhere

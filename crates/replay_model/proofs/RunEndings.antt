@@ -95,4 +95,4 @@ tickets_end_run knobs start floors tasks before event orig dest pid nice at_orig
     (subst (λ x. IsFound (step_at dest event) x p.arrive.found) d.at.part p.arrive.passes.is_found)
     arrive.passes.is_found in
     differ (ap (λ x. left_ticket x event.entry.line pid) (sym at) ∙ p.tickets
-    ∙ ap (λ x. came_ticket x event.entry.line pid nice event.claim) to)
+    ∙ ap (λ x. came_ticket x event.entry.line pid nice event.idle event.claim) to)

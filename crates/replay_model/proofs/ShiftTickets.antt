@@ -23,7 +23,7 @@ module _ (knobs : Settings) (event : Claimed) (orig dest pid : ℕ) (nice : ℤ)
   pub goes_elsewhere : (s next : ReplayStateView) → PassesStep knobs orig s (step_at orig event) next → orig ≢ dest
   goes_elsewhere s next p same =
       (subst (λ x. IsClear knobs orig p.found x (claim_for x event.claim))
-      (leave_deed event.entry.act orig dest pid nice e)
+      (leave_deed event.entry.act event.idle orig dest pid nice e)
       (clear_of knobs orig p.found (step_at orig event) p.passes.none)).home pid (sym same, refl)
 
   pub left_is : (events : List Claimed) (s next end : ReplayStateView)
@@ -35,18 +35,18 @@ module _ (knobs : Settings) (event : Claimed) (orig dest pid : ℕ) (nice : ℤ)
       ticket_found (λ page. page.left) left_of left_tickets knobs orig s (step_at orig event) next
       (steps_at orig events) end p r low (steps_above line orig events rise)
       ∙ ap (λ x. ticket_at line (left_by p.found (step_at orig event) x))
-      (leave_deed event.entry.act orig dest pid nice e)
+      (leave_deed event.entry.act event.idle orig dest pid nice e)
       ∙ only_ticket (λ (t : Entity). let x : Ticket = record
-      { line = line; pid = pid; nice = t.nice; place = t.place; offset = t.runtime -ℤ p.found.floor } in x)
+      { line = line; pid = pid; nice = t.nice; idle = t.idle; place = t.place; offset = t.runtime -ℤ p.found.floor } in x)
       line (λ t. refl) (p.found.tasks pid)
 
   pub came_is : (events : List Claimed) (s next end : ReplayStateView) → orig ≢ dest
       → (p : PassesStep knobs dest s (step_at dest event) next) → IsReplay knobs dest next (steps_at dest events) end
       → AllByRecursion (λ (t : Ticket). t.line < event.entry.line) s.page.came → LinesRise event.entry.line events
-      → ticket_at event.entry.line end.page.came ≡ came_ticket p.found event.entry.line pid nice event.claim
+      → ticket_at event.entry.line end.page.came ≡ came_ticket p.found event.entry.line pid nice event.idle event.claim
   came_is events s next end ne p r low rise =
       let line = event.entry.line in
-      let arrive = arrive_deed event.entry.act orig dest pid nice e ne in
+      let arrive = arrive_deed event.entry.act event.idle orig dest pid nice e ne in
       ticket_found (λ page. page.came) came_of came_tickets knobs dest s (step_at dest event) next
       (steps_at dest events) end p r low (steps_above line dest events rise)
       ∙ ap (λ x. ticket_at line (came_by p.found (step_at dest event) x)) arrive
@@ -54,7 +54,8 @@ module _ (knobs : Settings) (event : Claimed) (orig dest pid : ℕ) (nice : ℤ)
         line = line;
         pid = pid;
         nice = nice;
+        idle = event.idle;
         place = place_of_sort c.sort;
         offset = c.v -ℤ p.found.floor;
-      } in x) line (λ c. refl) (claim_for (deed_at dest event.entry.act) event.claim)
-      ∙ ap (λ x. came_ticket p.found line pid nice (claim_for x event.claim)) arrive
+      } in x) line (λ c. refl) (claim_for (deed_at dest event.idle event.entry.act) event.claim)
+      ∙ ap (λ x. came_ticket p.found line pid nice event.idle (claim_for x event.claim)) arrive

@@ -2,6 +2,7 @@
 use Rattle.std.proofs.Common.{◌≡◌, ℕ, ◌<◌, nat_eq, Bool, true, false, cond, Option, Some, None, option_map, option_and_then, ℤ, pos, List, [], ◌∷◌, find, slice_index_or, refl, sym, ap, ◌∙◌, subst, arith}
 use Rattle.std.proofs.lemmas.Bool.{ne_eqb, eqb-true, eqb-false}
 use Rattle.std.specs.List.{AllByRecursion}
+use Rattle.std.specs.Option.{option_map_or}
 use Rattle.cfs_model.specs.Machine.{Stands}
 use Rattle.cfs_model.specs.Start.{named_in, task_of, start_machine}
 use Rattle.cfs_model.specs.Order.{PidsRise, IsStart}
@@ -55,7 +56,7 @@ stands_named start floors tasks Wait cpu pid h = h
 stands_named start floors tasks Rest cpu pid h = h
 
 abbrev stander_at_start : Task → Entity
-stander_at_start t = record { place = t.place; nice = t.nice; runtime = t.v }
+stander_at_start t = record { place = t.place; nice = t.nice; idle = t.idle; runtime = t.v }
 
 start_stander : (start : ℕ) (floors : List ℤ) (tasks : List Task) → IsStart floors tasks → (cpu pid : ℕ)
     → entity_at (start_machine start floors tasks) cpu pid ≡ option_map stander_at_start
@@ -71,6 +72,8 @@ start_stander start floors tasks s cpu pid = go (task_of tasks pid) refl
         (apart_of (start_machine start floors tasks) (start_in_order start floors tasks s)) t.place cpu pid t.nice
         t.v h
         (ap (option_map (λ (x : Task). x.nice)) e) (ap (option_map (λ (x : Task). x.v)) e)
+        ∙ ap (λ x. Some (record { place = t.place; nice = t.nice; idle = x; runtime = t.v }))
+        (ap (λ o. option_map_or (λ (x : Task). x.idle) o false) e)
     at t e false f =
         no_stander (start_machine start floors tasks) cpu pid (λ place h.
         let w = named_task tasks s.pids_rise place cpu pid (named_there start floors tasks place cpu pid h) in

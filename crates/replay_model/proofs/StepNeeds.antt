@@ -52,9 +52,9 @@ pick_within bound need part (Switch prev pn way (suc next) nn) n h pid k =
     (subst (λ x. x ≤ℤ (n.1 +ℤ pos bound)) same (excess_within s.runtime n.1 need bound n.4 h))
     (n.3.least far.2 far.1 far.4 far.5) far.6
 pick_within bound need part (Wake task nice) n h pid k = k
-pick_within bound need part (Born task nice) n h pid k = k
+pick_within bound need part (Born task nice idle) n h pid k = k
 pick_within bound need part (Leave task nice dest) n h pid k = k
-pick_within bound need part (Arrive task nice orig) n h pid k = k
+pick_within bound need part (Arrive task nice orig idle) n h pid k = k
 
 pick_needs : (bound need : ℕ) (part : Part) (deed : Deed) → IsPickNeed part deed need
     → ((pid : ℕ) → ¬ IsNotLeast bound part deed pid) → need ≤ bound
@@ -74,9 +74,9 @@ pick_needs bound need part (Switch prev pn way (suc next) nn) n h = at_most_or n
       refl,
     ))
 pick_needs bound need part (Wake task nice) n h = none_needed need bound n
-pick_needs bound need part (Born task nice) n h = none_needed need bound n
+pick_needs bound need part (Born task nice idle) n h = none_needed need bound n
 pick_needs bound need part (Leave task nice dest) n h = none_needed need bound n
-pick_needs bound need part (Arrive task nice orig) n h = none_needed need bound n
+pick_needs bound need part (Arrive task nice orig idle) n h = none_needed need bound n
 
 -- a wakeup
 wake_bounds : (known bound : ℕ) (floor own v : ℤ) → IsInWakeBounds known floor own v → floor ≤ℤ (v +ℤ pos bound)
@@ -100,9 +100,9 @@ wake_within known bound need part (Wake task nice) (Some claim) n h none pid k =
     )
 wake_within known bound need part (Wake task nice) None n h none pid k = k
 wake_within known bound need part (Switch prev pn way next nn) claim n h none pid k = k
-wake_within known bound need part (Born task nice) claim n h none pid k = k
+wake_within known bound need part (Born task nice idle) claim n h none pid k = k
 wake_within known bound need part (Leave task nice dest) claim n h none pid k = k
-wake_within known bound need part (Arrive task nice orig) claim n h none pid k = k
+wake_within known bound need part (Arrive task nice orig idle) claim n h none pid k = k
 
 -- a woken task with a claim rests
 none_resting : (pid : ℕ) (o : Option Place) → o ≢ Some Rest → if_resting pid o ≡ None
@@ -139,34 +139,34 @@ wake_needs bound need part (Wake task nice) (Some claim) n extra h =
     ))
 wake_needs bound need part (Wake task nice) None n extra h = none_needed need bound n
 wake_needs bound need part (Switch prev pn way next nn) claim n extra h = none_needed need bound n
-wake_needs bound need part (Born task nice) claim n extra h = none_needed need bound n
+wake_needs bound need part (Born task nice idle) claim n extra h = none_needed need bound n
 wake_needs bound need part (Leave task nice dest) claim n extra h = none_needed need bound n
-wake_needs bound need part (Arrive task nice orig) claim n extra h = none_needed need bound n
+wake_needs bound need part (Arrive task nice orig idle) claim n extra h = none_needed need bound n
 
 -- a birth
 birth_within : (known bound need : ℕ) (part : Part) (deed : Deed) (claim : Option Claim) → IsBirthNeed part deed claim need
     → need ≤ bound → ((pid : ℕ) → ¬ IsForkOutside known part deed claim pid) → (pid : ℕ)
     → ¬ IsForkOutside bound part deed claim pid
-birth_within known bound need part (Born task nice) (Some claim) n h none pid k =
+birth_within known bound need part (Born task nice idle) (Some claim) n h none pid k =
     none pid ((λ inside. k.0 (inside.0, excess_within claim.v part.floor need bound n h)), k.1)
-birth_within known bound need part (Born task nice) None n h none pid k = k
+birth_within known bound need part (Born task nice idle) None n h none pid k = k
 birth_within known bound need part (Switch prev pn way next nn) claim n h none pid k = k
 birth_within known bound need part (Wake task nice) claim n h none pid k = k
 birth_within known bound need part (Leave task nice dest) claim n h none pid k = k
-birth_within known bound need part (Arrive task nice orig) claim n h none pid k = k
+birth_within known bound need part (Arrive task nice orig idle) claim n h none pid k = k
 
 above_bounds : (bound : ℕ) (floor v : ℤ) → (floor +ℤ pos bound) <ℤ v → ¬ IsInForkBounds bound floor v
 above_bounds bound floor v h k = let a = k.1 in omega (arith, ints)
 
 birth_needs : (bound need : ℕ) (part : Part) (deed : Deed) (claim : Option Claim) → IsBirthNeed part deed claim need
     → ((pid : ℕ) → ¬ IsForkOutside bound part deed claim pid) → need ≤ bound
-birth_needs bound need part (Born task nice) (Some claim) n h = at_most_or need bound
+birth_needs bound need part (Born task nice idle) (Some claim) n h = at_most_or need bound
     (λ k. h task (above_bounds bound part.floor claim.v (excess_beyond claim.v part.floor need bound n k), refl))
-birth_needs bound need part (Born task nice) None n h = none_needed need bound n
+birth_needs bound need part (Born task nice idle) None n h = none_needed need bound n
 birth_needs bound need part (Switch prev pn way next nn) claim n h = none_needed need bound n
 birth_needs bound need part (Wake task nice) claim n h = none_needed need bound n
 birth_needs bound need part (Leave task nice dest) claim n h = none_needed need bound n
-birth_needs bound need part (Arrive task nice orig) claim n h = none_needed need bound n
+birth_needs bound need part (Arrive task nice orig idle) claim n h = none_needed need bound n
 
 -- an idle stretch
 pub idle_within : (bound : ℕ) (since : Option ℕ) (time : ℕ) → idle_need since time ≤ bound → (pid : ℕ)

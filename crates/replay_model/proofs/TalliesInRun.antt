@@ -53,14 +53,14 @@ amount_at amount cpu m (event ∷ events) (after ∷ states) =
     cond (touches cpu event) (amount m event cpu) 0 + amount_at amount cpu after events states
 
 -- a deed picks whom its event picks
-picks_same : (cpu pid : ℕ) (act : Act) → picks_of (deed_at cpu act) pid ≡ cond (picks pid act) 1 0
-picks_same cpu pid (Switch here prev pn way zero nn) = refl
-picks_same cpu pid (Switch here prev pn way (suc n) nn) = refl
-picks_same cpu pid (Wake here task nice) = refl
-picks_same cpu pid (Born here task nice) = refl
-picks_same cpu pid (Shift orig dest task nice) = go (nat_eq orig cpu)
+picks_same : (cpu pid : ℕ) (idle : Bool) (act : Act) → picks_of (deed_at cpu idle act) pid ≡ cond (picks pid act) 1 0
+picks_same cpu pid idle (Switch here prev pn way zero nn) = refl
+picks_same cpu pid idle (Switch here prev pn way (suc n) nn) = refl
+picks_same cpu pid idle (Wake here task nice) = refl
+picks_same cpu pid idle (Born here task nice) = refl
+picks_same cpu pid idle (Shift orig dest task nice) = go (nat_eq orig cpu)
   where
-    go : (b : Bool) → picks_of (cond b (Leave task nice dest) (Arrive task nice orig)) pid ≡ 0
+    go : (b : Bool) → picks_of (cond b (Leave task nice dest) (Arrive task nice orig idle)) pid ≡ 0
     go true = refl
     go false = refl
 
@@ -101,7 +101,7 @@ module _ (knobs : Settings) (cpu : ℕ) (m : Machine) (apart : IsApart m) (event
     (same : part_of m cpu ≡ s.part) (covers : Covers s.part s.page.tallies)
     (p : PassesStep knobs cpu s (step_at cpu event) next) where
   tallies_are : next.page.tallies
-      ≡ tallied (deed_at cpu event.entry.act) (charged_tallies s.part event.entry.time s.page.tallies)
+      ≡ tallied (deed_at cpu event.idle event.entry.act) (charged_tallies s.part event.entry.time s.page.tallies)
   tallies_are = ap (λ page. page.tallies) p.page
 
   found : Covers p.found (charged_tallies s.part event.entry.time s.page.tallies)
@@ -109,7 +109,7 @@ module _ (knobs : Settings) (cpu : ℕ) (m : Machine) (apart : IsApart m) (event
 
   grows : Grows cpu m event s next
   grows =
-      let deed = deed_at cpu event.entry.act in
+      let deed = deed_at cpu event.idle event.entry.act in
       let now = event.entry.time in
       let after = charged_tallies s.part now s.page.tallies in
       record {
@@ -133,7 +133,7 @@ module _ (knobs : Settings) (cpu : ℕ) (m : Machine) (apart : IsApart m) (event
             (picked_has p.found deed after found
             (clear_of knobs cpu p.found (step_at cpu event) p.passes.none).next pid) in
             let c = charged_picks s.part now s.page.tallies covers pid in
-            let d = picks_same cpu pid event.entry.act in
+            let d = picks_same cpu pid event.idle event.entry.act in
             omega arith;
         covers = λ pid x e. ap (λ ts. has_tally ts pid) tallies_are
             ∙ deed_covers p.found deed (step_at cpu event).claim after found pid x

@@ -49,8 +49,8 @@ module _ (K : ℕ → Type 0) where
   Brings act = Unit {0}
 
   abbrev pub BringsHere : Deed → Type 0
-  BringsHere (deed.Born pid nice) = K pid
-  BringsHere (deed.Arrive pid nice orig) = K pid
+  BringsHere (deed.Born pid nice idle) = K pid
+  BringsHere (deed.Arrive pid nice orig idle) = K pid
   BringsHere other = Unit {0}
 
   of_map : (f : Tally → Tally) → KeepsPid f → (tallies : List Tally) → AreOf tallies → AreOf (map f tallies)
@@ -72,9 +72,9 @@ module _ (K : ℕ → Type 0) where
   of_deed (deed.Switch prev pn way zero nn) tallies k h = h
   of_deed (deed.Switch prev pn way (suc n) nn) tallies k h = of_map (pick_one n) (pick_keeps n) tallies h
   of_deed (deed.Wake pid nice) tallies k h = h
-  of_deed (deed.Born pid nice) tallies k h = of_with pid tallies k h
+  of_deed (deed.Born pid nice idle) tallies k h = of_with pid tallies k h
   of_deed (deed.Leave pid nice dest) tallies k h = h
-  of_deed (deed.Arrive pid nice orig) tallies k h = of_with pid tallies k h
+  of_deed (deed.Arrive pid nice orig idle) tallies k h = of_with pid tallies k h
 
   of_kept : Keeps AreOf BringsHere
   of_kept = record {
@@ -83,13 +83,13 @@ module _ (K : ℕ → Type 0) where
   }
 
   -- the deeds of events
-  brings_here : (cpu : ℕ) (act : Act) → Brings act → BringsHere (deed_at cpu act)
-  brings_here cpu (Switch here prev pn way next nn) k = tt
-  brings_here cpu (Wake here pid nice) k = tt
-  brings_here cpu (Born here pid nice) k = k
-  brings_here cpu (Shift orig dest pid nice) k = go (nat_eq orig cpu)
+  brings_here : (cpu : ℕ) (idle : Bool) (act : Act) → Brings act → BringsHere (deed_at cpu idle act)
+  brings_here cpu idle (Switch here prev pn way next nn) k = tt
+  brings_here cpu idle (Wake here pid nice) k = tt
+  brings_here cpu idle (Born here pid nice) k = k
+  brings_here cpu idle (Shift orig dest pid nice) k = go (nat_eq orig cpu)
     where
-      go : (b : Bool) → BringsHere (cond b (deed.Leave pid nice dest) (deed.Arrive pid nice orig))
+      go : (b : Bool) → BringsHere (cond b (deed.Leave pid nice dest) (deed.Arrive pid nice orig idle))
       go true = tt
       go false = k
 
@@ -102,7 +102,7 @@ module _ (K : ℕ → Type 0) where
       go : (b : Bool) → AllByRecursion (λ (step : Step). BringsHere step.deed) (steps_at cpu events)
           → AllByRecursion (λ (step : Step). BringsHere step.deed)
           (map (step_at cpu) (cond b (event ∷ filter (touches cpu) events) (filter (touches cpu) events)))
-      go true rest = (brings_here cpu event.entry.act h.0, rest)
+      go true rest = (brings_here cpu event.idle event.entry.act h.0, rest)
       go false rest = rest
 
   -- the tallies at the start
@@ -142,7 +142,7 @@ module _ (K : ℕ → Type 0) where
   act_brings knobs m event after alive o roll s old born = go event.entry.act born s.changes
     where
       go : (act : Act) → ((pid : ℕ) → is_among (born_by act) pid ≡ true → K pid)
-          → Changes knobs s.found act event.claim after → Brings act
+          → Changes knobs s.found act event.claim event.idle after → Brings act
       go (Switch cpu prev pn way next nn) b c = tt
       go (Wake cpu pid nice) b c = tt
       go (Born cpu pid nice) b c = b pid (or_left (nat_eq pid pid) false (eq-eqb pid pid refl))

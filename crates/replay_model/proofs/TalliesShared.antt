@@ -99,7 +99,7 @@ event_shares : (knobs : Settings) (m : Machine) (event : Claimed) (after : Machi
 event_shares knobs m event after s f n within = go event.entry.act within s.changes
   where
     go : (act : Act) → AllByRecursion (λ (cpu : ℕ). cpu < n) (touched act)
-        → Changes knobs s.found act event.claim after
+        → Changes knobs s.found act event.claim event.idle after
         → sum_below (at_some (touched act) f) n ≡ sum (map f (touched act))
     go (Switch cpu prev pn way next nn) h c = some_one cpu f n h.0
     go (Wake cpu pid nice) h c = some_one cpu f n h.0

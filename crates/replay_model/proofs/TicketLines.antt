@@ -128,17 +128,17 @@ left_lines : (found : Part) (step : Step) (deed : Deed)
     → AllByRecursion (λ (t : Ticket). t.line ≡ step.line) (left_by found step deed)
 left_lines found step (Switch prev pn way next nn) = tt
 left_lines found step (Wake pid nice) = tt
-left_lines found step (Born pid nice) = tt
+left_lines found step (Born pid nice idle) = tt
 left_lines found step (Leave pid nice dest) = one_line _ step.line (λ a. refl) (found.tasks pid)
-left_lines found step (Arrive pid nice orig) = tt
+left_lines found step (Arrive pid nice orig idle) = tt
 
 came_lines : (found : Part) (step : Step) (deed : Deed)
     → AllByRecursion (λ (t : Ticket). t.line ≡ step.line) (came_by found step deed)
 came_lines found step (Switch prev pn way next nn) = tt
 came_lines found step (Wake pid nice) = tt
-came_lines found step (Born pid nice) = tt
+came_lines found step (Born pid nice idle) = tt
 came_lines found step (Leave pid nice dest) = tt
-came_lines found step (Arrive pid nice orig) = one_line _ step.line (λ a. refl) step.claim
+came_lines found step (Arrive pid nice orig idle) = one_line _ step.line (λ a. refl) step.claim
 
 pub left_tickets : IsTickets (λ page. page.left) left_of
 left_tickets = record {

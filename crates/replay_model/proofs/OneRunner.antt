@@ -96,14 +96,16 @@ wake_run claim (Some s) h = ap Some (woken_run claim s s.place refl cc)
 
 born_run : (nice : ℤ) (idle : Bool) (claim : Option Claim)
     → place_of (option_map
-    (λ (c : Claim). let s : Entity = record { place = Wait; nice = nice; idle = idle; runtime = c.v } in s) claim) ≡ Some Run → ⊥
+    (λ (c : Claim). let s : Entity = record { place = Wait; nice = nice; idle = idle; runtime = c.v } in s) claim)
+    ≡ Some Run → ⊥
 born_run nice idle None h = no_some Run h
 born_run nice idle (Some claim) h = cc
 
 come_run : (nice : ℤ) (idle : Bool) (claim : Option Claim)
     → place_of (option_map
-    (λ (c : Claim). let s : Entity = record { place = place_of_sort c.sort; nice = nice; idle = idle; runtime = c.v } in s) claim) ≡
-    Some Run → ⊥
+    (λ (c : Claim). let s : Entity = record
+    { place = place_of_sort c.sort; nice = nice; idle = idle; runtime = c.v } in s) claim)
+    ≡ Some Run → ⊥
 come_run nice idle None h = no_some Run h
 come_run nice idle (Some claim) h = go claim.sort h
   where
@@ -118,7 +120,8 @@ deed_one_runs knobs cpu l (Switch prev pn way next nn) claim one c =
     (prev_nobody l one prev way (runner_is l prev (λ h. c.prev prev (h, refl)))) next
 deed_one_runs knobs cpu l (Wake pid nice) claim one c =
     none_more l one pid (option_map (λ s. woken claim s.place s) (l.tasks pid)) (wake_run claim (l.tasks pid))
-deed_one_runs knobs cpu l (Born pid nice idle) claim one c = none_more l one pid _ (λ h. absurd (born_run nice idle claim h))
+deed_one_runs knobs cpu l (Born pid nice idle) claim one c = none_more l one pid _
+    (λ h. absurd (born_run nice idle claim h))
 deed_one_runs knobs cpu l (Leave pid nice dest) claim one c = none_more l one pid None (λ h. no_some Run h)
 deed_one_runs knobs cpu l (Arrive pid nice orig idle) claim one c = none_more l one pid _
     (λ h. absurd (come_run nice idle claim h))

@@ -121,7 +121,8 @@ values_of m a place cpu pid h =
     let n = some_value (m.nice pid) ((a.nices pid).1 (place, cpu, h)) in
     let v = some_value (m.runtime pid) ((a.runtimes pid).1 (place, cpu, h)) in
     let s : Entity = record { place = place; nice = n.0; idle = m.idle pid; runtime = v.0 } in
-    (s, refl, is_stander m a place cpu pid n.0 v.0 h n.1 v.1, record { stands = h; nice = n.1; policy = refl; runtime = v.1 })
+    let known : StandsAs m cpu pid s = record { stands = h; nice = n.1; policy = refl; runtime = v.1 } in
+    (s, refl, is_stander m a place cpu pid n.0 v.0 h n.1 v.1, known)
 
 -- who stands nowhere at the processor has no place there
 pub no_place : (m : Machine) (cpu pid : ℕ) → ((place : Place) → ¬ Stands m place cpu pid)

@@ -90,8 +90,8 @@ part_steps knobs before after event cpu o t s =
     (home_is act cpu t) s.is_reniced in
     let n = reniced_here s.lifted a cpu event.nice s.found r in
     let nice = nice_is act event.idle cpu event.nice t in
-    let c = change_says knobs s.found (reniced_apart cpu event.nice s.lifted s.found r a) cpu act event.claim event.idle after t
-    s.changes in (
+    let c = change_says knobs s.found (reniced_apart cpu event.nice s.lifted s.found r a) cpu act event.claim
+    event.idle after t s.changes in (
       nowhere_before before s.found
           (λ place d pid k. reniced_stands cpu event.nice s.lifted s.found r place d pid
           (still_stands before s.lifted time cpu l place d pid k)) act c.nowhere,

@@ -53,8 +53,8 @@ charged_elsewhere : (m : Machine) → IsApart m → (cpu time : ℕ) (f : ℤ) (
     → part_of (with_floor (charged m cpu time) cpu f) d ≡ part_of m d
 charged_elsewhere m a cpu time f d ne =
     same_part (part_of (with_floor (charged m cpu time) cpu f) d) (part_of m d)
-    (λ pid. kept_by (m.running cpu pid) (m.idle pid) (place_by (m.running d pid) (m.waiting d pid) (m.resting d pid)) (m.nice pid)
-    (charged_runtime m cpu time pid) (m.runtime pid)
+    (λ pid. kept_by (m.running cpu pid) (m.idle pid) (place_by (m.running d pid) (m.waiting d pid) (m.resting d pid))
+    (m.nice pid) (charged_runtime m cpu time pid) (m.runtime pid)
     (λ h. no_place m d pid (λ place k. ne (a.one_place pid place Run d cpu k h).1)))
     (put-other m.floor cpu f d ne) (put-other m.mark cpu time d ne)
 

@@ -207,17 +207,19 @@ arrive_clear knobs m a orig dest pid nice claim idle after s = record {
 offsets : (own fo fd : ℤ) → (own -ℤ fo) ≡ ((own -ℤ fo) +ℤ fd) -ℤ fd
 offsets own fo fd = omega (arith, ints)
 
-claim_ticket : (part : Part) (line pid : ℕ) (nice : ℤ) (idle : Bool) (claim : Option Claim) (sort : ClaimSort) (place : Place)
-    (v : ℤ) → MovesBy place sort → ClaimSays claim sort pid v
+claim_ticket : (part : Part) (line pid : ℕ) (nice : ℤ) (idle : Bool) (claim : Option Claim) (sort : ClaimSort)
+    (place : Place) (v : ℤ) → MovesBy place sort → ClaimSays claim sort pid v
     → came_ticket part line pid nice idle claim ≡ Some
     (record { line = line; pid = pid; nice = nice; idle = idle; place = place; offset = v -ℤ part.floor })
 claim_ticket part line pid nice idle None sort place v b h = absurd h
 claim_ticket part line pid nice idle (Some claim) sort place v b h =
     ap (λ x. Some (record
     { line = line; pid = pid; nice = nice; idle = idle; place = place_of_sort x; offset = claim.v -ℤ part.floor })) h.0
-    ∙ ap (λ x. Some (record { line = line; pid = pid; nice = nice; idle = idle; place = x; offset = claim.v -ℤ part.floor }))
+    ∙ ap (λ x. Some (record
+    { line = line; pid = pid; nice = nice; idle = idle; place = x; offset = claim.v -ℤ part.floor }))
     (sort_place place sort b)
-    ∙ ap (λ x. Some (record { line = line; pid = pid; nice = nice; idle = idle; place = place; offset = x -ℤ part.floor })) h.2
+    ∙ ap (λ x. Some (record
+    { line = line; pid = pid; nice = nice; idle = idle; place = place; offset = x -ℤ part.floor })) h.2
 
 -- the two tickets of a migration are equal
 pub tickets_equal : (m : Machine) → IsApart m

@@ -17,7 +17,8 @@ same_truth false false f g = refl
 -- a pid that stands in the same places with the same values is the same task
 same_stander : (m after : Machine) (d q : ℕ) → ((r : Place) → Stands m r d q → Stands after r d q)
     → ((r : Place) → Stands after r d q → Stands m r d q)
-    → after.idle q ≡ m.idle q → after.nice q ≡ m.nice q → after.runtime q ≡ m.runtime q → entity_at after d q ≡ entity_at m d q
+    → after.idle q ≡ m.idle q → after.nice q ≡ m.nice q → after.runtime q ≡ m.runtime q
+    → entity_at after d q ≡ entity_at m d q
 same_stander m after d q up down i e f =
     let r : after.running d q ≡ m.running d q = same_truth _ _ (down Run) (up Run) in
     let w : after.waiting d q ≡ m.waiting d q = same_truth _ _ (down Wait) (up Wait) in

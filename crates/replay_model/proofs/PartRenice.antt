@@ -70,7 +70,8 @@ module _ (m : Machine) (a : IsApart m) (cpu pid : ℕ) (nice : ℤ) (place : Pla
       ∙ ap (λ n. option_map (with_new nice) (entity_by (m.idle pid) (place_at m cpu pid) n (m.runtime pid))) (sym s.3.nice)
 
   nice_other : (d q : ℕ) → q ≢ pid → entity_at (with_nice m pid nice) d q ≡ entity_at m d q
-  nice_other d q ne = ap (λ n. entity_by (m.idle q) (place_at m d q) n (m.runtime q)) (put-other m.nice pid (Some nice) q ne)
+  nice_other d q ne = ap (λ n. entity_by (m.idle q) (place_at m d q) n (m.runtime q))
+      (put-other m.nice pid (Some nice) q ne)
 
   -- the pid stands at no other processor
   nice_elsewhere : (d : ℕ) → d ≢ cpu → entity_at (with_nice m pid nice) d pid ≡ entity_at m d pid

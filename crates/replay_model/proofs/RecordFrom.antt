@@ -21,7 +21,8 @@ entry_head R e es h = λ k d within. h 0 (suc k) d (omega arith) (suc-le-suc wit
 entry_tail : (R : Entry → Entry → Type 0) (e : Entry) (es : List Entry) → AllPairs R (e ∷ es) → AllPairs R es
 entry_tail R e es h = λ i j d below within. h (suc i) (suc j) d (suc-le-suc below) (suc-le-suc within)
 
-pub times_from : (start : ℕ) (claims : List Claim) (nices : List NiceLine) (policy : Entry → Bool) (es : List Entry) → AllPairs (λ a b. a.time ≤ b.time) es
+pub times_from : (start : ℕ) (claims : List Claim) (nices : List NiceLine) (policy : Entry → Bool) (es : List Entry)
+    → AllPairs (λ a b. a.time ≤ b.time) es
     → AllByRecursion (λ (e : Entry). start ≤ e.time) es → TimesRise start (claimed claims nices policy es)
 times_from start claims nices policy [] h k = tt
 times_from start claims nices policy (e ∷ es) h k = (
@@ -30,7 +31,8 @@ times_from start claims nices policy (e ∷ es) h k = (
       (recursion_from_All (λ (u : Entry). e.time ≤ u.time) es (entry_head (λ a b. a.time ≤ b.time) e es h)),
 )
 
-pub lines_from : (line : ℕ) (claims : List Claim) (nices : List NiceLine) (policy : Entry → Bool) (es : List Entry) → AllPairs (λ a b. a.line < b.line) es
+pub lines_from : (line : ℕ) (claims : List Claim) (nices : List NiceLine) (policy : Entry → Bool) (es : List Entry)
+    → AllPairs (λ a b. a.line < b.line) es
     → AllByRecursion (λ (e : Entry). line < e.line) es → LinesRise line (claimed claims nices policy es)
 lines_from line claims nices policy [] h k = tt
 lines_from line claims nices policy (e ∷ es) h k = (
@@ -50,7 +52,8 @@ claim_of (c ∷ claims) line h = go (nat_eq c.line line) (claim_of claims line h
     go true k = h.0
     go false k = k
 
-pub claims_from : (claims : List Claim) (nices : List NiceLine) (policy : Entry → Bool) (es : List Entry) → AllByRecursion (λ (c : Claim). IsInRange c.v) claims
+pub claims_from : (claims : List Claim) (nices : List NiceLine) (policy : Entry → Bool) (es : List Entry)
+    → AllByRecursion (λ (c : Claim). IsInRange c.v) claims
     → AllByRecursion ClaimInRange (claimed claims nices policy es)
 claims_from claims nices policy [] h = tt
 claims_from claims nices policy (e ∷ es) h = (claim_of claims e.line h, claims_from claims nices policy es h)
@@ -64,7 +67,8 @@ within_from cpus claims nices policy (e ∷ es) h =
     (recursion_from_All (λ cpu. cpu < cpus) (touched e.act) h.0, within_from cpus claims nices policy es h.1)
 
 -- a record of some processors
-pub record_from : (start : ℕ) (floors : List ℤ) (tasks : List Task) (claims : List Claim) (nices : List NiceLine) (policy : Entry → Bool) (es : List Entry) (cpus : ℕ)
+pub record_from : (start : ℕ) (floors : List ℤ) (tasks : List Task) (claims : List Claim) (nices : List NiceLine)
+    (policy : Entry → Bool) (es : List Entry) (cpus : ℕ)
     → IsStart floors tasks → All (λ t. t.cpu < cpus) tasks
     → All (λ e. All (λ cpu. cpu < cpus) (touched e.act)) es → All (λ c. IsInRange c.v) claims
     → AllPairs (λ a b. a.time ≤ b.time) es → All (λ e. start ≤ e.time) es
@@ -76,6 +80,7 @@ record_from start floors tasks claims nices policy es cpus s t w c times started
   events_within = within_from cpus claims nices policy es
       (recursion_from_All (λ (e : Entry). All (λ cpu. cpu < cpus) (touched e.act)) es w);
   claims_in_range = claims_from claims nices policy es (recursion_from_All (λ (c : Claim). IsInRange c.v) claims c);
-  times_rise = times_from start claims nices policy es times (recursion_from_All (λ (e : Entry). start ≤ e.time) es started);
+  times_rise = times_from start claims nices policy es times
+      (recursion_from_All (λ (e : Entry). start ≤ e.time) es started);
   lines_rise = lines_from 0 claims nices policy es lines (recursion_from_All (λ (e : Entry). 0 < e.line) es from_one);
 }

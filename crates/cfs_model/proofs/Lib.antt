@@ -17,5 +17,6 @@ pub mod Renice
 pub mod StartOrder
 pub mod StepOrder
 pub mod SwitchExample
+pub mod ToldPolicies
 pub mod WakeExample
 pub mod Worked

@@ -124,6 +124,11 @@ nice-with_pairs m Run s = refl
 nice-with_pairs m Wait s = refl
 nice-with_pairs m Rest s = refl
 
+pub idle-with_pairs : (m : Machine) (place : Place) (s : Pairs) → (with_pairs m place s).idle ≡ m.idle
+idle-with_pairs m Run s = refl
+idle-with_pairs m Wait s = refl
+idle-with_pairs m Rest s = refl
+
 some_of : (o : Option ℤ) (n : ℤ) → o ≡ Some n → IsSome o
 some_of o n e = ap is_some e
 

@@ -1,15 +1,22 @@
 -- The laws of steps and runs (this project's profile), as the contracts in src/laws.rt state them.
-use Rattle.std.specs.Prelude.{◌≡◌, ◌≢◌, ℕ, ◌++◌, ℤ, ◌≤ℤ◌, ◌↔◌, List}
+use Rattle.std.specs.Prelude.{◌≡◌, ◌≢◌, ℕ, ◌<◌, ◌++◌, ℤ, ◌≤ℤ◌, ◌↔◌, List, ◌∷◌, AllPairs}
 use Rattle.std.specs.List.{AllByRecursion}
 use Rattle.cfs_model.specs.Settings.{Settings}
 use Rattle.cfs_model.specs.Machine.{Machine}
-use Rattle.cfs_model.specs.Start.{start_machine}
-use Rattle.cfs_model.specs.Claimed.{Claimed}
+use Rattle.cfs_model.specs.Start.{starts_idle, start_machine}
+use Rattle.cfs_model.specs.Claimed.{Claimed, nice_at, policies_before, policy_in, claimed}
 use Rattle.cfs_model.specs.Touch.{touched}
+use Rattle.cfs_model.specs.Lifted.{IsLifted}
+use Rattle.cfs_model.specs.Reniced.{home_of, IsReniced}
 use Rattle.cfs_model.specs.Step.{IsStep}
-use Rattle.cfs_model.specs.Run.{AreSteps, IsRun}
+use Rattle.cfs_model.specs.Run.{AreSteps, IsRun, last_of}
 use Rattle.cfs_model.specs.Order.{IsInOrder, IsStart}
 use Rattle.cfs_model.specs.Least.{AtMost, lesser, AreLeast}
+use Rattle.cfs_model.specs.declared.act.Act.TheVariants.{Shift}
+use Rattle.cfs_model.specs.declared.act.Entry.{Entry}
+use Rattle.cfs_model.specs.declared.claim.Claim.{Claim}
+use Rattle.cfs_model.specs.declared.idle_line.IdleLine.{IdleLine}
+use Rattle.cfs_model.specs.declared.nice_line.NiceLine.{NiceLine}
 use Rattle.cfs_model.specs.declared.task.Task.{Task}
 
 -- from a machine, by one event, there is at most one next machine
@@ -52,6 +59,31 @@ abbrev pub MarksMove : Type 0
 MarksMove = (knobs : Settings) (before : Machine) (event : Claimed) (after : Machine) → IsStep knobs before event after
     → AllByRecursion (λ cpu. after.mark cpu ≡ event.entry.time) (touched event.entry.act)
     × ((cpu : ℕ) → AllByRecursion (λ other. cpu ≢ other) (touched event.entry.act) → after.mark cpu ≡ before.mark cpu)
+
+-- the events before an entry of a record whose lines rise lead to a machine in which each task has the policy that the
+-- companion tells at the start and at the births before the entry's line
+abbrev pub PoliciesAreTold : Type 0
+PoliciesAreTold = (knobs : Settings) (start : ℕ) (floors : List ℤ) (tasks : List Task)
+    (claims : List Claim) (nices : List NiceLine) (idles : List IdleLine) (before rest : List Entry) (entry : Entry)
+    → AllPairs (λ a b. a.line < b.line) (before ++ entry ∷ rest)
+    → (run : IsRun knobs start (start_machine start floors tasks)
+    (claimed claims nices (policy_in idles (starts_idle tasks) (before ++ entry ∷ rest)) before))
+    → (last_of (start_machine start floors tasks) run.states).idle
+    ≡ policies_before idles (starts_idle tasks) (before ++ entry ∷ rest) entry.line
+
+-- so the policy told of a task that moves is its own in the machine that the migration finds: what a migration asks of
+-- the policy holds of every record
+abbrev pub MoverKeepsPolicy : Type 0
+MoverKeepsPolicy = (knobs : Settings) (start : ℕ) (floors : List ℤ) (tasks : List Task)
+    (claims : List Claim) (nices : List NiceLine) (idles : List IdleLine) (before rest : List Entry) (entry : Entry)
+    (orig dest pid : ℕ) (nice : ℤ) (lifted found : Machine)
+    → AllPairs (λ a b. a.line < b.line) (before ++ entry ∷ rest)
+    → (run : IsRun knobs start (start_machine start floors tasks)
+    (claimed claims nices (policy_in idles (starts_idle tasks) (before ++ entry ∷ rest)) before))
+    → entry.act ≡ Shift orig dest pid nice
+    → IsLifted entry.time (touched entry.act) (last_of (start_machine start floors tasks) run.states) lifted
+    → IsReniced (home_of entry.act) (nice_at nices entry.line) lifted found
+    → found.idle pid ≡ policy_in idles (starts_idle tasks) (before ++ entry ∷ rest) entry
 
 -- a run at some settings is one at more generous ones
 abbrev pub MoreKeepsRun : Type 0

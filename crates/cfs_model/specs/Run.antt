@@ -24,6 +24,11 @@ pub record IsRun (knobs : Settings) (start : ℕ) (first : Machine) (events : Li
   pub steps : AreSteps knobs first events states
   pub slack : KeepsSlack knobs.slack (times_of start events) (first ∷ states)
 
+-- the last of some states that follow a first
+abbrev pub last_of : Machine → List Machine → Machine
+last_of m [] = m
+last_of m (after ∷ states) = last_of after states
+
 -- the line of an event up to which the events are no run, though those before it are one
 pub record IsFirstBad (knobs : Settings) (start : ℕ) (first : Machine) (events : List Claimed) (line : ℕ) : Type 0 where
   pub before : List Claimed

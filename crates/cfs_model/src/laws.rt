@@ -1,5 +1,5 @@
 //! The laws of steps and runs. Each is the contract of a function that does nothing.
-ghost use Rattle.cfs_model.specs.Laws.{OneNext, OneList, RunPrefix, StepKeepsOrder, RunKeepsOrder, StartInOrder, FloorsRise, MarksMove, MoreKeepsRun, LesserKeepsRun, SameStates, OneLeast, RunFromLeast, LeastOfPrefix};
+ghost use Rattle.cfs_model.specs.Laws.{OneNext, OneList, RunPrefix, StepKeepsOrder, RunKeepsOrder, StartInOrder, FloorsRise, MarksMove, MoreKeepsRun, LesserKeepsRun, SameStates, OneLeast, RunFromLeast, LeastOfPrefix, PoliciesAreTold, MoverKeepsPolicy};
 
 /// From a machine an event leads to at most one machine, and events lead through at most one list of states.
 pub fn one_list()
@@ -29,6 +29,14 @@ pub fn floors_rise()
 /// A step charges at the processors that its event touches, up to its time.
 pub fn marks_move()
     ensures { MarksMove }
+{}
+
+/// The events before a line lead to a machine in which each task has the policy that the companion tells at the start and
+/// at the births before the line. So the policy told of a task that moves is its own, and what a migration asks of it
+/// holds of every record.
+pub fn policies()
+    ensures told { PoliciesAreTold }
+    ensures moved { MoverKeepsPolicy }
 {}
 
 /// More generous settings keep a run and its states, and so does the lesser of two settings that make one. So there are at

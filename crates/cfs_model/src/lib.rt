@@ -25,7 +25,7 @@ pub use examples::{
 pub use idle_line::IdleLine;
 pub use kind::Kind;
 pub use knobs::Knobs;
-pub use laws::{floors_rise, least_settings, marks_move, one_list, places, prefixes};
+pub use laws::{floors_rise, least_settings, marks_move, one_list, places, policies, prefixes};
 pub use limits::{
     GREATEST_LINE, GREATEST_PID, GREATEST_PROCESSOR, GREATEST_RUNTIME, GREATEST_SECONDS, IDLE_PID,
     MOST_PROCESSORS, NANOSECONDS_PER_SECOND, NO_LINE,

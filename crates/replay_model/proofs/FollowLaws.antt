@@ -5,12 +5,12 @@ use Rattle.cfs_model.specs.Machine.{Machine}
 use Rattle.cfs_model.specs.Start.{start_machine}
 use Rattle.cfs_model.specs.Claimed.{Claimed}
 use Rattle.cfs_model.specs.Idle.{IsIdle, IdlesFrom, KeepsSlack}
-use Rattle.cfs_model.specs.Run.{times_of, IsRun}
+use Rattle.cfs_model.specs.Run.{times_of, IsRun, last_of}
 use Rattle.cfs_model.specs.Order.{IsStart}
 use Rattle.replay_model.specs.Part.{Part}
 use Rattle.replay_model.specs.QueueTests.{IsIdleTooLong}
 use Rattle.replay_model.specs.Cut.{cut}
-use Rattle.replay_model.specs.Following.{TimesRise, last_of, IsShareReplay, SlackFails, ReplayFollows, SlackFollows}
+use Rattle.replay_model.specs.Following.{TimesRise, IsShareReplay, SlackFails, ReplayFollows, SlackFollows}
 use Rattle.replay_model.specs.Page.{ReplayStateView, IsSince, IsStartOf}
 use Rattle.cfs_model.proofs.StartOrder.{start_in_order}
 use Rattle.replay_model.proofs.StartPart.{start_part_is}

@@ -4,9 +4,9 @@ use Rattle.cfs_model.specs.Settings.{Settings}
 use Rattle.cfs_model.specs.Machine.{Machine}
 use Rattle.cfs_model.specs.Claimed.{Claimed}
 use Rattle.cfs_model.specs.Idle.{IsIdle, IdlesFrom, KeepsSlack}
-use Rattle.cfs_model.specs.Run.{AreSteps, times_of}
+use Rattle.cfs_model.specs.Run.{AreSteps, times_of, last_of}
 use Rattle.replay_model.specs.Cut.{steps_at, last_time_of}
-use Rattle.replay_model.specs.Following.{TimesRise, last_of}
+use Rattle.replay_model.specs.Following.{TimesRise}
 use Rattle.replay_model.specs.Page.{ReplayStateView, IsReplay}
 use Rattle.replay_model.proofs.Follow.{KeepsUp, state_idles, part_idles, advance}
 use Rattle.replay_model.proofs.SwitchClear.{same_some}

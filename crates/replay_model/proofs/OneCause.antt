@@ -6,12 +6,12 @@ use Rattle.cfs_model.specs.Settings.{Settings}
 use Rattle.cfs_model.specs.Machine.{Machine}
 use Rattle.cfs_model.specs.Claimed.{Claimed}
 use Rattle.cfs_model.specs.Order.{IsInOrder}
-use Rattle.cfs_model.specs.Run.{times_of}
+use Rattle.cfs_model.specs.Run.{times_of, last_of}
 use Rattle.replay_model.specs.Part.{Part, part_of}
 use Rattle.replay_model.specs.OnePage.{OneRunsIn}
 use Rattle.replay_model.specs.Tests.{FirstHolds, late_tests, PassesTests}
 use Rattle.replay_model.specs.Cut.{step_at}
-use Rattle.replay_model.specs.Following.{last_of, SlackFails}
+use Rattle.replay_model.specs.Following.{SlackFails}
 use Rattle.replay_model.specs.Cause.{FaultCause, FailsOn, FailsAt, PassesAt, IsActCause, IsIdlingCause, IsCause}
 use Rattle.cfs_model.proofs.OneNext.{one_list}
 use Rattle.replay_model.proofs.OneLift.{same_found, none_first}

@@ -9,7 +9,7 @@ use Rattle.cfs_model.specs.Machine.{Machine, Stands}
 use Rattle.cfs_model.specs.Start.{start_machine}
 use Rattle.cfs_model.specs.Claimed.{Claimed}
 use Rattle.cfs_model.specs.Touch.{touched}
-use Rattle.cfs_model.specs.Run.{times_of, IsRun}
+use Rattle.cfs_model.specs.Run.{times_of, IsRun, last_of}
 use Rattle.cfs_model.specs.Order.{IsInOrder, StandsSomewhere}
 use Rattle.replay_model.specs.Part.{part_of}
 use Rattle.replay_model.specs.Deeds.{left_ticket, came_ticket}
@@ -18,7 +18,7 @@ use Rattle.replay_model.specs.Tests.{PassesTests}
 use Rattle.replay_model.specs.Cut.{touches, step_at, steps_at}
 use Rattle.replay_model.specs.Noted.{PageView}
 use Rattle.replay_model.specs.Page.{ReplayStateView}
-use Rattle.replay_model.specs.Following.{TimesRise, last_of, IsShareReplay, SlackFails}
+use Rattle.replay_model.specs.Following.{TimesRise, IsShareReplay, SlackFails}
 use Rattle.replay_model.specs.Composition.{LinesRise, named, ticket_at, IsRecord}
 use Rattle.replay_model.specs.Endings.{roll_of}
 use Rattle.replay_model.specs.Cause.{FaultCause, FailsOn, FailsAt, PassesAt, IsBornTwice, IsActCause, IsIdlingCause, IsCause}

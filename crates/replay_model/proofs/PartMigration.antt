@@ -2,7 +2,7 @@
 use Rattle.std.proofs.Common.{◌≡◌, ◌≢◌, ℕ, Bool, true, false, Option, Some, None, option_map, ℤ, ◌+ℤ◌, ◌-ℤ◌, inl, inr, refl, sym, ap, ◌∙◌, subst, arith}
 use Rattle.std.proofs.lemmas.Int.{ints}
 use Rattle.cfs_model.specs.Settings.{Settings}
-use Rattle.cfs_model.specs.Machine.{Machine, Stands, put_pair, pairs_of, with_move, without_task, with_runtime, Pairs, with_pairs}
+use Rattle.cfs_model.specs.Machine.{Machine, Stands, put_pair, pairs_of, with_move, without_task, with_runtime}
 use Rattle.cfs_model.specs.Claimed.{ClaimSays}
 use Rattle.cfs_model.specs.Step.{MovesBy, IsMigration}
 use Rattle.replay_model.specs.Part.{Part, Entity, part_of, entity_at}
@@ -12,7 +12,7 @@ use Rattle.cfs_model.proofs.FloorsRise.{floor-with_pairs}
 use Rattle.cfs_model.proofs.KeptOrder.{IsApart, same_sets}
 use Rattle.cfs_model.proofs.MarksMove.{mark-with_pairs}
 use Rattle.cfs_model.proofs.Moves.{put-same, put-other, same_or_not, IsPutAt, move_placed}
-use Rattle.cfs_model.proofs.StepOrder.{alone, placed_same, runtime-with_pairs, nice-with_pairs}
+use Rattle.cfs_model.proofs.StepOrder.{alone, placed_same, runtime-with_pairs, nice-with_pairs, idle-with_pairs}
 use Rattle.replay_model.proofs.PartFacts.{stands_as, is_stander, is_in, stands_at}
 use Rattle.replay_model.proofs.PartMoves.{KeepsRest, placed_part, placed_away, none_there, elsewhere}
 use Rattle.replay_model.proofs.PartSwitch.{own_nice}
@@ -26,12 +26,6 @@ use Rattle.replay_model.specs.declared.page.Ticket.{Ticket}
 use Rattle.replay_model.specs.declared.step.Deed.TheVariants.{Leave, Arrive}
 use Rattle.cfs_model.specs.declared.task.Place.{Place}
 use Rattle.cfs_model.specs.declared.task.Place.TheVariants.{Run, Wait, Rest}
-
--- a changed set changes no policy
-idle-with_pairs : (m : Machine) (place : Place) (s : Pairs) → (with_pairs m place s).idle ≡ m.idle
-idle-with_pairs m Run s = refl
-idle-with_pairs m Wait s = refl
-idle-with_pairs m Rest s = refl
 
 module _ (m : Machine) (place : Place) (orig dest pid : ℕ) (w : ℤ) where
   moved : Machine

@@ -6,13 +6,12 @@ use Rattle.cfs_model.specs.Start.{start_machine}
 use Rattle.cfs_model.specs.Claimed.{Claimed}
 use Rattle.cfs_model.specs.Touch.{touched}
 use Rattle.cfs_model.specs.Idle.{KeepsSlack}
-use Rattle.cfs_model.specs.Run.{AreSteps, times_of, IsRun}
+use Rattle.cfs_model.specs.Run.{AreSteps, times_of, IsRun, last_of}
 use Rattle.cfs_model.specs.Order.{IsInOrder}
 use Rattle.replay_model.specs.Found.{IsFound}
 use Rattle.replay_model.specs.Deeds.{left_ticket, came_ticket}
 use Rattle.replay_model.specs.Cut.{step_at}
 use Rattle.replay_model.specs.PartStep.{BornNowhere}
-use Rattle.replay_model.specs.Following.{last_of}
 use Rattle.replay_model.specs.Composition.{roll_after}
 use Rattle.replay_model.specs.Endings.{roll_of, IdlingEndsRun, BirthEndsRun, TicketsEndRun}
 use Rattle.cfs_model.proofs.StartOrder.{start_in_order}

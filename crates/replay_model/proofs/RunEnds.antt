@@ -6,12 +6,12 @@ use Rattle.cfs_model.specs.Start.{start_machine}
 use Rattle.cfs_model.specs.Claimed.{Claimed}
 use Rattle.cfs_model.specs.Step.{IsStep}
 use Rattle.cfs_model.specs.Idle.{IsIdle, KeepsSlack}
-use Rattle.cfs_model.specs.Run.{AreSteps, times_of, IsRun}
+use Rattle.cfs_model.specs.Run.{AreSteps, times_of, IsRun, last_of}
 use Rattle.replay_model.specs.Part.{part_of}
 use Rattle.replay_model.specs.QueueTests.{IsIdleTooLong}
 use Rattle.replay_model.specs.Cut.{step_at}
 use Rattle.replay_model.specs.PartStep.{PartStep}
-use Rattle.replay_model.specs.Following.{last_of, SlackFails}
+use Rattle.replay_model.specs.Following.{SlackFails}
 use Rattle.replay_model.specs.Faults.{FaultEndsRun}
 use Rattle.cfs_model.proofs.Prefix.{steps_length, slice_get-append_left, start_time_at, front_slack}
 use Rattle.replay_model.proofs.OneLift.{step_no_fault}

@@ -4,14 +4,14 @@ use Rattle.std.specs.Prelude.{◌≡◌, ◌≢◌, ℕ, ◌<◌, ◌⊎◌, ℤ
 use Rattle.cfs_model.specs.Settings.{Settings}
 use Rattle.cfs_model.specs.Machine.{Machine, Stands}
 use Rattle.cfs_model.specs.Claimed.{Claimed}
-use Rattle.cfs_model.specs.Run.{times_of, IsRun}
+use Rattle.cfs_model.specs.Run.{times_of, IsRun, last_of}
 use Rattle.replay_model.specs.Part.{Part, part_of}
 use Rattle.replay_model.specs.Found.{IsFound}
 use Rattle.replay_model.specs.Deeds.{left_ticket, came_ticket}
 use Rattle.replay_model.specs.QueueTests.{IsOutOfRange}
 use Rattle.replay_model.specs.Tests.{FirstHolds, PassesTests, late_tests}
 use Rattle.replay_model.specs.Cut.{step_at}
-use Rattle.replay_model.specs.Following.{SlackFails, last_of}
+use Rattle.replay_model.specs.Following.{SlackFails}
 use Rattle.cfs_model.specs.declared.act.Act.{Act}
 use Rattle.cfs_model.specs.declared.act.Act.TheVariants.{Switch, Wake, Born, Shift}
 use Rattle.cfs_model.specs.declared.kind.Kind.{Kind}

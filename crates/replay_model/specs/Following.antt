@@ -5,7 +5,7 @@ use Rattle.cfs_model.specs.Machine.{Machine}
 use Rattle.cfs_model.specs.Start.{start_machine}
 use Rattle.cfs_model.specs.Claimed.{Claimed}
 use Rattle.cfs_model.specs.Idle.{IdlesFrom}
-use Rattle.cfs_model.specs.Run.{times_of, IsRun}
+use Rattle.cfs_model.specs.Run.{times_of, IsRun, last_of}
 use Rattle.cfs_model.specs.Order.{IsStart}
 use Rattle.replay_model.specs.Part.{part_of}
 use Rattle.replay_model.specs.QueueTests.{IsIdleTooLong}
@@ -17,11 +17,6 @@ use Rattle.cfs_model.specs.declared.task.Task.{Task}
 abbrev pub TimesRise : ℕ → List Claimed → Type 0
 TimesRise time [] = ⊤
 TimesRise time (event ∷ events) = (time ≤ event.entry.time) × TimesRise event.entry.time events
-
--- the last of some states that follow a first
-abbrev pub last_of : Machine → List Machine → Machine
-last_of m [] = m
-last_of m (after ∷ states) = last_of after states
 
 -- a processor's replay of its steps among some events
 pub record IsShareReplay (knobs : Settings) (start : ℕ) (floors : List ℤ) (tasks : List Task) (events : List Claimed)

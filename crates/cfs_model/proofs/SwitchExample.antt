@@ -1,6 +1,6 @@
 -- The examples of a switch: 101 is charged by its weight and put back, and 102 is picked. What hangs on the nice value,
 -- the cost and the least virtual runtime, is a parameter.
-use Rattle.std.proofs.Common.{◌≡◌, ℕ, true, false, Some, ℤ, pos, ◌+ℤ◌, ◌≤ℤ◌, inl, inr, [], ◌∷◌, refl, sym, ap, ◌∙◌, subst, arith, lit<, lit≤}
+use Rattle.std.proofs.Common.{◌≡◌, ℕ, Bool, true, false, Some, ℤ, pos, ◌+ℤ◌, ◌≤ℤ◌, inl, inr, [], ◌∷◌, refl, sym, ap, ◌∙◌, subst, arith, lit<, lit≤}
 use Rattle.std.proofs.lemmas.Int.{ints}
 use Rattle.std.specs.Int.{int_max}
 use Rattle.cfs_model.specs.Charge.{IsInRange}
@@ -8,7 +8,7 @@ use Rattle.cfs_model.specs.Machine.{Machine, Stands, IsQueued, put, put_pair, wi
 use Rattle.cfs_model.specs.Lifted.{charged, CanCharge, IsLeast, IsLifted}
 use Rattle.cfs_model.specs.Step.{after_prev, after_next, IsSwitch, IsStep}
 use Rattle.cfs_model.specs.Order.{IsStart}
-use Rattle.cfs_model.specs.Examples.{standard, standard_with, HasStep, start_time, switch_start, switch_event, PutBackExample, NiceExample, PickExample}
+use Rattle.cfs_model.specs.Examples.{standard, standard_with, HasStep, start_time, switch_start, switch_event, PutBackExample, NiceExample, IdlePolicyExample, PickExample}
 use Rattle.cfs_model.proofs.Moves.{pair_cases}
 use Rattle.cfs_model.proofs.StartOrder.{start_in_order}
 use Rattle.cfs_model.proofs.Range.{lifted_range, change_range}
@@ -18,8 +18,8 @@ use Rattle.cfs_model.specs.declared.task.Place.TheVariants.{Run, Wait}
 use Rattle.cfs_model.specs.declared.task.Task.{Task}
 
 -- the two tasks
-abbrev pub first_task : ℤ → Task
-first_task nice = record { pid = 101; nice = nice; idle = false; cpu = 0; place = Run; v = pos 0 }
+abbrev pub first_task : ℤ → Bool → Task
+first_task nice idle = record { pid = 101; nice = nice; idle = idle; cpu = 0; place = Run; v = pos 0 }
 
 abbrev pub second_task : ℤ → Task
 second_task u = record { pid = 102; nice = pos 0; idle = false; cpu = 0; place = Wait; v = u }
@@ -27,8 +27,9 @@ second_task u = record { pid = 102; nice = pos 0; idle = false; cpu = 0; place =
 abbrev time : ℕ
 time = 100004000000
 
-pub start_is : (nice u : ℤ) → IsInRange u → IsStart (pos 0 ∷ []) (first_task nice ∷ second_task u ∷ [])
-start_is nice u h = record {
+pub start_is : (nice : ℤ) (idle : Bool) (u : ℤ) → IsInRange u
+    → IsStart (pos 0 ∷ []) (first_task nice idle ∷ second_task u ∷ [])
+start_is nice idle u h = record {
   pids_rise = ((lit< tt, tt), (tt, tt));
   one_runs = (((λ t. cc), tt), (tt, tt));
   runtimes_in_range = ((omega (arith, ints), omega (arith, ints)), (h, tt));
@@ -36,36 +37,40 @@ start_is nice u h = record {
 }
 
 -- 101 alone runs
-pub runs_one : (nice u : ℤ) (q : ℕ) → Stands (switch_start nice u) Run 0 q → 101 ≡ q
-runs_one nice u q h = elim (of_two (first_task nice) (second_task u) Run 0 q h) [ inl x ↦ x.0 | inr x ↦ let e = x.2 in cc ]
+pub runs_one : (nice : ℤ) (idle : Bool) (u : ℤ) (q : ℕ) → Stands (switch_start nice idle u) Run 0 q → 101 ≡ q
+runs_one nice idle u q h =
+    elim (of_two (first_task nice idle) (second_task u) Run 0 q h) [ inl x ↦ x.0 | inr x ↦ let e = x.2 in cc ]
 
 -- 102 alone waits
-pub waits_one : (nice u : ℤ) (q : ℕ) → Stands (switch_start nice u) Wait 0 q → 102 ≡ q
-waits_one nice u q h = elim (of_two (first_task nice) (second_task u) Wait 0 q h) [ inl x ↦ let e = x.2 in cc | inr x ↦ x.0 ]
+pub waits_one : (nice : ℤ) (idle : Bool) (u : ℤ) (q : ℕ) → Stands (switch_start nice idle u) Wait 0 q → 102 ≡ q
+waits_one nice idle u q h =
+    elim (of_two (first_task nice idle) (second_task u) Wait 0 q h) [ inl x ↦ let e = x.2 in cc | inr x ↦ x.0 ]
 
 -- the machine after the charge
-abbrev after_charge : ℤ → ℤ → Machine
-after_charge nice u = charged (switch_start nice u) 0 time
+abbrev after_charge : ℤ → Bool → ℤ → Machine
+after_charge nice idle u = charged (switch_start nice idle u) 0 time
 
 above_self : (u : ℤ) (n : ℕ) → u ≤ℤ (u +ℤ pos n)
 above_self u n = omega (arith, ints)
 
 -- the nice value of 101, the virtual runtime that it is charged to, the one at which 102 waits, and the least of both
-module _ (nice cost u v : ℤ) (is_cost : (after_charge nice u).runtime 101 ≡ Some cost) where
+module _ (nice : ℤ) (idle : Bool) (cost u v : ℤ) (is_cost : (after_charge nice idle u).runtime 101 ≡ Some cost) where
   -- v is the least where it is at most what 101 and 102 have
-  least_of : v ≤ℤ cost → v ≤ℤ u → (q : ℕ) (w : ℤ) → IsQueued (after_charge nice u) 0 q
-      → (after_charge nice u).runtime q ≡ Some w → v ≤ℤ w
-  least_of h k q w (inl runs) e = below_at (after_charge nice u).runtime 101 q v cost w (runs_one nice u q runs) is_cost e h
-  least_of h k q w (inr waits) e = below_at (after_charge nice u).runtime 102 q v u w (waits_one nice u q waits) refl e k
+  least_of : v ≤ℤ cost → v ≤ℤ u → (q : ℕ) (w : ℤ) → IsQueued (after_charge nice idle u) 0 q
+      → (after_charge nice idle u).runtime q ≡ Some w → v ≤ℤ w
+  least_of h k q w (inl runs) e =
+      below_at (after_charge nice idle u).runtime 101 q v cost w (runs_one nice idle u q runs) is_cost e h
+  least_of h k q w (inr waits) e =
+      below_at (after_charge nice idle u).runtime 102 q v u w (waits_one nice idle u q waits) refl e k
 
   -- the step, from a least virtual runtime after the charge
-  switch_step : (granularity : ℕ) → IsInRange u → IsInRange cost → CanCharge (switch_start nice u) 0 time
-      → IsLeast (after_charge nice u) 0 v → u ≤ℤ (cost +ℤ pos granularity)
-      → HasStep (standard_with granularity) (switch_start nice u) (switch_event nice cost)
+  switch_step : (granularity : ℕ) → IsInRange u → IsInRange cost → CanCharge (switch_start nice idle u) 0 time
+      → IsLeast (after_charge nice idle u) 0 v → u ≤ℤ (cost +ℤ pos granularity)
+      → HasStep (standard_with granularity) (switch_start nice idle u) (switch_event nice cost)
   unfolding put put_pair
   switch_step granularity range within_range can_charge least within =
-      let lifted : Machine = with_floor (after_charge nice u) 0 (int_max (pos 0) v) in
-      let lift : IsLifted time (0 ∷ []) (switch_start nice u) lifted = (
+      let lifted : Machine = with_floor (after_charge nice idle u) 0 (int_max (pos 0) v) in
+      let lift : IsLifted time (0 ∷ []) (switch_start nice idle u) lifted = (
         lifted,
         record {
           can_charge = can_charge;
@@ -93,7 +98,7 @@ module _ (nice cost u v : ℤ) (is_cost : (after_charge nice u).runtime 101 ≡ 
                 (sym x.1) is_cost e) within
             | inr x ↦
                 subst (λ y. u ≤ℤ (y +ℤ pos granularity)) (value_at lifted.runtime 102 q u w
-                (waits_one nice u q (sym x.1 ∙ waits)) refl e) (above_self u granularity)
+                (waits_one nice idle u q (sym x.1 ∙ waits)) refl e) (above_self u granularity)
           ],
         );
         result = refl;
@@ -107,12 +112,12 @@ module _ (nice cost u v : ℤ) (is_cost : (after_charge nice u).runtime 101 ≡ 
           changes = changes;
           in_range = change_range (standard_with granularity) lifted (switch_event nice cost).entry.act
               (switch_event nice cost).claim false after changes within_range
-              (lifted_range time (0 ∷ []) (switch_start nice u) lifted lift (start_in_order start_time (pos 0 ∷ [])
-              (first_task nice ∷ second_task u ∷ []) (start_is nice u range)).in_range);
+              (lifted_range time (0 ∷ []) (switch_start nice idle u) lifted lift (start_in_order start_time (pos 0 ∷ [])
+              (first_task nice idle ∷ second_task u ∷ []) (start_is nice idle u range)).in_range);
         },
       )
 
-  module _ (w : ℤ) (granularity : ℕ) (after : Machine) (s : IsStep (standard_with granularity) (switch_start nice u)
+  module _ (w : ℤ) (granularity : ℕ) (after : Machine) (s : IsStep (standard_with granularity) (switch_start nice idle u)
       (switch_event nice w) after) where
     -- the two virtual runtimes in the machine that the event of any step finds
     found_first : s.found.runtime 101 ≡ Some cost
@@ -135,56 +140,70 @@ module _ (nice cost u v : ℤ) (is_cost : (after_charge nice u).runtime 101 ≡ 
         (value_at s.found.runtime 102 102 pick.0 u refl pick.1 found_second) (pick.3 101 cost refl found_first)
 
 -- 102 is the least where it waits at 0, and 101 where 102 waits at 5 ms
-pub least_second : (nice cost : ℤ) → (after_charge nice (pos 0)).runtime 101 ≡ Some cost → pos 0 ≤ℤ cost
-    → IsLeast (after_charge nice (pos 0)) 0 (pos 0)
-least_second nice cost e h = record {
+pub least_second : (nice : ℤ) (idle : Bool) (cost : ℤ) → (after_charge nice idle (pos 0)).runtime 101 ≡ Some cost
+    → pos 0 ≤ℤ cost → IsLeast (after_charge nice idle (pos 0)) 0 (pos 0)
+least_second nice idle cost e h = record {
   pid = 102;
   queued = inr refl;
   runtime = refl;
-  least = least_of nice cost (pos 0)
+  least = least_of nice idle cost (pos 0)
       (pos 0) e h (omega (arith, ints));
 }
 
-least_first : IsLeast (after_charge (pos 0) (pos 5000000)) 0 (pos 4000000)
+least_first : IsLeast (after_charge (pos 0) false (pos 5000000)) 0 (pos 4000000)
 least_first = record {
   pid = 101;
   queued = inl refl;
   runtime = refl;
-  least = least_of (pos 0) (pos 4000000)
+  least = least_of (pos 0) false (pos 4000000)
       (pos 5000000) (pos 4000000) refl (omega (arith, ints)) (omega (arith, ints));
 }
 
-pub can_charge_even : (u : ℤ) → CanCharge (switch_start (pos 0) u) 0 time
-can_charge_even u = can_charge_one (switch_start (pos 0) u) 0 time 101 (pos 0) (pos 0) (runs_one (pos 0) u) refl refl
-    (lit≤ tt) (omega (arith, ints))
+pub can_charge_even : (u : ℤ) → CanCharge (switch_start (pos 0) false u) 0 time
+can_charge_even u = can_charge_one (switch_start (pos 0) false u) 0 time 101 (pos 0) (pos 0) (runs_one (pos 0) false u)
+    refl refl (lit≤ tt) (omega (arith, ints))
 
-can_charge_light : CanCharge (switch_start (pos 5) (pos 0)) 0 time
-can_charge_light = can_charge_one (switch_start (pos 5) (pos 0)) 0 time 101 (pos 5) (pos 0)
-    (runs_one (pos 5) (pos 0)) refl refl (lit≤ tt) (omega (arith, ints))
+can_charge_light : CanCharge (switch_start (pos 5) false (pos 0)) 0 time
+can_charge_light = can_charge_one (switch_start (pos 5) false (pos 0)) 0 time 101 (pos 5) (pos 0)
+    (runs_one (pos 5) false (pos 0)) refl refl (lit≤ tt) (omega (arith, ints))
 
 pub put_back_lem : PutBackExample
 put_back_lem w = (
-  (λ s. put_back_at (pos 0) (pos 4000000) (pos 0) (pos 0) refl w 1000000 s.0 s.1),
-  (λ e. subst (λ x. HasStep standard (switch_start (pos 0) (pos 0)) (switch_event (pos 0) x)) (sym e)
-      (switch_step (pos 0) (pos 4000000) (pos 0) (pos 0) refl 1000000 (omega (arith, ints), omega (arith, ints))
+  (λ s. put_back_at (pos 0) false (pos 4000000) (pos 0) (pos 0) refl w 1000000 s.0 s.1),
+  (λ e. subst (λ x. HasStep standard (switch_start (pos 0) false (pos 0)) (switch_event (pos 0) x)) (sym e)
+      (switch_step (pos 0) false (pos 4000000) (pos 0) (pos 0) refl 1000000 (omega (arith, ints), omega (arith, ints))
       (omega (arith, ints), omega (arith, ints))
-      (can_charge_even (pos 0)) (least_second (pos 0) (pos 4000000) refl (omega (arith, ints))) (omega (arith, ints)))),
+      (can_charge_even (pos 0)) (least_second (pos 0) false (pos 4000000) refl (omega (arith, ints)))
+      (omega (arith, ints)))),
 )
 
 pub nice_lem : NiceExample
 nice_lem w = (
-  (λ s. put_back_at (pos 5) (pos 12226865) (pos 0) (pos 0) refl w 1000000 s.0 s.1),
-  (λ e. subst (λ x. HasStep standard (switch_start (pos 5) (pos 0)) (switch_event (pos 5) x)) (sym e)
-      (switch_step (pos 5) (pos 12226865) (pos 0) (pos 0) refl 1000000 (omega (arith, ints), omega (arith, ints))
+  (λ s. put_back_at (pos 5) false (pos 12226865) (pos 0) (pos 0) refl w 1000000 s.0 s.1),
+  (λ e. subst (λ x. HasStep standard (switch_start (pos 5) false (pos 0)) (switch_event (pos 5) x)) (sym e)
+      (switch_step (pos 5) false (pos 12226865) (pos 0) (pos 0) refl 1000000 (omega (arith, ints), omega (arith, ints))
       (omega (arith, ints), omega (arith, ints))
-      can_charge_light (least_second (pos 5) (pos 12226865) refl (omega (arith, ints))) (omega (arith, ints)))),
+      can_charge_light (least_second (pos 5) false (pos 12226865) refl (omega (arith, ints))) (omega (arith, ints)))),
+)
+
+can_charge_idle : (nice : ℤ) → CanCharge (switch_start nice true (pos 0)) 0 time
+can_charge_idle nice = can_charge_one (switch_start nice true (pos 0)) 0 time 101 nice (pos 0)
+    (runs_one nice true (pos 0)) refl refl (lit≤ tt) (omega (arith, ints))
+
+pub idle_policy_lem : IdlePolicyExample
+idle_policy_lem nice w = (
+  (λ s. put_back_at nice true (pos 1365333333) (pos 0) (pos 0) refl w 1000000 s.0 s.1),
+  (λ e. subst (λ x. HasStep standard (switch_start nice true (pos 0)) (switch_event nice x)) (sym e)
+      (switch_step nice true (pos 1365333333) (pos 0) (pos 0) refl 1000000 (omega (arith, ints), omega (arith, ints))
+      (omega (arith, ints), omega (arith, ints)) (can_charge_idle nice)
+      (least_second nice true (pos 1365333333) refl (omega (arith, ints))) (omega (arith, ints)))),
 )
 
 pub pick_lem : PickExample
 pick_lem granularity = (
-  (λ s. let h = picked_at (pos 0) (pos 4000000) (pos 5000000) (pos 4000000) refl
+  (λ s. let h = picked_at (pos 0) false (pos 4000000) (pos 5000000) (pos 4000000) refl
       (pos 4000000) granularity s.0 s.1 in omega (arith, ints)),
-  (λ h. switch_step (pos 0) (pos 4000000) (pos 5000000) (pos 4000000) refl granularity
+  (λ h. switch_step (pos 0) false (pos 4000000) (pos 5000000) (pos 4000000) refl granularity
       (omega (arith, ints), omega (arith, ints)) (omega (arith, ints), omega (arith, ints))
       (can_charge_even (pos 5000000)) least_first (omega (arith, ints))),
 )

@@ -1,6 +1,6 @@
 -- Small recordings against the definitions of a step and of a run (this project's profile), each both ways: the value
 -- at which there is a step, and that there is none at any other.
-use Rattle.std.specs.Prelude.{◌≡◌, ℕ, false, ◌≤◌, ℤ, pos, ◌≤ℤ◌, ◌↔◌, Some, None, List, [], ◌∷◌}
+use Rattle.std.specs.Prelude.{◌≡◌, ℕ, Bool, true, false, ◌≤◌, ℤ, pos, ◌≤ℤ◌, ◌↔◌, Some, None, List, [], ◌∷◌}
 use Rattle.cfs_model.specs.Settings.{Settings}
 use Rattle.cfs_model.specs.Machine.{Machine}
 use Rattle.cfs_model.specs.Start.{start_machine}
@@ -34,10 +34,10 @@ at_claim line pid v = record { line = line; pid = pid; v = v; sort = At }
 abbrev pub start_time : ℕ
 start_time = 100000000000
 
--- one processor, where 101 runs at 0 with a nice value, and 102 waits at u
-abbrev pub switch_start : ℤ → ℤ → Machine
-switch_start nice u = start_machine start_time (pos 0 ∷ []) (
-    record { pid = 101; nice = nice; idle = false; cpu = 0; place = Run; v = pos 0 }
+-- one processor, where 101 runs at 0 with a nice value and a policy, and 102 waits at u
+abbrev pub switch_start : ℤ → Bool → ℤ → Machine
+switch_start nice idle u = start_machine start_time (pos 0 ∷ []) (
+    record { pid = 101; nice = nice; idle = idle; cpu = 0; place = Run; v = pos 0 }
     ∷ record { pid = 102; nice = pos 0; idle = false; cpu = 0; place = Wait; v = u } ∷ [])
 
 -- 4 ms later it goes from 101, which stays, to 102; the claim puts 101 back at w
@@ -51,16 +51,23 @@ switch_event nice w = record {
 
 -- 101 was charged 4 ms, and is put back at just that
 abbrev pub PutBackExample : Type 0
-PutBackExample = (w : ℤ) → HasStep standard (switch_start (pos 0) (pos 0)) (switch_event (pos 0) w) ↔ (w ≡ pos 4000000)
+PutBackExample = (w : ℤ)
+    → HasStep standard (switch_start (pos 0) false (pos 0)) (switch_event (pos 0) w) ↔ (w ≡ pos 4000000)
 
 -- at nice 5, whose weight is 335, the charge is 4 ms * 1024 / 335, rounded down
 abbrev pub NiceExample : Type 0
-NiceExample = (w : ℤ) → HasStep standard (switch_start (pos 5) (pos 0)) (switch_event (pos 5) w) ↔ (w ≡ pos 12226865)
+NiceExample = (w : ℤ)
+    → HasStep standard (switch_start (pos 5) false (pos 0)) (switch_event (pos 5) w) ↔ (w ≡ pos 12226865)
+
+-- at weight 3, that of the idle policy, at just 4000000 * 1024 / 3, rounded down, whatever its nice value
+abbrev pub IdlePolicyExample : Type 0
+IdlePolicyExample = (nice w : ℤ)
+    → HasStep standard (switch_start nice true (pos 0)) (switch_event nice w) ↔ (w ≡ pos 1365333333)
 
 -- where 102 waits at 5 ms, the task that was put back is the least, and 102 is 1 ms above it
 abbrev pub PickExample : Type 0
 PickExample = (granularity : ℕ)
-    → HasStep (standard_with granularity) (switch_start (pos 0) (pos 5000000)) (switch_event (pos 0) (pos 4000000))
+    → HasStep (standard_with granularity) (switch_start (pos 0) false (pos 5000000)) (switch_event (pos 0) (pos 4000000))
     ↔ (1000000 ≤ granularity)
 
 -- 4 ms after the start 101 is woken while it runs, printed with a nice value, and the companion says that its nice value
@@ -73,7 +80,8 @@ nice_events printed w =
 
 -- the first 4 ms are charged by the old nice value, 0, the event prints the new one, and the next 4 ms are charged by it
 abbrev pub NiceChangeExample : Type 0
-NiceChangeExample = (printed w : ℤ) → IsRun standard start_time (switch_start (pos 0) (pos 0)) (nice_events printed w)
+NiceChangeExample = (printed w : ℤ)
+    → IsRun standard start_time (switch_start (pos 0) false (pos 0)) (nice_events printed w)
     ↔ ((printed ≡ pos 5) × (w ≡ pos 16226865))
 
 -- two processors with floors 3 and 100, where 101 waits at 5 at the first and 102 runs there at 3

@@ -2,12 +2,12 @@
 use Rattle.std.proofs.Common.{◌≡◌, ℕ, ◌≤◌, ℤ, pos, ◌+ℤ◌, ◌-ℤ◌, ◌≤ℤ◌, ◌<ℤ◌, ap, ◌∙◌, subst, arith}
 use Rattle.std.proofs.lemmas.Int.{ints}
 use Rattle.cfs_model.specs.Charge.{greatest, charge_of}
-use Rattle.cfs_model.specs.Nice.{weight_of}
+use Rattle.cfs_model.specs.Nice.{task_weight}
 use Rattle.cfs_model.specs.declared.task.Task.{Task}
 use Rattle.queue_replay.specs.Tasks.{cost_of, charged_task, CanBeCharged}
 
 -- a task that is charged above the greatest can't be
-pub too_far : (delta : ℕ) (t : Task) (weight : ℕ) (cost : ℤ) → weight ≡ weight_of t.nice → cost ≡ pos (charge_of delta weight)
+pub too_far : (delta : ℕ) (t : Task) (weight : ℕ) (cost : ℤ) → weight ≡ task_weight t.nice t.idle → cost ≡ pos (charge_of delta weight)
     → (pos greatest -ℤ cost) <ℤ t.v → CanBeCharged delta t → ⊥
 too_far delta t weight cost weighs costs far can =
     let c : cost ≡ pos (cost_of delta t) = costs ∙ ap (λ w. pos (charge_of delta w)) weighs in
@@ -15,7 +15,7 @@ too_far delta t weight cost weighs costs far can =
     absurd (omega (arith, ints))
 
 -- one that isn't can be, and is
-pub near_enough : (delta : ℕ) (t : Task) (weight : ℕ) (cost v : ℤ) → weight ≡ weight_of t.nice → charge_of delta weight ≤ greatest
+pub near_enough : (delta : ℕ) (t : Task) (weight : ℕ) (cost v : ℤ) → weight ≡ task_weight t.nice t.idle → charge_of delta weight ≤ greatest
     → cost ≡ pos (charge_of delta weight) → t.v ≤ℤ (pos greatest -ℤ cost) → v ≡ t.v +ℤ cost
     → CanBeCharged delta t × (record t { v = v } ≡ charged_task delta t)
 near_enough delta t weight cost v weighs small costs near is =

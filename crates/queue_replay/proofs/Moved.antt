@@ -80,7 +80,7 @@ module _ (m n : BTreeMap ℕ Task) (a : BTreeSet WaitingTask) (t : Task) (kept :
   unwaited = ap waiting_runtime ran.0 ∙ ap (λ p. runtime_if p t.v) ran.1
 
   -- who ran waits
-  pub back_queue : (b : BTreeSet WaitingTask) → set.Updates by_runtime a b (waiting_task t.v t.pid) true → option_map entity_of w ≡ Some (record { place = Wait; nice = t.nice; runtime = t.v })
+  pub back_queue : (b : BTreeSet WaitingTask) → set.Updates by_runtime a b (waiting_task t.v t.pid) true → option_map entity_of w ≡ Some (record { place = Wait; nice = t.nice; idle = t.idle; runtime = t.v })
       → IsQueue None n b
   back_queue b s is =
       let e : waiting_runtime (option_map entity_of w) ≡ Some t.v = ap waiting_runtime is in
@@ -167,7 +167,7 @@ next_queue m a b t new kept has s runs =
     go (Some x) e = refl
 
 pub next_part : (m : BTreeMap ℕ Task) (t new : Task) (floor : ℤ) (mark : ℕ) → listed m new.pid ≡ Some (entity_of t) → new.pid ≢ 0
-    → entity_of new ≡ record { place = Run; nice = t.nice; runtime = t.v }
+    → entity_of new ≡ record { place = Run; nice = t.nice; idle = t.idle; runtime = t.v }
     → part_of (standing (Some new) m) floor mark ≡ part_after_next (part_of (standing None m) floor mark) new.pid
 next_part m t new floor mark has ne is =
     ap (with_entity (part_of (listed m) floor mark) new.pid)
@@ -222,7 +222,7 @@ module _ (runner : Option Task) (m n : BTreeMap ℕ Task) (a : BTreeSet WaitingT
       go None e = cc
       go (Some x) e = refl
 
-  module _ (w : Task) (u : Updates nat_cmp m n pid (Some w)) (v : ℤ) (is : entity_of w ≡ record { place = Wait; nice = t.nice; runtime = v }) where
+  module _ (w : Task) (u : Updates nat_cmp m n pid (Some w)) (v : ℤ) (is : entity_of w ≡ record { place = Wait; nice = t.nice; idle = t.idle; runtime = v }) where
     pub woken_queue : (b : BTreeSet WaitingTask) → set.Updates by_runtime a b (waiting_task v pid) true → IsQueue runner n b
     woken_queue b s =
         queue_is runner n b
@@ -237,7 +237,7 @@ module _ (runner : Option Task) (m n : BTreeMap ℕ Task) (a : BTreeSet WaitingT
     woken_part floor mark claim same =
         same_tasks (standing runner n) (put (standing runner m) pid (Some (entity_of w))) floor mark (rewritten runner m n pid (Some w) u apart_rest)
         ∙ ap (with_entity (part_of (standing runner m) floor mark) pid)
-        (ap Some is ∙ ap (λ (x : ℤ). Some (record { place = Wait; nice = t.nice; runtime = x })) (sym same)
+        (ap Some is ∙ ap (λ (x : ℤ). Some (record { place = Wait; nice = t.nice; idle = t.idle; runtime = x })) (sym same)
         ∙ ap (λ p. Some (woken (Some claim) p (entity_of t))) (sym rests)
         ∙ ap (option_map (λ (s : Entity). woken (Some claim) s.place s)) stands)
 

@@ -26,16 +26,16 @@ same_page p q a b c d e f g =
 left_is : (found : Part) (step : Step) (deed : Deed) → if_left deed (ticket_by found step deed) ≡ left_by found step deed
 left_is found step (Switch prev prev_nice way next next_nice) = refl
 left_is found step (Wake pid nice) = refl
-left_is found step (Born pid nice) = refl
+left_is found step (Born pid nice idle) = refl
 left_is found step (Leave pid nice dest) = refl
-left_is found step (Arrive pid nice orig) = refl
+left_is found step (Arrive pid nice orig idle) = refl
 
 came_is : (found : Part) (step : Step) (deed : Deed) → if_came deed (ticket_by found step deed) ≡ came_by found step deed
 came_is found step (Switch prev prev_nice way next next_nice) = refl
 came_is found step (Wake pid nice) = refl
-came_is found step (Born pid nice) = refl
+came_is found step (Born pid nice idle) = refl
 came_is found step (Leave pid nice dest) = refl
-came_is found step (Arrive pid nice orig) = refl
+came_is found step (Arrive pid nice orig idle) = refl
 
 -- pages that differ in their tallies alone
 pub record IsStretch (old mid : PageDraft) : Type 0 where

@@ -1,5 +1,5 @@
 -- What a deed can rely on, once its tests have passed, and the tests of a switch's pick.
-use Rattle.std.proofs.Common.{◌≡◌, ◌≢◌, ℕ, zero, suc, IsSome, Option, Some, None, is_some, option_map, ℤ, inl, inr, refl, sym, ap, ◌∙◌, subst}
+use Rattle.std.proofs.Common.{◌≡◌, ◌≢◌, ℕ, zero, suc, Bool, IsSome, Option, Some, None, is_some, option_map, ℤ, inl, inr, refl, sym, ap, ◌∙◌, subst}
 use Rattle.std.proofs.lemmas.Bool.{cases_eq}
 use Rattle.replay_model.specs.Deeds.{part_after_prev, woken, wakes}
 use Rattle.cfs_model.specs.Machine.{put}
@@ -49,10 +49,10 @@ pub birth_claimed : (pid : ℕ) (claim : Option Claim) → ((p : ℕ) → ¬ IsU
 birth_claimed pid None none e = none pid (refl, λ h. h)
 birth_claimed pid (Some c) none e = absurd cc
 
-pub arrival_claimed : (part : Part) (pid : ℕ) (nice : ℤ) (orig : ℕ) (claim : Option Claim)
-    → ((p : ℕ) → ¬ IsClaimMissing part (Arrive pid nice orig) claim p) → claim ≢ None
-arrival_claimed part pid nice orig None none e = none pid (refl, λ h. h)
-arrival_claimed part pid nice orig (Some c) none e = absurd cc
+pub arrival_claimed : (part : Part) (pid : ℕ) (nice : ℤ) (orig : ℕ) (idle : Bool) (claim : Option Claim)
+    → ((p : ℕ) → ¬ IsClaimMissing part (Arrive pid nice orig idle) claim p) → claim ≢ None
+arrival_claimed part pid nice orig idle None none e = none pid (refl, λ h. h)
+arrival_claimed part pid nice orig idle (Some c) none e = absurd cc
 
 -- the previous task of a switch runs
 pub ran_prev : (part : Part) (prev : ℕ) (prev_nice : ℤ) (way : Way) (next : ℕ) (next_nice : ℤ)

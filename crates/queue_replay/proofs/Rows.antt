@@ -1,5 +1,5 @@
 -- Each deed's row of tests against the ordered list of all: the tests that are left out hold of no pid at that deed.
-use Rattle.std.proofs.Common.{◌≡◌, ◌≢◌, ℕ, List, [], ◌∷◌, Option, Some, None, ℤ, inl, inr, sym, ap, ◌∙◌, subst}
+use Rattle.std.proofs.Common.{◌≡◌, ◌≢◌, ℕ, Bool, List, [], ◌∷◌, Option, Some, None, ℤ, inl, inr, sym, ap, ◌∙◌, subst}
 use Rattle.std.specs.Prelude.{⊤}
 use Rattle.replay_model.specs.Deeds.{after_deed}
 use Rattle.replay_model.specs.Part.{Part}
@@ -60,10 +60,10 @@ wake_row knobs cpu part pid nice None = skip (λ p h. h) (skip (λ p h. h) (skip
 wake_row knobs cpu part pid nice (Some c) = skip (λ p h. h) (skip (λ p h. h) (skip (λ p h. h) (skip (λ p h. h) (keep (skip (λ p h. h) (skip (λ p h. h) (keep (keep (keep (keep (skip (λ p h. h) (keep (skip (λ p h. h) (skip (λ p h. h) (skip (λ p h. h) (skip (λ p h. h) end))))))))))))))))
 
 -- a birth
-pub birth_row : (knobs : Settings) (cpu : ℕ) (part : Part) (pid : ℕ) (nice : ℤ) (claim : Option Claim)
-    → Widens (birth_tests knobs.debit part (Born pid nice) claim) (all_tests knobs cpu part (Born pid nice) claim)
-birth_row knobs cpu part pid nice None = skip (λ p h. h) (skip (λ p h. h) (skip (λ p h. h) (skip (λ p h. h) (skip (λ p h. h) (keep (skip (λ p h. h) (skip (λ p h. h) (keep (skip (λ p h. h) (keep (skip (λ p h. h) (skip (λ p h. h) (keep (skip (λ p h. h) (skip (λ p h. h) (skip (λ p h. h) end))))))))))))))))
-birth_row knobs cpu part pid nice (Some c) = skip (λ p h. h) (skip (λ p h. h) (skip (λ p h. h) (skip (λ p h. h) (skip (λ p h. h) (keep (skip (λ p h. h) (skip (λ p h. h) (keep (skip (λ p h. let e : Some pid ≡ None = h.0 in absurd cc) (keep (skip (λ p h. h) (skip (λ p h. h) (keep (skip (λ p h. h) (skip (λ p h. h) (skip (λ p h. h) end))))))))))))))))
+pub birth_row : (knobs : Settings) (cpu : ℕ) (part : Part) (pid : ℕ) (nice : ℤ) (idle : Bool) (claim : Option Claim)
+    → Widens (birth_tests knobs.debit part (Born pid nice idle) claim) (all_tests knobs cpu part (Born pid nice idle) claim)
+birth_row knobs cpu part pid nice idle None = skip (λ p h. h) (skip (λ p h. h) (skip (λ p h. h) (skip (λ p h. h) (skip (λ p h. h) (keep (skip (λ p h. h) (skip (λ p h. h) (keep (skip (λ p h. h) (keep (skip (λ p h. h) (skip (λ p h. h) (keep (skip (λ p h. h) (skip (λ p h. h) (skip (λ p h. h) end))))))))))))))))
+birth_row knobs cpu part pid nice idle (Some c) = skip (λ p h. h) (skip (λ p h. h) (skip (λ p h. h) (skip (λ p h. h) (skip (λ p h. h) (keep (skip (λ p h. h) (skip (λ p h. h) (keep (skip (λ p h. let e : Some pid ≡ None = h.0 in absurd cc) (keep (skip (λ p h. h) (skip (λ p h. h) (keep (skip (λ p h. h) (skip (λ p h. h) (skip (λ p h. h) end))))))))))))))))
 
 -- a task that leaves
 pub leave_row : (knobs : Settings) (cpu : ℕ) (part : Part) (pid : ℕ) (nice : ℤ) (dest : ℕ) (claim : Option Claim)
@@ -72,10 +72,10 @@ leave_row knobs cpu part pid nice dest None = skip (λ p h. h) (keep (skip (λ p
 leave_row knobs cpu part pid nice dest (Some c) = skip (λ p h. h) (keep (skip (λ p h. h) (skip (λ p h. h) (keep (skip (λ p h. h) (keep (keep (skip (λ p h. let e : None ≡ Some p = h.0 in absurd cc) (skip (λ p h. h) (skip (λ p h. let e : None ≡ Some h.0.0 = h.0.1 in absurd cc) (skip (λ p h. h) (skip (λ p h. h) (skip (λ p h. h) (skip (λ p h. h) (skip (λ p h. h) (skip (λ p h. h) end))))))))))))))))
 
 -- a task that comes
-pub arrival_row : (knobs : Settings) (cpu : ℕ) (part : Part) (pid : ℕ) (nice : ℤ) (orig : ℕ) (claim : Option Claim)
-    → Widens (arrival_tests part (Arrive pid nice orig) claim) (all_tests knobs cpu part (Arrive pid nice orig) claim)
-arrival_row knobs cpu part pid nice orig None = skip (λ p h. h) (skip (λ p h. h) (skip (λ p h. h) (skip (λ p h. h) (skip (λ p h. h) (keep (skip (λ p h. h) (skip (λ p h. h) (keep (skip (λ p h. h) (keep (skip (λ p h. h) (skip (λ p h. h) (skip (λ p h. h) (skip (λ p h. h) (skip (λ p h. h) (skip (λ p h. h) end))))))))))))))))
-arrival_row knobs cpu part pid nice orig (Some c) = skip (λ p h. h) (skip (λ p h. h) (skip (λ p h. h) (skip (λ p h. h) (skip (λ p h. h) (keep (skip (λ p h. h) (skip (λ p h. h) (keep (skip (λ p h. let e : Some pid ≡ None = h.0 in absurd cc) (keep (skip (λ p h. h) (skip (λ p h. h) (skip (λ p h. h) (skip (λ p h. h) (skip (λ p h. h) (skip (λ p h. h) end))))))))))))))))
+pub arrival_row : (knobs : Settings) (cpu : ℕ) (part : Part) (pid : ℕ) (nice : ℤ) (orig : ℕ) (idle : Bool) (claim : Option Claim)
+    → Widens (arrival_tests part (Arrive pid nice orig idle) claim) (all_tests knobs cpu part (Arrive pid nice orig idle) claim)
+arrival_row knobs cpu part pid nice orig idle None = skip (λ p h. h) (skip (λ p h. h) (skip (λ p h. h) (skip (λ p h. h) (skip (λ p h. h) (keep (skip (λ p h. h) (skip (λ p h. h) (keep (skip (λ p h. h) (keep (skip (λ p h. h) (skip (λ p h. h) (skip (λ p h. h) (skip (λ p h. h) (skip (λ p h. h) (skip (λ p h. h) end))))))))))))))))
+arrival_row knobs cpu part pid nice orig idle (Some c) = skip (λ p h. h) (skip (λ p h. h) (skip (λ p h. h) (skip (λ p h. h) (skip (λ p h. h) (keep (skip (λ p h. h) (skip (λ p h. h) (keep (skip (λ p h. let e : Some pid ≡ None = h.0 in absurd cc) (keep (skip (λ p h. h) (skip (λ p h. h) (skip (λ p h. h) (skip (λ p h. h) (skip (λ p h. h) (skip (λ p h. h) end))))))))))))))))
 
 -- a step's deed, by its row
 module _ (knobs : Settings) (cpu : ℕ) (part : Part) (step : Step) (deed : Deed) (claim : Option Claim) (tests : List Test)

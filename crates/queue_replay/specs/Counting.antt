@@ -30,7 +30,7 @@ page_draft_view draft = record {
 -- the ticket of a step, if it has one
 abbrev pub ticket_by : Part → Step → Deed → Option Ticket
 ticket_by found step (Leave pid nice dest) = left_ticket found step.line pid
-ticket_by found step (Arrive pid nice orig) = came_ticket found step.line pid nice step.claim
+ticket_by found step (Arrive pid nice orig idle) = came_ticket found step.line pid nice idle step.claim
 ticket_by found step _ = None
 
 -- a ticket, if the task leaves, and if it comes
@@ -39,16 +39,16 @@ if_left (Leave pid nice dest) ticket = option_to_list ticket
 if_left _ ticket = []
 
 abbrev pub if_came : Deed → Option Ticket → List Ticket
-if_came (Arrive pid nice orig) ticket = option_to_list ticket
+if_came (Arrive pid nice orig idle) ticket = option_to_list ticket
 if_came _ ticket = []
 
 -- the lists of the draft have room for what a deed adds
 abbrev pub HasDraftRoom : Deed → PageDraft → Type 0
 HasDraftRoom (Switch prev prev_nice way next next_nice) draft = vec_len draft.deaths < vec_capacity draft.deaths
 HasDraftRoom (Wake pid nice) draft = ⊤
-HasDraftRoom (Born pid nice) draft = (vec_len draft.births < vec_capacity draft.births) × HasTallyRoom pid draft.tallies.list draft.tallies.places
+HasDraftRoom (Born pid nice idle) draft = (vec_len draft.births < vec_capacity draft.births) × HasTallyRoom pid draft.tallies.list draft.tallies.places
 HasDraftRoom (Leave pid nice dest) draft = vec_len draft.left < vec_capacity draft.left
-HasDraftRoom (Arrive pid nice orig) draft = (vec_len draft.came < vec_capacity draft.came) × HasTallyRoom pid draft.tallies.list draft.tallies.places
+HasDraftRoom (Arrive pid nice orig idle) draft = (vec_len draft.came < vec_capacity draft.came) × HasTallyRoom pid draft.tallies.list draft.tallies.places
 
 -- the tallies after the runner, if there is one, ran for so long
 abbrev pub stretched : Option Task → ℕ → List Tally → List Tally

@@ -1,4 +1,4 @@
-ghost use Rattle.std.specs.Prelude.{◌≡◌, ◌≢◌, ℕ, ℤ, IsTrue, ◌↔◌, Some, option_map, pos, ◌+ℤ◌, ◌-ℤ◌, ◌≤ℤ◌, ◌<ℤ◌};
+ghost use Rattle.std.specs.Prelude.{◌≡◌, ◌≢◌, ℕ, Bool, ℤ, IsTrue, ◌↔◌, Some, option_map, pos, ◌+ℤ◌, ◌-ℤ◌, ◌≤ℤ◌, ◌<ℤ◌};
 ghost use Rattle.replay_model.specs.ClaimTests.{if_resting, IsClaimMissing, IsInWakeBounds, IsWakeOutside, IsInForkBounds, IsForkOutside};
 ghost use Rattle.replay_model.specs.Part.{Part, Entity, place_in};
 ghost use Rattle.replay_model.specs.declared.step.Deed.TheVariants.{Wake, Born, Arrive};
@@ -39,7 +39,7 @@ pub(crate) fn claim_missing(needed: Option<u32>, claim: Option<Claim>) -> Option
 
 /// A task comes, and the line has no claim.
 pub(crate) fn arrival_claim_missing(pid: u32, claim: Option<Claim>) -> Option<u32>
-    ensures { (part : Part) (nice : ℤ) (orig : ℕ) → Decides result (IsClaimMissing part (Arrive pid nice orig) claim) }
+    ensures { (part : Part) (nice : ℤ) (orig : ℕ) (idle : Bool) → Decides result (IsClaimMissing part (Arrive pid nice orig idle) claim) }
 {
     match claim {
         Some(_) => None,
@@ -97,7 +97,7 @@ pub(crate) fn fork_outside(
     claim: Option<Claim>,
     debit: u64,
 ) -> Option<u32>
-    ensures { (nice : ℤ) → Decides result (IsForkOutside debit (runqueue_view queue.now) (Born pid nice) claim) }
+    ensures { (nice : ℤ) (idle : Bool) → Decides result (IsForkOutside debit (runqueue_view queue.now) (Born pid nice idle) claim) }
 {
     let claim = claim?;
     if is_in_fork_bounds(queue, claim, debit) {

@@ -8,13 +8,21 @@ use cfs_model::{Claim, ClaimSort, Nice, Place, Task};
 use replay_model::Ticket;
 
 /// A task at the claimed virtual runtime.
-pub(crate) fn claimed_task(place: Place, pid: u32, nice: Nice, cpu: u32, claim: Claim) -> Task
+pub(crate) fn claimed_task(
+    place: Place,
+    pid: u32,
+    nice: Nice,
+    idle: bool,
+    cpu: u32,
+    claim: Claim,
+) -> Task
     ensures pid { result.pid ≡ pid }
-    ensures entity { entity_of result ≡ record { place = place; nice = nice; runtime = claim.v } }
+    ensures entity { entity_of result ≡ record { place = place; nice = nice; idle = idle; runtime = claim.v } }
 {
     Task {
         pid,
         nice,
+        idle,
         cpu,
         place,
         v: claim.v,
@@ -36,19 +44,28 @@ pub(crate) fn left_ticket(
         line,
         pid,
         nice: task.nice,
+        idle: task.idle,
         place: task.place,
         offset: i128::from(task.v) - i128::from(queue.floor),
     })
 }
 
 /// The ticket of a task that comes by this claim.
-pub(crate) fn came_ticket(queue: &Runqueue, line: u32, pid: u32, nice: Nice, claim: Claim) -> Ticket
-    ensures { Some result ≡ came_ticket (runqueue_view queue.now) line pid nice (Some claim) }
+pub(crate) fn came_ticket(
+    queue: &Runqueue,
+    line: u32,
+    pid: u32,
+    nice: Nice,
+    idle: bool,
+    claim: Claim,
+) -> Ticket
+    ensures { Some result ≡ came_ticket (runqueue_view queue.now) line pid nice idle (Some claim) }
 {
     Ticket {
         line,
         pid,
         nice,
+        idle,
         place: place_of(claim),
         offset: i128::from(claim.v) - i128::from(queue.floor),
     }

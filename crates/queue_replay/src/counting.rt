@@ -4,7 +4,7 @@ ghost use Rattle.replay_model.specs.Noted.{new_tally};
 ghost use Rattle.queue_replay.specs.Stretches.{ran_tally, picked_tally};
 ghost use Rattle.queue_replay.specs.Tasks.{cost_of};
 
-use cfs_model::{Task, charge, weight};
+use cfs_model::{Task, charge, weight_of};
 use replay_model::Tally;
 
 /// What the task is charged for a stretch of running, in virtual nanoseconds.
@@ -12,7 +12,7 @@ pub(crate) fn cost_of(task: Task, time: u64) -> u64
     requires { cost_of time task ≤ greatest }
     ensures { result ≡ cost_of time task }
 {
-    match charge(time, weight(task.nice)) {
+    match charge(time, weight_of(task.nice, task.idle)) {
         Some(cost) => cost as u64,
         None => unreachable!(),
     }

@@ -64,9 +64,14 @@ pub(crate) fn try_deed(
             try_switch(queue, step, &switch, knobs)
         }
         Deed::Wake { pid, nice } => try_wake(queue, step, pid, nice, knobs),
-        Deed::Born { pid, nice } => try_birth(queue, cpu, step, pid, nice, knobs),
+        Deed::Born { pid, nice, idle } => try_birth(queue, cpu, step, pid, nice, idle, knobs),
         Deed::Leave { pid, nice, dest } => try_leave(queue, cpu, step, pid, nice, dest),
-        Deed::Arrive { pid, nice, .. } => try_arrival(queue, cpu, step, pid, nice),
+        Deed::Arrive {
+            pid,
+            nice,
+            idle,
+            ..
+        } => try_arrival(queue, cpu, step, pid, nice, idle),
     }
 }
 
@@ -123,9 +128,10 @@ fn try_birth(
     step: &Step,
     pid: u32,
     nice: Nice,
+    idle: bool,
     knobs: Knobs,
 ) -> Result<Outcome, Memory>
-    requires { step.now.deed ≡ Born pid nice }
+    requires { step.now.deed ≡ Born pid nice idle }
     ensures tried { IfOk result (IsDeedTried knobs cpu (runqueue_view queue.old) step.now (runqueue_view queue.new)) }
     ensures same { OnErr result (HoldsSame queue.old queue.new) }
 {
@@ -134,7 +140,7 @@ fn try_birth(
         return Ok(Outcome::Failed(failed));
     }
     match step.claim {
-        Some(claim) => moves!(queue: claimed_task(Place::Wait, pid, nice, cpu, claim), comes),
+        Some(claim) => moves!(queue: claimed_task(Place::Wait, pid, nice, idle, cpu, claim), comes),
         None => unreachable!(),
     }
     Ok(Outcome::Made(None))
@@ -167,8 +173,9 @@ fn try_arrival(
     step: &Step,
     pid: u32,
     nice: Nice,
+    idle: bool,
 ) -> Result<Outcome, Memory>
-    requires { (orig : ℕ) × (step.now.deed ≡ Arrive pid nice orig) }
+    requires { (orig : ℕ) × (step.now.deed ≡ Arrive pid nice orig idle) }
     ensures tried { (knobs : Settings) → IfOk result (IsDeedTried knobs cpu (runqueue_view queue.old) step.now (runqueue_view queue.new)) }
     ensures same { OnErr result (HoldsSame queue.old queue.new) }
 {
@@ -178,8 +185,8 @@ fn try_arrival(
     }
     match step.claim {
         Some(claim) => {
-            let ticket = came_ticket(queue, step.line, pid, nice, claim);
-            moves!(queue: claimed_task(place_of(claim), pid, nice, cpu, claim), comes);
+            let ticket = came_ticket(queue, step.line, pid, nice, idle, claim);
+            moves!(queue: claimed_task(place_of(claim), pid, nice, idle, cpu, claim), comes);
             Ok(Outcome::Made(Some(ticket)))
         }
         None => unreachable!(),

@@ -1,4 +1,4 @@
-ghost use Rattle.std.specs.Prelude.{◌≡◌, ◌≢◌, ℕ, ℤ, None, option_map};
+ghost use Rattle.std.specs.Prelude.{◌≡◌, ◌≢◌, ℕ, Bool, ℤ, None, option_map};
 ghost use Rattle.cfs_model.specs.Settings.{Settings};
 ghost use Rattle.replay_model.specs.Part.{Part};
 ghost use Rattle.replay_model.specs.QueueTests.{IsPrevNotRunning};
@@ -109,7 +109,7 @@ pub(crate) fn first_birth_test(
     knobs: Knobs,
 ) -> Option<FailedTest>
     requires { IsTaskAt (runqueue_view queue.now) pid task.now }
-    ensures { (nice : ℤ) → IsFirst result (birth_tests knobs.debit (runqueue_view queue.now) (Born pid nice) claim) }
+    ensures { (nice : ℤ) (idle : Bool) → IsFirst result (birth_tests knobs.debit (runqueue_view queue.now) (Born pid nice idle) claim) }
 {
     let needed = Some(pid);
     guard!(
@@ -146,8 +146,8 @@ pub(crate) fn first_arrival_test(
     task: &Option<Task>,
     claim: Option<Claim>,
 ) -> Option<FailedTest>
-    ensures { (part : Part) (nice : ℤ) (orig : ℕ) → IsTaskAt part pid task.now
-        → IsFirst result (arrival_tests part (Arrive pid nice orig) claim) }
+    ensures { (part : Part) (nice : ℤ) (orig : ℕ) (idle : Bool) → IsTaskAt part pid task.now
+        → IsFirst result (arrival_tests part (Arrive pid nice orig idle) claim) }
 {
     guard!(
         Already: already(pid, task),

@@ -13,18 +13,18 @@ pub returns-in-Some-clause-tried : goal.returns-in-Some-clause-tried
 returns-in-Some-clause-tried c =
     let part = runqueue_view c.args.queue.now in
     let step = c.args.step.now in
-    let deed = Born c.args.pid c.args.nice in
+    let deed = Born c.args.pid c.args.nice c.args.idle in
     fails c.args.knobs c.args.cpu part step deed step.claim (birth_tests c.args.knobs.debit part deed step.claim)
-    (birth_row c.args.knobs c.args.cpu part c.args.pid c.args.nice step.claim) c.requires refl part c.in-Some.failed
-    (c.in-Some.ensures c.args.nice)
+    (birth_row c.args.knobs c.args.cpu part c.args.pid c.args.nice c.args.idle step.claim) c.requires refl part c.in-Some.failed
+    (c.in-Some.ensures c.args.nice c.args.idle)
 
 pub add-requires-clause-apart : goal.add-requires-clause-apart
 add-requires-clause-apart c =
     let part = runqueue_view c.args.queue.now in
-    ap part.tasks c.claimed_task.ensures.pid ∙ is_apart part c.args.pid (c.in_default.ensures c.args.nice).0
+    ap part.tasks c.claimed_task.ensures.pid ∙ is_apart part c.args.pid (c.in_default.ensures c.args.nice c.args.idle).0
 
 pub unreachable-requires : goal.unreachable-requires
-unreachable-requires c = birth_claimed c.args.pid c.args.step.now.claim (c.in_default.ensures c.args.nice).1.0 c.in-None.is
+unreachable-requires c = birth_claimed c.args.pid c.args.step.now.claim (c.in_default.ensures c.args.nice c.args.idle).1.0 c.in-None.is
 
 pub returns-clause-tried : goal.returns-clause-tried
 returns-clause-tried c =
@@ -32,10 +32,11 @@ returns-clause-tried c =
     let step = c.args.step.now in
     let pid = c.args.pid in
     let nice = c.args.nice in
-    let deed = Born pid nice in
+    let idle = c.args.idle in
+    let deed = Born pid nice idle in
     let task = c.claimed_task in
     passes c.args.knobs c.args.cpu part step deed step.claim (birth_tests c.args.knobs.debit part deed step.claim)
-    (birth_row c.args.knobs c.args.cpu part pid nice step.claim) c.requires refl _ None (c.in_default.ensures nice)
+    (birth_row c.args.knobs c.args.cpu part pid nice idle step.claim) c.requires refl _ None (c.in_default.ensures nice idle)
     (c.in_ok-add-in-Some-claim.ensures.part ∙ ap (λ p. with_entity part p (Some (entity_of task.result))) task.ensures.pid
     ∙ ap (λ (s : Entity). with_entity part pid (Some s)) task.ensures.entity
     ∙ ap (after_deed part deed) (sym c.in-Some-claim.is))

@@ -29,7 +29,7 @@ returns-in-Some c =
     let has : Some (entity_of t) ≡ standing None q.tasks c.args.next =
     sym (ap (option_map entity_of) c.in-Some.is) ∙ c.requires.task c.if-next-eq-IDLE_PID.false
     ∙ ap (λ (r : Option Task). standing r q.tasks c.args.next) c.requires.nobody in
-    next_part q.tasks t (record { pid = c.args.next; nice = t.nice; cpu = t.cpu; place = Run; v = t.v }) q.floor q.mark (sym has) c.if-next-eq-IDLE_PID.false
+    next_part q.tasks t (record { pid = c.args.next; nice = t.nice; idle = t.idle; cpu = t.cpu; place = Run; v = t.v }) q.floor q.mark (sym has) c.if-next-eq-IDLE_PID.false
     refl
     ∙ ap (λ (r : Option Task). part_after_next (record { tasks = standing r q.tasks; floor = q.floor; mark = q.mark }) c.args.next) (sym c.requires.nobody)
 

@@ -35,7 +35,7 @@ invariant_of-self-in-Rest c =
     let whole : to_z w64 (of_z w64 v) ≡ v = search rules in
     record {
       kept = woken_queue q.runner q.tasks c.write_over.new.tasks q.waiting q.kept c.args.pid t e c.in-Rest.is _ c.write_over.ensures v
-          (ap (λ (x : ℤ). record { place = Wait; nice = t.nice; runtime = x }) whole) c.insert.new.self
+          (ap (λ (x : ℤ). record { place = Wait; nice = t.nice; idle = t.idle; runtime = x }) whole) c.insert.new.self
           (subst (λ (x : ℤ). set.Updates by_runtime q.waiting c.insert.new.self (waiting_task x c.args.pid) true) whole c.in_ok-insert-in-Rest.ensures.updates);
     }
 
@@ -47,4 +47,4 @@ returns-in_ok-insert-in-Rest-clause-part c =
     let e : Some (entity_of t) ≡ standing q.runner q.tasks c.args.pid = ap (option_map entity_of) (sym c.in-Some.is) ∙ c.requires in
     let whole : to_z w64 (of_z w64 v) ≡ v = search rules in
     woken_part q.runner q.tasks c.write_over.new.tasks q.waiting q.kept c.args.pid t e c.in-Rest.is _ c.write_over.ensures v
-    (ap (λ (x : ℤ). record { place = Wait; nice = t.nice; runtime = x }) whole) q.floor q.mark c.args.claim refl
+    (ap (λ (x : ℤ). record { place = Wait; nice = t.nice; idle = t.idle; runtime = x }) whole) q.floor q.mark c.args.claim refl

@@ -7,14 +7,11 @@ use Rattle.std.proofs.lemmas.Option.{same_Some}
 use Rattle.replay_model.specs.Part.{Part, Entity, IsIn, NobodyIn, IsIdlePart}
 use Rattle.replay_model.specs.ClaimTests.{IsInWakeBounds}
 use Rattle.replay_model.specs.QueueTests.{HasOtherNice, IsRunner}
-use Rattle.cfs_model.specs.declared.task.Place.{Place}
 use Rattle.cfs_model.specs.declared.task.Place.TheVariants.{Run, Wait, Rest}
 use Rattle.cfs_model.specs.declared.task.Task.{Task}
 use Rattle.queue_replay.specs.Queue.{IdlesBeside, IsAboveGranularity, IsTheRunner, IsLeastOfWaiting}
 use Rattle.queue_replay.specs.Tasks.{entity_of}
-
-abbrev place_at : Option Entity → Option Place
-place_at o = option_map (λ s. s.place) o
+use Rattle.queue_replay.proofs.Parts.{its_place}
 
 -- the task of a pid as the part has it
 pub told : (task : Option Task) (t : Task) (o : Option Entity) → task ≡ Some t → option_map entity_of task ≡ o → Some (entity_of t) ≡ o
@@ -57,7 +54,7 @@ is_runner part runner ran (suc n) e b same = absurd (omega (arith, e))
 is_runner part None nobody zero e b same = ((λ h. nobody), (λ h. same))
 is_runner part (Some t) ran zero e b same = (
   (λ h. absurd (false≢true (sym same ∙ h))),
-  (λ nobody. absurd (nobody t.pid (ap place_at ran.0 ∙ ap Some ran.1))),
+  (λ nobody. absurd (nobody t.pid (ap its_place ran.0 ∙ ap Some ran.1))),
 )
 
 pub task_runs : (part : Part) (pid : ℕ) → pid ≢ 0 → (b : Bool) → (IsTrue b ↔ IsIn part Run pid) → (IsTrue b ↔ IsRunner part pid)
@@ -66,7 +63,7 @@ task_runs part (suc n) ne b same = same
 
 pub idles_beside : (part : Part) (next : ℕ) (v : ℤ) → next ≡ 0 → IsLeastOfWaiting part v → IdlesBeside part next 0
 idles_beside part (suc n) v e w = absurd (omega (arith, e))
-idles_beside part zero v e w = ((w.pid, ap place_at w.stands ∙ ap Some w.waits), refl)
+idles_beside part zero v e w = ((w.pid, ap its_place w.stands ∙ ap Some w.waits), refl)
 
 pub idles_not : (part : Part) (next : ℕ) → NobodyIn part Wait → (pid : ℕ) → ¬ IdlesBeside part next pid
 idles_not part (suc n) nobody pid h = h
@@ -92,7 +89,7 @@ beyond_not part granularity (suc n) own v w near pid h =
 pub beyond_nobody : (part : Part) (granularity next : ℕ) (own : Task) → NobodyIn part Wait
     → (pid : ℕ) → ¬ IsAboveGranularity granularity (Some (entity_of own)) part next pid
 beyond_nobody part granularity zero own nobody pid h = h
-beyond_nobody part granularity (suc n) own nobody pid h = nobody h.0.2 (ap place_at h.0.4 ∙ ap Some h.0.5)
+beyond_nobody part granularity (suc n) own nobody pid h = nobody h.0.2 (ap its_place h.0.4 ∙ ap Some h.0.5)
 
 -- the bounds of a wakeup, one by one
 pub in_bounds : (credit : ℕ) (floor own v : ℤ) (b : Bool) → own ≤ℤ v → v ≤ℤ int_max own floor
@@ -105,11 +102,11 @@ in_bounds credit floor own v b from to same = (
 -- whether nobody runs beside a waiting task
 pub idles : (part : Part) (runner : Option Task) (v : ℤ) → IsTheRunner part runner → is_some runner ≡ false → IsLeastOfWaiting part v → IsIdlePart part
 idles part (Some t) v ran none w = absurd cc
-idles part None v nobody none w = record { nobody_runs = nobody; pid = w.pid; waits = ap place_at w.stands ∙ ap Some w.waits }
+idles part None v nobody none w = record { nobody_runs = nobody; pid = w.pid; waits = ap its_place w.stands ∙ ap Some w.waits }
 
 pub busy : (part : Part) (runner : Option Task) → IsTheRunner part runner → is_some runner ≡ true → ¬ IsIdlePart part
 busy part None nobody some idle = absurd cc
-busy part (Some t) ran some idle = idle.nobody_runs t.pid (ap place_at ran.0 ∙ ap Some ran.1)
+busy part (Some t) ran some idle = idle.nobody_runs t.pid (ap its_place ran.0 ∙ ap Some ran.1)
 
 pub unwaited : (part : Part) → NobodyIn part Wait → ¬ IsIdlePart part
 unwaited part none idle = none idle.pid idle.waits

@@ -8,23 +8,15 @@ use Rattle.std.proofs.lemmas.Bool.{cases_eq}
 use Rattle.std.proofs.lemmas.Option.{same_Some}
 use Rattle.replay_model.specs.Deeds.{with_entity}
 use Rattle.cfs_model.specs.Machine.{put}
-use Rattle.replay_model.specs.Part.{Part, Entity}
 use Rattle.cfs_model.specs.declared.task.Place.{Place}
 use Rattle.cfs_model.specs.declared.task.Place.TheVariants.{Run, Wait, Rest}
 use Rattle.cfs_model.specs.declared.task.Task.{Task}
 use Rattle.queue_replay.specs.Standing.{by_runtime, listed, standing, runtime_if, waiting_runtime, IsQueue, waiting_task}
 use Rattle.queue_replay.specs.declared.waiting_task.WaitingTask.{WaitingTask}
 use Rattle.queue_replay.specs.Tasks.{entity_of}
-use Rattle.queue_replay.proofs.Parts.{same_tasks, put-at, put-under}
+use Rattle.queue_replay.proofs.Parts.{part_with, its_place, same_tasks, put-at, put-under}
 use Rattle.queue_replay.proofs.Standings.{queue_is, waiting_in, only_in, listed_in, listed_some, listed_kept, apart_from, standing_listed, map_at, map_other, rewritten, joins, stays, only_kept, only_comes}
 use Rattle.queue_replay.proofs.Moved.{kept_runner}
-
--- a part with these tasks
-abbrev part_of : (ℕ → Option Entity) → ℤ → ℕ → Part
-part_of tasks floor mark = record { tasks = tasks; floor = floor; mark = mark }
-
-abbrev place_at : Option Entity → Option Place
-place_at o = option_map (λ s. s.place) o
 
 -- a place that isn't the runner's
 apart_places : (p q : Place) → p ≡ q → q ≢ Run → Some p ≡ Some Run → ⊥
@@ -40,7 +32,7 @@ rest_run e = cc
 module _ (runner : Option Task) (m n : BTreeMap ℕ Task) (a : BTreeSet WaitingTask) (kept : IsQueue runner m a) (t : Task)
     (none : standing runner m t.pid ≡ None) (u : Updates nat_cmp m n t.pid (Some t)) where
   apart_new : (x : Task) → runner ≡ Some x → x.pid ≢ t.pid
-  apart_new = apart_from runner m a kept t.pid (λ e. let f : None ≡ Some Run = sym (ap place_at none) ∙ e in cc)
+  apart_new = apart_from runner m a kept t.pid (λ e. let f : None ≡ Some Run = sym (ap its_place none) ∙ e in cc)
 
   pub come_waits : (b : BTreeSet WaitingTask) → set.Updates by_runtime a b (waiting_task t.v t.pid) true → t.place ≡ Wait → IsQueue runner n b
   come_waits b s waits =
@@ -60,7 +52,7 @@ module _ (runner : Option Task) (m n : BTreeMap ℕ Task) (a : BTreeSet WaitingT
       (apart_places t.place Rest rests rest_run))
       (listed_kept runner m n t.pid (Some t) u apart_new (listed_in runner m a kept))
 
-  pub come_part : (floor : ℤ) (mark : ℕ) → part_of (standing runner n) floor mark ≡ with_entity (part_of (standing runner m) floor mark) t.pid (Some (entity_of t))
+  pub come_part : (floor : ℤ) (mark : ℕ) → part_with (standing runner n) floor mark ≡ with_entity (part_with (standing runner m) floor mark) t.pid (Some (entity_of t))
   come_part floor mark = same_tasks (standing runner n) (put (standing runner m) t.pid (Some (entity_of t))) floor mark (rewritten runner m n t.pid (Some t) u apart_new)
 
   -- taken out again, the map is as it was
@@ -92,7 +84,7 @@ module _ (m n : BTreeMap ℕ Task) (a : BTreeSet WaitingTask) (kept : IsQueue No
       (only_comes (listed m) (standing (Some t) n) t.pid (Some (entity_of t)) run_is t refl (only_in None m a kept))
       (listed_some n t runs (ap is_some (map_at m n t.pid (Some t) u)))
 
-  pub run_part : (floor : ℤ) (mark : ℕ) → part_of (standing (Some t) n) floor mark ≡ with_entity (part_of (standing None m) floor mark) t.pid (Some (entity_of t))
+  pub run_part : (floor : ℤ) (mark : ℕ) → part_with (standing (Some t) n) floor mark ≡ with_entity (part_with (standing None m) floor mark) t.pid (Some (entity_of t))
   run_part floor mark = same_tasks (standing (Some t) n) (put (listed m) t.pid (Some (entity_of t))) floor mark run_is
 
 -- the same, where it is told by an equation that nobody ran
@@ -103,7 +95,7 @@ come_runs_alone runner m n a kept e t none u runs =
 
 pub run_part_alone : (runner : Option Task) (m n : BTreeMap ℕ Task) (a : BTreeSet WaitingTask) → IsQueue runner m a → runner ≡ None → (t : Task)
     → standing runner m t.pid ≡ None → Updates nat_cmp m n t.pid (Some t) → (floor : ℤ) (mark : ℕ)
-    → part_of (standing (Some t) n) floor mark ≡ with_entity (part_of (standing runner m) floor mark) t.pid (Some (entity_of t))
+    → part_with (standing (Some t) n) floor mark ≡ with_entity (part_with (standing runner m) floor mark) t.pid (Some (entity_of t))
 run_part_alone runner m n a kept e t none u floor mark =
-    subst (λ (r : Option Task). part_of (standing (Some t) n) floor mark ≡ with_entity (part_of (standing r m) floor mark) t.pid (Some (entity_of t))) (sym e)
+    subst (λ (r : Option Task). part_with (standing (Some t) n) floor mark ≡ with_entity (part_with (standing r m) floor mark) t.pid (Some (entity_of t))) (sym e)
     (run_part m n a (kept_runner runner m a None kept e) t (subst (λ (r : Option Task). standing r m t.pid ≡ None) e none) u floor mark)

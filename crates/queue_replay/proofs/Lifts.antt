@@ -23,14 +23,9 @@ use Rattle.queue_replay.specs.Queue.{IsTheRunner, IsLeastOfWaiting, IsLeastWaiti
 use Rattle.queue_replay.specs.Standing.{by_runtime, listed, standing, runtime_if, waiting_runtime, IsOnlyRunner, IsQueue, waiting_task}
 use Rattle.queue_replay.specs.declared.waiting_task.WaitingTask.{WaitingTask}
 use Rattle.queue_replay.specs.Tasks.{cost_of, charged_task, CanBeCharged, entity_of}
-use Rattle.queue_replay.proofs.Parts.{same_tasks, put-at, put-other}
+use Rattle.cfs_model.proofs.Moves.{put-other}
+use Rattle.queue_replay.proofs.Parts.{part_with, its_place, same_tasks, put-at}
 use Rattle.queue_replay.proofs.Standings.{queue_is, waiting_in, only_in, listed_in, listed_none, listed_some, is_listed, waits_where, the_runner, stays, only_runs, only_none, waiting_none, lower_runtime}
-
-abbrev part_of : (ℕ → Option Entity) → ℤ → ℕ → Part
-part_of tasks floor mark = record { tasks = tasks; floor = floor; mark = mark }
-
-abbrev place_at : Option Entity → Option Place
-place_at o = option_map (λ s. s.place) o
 
 -- nobody stands in an empty map, and nobody waits in an empty set
 pub empty_queue : (m : BTreeMap ℕ Task) (a : BTreeSet WaitingTask) → m.entries ≡ [] → a.keys ≡ [] → IsQueue None m a
@@ -38,7 +33,7 @@ empty_queue m a e f =
     let none : (q : ℕ) → listed m q ≡ None = λ q. ap (λ (es : List (ℕ × Task)). option_map entity_of (lookup (is_at (nat_cmp q)) es)) e in
     queue_is None m a
     (waiting_none (listed m) a none (λ k. ap (list_any (is_at (by_runtime k))) f))
-    (only_none (listed m) (λ q i. let h : None ≡ Some Run = sym (ap place_at (none q)) ∙ i in cc))
+    (only_none (listed m) (λ q i. let h : None ≡ Some Run = sym (ap its_place (none q)) ∙ i in cc))
     (listed_none m)
 
 -- one who waits
@@ -63,7 +58,7 @@ no_keys a none k = go a.keys none
 
 module _ (runner : Option Task) (m : BTreeMap ℕ Task) (a : BTreeSet WaitingTask) (floor : ℤ) (mark : ℕ) (kept : IsQueue runner m a) where
   -- the first of the set is the least of those who wait
-  pub least_is : (k : WaitingTask) → IsTrue (contains by_runtime a k) → IsLowerBound by_runtime a k → IsLeastOfWaiting (part_of (standing runner m) floor mark) k.v
+  pub least_is : (k : WaitingTask) → IsTrue (contains by_runtime a k) → IsLowerBound by_runtime a k → IsLeastOfWaiting (part_with (standing runner m) floor mark) k.v
   least_is k member least =
       let at = waits_where (standing runner m) a (waiting_in runner m a kept) in
       let w = waits_is (standing runner m k.pid) k.v ((at k.v k.pid).0 member) in
@@ -77,11 +72,11 @@ module _ (runner : Option Task) (m : BTreeMap ℕ Task) (a : BTreeSet WaitingTas
       }
 
   -- where the set is empty nobody waits
-  pub none_waits : (0 < btree_set_len a → ⊥) → NobodyIn (part_of (standing runner m) floor mark) Wait
+  pub none_waits : (0 < btree_set_len a → ⊥) → NobodyIn (part_with (standing runner m) floor mark) Wait
   none_waits none pid i =
       go (standing runner m pid) refl i
     where
-      go : (o : Option Entity) → standing runner m pid ≡ o → place_at o ≡ Some Wait → ⊥
+      go : (o : Option Entity) → standing runner m pid ≡ o → its_place o ≡ Some Wait → ⊥
       go None e i = cc
       go (Some s) e i =
           let h = (waits_where (standing runner m) a (waiting_in runner m a kept) s.runtime pid).1 (waiting_is (standing runner m pid) s e (same_Some s.place Wait i)) in
@@ -102,7 +97,7 @@ wait_queued p e f = let g : Wait ≡ Rest = sym e ∙ f in cc
 -- the runner's virtual runtime is that of each who runs
 runner_only : (part : Part) (t : Task) → IsTheRunner part (Some t) → (pid : ℕ) (s : Entity) → part.tasks pid ≡ Some s → s.place ≡ Run → s.runtime ≡ t.v
 runner_only part t r pid s e runs =
-    let p : pid ≡ t.pid = r.2 pid (ap place_at e ∙ ap Some runs) in
+    let p : pid ≡ t.pid = r.2 pid (ap its_place e ∙ ap Some runs) in
     ap (λ (x : Entity). x.runtime) (same_Some s (entity_of t) (sym e ∙ ap part.tasks p ∙ r.0))
 
 pub least_of_both : (part : Part) (t : Task) (v : ℤ) → IsTheRunner part (Some t) → IsLeastOfWaiting part v → IsLeastHere part (int_min v t.v)
@@ -150,14 +145,14 @@ least_of_runner part t r nobody = record {
   where
     each : (other : ℕ) (s : Entity) → part.tasks other ≡ Some s → (s.place ≡ Run) ⊎ (s.place ≡ Wait) → t.v ≤ℤ s.runtime
     each other s e (inl runs) = let h = runner_only part t r other s e runs in omega (arith, ints, h)
-    each other s e (inr waits) = absurd (nobody other (ap place_at e ∙ ap Some waits))
+    each other s e (inr waits) = absurd (nobody other (ap its_place e ∙ ap Some waits))
 
 pub least_without_runner : (part : Part) (o : Option ℤ) → IsTheRunner part None → IsLeastWaiting part o → IsLeastQueued part o
 least_without_runner part None nobody none = λ pid s e q. each pid s e (queued s.place q)
   where
     each : (pid : ℕ) (s : Entity) → part.tasks pid ≡ Some s → (s.place ≡ Run) ⊎ (s.place ≡ Wait) → ⊥
-    each pid s e (inl runs) = nobody pid (ap place_at e ∙ ap Some runs)
-    each pid s e (inr waits) = none pid (ap place_at e ∙ ap Some waits)
+    each pid s e (inl runs) = nobody pid (ap its_place e ∙ ap Some runs)
+    each pid s e (inr waits) = none pid (ap its_place e ∙ ap Some waits)
 least_without_runner part (Some v) nobody w = record {
   pid = w.pid;
   task = w.task;
@@ -168,11 +163,11 @@ least_without_runner part (Some v) nobody w = record {
 }
   where
     each : (pid : ℕ) (s : Entity) → part.tasks pid ≡ Some s → (s.place ≡ Run) ⊎ (s.place ≡ Wait) → v ≤ℤ s.runtime
-    each pid s e (inl runs) = absurd (nobody pid (ap place_at e ∙ ap Some runs))
+    each pid s e (inl runs) = absurd (nobody pid (ap its_place e ∙ ap Some runs))
     each pid s e (inr waits) = w.least pid s e waits
 
 -- one who doesn't run isn't charged
-uncharged : (part : Part) (time : ℕ) (o : Option Entity) → (place_at o ≡ Some Run → ⊥) → o ≡ option_map (charged_in part time) o
+uncharged : (part : Part) (time : ℕ) (o : Option Entity) → (its_place o ≡ Some Run → ⊥) → o ≡ option_map (charged_in part time) o
 uncharged part time None ne = refl
 uncharged part time (Some s) ne = ap Some (go s.place (λ e. ne (ap Some e)))
   where
@@ -183,31 +178,31 @@ uncharged part time (Some s) ne = ap Some (go s.place (λ e. ne (ap Some e)))
 
 -- nobody runs
 module _ (runner : Option Task) (m : BTreeMap ℕ Task) (a : BTreeSet WaitingTask) (floor : ℤ) (mark time : ℕ) (kept : IsQueue runner m a) (none : runner ≡ None) where
-  nobody : NobodyIn (part_of (standing runner m) floor mark) Run
-  nobody = subst (IsTheRunner (part_of (standing runner m) floor mark)) none (the_runner runner m a floor mark kept)
+  nobody : NobodyIn (part_with (standing runner m) floor mark) Run
+  nobody = subst (IsTheRunner (part_with (standing runner m) floor mark)) none (the_runner runner m a floor mark kept)
 
-  pub idle_charged : part_of (standing runner m) floor time ≡ charged_part (part_of (standing runner m) floor mark) time
+  pub idle_charged : part_with (standing runner m) floor time ≡ charged_part (part_with (standing runner m) floor mark) time
   idle_charged =
-      same_tasks (standing runner m) (charged_part (part_of (standing runner m) floor mark) time).tasks floor time
-      (λ q. uncharged (part_of (standing runner m) floor mark) time (standing runner m q) (nobody q))
+      same_tasks (standing runner m) (charged_part (part_with (standing runner m) floor mark) time).tasks floor time
+      (λ q. uncharged (part_with (standing runner m) floor mark) time (standing runner m q) (nobody q))
 
-  pub idle_in_range : (pid : ℕ) → ¬ IsOutOfRange (part_of (standing runner m) floor mark) time pid
-  idle_in_range pid o = nobody pid (ap place_at o.stands ∙ ap Some o.runs)
+  pub idle_in_range : (pid : ℕ) → ¬ IsOutOfRange (part_with (standing runner m) floor mark) time pid
+  idle_in_range pid o = nobody pid (ap its_place o.stands ∙ ap Some o.runs)
 
 -- somebody runs
 module _ (runner : Option Task) (m : BTreeMap ℕ Task) (a : BTreeSet WaitingTask) (floor : ℤ) (mark time : ℕ) (kept : IsQueue runner m a) (t : Task) (is : runner ≡ Some t) where
-  ran : IsTheRunner (part_of (standing runner m) floor mark) (Some t)
-  ran = subst (IsTheRunner (part_of (standing runner m) floor mark)) is (the_runner runner m a floor mark kept)
+  ran : IsTheRunner (part_with (standing runner m) floor mark) (Some t)
+  ran = subst (IsTheRunner (part_with (standing runner m) floor mark)) is (the_runner runner m a floor mark kept)
 
-  pub fits_in_range : CanBeCharged (time - mark) t → (pid : ℕ) → ¬ IsOutOfRange (part_of (standing runner m) floor mark) time pid
+  pub fits_in_range : CanBeCharged (time - mark) t → (pid : ℕ) → ¬ IsOutOfRange (part_with (standing runner m) floor mark) time pid
   fits_in_range can pid o =
-      let p : pid ≡ t.pid = ran.2 pid (ap place_at o.stands ∙ ap Some o.runs) in
+      let p : pid ≡ t.pid = ran.2 pid (ap its_place o.stands ∙ ap Some o.runs) in
       let e : o.task ≡ entity_of t = same_Some o.task (entity_of t) (sym o.stands ∙ ap (standing runner m) p ∙ ran.0) in
       let far : (greatest < cost_of (time - mark) t) ⊎ (pos greatest <ℤ (t.v +ℤ pos (cost_of (time - mark) t)))
-      = subst (λ (s : Entity). (greatest < cost_in (part_of (standing runner m) floor mark) time s) ⊎ (pos greatest <ℤ (s.runtime +ℤ pos (cost_in (part_of (standing runner m) floor mark) time s)))) e o.above in
+      = subst (λ (s : Entity). (greatest < cost_in (part_with (standing runner m) floor mark) time s) ⊎ (pos greatest <ℤ (s.runtime +ℤ pos (cost_in (part_with (standing runner m) floor mark) time s)))) e o.above in
       elim far [ inl h ↦ absurd (omega (arith, can.0, h)) | inr h ↦ absurd (omega (arith, ints, can.1, h)) ]
 
-  pub above_range : (CanBeCharged (time - mark) t → ⊥) → IsOutOfRange (part_of (standing runner m) floor mark) time t.pid
+  pub above_range : (CanBeCharged (time - mark) t → ⊥) → IsOutOfRange (part_with (standing runner m) floor mark) time t.pid
   above_range cannot = record {
     task = entity_of t;
     stands = ran.0;
@@ -241,13 +236,13 @@ module _ (runner : Option Task) (m : BTreeMap ℕ Task) (a : BTreeSet WaitingTas
       (subst (λ r. IsOnlyRunner (standing runner m) r) is (only_in runner m a kept)))
       (listed_some m (charged_task (time - mark) t) has.0 has.1)
 
-  pub charged_is : part_of (standing (Some (charged_task (time - mark) t)) m) floor time ≡ charged_part (part_of (standing runner m) floor mark) time
+  pub charged_is : part_with (standing (Some (charged_task (time - mark) t)) m) floor time ≡ charged_part (part_with (standing runner m) floor mark) time
   charged_is =
-      same_tasks (standing (Some (charged_task (time - mark) t)) m) (charged_part (part_of (standing runner m) floor mark) time).tasks floor time (λ q.
+      same_tasks (standing (Some (charged_task (time - mark) t)) m) (charged_part (part_with (standing runner m) floor mark) time).tasks floor time (λ q.
       charged_at q ∙ elim (cases_eq q t.pid) [
         | inl same ↦ put-at (standing runner m) t.pid (Some (entity_of (charged_task (time - mark) t))) q same
             ∙ ap (λ p. Some (record (entity_of t) { runtime = runtime_after p (cost_of (time - mark) t) t.v })) (sym ran.1 ∙ refl) ∙ refl
-            ∙ sym (ap (option_map (charged_in (part_of (standing runner m) floor mark) time)) (ap (standing runner m) same ∙ ran.0))
+            ∙ sym (ap (option_map (charged_in (part_with (standing runner m) floor mark) time)) (ap (standing runner m) same ∙ ran.0))
         | inr other ↦ put-other (standing runner m) t.pid (Some (entity_of (charged_task (time - mark) t))) q other
-            ∙ uncharged (part_of (standing runner m) floor mark) time (standing runner m q) (λ i. other (ran.2 q i))
+            ∙ uncharged (part_with (standing runner m) floor mark) time (standing runner m q) (λ i. other (ran.2 q i))
       ])

@@ -21,23 +21,9 @@ use Rattle.queue_replay.specs.Queue.{IsTheRunner}
 use Rattle.queue_replay.specs.Standing.{by_runtime, listed, standing, runtime_if, waiting_runtime, IsQueue, waiting_task}
 use Rattle.queue_replay.specs.declared.waiting_task.WaitingTask.{WaitingTask}
 use Rattle.queue_replay.specs.Tasks.{entity_of}
-use Rattle.queue_replay.proofs.Parts.{same_tasks, put-at, put-other}
+use Rattle.cfs_model.proofs.Moves.{put-other}
+use Rattle.queue_replay.proofs.Parts.{part_with, its_place, same_tasks, put-at, written_over}
 use Rattle.queue_replay.proofs.Standings.{queue_is, waiting_in, only_in, listed_in, listed_none, listed_some, listed_kept, is_listed, the_runner, apart_from, standing_listed, standing_same, rewritten, put_away, runtime_own, joins, parts, stays, only_kept, only_left, only_comes}
-
--- a part with these tasks
-abbrev part_of : (ℕ → Option Entity) → ℤ → ℕ → Part
-part_of tasks floor mark = record { tasks = tasks; floor = floor; mark = mark }
-
-abbrev place_at : Option Entity → Option Place
-place_at o = option_map (λ s. s.place) o
-
--- the same written over itself
-put_same : (f : ℕ → Option Entity) (k : ℕ) (x : Option Entity) → x ≡ f k → (q : ℕ) → f q ≡ put f k x q
-put_same f k x e q =
-    elim (cases_eq q k) [
-      | inl same ↦ ap f same ∙ sym e ∙ sym (put-at f k x q same)
-      | inr other ↦ sym (put-other f k x q other)
-    ]
 
 -- a switch's two tasks, where they aren't pid 0
 pub after_stays : (part : Part) (prev : ℕ) → prev ≢ 0 → goes part prev Wait ≡ part_after_prev part prev Stays
@@ -64,7 +50,7 @@ after_way Ends s = None
 
 -- who runs is the previous task
 prev_is : (part : Part) (t : Task) → IsTheRunner part (Some t) → (prev : ℕ) → ((IsRunner part prev → ⊥) → ⊥) → (prev ≢ 0) × (prev ≡ t.pid)
-prev_is part t r zero h = absurd (h (λ nobody. nobody t.pid (ap place_at r.0 ∙ ap Some r.1)))
+prev_is part t r zero h = absurd (h (λ nobody. nobody t.pid (ap its_place r.0 ∙ ap Some r.1)))
 prev_is part t r (suc n) h =
     elim (cases_eq (suc n) t.pid) [
       | inl same ↦ ((λ e. cc), same)
@@ -73,7 +59,7 @@ prev_is part t r (suc n) h =
 
 module _ (m n : BTreeMap ℕ Task) (a : BTreeSet WaitingTask) (t : Task) (kept : IsQueue (Some t) m a) (w : Option Task)
     (u : Updates nat_cmp m n t.pid w) where
-  ran : IsTheRunner (part_of (standing (Some t) m) (pos 0) 0) (Some t)
+  ran : IsTheRunner (part_with (standing (Some t) m) (pos 0) 0) (Some t)
   ran = the_runner (Some t) m a (pos 0) 0 kept
 
   unwaited : waiting_runtime (standing (Some t) m t.pid) ≡ None
@@ -84,14 +70,14 @@ module _ (m n : BTreeMap ℕ Task) (a : BTreeSet WaitingTask) (t : Task) (kept :
       → IsQueue None n b
   back_queue b s is =
       let e : waiting_runtime (option_map entity_of w) ≡ Some t.v = ap waiting_runtime is in
-      let ne : place_at (option_map entity_of w) ≡ Some Run → ⊥ = λ f. let g : Some Wait ≡ Some Run = sym (ap place_at is) ∙ f in cc in
+      let ne : its_place (option_map entity_of w) ≡ Some Run → ⊥ = λ f. let g : Some Wait ≡ Some Run = sym (ap its_place is) ∙ f in cc in
       queue_is None n b
       (joins (standing (Some t) m) (standing None n) t.pid (option_map entity_of w) (put_away t m n w u) a b t.v (waiting_in (Some t) m a kept) s unwaited e)
       (only_left (standing (Some t) m) (standing None n) t.pid (option_map entity_of w) (put_away t m n w u) t refl (only_in (Some t) m a kept) ne)
       (listed_none n)
 
   -- who ran rests or is gone
-  pub away_queue : (place_at (option_map entity_of w) ≡ Some Run → ⊥) → waiting_runtime (option_map entity_of w) ≡ None → IsQueue None n a
+  pub away_queue : (its_place (option_map entity_of w) ≡ Some Run → ⊥) → waiting_runtime (option_map entity_of w) ≡ None → IsQueue None n a
   away_queue ne none =
       queue_is None n a
       (stays (standing (Some t) m) (standing None n) t.pid (option_map entity_of w) (put_away t m n w u) a (waiting_in (Some t) m a kept) (none ∙ sym unwaited))
@@ -99,26 +85,26 @@ module _ (m n : BTreeMap ℕ Task) (a : BTreeSet WaitingTask) (t : Task) (kept :
       (listed_none n)
 
   pub prev_part : (floor : ℤ) (mark : ℕ) (way : Way) → option_map entity_of w ≡ after_way way (entity_of t) → (prev : ℕ)
-      → ((IsRunner (part_of (standing (Some t) m) floor mark) prev → ⊥) → ⊥)
-      → part_of (standing None n) floor mark ≡ part_after_prev (part_of (standing (Some t) m) floor mark) prev way
+      → ((IsRunner (part_with (standing (Some t) m) floor mark) prev → ⊥) → ⊥)
+      → part_with (standing None n) floor mark ≡ part_after_prev (part_with (standing (Some t) m) floor mark) prev way
   prev_part floor mark way is prev h =
-      let old : Part = part_of (standing (Some t) m) floor mark in
-      let p = prev_is (part_of (standing (Some t) m) floor mark) t (the_runner (Some t) m a floor mark kept) prev h in
-      subst (λ x. part_of (standing None n) floor mark ≡ part_after_prev (part_of (standing (Some t) m) floor mark) x way) (sym p.1)
+      let old : Part = part_with (standing (Some t) m) floor mark in
+      let p = prev_is (part_with (standing (Some t) m) floor mark) t (the_runner (Some t) m a floor mark kept) prev h in
+      subst (λ x. part_with (standing None n) floor mark ≡ part_after_prev (part_with (standing (Some t) m) floor mark) x way) (sym p.1)
       (same_tasks (standing None n) (put (standing (Some t) m) t.pid (option_map entity_of w)) floor mark (put_away t m n w u)
       ∙ go way is (λ e. p.0 (p.1 ∙ e)))
     where
       go : (x : Way) → option_map entity_of w ≡ after_way x (entity_of t) → t.pid ≢ 0
-          → with_entity (part_of (standing (Some t) m) floor mark) t.pid (option_map entity_of w) ≡ part_after_prev (part_of (standing (Some t) m) floor mark) t.pid x
+          → with_entity (part_with (standing (Some t) m) floor mark) t.pid (option_map entity_of w) ≡ part_after_prev (part_with (standing (Some t) m) floor mark) t.pid x
       go Stays e ne =
-          ap (with_entity (part_of (standing (Some t) m) floor mark) t.pid) (e ∙ sym (ap (option_map (λ (s : Entity). record s { place = Wait })) ran.0))
-          ∙ after_stays (part_of (standing (Some t) m) floor mark) t.pid ne
+          ap (with_entity (part_with (standing (Some t) m) floor mark) t.pid) (e ∙ sym (ap (option_map (λ (s : Entity). record s { place = Wait })) ran.0))
+          ∙ after_stays (part_with (standing (Some t) m) floor mark) t.pid ne
       go Sleeps e ne =
-          ap (with_entity (part_of (standing (Some t) m) floor mark) t.pid) (e ∙ sym (ap (option_map (λ (s : Entity). record s { place = Rest })) ran.0))
-          ∙ after_sleeps (part_of (standing (Some t) m) floor mark) t.pid ne
+          ap (with_entity (part_with (standing (Some t) m) floor mark) t.pid) (e ∙ sym (ap (option_map (λ (s : Entity). record s { place = Rest })) ran.0))
+          ∙ after_sleeps (part_with (standing (Some t) m) floor mark) t.pid ne
       go Ends e ne =
-          ap (with_entity (part_of (standing (Some t) m) floor mark) t.pid) e
-          ∙ after_ends (part_of (standing (Some t) m) floor mark) t.pid ne
+          ap (with_entity (part_with (standing (Some t) m) floor mark) t.pid) e
+          ∙ after_ends (part_with (standing (Some t) m) floor mark) t.pid ne
 
 -- the same, where the runner is told by an equation
 pub kept_runner : (runner : Option Task) (m : BTreeMap ℕ Task) (a : BTreeSet WaitingTask) (r : Option Task) → IsQueue runner m a → runner ≡ r
@@ -131,11 +117,11 @@ runner_listed runner m a t kept e = (is_listed runner m (listed_in runner m a ke
 
 pub runner_leaves : (runner : Option Task) (m n : BTreeMap ℕ Task) (a : BTreeSet WaitingTask) (t : Task) → IsQueue runner m a → runner ≡ Some t
     → (w : Option Task) → Updates nat_cmp m n t.pid w → (floor : ℤ) (mark : ℕ) (way : Way) → option_map entity_of w ≡ after_way way (entity_of t)
-    → (prev : ℕ) → ((IsRunner (part_of (standing runner m) floor mark) prev → ⊥) → ⊥)
-    → part_of (standing None n) floor mark ≡ part_after_prev (part_of (standing runner m) floor mark) prev way
+    → (prev : ℕ) → ((IsRunner (part_with (standing runner m) floor mark) prev → ⊥) → ⊥)
+    → part_with (standing None n) floor mark ≡ part_after_prev (part_with (standing runner m) floor mark) prev way
 runner_leaves runner m n a t kept e w u floor mark way is =
-    subst (λ (r : Option Task). (prev : ℕ) → ((IsRunner (part_of (standing r m) floor mark) prev → ⊥) → ⊥)
-    → part_of (standing None n) floor mark ≡ part_after_prev (part_of (standing r m) floor mark) prev way) (sym e)
+    subst (λ (r : Option Task). (prev : ℕ) → ((IsRunner (part_with (standing r m) floor mark) prev → ⊥) → ⊥)
+    → part_with (standing None n) floor mark ≡ part_after_prev (part_with (standing r m) floor mark) prev way) (sym e)
     (prev_part m n a t (kept_runner runner m a (Some t) kept e) w u floor mark way is)
 
 -- nobody runs: the previous task is the idle one
@@ -145,11 +131,11 @@ idle_prev part nobody way zero h = refl
 idle_prev part nobody way (suc n) h = absurd (h (λ i. nobody (suc n) i))
 
 pub nobody_leaves : (runner : Option Task) (m : BTreeMap ℕ Task) (a : BTreeSet WaitingTask) → IsQueue runner m a → runner ≡ None
-    → (floor : ℤ) (mark : ℕ) (way : Way) (prev : ℕ) → ((IsRunner (part_of (standing runner m) floor mark) prev → ⊥) → ⊥)
-    → part_of (standing runner m) floor mark ≡ part_after_prev (part_of (standing runner m) floor mark) prev way
+    → (floor : ℤ) (mark : ℕ) (way : Way) (prev : ℕ) → ((IsRunner (part_with (standing runner m) floor mark) prev → ⊥) → ⊥)
+    → part_with (standing runner m) floor mark ≡ part_after_prev (part_with (standing runner m) floor mark) prev way
 nobody_leaves runner m a kept e floor mark way prev =
-    idle_prev (part_of (standing runner m) floor mark)
-    (subst (IsTheRunner (part_of (standing runner m) floor mark)) e (the_runner runner m a floor mark kept)) way prev
+    idle_prev (part_with (standing runner m) floor mark)
+    (subst (IsTheRunner (part_with (standing runner m) floor mark)) e (the_runner runner m a floor mark kept)) way prev
 
 -- the next task runs
 pub next_queue : (m : BTreeMap ℕ Task) (a b : BTreeSet WaitingTask) (t new : Task) → IsQueue None m a → listed m new.pid ≡ Some (entity_of t)
@@ -168,23 +154,22 @@ next_queue m a b t new kept has s runs =
 
 pub next_part : (m : BTreeMap ℕ Task) (t new : Task) (floor : ℤ) (mark : ℕ) → listed m new.pid ≡ Some (entity_of t) → new.pid ≢ 0
     → entity_of new ≡ record { place = Run; nice = t.nice; idle = t.idle; runtime = t.v }
-    → part_of (standing (Some new) m) floor mark ≡ part_after_next (part_of (standing None m) floor mark) new.pid
+    → part_with (standing (Some new) m) floor mark ≡ part_after_next (part_with (standing None m) floor mark) new.pid
 next_part m t new floor mark has ne is =
-    ap (with_entity (part_of (listed m) floor mark) new.pid)
+    ap (with_entity (part_with (listed m) floor mark) new.pid)
     (ap Some is ∙ sym (ap (option_map (λ (s : Entity). record s { place = Run })) has))
-    ∙ after_next (part_of (standing None m) floor mark) new.pid ne
+    ∙ after_next (part_with (standing None m) floor mark) new.pid ne
 
 pub no_next : (m : BTreeMap ℕ Task) (next : ℕ) (floor : ℤ) (mark : ℕ) → listed m next ≡ None → next ≢ 0
-    → part_of (standing None m) floor mark ≡ part_after_next (part_of (standing None m) floor mark) next
+    → part_with (standing None m) floor mark ≡ part_after_next (part_with (standing None m) floor mark) next
 no_next m next floor mark none ne =
-    let x : Option Entity = option_map (λ (s : Entity). record s { place = Run }) (listed m next) in
-    same_tasks (listed m) (put (listed m) next (option_map (λ (s : Entity). record s { place = Run }) (listed m next))) floor mark
-    (put_same (listed m) next (option_map (λ (s : Entity). record s { place = Run }) (listed m next)) (ap (option_map (λ (s : Entity). record s { place = Run })) none ∙ sym none))
-    ∙ after_next (part_of (standing None m) floor mark) next ne
+    written_over (part_with (listed m) floor mark) next (option_map (λ (s : Entity). record s { place = Run }) (listed m next))
+    (ap (option_map (λ (s : Entity). record s { place = Run })) none ∙ sym none)
+    ∙ after_next (part_with (standing None m) floor mark) next ne
 
 -- one who doesn't run leaves
 module _ (runner : Option Task) (m n : BTreeMap ℕ Task) (a : BTreeSet WaitingTask) (kept : IsQueue runner m a) (pid : ℕ)
-    (at_rest : place_at (standing runner m pid) ≡ Some Run → ⊥) (u : Updates nat_cmp m n pid None) where
+    (at_rest : its_place (standing runner m pid) ≡ Some Run → ⊥) (u : Updates nat_cmp m n pid None) where
   apart : (t : Task) → runner ≡ Some t → t.pid ≢ pid
   apart = apart_from runner m a kept pid at_rest
 
@@ -206,14 +191,14 @@ module _ (runner : Option Task) (m n : BTreeMap ℕ Task) (a : BTreeSet WaitingT
       (only_kept (standing runner m) (standing runner n) pid None (rewritten runner m n pid None u apart) runner (only_in runner m a kept) (λ e. cc))
       (listed_kept runner m n pid None u apart (listed_in runner m a kept))
 
-  pub gone_part : (floor : ℤ) (mark : ℕ) → part_of (standing runner n) floor mark ≡ with_entity (part_of (standing runner m) floor mark) pid None
+  pub gone_part : (floor : ℤ) (mark : ℕ) → part_with (standing runner n) floor mark ≡ with_entity (part_with (standing runner m) floor mark) pid None
   gone_part floor mark = same_tasks (standing runner n) (put (standing runner m) pid None) floor mark (rewritten runner m n pid None u apart)
 
 -- one who rests is woken
 module _ (runner : Option Task) (m n : BTreeMap ℕ Task) (a : BTreeSet WaitingTask) (kept : IsQueue runner m a) (pid : ℕ) (t : Task)
     (stands : Some (entity_of t) ≡ standing runner m pid) (rests : t.place ≡ Rest) where
   apart_rest : (x : Task) → runner ≡ Some x → x.pid ≢ pid
-  apart_rest = apart_from runner m a kept pid (λ e. let f : Some Rest ≡ Some Run = ap Some (sym rests) ∙ ap place_at stands ∙ e in cc)
+  apart_rest = apart_from runner m a kept pid (λ e. let f : Some Rest ≡ Some Run = ap Some (sym rests) ∙ ap its_place stands ∙ e in cc)
 
   pub wake_has : IsSome (get nat_cmp m pid)
   wake_has = go (get nat_cmp m pid) (stands ∙ standing_listed runner m pid apart_rest)
@@ -233,10 +218,10 @@ module _ (runner : Option Task) (m n : BTreeMap ℕ Task) (a : BTreeSet WaitingT
         (listed_kept runner m n pid (Some w) u apart_rest (listed_in runner m a kept))
 
     pub woken_part : (floor : ℤ) (mark : ℕ) (claim : Claim) → claim.v ≡ v
-        → part_of (standing runner n) floor mark ≡ wakes (part_of (standing runner m) floor mark) pid (Some claim)
+        → part_with (standing runner n) floor mark ≡ wakes (part_with (standing runner m) floor mark) pid (Some claim)
     woken_part floor mark claim same =
         same_tasks (standing runner n) (put (standing runner m) pid (Some (entity_of w))) floor mark (rewritten runner m n pid (Some w) u apart_rest)
-        ∙ ap (with_entity (part_of (standing runner m) floor mark) pid)
+        ∙ ap (with_entity (part_with (standing runner m) floor mark) pid)
         (ap Some is ∙ ap (λ (x : ℤ). Some (record { place = Wait; nice = t.nice; idle = t.idle; runtime = x })) (sym same)
         ∙ ap (λ p. Some (woken (Some claim) p (entity_of t))) (sym rests)
         ∙ ap (option_map (λ (s : Entity). woken (Some claim) s.place s)) stands)
@@ -245,9 +230,8 @@ module _ (runner : Option Task) (m n : BTreeMap ℕ Task) (a : BTreeSet WaitingT
 pub not_woken : (part : Part) (pid : ℕ) (claim : Claim) → (s : Entity) → part.tasks pid ≡ Some s → s.place ≢ Rest
     → part ≡ wakes part pid (Some claim)
 not_woken part pid claim s e ne =
-    same_tasks part.tasks (put part.tasks pid (option_map (λ s. woken (Some claim) s.place s) (part.tasks pid))) part.floor part.mark
-    (put_same part.tasks pid (option_map (λ s. woken (Some claim) s.place s) (part.tasks pid))
-    (ap (option_map (λ (x : Entity). woken (Some claim) x.place x)) e ∙ ap Some (go s.place ne) ∙ sym e))
+    written_over part pid (option_map (λ s. woken (Some claim) s.place s) (part.tasks pid))
+    (ap (option_map (λ (x : Entity). woken (Some claim) x.place x)) e ∙ ap Some (go s.place ne) ∙ sym e)
   where
     go : (p : Place) → p ≢ Rest → woken (Some claim) p s ≡ s
     go Run ne = refl
@@ -256,9 +240,8 @@ not_woken part pid claim s e ne =
 
 pub nobody_woken : (part : Part) (pid : ℕ) (claim : Claim) → part.tasks pid ≡ None → part ≡ wakes part pid (Some claim)
 nobody_woken part pid claim e =
-    same_tasks part.tasks (put part.tasks pid (option_map (λ s. woken (Some claim) s.place s) (part.tasks pid))) part.floor part.mark
-    (put_same part.tasks pid (option_map (λ s. woken (Some claim) s.place s) (part.tasks pid))
-    (ap (option_map (λ (x : Entity). woken (Some claim) x.place x)) e ∙ sym e))
+    written_over part pid (option_map (λ s. woken (Some claim) s.place s) (part.tasks pid))
+    (ap (option_map (λ (x : Entity). woken (Some claim) x.place x)) e ∙ sym e)
 
 -- what the map has of a pid is what stands, but for the runner's
 pub stands_alone : (runner : Option Task) (m : BTreeMap ℕ Task) (pid : ℕ) → runner ≡ None → listed m pid ≡ standing runner m pid
@@ -281,9 +264,9 @@ same_keys a b e v q = ap (list_any (is_at (by_runtime (waiting_task v q)))) e
 
 -- a lift that is taken back
 pub restored_part : (runner r : Option Task) (m n : BTreeMap ℕ Task) (floor f : ℤ) (mark k : ℕ) → r ≡ runner → f ≡ floor → k ≡ mark
-    → ((q : ℕ) → get nat_cmp n q ≡ get nat_cmp m q) → part_of (standing r n) f k ≡ part_of (standing runner m) floor mark
+    → ((q : ℕ) → get nat_cmp n q ≡ get nat_cmp m q) → part_with (standing r n) f k ≡ part_with (standing runner m) floor mark
 restored_part runner r m n floor f mark k e g h same =
     same_tasks (standing r n) (standing r m) f k (standing_same r m n same)
-    ∙ ap (λ x. part_of (standing x m) f k) e
-    ∙ ap (λ x. part_of (standing runner m) x k) g
-    ∙ ap (λ x. part_of (standing runner m) floor x) h
+    ∙ ap (λ x. part_with (standing x m) f k) e
+    ∙ ap (λ x. part_with (standing runner m) x k) g
+    ∙ ap (λ x. part_with (standing runner m) floor x) h

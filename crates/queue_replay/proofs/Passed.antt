@@ -1,8 +1,6 @@
 -- What a deed can rely on, once its tests have passed, and the tests of a switch's pick.
-use Rattle.std.proofs.Common.{◌≡◌, ◌≢◌, ℕ, zero, suc, Bool, IsSome, Option, Some, None, is_some, option_map, ℤ, inl, inr, refl, sym, ap, ◌∙◌, subst}
-use Rattle.std.proofs.lemmas.Bool.{cases_eq}
+use Rattle.std.proofs.Common.{◌≡◌, ◌≢◌, ℕ, zero, suc, Bool, IsSome, Option, Some, None, is_some, option_map, ℤ, refl, sym, ap, subst}
 use Rattle.replay_model.specs.Deeds.{part_after_prev, woken, wakes}
-use Rattle.cfs_model.specs.Machine.{put}
 use Rattle.replay_model.specs.Part.{Part, Entity}
 use Rattle.replay_model.specs.ClaimTests.{IsClaimMissing}
 use Rattle.replay_model.specs.QueueTests.{IsPrevNotRunning, IsRunner}
@@ -16,16 +14,13 @@ use Rattle.cfs_model.specs.Settings.{Settings}
 use Rattle.queue_replay.specs.FirstTest.{IsFirst}
 use Rattle.queue_replay.specs.Rows.{IsUnclaimed, moved_tests, pick_tests}
 use Rattle.queue_replay.specs.declared.failed_test.FailedTest.{FailedTest}
-use Rattle.queue_replay.proofs.Parts.{same_tasks, put-same, put-other}
+use Rattle.cfs_model.proofs.Moves.{put-other}
+use Rattle.queue_replay.proofs.Parts.{written_over}
 
 -- a wakeup without a claim
 pub unwoken : (part : Part) (pid : ℕ) → wakes part pid None ≡ part
-unwoken part pid = same_tasks (put part.tasks pid (option_map (λ s. woken None s.place s) (part.tasks pid))) part.tasks part.floor part.mark (λ q.
-    elim (cases_eq q pid) [
-      | inl same ↦ subst (λ x. put part.tasks pid (option_map (λ s. woken None s.place s) (part.tasks pid)) x ≡ part.tasks x) (sym same)
-          (put-same part.tasks pid (option_map (λ s. woken None s.place s) (part.tasks pid)) ∙ go (part.tasks pid))
-      | inr other ↦ put-other part.tasks pid (option_map (λ s. woken None s.place s) (part.tasks pid)) q other
-    ])
+unwoken part pid =
+    sym (written_over part pid (option_map (λ s. woken None s.place s) (part.tasks pid)) (go (part.tasks pid)))
   where
     stays : (p : Place) (s : Entity) → woken None p s ≡ s
     stays Run s = refl

@@ -8,7 +8,6 @@ use Rattle.cfs_model.specs.Machine.{put}
 use Rattle.cfs_model.specs.Settings.{Settings}
 use Rattle.cfs_model.specs.declared.kind.Kind.TheVariants.{Strange}
 use Rattle.cfs_model.specs.declared.nice_line.NiceLine.{NiceLine}
-use Rattle.cfs_model.specs.declared.task.Place.{Place}
 use Rattle.cfs_model.specs.declared.task.Task.{Task}
 use Rattle.replay_model.specs.Deeds.{reniced, with_entity}
 use Rattle.replay_model.specs.Part.{Part, Entity}
@@ -20,18 +19,13 @@ use Rattle.queue_replay.specs.Tasks.{entity_of}
 use Rattle.queue_replay.specs.declared.outcome.Outcome.{Outcome}
 use Rattle.queue_replay.specs.declared.outcome.Outcome.TheVariants.{Made, Failed}
 use Rattle.queue_replay.specs.declared.waiting_task.WaitingTask.{WaitingTask}
-use Rattle.queue_replay.proofs.Parts.{put-at, put-other, same_tasks}
+use Rattle.cfs_model.proofs.Moves.{put-other}
+use Rattle.queue_replay.proofs.Parts.{part_with, its_place, put-at, same_tasks, written_over}
 use Rattle.queue_replay.proofs.Standings.{is_listed, listed_in, listed_none, listed_some, map_at, map_other, only_in, queue_is, stays, waiting_in}
-
-abbrev place_at : Option Entity → Option Place
-place_at o = option_map (λ s. s.place) o
 
 -- a task with another nice value
 abbrev changed : ℤ → Entity → Entity
 changed nice s = record s { nice = nice }
-
-abbrev pub part_of : (ℕ → Option Entity) → ℤ → ℕ → Part
-part_of tasks floor mark = record { tasks = tasks; floor = floor; mark = mark }
 
 -- the entry of a pid that is written over with another nice value
 pub written : (m n : BTreeMap ℕ Task) (pid : ℕ) (nice : ℤ) (t : Task) → get nat_cmp m pid ≡ Some t
@@ -77,12 +71,7 @@ nobody_listed (Some t) m a kept pid none =
 pub nobody_changed : (part : Part) (pid : ℕ) (nice : ℤ) → part.tasks pid ≡ None
     → part ≡ with_entity part pid (option_map (λ (s : Entity). record s { nice = nice }) (part.tasks pid))
 nobody_changed part pid nice none =
-    same_tasks part.tasks (put part.tasks pid (option_map (changed nice) (part.tasks pid))) part.floor part.mark (λ q.
-    elim (cases_eq q pid) [
-      | inl same ↦ ap part.tasks same ∙ none ∙ sym (ap (option_map (changed nice)) none)
-          ∙ sym (put-at part.tasks pid (option_map (changed nice) (part.tasks pid)) q same)
-      | inr other ↦ sym (put-other part.tasks pid (option_map (changed nice) (part.tasks pid)) q other)
-    ])
+    written_over part pid (option_map (changed nice) (part.tasks pid)) (ap (option_map (changed nice)) none ∙ sym none)
 
 module _ (m n : BTreeMap ℕ Task) (pid : ℕ) (nice : ℤ) (h : HasNice pid nice m n) where
   listed_here : listed n pid ≡ option_map (changed nice) (listed m pid)
@@ -141,23 +130,23 @@ module _ (m n : BTreeMap ℕ Task) (pid : ℕ) (nice : ℤ) (h : HasNice pid nic
           ∙ sym (put-other (listed m) t.pid (Some (entity_of t)) q ne)
           ∙ sym (put-other (standing (Some t) m) pid (option_map (changed nice) (standing (Some t) m pid)) q away)
 
-  pub reniced_part : (runner : Option Task) (floor : ℤ) (mark : ℕ) → part_of (standing (option_map (with_nice pid nice) runner) n) floor mark
-      ≡ with_entity (part_of (standing runner m) floor mark) pid (option_map (λ (s : Entity). record s { nice = nice }) (standing runner m pid))
+  pub reniced_part : (runner : Option Task) (floor : ℤ) (mark : ℕ) → part_with (standing (option_map (with_nice pid nice) runner) n) floor mark
+      ≡ with_entity (part_with (standing runner m) floor mark) pid (option_map (λ (s : Entity). record s { nice = nice }) (standing runner m pid))
   reniced_part runner floor mark =
       same_tasks (standing (option_map (with_nice pid nice) runner) n) (put (standing runner m) pid (option_map (changed nice) (standing runner m pid)))
       floor mark (renices runner)
 
   -- each stands where it did
-  places : (runner : Option Task) (q : ℕ) → place_at (standing (option_map (with_nice pid nice) runner) n q) ≡ place_at (standing runner m q)
+  places : (runner : Option Task) (q : ℕ) → its_place (standing (option_map (with_nice pid nice) runner) n q) ≡ its_place (standing runner m q)
   places runner q =
-      ap place_at (renices runner q)
+      ap its_place (renices runner q)
       ∙ elim (cases_eq q pid) [
-        | inl same ↦ ap place_at (put-at (standing runner m) pid (option_map (changed nice) (standing runner m pid)) q same)
-            ∙ go (standing runner m pid) ∙ ap (λ k. place_at (standing runner m k)) (sym same)
-        | inr other ↦ ap place_at (put-other (standing runner m) pid (option_map (changed nice) (standing runner m pid)) q other)
+        | inl same ↦ ap its_place (put-at (standing runner m) pid (option_map (changed nice) (standing runner m pid)) q same)
+            ∙ go (standing runner m pid) ∙ ap (λ k. its_place (standing runner m k)) (sym same)
+        | inr other ↦ ap its_place (put-other (standing runner m) pid (option_map (changed nice) (standing runner m pid)) q other)
       ]
     where
-      go : (o : Option Entity) → place_at (option_map (changed nice) o) ≡ place_at o
+      go : (o : Option Entity) → its_place (option_map (changed nice) o) ≡ its_place o
       go None = refl
       go (Some s) = refl
 

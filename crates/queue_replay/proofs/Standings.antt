@@ -20,7 +20,8 @@ use Rattle.queue_replay.specs.Queue.{IsTheRunner}
 use Rattle.queue_replay.specs.Standing.{by_runtime, listed, standing, runtime_if, waiting_runtime, IsWaitingSet, IsOnlyRunner, IsRunnerListed, IsQueue, waiting_task}
 use Rattle.queue_replay.specs.declared.waiting_task.WaitingTask.{WaitingTask}
 use Rattle.queue_replay.specs.Tasks.{entity_of}
-use Rattle.queue_replay.proofs.Parts.{put-same, put-at, put-other, put-under}
+use Rattle.cfs_model.proofs.Moves.{put-same, put-other}
+use Rattle.queue_replay.proofs.Parts.{its_place, put-at, put-under}
 
 from_is_eq : (o : Ordering) → is_eq o ≡ true → o ≡ Equal
 from_is_eq Less e = absurd cc
@@ -51,9 +52,6 @@ lower_runtime v w pid other e = go (int_cmp v w) (int_ranked v w (int_cmp v w) r
     go Less h e = omega (arith, ints, h)
     go Equal h e = omega (arith, ints, h)
     go Greater h e = absurd cc
-
-abbrev place_at : Option Entity → Option Place
-place_at o = option_map (λ s. s.place) o
 
 -- the parts of what the type keeps
 pub queue_is : (runner : Option Task) (m : BTreeMap ℕ Task) (s : BTreeSet WaitingTask) → IsWaitingSet (standing runner m) s
@@ -94,12 +92,12 @@ listed_some m t runs has u e =
     let P : Task → Type 0 = λ x. (x.place ≡ Run) × IsSome (get nat_cmp m x.pid) in
     subst P same (runs, has)
 
-pub runs_alone : (f : ℕ → Option Entity) (runner : Option Task) → IsOnlyRunner f runner → (pid : ℕ) → place_at (f pid) ≡ Some Run
+pub runs_alone : (f : ℕ → Option Entity) (runner : Option Task) → IsOnlyRunner f runner → (pid : ℕ) → its_place (f pid) ≡ Some Run
     → option_map (λ t. t.pid) runner ≡ Some pid
 unfolding IsOnlyRunner
 runs_alone f runner h = h
 
-pub only_none : (f : ℕ → Option Entity) → ((q : ℕ) → place_at (f q) ≡ Some Run → ⊥) → IsOnlyRunner f None
+pub only_none : (f : ℕ → Option Entity) → ((q : ℕ) → its_place (f q) ≡ Some Run → ⊥) → IsOnlyRunner f None
 unfolding IsOnlyRunner
 only_none f nobody q i = absurd (nobody q i)
 
@@ -124,12 +122,12 @@ the_runner (Some t) m s floor mark kept = (
 
 -- a pid that doesn't run isn't the runner's
 pub apart_from : (runner : Option Task) (m : BTreeMap ℕ Task) (s : BTreeSet WaitingTask) → IsQueue runner m s → (pid : ℕ)
-    → (place_at (standing runner m pid) ≡ Some Run → ⊥) → (t : Task) → runner ≡ Some t → t.pid ≢ pid
+    → (its_place (standing runner m pid) ≡ Some Run → ⊥) → (t : Task) → runner ≡ Some t → t.pid ≢ pid
 apart_from None m s kept pid ne t e same = cc
 apart_from (Some u) m s kept pid ne t e same =
     let r = the_runner (Some u) m s (pos 0) 0 kept in
     let up : u.pid ≡ pid = ap (λ x. x.pid) (same_Some u t e) ∙ same in
-    ne (ap place_at (ap (standing (Some u) m) (sym up) ∙ r.0) ∙ ap Some r.1)
+    ne (ap its_place (ap (standing (Some u) m) (sym up) ∙ r.0) ∙ ap Some r.1)
 
 -- another pid than the runner's stands as the map has it
 pub standing_listed : (runner : Option Task) (m : BTreeMap ℕ Task) (pid : ℕ) → ((t : Task) → runner ≡ Some t → t.pid ≢ pid)
@@ -268,21 +266,21 @@ module _ (f g : ℕ → Option Entity) (pid : ℕ) (s : Option Entity) (is : (q 
       ]
 
   -- it doesn't run
-  pub only_kept : (runner : Option Task) → IsOnlyRunner f runner → (place_at s ≡ Some Run → ⊥) → IsOnlyRunner g runner
+  pub only_kept : (runner : Option Task) → IsOnlyRunner f runner → (its_place s ≡ Some Run → ⊥) → IsOnlyRunner g runner
   unfolding IsOnlyRunner
   only_kept runner only ne q i =
       elim (cases_eq q pid) [
-        | inl same ↦ absurd (ne (sym (ap place_at here) ∙ ap (λ x. place_at (g x)) (sym same) ∙ i))
-        | inr other ↦ only q (sym (ap place_at (there q other)) ∙ i)
+        | inl same ↦ absurd (ne (sym (ap its_place here) ∙ ap (λ x. its_place (g x)) (sym same) ∙ i))
+        | inr other ↦ only q (sym (ap its_place (there q other)) ∙ i)
       ]
 
   -- it ran, and doesn't
-  pub only_left : (t : Task) → t.pid ≡ pid → IsOnlyRunner f (Some t) → (place_at s ≡ Some Run → ⊥) → IsOnlyRunner g None
+  pub only_left : (t : Task) → t.pid ≡ pid → IsOnlyRunner f (Some t) → (its_place s ≡ Some Run → ⊥) → IsOnlyRunner g None
   unfolding IsOnlyRunner
   only_left t e only ne q i =
       elim (cases_eq q pid) [
-        | inl same ↦ absurd (ne (sym (ap place_at here) ∙ ap (λ x. place_at (g x)) (sym same) ∙ i))
-        | inr other ↦ absurd (other (sym (same_Some t.pid q (only q (sym (ap place_at (there q other)) ∙ i))) ∙ e))
+        | inl same ↦ absurd (ne (sym (ap its_place here) ∙ ap (λ x. its_place (g x)) (sym same) ∙ i))
+        | inr other ↦ absurd (other (sym (same_Some t.pid q (only q (sym (ap its_place (there q other)) ∙ i))) ∙ e))
       ]
 
   -- it runs, and nobody did
@@ -291,7 +289,7 @@ module _ (f g : ℕ → Option Entity) (pid : ℕ) (s : Option Entity) (is : (q 
   only_comes t e only q i =
       elim (cases_eq q pid) [
         | inl same ↦ ap Some (e ∙ sym same)
-        | inr other ↦ let n : None ≡ Some q = only q (sym (ap place_at (there q other)) ∙ i) in absurd cc
+        | inr other ↦ let n : None ≡ Some q = only q (sym (ap its_place (there q other)) ∙ i) in absurd cc
       ]
 
   -- it runs, as it did
@@ -300,7 +298,7 @@ module _ (f g : ℕ → Option Entity) (pid : ℕ) (s : Option Entity) (is : (q 
   only_runs t new same e only q i =
       elim (cases_eq q pid) [
         | inl at ↦ ap Some (same ∙ e ∙ sym at)
-        | inr other ↦ ap Some same ∙ only q (sym (ap place_at (there q other)) ∙ i)
+        | inr other ↦ ap Some same ∙ only q (sym (ap its_place (there q other)) ∙ i)
       ]
 
 -- maps and sets that hold the same
@@ -318,6 +316,6 @@ same_queue runner m n a b same also kept =
         (λ x. ap waiting_runtime (s q) ∙ (kept.0 v q).0 (sym (also v q) ∙ x)),
         (λ x. also v q ∙ (kept.0 v q).1 (sym (ap waiting_runtime (s q)) ∙ x)),
       )),
-      (λ q i. kept.1 q (sym (ap place_at (s q)) ∙ i)),
+      (λ q i. kept.1 q (sym (ap its_place (s q)) ∙ i)),
       (λ t e. ((kept.2 t e).0, subst (λ (o : Option Task). IsSome o) (sym (same t.pid)) (kept.2 t e).1)),
     )

@@ -7,7 +7,7 @@ use Rattle.cfs_model.specs.Start.{task_of}
 use Rattle.cfs_model.specs.declared.task.Task.{Task}
 use Rattle.replay_model.specs.Part.{Entity}
 use Rattle.queue_replay.specs.Tasks.{entity_of}
-use Rattle.queue_replay.proofs.Parts.{put-same, put-other}
+use Rattle.cfs_model.proofs.Moves.{put-same, put-other}
 
 -- the task of the first pid, and of another
 pub task_of-first : (t : Task) (tasks : List Task) (pid : ℕ) → t.pid ≡ pid → task_of (t ∷ tasks) pid ≡ Some t

@@ -2,7 +2,8 @@ use Rattle.std.proofs.Common.{Option, sym, ap, subst, ◌∙◌}
 use Rattle.cfs_model.specs.declared.task.Task.{Task}
 use Rattle.queue_replay.specs.Standing.{IsQueue, standing}
 use Rattle.queue_replay.specs.Queue.{runqueue_view}
-use Rattle.queue_replay.proofs.Renices.{nobody_changed, nobody_listed, part_of, reniced_part, reniced_queue, stands_listed, written}
+use Rattle.queue_replay.proofs.Parts.{part_with}
+use Rattle.queue_replay.proofs.Renices.{nobody_changed, nobody_listed, reniced_part, reniced_queue, stands_listed, written}
 use Rattle.queue_replay.proofs.runqueue.Runqueue.renice.Goals as goal
 
 pub returns-in_err-task-clause-part : goal.returns-in_err-task-clause-part
@@ -34,7 +35,7 @@ returns-clause-part c =
     let n = c.write_over.new.tasks in
     let pid = c.args.pid in
     let nice = c.args.nice in
-    ap (λ (r : Option Task). part_of (standing r c.write_over.new.tasks) c.args.self.now.floor c.args.self.now.mark) c.reniced-self.ensures
+    ap (λ (r : Option Task). part_with (standing r c.write_over.new.tasks) c.args.self.now.floor c.args.self.now.mark) c.reniced-self.ensures
     ∙ reniced_part q.tasks n pid nice (written q.tasks n pid nice c.in_ok-task.field-0.now (sym c.in_ok-task.ensures.value) c.write_over.ensures)
     q.runner q.floor q.mark
 

@@ -3,7 +3,7 @@
 //! It is the yardstick for the speed of the proved program and a second judge of its answers, written from
 //! docs/RULES.md, docs/FORMATS.md and the order of tests in docs/REPLAY.md alone.  One thread goes through both texts
 //! at once: each event is judged against the whole machine as it is read, with a table by pid and a heap a processor,
-//! so that of the texts nothing is kept but a block of each.
+//! so that of the texts nothing is kept but a block of each, and the companion's `idle` lines.
 //!
 //!     rustc -O --edition 2021 -o plain bench/plain.rs && ./plain TRACE COMPANION [OPTIONS]
 //!
@@ -38,6 +38,10 @@ const WEIGHTS: [u32; 40] = [
     88761, 71755, 56483, 46273, 36291, 29154, 23254, 18705, 14949, 11916, 9548, 7620, 6100, 4904, 3906, 3121, 2501,
     1991, 1586, 1277, 1024, 820, 655, 526, 423, 335, 272, 215, 172, 137, 110, 87, 70, 56, 45, 36, 29, 23, 18, 15,
 ];
+/// The weight of nice 0, at which a nanosecond costs a virtual one.
+const USUAL_WEIGHT: u32 = 1024;
+/// The weight of a task of the idle policy, whatever its prio.
+const IDLE_POLICY_WEIGHT: u32 = 3;
 
 // ---------------------------------------------------------------------------------------------------------------------
 // Ends of the program.
@@ -924,6 +928,13 @@ enum Place {
 const NEVER: u64 = u64::MAX;
 const NO_CLAIM: Claim = Claim { line: NEVER, pid: 0, v: 0, sort: Sort::At };
 
+/// A task of the idle policy: of the start, on line 0, or born on a line of the trace.
+#[derive(Clone, Copy, PartialEq, Eq, PartialOrd, Ord)]
+struct IdleLine {
+    line: u64,
+    pid: u32,
+}
+
 /// What a line of a companion says.
 enum Said {
     Version(u32),
@@ -931,6 +942,7 @@ enum Said {
     Start(u64),
     Floor(i64),
     Task { pid: u32, prio: u32, cpu: u32, place: Place, v: i64 },
+    Idle(IdleLine),
     Claim(Claim),
 }
 
@@ -949,6 +961,7 @@ enum Due {
     Start,
     Floor(u64),
     Task,
+    Idle,
     Claim,
 }
 
@@ -966,6 +979,7 @@ struct Companion {
     /// The processors that a task was said to run at, a bit each.
     running: u64,
     last_pid: u32,
+    last_idle: Option<IdleLine>,
     /// The rank of the last claim, or change of a nice value.
     last_rank: u64,
     stop: Option<Stop>,
@@ -1003,6 +1017,7 @@ enum Shape {
     Start(u64, u64),
     Floor(u64, i128),
     Task(u64, i128, u64, Place, i128),
+    Idle(u64, u64),
     /// A line, a pid, and a virtual runtime or a nice value.
     Claim(Sort, u64, u64, i128),
 }
@@ -1035,6 +1050,7 @@ fn shape_of(line: &[u8], version: u32) -> Option<Shape> {
             };
             Shape::Task(pid, nice, cpu, place, integer(word()?)?)
         }
+        b"idle" if version == 2 => Shape::Idle(whole_number(word()?)?, whole_number(word()?)?),
         b"at" => Shape::Claim(Sort::At, whole_number(word()?)?, whole_number(word()?)?, integer(word()?)?),
         b"pass" => Shape::Claim(Sort::Pass, whole_number(word()?)?, whole_number(word()?)?, integer(word()?)?),
         b"nice" if version == 2 => {
@@ -1057,6 +1073,7 @@ impl Companion {
             cpus: 0,
             running: 0,
             last_pid: 0,
+            last_idle: None,
             last_rank: 0,
             stop: None,
         }
@@ -1153,14 +1170,19 @@ impl Companion {
                 Some(said)
             }
             Err(cause) => {
-                self.stop = Some(Stop::Refused { line: self.lines, cause });
-                if self.blocks.drain().is_err() {
-                    self.stop = Some(Stop::Unread);
-                }
-                self.place = 0;
+                self.refuse(cause);
                 None
             }
         }
+    }
+
+    /// The line that was read last isn't accepted, and no other is read.
+    fn refuse(&mut self, cause: &'static str) {
+        self.stop = Some(Stop::Refused { line: self.lines, cause });
+        if self.blocks.drain().is_err() {
+            self.stop = Some(Stop::Unread);
+        }
+        self.place = 0;
     }
 
     fn judged(&self, line: &[u8]) -> Result<Said, &'static str> {
@@ -1181,6 +1203,7 @@ impl Companion {
             Shape::Start(..) => self.due == Due::Start,
             Shape::Floor(..) => matches!(self.due, Due::Floor(_)),
             Shape::Task(..) => self.due == Due::Task,
+            Shape::Idle(..) => self.due == Due::Task || self.due == Due::Idle,
             Shape::Claim(..) => self.due >= Due::Task,
         };
         if !is_due {
@@ -1192,6 +1215,7 @@ impl Companion {
             (_, Said::Task { pid, .. }) if *pid < self.last_pid => Err("Order"),
             (_, Said::Task { pid, .. }) if *pid == self.last_pid => Err("TwiceNamed"),
             (_, Said::Task { cpu, place: Place::Run, .. }) if self.running >> cpu & 1 != 0 => Err("TwiceRunning"),
+            (_, Said::Idle(idle)) if Some(*idle) <= self.last_idle => Err("LineOrder"),
             (_, Said::Claim(claim)) if claim.rank() <= self.last_rank => Err("LineOrder"),
             _ => Ok(said),
         }
@@ -1209,6 +1233,7 @@ impl Companion {
                 place,
                 v: virtual_runtime(v)?,
             },
+            Shape::Idle(line, pid) if line <= MOST_LINE => Said::Idle(IdleLine { line, pid: pid_of(pid)? }),
             Shape::Claim(Sort::Nice, line, pid, nice) if (1..=MOST_LINE).contains(&line) => {
                 Said::Claim(Claim { line, pid: pid_of(pid)?, v: prio_of(nice)? as i64, sort: Sort::Nice })
             }
@@ -1240,6 +1265,10 @@ impl Companion {
                 if *place == Place::Run {
                     self.running |= 1 << cpu;
                 }
+            }
+            Said::Idle(idle) => {
+                self.due = Due::Idle;
+                self.last_idle = Some(*idle);
             }
             Said::Claim(claim) => {
                 self.due = Due::Claim;
@@ -1379,7 +1408,18 @@ struct Task {
     stamp: u32,
     cpu: u8,
     prio: u8,
+    idle_policy: bool,
     place: Place,
+}
+
+impl Task {
+    #[inline(always)]
+    fn weight(&self) -> u32 {
+        if self.idle_policy {
+            return IDLE_POLICY_WEIGHT;
+        }
+        WEIGHTS[self.prio as usize - FIRST_PRIO as usize]
+    }
 }
 
 /// A waiting task in the heap of its processor.
@@ -1486,6 +1526,8 @@ struct Machine {
     deadline: u64,
     /// The change of a nice value on the next event's line.
     change: Option<Claim>,
+    /// Whether the next event's task is born with the idle policy.
+    born_idle: bool,
     counts: Counts,
 }
 
@@ -1505,13 +1547,12 @@ fn wrong<T>(cpu: usize, pid: u32, kind: Kind) -> Result<T, Fault> {
     Err(Fault { cpu: cpu as u32, pid, kind })
 }
 
-/// What so many nanoseconds cost at a prio, in virtual nanoseconds; `u64::MAX` where that is above 64 bits.
+/// What so many nanoseconds cost at a weight, in virtual nanoseconds; `u64::MAX` where that is above 64 bits.
 #[inline(always)]
-fn cost(nanoseconds: u64, prio: u8) -> u64 {
-    if prio == 120 {
+fn cost(nanoseconds: u64, weight: u32) -> u64 {
+    if weight == USUAL_WEIGHT {
         return nanoseconds;
     }
-    let weight = WEIGHTS[prio as usize - FIRST_PRIO as usize];
     if nanoseconds < 1 << 54 {
         return nanoseconds * 1024 / weight as u64;
     }
@@ -1528,6 +1569,7 @@ impl Machine {
             idle: 0,
             deadline: u64::MAX,
             change: None,
+            born_idle: false,
             counts: Counts::default(),
         }
     }
@@ -1555,6 +1597,7 @@ impl Machine {
             stamp: 0,
             cpu: cpu as u8,
             prio: prio as u8,
+            idle_policy: false,
             place,
         });
         let processor = &mut self.processors[cpu as usize];
@@ -1566,6 +1609,13 @@ impl Machine {
             }
             Place::Rest | Place::Gone => {}
         }
+    }
+
+    /// A task of the start is of the idle policy; None where there is no such task.
+    fn begin_idle(&mut self, pid: u32) -> Option<()> {
+        let slot = self.slots[pid as usize].wrapping_sub(1);
+        self.tasks.get_mut(slot as usize)?.idle_policy = true;
+        Some(())
     }
 
     /// Marks the processors that idle from the start on.
@@ -1623,7 +1673,7 @@ impl Machine {
         processor.mark = time;
         let mut least = processor.least();
         if let Some(task) = self.tasks.get_mut(processor.running as usize) {
-            let cost = cost(nanoseconds, task.prio);
+            let cost = cost(nanoseconds, task.weight());
             if cost > MOST_VIRTUAL as u64 || cost > MOST_VIRTUAL.wrapping_sub(task.v) as u64 {
                 return wrong(cpu, task.pid, Kind::Range);
             }
@@ -1883,6 +1933,7 @@ impl Machine {
                 self.add_task(pid, prio, cpu as u32, Place::Gone, claim.v);
             }
         }
+        self.tasks[slot as usize].idle_policy = std::mem::take(&mut self.born_idle);
         self.enqueue(slot, cpu, claim.v);
         self.note_idling(cpu, time);
         self.counts.births += 1;
@@ -1958,6 +2009,10 @@ struct Audit {
     machine: Machine,
     /// The claim or change that comes next, or `NO_CLAIM`.
     claim: Claim,
+    /// The `idle` lines of births that are still to come, the last first.
+    idles: Vec<IdleLine>,
+    /// The line of the next of them, or `NEVER`.
+    next_idle: u64,
     start: u64,
     /// Whether events are still judged: until something is wrong that no later event can mend.
     judging: bool,
@@ -1973,13 +2028,19 @@ impl Audit {
     fn new(companion: File, settings: Settings) -> Audit {
         let mut companion = Companion::new(companion);
         let mut machine = Machine::new(settings);
-        let (mut start, mut claim) = (0, NO_CLAIM);
+        let (mut start, mut idles, mut claim) = (0, Vec::new(), NO_CLAIM);
         while let Some(said) = companion.next() {
             match said {
                 Said::Version(_) | Said::Cpus(_) => {}
                 Said::Start(time) => start = time,
                 Said::Floor(floor) => machine.add_processor(start, floor),
                 Said::Task { pid, prio, cpu, place, v } => machine.add_task(pid, prio, cpu, place, v),
+                Said::Idle(IdleLine { line: 0, pid }) => {
+                    if machine.begin_idle(pid).is_none() {
+                        companion.refuse("NoTask");
+                    }
+                }
+                Said::Idle(idle) => idles.push(idle),
                 Said::Claim(first) => {
                     claim = first;
                     break;
@@ -1987,14 +2048,32 @@ impl Audit {
             }
         }
         machine.begin(start);
+        idles.reverse();
         let (judging, cpus) = (companion.stop.is_none(), machine.processors.len() as u32);
-        Audit { companion, machine, claim, start, judging, cpus, outside: None, late: None, stray: None, fault: None }
+        let next_idle = idles.last().map_or(NEVER, |idle| idle.line);
+        Audit {
+            companion,
+            machine,
+            claim,
+            idles,
+            next_idle,
+            start,
+            judging,
+            cpus,
+            outside: None,
+            late: None,
+            stray: None,
+            fault: None,
+        }
     }
 
     /// One more event of the trace.
     #[inline(always)]
     fn event(&mut self, line: u64, event: Event) {
         let claim = if self.claim.line <= line { self.claim_on(line) } else { None };
+        if self.next_idle <= line {
+            self.idle_on(line, event.act);
+        }
         let greatest = match event.act {
             Act::Switch { cpu, .. } | Act::Wake { cpu, .. } | Act::Born { cpu, .. } => cpu,
             Act::Shift { orig, dest, .. } => orig.max(dest),
@@ -2046,15 +2125,35 @@ impl Audit {
         Some(claim)
     }
 
+    /// The `idle` lines up to the line of an event: one is for it, if it is the birth of that task.
+    #[cold]
+    #[inline(never)]
+    fn idle_on(&mut self, line: u64, act: Act) {
+        while self.next_idle <= line {
+            let Some(idle) = self.idles.pop() else { unreachable!("one is left") };
+            self.next_idle = self.idles.last().map_or(NEVER, |next| next.line);
+            if idle.line == line && matches!(act, Act::Born { pid, .. } if pid == idle.pid) {
+                self.machine.born_idle = true;
+            } else {
+                self.stray_at(idle.line);
+            }
+        }
+    }
+
+    /// Something that the companion says of a line isn't about the event there; the least such line counts.
+    fn stray_at(&mut self, line: u64) {
+        self.stray = Some(self.stray.map_or(line, |least| least.min(line)));
+        self.judging = false;
+    }
+
     /// Claims and changes before the line of an event are on that of none.
     #[cold]
     #[inline(never)]
     fn pass_over(&mut self, line: u64) {
         while self.claim.line < line {
-            self.stray.get_or_insert(self.claim.line);
+            self.stray_at(self.claim.line);
             self.claim = self.companion.next_claim();
         }
-        self.judging = false;
     }
 
     /// Goes through the trace.
@@ -2118,6 +2217,9 @@ impl Audit {
     /// After the whole trace.
     fn verdict(mut self) -> Result<Verdict, Failure> {
         self.pass_over(NEVER);
+        if let Some(idle) = self.idles.last() {
+            self.stray_at(idle.line);
+        }
         let join = |line, cause| Ok(Verdict::Refused { source: "join", line, cause });
         match self.companion.stop {
             Some(Stop::Unread) => return Err(Failure::ReadCompanion),

@@ -9,6 +9,9 @@ NUMBER = re.compile(rb"\d+")
 TIME = re.compile(rb"(\d+)\.(\d{9}|\d{6})(?=: )")
 CLAIM = re.compile(rb"(at|pass|nice) (\d{1,10}) (\d+) (-?\d+)$")
 NICE = re.compile(rb"^nice (\d{1,10}) (\d+) (-?\d+)$")
+IDLE = re.compile(rb"^idle (\d{1,10}) (\d+)$")
+TASK = re.compile(rb"^task (\d+)(.*)$")
+BIRTH = re.compile(rb"sched_wakeup_new: .* pid=(\d+) prio=")
 VERSION = re.compile(rb"^cfs-companion ")
 PID = re.compile(rb"(?<= pid=)\d+|(?<=_pid=)\d+")
 
@@ -21,18 +24,18 @@ STATES = (b"R", b"R+", b"S", b"D", b"X", b"Z", b"x", b"I", b"t", b"RX", b"S|K", 
 EVENTS = (b"sched_switch", b"sched_wakeup", b"sched_wakeup_new", b"sched_migrate_task", b"sched_waking", b"sched_switch:")
 STARTS = (0, 1, 2, 3, -1, -20, -21, 19, 20, 100, 10**6, 2**62)
 PLACES = (b"run", b"wait", b"rest", b"gone")
-SORTS = (b"at", b"pass", b"nice", b"task", b"floor")
+SORTS = (b"at", b"pass", b"nice", b"idle", b"task", b"floor")
 NICES = (-21, -20, -5, -1, 0, 0, 1, 5, 19, 20)
 VERSIONS = (b"1", b"2", b"2", b"3", b"02", b"2 ", b"")
 KEYS = (b"pid=", b"prio=", b"success=1", b"")
 WORDS = ((re.compile(rb"(?<=prev_state=)[^ ]*"), STATES), (re.compile(rb"sched_[a-z_]+"), EVENTS),
          (re.compile(rb"[a-z_]+="), KEYS), (re.compile(rb"\b(run|wait|rest)\b"), PLACES),
-         (re.compile(rb"^(at|pass|nice)\b"), SORTS))
+         (re.compile(rb"^(at|pass|nice|idle)\b"), SORTS))
 NAMES = (b"", b"a" * 15, b"a" * 16, b" next_pid=1", b" pid=1", b" prev_pid=0 prev", b"\xff" * 15, b" ==> next_comm=",
          b"x prio=120")
 STRANGE = (b"", b"#", b"# tracer: nop", b"CPU:0 [LOST 12 EVENTS]", b"CPU:3 [LOST EVENTS]", b"CPU: [LOST EVENTS]",
-           b"cgroup", b"cgroup /a", b"cfs-companion 1", b"cfs-companion 2", b"nice 1 101 0", b"hello", b" ", b"\r",
-           b"\0" * 20,
+           b"cgroup", b"cgroup /a", b"cfs-companion 1", b"cfs-companion 2", b"nice 1 101 0", b"idle 0 101", b"hello",
+           b" ", b"\r", b"\0" * 20,
            b"            t101-101     [000] d..2.   100.004000: sched_stat_runtime: comm=t101 pid=101 runtime=1 [ns]")
 
 
@@ -54,11 +57,18 @@ class Draft:
         """Which lines of the companion are claims or changes of nice values, and what they say."""
         return [(place, found) for place, found in enumerate(map(CLAIM.match, self.companion)) if found]
 
+    def idles(self):
+        """Which lines of the companion name a task of the idle policy, and what they say."""
+        return [(place, found) for place, found in enumerate(map(IDLE.match, self.companion)) if found]
+
     def renumber(self, line, by):
-        """The claims from a line of the trace on go with their events, by so many lines."""
+        """What the companion says of the lines of the trace from one on goes with their events, by so many lines."""
         for place, claim in self.claims():
             if int(claim.group(2)) >= line:
                 self.companion[place] = b"%s %d %s %s" % (claim.group(1), int(claim.group(2)) + by, *claim.group(3, 4))
+        for place, idle in self.idles():
+            if int(idle.group(1)) >= line:
+                self.companion[place] = b"idle %d %s" % (int(idle.group(1)) + by, idle.group(2))
 
     def prefers(self, lines, place):
         """Whether a line of one of the texts is the one that edits prefer, or its claim."""
@@ -73,9 +83,11 @@ class Draft:
         if place is not None:
             self.companion[place] = b"cfs-companion " + version
 
-    def drop_claim(self, line):
-        self.companion = [text for text in self.companion
-                          if not (CLAIM.match(text) and int(CLAIM.match(text).group(2)) == line)]
+    def drop(self, goes):
+        """Drops what the companion says of lines of the trace that go."""
+        places = {place for place, claim in self.claims() if goes(int(claim.group(2)))}
+        places |= {place for place, idle in self.idles() if goes(int(idle.group(1)))}
+        self.companion = [text for place, text in enumerate(self.companion) if place not in places]
 
 
 def put(text, span, new):
@@ -154,7 +166,7 @@ def line_dropped(rng, draft):
     at = place_in(rng, lines)
     del lines[at]
     if lines is draft.trace and rng.random() < 0.8:
-        draft.drop_claim(at + 1)
+        draft.drop(lambda line: line == at + 1)
         draft.renumber(at + 1, -1)
     lines[:] = lines or [b""]
 
@@ -173,11 +185,10 @@ def lines_swapped(rng, draft):
 
 
 def trace_ended(rng, draft):
-    """The first events alone, with their claims: a run's beginning is a run."""
+    """The first events alone, with what the companion says of them: a run's beginning is a run."""
     at = rng.randrange(len(draft.trace))
     draft.trace[at:] = [b""]
-    claims = {place for place, claim in draft.claims() if int(claim.group(2)) > at}
-    draft.companion = [line for place, line in enumerate(draft.companion) if place not in claims]
+    draft.drop(lambda line: line > at)
 
 
 def carriage_returns(rng, draft):
@@ -338,6 +349,40 @@ def nice_changed(rng, draft):
     draft.companion[place] = b" ".join([b"nice", *words])
 
 
+def idle_added(rng, draft):
+    """One more task of the idle policy: of the start, or born on a line; now and then one that isn't, or out of order."""
+    births = [(place + 1, found.group(1)) for place, found in enumerate(map(BIRTH.search, draft.trace)) if found]
+    tasks = [(0, found.group(1)) for found in map(TASK.match, draft.companion) if found]
+    line, pid = rng.choice(births + tasks or [(0, b"101")])
+    what = rng.random()
+    if what < 0.15:
+        pid = rng.choice(PID.findall(rng.choice(draft.trace)) or [b"101"])
+    elif what < 0.3:
+        line = rng.choice((0, 1, line + 1, line - 1 if line else 0))
+    behind = [place for place, idle in draft.idles() if (int(idle.group(1)), int(idle.group(2))) > (line, int(pid))]
+    behind += [place for place, _ in draft.claims()] + [max(len(draft.companion) - 1, 0)]
+    draft.companion.insert(behind[0] if rng.random() < 0.95 else place_in(rng, draft.companion), b"idle %d %s" % (line, pid))
+    if rng.random() < 0.9:
+        draft.call_it(b"2")
+
+
+def idle_changed(rng, draft):
+    """A name of a task of the idle policy that is for the line before or behind it, or for another task; or gone."""
+    found = a_line_with(rng, draft, draft.companion, IDLE)
+    if not found:
+        return
+    place, idle = found
+    words, at = list(idle.groups()), rng.randrange(3)
+    if at == 2:
+        del draft.companion[place]
+        return
+    if at == 1 and rng.random() < 0.5:
+        words[1] = rng.choice(PID.findall(rng.choice(draft.trace)) or [b"101"])
+    else:
+        words[at] = b"%d" % max(int(words[at]) + rng.choice((-1, 1)), 0)
+    draft.companion[place] = b" ".join([b"idle", *words])
+
+
 def version_changed(rng, draft):
     """A companion of the other version, or of one that there isn't."""
     draft.call_it(rng.choice(VERSIONS))
@@ -352,7 +397,7 @@ def idle_switched(rng, draft):
 
 def task_named_again(rng, draft):
     """A task of the start twice, or a second one that runs where it does."""
-    found = a_line_with(rng, draft, draft.companion, re.compile(rb"^task (\d+)(.*)$"))
+    found = a_line_with(rng, draft, draft.companion, TASK)
     if found:
         place, task = found
         draft.companion.insert(place + 1, b"task %d%s" % (int(task.group(1)) + rng.randrange(2), task.group(2)))
@@ -389,7 +434,7 @@ EDITS = {
     number_changed: 3, zeros_in_front: 1, number_from_elsewhere: 3, pid_changed: 4, time_turned: 1, later: 2,
     nanoseconds: 1,
     word_changed: 2, name_changed: 1, birth_for_a_wakeup: 1.5, claim_changed: 4, nice_added: 2, nice_changed: 2,
-    version_changed: 0.4, idle_switched: 1, task_named_again: 0.5,
+    idle_added: 2, idle_changed: 2, version_changed: 0.4, idle_switched: 1, task_named_again: 0.5,
     start_changed: 2, option_changed: 2.5,
 }
 

@@ -1,18 +1,20 @@
 """Random runs of the scheduler: a machine is led by the rules of docs/RULES.md, one event after another, and each event
-is written as a line of a trace, with its claim in a companion; a companion of version 2 tells changes of nice values too.
-So what the report has to say of the run is known."""
+is written as a line of a trace, with its claim in a companion; a companion of version 2 tells changes of nice values too,
+and which tasks are of the idle policy.  So what the report has to say of the run is known."""
 
 from typing import NamedTuple
 
 # The weights of nice -20 to 19.
 WEIGHTS = (88761, 71755, 56483, 46273, 36291, 29154, 23254, 18705, 14949, 11916, 9548, 7620, 6100, 4904, 3906, 3121, 2501,
            1991, 1586, 1277, 1024, 820, 655, 526, 423, 335, 272, 215, 172, 137, 110, 87, 70, 56, 45, 36, 29, 23, 18, 15)
+# The weight of a task of the idle policy, whatever its nice value.
+IDLE_WEIGHT = 3
 MOST_PID = 4_194_304
 MOST_SETTING = 10**12
 MOST_VIRTUAL = 2**62
 LAST_TIME = 2**32 * 10**9 - 1
 # No floor rises by more than this within a recording.
-MARGIN = 10**17
+MARGIN = 10**18
 OPTIONS = ("--granularity-ns", "--credit-ns", "--debit-ns", "--slack-ns")
 STANDARD = (1_000_000, 3_000_000, 3_000_000, 100_000)
 
@@ -37,13 +39,17 @@ class Input(NamedTuple):
 class Task:
     """A task, where it stands, and what it did; the place of one that has ended is None."""
 
-    def __init__(self, pid, nice, cpu, place, virtual):
-        self.pid, self.nice, self.cpu, self.place, self.virtual = pid, nice, cpu, place, virtual
+    def __init__(self, pid, nice, cpu, place, virtual, idle):
+        self.pid, self.nice, self.cpu, self.place, self.virtual, self.idle = pid, nice, cpu, place, virtual, idle
         self.ran = self.charged = self.picks = 0
 
     @property
     def prio(self):
         return 120 + self.nice
+
+    @property
+    def weight(self):
+        return IDLE_WEIGHT if self.idle else WEIGHTS[self.nice + 20]
 
 
 class Processor:
@@ -63,6 +69,7 @@ class Machine:
         self.granularity, self.credit, self.debit, self.slack = self.settings
         self.version = rng.choice((1, 2))
         self.changing = rng.choice((0, 0.05, 0.4)) if self.version == 2 else 0
+        self.idling = rng.choice((0, 0.1, 0.5)) if self.version == 2 else 0
         self.unit = rng.choice((1, 1000))
         seconds = rng.choice((0, 100, 1403, 2**32 - 10**8, 2**32 - 1))
         self.start = self.time = seconds * 10**9 + rng.randrange(10**6) * 1000
@@ -70,7 +77,7 @@ class Machine:
         base = rng.choice((0, 0, 0, 10**9, -10**9, 2**40, -2**61, -MOST_VIRTUAL, MOST_VIRTUAL - self.spread + 1))
         count = rng.choice((1, 1, 1, 2, 2, 3, 4, rng.randrange(5, 17), 64))
         self.processors = [Processor(number, base + rng.randrange(self.spread), self.start) for number in range(count)]
-        self.tasks, self.claims, self.lines, self.changed = {}, [], [], None
+        self.tasks, self.idles, self.claims, self.lines, self.changed = {}, [], [], [], None
         self.counts = dict.fromkeys((b"events", b"switches", b"migrations", b"births", b"deaths"), 0)
         self.settle(base)
         self.beginning = list(self.companion())
@@ -87,12 +94,22 @@ class Machine:
             place = b"wait" if place == b"run" and cpu in running else place
             if place == b"run":
                 running.add(cpu)
-            self.tasks[pid] = Task(pid, self.nice(), cpu, place, base + rng.randrange(self.spread))
+            self.tasks[pid] = Task(pid, self.nice(), cpu, place, base + rng.randrange(self.spread), self.idle())
+            self.names_idle(0, self.tasks[pid])
         for processor in self.processors:
             self.note_idling(processor)
 
     def nice(self):
         return self.rng.choice((0, 0, 0, 5, -5, 19, -20, self.rng.randrange(-20, 20)))
+
+    def idle(self):
+        """Whether a task is of the idle policy."""
+        return self.rng.random() < self.idling
+
+    def names_idle(self, line, task):
+        """The companion names a task of the idle policy: of the start, or born on a line."""
+        if task.idle:
+            self.idles.append(b"idle %d %d" % (line, task.pid))
 
     def companion(self):
         yield b"cfs-companion %d" % self.version
@@ -120,7 +137,7 @@ class Machine:
     def cost(self, processor):
         """What whoever runs is to be charged up to now."""
         running = self.running(processor)
-        return (self.time - processor.mark) * 1024 // WEIGHTS[running.nice + 20] if running else 0
+        return (self.time - processor.mark) * 1024 // running.weight if running else 0
 
     def charge(self, *processors):
         """Who runs is charged up to now, and the floors follow the least of the queues; False where the range forbids
@@ -255,10 +272,11 @@ class Machine:
         if (task and task.place) or not self.charge(processor):
             return False
         self.changes(processor)
-        task = self.tasks.setdefault(pid, Task(pid, 0, 0, None, 0))
-        task.nice, task.cpu = self.nice(), processor.number
+        task = self.tasks.setdefault(pid, Task(pid, 0, 0, None, 0, False))
+        task.nice, task.idle, task.cpu = self.nice(), self.idle(), processor.number
         self.counts[b"births"] += 1
         self.placed(task, processor.floor, min(processor.floor + self.debit, MOST_VIRTUAL), b"sched_wakeup_new")
+        self.names_idle(len(self.lines), task)
         return True
 
     def migration(self):
@@ -306,6 +324,6 @@ def recording(rng):
         machine.go_on()
     options = () if machine.settings == STANDARD else tuple(
         word for option, value in zip(OPTIONS, machine.settings) for word in (option, str(value)))
-    companion = machine.beginning + machine.claims
+    companion = machine.beginning + machine.idles + machine.claims
     return Input(b"".join(line + b"\n" for line in machine.lines), b"".join(line + b"\n" for line in companion), options,
                  b"".join(machine.report()))

@@ -1,7 +1,7 @@
 use cfs_model::{
     Kind, Knobs, Memory, Nice, PrioFault, birth_example, charge, floors_rise, idle_example,
     marks_move, migration_example, one_list, pick_example, places, prefixes, put_back_example,
-    wake_example, weight,
+    wake_example, weight, weight_of,
 };
 use replay_model::{
     closing, composition, endings, faults_end_runs, first_faults, migrations, pages, part_steps,
@@ -18,6 +18,9 @@ fn charges_are_rounded_down_and_end_at_the_greatest(rt: HostRuntime) {
         (67_553_994_410_557_440, 15, Some(4_611_686_018_427_387_904)),
         (67_553_994_410_557_441, 15, None),
         (4_000_000, 335, Some(12_226_865)),
+        (4_000_000, 3, Some(1_365_333_333)),
+        (13_510_798_882_111_488, 3, Some(4_611_686_018_427_387_904)),
+        (13_510_798_882_111_489, 3, None),
     ] {
         if weight > 0 {
             assert_eq!(rt;
@@ -39,6 +42,19 @@ fn weights_by_nice(rt: HostRuntime) -> Result<(), Fail> {
         );
     }
     assert_eq!(rt; (Nice::new(-21), Nice::new(20)), (None, None));
+    Ok(())
+}
+
+#[test]
+fn tasks_of_the_idle_policy_weigh_3_whatever_their_nice_value(rt: HostRuntime) -> Result<(), Fail> {
+    for (nice, fair) in [(-20, 88_761), (0, 1_024), (19, 15)] {
+        let value = Nice::new(nice).ok_or("a nice value")?;
+        assert_eq!(rt;
+            (weight_of(value, true), weight_of(value, false)),
+            (3, fair),
+            "nice {nice}"
+        );
+    }
     Ok(())
 }
 

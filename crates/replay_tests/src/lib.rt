@@ -5,6 +5,8 @@
 #[cfg(test)]
 mod definitions;
 #[cfg(test)]
+mod idle_policy;
+#[cfg(test)]
 mod nice_changes;
 #[cfg(test)]
 mod recordings;

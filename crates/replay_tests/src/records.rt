@@ -242,6 +242,7 @@ fn a_migration_comes_to_its_destination_with_the_claim(rt: HostRuntime) -> Resul
         pid: 101,
         nice: Nice::new(0).ok_or("0 is a nice value")?,
         orig: 0,
+        idle: false,
     };
     let claim = Claim {
         line: 1,

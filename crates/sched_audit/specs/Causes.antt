@@ -18,7 +18,7 @@ use Rattle.sched_record.specs.declared.cause.TraceCause.TheVariants as traces
 use Rattle.sched_record.specs.declared.joining.JoinCause.{JoinCause}
 use Rattle.sched_record.specs.declared.joining.JoinCause.TheVariants as joins
 use Rattle.sched_audit.specs.declared.cause.Cause.{Cause}
-use Rattle.sched_audit.specs.declared.cause.Cause.TheVariants.{BadHead, NumberRange, LostEvents, BadFields, RealTime, PrioRange, IdleNamed, TimeBack, TooManyLines, Version, Group, BadLine, Order, TwiceNamed, TwiceRunning, LineOrder, Short, CpuOutside, StartLate, ClaimNoEvent}
+use Rattle.sched_audit.specs.declared.cause.Cause.TheVariants.{BadHead, NumberRange, LostEvents, BadFields, RealTime, PrioRange, IdleNamed, TimeBack, TooManyLines, Version, Group, BadLine, Order, TwiceNamed, TwiceRunning, LineOrder, NoTask, Short, CpuOutside, StartLate, ClaimNoEvent}
 
 -- of a line of the trace
 abbrev pub line_cause : LineFault → Cause
@@ -51,6 +51,7 @@ companion_cause companions.NumberRange = NumberRange
 companion_cause companions.TwiceNamed = TwiceNamed
 companion_cause companions.TwiceRunning = TwiceRunning
 companion_cause companions.LineOrder = LineOrder
+companion_cause companions.NoTask = NoTask
 companion_cause companions.Short = Short
 
 -- of joining

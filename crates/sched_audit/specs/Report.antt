@@ -4,7 +4,7 @@ use Rattle.std.specs.List.{concat}
 use Rattle.sched_audit.specs.declared.source.Source.{Source}
 use Rattle.sched_audit.specs.declared.source.Source.TheVariants.{Trace, Companion, Join}
 use Rattle.sched_audit.specs.declared.cause.Cause.{Cause}
-use Rattle.sched_audit.specs.declared.cause.Cause.TheVariants.{BadHead, NumberRange, LostEvents, BadFields, RealTime, PrioRange, IdleNamed, TimeBack, TooManyLines, Version, Group, BadLine, Order, TwiceNamed, TwiceRunning, LineOrder, Short, CpuOutside, StartLate, ClaimNoEvent}
+use Rattle.sched_audit.specs.declared.cause.Cause.TheVariants.{BadHead, NumberRange, LostEvents, BadFields, RealTime, PrioRange, IdleNamed, TimeBack, TooManyLines, Version, Group, BadLine, Order, TwiceNamed, TwiceRunning, LineOrder, NoTask, Short, CpuOutside, StartLate, ClaimNoEvent}
 use Rattle.sched_audit.specs.declared.outcome.Outcome.{Outcome}
 use Rattle.sched_audit.specs.declared.outcome.Outcome.TheVariants.{Judged, Text}
 use Rattle.cfs_model.specs.Kinds.{name_of, text_of}
@@ -37,6 +37,7 @@ cause_word Order = codes "Order"
 cause_word TwiceNamed = codes "TwiceNamed"
 cause_word TwiceRunning = codes "TwiceRunning"
 cause_word LineOrder = codes "LineOrder"
+cause_word NoTask = codes "NoTask"
 cause_word Short = codes "Short"
 cause_word CpuOutside = codes "CpuOutside"
 cause_word StartLate = codes "StartLate"

@@ -16,7 +16,8 @@ use Rattle.sched_audit.specs.declared.refused.Refused.TheVariants as refusals
 use Rattle.sched_audit.specs.declared.source.Source.{Source}
 use Rattle.sched_audit.specs.declared.source.Source.TheVariants.{Trace, Companion, Join}
 
--- both texts can be read, and these are the trace's events and the companion's start, claims and changes of nice values
+-- both texts can be read, and these are the trace's events and the companion's start, policies, claims and changes of nice
+-- values
 pub record AreBothRead (trace companion : List ℕ) (events : List Entry) (start : CompanionView) : Type 0 where
   pub trace_means : TraceAnswer trace (Ok events)
   pub companion_means : CompanionAnswer companion (Ok start)

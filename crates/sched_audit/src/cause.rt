@@ -26,6 +26,7 @@ pub enum Cause {
     TwiceNamed,
     TwiceRunning,
     LineOrder,
+    NoTask,
     Short,
     CpuOutside,
     StartLate,
@@ -73,6 +74,7 @@ impl Cause {
             CompanionCause::TwiceNamed => Cause::TwiceNamed,
             CompanionCause::TwiceRunning => Cause::TwiceRunning,
             CompanionCause::LineOrder => Cause::LineOrder,
+            CompanionCause::NoTask => Cause::NoTask,
             CompanionCause::Short => Cause::Short,
         }
     }
@@ -94,7 +96,7 @@ impl Cause {
     {
         word_of!(self;
             BadHead NumberRange LostEvents BadFields RealTime PrioRange IdleNamed TimeBack TooManyLines
-            Version Group BadLine Order TwiceNamed TwiceRunning LineOrder Short
+            Version Group BadLine Order TwiceNamed TwiceRunning LineOrder NoTask Short
             CpuOutside StartLate ClaimNoEvent
         )
     }

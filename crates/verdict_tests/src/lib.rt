@@ -8,6 +8,8 @@ mod calls;
 #[cfg(test)]
 mod crews;
 #[cfg(test)]
+mod idle_policy;
+#[cfg(test)]
 mod machines;
 #[cfg(test)]
 mod meetings;

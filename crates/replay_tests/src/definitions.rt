@@ -97,67 +97,74 @@ fn settings_end_at_a_thousand_seconds(rt: HostRuntime) {
     );
 }
 
+static WORDS: [(Kind, &str); 20] = [
+    (Kind::IdleTooLong, "IdleTooLong: idle beside a waiting task"),
+    (Kind::Range, "Range: virtual runtime out of range"),
+    (Kind::MoveHome, "MoveHome: migration to its own processor"),
+    (Kind::SelfSwitch, "SelfSwitch: switch to the same task"),
+    (
+        Kind::PrevNotRunning,
+        "PrevNotRunning: previous task is not the running one",
+    ),
+    (
+        Kind::Strange,
+        "Strange: task does not stand at this processor",
+    ),
+    (
+        Kind::Already,
+        "Already: task stands at this processor already",
+    ),
+    (Kind::MoveRunning, "MoveRunning: running task migrated"),
+    (
+        Kind::WrongPrio,
+        "WrongPrio: printed prio is not the task's own",
+    ),
+    (Kind::ClaimMissing, "ClaimMissing: claim is missing"),
+    (
+        Kind::ClaimExtra,
+        "ClaimExtra: claim on an event that needs none",
+    ),
+    (Kind::ClaimPid, "ClaimPid: claim names another task"),
+    (
+        Kind::WrongPutBack,
+        "WrongPutBack: put back at another value",
+    ),
+    (
+        Kind::WakeBounds,
+        "WakeBounds: placed outside the wake bounds",
+    ),
+    (
+        Kind::ForkBounds,
+        "ForkBounds: placed outside the fork bounds",
+    ),
+    (
+        Kind::NextNotWaiting,
+        "NextNotWaiting: next task is not waiting here",
+    ),
+    (
+        Kind::IdleBesideWaiting,
+        "IdleBesideWaiting: switch to idle beside a waiting task",
+    ),
+    (
+        Kind::NotLeast,
+        "NotLeast: next task is beyond the granularity",
+    ),
+    (
+        Kind::TicketUnequal,
+        "TicketUnequal: migration values do not agree",
+    ),
+    (Kind::BornTwice, "BornTwice: task born twice"),
+];
+
+/// What each kind prints.
+fn printed_words() -> &'static [(Kind, &'static str)] {
+    &WORDS
+}
+
 #[test]
 fn kinds_print_their_name_and_text(rt: HostRuntime) -> Result<(), Fail> {
-    for (kind, words) in [
-        (Kind::IdleTooLong, "IdleTooLong: idle beside a waiting task"),
-        (Kind::Range, "Range: virtual runtime out of range"),
-        (Kind::MoveHome, "MoveHome: migration to its own processor"),
-        (Kind::SelfSwitch, "SelfSwitch: switch to the same task"),
-        (
-            Kind::PrevNotRunning,
-            "PrevNotRunning: previous task is not the running one",
-        ),
-        (
-            Kind::Strange,
-            "Strange: task does not stand at this processor",
-        ),
-        (
-            Kind::Already,
-            "Already: task stands at this processor already",
-        ),
-        (Kind::MoveRunning, "MoveRunning: running task migrated"),
-        (
-            Kind::WrongPrio,
-            "WrongPrio: printed prio is not the task's own",
-        ),
-        (Kind::ClaimMissing, "ClaimMissing: claim is missing"),
-        (
-            Kind::ClaimExtra,
-            "ClaimExtra: claim on an event that needs none",
-        ),
-        (Kind::ClaimPid, "ClaimPid: claim names another task"),
-        (
-            Kind::WrongPutBack,
-            "WrongPutBack: put back at another value",
-        ),
-        (
-            Kind::WakeBounds,
-            "WakeBounds: placed outside the wake bounds",
-        ),
-        (
-            Kind::ForkBounds,
-            "ForkBounds: placed outside the fork bounds",
-        ),
-        (
-            Kind::NextNotWaiting,
-            "NextNotWaiting: next task is not waiting here",
-        ),
-        (
-            Kind::IdleBesideWaiting,
-            "IdleBesideWaiting: switch to idle beside a waiting task",
-        ),
-        (
-            Kind::NotLeast,
-            "NotLeast: next task is beyond the granularity",
-        ),
-        (
-            Kind::TicketUnequal,
-            "TicketUnequal: migration values do not agree",
-        ),
-        (Kind::BornTwice, "BornTwice: task born twice"),
-    ] {
-        assert_eq!(rt; kind.to_string(rt.alloc())?.as_str(), words);
+    for (kind, words) in printed_words() {
+        assert_eq!(rt; kind.to_string(rt.alloc())?.as_str(), *words);
     }
     Ok(())
 }

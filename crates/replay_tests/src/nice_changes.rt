@@ -1,9 +1,10 @@
 //! Recordings in which a nice value changes, each with the first fault of processor 0.
 
+use crate::calls::{only, page_after, replay_at};
 use crate::recordings::Recording;
-use crate::replays::{page_of, stream_at};
+use crate::replays::{fault_of, page_of};
 use cfs_model::{Kind, Knobs, Nice, Place};
-use queue_replay::{Page, Replay};
+use queue_replay::Page;
 use replay_model::{StepFault, Tally, Ticket};
 use std::alloc::Global;
 use std::test::Fail;
@@ -150,22 +151,12 @@ fn changes() -> &'static [Recording] {
     &CHANGES
 }
 
-/// The page of a recording of the table.
-fn changed_page(alloc: Global, place: usize) -> Result<Page, Fail> {
-    page_of(
-        alloc,
-        changes().get(place).ok_or("a place in the table")?,
-        1,
-    )
-}
-
 #[test]
 fn a_change_of_a_nice_value_takes_effect_after_the_charge(rt: HostRuntime) -> Result<(), Fail> {
     for row in changes() {
         for steps in [1, 2, 1000] {
-            let page = page_of(rt.alloc(), row, steps)?;
             assert_eq!(rt;
-                page.fault(),
+                fault_of(rt.alloc(), row, steps)?,
                 row.fault,
                 "{}, {steps} steps a call",
                 row.name
@@ -173,6 +164,21 @@ fn a_change_of_a_nice_value_takes_effect_after_the_charge(rt: HostRuntime) -> Re
         }
     }
     Ok(())
+}
+
+/// The tallies of a page that has two.
+fn two_tallies(page: &Page) -> Option<(Tally, Tally)> {
+    match page.tallies() {
+        [first, second] => Some((*first, *second)),
+        _ => None,
+    }
+}
+
+/// The same of the page of a recording of the table.
+fn tallies_of(alloc: Global, place: usize) -> Result<Option<(Tally, Tally)>, Fail> {
+    let row = changes().get(place).ok_or("a place in the table")?;
+    let page = page_of(alloc, row, 1)?;
+    Ok(two_tallies(&page))
 }
 
 /// The tally of a task.
@@ -211,10 +217,9 @@ fn stretches_before_a_change_are_tallied_by_the_old_weight(rt: HostRuntime) -> R
         ),
         (UNKNOWN, tally(101, 0, 0, 0), tally(102, 0, 0, 0)),
     ] {
-        let page = changed_page(rt.alloc(), place)?;
         assert_eq!(rt;
-            page.tallies(),
-            [first, second].as_slice(),
+            tallies_of(rt.alloc(), place)?,
+            Some((first, second)),
             "recording {place}"
         );
     }
@@ -233,35 +238,43 @@ const CHANGED_AT_THE_DESTINATION: &[u8] =
 
 /// The page of the migration at a processor.
 fn moved_page(alloc: Global, companion: &[u8], cpu: u32) -> Result<Page, Fail> {
-    let stream = stream_at(alloc, MOVE, companion, cpu)?;
-    let mut replay = Replay::new(alloc, stream, Knobs::standard())
-        .ok()
-        .ok_or("memory suffices")?;
-    replay.go_on(9)?;
-    Ok(replay.page())
+    let replay = replay_at(alloc, MOVE, companion, cpu, Knobs::standard())?;
+    page_after(replay, 9)
+}
+
+/// A page's fault, and the only tickets of those who left and of those who came.
+fn tickets(page: &Page) -> (Option<StepFault>, Option<Ticket>, Option<Ticket>) {
+    (page.fault(), only(page.left()), only(page.came()))
+}
+
+/// The same of the page at a processor, where the task's nice value changes as it goes.
+fn tickets_of(
+    alloc: Global,
+    cpu: u32,
+) -> Result<(Option<StepFault>, Option<Ticket>, Option<Ticket>), Fail> {
+    let page = moved_page(alloc, CHANGED_AND_MOVED, cpu)?;
+    Ok(tickets(&page))
 }
 
 #[test]
 fn a_ticket_has_the_new_nice_value(rt: HostRuntime) -> Result<(), Fail> {
-    let ticket = Ticket {
+    let ticket = Some(Ticket {
         line: 1,
         pid: 101,
         nice: Nice::new(-5).ok_or("a nice value")?,
         idle: false,
         place: Place::Wait,
         offset: 2,
-    };
-    let origin = moved_page(rt.alloc(), CHANGED_AND_MOVED, 0)?;
-    assert_eq!(rt;
-        (origin.fault(), origin.left()),
-        (None, [ticket].as_slice())
-    );
-    let destination = moved_page(rt.alloc(), CHANGED_AND_MOVED, 1)?;
-    assert_eq!(rt;
-        (destination.fault(), destination.came()),
-        (None, [ticket].as_slice())
-    );
+    });
+    assert_eq!(rt; tickets_of(rt.alloc(), 0)?, (None, ticket, None));
+    assert_eq!(rt; tickets_of(rt.alloc(), 1)?, (None, None, ticket));
     Ok(())
+}
+
+/// The fault at a processor, where a nice value changes at the destination.
+fn moved_fault(alloc: Global, cpu: u32) -> Result<Option<StepFault>, Fail> {
+    let page = moved_page(alloc, CHANGED_AT_THE_DESTINATION, cpu)?;
+    Ok(page.fault())
 }
 
 #[test]
@@ -273,8 +286,7 @@ fn a_change_at_a_migration_is_the_origins(rt: HostRuntime) -> Result<(), Fail> {
         deadline: None,
     };
     for (cpu, fault) in [(0, Some(strange)), (1, None)] {
-        let page = moved_page(rt.alloc(), CHANGED_AT_THE_DESTINATION, cpu)?;
-        assert_eq!(rt; page.fault(), fault, "processor {cpu}");
+        assert_eq!(rt; moved_fault(rt.alloc(), cpu)?, fault, "processor {cpu}");
     }
     Ok(())
 }

@@ -22,7 +22,7 @@ pub(crate) fn recording_at(place: usize) -> Result<&'static Recording, Fail> {
     Ok(recordings().get(place).ok_or("a place in the table")?)
 }
 
-const RECORDINGS: [Recording; 29] = [
+static RECORDINGS: [Recording; 29] = [
     Recording {
         name: "idle at slack",
         trace: b"            t102-102     [000] d..2.   100.001000: sched_wakeup: comm=t102 pid=102 prio=120 target_cpu=000\n          <idle>-0       [000] d..2.   100.001100: sched_switch: prev_comm=swapper/0 prev_pid=0 prev_prio=120 prev_state=R ==> next_comm=t102 next_pid=102 next_prio=120\n",

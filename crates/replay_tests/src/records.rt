@@ -1,11 +1,10 @@
+use crate::calls::{only, record_of, refusal_of, stream_at};
 use cfs_model::{Act, Claim, ClaimSort, Entry, Nice, Way};
-use companion_file::{Companion, read_companion};
 use ftrace_line::LineFault;
 use replay_model::{Deed, Step};
 use sched_event::EventFault;
 use sched_record::{
-    Events, JoinCause, JoinFault, Record, Steps, Stream, Trace, TraceCause, TraceFault, join,
-    read_trace,
+    Events, JoinCause, JoinFault, Record, Steps, Stream, TraceCause, TraceFault, read_trace,
 };
 use std::alloc::Global;
 use std::test::Fail;
@@ -57,26 +56,6 @@ const MOVE: &[u8] =
 const MOVED: &[u8] =
     b"cfs-companion 1\ncpus 2\nstart 100.000000\nfloor 0 3\nfloor 1 100\ntask 101 0 0 wait 5\ntask 102 0 0 run 3\nat 1 101 102\n";
 
-/// The trace and the companion of two texts, joined.
-fn joined_record(
-    alloc: Global,
-    trace: &[u8],
-    companion: &[u8],
-) -> Result<Result<Record, (Trace, Companion, JoinFault)>, Fail> {
-    let trace = read_trace(alloc, trace)?;
-    let companion = read_companion(alloc, companion)?;
-    Ok(join(trace, companion))
-}
-
-/// The record of a trace and a companion that go together.
-fn record_of(alloc: Global, trace: &[u8], companion: &[u8]) -> Result<Record, Fail> {
-    Ok(
-        joined_record(alloc, trace, companion)?
-            .ok()
-            .ok_or("a record")?,
-    )
-}
-
 /// A record's number of processors, its start, and its last time and line.
 fn ends_of(record: &Record) -> (u32, u64, u64, u32) {
     (
@@ -97,6 +76,12 @@ fn counts_of(record: &Record) -> (usize, usize, usize, usize) {
     )
 }
 
+/// The only event of a trace.
+fn event_of(alloc: Global, text: &[u8]) -> Result<Option<Entry>, Fail> {
+    let trace = read_trace(alloc, text)?;
+    Ok(only(trace.events()))
+}
+
 #[test]
 fn a_switch_is_read(rt: HostRuntime) -> Result<(), Fail> {
     let nice = Nice::new(0).ok_or("0 is a nice value")?;
@@ -112,21 +97,22 @@ fn a_switch_is_read(rt: HostRuntime) -> Result<(), Fail> {
             next_nice: nice,
         },
     };
-    let trace = read_trace(rt.alloc(), SWITCH)?;
-    assert_eq!(rt; trace.events(), [event].as_slice());
+    assert_eq!(rt; event_of(rt.alloc(), SWITCH)?, Some(event));
     Ok(())
+}
+
+/// The lines of a trace's events, where there are two.
+fn two_lines(alloc: Global, text: &[u8]) -> Result<Option<(u32, u32)>, Fail> {
+    let trace = read_trace(alloc, text)?;
+    match trace.events() {
+        [first, second] => Ok(Some((first.line, second.line))),
+        _ => Ok(None),
+    }
 }
 
 #[test]
 fn times_of_other_events_are_not_compared(rt: HostRuntime) -> Result<(), Fail> {
-    let trace = read_trace(rt.alloc(), LATER_OTHER)?;
-    assert_eq!(rt;
-        (
-            trace.events().len(),
-            trace.events().last().map(|event| event.line)
-        ),
-        (2, Some(3))
-    );
+    assert_eq!(rt; two_lines(rt.alloc(), LATER_OTHER)?, Some((1, 3)));
     Ok(())
 }
 
@@ -171,45 +157,52 @@ fn joining_tests_each_thing_over_the_whole(rt: HostRuntime) -> Result<(), Fail> 
         (SWITCH, STRAY_CLAIM, 2, JoinCause::ClaimNoEvent),
     ];
     for (trace, companion, line, cause) in &rows {
-        let fault = joined_record(rt.alloc(), trace, companion)?
-            .err()
-            .map(|back| back.2);
         let expected = JoinFault {
             line: *line,
             cause: *cause,
         };
-        assert_eq!(rt; fault, Some(expected));
+        assert_eq!(rt; refusal_of(rt.alloc(), trace, companion)?, Some(expected));
     }
     Ok(())
 }
 
+/// The ends and the counts of the record of two texts.
+fn record_in(
+    alloc: Global,
+    trace: &[u8],
+    companion: &[u8],
+) -> Result<((u32, u64, u64, u32), (usize, usize, usize, usize)), Fail> {
+    let record = record_of(alloc, trace, companion)?;
+    Ok((ends_of(&record), counts_of(&record)))
+}
+
 #[test]
 fn a_record_has_all_of_both(rt: HostRuntime) -> Result<(), Fail> {
-    let record = record_of(rt.alloc(), SWITCH, ONE_CLAIM)?;
-    assert_eq!(rt; ends_of(&record), (1, 100_000_000_000, 100_004_000_000, 1));
-    assert_eq!(rt; counts_of(&record), (1, 1, 2, 1));
+    assert_eq!(rt;
+        record_in(rt.alloc(), SWITCH, ONE_CLAIM)?,
+        ((1, 100_000_000_000, 100_004_000_000, 1), (1, 1, 2, 1))
+    );
     Ok(())
 }
 
 #[test]
 fn without_events_the_last_time_is_the_start(rt: HostRuntime) -> Result<(), Fail> {
-    let record = record_of(rt.alloc(), b"", START)?;
-    assert_eq!(rt; ends_of(&record), (1, 100_000_000_000, 100_000_000_000, 0));
+    assert_eq!(rt;
+        record_in(rt.alloc(), b"", START)?,
+        ((1, 100_000_000_000, 100_000_000_000, 0), (0, 0, 0, 1))
+    );
     Ok(())
 }
 
-/// The streams of both processors of the migration.
-fn moved_streams(alloc: Global) -> Result<(Stream, Stream), Fail> {
-    let record = record_of(alloc, MOVE, MOVED)?;
-    if record.cpus() != 2 {
-        return Err(Fail::from("two processors"));
-    }
-    Ok((record.deal(0)?, record.deal(1)?))
+/// The stream of a processor of the migration.
+fn moved_stream(alloc: Global, cpu: u32) -> Result<Stream, Fail> {
+    stream_at(alloc, MOVE, MOVED, cpu)
 }
 
-/// A stream's steps, and how many tasks it begins with.
-fn parts_of(stream: &Stream) -> (&[Step], usize) {
-    (stream.steps(), stream.tasks().len())
+/// Its only step, and how many tasks it begins with.
+fn parts_at(alloc: Global, cpu: u32) -> Result<(Option<Step>, usize), Fail> {
+    let stream = moved_stream(alloc, cpu)?;
+    Ok((only(stream.steps()), stream.tasks().len()))
 }
 
 /// Task 101 of nice 0 at the only step of a migration, as a processor sees it.
@@ -225,19 +218,17 @@ fn step(deed: Deed, claim: Option<Claim>) -> Step {
 
 #[test]
 fn a_migration_leaves_its_origin_without_a_claim(rt: HostRuntime) -> Result<(), Fail> {
-    let (stream, _dest) = moved_streams(rt.alloc())?;
     let leave = Deed::Leave {
         pid: 101,
         nice: Nice::new(0).ok_or("0 is a nice value")?,
         dest: 1,
     };
-    assert_eq!(rt; parts_of(&stream), ([step(leave, None)].as_slice(), 2));
+    assert_eq!(rt; parts_at(rt.alloc(), 0)?, (Some(step(leave, None)), 2));
     Ok(())
 }
 
 #[test]
 fn a_migration_comes_to_its_destination_with_the_claim(rt: HostRuntime) -> Result<(), Fail> {
-    let (_orig, stream) = moved_streams(rt.alloc())?;
     let arrive = Deed::Arrive {
         pid: 101,
         nice: Nice::new(0).ok_or("0 is a nice value")?,
@@ -251,33 +242,49 @@ fn a_migration_comes_to_its_destination_with_the_claim(rt: HostRuntime) -> Resul
         sort: ClaimSort::At,
     };
     assert_eq!(rt;
-        parts_of(&stream),
-        ([step(arrive, Some(claim))].as_slice(), 0)
+        parts_at(rt.alloc(), 1)?,
+        (Some(step(arrive, Some(claim))), 0)
     );
     Ok(())
 }
 
+/// A stream's processor, its floor, its start, and its last time and line.
+fn stream_ends(stream: &Stream) -> (u32, i64, u64, u64, u32) {
+    (
+        stream.cpu(),
+        stream.floor(),
+        stream.start(),
+        stream.last_time(),
+        stream.last_line(),
+    )
+}
+
+/// The same of a processor of the migration.
+fn ends_at(alloc: Global, cpu: u32) -> Result<(u32, i64, u64, u64, u32), Fail> {
+    let stream = moved_stream(alloc, cpu)?;
+    Ok(stream_ends(&stream))
+}
+
 #[test]
 fn a_stream_has_the_ends_of_its_record(rt: HostRuntime) -> Result<(), Fail> {
-    let (_orig, stream) = moved_streams(rt.alloc())?;
     assert_eq!(rt;
-        (
-            stream.cpu(),
-            stream.floor(),
-            stream.start(),
-            stream.last_time(),
-            stream.last_line()
-        ),
+        ends_at(rt.alloc(), 1)?,
         (1, 100, 100_000_000_000, 100_000_000_000, 1)
     );
     Ok(())
 }
 
+/// Whether a stream of the migration is that of a processor of it.
+fn is_stream_at(alloc: Global, stream: &Stream, cpu: u32) -> Result<bool, Fail> {
+    let other = moved_stream(alloc, cpu)?;
+    Ok(*stream == other)
+}
+
 #[test]
 fn streams_are_equal_where_they_hold_the_same(rt: HostRuntime) -> Result<(), Fail> {
-    let (orig, dest) = moved_streams(rt.alloc())?;
-    let (again, _dest) = moved_streams(rt.alloc())?;
-    assert_eq!(rt; (orig == again, orig == dest), (true, false));
+    let orig = moved_stream(rt.alloc(), 0)?;
+    assert_eq!(rt; is_stream_at(rt.alloc(), &orig, 0)?, true);
+    assert_eq!(rt; is_stream_at(rt.alloc(), &orig, 1)?, false);
     Ok(())
 }
 

@@ -1,8 +1,9 @@
 //! Traces that several threads read.
 
+use cfs_model::Entry;
 use ftrace_line::LineFault;
 use sched_event::EventFault;
-use sched_record::{TraceCause, TraceFault, read_trace, read_trace_wide};
+use sched_record::{Trace, TraceCause, TraceFault, read_trace, read_trace_wide};
 use std::alloc::Global;
 use std::test::Fail;
 use std::thread::Threads;
@@ -48,26 +49,69 @@ fn refused(line: u64, cause: TraceCause) -> Option<TraceFault> {
     Some(TraceFault::Text { line, cause })
 }
 
+/// A trace's events as several threads read it: how many there are, the line and time of the last, and whether one thread
+/// reads the same.
+#[derive(Debug, PartialEq, Eq, Drop)]
+struct Reading {
+    count: usize,
+    last: Option<(u32, u64)>,
+    same: bool,
+}
+
+fn line_and_time(event: Option<&Entry>) -> Option<(u32, u64)> {
+    match event {
+        Some(event) => Some((event.line, event.time)),
+        None => None,
+    }
+}
+
+/// How a trace compares with its reading in one thread.
+fn compared(alloc: Global, text: &[u8], trace: &Trace) -> Result<Reading, Fail> {
+    let narrow = read_trace(alloc, text)?;
+    Ok(Reading {
+        count: trace.events().len(),
+        last: line_and_time(trace.events().last()),
+        same: trace.events() == narrow.events(),
+    })
+}
+
+fn reading_of<R: Threads + Sync>(rt: &R, alloc: Global, text: &[u8]) -> Result<Reading, Fail> {
+    let trace = read_trace_wide(rt, alloc, text)?;
+    compared(alloc, text, &trace)
+}
+
 #[test]
 fn a_switch_is_read(rt: HostRuntime) -> Result<(), Fail> {
-    let trace = read_trace_wide(&rt, rt.alloc(), SWITCH)?;
-    assert!(rt; trace.events() == read_trace(rt.alloc(), SWITCH)?.events());
-    assert_eq!(rt; trace.events().len(), 1);
+    assert_eq!(rt;
+        reading_of(&rt, rt.alloc(), SWITCH)?,
+        Reading {
+            count: 1,
+            last: Some((1, 100_004_000_000)),
+            same: true
+        }
+    );
     Ok(())
+}
+
+/// A trace of four pieces: its times stand still but once, behind comments.
+fn long_text(alloc: Global) -> Result<Vec<u8>, Fail> {
+    let mut text = Vec::new(alloc);
+    repeat(&mut text, EARLY, 2000)?;
+    repeat(&mut text, COMMENT, 1000)?;
+    repeat(&mut text, LATE, 2000)?;
+    Ok(text)
 }
 
 #[test]
 fn events_of_all_pieces_stand_on_their_lines(rt: HostRuntime) -> Result<(), Fail> {
-    let mut text = Vec::new(rt.alloc());
-    repeat(&mut text, EARLY, 2000)?;
-    repeat(&mut text, COMMENT, 1000)?;
-    repeat(&mut text, LATE, 2000)?;
-    let trace = read_trace_wide(&rt, rt.alloc(), &text)?;
-    assert_eq!(rt; trace.events().len(), 4000);
-    assert!(rt; trace.events() == read_trace(rt.alloc(), &text)?.events());
+    let text = long_text(rt.alloc())?;
     assert_eq!(rt;
-        trace.events().last().map(|event| (event.line, event.time)),
-        Some((5000, 1_000_002_000))
+        reading_of(&rt, rt.alloc(), &text)?,
+        Reading {
+            count: 4000,
+            last: Some((5000, 1_000_002_000)),
+            same: true
+        }
     );
     Ok(())
 }

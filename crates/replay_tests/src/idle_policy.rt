@@ -1,13 +1,13 @@
 //! Recordings with tasks of the idle policy, each with the first fault of processor 0; and what arrivals and tickets have
 //! of a policy.
 
+use crate::calls::{only, page_after, refusal_of, replay_at, stream_at};
 use crate::recordings::Recording;
-use crate::replays::{page_of, stream_at};
+use crate::replays::{fault_of, page_of};
 use cfs_model::{Kind, Knobs, Nice, Place};
-use companion_file::read_companion;
-use queue_replay::{Page, Replay};
+use queue_replay::Page;
 use replay_model::{Deed, StepFault, Tally, Ticket};
-use sched_record::{JoinCause, JoinFault, Stream, join, read_trace};
+use sched_record::{JoinCause, JoinFault, Stream};
 use std::alloc::Global;
 use std::test::Fail;
 
@@ -136,9 +136,8 @@ fn policies() -> &'static [Recording] {
 fn a_task_of_the_idle_policy_is_charged_at_its_own_weight(rt: HostRuntime) -> Result<(), Fail> {
     for row in policies() {
         for steps in [2, 1000] {
-            let page = page_of(rt.alloc(), row, steps)?;
             assert_eq!(rt;
-                page.fault(),
+                fault_of(rt.alloc(), row, steps)?,
                 row.fault,
                 "{}, {steps} steps a call",
                 row.name
@@ -150,11 +149,14 @@ fn a_task_of_the_idle_policy_is_charged_at_its_own_weight(rt: HostRuntime) -> Re
 
 /// The page of a recording of the table.
 fn page_at(alloc: Global, place: usize) -> Result<Page, Fail> {
-    page_of(
-        alloc,
-        policies().get(place).ok_or("a place in the table")?,
-        9,
-    )
+    let row = policies().get(place).ok_or("a place in the table")?;
+    page_of(alloc, row, 9)
+}
+
+/// The first tally of its page.
+fn first_tally(alloc: Global, place: usize) -> Result<Option<Tally>, Fail> {
+    let page = page_at(alloc, place)?;
+    Ok(page.tallies().first().copied())
 }
 
 /// The tally of task 101.
@@ -177,10 +179,9 @@ fn each_life_of_a_task_is_tallied_by_its_own_policy(rt: HostRuntime) -> Result<(
         (AT_ITS_SECOND_BIRTH, tally(6_000, 1_027_000, 2)),
         (NICE_CHANGED, tally(6_000, 2_048_000, 0)),
     ] {
-        let page = page_at(rt.alloc(), place)?;
         assert_eq!(rt;
-            page.tallies().first(),
-            Some(&expected),
+            first_tally(rt.alloc(), place)?,
+            Some(expected),
             "recording {place}"
         );
     }
@@ -217,6 +218,18 @@ fn is_born_idle(stream: &Stream, place: usize) -> Option<bool> {
     }
 }
 
+/// The policies of the four arrivals at processor 1.
+fn arrivals(alloc: Global, idles: &str) -> Result<[Option<bool>; 4], Fail> {
+    let stream = moves_at(alloc, idles, 1)?;
+    Ok([0, 1, 2, 3].map(|place| arrives_idle(&stream, place)))
+}
+
+/// The policies of the two births at processor 0.
+fn births(alloc: Global, idles: &str) -> Result<(Option<bool>, Option<bool>), Fail> {
+    let stream = moves_at(alloc, idles, 0)?;
+    Ok((is_born_idle(&stream, 1), is_born_idle(&stream, 3)))
+}
+
 #[test]
 fn an_arrival_has_the_policy_of_the_last_birth_before_it(rt: HostRuntime) -> Result<(), Fail> {
     for (idles, policies) in [
@@ -226,14 +239,8 @@ fn an_arrival_has_the_policy_of_the_last_birth_before_it(rt: HostRuntime) -> Res
         ("idle 4 101\n", [false, false, true, false]),
         ("idle 0 101\nidle 4 101\n", [true, false, true, false]),
     ] {
-        let stream = moves_at(rt.alloc(), idles, 1)?;
-        for (place, policy) in policies.iter().enumerate() {
-            assert_eq!(rt;
-                arrives_idle(&stream, place),
-                Some(*policy),
-                "{idles}, arrival {place}"
-            );
-        }
+        let policies = policies.map(Some);
+        assert_eq!(rt; arrivals(rt.alloc(), idles)?, policies, "{idles}");
     }
     Ok(())
 }
@@ -246,33 +253,34 @@ fn a_birth_has_the_policy_that_is_named_on_its_line(rt: HostRuntime) -> Result<(
         ("idle 2 101\n", true, false),
         ("idle 4 101\n", false, true),
     ] {
-        let stream = moves_at(rt.alloc(), idles, 0)?;
-        assert_eq!(rt;
-            (is_born_idle(&stream, 1), is_born_idle(&stream, 3)),
-            (Some(second), Some(fourth)),
-            "{idles}"
-        );
+        let policies = (Some(second), Some(fourth));
+        assert_eq!(rt; births(rt.alloc(), idles)?, policies, "{idles}");
     }
     Ok(())
+}
+
+/// Whether a processor sees the same with these `idle` lines as with those.
+fn are_same(alloc: Global, idles: &str, others: &str, cpu: u32) -> Result<bool, Fail> {
+    let one = moves_at(alloc, idles, cpu)?;
+    let other = moves_at(alloc, others, cpu)?;
+    Ok(one == other)
 }
 
 #[test]
 fn streams_with_other_policies_differ(rt: HostRuntime) -> Result<(), Fail> {
     for cpu in [0, 1] {
-        let fair = moves_at(rt.alloc(), "", cpu)?;
-        let from_the_start = moves_at(rt.alloc(), "idle 0 101\n", cpu)?;
-        let from_its_birth = moves_at(rt.alloc(), "idle 2 101\n", cpu)?;
-        let again = moves_at(rt.alloc(), "idle 2 101\n", cpu)?;
-        assert_eq!(rt;
-            (
-                fair == from_the_start,
-                fair == from_its_birth,
-                from_the_start == from_its_birth,
-                from_its_birth == again
-            ),
-            (false, false, false, true),
-            "processor {cpu}"
-        );
+        for (idles, others, same) in [
+            ("", "idle 0 101\n", false),
+            ("", "idle 2 101\n", false),
+            ("idle 0 101\n", "idle 2 101\n", false),
+            ("idle 2 101\n", "idle 2 101\n", true),
+        ] {
+            assert_eq!(rt;
+                are_same(rt.alloc(), idles, others, cpu)?,
+                same,
+                "{idles}, {others}, processor {cpu}"
+            );
+        }
     }
     Ok(())
 }
@@ -280,9 +288,7 @@ fn streams_with_other_policies_differ(rt: HostRuntime) -> Result<(), Fail> {
 /// Why such lines of the companion don't go together with these moves.
 fn join_fault(alloc: Global, lines: &str) -> Result<Option<JoinFault>, Fail> {
     let companion = format!(in alloc; "{MOVES_START}{lines}")?;
-    let trace = read_trace(alloc, MOVES)?;
-    let companion = read_companion(alloc, companion.as_bytes())?;
-    Ok(join(trace, companion).err().map(|back| back.2))
+    refusal_of(alloc, MOVES, companion.as_bytes())
 }
 
 #[test]
@@ -318,33 +324,30 @@ const IDLE_MOVE: &[u8] =
 
 /// The page of the migration at a processor.
 fn moved_page(alloc: Global, cpu: u32) -> Result<Page, Fail> {
-    let stream = stream_at(alloc, MOVE, IDLE_MOVE, cpu)?;
-    let mut replay = Replay::new(alloc, stream, Knobs::standard())
-        .ok()
-        .ok_or("memory suffices")?;
-    replay.go_on(9)?;
-    Ok(replay.page())
+    let replay = replay_at(alloc, MOVE, IDLE_MOVE, cpu, Knobs::standard())?;
+    page_after(replay, 9)
+}
+
+/// The fault of this page, and its only tickets of those who left and of those who came.
+fn tickets_at(
+    alloc: Global,
+    cpu: u32,
+) -> Result<(Option<StepFault>, Option<Ticket>, Option<Ticket>), Fail> {
+    let page = moved_page(alloc, cpu)?;
+    Ok((page.fault(), only(page.left()), only(page.came())))
 }
 
 #[test]
 fn a_ticket_has_the_policy(rt: HostRuntime) -> Result<(), Fail> {
-    let ticket = Ticket {
+    let ticket = Some(Ticket {
         line: 1,
         pid: 101,
         nice: Nice::new(0).ok_or("a nice value")?,
         idle: true,
         place: Place::Wait,
         offset: 2,
-    };
-    let origin = moved_page(rt.alloc(), 0)?;
-    let destination = moved_page(rt.alloc(), 1)?;
-    assert_eq!(rt;
-        (origin.fault(), origin.left()),
-        (None, [ticket].as_slice())
-    );
-    assert_eq!(rt;
-        (destination.fault(), destination.came()),
-        (None, [ticket].as_slice())
-    );
+    });
+    assert_eq!(rt; tickets_at(rt.alloc(), 0)?, (None, ticket, None));
+    assert_eq!(rt; tickets_at(rt.alloc(), 1)?, (None, None, ticket));
     Ok(())
 }

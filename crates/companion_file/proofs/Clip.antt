@@ -23,7 +23,7 @@ clip (version_line n) = version_line 0
 clip (cpus_line n) = cpus_line (min n many)
 clip (start_line seconds nanoseconds) = start_line (min seconds many) nanoseconds
 clip (floor_line cpu floor) = floor_line (min cpu many) (clip_integer floor)
-clip (task_line t) = task_line (record { pid = min t.pid many; nice = clip_integer t.nice; cpu = min t.cpu many; place = t.place; v = clip_integer t.v })
+clip (task_line t) = task_line (record { pid = min t.pid many; nice = clip_integer t.nice; idle = t.idle; cpu = min t.cpu many; place = t.place; v = clip_integer t.v })
 clip (claim_line k) = claim_line (record { line = min k.line many; pid = min k.pid many; v = clip_integer k.v; sort = k.sort })
 clip (nice_line k) = nice_line (record { line = min k.line many; pid = min k.pid many; nice = clip_integer k.nice })
 

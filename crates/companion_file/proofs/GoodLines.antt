@@ -1,9 +1,10 @@
 -- Lines that are all good, one after another: their order is kept, and one more good line makes one more of them.
-use Rattle.std.proofs.Common.{◌≡◌, ℕ, ◌^◌, ◌<◌, List, [], ◌∷◌, ◌++◌, length, Option, Some, None, Result, Ok, Err, refl, sym, ap, subst, inl, inr, arith}
+use Rattle.std.proofs.Common.{◌≡◌, ℕ, false, ◌^◌, ◌<◌, List, [], ◌∷◌, ◌++◌, length, Option, Some, None, Result, Ok, Err, refl, sym, ap, subst, inl, inr, arith}
 use Rattle.std.specs.Prelude.{MatchOption}
 use Rattle.std.specs.Option.{option_map_or}
 use Rattle.std.proofs.lemmas.List.Elements.{All-nil}
 use Rattle.cfs_model.specs.Charge.{IsInRange}
+use Rattle.cfs_model.specs.declared.task.Task.{Task}
 use Rattle.text_parts.specs.Numerals.{value_of}
 use Rattle.text_parts.specs.Time.{IsFraction}
 use Rattle.text_parts.proofs.Times.{value_below}
@@ -30,7 +31,7 @@ second_fits version line (version_line n) p = tt
 second_fits version line (cpus_line n) p = tt
 second_fits version line (start_line seconds nanoseconds) p = fraction_below p.1.fraction_digits nanoseconds (value_below p.1.fraction_digits p.1.fraction_numeral.all) p.1.fraction_value
 second_fits version line (floor_line cpu floor) p = tt
-second_fits version line (task_line t) p = tt
+second_fits version line (task_line t) p = p.0
 second_fits version line (claim_line k) p = tt
 second_fits version line (nice_line k) p = tt
 
@@ -48,6 +49,7 @@ nothing_order =
       lines_rise = λ i j d lt within. absurd (omega arith);
       nices_kept = All-nil IsNiceLineInLimits;
       nice_lines_rise = λ i j d lt within. absurd (omega arith);
+      policies_kept = All-nil (λ (t : Task). t.idle ≡ false);
     }
 
 order_first_line : (said : Said) (version : ℕ) → KeepsOrder said → KeepsOrder (record said { version = Some version })
@@ -64,6 +66,7 @@ order_first_line said version order =
       lines_rise = order.lines_rise;
       nices_kept = order.nices_kept;
       nice_lines_rise = order.nice_lines_rise;
+      policies_kept = order.policies_kept;
     }
 
 -- the outcome of the tests is what the line says only where none failed

@@ -20,13 +20,13 @@ use Rattle.companion_file.proofs.KeptOrder.{Passes, value_fact, nice_fact, pid_f
 use Rattle.companion_file.proofs.Rising.{rises_push, none_passes}
 use Rattle.companion_file.specs.Draft.{KeepsOrder, with_line}
 
--- the nanoseconds of a start are less than a second
+-- the nanoseconds of a start are less than a second, and a task's line says no policy
 abbrev pub FitsSecond : Shape → Type 0
 FitsSecond (version_line n) = Unit {0}
 FitsSecond (cpus_line n) = Unit {0}
 FitsSecond (start_line seconds nanoseconds) = nanoseconds < nanoseconds_per_second
 FitsSecond (floor_line cpu floor) = Unit {0}
-FitsSecond (task_line t) = Unit {0}
+FitsSecond (task_line t) = t.idle ≡ false
 FitsSecond (claim_line k) = Unit {0}
 FitsSecond (nice_line k) = Unit {0}
 
@@ -53,6 +53,7 @@ order_cpus said n order passes =
       lines_rise = order.lines_rise;
       nices_kept = order.nices_kept;
       nice_lines_rise = order.nice_lines_rise;
+      policies_kept = order.policies_kept;
     }
 
 order_start : (said : Said) (seconds nanoseconds : ℕ) → nanoseconds < nanoseconds_per_second → KeepsOrder said → Passes said (start_line seconds nanoseconds) → KeepsOrder (with_line said (start_line seconds nanoseconds))
@@ -71,6 +72,7 @@ order_start said seconds nanoseconds below order passes =
       lines_rise = order.lines_rise;
       nices_kept = order.nices_kept;
       nice_lines_rise = order.nice_lines_rise;
+      policies_kept = order.policies_kept;
     }
 
 order_floor : (said : Said) (cpu : ℕ) (floor : ℤ) → KeepsOrder said → Passes said (floor_line cpu floor) → KeepsOrder (with_line said (floor_line cpu floor))
@@ -89,6 +91,7 @@ order_floor said cpu floor order passes =
       lines_rise = order.lines_rise;
       nices_kept = order.nices_kept;
       nice_lines_rise = order.nice_lines_rise;
+      policies_kept = order.policies_kept;
     }
 
 -- a test of a conjunction that failed though its first part holds
@@ -97,8 +100,8 @@ second_fails true true e f = absurd cc
 second_fails true false e f = refl
 second_fails false b e f = absurd cc
 
-order_task : (said : Said) (t : Task) → KeepsOrder said → Passes said (task_line t) → KeepsOrder (with_line said (task_line t))
-order_task said t order passes =
+order_task : (said : Said) (t : Task) → t.idle ≡ false → KeepsOrder said → Passes said (task_line t) → KeepsOrder (with_line said (task_line t))
+order_task said t plain order passes =
     let third = and_parts (is_pid t.pid && is_nice t.nice && ltb t.cpu (unwrap_or said.cpus 0)) (is_value t.v) passes.limits in
     let second = and_parts (is_pid t.pid && is_nice t.nice) (ltb t.cpu (unwrap_or said.cpus 0)) third.0 in
     let first = and_parts (is_pid t.pid) (is_nice t.nice) second.0 in
@@ -125,6 +128,7 @@ order_task said t order passes =
       lines_rise = order.lines_rise;
       nices_kept = order.nices_kept;
       nice_lines_rise = order.nice_lines_rise;
+      policies_kept = All-push (λ (u : Task). u.idle ≡ false) said.tasks t order.policies_kept plain;
     }
 
 order_claim : (said : Said) (claim : Claim) → KeepsOrder said → Passes said (claim_line claim) → KeepsOrder (with_line said (claim_line claim))
@@ -149,6 +153,7 @@ order_claim said claim order passes =
           (λ l e. let above : ltb l.line claim.line ≡ true = rw e at parts.0 in grind (arith, nat_tests));
       nices_kept = order.nices_kept;
       nice_lines_rise = order.nice_lines_rise;
+      policies_kept = order.policies_kept;
     }
 
 order_nice : (said : Said) (change : NiceLine) → KeepsOrder said → Passes said (nice_line change) → KeepsOrder (with_line said (nice_line change))
@@ -173,6 +178,7 @@ order_nice said change order passes =
           (record { line = (low, high); pid = pid_fact change.pid second.1; nice = nice_fact change.nice third.1 });
       nice_lines_rise = rises_push (λ (c : NiceLine). c.line) said.nices change order.nice_lines_rise
           (λ l e. let above : ltb l.line change.line ≡ true = rw e at parts.0 in grind (arith, nat_tests));
+      policies_kept = order.policies_kept;
     }
 
 pub order_with : (said : Said) (x : Shape) → FitsSecond x → KeepsOrder said → Passes said x → KeepsOrder (with_line said x)
@@ -180,6 +186,6 @@ order_with said (version_line n) fits order passes = let turn : false ≡ true =
 order_with said (cpus_line n) fits order passes = order_cpus said n order passes
 order_with said (start_line seconds nanoseconds) fits order passes = order_start said seconds nanoseconds fits order passes
 order_with said (floor_line cpu floor) fits order passes = order_floor said cpu floor order passes
-order_with said (task_line t) fits order passes = order_task said t order passes
+order_with said (task_line t) fits order passes = order_task said t fits order passes
 order_with said (claim_line claim) fits order passes = order_claim said claim order passes
 order_with said (nice_line change) fits order passes = order_nice said change order passes

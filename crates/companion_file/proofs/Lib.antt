@@ -1,4 +1,5 @@
 pub mod Clip
+pub mod EndedSpans
 pub mod Faults
 pub mod Finishing
 pub mod GoodLines

@@ -4,6 +4,7 @@ use Rattle.std.proofs.lemmas.Option.{same_Some}
 use Rattle.cfs_model.specs.declared.task.Task.{Task}
 use Rattle.cfs_model.specs.declared.claim.Claim.{Claim}
 use Rattle.cfs_model.specs.declared.nice_line.NiceLine.{NiceLine}
+use Rattle.cfs_model.specs.declared.idle_line.IdleLine.{IdleLine}
 use Rattle.text_parts.specs.Lines.{lines_of}
 use Rattle.std.proofs.lemmas.Option.{same_Some}
 use Rattle.companion_file.specs.declared.fault.CompanionCause.{CompanionCause}
@@ -16,20 +17,21 @@ use Rattle.companion_file.specs.Companion.{CompanionView, AreGood, IsFirstBadCom
 use Rattle.companion_file.proofs.GoodLines.{nothing_order}
 use Rattle.companion_file.proofs.OneAnswer.{good_once, IsBadBehind, never_good, bad_once}
 
-same_reading : (c d s t : ℕ) (f g : List ℤ) (k l : List Task) (m n : List Claim) (o p : List NiceLine) → c ≡ d → s ≡ t → f ≡ g → k ≡ l → m ≡ n → o ≡ p
-    → ◌≡◌ {A = CompanionView} (record { cpus = c; start = s; floors = f; tasks = k; claims = m; nices = o }) (record { cpus = d; start = t; floors = g; tasks = l; claims = n; nices = p })
-same_reading c d s t f g k l m n o p e1 e2 e3 e4 e5 e6 = rw (e1, e2, e3, e4, e5, e6) refl
+same_reading : (c d s t : ℕ) (f g : List ℤ) (k l : List Task) (m n : List Claim) (o p : List NiceLine) (u v : List IdleLine) → c ≡ d → s ≡ t → f ≡ g → k ≡ l → m ≡ n → o ≡ p → u ≡ v
+    → ◌≡◌ {A = CompanionView} (record { cpus = c; start = s; floors = f; tasks = k; claims = m; nices = o; idles = u }) (record { cpus = d; start = t; floors = g; tasks = l; claims = n; nices = p; idles = v })
+same_reading c d s t f g k l m n o p u v e1 e2 e3 e4 e5 e6 e7 = rw (e1, e2, e3, e4, e5, e6, e7) refl
 
 read_once : (lines : List (List ℕ)) (r s : CompanionView) → IsRead lines r → IsRead lines s → r ≡ s
 read_once lines r s p q =
     let same : p.said ≡ q.said = good_once [] lines p.said q.said nothing_order p.good q.good in
     let cpus : r.cpus ≡ s.cpus = same_Some r.cpus s.cpus (sym p.cpus_is ∙ ap (λ (x : List Shape). (summed x).cpus) same ∙ q.cpus_is) in
     let start : r.start ≡ s.start = same_Some r.start s.start (sym p.start_is ∙ ap (λ (x : List Shape). (summed x).start) same ∙ q.start_is) in
-    same_reading r.cpus s.cpus r.start s.start r.floors s.floors r.tasks s.tasks r.claims s.claims r.nices s.nices cpus start
+    same_reading r.cpus s.cpus r.start s.start r.floors s.floors r.tasks s.tasks r.claims s.claims r.nices s.nices r.idles s.idles cpus start
     (p.floors_is ∙ ap (λ (x : List Shape). (summed x).floors) same ∙ sym q.floors_is)
     (p.tasks_is ∙ ap (λ (x : List Shape). (summed x).tasks) same ∙ sym q.tasks_is)
     (p.claims_is ∙ ap (λ (x : List Shape). (summed x).claims) same ∙ sym q.claims_is)
     (p.nices_is ∙ ap (λ (x : List Shape). (summed x).nices) same ∙ sym q.nices_is)
+    (p.idles_is ∙ sym q.idles_is)
 
 bad_after : (lines : List (List ℕ)) (number : ℕ) (cause : CompanionCause) (b : IsFirstBadCompanionLine lines number cause) → IsBadBehind [] b.before b.line cause
 bad_after lines number cause b = record { said = b.said; good = b.good; content = b.content; bad = b.bad }

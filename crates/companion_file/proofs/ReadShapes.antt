@@ -1,6 +1,6 @@
 -- The shape of a line, both ways: what is spelled is read, and what is read is spelled, but for numbers far out of
 -- their limits. The first word decides which shape is tried.
-use Rattle.std.proofs.Common.{◌≡◌, ◌⊎◌, ℕ, cond, eqb, List, ◌++◌, length, min, ℤ, Option, Some, None, refl, sym, ap, subst, ◌∙◌, inl, inr}
+use Rattle.std.proofs.Common.{◌≡◌, ◌⊎◌, ℕ, false, cond, eqb, List, ◌++◌, length, min, ℤ, Option, Some, None, refl, sym, ap, subst, ◌∙◌, inl, inr}
 use Rattle.std.specs.Prelude.{codes}
 use Rattle.std.specs.Option.{option_map_or}
 use Rattle.std.proofs.lemmas.Bool.{cases_Bool, eqb-true}
@@ -62,9 +62,9 @@ shape_again version line (floor_line cpu floor) p =
     ap (shape_at version) p.4 ∙ floor_tried version (spaced_from p.0 p.1)
     ∙ rw (number_field_again p.0 p.1 cpu p.2, integer_whole_again p.1 floor p.3) refl
 shape_again version line (task_line t) p =
-    let last = spaced_from (place_word t.place) p.3 in
-    ap (shape_at version) p.8 ∙ task_tried version (spaced_from p.0 (spaced_from p.1 (spaced_from p.2 last)))
-    ∙ rw (number_field_again p.0 (spaced_from p.1 (spaced_from p.2 last)) t.pid p.4, integer_field_again p.1 (spaced_from p.2 last) t.nice p.5, number_field_again p.2 last t.cpu p.6, place_field_again t.place p.3, integer_whole_again p.3 t.v p.7) refl
+    let last = spaced_from (place_word t.place) p.4 in
+    ap (shape_at version) p.9 ∙ task_tried version (spaced_from p.1 (spaced_from p.2 (spaced_from p.3 last)))
+    ∙ rw (number_field_again p.1 (spaced_from p.2 (spaced_from p.3 last)) t.pid p.5, integer_field_again p.2 (spaced_from p.3 last) t.nice p.6, number_field_again p.3 last t.cpu p.7, place_field_again t.place p.4, integer_whole_again p.4 t.v p.8, p.0) refl
 shape_again version line (claim_line k) p =
     ap (shape_at version) p.6 ∙ claim_tried version k.sort (spaced_from p.0 (spaced_from p.1 p.2))
     ∙ rw (number_field_again p.0 (spaced_from p.1 p.2) k.line p.3, number_field_again p.1 p.2 k.pid p.4, integer_whole_again p.2 k.v p.5) refl
@@ -89,7 +89,7 @@ same_nice : (l m p q : ℕ) (v w : ℤ) → l ≡ m → p ≡ q → v ≡ w → 
 same_nice l m p q v w e f g = rw (e, f, g) refl
 
 same_task : (p q : ℕ) (n o : ℤ) (c d : ℕ) (v w : ℤ) (place : Place) → p ≡ q → n ≡ o → c ≡ d → v ≡ w
-    → task_line (record { pid = p; nice = n; cpu = c; place = place; v = v }) ≡ task_line (record { pid = q; nice = o; cpu = d; place = place; v = w })
+    → task_line (record { pid = p; nice = n; idle = false; cpu = c; place = place; v = v }) ≡ task_line (record { pid = q; nice = o; idle = false; cpu = d; place = place; v = w })
 same_task p q n o c d v w place e f g h = rw (e, f, g, h) refl
 
 version_found : (version : ℕ) (rest : List ℕ) (y : Shape) → version_shape_at rest ≡ Some y → IsFound version (spaced_from (codes "cfs-companion") rest) y
@@ -168,11 +168,11 @@ nice_found version rest y e =
 task_found : (version : ℕ) (rest : List ℕ) (y : Shape) → task_shape_at rest ≡ Some y → IsFound version (spaced_from (codes "task") rest) y
 unfolding task_shape_at
 task_found version rest y e =
-    let a = bind_some (number_field rest) (λ pid. integer_field pid.1 >>= λ nice. number_field nice.1 >>= λ cpu. place_field cpu.1 >>= λ place. integer_whole place.1 >>= λ v. Some (task_line (record { pid = pid.0; nice = nice.0; cpu = cpu.0; place = place.0; v = v }))) y e in
-    let b = bind_some (integer_field a.0.1) (λ nice. number_field nice.1 >>= λ cpu. place_field cpu.1 >>= λ place. integer_whole place.1 >>= λ v. Some (task_line (record { pid = a.0.0; nice = nice.0; cpu = cpu.0; place = place.0; v = v }))) y a.2 in
-    let c = bind_some (number_field b.0.1) (λ cpu. place_field cpu.1 >>= λ place. integer_whole place.1 >>= λ v. Some (task_line (record { pid = a.0.0; nice = b.0.0; cpu = cpu.0; place = place.0; v = v }))) y b.2 in
-    let d = bind_some (place_field c.0.1) (λ place. integer_whole place.1 >>= λ v. Some (task_line (record { pid = a.0.0; nice = b.0.0; cpu = c.0.0; place = place.0; v = v }))) y c.2 in
-    let f = bind_some (integer_whole d.0.1) (λ v. Some (task_line (record { pid = a.0.0; nice = b.0.0; cpu = c.0.0; place = d.0.0; v = v }))) y d.2 in
+    let a = bind_some (number_field rest) (λ pid. integer_field pid.1 >>= λ nice. number_field nice.1 >>= λ cpu. place_field cpu.1 >>= λ place. integer_whole place.1 >>= λ v. Some (task_line (record { pid = pid.0; nice = nice.0; idle = false; cpu = cpu.0; place = place.0; v = v }))) y e in
+    let b = bind_some (integer_field a.0.1) (λ nice. number_field nice.1 >>= λ cpu. place_field cpu.1 >>= λ place. integer_whole place.1 >>= λ v. Some (task_line (record { pid = a.0.0; nice = nice.0; idle = false; cpu = cpu.0; place = place.0; v = v }))) y a.2 in
+    let c = bind_some (number_field b.0.1) (λ cpu. place_field cpu.1 >>= λ place. integer_whole place.1 >>= λ v. Some (task_line (record { pid = a.0.0; nice = b.0.0; idle = false; cpu = cpu.0; place = place.0; v = v }))) y b.2 in
+    let d = bind_some (place_field c.0.1) (λ place. integer_whole place.1 >>= λ v. Some (task_line (record { pid = a.0.0; nice = b.0.0; idle = false; cpu = c.0.0; place = place.0; v = v }))) y c.2 in
+    let f = bind_some (integer_whole d.0.1) (λ v. Some (task_line (record { pid = a.0.0; nice = b.0.0; idle = false; cpu = c.0.0; place = d.0.0; v = v }))) y d.2 in
     let t0 = number_field_taken rest a.0.0 a.0.1 a.1 in
     let t1 = integer_field_taken a.0.1 b.0.0 b.0.1 b.1 in
     let t2 = number_field_taken b.0.1 c.0.0 c.0.1 c.1 in
@@ -180,9 +180,9 @@ task_found version rest y e =
     let t4 = integer_whole_taken d.0.1 f.0 f.1 in
     let whole : rest ≡ spaced_from t0.word (spaced_from t1.word (spaced_from t2.word (spaced_from (place_word d.0.0) d.0.1))) =
     t0.whole ∙ ap (λ (s : List ℕ). spaced_from t0.word s) (t1.whole ∙ ap (λ (s : List ℕ). spaced_from t1.word s) (t2.whole ∙ ap (λ (s : List ℕ). spaced_from t2.word s) t3)) in (
-      task_line (record { pid = t0.exact; nice = t1.exact; cpu = t2.exact; place = d.0.0; v = t4.0 }),
-      (t0.word, t1.word, t2.word, d.0.1, t0.spelled, t1.spelled, t2.spelled, t4.1, ap (λ (s : List ℕ). spaced_from (codes "task") s) whole),
-      sym (same_Some (task_line (record { pid = a.0.0; nice = b.0.0; cpu = c.0.0; place = d.0.0; v = f.0 })) y f.2)
+      task_line (record { pid = t0.exact; nice = t1.exact; idle = false; cpu = t2.exact; place = d.0.0; v = t4.0 }),
+      (refl, t0.word, t1.word, t2.word, d.0.1, t0.spelled, t1.spelled, t2.spelled, t4.1, ap (λ (s : List ℕ). spaced_from (codes "task") s) whole),
+      sym (same_Some (task_line (record { pid = a.0.0; nice = b.0.0; idle = false; cpu = c.0.0; place = d.0.0; v = f.0 })) y f.2)
           ∙ same_task a.0.0 (min t0.exact many) b.0.0 (clip_integer t1.exact) c.0.0 (min t2.exact many) f.0 (clip_integer t4.0) d.0.0 t0.value t1.value t2.value t4.2,
     )
 

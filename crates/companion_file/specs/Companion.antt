@@ -49,6 +49,7 @@ pub record IsRead (lines : List (List ℕ)) (r : CompanionView) : Type 0 where
   pub tasks_is : r.tasks ≡ (summed said).tasks
   pub claims_is : r.claims ≡ (summed said).claims
   pub nices_is : r.nices ≡ (summed said).nices
+  pub idles_is : r.idles ≡ []
 
 -- the lines are refused at a line for a cause
 abbrev pub IsRefusedCompanion : List (List ℕ) → ℕ → CompanionCause → Type 0
@@ -61,7 +62,7 @@ CompanionAnswer text (Err fault) = IsRefusedCompanion (lines_of text) fault.0 fa
 
 -- a companion without where it lies in memory
 abbrev pub companion_view : Companion → CompanionView
-companion_view c = record { cpus = c.cpus; start = c.start; floors = c.floors; tasks = c.tasks; claims = c.claims; nices = c.nices }
+companion_view c = record { cpus = c.cpus; start = c.start; floors = c.floors; tasks = c.tasks; claims = c.claims; nices = c.nices; idles = c.idles }
 
 -- what was returned is this answer; of want of memory nothing is said
 abbrev pub IsReturned : Result Companion CompanionFault → Result CompanionView (ℕ × CompanionCause) → Type 0

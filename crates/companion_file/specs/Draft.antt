@@ -72,6 +72,7 @@ pub record KeepsOrder (said : Said) : Type 0 where
   pub lines_rise : AllPairs (λ a b. a.line < b.line) said.claims
   pub nices_kept : All IsNiceLineInLimits said.nices
   pub nice_lines_rise : AllPairs (λ a b. a.line < b.line) said.nices
+  pub policies_kept : All (λ t. t.idle ≡ false) said.tasks
 
 -- no floor is missing, and this is what was said
 pub record IsCompleted (said : Said) (r : CompanionView) : Type 0 where
@@ -82,6 +83,7 @@ pub record IsCompleted (said : Said) (r : CompanionView) : Type 0 where
   pub tasks_is : r.tasks ≡ said.tasks
   pub claims_is : r.claims ≡ said.claims
   pub nices_is : r.nices ≡ said.nices
+  pub idles_is : r.idles ≡ []
 
 -- the fault of a text whose line was refused
 abbrev pub fault_at : ℕ → Refusal → CompanionFault

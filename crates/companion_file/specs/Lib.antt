@@ -4,6 +4,7 @@ pub mod Earlier
 pub mod ShapeReading
 pub mod Reading
 pub mod Shape
+pub mod Spans
 pub mod Spelling
 pub mod Statement
 pub mod Tests

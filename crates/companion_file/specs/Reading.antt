@@ -3,12 +3,15 @@ use Rattle.std.specs.Prelude.{◌≡◌, ℕ, ◌+◌, ◌*◌, ◌<◌, ◌≤�
 use Rattle.cfs_model.specs.declared.task.Task.{Task}
 use Rattle.cfs_model.specs.declared.claim.Claim.{Claim}
 use Rattle.cfs_model.specs.declared.nice_line.NiceLine.{NiceLine}
-use Rattle.cfs_model.specs.Limits.{greatest_pid, greatest_line, most_processors, greatest_seconds, nanoseconds_per_second}
+use Rattle.cfs_model.specs.declared.idle_line.IdleLine.{IdleLine}
+use Rattle.cfs_model.specs.Limits.{greatest_pid, greatest_line, no_line, most_processors, greatest_seconds, nanoseconds_per_second}
 use Rattle.cfs_model.specs.Charge.{IsInRange}
 use Rattle.cfs_model.specs.Nice.{IsNice}
 use Rattle.cfs_model.specs.Order.{RunApart}
+use Rattle.cfs_model.specs.Claimed.{is_named_idle}
+use Rattle.cfs_model.specs.Start.{starts_idle}
 
--- the start state, the claims and the changes of nice values
+-- the start state, the claims, the changes of nice values, and who is of the idle policy
 pub record CompanionView : Type 0 where
   -- the number of processors
   pub cpus : ℕ
@@ -19,6 +22,7 @@ pub record CompanionView : Type 0 where
   pub tasks : List Task
   pub claims : List Claim
   pub nices : List NiceLine
+  pub idles : List IdleLine
 
 -- a pid is from 1 to the greatest
 abbrev pub IsPid : ℕ → Type 0
@@ -43,6 +47,16 @@ pub record IsNiceLineInLimits (change : NiceLine) : Type 0 where
   pub pid : IsPid change.pid
   pub nice : IsNice change.nice
 
+-- the numbers of an idle line are within their limits
+pub record IsIdleLineInLimits (idle : IdleLine) : Type 0 where
+  pub line : idle.line ≤ greatest_line
+  pub pid : IsPid idle.pid
+
+-- an idle line may stand behind another: its line is above the other's, or it is the same and the pid is above
+pub record IdleRises (a b : IdleLine) : Type 0 where
+  pub lines : a.line ≤ b.line
+  pub pids : a.line ≡ b.line → a.pid < b.pid
+
 -- what every companion keeps
 pub record IsCompanionInOrder (r : CompanionView) : Type 0 where
   pub cpus_in_limits : (1 ≤ r.cpus) × (r.cpus ≤ most_processors)
@@ -56,3 +70,6 @@ pub record IsCompanionInOrder (r : CompanionView) : Type 0 where
   pub lines_rise : AllPairs (λ a b. a.line < b.line) r.claims
   pub nices_in_limits : All IsNiceLineInLimits r.nices
   pub nice_lines_rise : AllPairs (λ a b. a.line < b.line) r.nices
+  pub idles_in_limits : All IsIdleLineInLimits r.idles
+  pub idles_rise : AllPairs IdleRises r.idles
+  pub policies_told : (pid : ℕ) → is_named_idle r.idles no_line pid ≡ starts_idle r.tasks pid

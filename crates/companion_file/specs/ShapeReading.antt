@@ -1,7 +1,7 @@
 -- How one line of a companion is read from left to right: what each part takes from the front of a text, and what it
 -- leaves. Nothing here is to be believed: it is proved to give what `Spelling` spells, but for numbers far out of
 -- their limits, which are read as other numbers out of their limits.
-use Rattle.std.specs.Prelude.{ℕ, ◌+◌, ◌==◌, not, if◌then◌else◌, ℤ, pos, neg_ℤ, min, List, codes, Option, None, Some, option_map}
+use Rattle.std.specs.Prelude.{ℕ, ◌+◌, ◌==◌, false, not, if◌then◌else◌, ℤ, pos, neg_ℤ, min, List, codes, Option, None, Some, option_map}
 use Rattle.std.specs.Option.{option_map_or}
 use Rattle.cfs_model.specs.Limits.{greatest_runtime}
 use Rattle.cfs_model.specs.declared.task.Place.{Place}
@@ -83,7 +83,7 @@ task_shape_at text = do
   cpu ← number_field nice.1
   place ← place_field cpu.1
   v ← integer_whole place.1
-  Some (task_line (record { pid = pid.0; nice = nice.0; cpu = cpu.0; place = place.0; v = v }))
+  Some (task_line (record { pid = pid.0; nice = nice.0; idle = false; cpu = cpu.0; place = place.0; v = v }))
 
 -- what follows the word of a claim
 unfoldable pub claim_shape_at : ClaimSort → List ℕ → Option Shape

@@ -1,5 +1,5 @@
 -- How the lines of a companion are spelled (this project's companion format, versions 1 and 2).
-use Rattle.std.specs.Prelude.{◌≡◌, ℕ, ℤ, pos, neg_ℤ, List, [], ◌∷◌, ◌++◌, codes, ◌⊎◌}
+use Rattle.std.specs.Prelude.{◌≡◌, ℕ, false, ℤ, pos, neg_ℤ, List, [], ◌∷◌, ◌++◌, codes, ◌⊎◌}
 use Rattle.std.specs.List.{join_with_byte}
 use Rattle.cfs_model.specs.declared.task.Place.{Place}
 use Rattle.cfs_model.specs.declared.task.Place.TheVariants.{Run, Wait, Rest}
@@ -56,7 +56,7 @@ IsSpelled version line (start_line seconds nanoseconds) =
 IsSpelled version line (floor_line cpu floor) =
     (a b : List ℕ) × IsNumber a cpu × IsInteger b floor × (line ≡ spaced (codes "floor" ∷ a ∷ b ∷ []))
 IsSpelled version line (task_line task) =
-    (a b c d : List ℕ) × IsNumber a task.pid × IsInteger b task.nice × IsNumber c task.cpu × IsInteger d task.v
+    (task.idle ≡ false) × (a b c d : List ℕ) × IsNumber a task.pid × IsInteger b task.nice × IsNumber c task.cpu × IsInteger d task.v
     × (line ≡ spaced (codes "task" ∷ a ∷ b ∷ c ∷ place_word task.place ∷ d ∷ []))
 IsSpelled version line (claim_line claim) =
     (a b c : List ℕ) × IsNumber a claim.line × IsNumber b claim.pid × IsInteger c claim.v

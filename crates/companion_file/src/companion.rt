@@ -1,10 +1,14 @@
 ghost use Rattle.std.specs.Prelude.{◌≡◌};
 ghost use Rattle.companion_file.specs.Reading.{IsCompanionInOrder};
+ghost use Rattle.companion_file.specs.Spans.{AreSpansOf};
 
-use crate::lists::{Claims, Floors, Nices, Tasks};
-use cfs_model::{Claim, NiceLine, Task};
+use crate::idle_span::IdleSpan;
+use crate::lists::{Claims, Floors, Idles, Nices, Tasks};
+use crate::spans::IdleSpans;
+use cfs_model::{Claim, IdleLine, NiceLine, Task};
 
-/// The start state of a schedule, the virtual runtimes that are claimed of it, and the changes of nice values.
+/// The start state of a schedule, the virtual runtimes that are claimed of it, the changes of nice values, and who is of
+/// the idle policy.
 #[derive(Debug, Drop)]
 pub struct Companion {
     cpus: u32,
@@ -13,7 +17,11 @@ pub struct Companion {
     tasks: Tasks,
     claims: Claims,
     nices: Nices,
-    pub ghost in_order: { IsCompanionInOrder (record { cpus = cpus; start = start; floors = floors; tasks = tasks; claims = claims; nices = nices }) },
+    idles: Idles,
+    // Room that joining fills: where the policy of each idle line ends.
+    spans: IdleSpans,
+    pub ghost in_order: { IsCompanionInOrder (record { cpus = cpus; start = start; floors = floors; tasks = tasks; claims = claims; nices = nices; idles = idles }) },
+    pub ghost spans_told: { AreSpansOf idles spans },
 }
 
 impl Companion {
@@ -24,14 +32,19 @@ impl Companion {
         tasks: Tasks,
         claims: Claims,
         nices: Nices,
+        idles: Idles,
+        spans: IdleSpans,
     ) -> Companion
-        requires { IsCompanionInOrder (record { cpus = cpus; start = start; floors = floors; tasks = tasks; claims = claims; nices = nices }) }
+        requires in_order { IsCompanionInOrder (record { cpus = cpus; start = start; floors = floors; tasks = tasks; claims = claims; nices = nices; idles = idles }) }
+        requires spans_told { AreSpansOf idles spans }
         ensures cpus { result.cpus ≡ cpus }
         ensures start { result.start ≡ start }
         ensures floors { result.floors ≡ floors }
         ensures tasks { result.tasks ≡ tasks }
         ensures claims { result.claims ≡ claims }
         ensures nices { result.nices ≡ nices }
+        ensures idles { result.idles ≡ idles }
+        ensures spans { result.spans ≡ spans }
     {
         Companion {
             cpus,
@@ -40,6 +53,8 @@ impl Companion {
             tasks,
             claims,
             nices,
+            idles,
+            spans,
         }
     }
 
@@ -83,5 +98,35 @@ impl Companion {
         ensures { result.now ≡ self.now.nices }
     {
         self.nices.as_slice()
+    }
+
+    /// Who is of the idle policy, by rising line of the trace, and at one line by rising pid.
+    pub fn idles(&self) -> &[IdleLine]
+        ensures { result.now ≡ self.now.idles }
+    {
+        self.idles.as_slice()
+    }
+
+    /// From which line to which tasks are of the idle policy, by rising pid, and at one pid by rising line. None has an
+    /// end but those that `end_span` gave one.
+    pub fn spans(&self) -> &[IdleSpan]
+        ensures { result.now ≡ self.now.spans }
+    {
+        self.spans.as_slice()
+    }
+}
+
+impl Companion {
+    ghost use Rattle.std.specs.Prelude.{◌≡◌, ◌<◌, length};
+    ghost use Rattle.companion_file.specs.Spans.{ended};
+    ghost use Rattle.companion_file.specs.Companion.{companion_view};
+
+    /// Ends the span at this place at a line of the trace.
+    pub fn end_span(&mut self, place: usize, line: u32)
+        requires { place < length self.old.spans }
+        ensures spans { self.new.spans ≡ ended self.old.spans place line }
+        ensures others { companion_view self.new ≡ companion_view self.old }
+    {
+        self.spans.end_at(place, line);
     }
 }

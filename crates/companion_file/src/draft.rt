@@ -14,7 +14,8 @@ mod saying;
 use crate::companion::Companion;
 use crate::fault::Refusal;
 use crate::limits::{is_pid, is_running, is_value, nice_within};
-use crate::lists::{Claims, Floors, Nices, Tasks};
+use crate::lists::{Claims, Floors, Idles, Nices, Tasks};
+use crate::spans::IdleSpans;
 use cfs_model::{Claim, MOST_PROCESSORS, NiceLine, Place, Task};
 use std::alloc::Global;
 use std::marker::Model;
@@ -82,7 +83,7 @@ impl Draft {
     }
 
     fn task_within(&self, pid: u64, nice: i64, cpu: u64, place: Place, v: i64) -> Option<Task>
-        ensures { let task : Task = record { pid = pid; nice = nice; cpu = cpu; place = place; v = v } in
+        ensures { let task : Task = record { pid = pid; nice = nice; idle = false; cpu = cpu; place = place; v = v } in
             MatchOption result (is_in_limits (unwrap_or self.now.cpus 0) (task_line task) ≡ false)
             (λ within. (within ≡ task) × (is_in_limits (unwrap_or self.now.cpus 0) (task_line task) ≡ true)) }
     {
@@ -91,6 +92,7 @@ impl Draft {
             Some(Task {
                 pid: pid as u32,
                 nice,
+                idle: false,
                 cpu: cpu as u32,
                 place,
                 v,
@@ -139,6 +141,7 @@ impl Draft {
             nices,
             running: _,
         } = self;
+        let alloc = *nices.allocator();
         Some(Companion::new(
             cpus?,
             start?,
@@ -146,6 +149,8 @@ impl Draft {
             Tasks::from_vec(tasks),
             Claims::from_vec(claims),
             Nices::from_vec(nices),
+            Idles::new(alloc),
+            IdleSpans::new(alloc),
         ))
     }
 }

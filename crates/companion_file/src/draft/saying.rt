@@ -1,4 +1,4 @@
-ghost use Rattle.std.specs.Prelude.{◌≡◌};
+ghost use Rattle.std.specs.Prelude.{◌≡◌, false};
 ghost use Rattle.companion_file.specs.Shape.{cpus_line, start_line, floor_line, task_line, claim_line, nice_line};
 ghost use Rattle.companion_file.specs.Draft.{AddsTested, TakesFirst, Takes};
 ghost use Rattle.companion_file.specs.Statement.{stated};
@@ -64,7 +64,7 @@ impl Draft {
         place: Place,
         v: i64,
     ) -> Result<(), Refusal>
-        ensures { AddsTested self.old (task_line (record { pid = pid; nice = nice; cpu = cpu; place = place; v = v })) result self.new }
+        ensures { AddsTested self.old (task_line (record { pid = pid; nice = nice; idle = false; cpu = cpu; place = place; v = v })) result self.new }
     {
         if !self.has_all_floors() || !self.claims.is_empty() || !self.nices.is_empty() {
             return Err(Refusal::Bad(CompanionCause::Order));

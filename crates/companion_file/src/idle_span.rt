@@ -1,0 +1,9 @@
+/// From which line on the task of a pid is of the idle policy, and where that ends.
+#[derive(Clone, Copy, Debug, PartialEq, Eq)]
+pub struct IdleSpan {
+    pub pid: u32,
+    /// The line in the trace of the birth that begins it, from 1, comments counted; `NO_LINE` for the start.
+    pub from: u32,
+    /// The line in the trace of the next birth of this pid, which ends it; `NO_LINE` while none is known.
+    pub until: u32,
+}

@@ -6,7 +6,7 @@ use Rattle.std.proofs.lemmas.Bool.{cases_Bool, and_parts}
 use Rattle.std.proofs.lemmas.Bool.Decides.{nat_tests}
 use Rattle.text_parts.specs.Numerals.{many}
 use Rattle.cfs_model.specs.Limits.{greatest_runtime, greatest_pid, greatest_line, greatest_seconds, most_processors}
-use Rattle.companion_file.specs.Shape.{Shape, version_line, cpus_line, start_line, floor_line, task_line, claim_line, nice_line}
+use Rattle.companion_file.specs.Shape.{Shape, version_line, cpus_line, start_line, floor_line, task_line, claim_line, nice_line, idle_line}
 use Rattle.companion_file.specs.ShapeReading.{beyond_range}
 use Rattle.companion_file.specs.Earlier.{Said}
 use Rattle.companion_file.specs.Tests.{is_pid, is_value, is_nice, is_in_turn, is_in_limits, fault_of}
@@ -26,6 +26,7 @@ clip (floor_line cpu floor) = floor_line (min cpu many) (clip_integer floor)
 clip (task_line t) = task_line (record { pid = min t.pid many; nice = clip_integer t.nice; idle = t.idle; cpu = min t.cpu many; place = t.place; v = clip_integer t.v })
 clip (claim_line k) = claim_line (record { line = min k.line many; pid = min k.pid many; v = clip_integer k.v; sort = k.sort })
 clip (nice_line k) = nice_line (record { line = min k.line many; pid = min k.pid many; nice = clip_integer k.nice })
+clip (idle_line k) = idle_line (record { line = min k.line many; pid = min k.pid many })
 
 pub clip-neg : (n : ℕ) → clip_integer (neg_ℤ (pos n)) ≡ neg_ℤ (pos (min n beyond_range))
 clip-neg zero = refl
@@ -82,6 +83,7 @@ turn_clip said (floor_line cpu floor) = refl
 turn_clip said (task_line t) = refl
 turn_clip said (claim_line k) = refl
 turn_clip said (nice_line k) = refl
+turn_clip said (idle_line k) = refl
 
 limits_clip : (cpus : ℕ) (x : Shape) → cpus ≤ most_processors → is_in_limits cpus (clip x) ≡ is_in_limits cpus x
 limits_clip cpus (version_line n) few = refl
@@ -91,6 +93,7 @@ limits_clip cpus (floor_line cpu floor) few = rw (lt_clip cpu cpus few, value_cl
 limits_clip cpus (task_line t) few = rw (pid_clip t.pid, nice_clip t.nice, lt_clip t.cpu cpus few, value_clip t.v) refl
 limits_clip cpus (claim_line k) few = rw (one_le_clip k.line, le_clip k.line greatest_line (omega arith), pid_clip k.pid, value_clip k.v) refl
 limits_clip cpus (nice_line k) few = rw (one_le_clip k.line, le_clip k.line greatest_line (omega arith), pid_clip k.pid, nice_clip k.nice) refl
+limits_clip cpus (idle_line k) few = rw (le_clip k.line greatest_line (omega arith), pid_clip k.pid) refl
 
 same_in_limits : (said : Said) (cpus : ℕ) (x : Shape) → cpus ≤ most_processors → is_in_turn said x ≡ true → is_in_limits cpus x ≡ true → clip x ≡ x
 same_in_limits said cpus (version_line n) few turn ok = absurd cc
@@ -116,6 +119,9 @@ same_in_limits said cpus (nice_line k) few turn ok =
     let second = and_parts (leb 1 k.line && leb k.line greatest_line) (is_pid k.pid) third.0 in
     let first = and_parts (leb 1 k.line) (leb k.line greatest_line) second.0 in
     rw (le_same k.line greatest_line (omega arith) first.1, pid_same k.pid second.1, nice_same k.nice third.1) refl
+same_in_limits said cpus (idle_line k) few turn ok =
+    let parts = and_parts (leb k.line greatest_line) (is_pid k.pid) ok in
+    rw (le_same k.line greatest_line (omega arith) parts.0, pid_same k.pid parts.1) refl
 
 pub fault_clip : (said : Said) (x : Shape) → unwrap_or said.cpus 0 ≤ most_processors → fault_of said (clip x) ≡ fault_of said x
 fault_clip said x few =

@@ -1,19 +1,19 @@
 -- Lines that are all good, one after another: their order is kept, and one more good line makes one more of them.
-use Rattle.std.proofs.Common.{◌≡◌, ℕ, false, ◌^◌, ◌<◌, List, [], ◌∷◌, ◌++◌, length, Option, Some, None, Result, Ok, Err, refl, sym, ap, subst, inl, inr, arith}
+use Rattle.std.proofs.Common.{◌≡◌, ℕ, true, false, ◌^◌, ◌<◌, List, [], ◌∷◌, ◌++◌, length, Option, Some, None, Result, Ok, Err, refl, sym, ap, subst, inl, inr, arith}
 use Rattle.std.specs.Prelude.{MatchOption}
 use Rattle.std.specs.Option.{option_map_or}
 use Rattle.std.proofs.lemmas.List.Elements.{All-nil}
 use Rattle.cfs_model.specs.Charge.{IsInRange}
-use Rattle.cfs_model.specs.declared.task.Task.{Task}
+use Rattle.cfs_model.specs.declared.idle_line.IdleLine.{IdleLine}
 use Rattle.text_parts.specs.Numerals.{value_of}
 use Rattle.text_parts.specs.Time.{IsFraction}
 use Rattle.text_parts.proofs.Times.{value_below}
-use Rattle.cfs_model.specs.Limits.{nanoseconds_per_second}
+use Rattle.cfs_model.specs.Limits.{no_line, nanoseconds_per_second}
 use Rattle.companion_file.specs.declared.fault.CompanionCause.{CompanionCause}
-use Rattle.companion_file.specs.Shape.{Shape, version_line, cpus_line, start_line, floor_line, task_line, claim_line, nice_line}
+use Rattle.companion_file.specs.Shape.{Shape, version_line, cpus_line, start_line, floor_line, task_line, claim_line, nice_line, idle_line}
 use Rattle.text_parts.specs.Lines.{IsComment}
 use Rattle.companion_file.specs.Spelling.{IsSpelled}
-use Rattle.companion_file.specs.Reading.{IsTaskInLimits, IsClaimInLimits, IsNiceLineInLimits}
+use Rattle.companion_file.specs.Reading.{IsTaskInLimits, IsClaimInLimits, IsNiceLineInLimits, IsIdleLineInLimits}
 use Rattle.companion_file.specs.Earlier.{Said, summed}
 use Rattle.companion_file.specs.Tests.{fault_of, tested, IsJudgedFirst, IsJudgedLater, IsJudged}
 use Rattle.companion_file.specs.Draft.{KeepsOrder, with_line}
@@ -31,9 +31,10 @@ second_fits version line (version_line n) p = tt
 second_fits version line (cpus_line n) p = tt
 second_fits version line (start_line seconds nanoseconds) p = fraction_below p.1.fraction_digits nanoseconds (value_below p.1.fraction_digits p.1.fraction_numeral.all) p.1.fraction_value
 second_fits version line (floor_line cpu floor) p = tt
-second_fits version line (task_line t) p = p.0
+second_fits version line (task_line t) p = tt
 second_fits version line (claim_line k) p = tt
 second_fits version line (nice_line k) p = tt
+second_fits version line (idle_line k) p = tt
 
 pub nothing_order : KeepsOrder (summed [])
 nothing_order =
@@ -49,7 +50,10 @@ nothing_order =
       lines_rise = λ i j d lt within. absurd (omega arith);
       nices_kept = All-nil IsNiceLineInLimits;
       nice_lines_rise = λ i j d lt within. absurd (omega arith);
-      policies_kept = All-nil (λ (t : Task). t.idle ≡ false);
+      idles_kept = All-nil IsIdleLineInLimits;
+      idles_rise = λ i j d lt within. absurd (omega arith);
+      policies_kept = refl;
+      named_kept = All-nil (λ (idle : IdleLine). idle.line ≡ no_line → false ≡ true);
     }
 
 order_first_line : (said : Said) (version : ℕ) → KeepsOrder said → KeepsOrder (record said { version = Some version })
@@ -66,7 +70,10 @@ order_first_line said version order =
       lines_rise = order.lines_rise;
       nices_kept = order.nices_kept;
       nice_lines_rise = order.nice_lines_rise;
+      idles_kept = order.idles_kept;
+      idles_rise = order.idles_rise;
       policies_kept = order.policies_kept;
+      named_kept = order.named_kept;
     }
 
 -- the outcome of the tests is what the line says only where none failed

@@ -1,34 +1,40 @@
 -- One more good line keeps the order: a case for each shape.
-use Rattle.std.proofs.Common.{◌≡◌, ℕ, ◌+◌, ◌*◌, ◌<◌, ◌≤◌, Bool, true, false, not, ◌&&◌, eqb, leb, ltb, ℤ, get_or, Option, Some, None, refl, ap, arith}
+use Rattle.std.proofs.Common.{◌≡◌, ℕ, ◌+◌, ◌*◌, ◌<◌, ◌≤◌, Bool, true, false, not, ◌&&◌, ◌||◌, eqb, leb, ltb, ℤ, List, [], ◌∷◌, ◌++◌, map, get_or, Option, Some, None, refl, ap, ◌∙◌, arith}
 use Rattle.std.specs.Prelude.{unwrap_or, is_some}
 use Rattle.std.specs.Option.{is_none, option_map_or}
+use Rattle.std.specs.List.{list_any}
 use Rattle.std.proofs.lemmas.Bool.{and_parts, and_from, eq-eqb}
 use Rattle.std.proofs.lemmas.Bool.Decides.{nat_tests}
+use Rattle.std.proofs.lemmas.List.{map-append}
+use Rattle.std.proofs.lemmas.List.Folds.{list_any-append}
 use Rattle.std.proofs.lemmas.List.Elements.{All-push, All-weaker}
 use Rattle.std.proofs.lemmas.List.Quantifiers.{all_pairs_push}
 use Rattle.cfs_model.specs.declared.task.Task.{Task}
 use Rattle.cfs_model.specs.declared.claim.Claim.{Claim}
 use Rattle.cfs_model.specs.declared.nice_line.NiceLine.{NiceLine}
+use Rattle.cfs_model.specs.declared.idle_line.IdleLine.{IdleLine}
 use Rattle.cfs_model.specs.Charge.{IsInRange}
-use Rattle.cfs_model.specs.Limits.{greatest_line, greatest_seconds, most_processors, nanoseconds_per_second}
-use Rattle.companion_file.specs.Shape.{Shape, version_line, cpus_line, start_line, floor_line, task_line, claim_line, nice_line}
-use Rattle.companion_file.specs.Earlier.{Said, last_nice, has_all_floors, is_run, is_taken}
+use Rattle.cfs_model.specs.Limits.{greatest_line, no_line, greatest_seconds, most_processors, nanoseconds_per_second}
+use Rattle.companion_file.specs.Shape.{Shape, version_line, cpus_line, start_line, floor_line, task_line, claim_line, nice_line, idle_line}
+use Rattle.companion_file.specs.Earlier.{Said, last_nice, has_all_floors, is_run, is_taken, is_task, with_policy}
 use Rattle.companion_file.specs.Tests.{is_pid, is_value, is_nice, is_above_claims}
-use Rattle.companion_file.specs.Reading.{IsTaskInLimits, IsClaimInLimits, IsNiceLineInLimits}
+use Rattle.companion_file.specs.Reading.{IsTaskInLimits, IsClaimInLimits, IsNiceLineInLimits, IsIdleLineInLimits, IdleRises}
 use Rattle.cfs_model.specs.Order.{RunApart}
 use Rattle.companion_file.proofs.KeptOrder.{Passes, value_fact, nice_fact, pid_fact}
-use Rattle.companion_file.proofs.Rising.{rises_push, none_passes}
+use Rattle.companion_file.proofs.Policies.{policies_again, task_kept, limits_kept, pairs_kept}
+use Rattle.companion_file.proofs.Rising.{follows_push, rises_push, none_passes}
 use Rattle.companion_file.specs.Draft.{KeepsOrder, with_line}
 
--- the nanoseconds of a start are less than a second, and a task's line says no policy
+-- the nanoseconds of a start are less than a second
 abbrev pub FitsSecond : Shape → Type 0
 FitsSecond (version_line n) = Unit {0}
 FitsSecond (cpus_line n) = Unit {0}
 FitsSecond (start_line seconds nanoseconds) = nanoseconds < nanoseconds_per_second
 FitsSecond (floor_line cpu floor) = Unit {0}
-FitsSecond (task_line t) = t.idle ≡ false
+FitsSecond (task_line t) = Unit {0}
 FitsSecond (claim_line k) = Unit {0}
 FitsSecond (nice_line k) = Unit {0}
+FitsSecond (idle_line k) = Unit {0}
 
 none_is : (o : Option ℕ) → is_none o ≡ true → o ≡ None
 none_is None e = refl
@@ -53,7 +59,10 @@ order_cpus said n order passes =
       lines_rise = order.lines_rise;
       nices_kept = order.nices_kept;
       nice_lines_rise = order.nice_lines_rise;
+      idles_kept = order.idles_kept;
+      idles_rise = order.idles_rise;
       policies_kept = order.policies_kept;
+      named_kept = order.named_kept;
     }
 
 order_start : (said : Said) (seconds nanoseconds : ℕ) → nanoseconds < nanoseconds_per_second → KeepsOrder said → Passes said (start_line seconds nanoseconds) → KeepsOrder (with_line said (start_line seconds nanoseconds))
@@ -72,7 +81,10 @@ order_start said seconds nanoseconds below order passes =
       lines_rise = order.lines_rise;
       nices_kept = order.nices_kept;
       nice_lines_rise = order.nice_lines_rise;
+      idles_kept = order.idles_kept;
+      idles_rise = order.idles_rise;
       policies_kept = order.policies_kept;
+      named_kept = order.named_kept;
     }
 
 order_floor : (said : Said) (cpu : ℕ) (floor : ℤ) → KeepsOrder said → Passes said (floor_line cpu floor) → KeepsOrder (with_line said (floor_line cpu floor))
@@ -91,7 +103,10 @@ order_floor said cpu floor order passes =
       lines_rise = order.lines_rise;
       nices_kept = order.nices_kept;
       nice_lines_rise = order.nice_lines_rise;
+      idles_kept = order.idles_kept;
+      idles_rise = order.idles_rise;
       policies_kept = order.policies_kept;
+      named_kept = order.named_kept;
     }
 
 -- a test of a conjunction that failed though its first part holds
@@ -100,8 +115,12 @@ second_fails true true e f = absurd cc
 second_fails true false e f = refl
 second_fails false b e f = absurd cc
 
-order_task : (said : Said) (t : Task) → t.idle ≡ false → KeepsOrder said → Passes said (task_line t) → KeepsOrder (with_line said (task_line t))
-order_task said t plain order passes =
+-- what one of them passed, one of them and one more passes
+one_more : (p : Task → Bool) (tasks : List Task) (t : Task) → list_any p tasks ≡ true → list_any p (tasks ++ t ∷ []) ≡ true
+one_more p tasks t some = list_any-append p tasks (t ∷ []) ∙ rw some refl
+
+order_task : (said : Said) (t : Task) → KeepsOrder said → Passes said (task_line t) → KeepsOrder (with_line said (task_line t))
+order_task said t order passes =
     let third = and_parts (is_pid t.pid && is_nice t.nice && ltb t.cpu (unwrap_or said.cpus 0)) (is_value t.v) passes.limits in
     let second = and_parts (is_pid t.pid && is_nice t.nice) (ltb t.cpu (unwrap_or said.cpus 0)) third.0 in
     let first = and_parts (is_pid t.pid) (is_nice t.nice) second.0 in
@@ -111,14 +130,14 @@ order_task said t plain order passes =
       start_kept = order.start_kept;
       floors_after_start = order.floors_after_start;
       floors_kept = order.floors_kept;
-      tasks_kept = All-push (IsTaskInLimits (unwrap_or said.cpus 0)) said.tasks t order.tasks_kept
+      tasks_kept = All-push (IsTaskInLimits (unwrap_or said.cpus 0)) said.tasks (with_policy said.idles t) order.tasks_kept
           (record { pid = pid_fact t.pid first.0; nice = nice_fact t.nice first.1; cpu = inside; v = value_fact t.v third.1 });
-      pids_rise = rises_push (λ (u : Task). u.pid) said.tasks t order.pids_rise
+      pids_rise = rises_push (λ (u : Task). u.pid) said.tasks (with_policy said.idles t) order.pids_rise
           (λ l e.
           let next : leb l.pid t.pid ≡ true = rw e at passes.next in
           let new : not (eqb l.pid t.pid) ≡ true = rw e at passes.new in
           grind (arith, nat_tests));
-      one_runs_a_cpu = all_pairs_push RunApart said.tasks t order.one_runs_a_cpu
+      one_runs_a_cpu = all_pairs_push RunApart said.tasks (with_policy said.idles t) order.one_runs_a_cpu
           (λ k d within runs this_runs same.
           let free = second_fails (is_run t.place) (is_taken said.tasks t.cpu) passes.alone (ap is_run this_runs) in
           let apart = none_passes (λ (u : Task). is_run u.place && eqb u.cpu t.cpu) said.tasks free k d within in
@@ -128,7 +147,13 @@ order_task said t plain order passes =
       lines_rise = order.lines_rise;
       nices_kept = order.nices_kept;
       nice_lines_rise = order.nice_lines_rise;
-      policies_kept = All-push (λ (u : Task). u.idle ≡ false) said.tasks t order.policies_kept plain;
+      idles_kept = order.idles_kept;
+      idles_rise = order.idles_rise;
+      policies_kept = map-append (with_policy said.idles) said.tasks (with_policy said.idles t ∷ [])
+          ∙ ap (λ (ts : List Task). ts ++ with_policy said.idles t ∷ []) order.policies_kept;
+      named_kept = All-weaker (λ (idle : IdleLine). idle.line ≡ no_line → is_task said.tasks idle.pid ≡ true)
+          (λ (idle : IdleLine). idle.line ≡ no_line → is_task (said.tasks ++ with_policy said.idles t ∷ []) idle.pid ≡ true)
+          (λ idle named start. one_more (λ (u : Task). eqb u.pid idle.pid) said.tasks (with_policy said.idles t) (named start)) said.idles order.named_kept;
     }
 
 order_claim : (said : Said) (claim : Claim) → KeepsOrder said → Passes said (claim_line claim) → KeepsOrder (with_line said (claim_line claim))
@@ -153,7 +178,10 @@ order_claim said claim order passes =
           (λ l e. let above : ltb l.line claim.line ≡ true = rw e at parts.0 in grind (arith, nat_tests));
       nices_kept = order.nices_kept;
       nice_lines_rise = order.nice_lines_rise;
+      idles_kept = order.idles_kept;
+      idles_rise = order.idles_rise;
       policies_kept = order.policies_kept;
+      named_kept = order.named_kept;
     }
 
 order_nice : (said : Said) (change : NiceLine) → KeepsOrder said → Passes said (nice_line change) → KeepsOrder (with_line said (nice_line change))
@@ -178,7 +206,54 @@ order_nice said change order passes =
           (record { line = (low, high); pid = pid_fact change.pid second.1; nice = nice_fact change.nice third.1 });
       nice_lines_rise = rises_push (λ (c : NiceLine). c.line) said.nices change order.nice_lines_rise
           (λ l e. let above : ltb l.line change.line ≡ true = rw e at parts.0 in grind (arith, nat_tests));
+      idles_kept = order.idles_kept;
+      idles_rise = order.idles_rise;
       policies_kept = order.policies_kept;
+      named_kept = order.named_kept;
+    }
+
+idle_follows : (last idle : IdleLine) → (ltb last.line idle.line || (eqb last.line idle.line && ltb last.pid idle.pid)) ≡ true → IdleRises last idle
+idle_follows last idle above = record { lines = grind (arith, nat_tests); pids = λ same. grind (arith, nat_tests) }
+
+idles_follow : (a b c : IdleLine) → IdleRises a b → IdleRises b c → IdleRises a c
+idles_follow a b c before after =
+    record {
+      lines = omega (arith, before.lines, after.lines);
+      pids = λ same.
+          let first = before.pids (omega (arith, same, before.lines, after.lines)) in
+          let second = after.pids (omega (arith, same, before.lines, after.lines)) in
+          omega (arith, first, second);
+    }
+
+-- an idle line of the start names a task so far
+idle_known : (tasks : List Task) (idle : IdleLine) → (not (eqb idle.line no_line) || is_task tasks idle.pid) ≡ true → idle.line ≡ no_line → is_task tasks idle.pid ≡ true
+idle_known tasks idle known start = rw start at known
+
+order_idle : (said : Said) (idle : IdleLine) → KeepsOrder said → Passes said (idle_line idle) → KeepsOrder (with_line said (idle_line idle))
+order_idle said idle order passes =
+    let parts = and_parts (leb idle.line greatest_line) (is_pid idle.pid) passes.limits in
+    let high : idle.line ≤ greatest_line = grind (arith, nat_tests) in
+    let idles = said.idles ++ idle ∷ [] in
+    record {
+      cpus_kept = order.cpus_kept;
+      start_kept = order.start_kept;
+      floors_after_start = order.floors_after_start;
+      floors_kept = order.floors_kept;
+      tasks_kept = limits_kept idles (unwrap_or said.cpus 0) said.tasks order.tasks_kept;
+      pids_rise = pairs_kept (λ t u. t.pid < u.pid) idles said.tasks (λ t u below. below) order.pids_rise;
+      one_runs_a_cpu = pairs_kept RunApart idles said.tasks (λ t u apart. apart) order.one_runs_a_cpu;
+      claims_kept = order.claims_kept;
+      lines_rise = order.lines_rise;
+      nices_kept = order.nices_kept;
+      nice_lines_rise = order.nice_lines_rise;
+      idles_kept = All-push IsIdleLineInLimits said.idles idle order.idles_kept (record { line = high; pid = pid_fact idle.pid parts.1 });
+      idles_rise = follows_push IdleRises said.idles idle idles_follow order.idles_rise
+          (λ l e. idle_follows l idle (rw e at passes.above));
+      policies_kept = policies_again idles idles said.tasks;
+      named_kept = All-weaker (λ (k : IdleLine). k.line ≡ no_line → is_task said.tasks k.pid ≡ true)
+          (λ (k : IdleLine). k.line ≡ no_line → is_task (map (with_policy idles) said.tasks) k.pid ≡ true)
+          (λ k named start. task_kept idles said.tasks k.pid ∙ named start) idles
+          (All-push (λ (k : IdleLine). k.line ≡ no_line → is_task said.tasks k.pid ≡ true) said.idles idle order.named_kept (idle_known said.tasks idle passes.known));
     }
 
 pub order_with : (said : Said) (x : Shape) → FitsSecond x → KeepsOrder said → Passes said x → KeepsOrder (with_line said x)
@@ -186,6 +261,7 @@ order_with said (version_line n) fits order passes = let turn : false ≡ true =
 order_with said (cpus_line n) fits order passes = order_cpus said n order passes
 order_with said (start_line seconds nanoseconds) fits order passes = order_start said seconds nanoseconds fits order passes
 order_with said (floor_line cpu floor) fits order passes = order_floor said cpu floor order passes
-order_with said (task_line t) fits order passes = order_task said t fits order passes
+order_with said (task_line t) fits order passes = order_task said t order passes
 order_with said (claim_line claim) fits order passes = order_claim said claim order passes
 order_with said (nice_line change) fits order passes = order_nice said change order passes
+order_with said (idle_line idle) fits order passes = order_idle said idle order passes

@@ -31,7 +31,7 @@ read_once lines r s p q =
     (p.tasks_is ∙ ap (λ (x : List Shape). (summed x).tasks) same ∙ sym q.tasks_is)
     (p.claims_is ∙ ap (λ (x : List Shape). (summed x).claims) same ∙ sym q.claims_is)
     (p.nices_is ∙ ap (λ (x : List Shape). (summed x).nices) same ∙ sym q.nices_is)
-    (p.idles_is ∙ sym q.idles_is)
+    (p.idles_is ∙ ap (λ (x : List Shape). (summed x).idles) same ∙ sym q.idles_is)
 
 bad_after : (lines : List (List ℕ)) (number : ℕ) (cause : CompanionCause) (b : IsFirstBadCompanionLine lines number cause) → IsBadBehind [] b.before b.line cause
 bad_after lines number cause b = record { said = b.said; good = b.good; content = b.content; bad = b.bad }

@@ -101,7 +101,7 @@ reached_whole text rest number kept r at empty whole =
       tasks_is = rw at.kept_is at whole.tasks_is;
       claims_is = rw at.kept_is at whole.claims_is;
       nices_is = rw at.kept_is at whole.nices_is;
-      idles_is = whole.idles_is;
+      idles_is = rw at.kept_is at whole.idles_is;
     }
 
 -- ---- the answers

@@ -12,9 +12,9 @@ use Rattle.text_parts.specs.Reading.{◌>>=◌, after_text, time_at}
 use Rattle.text_parts.proofs.Runs.{bind_some, text_taken}
 use Rattle.text_parts.proofs.Words.{time_from_word}
 use Rattle.std.proofs.lemmas.Option.{same_Some}
-use Rattle.companion_file.specs.Shape.{Shape, version_line, cpus_line, start_line, floor_line, task_line, claim_line, nice_line}
+use Rattle.companion_file.specs.Shape.{Shape, version_line, cpus_line, start_line, floor_line, task_line, claim_line, nice_line, idle_line}
 use Rattle.companion_file.specs.Spelling.{place_word, sort_word, IsSpelled}
-use Rattle.companion_file.specs.ShapeReading.{number_field, number_whole, integer_field, integer_whole, place_field, version_shape_at, cpus_shape_at, start_shape_at, floor_shape_at, task_shape_at, claim_shape_at, nice_shape_at, front_shape_at, shape_at}
+use Rattle.companion_file.specs.ShapeReading.{number_field, number_whole, integer_field, integer_whole, place_field, version_shape_at, cpus_shape_at, start_shape_at, floor_shape_at, task_shape_at, claim_shape_at, nice_shape_at, idle_shape_at, front_shape_at, shape_at}
 use Rattle.companion_file.proofs.Clip.{clip, clip_integer}
 use Rattle.companion_file.proofs.Starts.{start_again}
 use Rattle.companion_file.proofs.ReadFields.{spaced_from, number_field_again, number_whole_again, integer_field_again, integer_whole_again, place_field_again, number_field_taken, number_whole_taken, integer_field_taken, integer_whole_taken, place_field_taken}
@@ -38,6 +38,10 @@ nice_tried : (version : ℕ) (rest : List ℕ) → shape_at version (spaced_from
 unfolding shape_at after_text
 nice_tried version rest = refl
 
+idle_tried : (version : ℕ) (rest : List ℕ) → shape_at version (spaced_from (codes "idle") rest) ≡ idle_shape_at version rest
+unfolding shape_at after_text
+idle_tried version rest = refl
+
 start_tried : (version : ℕ) (rest : List ℕ) → shape_at version (spaced_from (codes "start") rest) ≡ start_shape_at rest
 unfolding shape_at front_shape_at after_text
 start_tried version rest = refl
@@ -51,7 +55,7 @@ unfolding shape_at front_shape_at after_text
 version_tried version rest = refl
 
 pub shape_again : (version : ℕ) (line : List ℕ) (x : Shape) → IsSpelled version line x → shape_at version line ≡ Some (clip x)
-unfolding version_shape_at cpus_shape_at floor_shape_at task_shape_at claim_shape_at nice_shape_at
+unfolding version_shape_at cpus_shape_at floor_shape_at task_shape_at claim_shape_at nice_shape_at idle_shape_at
 shape_again version line (version_line n) p =
     ap (shape_at version) p.2 ∙ version_tried version p.0 ∙ rw (number_whole_again p.0 n p.1) refl
 shape_again version line (cpus_line n) p =
@@ -71,6 +75,9 @@ shape_again version line (claim_line k) p =
 shape_again version line (nice_line k) p =
     ap (shape_at version) p.7 ∙ nice_tried version (spaced_from p.1 (spaced_from p.2 p.3))
     ∙ rw (p.0, number_field_again p.1 (spaced_from p.2 p.3) k.line p.4, number_field_again p.2 p.3 k.pid p.5, integer_whole_again p.3 k.nice p.6) refl
+shape_again version line (idle_line k) p =
+    ap (shape_at version) p.5 ∙ idle_tried version (spaced_from p.1 p.2)
+    ∙ rw (p.0, number_field_again p.1 p.2 k.line p.3, number_whole_again p.2 k.pid p.4) refl
 
 -- ---- what is read is spelled
 
@@ -87,6 +94,9 @@ same_claim l m p q v w sort e f g = rw (e, f, g) refl
 
 same_nice : (l m p q : ℕ) (v w : ℤ) → l ≡ m → p ≡ q → v ≡ w → nice_line (record { line = l; pid = p; nice = v }) ≡ nice_line (record { line = m; pid = q; nice = w })
 same_nice l m p q v w e f g = rw (e, f, g) refl
+
+same_idle : (l m p q : ℕ) → l ≡ m → p ≡ q → idle_line (record { line = l; pid = p }) ≡ idle_line (record { line = m; pid = q })
+same_idle l m p q e f = rw (e, f) refl
 
 same_task : (p q : ℕ) (n o : ℤ) (c d : ℕ) (v w : ℤ) (place : Place) → p ≡ q → n ≡ o → c ≡ d → v ≡ w
     → task_line (record { pid = p; nice = n; idle = false; cpu = c; place = place; v = v }) ≡ task_line (record { pid = q; nice = o; idle = false; cpu = d; place = place; v = w })
@@ -165,6 +175,24 @@ nice_found version rest y e =
       | inr other ↦ let none : None ≡ Some y = rw other at e in absurd cc
     ]
 
+idle_found : (version : ℕ) (rest : List ℕ) (y : Shape) → idle_shape_at version rest ≡ Some y → IsFound version (spaced_from (codes "idle") rest) y
+unfolding idle_shape_at
+idle_found version rest y e =
+    elim (cases_Bool (eqb version 2)) [
+      | inl two ↦
+          let read : (number_field rest >>= λ line. number_whole line.1 >>= λ pid. Some (idle_line (record { line = line.0; pid = pid }))) ≡ Some y = rw two at e in
+          let a = bind_some (number_field rest) (λ line. number_whole line.1 >>= λ pid. Some (idle_line (record { line = line.0; pid = pid }))) y read in
+          let b = bind_some (number_whole a.0.1) (λ pid. Some (idle_line (record { line = a.0.0; pid = pid }))) y a.2 in
+          let t0 = number_field_taken rest a.0.0 a.0.1 a.1 in
+          let t1 = number_whole_taken a.0.1 b.0 b.1 in (
+            idle_line (record { line = t0.exact; pid = t1.0 }),
+            (eqb-true version 2 two, t0.word, a.0.1, t0.spelled, t1.1, ap (λ (s : List ℕ). spaced_from (codes "idle") s) t0.whole),
+            sym (same_Some (idle_line (record { line = a.0.0; pid = b.0 })) y b.2)
+                ∙ same_idle a.0.0 (min t0.exact many) b.0 (min t1.0 many) t0.value t1.2,
+          )
+      | inr other ↦ let none : None ≡ Some y = rw other at e in absurd cc
+    ]
+
 task_found : (version : ℕ) (rest : List ℕ) (y : Shape) → task_shape_at rest ≡ Some y → IsFound version (spaced_from (codes "task") rest) y
 unfolding task_shape_at
 task_found version rest y e =
@@ -222,9 +250,12 @@ shape_taken version line y e =
           | inl p ↦ moved version (codes "task") line p.0 y p.1 refl (task_found version p.0 y p.2)
           | inr h ↦ elim (tried floor_shape_at (after_text (codes "floor ") line) _ y h) [
             | inl p ↦ moved version (codes "floor") line p.0 y p.1 refl (floor_found version p.0 y p.2)
-            | inr i ↦ elim (tried (nice_shape_at version) (after_text (codes "nice ") line) (front_shape_at line) y i) [
+            | inr i ↦ elim (tried (nice_shape_at version) (after_text (codes "nice ") line) _ y i) [
               | inl p ↦ moved version (codes "nice") line p.0 y p.1 refl (nice_found version p.0 y p.2)
-              | inr j ↦ front_found version line y j
+              | inr j ↦ elim (tried (idle_shape_at version) (after_text (codes "idle ") line) (front_shape_at line) y j) [
+                | inl p ↦ moved version (codes "idle") line p.0 y p.1 refl (idle_found version p.0 y p.2)
+                | inr l ↦ front_found version line y l
+              ]
             ]
           ]
         ]

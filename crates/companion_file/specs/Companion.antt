@@ -49,7 +49,7 @@ pub record IsRead (lines : List (List ℕ)) (r : CompanionView) : Type 0 where
   pub tasks_is : r.tasks ≡ (summed said).tasks
   pub claims_is : r.claims ≡ (summed said).claims
   pub nices_is : r.nices ≡ (summed said).nices
-  pub idles_is : r.idles ≡ []
+  pub idles_is : r.idles ≡ (summed said).idles
 
 -- the lines are refused at a line for a cause
 abbrev pub IsRefusedCompanion : List (List ℕ) → ℕ → CompanionCause → Type 0

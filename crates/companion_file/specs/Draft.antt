@@ -1,20 +1,20 @@
 -- What the reader keeps of the lines so far, and what one more line makes of it. It is proved that this is what
 -- those lines say, taken together.
-use Rattle.std.specs.Prelude.{◌≡◌, ℕ, ◌+◌, ◌*◌, ◌<◌, ◌≤◌, Bool, true, false, List, [], ◌∷◌, ◌++◌, length, unwrap_or, All, AllPairs, Option, Some, None, Result, Ok, Err, slice_index_or, ◌⊎◌}
+use Rattle.std.specs.Prelude.{◌≡◌, ℕ, ◌+◌, ◌*◌, ◌<◌, ◌≤◌, Bool, true, false, List, [], ◌∷◌, ◌++◌, length, map, unwrap_or, All, AllPairs, Option, Some, None, Result, Ok, Err, slice_index_or, ◌⊎◌}
 use Rattle.std.specs.Option.{ForSome}
 use Rattle.cfs_model.specs.declared.task.Task.{Task}
 use Rattle.companion_file.specs.declared.fault.Refusal.{Refusal}
 use Rattle.companion_file.specs.declared.fault.Refusal.TheVariants as refusals
-use Rattle.companion_file.specs.Shape.{Shape, version_line, cpus_line, start_line, floor_line, task_line, claim_line, nice_line}
+use Rattle.companion_file.specs.Shape.{Shape, version_line, cpus_line, start_line, floor_line, task_line, claim_line, nice_line, idle_line}
 use Rattle.companion_file.specs.declared.fault.CompanionCause.TheVariants.{Version}
 use Rattle.companion_file.specs.declared.fault.CompanionFault.{CompanionFault}
 use Rattle.companion_file.specs.declared.fault.CompanionFault.TheVariants as faults
 use Rattle.companion_file.specs.Spelling.{IsFirstLine}
-use Rattle.companion_file.specs.Earlier.{Said, has_all_floors, is_taken}
+use Rattle.companion_file.specs.Earlier.{Said, has_all_floors, is_taken, is_task, with_policy}
 use Rattle.text_parts.specs.Lines.{IsComment}
-use Rattle.cfs_model.specs.Limits.{most_processors, greatest_seconds, nanoseconds_per_second}
+use Rattle.cfs_model.specs.Limits.{no_line, most_processors, greatest_seconds, nanoseconds_per_second}
 use Rattle.cfs_model.specs.Charge.{IsInRange}
-use Rattle.companion_file.specs.Reading.{CompanionView, IsTaskInLimits, IsClaimInLimits, IsNiceLineInLimits}
+use Rattle.companion_file.specs.Reading.{CompanionView, IsTaskInLimits, IsClaimInLimits, IsNiceLineInLimits, IsIdleLineInLimits, IdleRises}
 use Rattle.cfs_model.specs.Order.{RunApart}
 use Rattle.companion_file.specs.Tests.{fault_of, IsJudged}
 
@@ -29,9 +29,13 @@ with_line said (version_line n) = record said { version = Some n }
 with_line said (cpus_line n) = record said { cpus = Some n }
 with_line said (start_line seconds nanoseconds) = record said { start = Some (seconds * nanoseconds_per_second + nanoseconds) }
 with_line said (floor_line cpu floor) = record said { floors = said.floors ++ floor ∷ [] }
-with_line said (task_line task) = record said { tasks = said.tasks ++ task ∷ [] }
+with_line said (task_line task) = record said { tasks = said.tasks ++ with_policy said.idles task ∷ [] }
 with_line said (claim_line claim) = record said { claims = said.claims ++ claim ∷ [] }
 with_line said (nice_line change) = record said { nices = said.nices ++ change ∷ [] }
+with_line said (idle_line idle) = record said {
+  tasks = map (with_policy (said.idles ++ idle ∷ [])) said.tasks;
+  idles = said.idles ++ idle ∷ [];
+}
 
 -- the line with this shape was added, if memory sufficed
 abbrev pub Adds : Said → Shape → Result Unit Refusal → Said → Type 0
@@ -59,6 +63,11 @@ Takes old line (Ok _) new =
 Takes old line (Err (refusals.Bad cause)) new = (¬ IsComment line) × IsJudged old line (Err cause)
 Takes old line (Err refusals.Memory) new = Unit {0}
 
+-- the task of this pid stands at this place
+pub record IsTaskAt (tasks : List Task) (pid place : ℕ) : Type 0 where
+  pub within : place < length tasks
+  pub pid_is : (d : Task) → (slice_index_or tasks place d).pid ≡ pid
+
 -- what lines say that are all good
 pub record KeepsOrder (said : Said) : Type 0 where
   pub cpus_kept : ForSome said.cpus (λ n. (1 ≤ n) × (n ≤ most_processors))
@@ -72,7 +81,10 @@ pub record KeepsOrder (said : Said) : Type 0 where
   pub lines_rise : AllPairs (λ a b. a.line < b.line) said.claims
   pub nices_kept : All IsNiceLineInLimits said.nices
   pub nice_lines_rise : AllPairs (λ a b. a.line < b.line) said.nices
-  pub policies_kept : All (λ t. t.idle ≡ false) said.tasks
+  pub idles_kept : All IsIdleLineInLimits said.idles
+  pub idles_rise : AllPairs IdleRises said.idles
+  pub policies_kept : map (with_policy said.idles) said.tasks ≡ said.tasks
+  pub named_kept : All (λ idle. idle.line ≡ no_line → is_task said.tasks idle.pid ≡ true) said.idles
 
 -- no floor is missing, and this is what was said
 pub record IsCompleted (said : Said) (r : CompanionView) : Type 0 where
@@ -83,7 +95,7 @@ pub record IsCompleted (said : Said) (r : CompanionView) : Type 0 where
   pub tasks_is : r.tasks ≡ said.tasks
   pub claims_is : r.claims ≡ said.claims
   pub nices_is : r.nices ≡ said.nices
-  pub idles_is : r.idles ≡ []
+  pub idles_is : r.idles ≡ said.idles
 
 -- the fault of a text whose line was refused
 abbrev pub fault_at : ℕ → Refusal → CompanionFault

@@ -1,14 +1,16 @@
 -- What the lines of a companion up to a place say, taken together (this project's companion format).
-use Rattle.std.specs.Prelude.{ℕ, ◌+◌, ◌*◌, ℤ, Bool, true, false, ◌==◌, ◌&&◌, List, length, filter_map, Option, Some, None}
+use Rattle.std.specs.Prelude.{ℕ, ◌+◌, ◌*◌, ℤ, Bool, true, false, ◌==◌, ◌&&◌, List, length, map, filter_map, Option, Some, None}
 use Rattle.std.specs.Option.{option_map_or}
 use Rattle.std.specs.List.{last_or, list_any}
-use Rattle.cfs_model.specs.Limits.{nanoseconds_per_second}
+use Rattle.cfs_model.specs.Limits.{no_line, nanoseconds_per_second}
 use Rattle.cfs_model.specs.declared.task.Task.{Task}
 use Rattle.cfs_model.specs.declared.task.Place.{Place}
 use Rattle.cfs_model.specs.declared.task.Place.TheVariants.{Run, Wait, Rest}
 use Rattle.cfs_model.specs.declared.claim.Claim.{Claim}
 use Rattle.cfs_model.specs.declared.nice_line.NiceLine.{NiceLine}
-use Rattle.companion_file.specs.Shape.{Shape, version_line, cpus_line, start_line, floor_line, task_line, claim_line, nice_line}
+use Rattle.cfs_model.specs.declared.idle_line.IdleLine.{IdleLine}
+use Rattle.cfs_model.specs.Claimed.{is_named_idle}
+use Rattle.companion_file.specs.Shape.{Shape, version_line, cpus_line, start_line, floor_line, task_line, claim_line, nice_line, idle_line}
 
 -- the format's version that a line names, if it names one
 abbrev pub version_in : Shape → Option ℕ
@@ -45,6 +47,22 @@ abbrev pub nice_in : Shape → Option NiceLine
 nice_in (nice_line change) = Some change
 nice_in _ = None
 
+-- who is of the idle policy by a line
+abbrev pub idle_in : Shape → Option IdleLine
+idle_in (idle_line idle) = Some idle
+idle_in _ = None
+
+-- a task of the start state with the policy that idle lines tell
+abbrev pub with_policy : List IdleLine → Task → Task
+with_policy idles task = record {
+  pid = task.pid;
+  nice = task.nice;
+  idle = is_named_idle idles no_line task.pid;
+  cpu = task.cpu;
+  place = task.place;
+  v = task.v;
+}
+
 -- what lines say, taken together
 pub record Said : Type 0 where
   -- the format's version, once the first line has named it
@@ -55,12 +73,14 @@ pub record Said : Type 0 where
   pub start : Option ℕ
   -- the floors so far, from processor 0 on
   pub floors : List ℤ
-  -- the tasks so far
+  -- the tasks so far, with the policies so far
   pub tasks : List Task
   -- the claims so far
   pub claims : List Claim
   -- the changes of nice values so far
   pub nices : List NiceLine
+  -- who is of the idle policy so far
+  pub idles : List IdleLine
 
 -- what these lines say, taken together
 abbrev pub summed : List Shape → Said
@@ -70,9 +90,10 @@ summed lines =
       cpus = last_or None (filter_map cpus_in lines);
       start = last_or None (filter_map start_in lines);
       floors = filter_map floor_in lines;
-      tasks = filter_map task_named_on lines;
+      tasks = map (with_policy (filter_map idle_in lines)) (filter_map task_named_on lines);
       claims = filter_map claim_in lines;
       nices = filter_map nice_in lines;
+      idles = filter_map idle_in lines;
     }
 
 -- the last task so far
@@ -87,6 +108,10 @@ last_claim said = last_or None said.claims
 abbrev pub last_nice : Said → Option NiceLine
 last_nice said = last_or None said.nices
 
+-- the last idle line so far
+abbrev pub last_idle : Said → Option IdleLine
+last_idle said = last_or None said.idles
+
 -- each processor has its floor
 abbrev pub has_all_floors : Said → Bool
 has_all_floors said = option_map_or (λ n. length said.floors == n) said.cpus false
@@ -100,3 +125,7 @@ is_run Rest = false
 -- a task so far runs at the processor
 abbrev pub is_taken : List Task → ℕ → Bool
 is_taken tasks cpu = list_any (λ task. is_run task.place && (task.cpu == cpu)) tasks
+
+-- a task so far has this pid
+abbrev pub is_task : List Task → ℕ → Bool
+is_task tasks pid = list_any (λ task. task.pid == pid) tasks

@@ -3,6 +3,7 @@ use Rattle.std.specs.Prelude.{ℕ, ℤ}
 use Rattle.cfs_model.specs.declared.task.Task.{Task}
 use Rattle.cfs_model.specs.declared.claim.Claim.{Claim}
 use Rattle.cfs_model.specs.declared.nice_line.NiceLine.{NiceLine}
+use Rattle.cfs_model.specs.declared.idle_line.IdleLine.{IdleLine}
 
 -- what a line that is no comment says, its numbers as they are spelled, within their limits or not
 pub data Shape : Type 0 where
@@ -14,9 +15,11 @@ pub data Shape : Type 0 where
   start_line : ℕ → ℕ → Shape
   -- a processor and its floor
   floor_line : ℕ → ℤ → Shape
-  -- a task of the start state
+  -- a task of the start state; its line tells no policy
   task_line : Task → Shape
   -- a virtual runtime claimed at a line of the trace
   claim_line : Claim → Shape
   -- a change of a task's nice value at a line of the trace
   nice_line : NiceLine → Shape
+  -- a task that is of the idle policy from the start, or from its birth at a line of the trace on
+  idle_line : IdleLine → Shape

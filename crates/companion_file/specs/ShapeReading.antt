@@ -9,7 +9,7 @@ use Rattle.cfs_model.specs.declared.task.Place.TheVariants.{Run, Wait, Rest}
 use Rattle.cfs_model.specs.declared.claim.ClaimSort.{ClaimSort}
 use Rattle.cfs_model.specs.declared.claim.ClaimSort.TheVariants.{At, Pass}
 use Rattle.text_parts.specs.Reading.{◌>>=◌, or_else, if_at_end, after_text, numeral_at, time_at}
-use Rattle.companion_file.specs.Shape.{Shape, version_line, cpus_line, start_line, floor_line, task_line, claim_line, nice_line}
+use Rattle.companion_file.specs.Shape.{Shape, version_line, cpus_line, start_line, floor_line, task_line, claim_line, nice_line, idle_line}
 
 -- a number above each virtual runtime; larger ones are read as this one
 abbrev pub beyond_range : ℕ
@@ -101,6 +101,13 @@ nice_shape_at version text = if not (version == 2) then None else do
   nice ← integer_whole pid.1
   Some (nice_line (record { line = line.0; pid = pid.0; nice = nice }))
 
+-- what follows the word `idle`, which only version 2 has
+unfoldable pub idle_shape_at : ℕ → List ℕ → Option Shape
+idle_shape_at version text = if not (version == 2) then None else do
+  line ← number_field text
+  pid ← number_whole line.1
+  Some (idle_line (record { line = line.0; pid = pid }))
+
 -- the first word decides the shape: of those that stand before the floors
 unfoldable pub front_shape_at : List ℕ → Option Shape
 front_shape_at line =
@@ -115,4 +122,5 @@ shape_at version line =
     (option_map_or (claim_shape_at Pass) (after_text (codes "pass ") line)
     (option_map_or task_shape_at (after_text (codes "task ") line)
     (option_map_or floor_shape_at (after_text (codes "floor ") line)
-    (option_map_or (nice_shape_at version) (after_text (codes "nice ") line) (front_shape_at line)))))
+    (option_map_or (nice_shape_at version) (after_text (codes "nice ") line)
+    (option_map_or (idle_shape_at version) (after_text (codes "idle ") line) (front_shape_at line))))))

@@ -2,8 +2,13 @@
 use Rattle.std.specs.Prelude.{◌≡◌, ℕ, zero, suc, ◌==◌, ◌<◌, ◌≤◌, Bool, ◌&&◌, List, [], ◌∷◌, AllPairs}
 use Rattle.std.specs.List.{list_any}
 use Rattle.cfs_model.specs.declared.idle_line.IdleLine.{IdleLine}
+use Rattle.cfs_model.specs.Limits.{no_line}
 use Rattle.cfs_model.specs.Claimed.{is_named_idle}
 use Rattle.companion_file.specs.declared.idle_span.IdleSpan.{IdleSpan}
+
+-- the span that an idle line begins; where it ends isn't known yet
+abbrev pub span_of : IdleLine → IdleSpan
+span_of idle = record { pid = idle.pid; from = idle.line; until = no_line }
 
 -- a span starts at this line, of the task of this pid
 abbrev pub starts_span : List IdleSpan → ℕ → ℕ → Bool

@@ -7,7 +7,7 @@ use Rattle.cfs_model.specs.declared.claim.ClaimSort.{ClaimSort}
 use Rattle.cfs_model.specs.declared.claim.ClaimSort.TheVariants.{At, Pass}
 use Rattle.text_parts.specs.Numerals.{IsNumeral, value_of}
 use Rattle.text_parts.specs.Time.{IsTime}
-use Rattle.companion_file.specs.Shape.{Shape, version_line, cpus_line, start_line, floor_line, task_line, claim_line, nice_line}
+use Rattle.companion_file.specs.Shape.{Shape, version_line, cpus_line, start_line, floor_line, task_line, claim_line, nice_line, idle_line}
 
 -- the line is the first one of every companion of this version
 abbrev pub IsFirstLine : List ℕ → ℕ → Type 0
@@ -64,3 +64,5 @@ IsSpelled version line (claim_line claim) =
 IsSpelled version line (nice_line change) =
     (version ≡ 2) × (a b c : List ℕ) × IsNumber a change.line × IsNumber b change.pid × IsInteger c change.nice
     × (line ≡ spaced (codes "nice" ∷ a ∷ b ∷ c ∷ []))
+IsSpelled version line (idle_line idle) =
+    (version ≡ 2) × (a b : List ℕ) × IsNumber a idle.line × IsNumber b idle.pid × (line ≡ spaced (codes "idle" ∷ a ∷ b ∷ []))

@@ -1,23 +1,29 @@
 -- The tests of a line of a companion, after what the lines before it say (this project's companion format).
-use Rattle.std.specs.Prelude.{◌≡◌, ℕ, ℤ, pos, negsuc, neg_ℤ, int_le, Bool, true, false, not, ◌&&◌, nat_le, nat_lt, ◌==◌, if◌then◌else◌, List, length, Option, Some, None, Result, Ok, Err, unwrap_or, is_some, ◌⊎◌, MatchOption}
+use Rattle.std.specs.Prelude.{◌≡◌, ℕ, ℤ, pos, negsuc, neg_ℤ, int_le, Bool, true, false, not, ◌&&◌, ◌||◌, nat_le, nat_lt, ◌==◌, if◌then◌else◌, List, length, Option, Some, None, Result, Ok, Err, unwrap_or, is_some, ◌⊎◌, MatchOption}
 use Rattle.std.specs.Option.{option_map_or, is_none}
-use Rattle.cfs_model.specs.Limits.{greatest_runtime, greatest_pid, most_processors, greatest_seconds, greatest_line}
+use Rattle.cfs_model.specs.Limits.{greatest_runtime, greatest_pid, most_processors, greatest_seconds, greatest_line, no_line}
 use Rattle.companion_file.specs.declared.fault.CompanionCause.{CompanionCause}
-use Rattle.companion_file.specs.declared.fault.CompanionCause.TheVariants.{Version, Group, BadLine, Order, NumberRange, TwiceNamed, TwiceRunning, LineOrder}
-use Rattle.companion_file.specs.Shape.{Shape, version_line, cpus_line, start_line, floor_line, task_line, claim_line, nice_line}
+use Rattle.companion_file.specs.declared.fault.CompanionCause.TheVariants.{Version, Group, BadLine, Order, NumberRange, TwiceNamed, TwiceRunning, LineOrder, NoTask}
+use Rattle.cfs_model.specs.declared.idle_line.IdleLine.{IdleLine}
+use Rattle.companion_file.specs.Shape.{Shape, version_line, cpus_line, start_line, floor_line, task_line, claim_line, nice_line, idle_line}
 use Rattle.companion_file.specs.Spelling.{IsFirstLine, IsControlGroup, IsSpelled}
-use Rattle.companion_file.specs.Earlier.{Said, last_task, last_claim, last_nice, has_all_floors, is_run, is_taken}
+use Rattle.companion_file.specs.Earlier.{Said, last_task, last_claim, last_nice, last_idle, has_all_floors, is_run, is_taken, is_task}
+
+-- every floor was said, and neither a claim nor a change of a nice value
+abbrev pub is_at_start : Said → Bool
+is_at_start said = has_all_floors said && (length said.claims == 0) && (length said.nices == 0)
 
 -- a line of this sort is allowed here: after the first line `cpus` once, then `start` once, then a `floor` for each
--- processor, then tasks, then claims and changes of nice values
+-- processor, then tasks, then idle lines, then claims and changes of nice values
 abbrev pub is_in_turn : Said → Shape → Bool
 is_in_turn said (version_line n) = false
 is_in_turn said (cpus_line n) = is_none said.cpus
 is_in_turn said (start_line seconds nanoseconds) = is_some said.cpus && is_none said.start
 is_in_turn said (floor_line cpu floor) = is_some said.start && not (has_all_floors said)
-is_in_turn said (task_line task) = has_all_floors said && (length said.claims == 0) && (length said.nices == 0)
+is_in_turn said (task_line task) = is_at_start said && (length said.idles == 0)
 is_in_turn said (claim_line claim) = has_all_floors said
 is_in_turn said (nice_line change) = has_all_floors said
+is_in_turn said (idle_line idle) = is_at_start said
 
 -- a task's pid is from 1 to the greatest
 abbrev pub is_pid : ℕ → Bool
@@ -40,6 +46,7 @@ is_in_limits cpus (floor_line cpu floor) = nat_lt cpu cpus && is_value floor
 is_in_limits cpus (task_line task) = is_pid task.pid && is_nice task.nice && nat_lt task.cpu cpus && is_value task.v
 is_in_limits cpus (claim_line claim) = nat_le 1 claim.line && nat_le claim.line greatest_line && is_pid claim.pid && is_value claim.v
 is_in_limits cpus (nice_line change) = nat_le 1 change.line && nat_le change.line greatest_line && is_pid change.pid && is_nice change.nice
+is_in_limits cpus (idle_line idle) = nat_le idle.line greatest_line && is_pid idle.pid
 
 -- a floor's processor is the next one, and a task's pid is not less than the last task's
 abbrev pub is_next : Said → Shape → Bool
@@ -71,11 +78,21 @@ may_claim_at said line = is_above_claims said line && option_map_or (λ last. na
 abbrev pub may_change_at : Said → ℕ → Bool
 may_change_at said line = option_map_or (λ last. nat_lt last.line line) (last_nice said) true && is_above_claims said line
 
--- the line of the trace that a claim or a change names may follow those before it
+-- an idle line stands behind the last one: its line of the trace is above that one's, or is the same and its pid is above
+abbrev pub may_be_idle : Said → IdleLine → Bool
+may_be_idle said idle = option_map_or (λ last. nat_lt last.line idle.line || ((last.line == idle.line) && nat_lt last.pid idle.pid)) (last_idle said) true
+
+-- the line of the trace that a claim, a change or an idle line names may follow those before it
 abbrev pub is_above : Said → Shape → Bool
 is_above said (claim_line claim) = may_claim_at said claim.line
 is_above said (nice_line change) = may_change_at said change.line
+is_above said (idle_line idle) = may_be_idle said idle
 is_above said _ = true
+
+-- an idle line of the start state names one of its tasks
+abbrev pub is_known : Said → Shape → Bool
+is_known said (idle_line idle) = not (idle.line == no_line) || is_task said.tasks idle.pid
+is_known said _ = true
 
 -- the cause of the first test that what the line says fails, if it fails one
 abbrev pub fault_of : Said → Shape → Option CompanionCause
@@ -86,6 +103,7 @@ fault_of said x =
     else if not (is_new said x) then Some TwiceNamed
     else if not (is_alone said x) then Some TwiceRunning
     else if not (is_above said x) then Some LineOrder
+    else if not (is_known said x) then Some NoTask
     else None
 
 -- what a line with a shape comes to: what it says, or why it is bad

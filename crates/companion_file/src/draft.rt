@@ -4,10 +4,12 @@ ghost use Rattle.cfs_model.specs.declared.claim.Claim.{Claim};
 ghost use Rattle.cfs_model.specs.Limits.{most_processors};
 ghost use Rattle.companion_file.specs.Shape.{task_line};
 ghost use Rattle.companion_file.specs.Earlier.{summed, has_all_floors, is_run, is_taken};
-ghost use Rattle.companion_file.specs.Tests.{is_in_limits};
+ghost use Rattle.companion_file.specs.Tests.{is_at_start, is_in_limits};
+ghost use Rattle.companion_file.specs.Spans.{AreSpansOf};
 ghost use Rattle.companion_file.specs.Draft.{Adds, KeepsOrder, IsCompleted};
 ghost use Rattle.companion_file.specs.Companion.{companion_view};
 
+mod policies;
 mod rising;
 mod saying;
 
@@ -16,7 +18,7 @@ use crate::fault::Refusal;
 use crate::limits::{is_pid, is_running, is_value, nice_within};
 use crate::lists::{Claims, Floors, Idles, Nices, Tasks};
 use crate::spans::IdleSpans;
-use cfs_model::{Claim, MOST_PROCESSORS, NiceLine, Place, Task};
+use cfs_model::{Claim, IdleLine, MOST_PROCESSORS, NiceLine, Place, Task};
 use std::alloc::Global;
 use std::marker::Model;
 
@@ -30,17 +32,19 @@ pub(crate) struct Draft {
     tasks: Vec<Task>,
     claims: Vec<Claim>,
     nices: Vec<NiceLine>,
+    idles: Vec<IdleLine>,
     // By processor, whether a task runs there.
     running: [bool; MOST_PROCESSORS],
 }
 
 impl Model for Draft {
     ghost use Rattle.companion_file.specs.Earlier.{Said};
+    ghost use Rattle.companion_file.specs.Spans.{AreSpansOf};
     ghost use Rattle.companion_file.specs.Draft.{KnowsRunning};
 
     ghost Value = { Said };
 
-    ghost view = { λ d. record { version = d.version; cpus = d.cpus; start = d.start; floors = d.floors.items; tasks = d.tasks.items; claims = d.claims.items; nices = d.nices.items } };
+    ghost view = { λ d. record { version = d.version; cpus = d.cpus; start = d.start; floors = d.floors.items; tasks = d.tasks.items; claims = d.claims.items; nices = d.nices.items; idles = d.idles.items } };
 
     ghost invariant = { λ d. KnowsRunning d.cpus d.tasks.items d.running };
 }
@@ -64,6 +68,7 @@ impl Draft {
             tasks: Vec::new(alloc),
             claims: Vec::new(alloc),
             nices: Vec::new(alloc),
+            idles: Vec::new(alloc),
             running: [false; MOST_PROCESSORS],
         }
     }
@@ -73,6 +78,13 @@ impl Draft {
     {
         self.cpus
             .is_some_and(|cpus| self.floors.len() == cpus as usize)
+    }
+
+    /// Whether every floor was said, and neither a claim nor a change of a nice value.
+    fn is_at_start(&self) -> bool
+        ensures { result ≡ is_at_start self.now }
+    {
+        self.has_all_floors() && self.claims.is_empty() && self.nices.is_empty()
     }
 
     fn has_cpu(&self, cpu: u64) -> bool
@@ -111,7 +123,9 @@ impl Draft {
 
     #[inline(always)]
     fn add_task(&mut self, task: Task) -> Result<(), Refusal>
-        requires { task.cpu < unwrap_or self.old.cpus 0 }
+        requires cpu { task.cpu < unwrap_or self.old.cpus 0 }
+        requires plain { task.idle ≡ false }
+        requires first { self.old.idles ≡ [] }
         ensures { Adds self.old (task_line task) result self.new }
     {
         let cpu = task.cpu;
@@ -123,9 +137,10 @@ impl Draft {
         Ok(())
     }
 
-    /// What the lines said, once each processor has its floor.
-    pub(crate) fn finish(self) -> Option<Companion>
-        requires { KeepsOrder self }
+    /// What the lines said, once each processor has its floor, with these spans of the idle policy.
+    pub(crate) fn finish(self, spans: IdleSpans) -> Option<Companion>
+        requires order { KeepsOrder self }
+        requires spans { AreSpansOf self.idles spans }
         ensures { MatchOption result (has_all_floors self ≡ false) (λ c. IsCompleted self (companion_view c)) }
     {
         if !self.has_all_floors() {
@@ -139,9 +154,9 @@ impl Draft {
             tasks,
             claims,
             nices,
+            idles,
             running: _,
         } = self;
-        let alloc = *nices.allocator();
         Some(Companion::new(
             cpus?,
             start?,
@@ -149,8 +164,8 @@ impl Draft {
             Tasks::from_vec(tasks),
             Claims::from_vec(claims),
             Nices::from_vec(nices),
-            Idles::new(alloc),
-            IdleSpans::new(alloc),
+            Idles::from_vec(idles),
+            spans,
         ))
     }
 }

@@ -1,9 +1,9 @@
 ghost use Rattle.std.specs.Prelude.{◌≡◌};
 ghost use Rattle.companion_file.specs.declared.fault.Refusal.TheVariants.{Memory};
 
-use std::alloc::AllocFailed;
+use std::alloc::{AllocError, AllocFailed};
 
-/// What is wrong with the first bad line of a companion, in the order in which a line is tested.
+/// What is wrong with the first bad line of a companion, in the order in which a line is tested; `Short` alone is of no line.
 #[derive(Clone, Copy, Debug, PartialEq, Eq)]
 pub enum CompanionCause {
     /// The first line names another format or a version of it that isn't known.
@@ -20,10 +20,13 @@ pub enum CompanionCause {
     TwiceNamed,
     /// A task runs at this processor already.
     TwiceRunning,
-    /// The line of the trace that a claim or a change of a nice value names doesn't rise.
+    /// The line of the trace that a claim, a change of a nice value or an idle line names doesn't rise, or at one line the
+    /// pids of idle lines don't.
     LineOrder,
     /// The text ends before the floor of the last processor.
     Short,
+    /// A task of the start state is to be of the idle policy, and none has this pid.
+    NoTask,
 }
 
 /// Why a text gave no companion.
@@ -37,6 +40,17 @@ pub enum CompanionFault {
     },
     /// A growth was refused.
     Memory,
+}
+
+impl From<AllocError> for CompanionFault {
+    ghost use Rattle.std.specs.Prelude.{◌≡◌};
+    ghost use Rattle.companion_file.specs.declared.fault.CompanionFault.TheVariants as faults;
+
+    ghost from_gives = { λ _ e. e ≡ faults.Memory };
+
+    fn from(_refused: AllocError) -> CompanionFault {
+        CompanionFault::Memory
+    }
 }
 
 /// Why a line was not taken.

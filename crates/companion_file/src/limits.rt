@@ -1,12 +1,14 @@
 ghost use Rattle.std.specs.Prelude.{◌≡◌, ℕ, true, false, MatchOption};
 ghost use Rattle.cfs_model.specs.declared.claim.Claim.{Claim};
 ghost use Rattle.cfs_model.specs.declared.nice_line.NiceLine.{NiceLine};
-ghost use Rattle.companion_file.specs.Shape.{claim_line, nice_line};
+ghost use Rattle.cfs_model.specs.declared.idle_line.IdleLine.{IdleLine};
+ghost use Rattle.companion_file.specs.Shape.{claim_line, nice_line, idle_line};
 ghost use Rattle.companion_file.specs.Earlier.{is_run};
 ghost use Rattle.companion_file.specs.Tests.{is_value, is_pid, is_nice, is_in_limits};
 
 use cfs_model::{
-    Claim, ClaimSort, GREATEST_LINE, GREATEST_PID, GREATEST_RUNTIME, Nice, NiceLine, Place,
+    Claim, ClaimSort, GREATEST_LINE, GREATEST_PID, GREATEST_RUNTIME, IdleLine, Nice, NiceLine,
+    Place,
 };
 
 pub(crate) fn is_value(v: i64) -> bool
@@ -65,6 +67,21 @@ pub(crate) fn change_within(line: u64, pid: u64, nice: i64) -> Option<NiceLine>
             line: line as u32,
             pid: pid as u32,
             nice,
+        })
+    } else {
+        None
+    }
+}
+
+pub(crate) fn idle_within(line: u64, pid: u64) -> Option<IdleLine>
+    ensures { let idle : IdleLine = record { line = line; pid = pid } in
+        MatchOption result ((cpus : ℕ) → is_in_limits cpus (idle_line idle) ≡ false)
+        (λ within. (within ≡ idle) × ((cpus : ℕ) → is_in_limits cpus (idle_line idle) ≡ true)) }
+{
+    if line <= GREATEST_LINE && is_pid(pid) {
+        Some(IdleLine {
+            line: line as u32,
+            pid: pid as u32,
         })
     } else {
         None

@@ -38,7 +38,8 @@ fn companion_of(alloc: Global, text: &[u8]) -> Result<Companion, CompanionFault>
             return Err(refusal.at(number));
         }
     }
-    match draft.finish() {
+    let spans = draft.spans()?;
+    match draft.finish(spans) {
         Some(companion) => Ok(companion),
         None => Err(short_after(number)),
     }

@@ -1,6 +1,6 @@
 ghost use Rattle.std.specs.Prelude.{◌≡◌};
 ghost use Rattle.text_parts.specs.Reading.{Gives};
-ghost use Rattle.companion_file.specs.ShapeReading.{version_shape_at, cpus_shape_at, start_shape_at, floor_shape_at, task_shape_at, claim_shape_at, nice_shape_at, front_shape_at, shape_at};
+ghost use Rattle.companion_file.specs.ShapeReading.{version_shape_at, cpus_shape_at, start_shape_at, floor_shape_at, task_shape_at, claim_shape_at, nice_shape_at, idle_shape_at, front_shape_at, shape_at};
 ghost use Rattle.companion_file.specs.Statement.{stated};
 
 use crate::fields::{integer_field, integer_whole, number_field, number_whole, place_field};
@@ -24,6 +24,8 @@ pub(crate) fn statement_of(version: u32, line: &[u8]) -> Option<Statement>
         floor_shape(text)
     } else if let Some(text) = after_front(line, b"nice ") {
         nice_shape(version, text)
+    } else if let Some(text) = after_front(line, b"idle ") {
+        idle_shape(version, text)
     } else {
         front_statement_of(line)
     }
@@ -117,4 +119,18 @@ fn nice_shape(version: u32, text: &[u8]) -> Option<Statement>
     let (pid, text) = number_field(text)?;
     let nice = integer_whole(text)?;
     Some(Statement::Nice { line, pid, nice })
+}
+
+/// Version 2 alone has this one too.
+#[inline(always)]
+#[tactic(auto, unfolding(crate::specs::ShapeReading::idle_shape_at))]
+fn idle_shape(version: u32, text: &[u8]) -> Option<Statement>
+    ensures { Gives stated result (idle_shape_at version text.now) }
+{
+    if version != 2 {
+        return None;
+    }
+    let (line, text) = number_field(text)?;
+    let pid = number_whole(text)?;
+    Some(Statement::Idle { line, pid })
 }

@@ -1,8 +1,10 @@
-ghost use Rattle.std.specs.Prelude.{◌≡◌, ◌<◌, [], length};
-ghost use Rattle.companion_file.specs.Spans.{ended};
+ghost use Rattle.std.specs.Prelude.{◌≡◌, ◌<◌, length, map, AllPairs, IfOk};
+ghost use Rattle.companion_file.specs.Reading.{IdleRises};
+ghost use Rattle.companion_file.specs.Spans.{AreSpansOf, ended, span_of};
 
 use crate::idle_span::IdleSpan;
-use std::alloc::Global;
+use cfs_model::IdleLine;
+use std::alloc::{AllocError, Global};
 use std::marker::Model;
 
 /// From which line to which tasks are of the idle policy.
@@ -20,13 +22,22 @@ impl Model for IdleSpans {
     ghost view = { λ spans. spans.items.items };
 }
 
+/// The spans that these lines begin, in the order of the lines.
+fn begun(alloc: Global, idles: &[IdleLine]) -> Result<Vec<IdleSpan>, AllocError>
+    ensures { IfOk result (λ spans. spans.items ≡ map span_of idles.now) }
+{
+    idles.iter().map(|idle| IdleSpan::of(*idle)).collect(alloc)
+}
+
 impl IdleSpans {
-    pub(crate) fn new(alloc: Global) -> IdleSpans
-        ensures { result ≡ [] }
+    /// The spans that these lines begin, by rising pid, and at one pid by rising line.
+    pub(crate) fn of(alloc: Global, idles: &[IdleLine]) -> Result<IdleSpans, AllocError>
+        requires { AllPairs IdleRises idles.now }
+        ensures { IfOk result (AreSpansOf idles.now) }
     {
-        IdleSpans {
-            items: Vec::new(alloc),
-        }
+        let mut items = begun(alloc, idles)?;
+        items.sort_unstable_by_key(|span| (span.pid, span.from));
+        Ok(IdleSpans { items })
     }
 
     pub(crate) fn as_slice(&self) -> &[IdleSpan]

@@ -29,4 +29,8 @@ pub(crate) enum Statement {
         pid: u64,
         nice: i64,
     },
+    Idle {
+        line: u64,
+        pid: u64,
+    },
 }

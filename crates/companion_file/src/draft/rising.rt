@@ -1,10 +1,10 @@
 ghost use Rattle.std.specs.Prelude.{◌≡◌, nat_le, not, true, ◌==◌};
 ghost use Rattle.std.specs.Option.{option_map_or};
-ghost use Rattle.companion_file.specs.Earlier.{last_task, last_claim, last_nice};
-ghost use Rattle.companion_file.specs.Tests.{is_above_claims, may_claim_at, may_change_at};
+ghost use Rattle.companion_file.specs.Earlier.{last_task, last_claim, last_nice, last_idle};
+ghost use Rattle.companion_file.specs.Tests.{is_above_claims, may_claim_at, may_change_at, may_be_idle};
 
 use crate::draft::Draft;
-use cfs_model::{Claim, NiceLine, Task};
+use cfs_model::{Claim, IdleLine, NiceLine, Task};
 
 impl Draft {
     fn last_task(&self) -> Option<Task>
@@ -23,6 +23,12 @@ impl Draft {
         ensures { result ≡ last_nice self.now }
     {
         self.nices.last().copied()
+    }
+
+    fn last_idle(&self) -> Option<IdleLine>
+        ensures { result ≡ last_idle self.now }
+    {
+        self.idles.last().copied()
     }
 
     pub(super) fn is_pid_next(&self, pid: u64) -> bool
@@ -61,5 +67,13 @@ impl Draft {
         self.last_nice()
             .is_none_or(|change| u64::from(change.line) < line)
             && self.is_above_claims(line)
+    }
+
+    pub(super) fn may_be_idle(&self, idle: IdleLine) -> bool
+        ensures { result ≡ may_be_idle self.now idle }
+    {
+        self.last_idle().is_none_or(|last| {
+            last.line < idle.line || (last.line == idle.line && last.pid < idle.pid)
+        })
     }
 }

@@ -1,6 +1,6 @@
 ghost use Rattle.std.specs.Prelude.{◌≡◌, false};
 ghost use Rattle.companion_file.specs.Shape.{cpus_line, start_line, floor_line, task_line, claim_line, nice_line};
-ghost use Rattle.companion_file.specs.Draft.{AddsTested, TakesFirst, Takes};
+ghost use Rattle.companion_file.specs.Draft.{AddsTested, KeepsOrder, TakesFirst, Takes};
 ghost use Rattle.companion_file.specs.Statement.{stated};
 
 use crate::draft::Draft;
@@ -66,7 +66,7 @@ impl Draft {
     ) -> Result<(), Refusal>
         ensures { AddsTested self.old (task_line (record { pid = pid; nice = nice; idle = false; cpu = cpu; place = place; v = v })) result self.new }
     {
-        if !self.has_all_floors() || !self.claims.is_empty() || !self.nices.is_empty() {
+        if !self.is_at_start() || !self.idles.is_empty() {
             return Err(Refusal::Bad(CompanionCause::Order));
         }
         let Some(task) = self.task_within(pid, nice, cpu, place, v) else {
@@ -119,6 +119,7 @@ impl Draft {
     }
 
     fn say(&mut self, statement: Statement) -> Result<(), Refusal>
+        requires { KeepsOrder self.old }
         ensures { AddsTested self.old (stated statement) result self.new }
     {
         match statement {
@@ -135,6 +136,7 @@ impl Draft {
             } => self.say_task(pid, nice, cpu, place, v),
             Statement::Claim { line, pid, v, sort } => self.say_claim(line, pid, v, sort),
             Statement::Nice { line, pid, nice } => self.say_nice(line, pid, nice),
+            Statement::Idle { line, pid } => self.say_idle(line, pid),
         }
     }
 
@@ -150,6 +152,7 @@ impl Draft {
 
     /// Takes the next line, without its line feed.
     pub(crate) fn take(&mut self, line: &[u8]) -> Result<(), Refusal>
+        requires { KeepsOrder self.old }
         ensures { Takes self.old line.now result self.new }
     {
         if is_comment(line) {

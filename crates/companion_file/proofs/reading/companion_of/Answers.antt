@@ -21,8 +21,14 @@ returns-in-Err c =
     (refused_answer c.args.text.now c.loop-rest.rest.now c.next_line.result.0.now c.next_line.result.1.now c.loop-rest.number c.loop-rest.draft c.take.new.self
     c.in-Err.refusal c.loop-rest.invariant (c.next_line.ensures.lines some) c.in-Err.ensures)
 
-pub finish-requires : goal.finish-requires
-finish-requires c = reached_order c.args.text.now c.loop-rest.rest.now c.loop-rest.number c.loop-rest.draft c.loop-rest.invariant
+pub take-requires : goal.take-requires
+take-requires c = reached_order c.args.text.now c.loop-rest.rest.now c.loop-rest.number c.loop-rest.draft c.loop-rest.invariant
+
+pub spans-requires : goal.spans-requires
+spans-requires c = reached_order c.args.text.now c.loop-rest.rest.now c.loop-rest.number c.loop-rest.draft c.loop-rest.invariant
+
+pub finish-requires-clause-order : goal.finish-requires-clause-order
+finish-requires-clause-order c = reached_order c.args.text.now c.loop-rest.rest.now c.loop-rest.number c.loop-rest.draft c.loop-rest.invariant
 
 pub returns-in-Some : goal.returns-in-Some
 returns-in-Some c =

@@ -1,5 +1,5 @@
-//! The companion of a trace: the state that a schedule starts from, the virtual runtimes that it claims, and the
-//! changes of nice values.
+//! The companion of a trace: the state that a schedule starts from, the virtual runtimes that it claims, the changes of
+//! nice values, and who is of the idle policy.
 #![tactic(auto)]
 
 mod companion;

@@ -1,21 +1,17 @@
-use cfs_model::{Claim, ClaimSort, IdleLine, NO_LINE, Nice, NiceLine, Place, Task};
+use cfs_model::{Claim, ClaimSort, Nice, NiceLine, Place, Task};
 use companion_file::{Companion, CompanionCause, CompanionFault, read_companion};
 use std::alloc::Global;
 use std::test::Fail;
 
 /// The lines up to the floor of the only processor.
-const ONE: &str = "cfs-companion 1\ncpus 1\nstart 100.000000\nfloor 0 0\n";
+pub(crate) const ONE: &str = "cfs-companion 1\ncpus 1\nstart 100.000000\nfloor 0 0\n";
 
 /// The same in version 2.
-const TWO: &str = "cfs-companion 2\ncpus 1\nstart 100.000000\nfloor 0 0\n";
+pub(crate) const TWO: &str = "cfs-companion 2\ncpus 1\nstart 100.000000\nfloor 0 0\n";
 
 /// Changes of nice values among the claims, one of them at a claim's line, with numbers at their limits.
 const NICED: &[u8] =
     b"cfs-companion 2\ncpus 1\nstart 100.000000\nfloor 0 0\ntask 101 0 0 run 0\ntask 102 0 0 wait 0\nnice 1 101 5\nat 1 101 4000000\n# a\npass 2 102 7\nnice 3 4194304 -20\nnice 004 1 19\nnice 4294967295 101 -0";
-
-/// Tasks of the idle policy: of the start, and born on lines, with numbers at their limits.
-const IDLED: &[u8] =
-    b"cfs-companion 2\ncpus 1\nstart 100.000000\nfloor 0 0\ntask 101 5 0 run 0\ntask 102 0 0 wait 0\ntask 4194304 0 0 rest 0\nidle 00 101\n# a\nidle 0 4194304\nidle 1 4194304\nidle 2 1\nidle 2 00102\nidle 4294967295 101\nnice 1 101 5\nat 1 101 4000000\n";
 
 /// The last line has no line feed.
 const CUT: &[u8] =
@@ -26,7 +22,7 @@ const COMMENTED: &[u8] =
     b"# \xff\n\ncfs-companion 1\n#\ncpus 2\nstart 007.000000009\nfloor 0 -5\n\nfloor 01 4611686018427387904\ntask 7 -20 1 rest -4611686018427387904\npass 9 7 -0\n# cgroup\n";
 
 /// The companion that a text is.
-fn read(alloc: Global, text: &[u8]) -> Result<Companion, CompanionFault> {
+pub(crate) fn read(alloc: Global, text: &[u8]) -> Result<Companion, CompanionFault> {
     read_companion(alloc, text)
 }
 
@@ -41,7 +37,7 @@ fn said(companion: &Companion) -> (u32, u64, &[i64], &[Task], &[Claim]) {
     )
 }
 
-fn task(pid: u32, nice: i32, cpu: u32, place: Place, v: i64) -> Result<Task, Fail> {
+pub(crate) fn task(pid: u32, nice: i32, cpu: u32, place: Place, v: i64) -> Result<Task, Fail> {
     let nice = Nice::new(nice).ok_or("a nice value")?;
     Ok(Task {
         pid,
@@ -53,20 +49,13 @@ fn task(pid: u32, nice: i32, cpu: u32, place: Place, v: i64) -> Result<Task, Fai
     })
 }
 
-/// A task of the idle policy at processor 0.
-fn idle_task(pid: u32, nice: i32, place: Place) -> Result<Task, Fail> {
-    let mut task = task(pid, nice, 0, place, 0)?;
-    task.idle = true;
-    Ok(task)
-}
-
 fn change(line: u32, pid: u32, nice: i32) -> Result<NiceLine, Fail> {
     let nice = Nice::new(nice).ok_or("a nice value")?;
     Ok(NiceLine { line, pid, nice })
 }
 
 /// The first bad line and its cause; None where the text is read.
-fn refusal(alloc: Global, text: &[u8]) -> Option<(u64, CompanionCause)> {
+pub(crate) fn refusal(alloc: Global, text: &[u8]) -> Option<(u64, CompanionCause)> {
     match read_companion(alloc, text) {
         Ok(_) => None,
         Err(CompanionFault::Text { line, cause }) => Some((line, cause)),
@@ -153,45 +142,6 @@ fn changes_of_nice_values_among_the_claims(rt: HostRuntime) -> Result<(), Fail> 
 }
 
 #[test]
-fn tasks_of_the_idle_policy_behind_the_tasks(rt: HostRuntime) -> Result<(), Fail> {
-    let companion = read(rt.alloc(), IDLED)?;
-    let idles = [
-        IdleLine {
-            line: NO_LINE,
-            pid: 101,
-        },
-        IdleLine {
-            line: NO_LINE,
-            pid: 4_194_304,
-        },
-        IdleLine {
-            line: 1,
-            pid: 4_194_304,
-        },
-        IdleLine { line: 2, pid: 1 },
-        IdleLine { line: 2, pid: 102 },
-        IdleLine {
-            line: 4_294_967_295,
-            pid: 101,
-        },
-    ];
-    assert_eq!(rt; companion.idles(), idles.as_slice());
-    Ok(())
-}
-
-#[test]
-fn a_task_of_the_start_has_the_policy_that_is_named(rt: HostRuntime) -> Result<(), Fail> {
-    let companion = read(rt.alloc(), IDLED)?;
-    let tasks = [
-        idle_task(101, 5, Place::Run)?,
-        task(102, 0, 0, Place::Wait, 0)?,
-        idle_task(4_194_304, 0, Place::Rest)?,
-    ];
-    assert_eq!(rt; companion.tasks(), tasks.as_slice());
-    Ok(())
-}
-
-#[test]
 fn texts_without_a_change_say_the_same_in_both_versions(rt: HostRuntime) -> Result<(), Fail> {
     let lines = "task 101 0 0 run 0\ntask 102 0 0 wait 0\nat 1 101 400\npass 2 102 0\n";
     let first = format!(in rt.alloc(); "{ONE}{lines}")?;
@@ -199,8 +149,8 @@ fn texts_without_a_change_say_the_same_in_both_versions(rt: HostRuntime) -> Resu
     let first = read(rt.alloc(), first.as_bytes())?;
     let second = read(rt.alloc(), second.as_bytes())?;
     assert_eq!(rt; said(&first), said(&second));
-    assert_eq!(rt; (first.nices().len(), first.idles().len()), (0, 0));
-    assert_eq!(rt; (second.nices().len(), second.idles().len()), (0, 0));
+    assert_eq!(rt; first.nices().len(), 0);
+    assert_eq!(rt; second.nices().len(), 0);
     Ok(())
 }
 
@@ -220,10 +170,6 @@ fn first_bad_lines_of_whole_texts(rt: HostRuntime) {
         ),
         (
             "cfs-companion 2\ncpus 1\nstart 100.000000\nnice 1 101 5\n",
-            (4, CompanionCause::Order),
-        ),
-        (
-            "cfs-companion 2\ncpus 1\nstart 100.000000\nidle 0 101\n",
             (4, CompanionCause::Order),
         ),
         ("# a\ncgroup /a\n", (2, CompanionCause::Version)),
@@ -345,11 +291,6 @@ fn lines_that_version_one_has_no_shape_for(rt: HostRuntime) -> Result<(), Fail> 
         ),
         ("nice 0 0 20", Some((5, CompanionCause::BadLine))),
         ("idle 0 101", Some((5, CompanionCause::BadLine))),
-        (
-            "task 101 0 0 run 0\nidle 0 101",
-            Some((6, CompanionCause::BadLine)),
-        ),
-        ("idle 4294967296 0", Some((5, CompanionCause::BadLine))),
     ] {
         let text = format!(in rt.alloc(); "{ONE}{lines}\n")?;
         assert_eq!(rt; refusal(rt.alloc(), text.as_bytes()), expected, "{lines}");
@@ -485,137 +426,6 @@ fn both_sides_of_each_limit_of_a_nice_line(rt: HostRuntime) -> Result<(), Fail> 
         ("nice 1 1 99999999999999999999999999", false),
         ("nice 1 1 -99999999999999999999999999", false),
         ("nice 1 1 00000000000000000000000019", true),
-    ] {
-        let expected = if within {
-            None
-        } else {
-            Some((5, CompanionCause::NumberRange))
-        };
-        let text = format!(in rt.alloc(); "{TWO}{line}\n")?;
-        assert_eq!(rt; refusal(rt.alloc(), text.as_bytes()), expected, "{line}");
-    }
-    Ok(())
-}
-
-#[test]
-fn where_idle_lines_may_stand(rt: HostRuntime) -> Result<(), Fail> {
-    for (lines, expected) in [
-        // behind the tasks, before claims and changes
-        ("task 101 0 0 run 0\nidle 0 101\nat 1 101 0", None),
-        ("idle 1 101\nidle 2 102\nnice 1 101 5", None),
-        (
-            "idle 1 101\ntask 101 0 0 run 0",
-            Some((6, CompanionCause::Order)),
-        ),
-        ("idle 1 101\nfloor 0 0", Some((6, CompanionCause::Order))),
-        (
-            "idle 1 101\ncfs-companion 2",
-            Some((6, CompanionCause::Order)),
-        ),
-        ("at 1 101 0\nidle 2 101", Some((6, CompanionCause::Order))),
-        ("pass 1 101 0\nidle 2 101", Some((6, CompanionCause::Order))),
-        ("nice 1 101 5\nidle 2 101", Some((6, CompanionCause::Order))),
-        // claims and changes may begin before the last of them
-        ("idle 5 101\nnice 1 101 5\nat 1 101 0", None),
-        // by rising line, and at one line by rising pid
-        (
-            "idle 5 101\nidle 4 101",
-            Some((6, CompanionCause::LineOrder)),
-        ),
-        (
-            "idle 5 101\nidle 4 102",
-            Some((6, CompanionCause::LineOrder)),
-        ),
-        (
-            "idle 5 101\nidle 5 101",
-            Some((6, CompanionCause::LineOrder)),
-        ),
-        (
-            "idle 5 102\nidle 5 101",
-            Some((6, CompanionCause::LineOrder)),
-        ),
-        ("idle 5 101\nidle 5 102", None),
-        ("idle 5 102\nidle 6 101", None),
-        (
-            "task 101 0 0 rest 0\ntask 102 0 0 rest 0\nidle 0 102\nidle 0 101",
-            Some((8, CompanionCause::LineOrder)),
-        ),
-        // of the start only a task that is there
-        ("idle 0 101", Some((5, CompanionCause::NoTask))),
-        (
-            "task 101 0 0 rest 0\nidle 0 100",
-            Some((6, CompanionCause::NoTask)),
-        ),
-        (
-            "task 101 0 0 rest 0\ntask 103 0 0 rest 0\nidle 0 102",
-            Some((7, CompanionCause::NoTask)),
-        ),
-        (
-            "task 101 0 0 rest 0\nidle 0 101\nidle 0 102",
-            Some((7, CompanionCause::NoTask)),
-        ),
-        (
-            "task 101 0 0 rest 0\ntask 103 0 0 rest 0\nidle 0 101\nidle 0 103",
-            None,
-        ),
-        // order comes before that, and a number out of its limits before both
-        (
-            "idle 1 101\nidle 0 102",
-            Some((6, CompanionCause::LineOrder)),
-        ),
-        (
-            "idle 5 101\nidle 4 0",
-            Some((6, CompanionCause::NumberRange)),
-        ),
-        ("at 5 101 0\nidle 0 0", Some((6, CompanionCause::Order))),
-    ] {
-        let text = format!(in rt.alloc(); "{TWO}{lines}\n")?;
-        assert_eq!(rt; refusal(rt.alloc(), text.as_bytes()), expected, "{lines}");
-    }
-    Ok(())
-}
-
-#[test]
-fn idle_lines_that_have_no_shape(rt: HostRuntime) -> Result<(), Fail> {
-    for line in [
-        "idle",
-        "idle ",
-        "idle 1",
-        "idle 1 ",
-        "idle 1 101 ",
-        "idle 1 101 5",
-        "idle  1 101",
-        " idle 1 101",
-        "idle -1 101",
-        "idle -0 101",
-        "idle 1 -101",
-        "idle 1 +101",
-        "idle 1 101.0",
-        "idles 1 101",
-    ] {
-        let text = format!(in rt.alloc(); "{TWO}{line}\n")?;
-        assert_eq!(rt;
-            refusal(rt.alloc(), text.as_bytes()),
-            Some((5, CompanionCause::BadLine)),
-            "{line}"
-        );
-    }
-    Ok(())
-}
-
-#[test]
-fn both_sides_of_each_limit_of_an_idle_line(rt: HostRuntime) -> Result<(), Fail> {
-    for (line, within) in [
-        ("idle 1 1", true),
-        ("idle 4294967295 1", true),
-        ("idle 4294967296 1", false),
-        ("idle 99999999999999999999999999 1", false),
-        ("idle 00000000000000000000000001 1", true),
-        ("idle 1 0", false),
-        ("idle 0 0", false),
-        ("idle 1 4194304", true),
-        ("idle 1 4194305", false),
-        ("idle 1 99999999999999999999999999", false),
     ] {
         let expected = if within {
             None

@@ -9,4 +9,6 @@ mod companions;
 #[cfg(test)]
 mod events;
 #[cfg(test)]
+mod idle_lines;
+#[cfg(test)]
 mod lines;

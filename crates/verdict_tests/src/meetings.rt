@@ -164,22 +164,40 @@ fn compared_at<R: Threads + Wait + Clock + Sync>(
     Ok((closed.remade, same, entries))
 }
 
+/// The same on the record of a meeting.
+fn gathered_on<R: Threads + Wait + Clock + Sync>(
+    rt: &R,
+    alloc: Global,
+    meeting: &Meeting,
+) -> Result<(u32, Entries), Fail> {
+    let record = meeting.record(alloc)?;
+    gathered_at(rt, alloc, &record)
+}
+
 #[test]
 fn auditors_of_a_crew_wait_for_each_other(rt: HostRuntime) -> Result<(), Fail> {
     for meeting in &meetings(rt.alloc())? {
-        let record = meeting.record(rt.alloc())?;
         let entries = (meeting.entries, meeting.entries, false);
-        assert_eq!(rt; gathered_at(&rt, rt.alloc(), &record)?, (2, entries));
+        assert_eq!(rt; gathered_on(&rt, rt.alloc(), meeting)?, (2, entries));
     }
     Ok(())
+}
+
+/// What a crew comes to on the record of a meeting, beside one thread, and the gate's entries.
+fn compared_on<R: Threads + Wait + Clock + Sync>(
+    rt: &R,
+    alloc: Global,
+    meeting: &Meeting,
+) -> Result<(u32, bool, Entries), Fail> {
+    let record = meeting.record(alloc)?;
+    compared_at(rt, alloc, &record)
 }
 
 #[test]
 fn auditors_of_a_record_wait_for_each_other(rt: HostRuntime) -> Result<(), Fail> {
     for meeting in &meetings(rt.alloc())? {
-        let record = meeting.record(rt.alloc())?;
         let entries = (meeting.entries, meeting.entries, false);
-        assert_eq!(rt; compared_at(&rt, rt.alloc(), &record)?, (0, true, entries));
+        assert_eq!(rt; compared_on(&rt, rt.alloc(), meeting)?, (0, true, entries));
     }
     Ok(())
 }
@@ -203,14 +221,21 @@ fn texts_at<R: Threads + Wait + Clock + Sync>(
     Ok((verdict, gate.entries()))
 }
 
+/// Whether that is the verdict of one thread, and the gate's entries.
+fn texts_compared<R: Threads + Wait + Clock + Sync>(
+    rt: &R,
+    alloc: Global,
+    meeting: &Meeting,
+) -> Result<(bool, Entries), Fail> {
+    let (verdict, entries) = texts_at(rt, alloc, meeting)?;
+    Ok((verdict == verdict_of(alloc, meeting)?, entries))
+}
+
 #[test]
 fn auditors_of_two_texts_wait_for_each_other(rt: HostRuntime) -> Result<(), Fail> {
     for meeting in &meetings(rt.alloc())? {
         let entries = (meeting.entries, meeting.entries, false);
-        assert_eq!(rt;
-            texts_at(&rt, rt.alloc(), meeting)?,
-            (verdict_of(rt.alloc(), meeting)?, entries)
-        );
+        assert_eq!(rt; texts_compared(&rt, rt.alloc(), meeting)?, (true, entries));
     }
     Ok(())
 }
@@ -241,13 +266,24 @@ fn wanted(alloc: Global, meeting: &Meeting) -> Result<Vec<u8>, Fail> {
     Ok(report(alloc, &Outcome::Judged(verdict))?)
 }
 
+/// Whether what is written is the report of one thread's verdict, and what the run answers, with the gate's entries.
+fn run_compared<R: Threads + Wait + Clock + Sync>(
+    rt: &R,
+    alloc: Global,
+    meeting: &Meeting,
+) -> Result<(bool, Result<Status, Fault>, Entries), Fail> {
+    let wanted = wanted(alloc, meeting)?;
+    let (written, status, entries) = run_at(rt, alloc, meeting);
+    Ok((written == wanted, status, entries))
+}
+
 #[test]
 fn auditors_of_a_run_wait_for_each_other(rt: HostRuntime) -> Result<(), Fail> {
     for meeting in &meetings(rt.alloc())? {
         let entries = (meeting.entries, meeting.entries, false);
         assert_eq!(rt;
-            run_at(&rt, rt.alloc(), meeting),
-            (wanted(rt.alloc(), meeting)?, Ok(Status::Yes), entries)
+            run_compared(&rt, rt.alloc(), meeting)?,
+            (true, Ok(Status::Yes), entries)
         );
     }
     Ok(())

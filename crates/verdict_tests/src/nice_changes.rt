@@ -5,8 +5,10 @@ use crate::calls::{
     MaybeFault, Told, alone, book_for, closed, page_of, record_from, told, with_page,
 };
 use cfs_model::{Kind, Knobs};
+use queue_replay::Page;
 use std::alloc::Global;
 use std::test::Fail;
+use ticket_book::Book;
 
 /// 101 goes from processor 0 to processor 1 at the start, and is printed with a nice value of -5, or of 0.
 const PRINTED_FASTER: &str =
@@ -73,14 +75,32 @@ fn a_change_at_a_migration_is_made_where_the_task_leaves(rt: HostRuntime) -> Res
     Ok(())
 }
 
-/// What a book tells of a companion's record, with the whole pages of another companion's.
-fn told_by_pages(alloc: Global, pages: &str, companion: &str) -> Result<Told, Fail> {
-    let other = record_from(alloc, PRINTED_FASTER.as_bytes(), pages.as_bytes())?;
-    let left = page_of(alloc, &other, 0, Knobs::standard())?;
-    let came = page_of(alloc, &other, 1, Knobs::standard())?;
-    let book = with_page(with_page(book_for(alloc, 2)?, left)?, came)?;
+/// The whole page of a processor of a companion's record.
+fn page_in(alloc: Global, companion: &str, cpu: u32) -> Result<Page, Fail> {
+    let record = record_from(alloc, PRINTED_FASTER.as_bytes(), companion.as_bytes())?;
+    page_of(alloc, &record, cpu, Knobs::standard())
+}
+
+/// A book after that page.
+fn with_page_in(alloc: Global, book: Book, companion: &str, cpu: u32) -> Result<Book, Fail> {
+    with_page(book, page_in(alloc, companion, cpu)?)
+}
+
+/// A book with the whole pages of a companion's record.
+fn book_of(alloc: Global, companion: &str) -> Result<Book, Fail> {
+    let book = with_page_in(alloc, book_for(alloc, 2)?, companion, 0)?;
+    with_page_in(alloc, book, companion, 1)
+}
+
+/// What a book tells of a companion's record.
+fn closed_on(alloc: Global, book: Book, companion: &str) -> Result<Told, Fail> {
     let record = record_from(alloc, PRINTED_FASTER.as_bytes(), companion.as_bytes())?;
     closed(book, &record, Knobs::standard())
+}
+
+/// The same of a book with the whole pages of another companion's.
+fn told_by_pages(alloc: Global, pages: &str, companion: &str) -> Result<Told, Fail> {
+    closed_on(alloc, book_of(alloc, pages)?, companion)
 }
 
 #[test]

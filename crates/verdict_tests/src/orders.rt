@@ -34,18 +34,38 @@ fn orders() -> &'static [([u32; 3], [u64; 3])] {
     &ORDERS
 }
 
-/// What the book answers to the pages of auditors that come in this order, and what it then comes to.
+/// The book after the auditor of a processor, and what it answers to that page.
+fn answered(
+    alloc: Global,
+    book: Book,
+    record: &Record,
+    cpu: u32,
+) -> Result<(Book, Option<u64>), Fail> {
+    let (book, ending) = ended(alloc, book, record, cpu, 1)?;
+    Ok((book, ending.answered))
+}
+
+/// The book after auditors that come in this order, and what it answers to their pages.
+fn answered_in(
+    alloc: Global,
+    record: &Record,
+    order: [u32; 3],
+) -> Result<(Book, [Option<u64>; 3]), Fail> {
+    let [first, second, third] = order;
+    let (book, first) = answered(alloc, book_for(alloc, 3)?, record, first)?;
+    let (book, second) = answered(alloc, book, record, second)?;
+    let (book, third) = answered(alloc, book, record, third)?;
+    Ok((book, [first, second, third]))
+}
+
+/// The same, and what the book then comes to.
 fn in_turn(
     alloc: Global,
     record: &Record,
     order: [u32; 3],
 ) -> Result<([Option<u64>; 3], Told), Fail> {
-    let [first, second, third] = order;
-    let (book, first) = ended(alloc, book_for(alloc, 3)?, record, first, 1)?;
-    let (book, second) = ended(alloc, book, record, second, 1)?;
-    let (book, third) = ended(alloc, book, record, third, 1)?;
-    let told = closed(book, record, Knobs::standard())?;
-    Ok(([first.answered, second.answered, third.answered], told))
+    let (book, answers) = answered_in(alloc, record, order)?;
+    Ok((answers, closed(book, record, Knobs::standard())?))
 }
 
 #[test]
@@ -182,6 +202,17 @@ fn page_at(alloc: Global, place: usize, cpu: u32, knobs: Knobs) -> Result<Page, 
     page_of(alloc, &record, cpu, knobs)
 }
 
+/// A book after that page.
+fn with_page_at(
+    alloc: Global,
+    book: Book,
+    place: usize,
+    cpu: u32,
+    knobs: Knobs,
+) -> Result<Book, Fail> {
+    with_page(book, page_at(alloc, place, cpu, knobs)?)
+}
+
 /// What the record of two faults comes to by this book.
 fn closed_on(alloc: Global, book: Book) -> Result<Told, Fail> {
     let record = two_faults(alloc)?;
@@ -190,9 +221,11 @@ fn closed_on(alloc: Global, book: Book) -> Result<Told, Fail> {
 
 /// What the record of two faults comes to by processor 0's page of another recording or settings, and its own of 1.
 fn with_other_page(alloc: Global, place: usize, knobs: Knobs) -> Result<Told, Fail> {
-    let book = with_page(book_for(alloc, 2)?, page_at(alloc, place, 0, knobs)?)?;
-    let own = page_at(alloc, TWO_FAULTS, 1, Knobs::standard())?;
-    closed_on(alloc, with_page(book, own)?)
+    let book = with_page_at(alloc, book_for(alloc, 2)?, place, 0, knobs)?;
+    closed_on(
+        alloc,
+        with_page_at(alloc, book, TWO_FAULTS, 1, Knobs::standard())?,
+    )
 }
 
 #[test]

@@ -11,14 +11,21 @@ use queue_replay::{Page, Reached, Replay, Tag};
 use sched_record::{Record, Stream};
 use std::alloc::Global;
 use std::test::Fail;
+use ticket_book::Book;
 
 /// Processor 0's fault in `fault_before_wakeups`.
 const FAULT: MaybeFault = Some((4, 0, 201, Kind::PrevNotRunning));
 
+/// The book after the auditor of a processor.
+fn book_after(alloc: Global, book: Book, record: &Record, cpu: u32) -> Result<Book, Fail> {
+    let (book, _ending) = ended(alloc, book, record, cpu, 1)?;
+    Ok(book)
+}
+
 /// What a record comes to by two auditors, this one first.
 fn by_two(alloc: Global, record: &Record, first: u32, second: u32) -> Result<Told, Fail> {
-    let (book, _ending) = ended(alloc, book_for(alloc, 2)?, record, first, 1)?;
-    let (book, _ending) = ended(alloc, book, record, second, 1)?;
+    let book = book_after(alloc, book_for(alloc, 2)?, record, first)?;
+    let book = book_after(alloc, book, record, second)?;
     closed(book, record, Knobs::standard())
 }
 

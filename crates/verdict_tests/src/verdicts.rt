@@ -67,6 +67,18 @@ fn post_of(
     Ok(posted(book, page))
 }
 
+/// What the posts of two tell, in this order.
+fn posts_of(
+    alloc: Global,
+    book: &mut Book,
+    record: &Record,
+    posts: (u32, u32),
+) -> Result<(Result<u64, PostFault>, Result<u64, PostFault>), Fail> {
+    let first = post_of(alloc, book, record, posts.0)?;
+    let second = post_of(alloc, book, record, posts.1)?;
+    Ok((first, second))
+}
+
 /// A book of so many processors, with the pages of two posted in this order, and closed by these settings.
 fn case_by(
     alloc: Global,
@@ -76,8 +88,7 @@ fn case_by(
     knobs: Knobs,
 ) -> Result<Case, Fail> {
     let mut book = book_for(alloc, cpus)?;
-    let first = post_of(alloc, &mut book, record, posts.0)?;
-    let second = post_of(alloc, &mut book, record, posts.1)?;
+    let (first, second) = posts_of(alloc, &mut book, record, posts)?;
     let (remade, fault) = closed(book, record, knobs)?;
     Ok(Case {
         first,

@@ -8,6 +8,7 @@ use cfs_model::{Kind, Knobs};
 use sched_record::Record;
 use std::alloc::Global;
 use std::test::Fail;
+use ticket_book::Book;
 
 /// 101 goes from processor 0, where 102 runs, to processor 1, runs there for 3 us, and is put back beside 103.
 const MOVED: &str =
@@ -61,14 +62,41 @@ fn the_idle_policy_is_kept_at_a_migration(rt: HostRuntime) -> Result<(), Fail> {
     Ok(())
 }
 
-/// What a book tells of the record of some `idle` lines, with the whole pages of that of others.
-fn told_by_pages(alloc: Global, pages: &str, idles: &str, claims: &str) -> Result<Told, Fail> {
-    let other = record_with(alloc, pages, claims)?;
-    let left = page_of(alloc, &other, 0, Knobs::standard())?;
-    let came = page_of(alloc, &other, 1, Knobs::standard())?;
-    let book = with_page(with_page(book_for(alloc, 2)?, left)?, came)?;
+/// A book after a page of the record of some `idle` lines.
+fn with_page_by(
+    alloc: Global,
+    book: Book,
+    idles: &str,
+    claims: &str,
+    cpu: u32,
+) -> Result<Book, Fail> {
+    let record = record_with(alloc, idles, claims)?;
+    let page = page_of(alloc, &record, cpu, Knobs::standard())?;
+    with_page(book, page)
+}
+
+/// A book with the page of the migration's origin by some `idle` lines, and that of its destination by others.
+fn book_by(alloc: Global, orig: &str, dest: &str, claims: &str) -> Result<Book, Fail> {
+    let book = with_page_by(alloc, book_for(alloc, 2)?, orig, claims, 0)?;
+    with_page_by(alloc, book, dest, claims, 1)
+}
+
+/// What a book tells of the record of some `idle` lines.
+fn closed_on(alloc: Global, book: Book, idles: &str, claims: &str) -> Result<Told, Fail> {
     let record = record_with(alloc, idles, claims)?;
     closed(book, &record, Knobs::standard())
+}
+
+/// The same with the pages of both ends by these and those.
+fn told_by_pages(
+    alloc: Global,
+    orig: &str,
+    dest: &str,
+    idles: &str,
+    claims: &str,
+) -> Result<Told, Fail> {
+    let book = book_by(alloc, orig, dest, claims)?;
+    closed_on(alloc, book, idles, claims)
 }
 
 #[test]
@@ -81,7 +109,7 @@ fn a_page_with_other_policies_is_made_again(rt: HostRuntime) -> Result<(), Fail>
         (NOBODY, WHO_STAYS, BY_NICE, 1, None),
     ] {
         assert_eq!(rt;
-            told_by_pages(rt.alloc(), pages, idles, claims)?,
+            told_by_pages(rt.alloc(), pages, pages, idles, claims)?,
             (remade, fault),
             "pages by {pages}, claims {claims}"
         );
@@ -89,23 +117,7 @@ fn a_page_with_other_policies_is_made_again(rt: HostRuntime) -> Result<(), Fail>
     Ok(())
 }
 
-/// The page of the migration's origin by one companion and that of its destination by another, side by side: their tickets
-/// have two policies.
-fn told_by_unequal_tickets(
-    alloc: Global,
-    orig: &str,
-    dest: &str,
-    idles: &str,
-) -> Result<Told, Fail> {
-    let leaving = record_with(alloc, orig, BY_NICE)?;
-    let coming = record_with(alloc, dest, BY_NICE)?;
-    let left = page_of(alloc, &leaving, 0, Knobs::standard())?;
-    let came = page_of(alloc, &coming, 1, Knobs::standard())?;
-    let book = with_page(with_page(book_for(alloc, 2)?, left)?, came)?;
-    let record = record_with(alloc, idles, BY_NICE)?;
-    closed(book, &record, Knobs::standard())
-}
-
+// The page of the migration's origin by one companion and that of its destination by another have tickets of two policies.
 #[test]
 fn tickets_of_two_policies_are_on_no_two_honest_pages(rt: HostRuntime) -> Result<(), Fail> {
     for (orig, dest, idles, fault) in [
@@ -115,7 +127,7 @@ fn tickets_of_two_policies_are_on_no_two_honest_pages(rt: HostRuntime) -> Result
         (NOBODY, WHO_MOVES, WHO_MOVES, WRONG_PUT_BACK),
     ] {
         assert_eq!(rt;
-            told_by_unequal_tickets(rt.alloc(), orig, dest, idles)?,
+            told_by_pages(rt.alloc(), orig, dest, idles, BY_NICE)?,
             (1, fault),
             "from {orig} to {dest}"
         );
@@ -131,12 +143,17 @@ const BORN_TWICE: &[u8] =
 const BORN_TWICE_START: &[u8] =
     b"cfs-companion 2\ncpus 3\nstart 100.000000\nfloor 0 0\nfloor 1 0\nfloor 2 0\ntask 101 0 0 wait 0\nidle 0 101\nat 1 101 0\nat 2 101 0\n";
 
+/// What one thread comes to on it.
+fn told_of_a_second_birth(alloc: Global) -> Result<Told, Fail> {
+    let record = record_from(alloc, BORN_TWICE, BORN_TWICE_START)?;
+    Ok(told(alone(alloc, &record)?))
+}
+
 #[test]
 fn a_birth_of_a_living_task_comes_before_the_tickets_that_it_makes_unequal(
     rt: HostRuntime,
 ) -> Result<(), Fail> {
-    let record = record_from(rt.alloc(), BORN_TWICE, BORN_TWICE_START)?;
     let fault: MaybeFault = Some((1, 2, 101, Kind::BornTwice));
-    assert_eq!(rt; told(alone(rt.alloc(), &record)?), (0, fault));
+    assert_eq!(rt; told_of_a_second_birth(rt.alloc())?, (0, fault));
     Ok(())
 }

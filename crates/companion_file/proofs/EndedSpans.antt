@@ -1,8 +1,8 @@
 -- A span that is given an end keeps its pid and its first line, so the spans rise as before, and start where they did.
-use Rattle.std.proofs.Common.{◌≡◌, ℕ, zero, suc, ◌<◌, List, [], ◌∷◌, length, get_or, set, refl, sym, ap, arith}
+use Rattle.std.proofs.Common.{◌≡◌, ℕ, zero, suc, ◌<◌, List, [], ◌∷◌, length, get_or, set, refl, ap, arith}
 use Rattle.cfs_model.specs.declared.idle_line.IdleLine.{IdleLine}
 use Rattle.companion_file.specs.declared.idle_span.IdleSpan.{IdleSpan}
-use Rattle.companion_file.specs.Spans.{starts_span, SpanRises, AreSpansOf, ended}
+use Rattle.companion_file.specs.Spans.{starts_span, AreSpansOf, ended}
 
 abbrev with_end : IdleSpan → ℕ → IdleSpan
 with_end span line = record { pid = span.pid; from = span.from; until = line }

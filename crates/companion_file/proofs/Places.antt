@@ -1,5 +1,5 @@
 -- A binary search by pid finds the task of a pid, or there is none.
-use Rattle.std.proofs.Common.{◌≡◌, ℕ, ◌<◌, ◌≤◌, Bool, true, false, eqb, List, length, get_or, Result, Ok, Err, sym, inl, inr, arith}
+use Rattle.std.proofs.Common.{◌≡◌, ℕ, ◌<◌, ◌≤◌, false, eqb, List, length, get_or, Result, Ok, Err, sym, inl, inr, arith}
 use Rattle.std.specs.Prelude.{AllPairs, MatchOption}
 use Rattle.std.specs.List.Sorted.{IsSearchInRange, IsBinarySearchResult, IsNonDecreasingBy}
 use Rattle.std.specs.Ordering.{nat_cmp, ordering_index}

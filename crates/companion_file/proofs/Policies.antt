@@ -1,6 +1,6 @@
 -- Who starts as one of the idle policy. The tasks are kept with the policies so far: so one more idle line changes the
 -- task that it names alone, and at the end the tasks and the lines agree.
-use Rattle.std.proofs.Common.{◌≡◌, ◌≢◌, ℕ, zero, ◌<◌, Bool, true, false, ◌&&◌, ◌||◌, eqb, List, [], ◌∷◌, ◌++◌, length, map, get_or, set, refl, sym, ap, ◌∙◌, inl, inr, arith}
+use Rattle.std.proofs.Common.{◌≡◌, ◌≢◌, ℕ, ◌<◌, Bool, true, false, ◌&&◌, ◌||◌, eqb, List, [], ◌∷◌, ◌++◌, length, map, get_or, set, refl, sym, ap, ◌∙◌, inl, inr, arith}
 use Rattle.std.specs.Prelude.{All, AllPairs}
 use Rattle.std.proofs.lemmas.Bool.{cases_Bool, cases_lt, cases_eq, eqb-true, eq-eqb, ne_eqb}
 use Rattle.std.proofs.lemmas.List.{get_or-map, get_or-set_same, get_or-set_other, get_or_default, length-map, length-set, same_lists}
@@ -8,7 +8,6 @@ use Rattle.std.proofs.lemmas.List.Elements.{All-map, All-weaker, All-head, All-t
 use Rattle.std.proofs.lemmas.List.Folds.{list_any-append}
 use Rattle.cfs_model.specs.Limits.{no_line}
 use Rattle.cfs_model.specs.Claimed.{is_named_idle}
-use Rattle.cfs_model.specs.Order.{RunApart}
 use Rattle.cfs_model.specs.Start.{starts_idle}
 use Rattle.cfs_model.specs.declared.idle_line.IdleLine.{IdleLine}
 use Rattle.cfs_model.specs.declared.task.Task.{Task}

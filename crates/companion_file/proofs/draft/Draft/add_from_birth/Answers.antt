@@ -1,4 +1,4 @@
-use Rattle.std.proofs.Common.{refl, sym, ◌∙◌}
+use Rattle.std.proofs.Common.{refl, ◌∙◌}
 use Rattle.companion_file.proofs.Policies.{birth_named}
 use Rattle.companion_file.proofs.draft.Draft.add_from_birth.Goals as goal
 

@@ -47,11 +47,11 @@ counts_below events i bound within most = record {
         omega (arith, few, n, within, most)
 
 -- the counts among events with what is said on their lines
-pub count_claimed : (does : Act → Bool) (claims : List Claim) (nices : List NiceLine) (events : List Entry)
-    → count_by (λ (e : Entry). does e.act) events ≡ how_many does (claimed claims nices events)
-count_claimed does claims nices [] = refl
-count_claimed does claims nices (event ∷ events) =
+pub count_claimed : (does : Act → Bool) (claims : List Claim) (nices : List NiceLine) (policy : Entry → Bool) (events : List Entry)
+    → count_by (λ (e : Entry). does e.act) events ≡ how_many does (claimed claims nices policy events)
+count_claimed does claims nices policy [] = refl
+count_claimed does claims nices policy (event ∷ events) =
     sum_by-cons (λ (e : Entry). cond (does e.act) 1 0) event events
-    ∙ ap (λ n. cond (does event.act) 1 0 + n) (count_claimed does claims nices events)
+    ∙ ap (λ n. cond (does event.act) 1 0 + n) (count_claimed does claims nices policy events)
     ∙ sym (sum_by-cons (λ (e : Claimed). cond (does e.entry.act) 1 0)
-    (with_claim claims nices event) (claimed claims nices events))
+    (with_claim claims nices policy event) (claimed claims nices policy events))

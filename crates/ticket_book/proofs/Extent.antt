@@ -1,5 +1,5 @@
 -- How many events a record can have and how late they are, so that no sum over them is too great.
-use Rattle.std.proofs.Common.{◌≡◌, ℕ, zero, suc, ◌*◌, ◌-◌, ◌^◌, ◌<◌, ◌≤◌, List, [], ◌∷◌, length, get_or, All, inl, inr, ap, arith}
+use Rattle.std.proofs.Common.{◌≡◌, ℕ, Bool, zero, suc, ◌*◌, ◌-◌, ◌^◌, ◌<◌, ◌≤◌, List, [], ◌∷◌, length, get_or, All, inl, inr, ap, arith}
 use Rattle.std.specs.List.{AllByRecursion, AllPairs}
 use Rattle.std.specs.Option.{option_map_or}
 use Rattle.std.proofs.Math.Nat.{mul-le-mul}
@@ -49,12 +49,12 @@ events_few (event ∷ events) first rise =
     omega (arith, last, count)
 
 -- the same of events with what is said on their lines
-pub times_below : (claims : List Claim) (nices : List NiceLine) (events : List Entry) (last : ℕ)
+pub times_below : (claims : List Claim) (nices : List NiceLine) (policy : Entry → Bool) (events : List Entry) (last : ℕ)
     → All (λ event. event.time ≤ last) events
-    → AllByRecursion (λ event. event.entry.time ≤ last) (claimed claims nices events)
-times_below claims nices [] last below = tt
-times_below claims nices (event ∷ events) last below =
-    (below 0 event (omega arith), times_below claims nices events last (λ k d h. below (suc k) d (omega arith)))
+    → AllByRecursion (λ event. event.entry.time ≤ last) (claimed claims nices policy events)
+times_below claims nices policy [] last below = tt
+times_below claims nices policy (event ∷ events) last below =
+    (below 0 event (omega arith), times_below claims nices policy events last (λ k d h. below (suc k) d (omega arith)))
 
 -- what so many events by so late a time allow fits
 pub bounds_fit : (tally : Tally) (events last : ℕ) → events < 2 ^ 32 → last < 2 ^ 64

@@ -2,15 +2,16 @@
 use Rattle.std.proofs.Common.{◌≡◌, ◌↔◌, ℕ, Bool, ◌&&◌, Decides, IsTrue, List, sym, ap, ◌∙◌, subst}
 use Rattle.std.specs.Prelude.{pos, slice_index_or}
 use Rattle.std.proofs.lemmas.Bool.Decides.{Decides-and, Decides-at, Decides-eqb, Decides-int_eq, Decides-like}
-use Rattle.cfs_model.specs.Claimed.{claimed}
 use Rattle.cfs_model.specs.declared.task.Task.{Task}
 use Rattle.replay_model.specs.Cut.{StreamView, last_line_after, last_time_of, tasks_at}
 use Rattle.replay_model.specs.declared.step.Step.{Step}
+use Rattle.sched_record.specs.Kept.{policy_of}
 use Rattle.sched_record.specs.Record.{RecordView, record_last_line, record_last_time}
 use Rattle.sched_record.specs.Stream.{cut_of}
 use Rattle.sched_record.proofs.Shares.{same_last_line, same_last_time}
 use Rattle.ticket_book.specs.Cursor.{IsCursor}
 use Rattle.ticket_book.specs.Framed.{is_framed}
+use Rattle.ticket_book.specs.SaidEvents.{events_of}
 use Rattle.ticket_book.specs.declared.cursor.Cursor.{Cursor}
 
 -- a stream's numbers are the record's for a processor
@@ -34,13 +35,13 @@ cut_from : (r : RecordView) (cpu : ℕ) (s : StreamView) → s.steps ≡ (cut_of
     → IsFramed r cpu s → s ≡ cut_of r cpu
 cut_from r cpu s steps tasks framed =
     parts steps tasks framed.cpu_is framed.floor framed.start
-    (framed.last_time ∙ same_last_time r.start r.claims r.nices r.events)
-    (framed.last_line ∙ same_last_line r.claims r.nices r.events)
+    (framed.last_time ∙ same_last_time r.start r.claims r.nices (policy_of r) r.events)
+    (framed.last_line ∙ same_last_line r.claims r.nices (policy_of r) r.events)
   where
     parts : s.steps ≡ (cut_of r cpu).steps → s.tasks ≡ (cut_of r cpu).tasks → s.cpu ≡ cpu
         → s.floor ≡ slice_index_or r.floors cpu (pos 0) → s.start ≡ r.start
-        → s.last_time ≡ last_time_of r.start (claimed r.claims r.nices r.events)
-        → s.last_line ≡ last_line_after 0 (claimed r.claims r.nices r.events)
+        → s.last_time ≡ last_time_of r.start (events_of r)
+        → s.last_line ≡ last_line_after 0 (events_of r)
         → s ≡ cut_of r cpu
     parts a b c d e f g i = record { cpu = c i; tasks = b i; floor = d i; start = e i; steps = a i; last_time = f i; last_line = g i }
 
@@ -49,8 +50,8 @@ framed_from r cpu s same = record {
   cpu_is = ap (λ (t : StreamView). t.cpu) same;
   floor = ap (λ (t : StreamView). t.floor) same;
   start = ap (λ (t : StreamView). t.start) same;
-  last_time = ap (λ (t : StreamView). t.last_time) same ∙ sym (same_last_time r.start r.claims r.nices r.events);
-  last_line = ap (λ (t : StreamView). t.last_line) same ∙ sym (same_last_line r.claims r.nices r.events);
+  last_time = ap (λ (t : StreamView). t.last_time) same ∙ sym (same_last_time r.start r.claims r.nices (policy_of r) r.events);
+  last_line = ap (λ (t : StreamView). t.last_line) same ∙ sym (same_last_line r.claims r.nices (policy_of r) r.events);
 }
 
 pub cut_decides : (r : RecordView) (cpu : ℕ) (s : StreamView) (steps : List Step) (tasks all_tasks : List Task) (cursor : Cursor)

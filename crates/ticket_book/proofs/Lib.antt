@@ -2,6 +2,7 @@ mod Adding
 pub mod CoreKept
 mod Cursors
 mod Deadlines
+mod EventsFollowed
 mod Extent
 pub mod FewBelow
 mod StreamsFollowed

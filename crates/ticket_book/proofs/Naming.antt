@@ -41,10 +41,10 @@ births_more events i event within is =
     ∙ ap births_in (ap (λ e. take i events ++ e ∷ []) is ∙ sym (take_more events i event within))
 
 -- the births among events with what is said on their lines
-pub births_claimed : (claims : List Claim) (nices : List NiceLine) (events : List Entry)
-    → births_in events ≡ born_in (claimed claims nices events)
-births_claimed claims nices [] = refl
-births_claimed claims nices (event ∷ events) = ap (λ pids. born_by event.act ++ pids) (births_claimed claims nices events)
+pub births_claimed : (claims : List Claim) (nices : List NiceLine) (policy : Entry → Bool) (events : List Entry)
+    → births_in events ≡ born_in (claimed claims nices policy events)
+births_claimed claims nices policy [] = refl
+births_claimed claims nices policy (event ∷ events) = ap (λ pids. born_by event.act ++ pids) (births_claimed claims nices policy events)
 
 -- whether a pid is among some
 abbrev pub names : List ℕ → ℕ → Bool
@@ -125,11 +125,11 @@ named_once xs (y ∷ ys) =
     ∙ ap (λ pids. map new_tally (each_once pids)) (append_assoc xs (y ∷ []) ys)
 
 -- the tasks that the start names, and then those that are born
-pub all_named : (tasks : List Task) (claims : List Claim) (nices : List NiceLine) (events : List Entry)
+pub all_named : (tasks : List Task) (claims : List Claim) (nices : List NiceLine) (policy : Entry → Bool) (events : List Entry)
     (none named all : List Tally) → none ≡ [] → named ≡ with_named (map (λ task. task.pid) tasks) none → all ≡ with_named (births_in events) named
-    → all ≡ map new_tally (tasks_of_run tasks (claimed claims nices events))
-all_named tasks claims nices events none named all empty first second =
+    → all ≡ map new_tally (tasks_of_run tasks (claimed claims nices policy events))
+all_named tasks claims nices policy events none named all empty first second =
     let pids : List ℕ = map (λ (task : Task). task.pid) tasks in
     both_named pids (births_in events) none named all first second
     ∙ ap (with_named (pids ++ births_in events)) empty ∙ named_once [] (pids ++ births_in events)
-    ∙ ap (λ born. map new_tally (each_once (pids ++ born))) (births_claimed claims nices events)
+    ∙ ap (λ born. map new_tally (each_once (pids ++ born))) (births_claimed claims nices policy events)

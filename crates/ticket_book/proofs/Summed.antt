@@ -8,9 +8,11 @@ use Rattle.replay_model.specs.Noted.{new_tally}
 use Rattle.replay_model.specs.Summary.{SummaryView, is_birth, is_death, is_migration, is_switch, tasks_of_run}
 use Rattle.replay_model.specs.Totals.{summary_by}
 use Rattle.replay_model.specs.declared.page.Tally.{Tally}
+use Rattle.sched_record.specs.Kept.{policy_of}
 use Rattle.sched_record.specs.Record.{RecordView}
 use Rattle.ticket_book.specs.EventCounts.{counts_of}
 use Rattle.ticket_book.specs.Naming.{births_in, with_named}
+use Rattle.ticket_book.specs.SaidEvents.{events_of}
 use Rattle.ticket_book.specs.Tallying.{with_tallies}
 use Rattle.ticket_book.specs.declared.event_counts.EventCounts.{EventCounts}
 use Rattle.ticket_book.proofs.Counting.{count_claimed}
@@ -20,11 +22,11 @@ use Rattle.ticket_book.proofs.PagesAdded.{totals_added}
 module _ (r : RecordView) (tasks : List Task) (events : List Entry) (are_tasks : tasks ≡ r.tasks) (are_events : events ≡ r.events) where
   -- the sums of a record's tasks, before any tally is added
   pub tasks_named : (none named all : List Tally) → none ≡ [] → named ≡ with_named (map (λ task. task.pid) tasks) none
-      → all ≡ with_named (births_in events) named → all ≡ map new_tally (tasks_of_run r.tasks (claimed r.claims r.nices r.events))
+      → all ≡ with_named (births_in events) named → all ≡ map new_tally (tasks_of_run r.tasks (events_of r))
   tasks_named none named all empty first second =
-      all_named tasks r.claims r.nices events none named all empty first second
-      ∙ ap (λ ts. map new_tally (tasks_of_run ts (claimed r.claims r.nices events))) are_tasks
-      ∙ ap (λ es. map new_tally (tasks_of_run r.tasks (claimed r.claims r.nices es))) are_events
+      all_named tasks r.claims r.nices (policy_of r) events none named all empty first second
+      ∙ ap (λ ts. map new_tally (tasks_of_run ts (claimed r.claims r.nices (policy_of r) events))) are_tasks
+      ∙ ap (λ es. map new_tally (tasks_of_run r.tasks (claimed r.claims r.nices (policy_of r) es))) are_events
 
   same_summary : (a b : SummaryView) → a.events ≡ b.events → a.switches ≡ b.switches → a.migrations ≡ b.migrations
       → a.births ≡ b.births → a.deaths ≡ b.deaths → a.tallies ≡ b.tallies → a ≡ b
@@ -39,7 +41,7 @@ module _ (r : RecordView) (tasks : List Task) (events : List Entry) (are_tasks :
 
   -- the summary of counts and sums
   pub summed : (tallies before sums : List Tally) (counts : EventCounts) (summary : SummaryView)
-      → before ≡ map new_tally (tasks_of_run r.tasks (claimed r.claims r.nices r.events)) → sums ≡ map (with_tallies tallies) before
+      → before ≡ map new_tally (tasks_of_run r.tasks (events_of r)) → sums ≡ map (with_tallies tallies) before
       → counts ≡ counts_of events
       → summary ≡ record {
         events = length events;
@@ -49,15 +51,15 @@ module _ (r : RecordView) (tasks : List Task) (events : List Entry) (are_tasks :
         deaths = counts.deaths;
         tallies = sums;
       }
-      → summary ≡ summary_by tallies r.tasks (claimed r.claims r.nices r.events)
+      → summary ≡ summary_by tallies r.tasks (events_of r)
   summed tallies before sums counts summary named added counted is =
-      is ∙ same_summary _ (summary_by tallies r.tasks (claimed r.claims r.nices r.events))
+      is ∙ same_summary _ (summary_by tallies r.tasks (events_of r))
       (ap length are_events ∙ sym (length-map r.events _))
-      (ap (λ (k : EventCounts). k.switches) told ∙ count_claimed is_switch r.claims r.nices r.events)
-      (ap (λ (k : EventCounts). k.migrations) told ∙ count_claimed is_migration r.claims r.nices r.events)
-      (ap (λ (k : EventCounts). k.births) told ∙ count_claimed is_birth r.claims r.nices r.events)
-      (ap (λ (k : EventCounts). k.deaths) told ∙ count_claimed is_death r.claims r.nices r.events)
-      (added ∙ ap (map (with_tallies tallies)) named ∙ totals_added tallies (tasks_of_run r.tasks (claimed r.claims r.nices r.events)))
+      (ap (λ (k : EventCounts). k.switches) told ∙ count_claimed is_switch r.claims r.nices (policy_of r) r.events)
+      (ap (λ (k : EventCounts). k.migrations) told ∙ count_claimed is_migration r.claims r.nices (policy_of r) r.events)
+      (ap (λ (k : EventCounts). k.births) told ∙ count_claimed is_birth r.claims r.nices (policy_of r) r.events)
+      (ap (λ (k : EventCounts). k.deaths) told ∙ count_claimed is_death r.claims r.nices (policy_of r) r.events)
+      (added ∙ ap (map (with_tallies tallies)) named ∙ totals_added tallies (tasks_of_run r.tasks (events_of r)))
     where
       told : counts ≡ counts_of r.events
       told = counted ∙ ap counts_of are_events

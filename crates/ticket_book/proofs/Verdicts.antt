@@ -3,7 +3,7 @@ use Rattle.std.proofs.Common.{◌≡◌, ℕ, zero, suc, ◌^◌, ◌<◌, ◌�
 use Rattle.std.specs.Prelude.{slice_get}
 use Rattle.std.specs.List.{AllPairs}
 use Rattle.std.proofs.lemmas.List.{length-map}
-use Rattle.cfs_model.specs.Claimed.{claimed, with_claim}
+use Rattle.cfs_model.specs.Claimed.{with_claim}
 use Rattle.cfs_model.specs.Settings.{Settings}
 use Rattle.cfs_model.specs.declared.act.Entry.{Entry}
 use Rattle.cfs_model.specs.Start.{start_machine}
@@ -17,9 +17,11 @@ use Rattle.replay_model.specs.Totals.{PagesAddUp, PagesTellSummary, TalliesBound
 use Rattle.replay_model.proofs.RecordFrom.{record_from}
 use Rattle.replay_model.proofs.StartFrom.{start_from}
 use Rattle.queue_replay.specs.Replay.{ReplayView}
+use Rattle.sched_record.specs.Kept.{policy_of}
 use Rattle.sched_record.proofs.Shares.{share_of}
 use Rattle.sched_record.specs.Record.{RecordView, IsRecordInOrder, record_last_line, record_last_time}
 use Rattle.sched_record.specs.Stream.{cut_of}
+use Rattle.ticket_book.specs.SaidEvents.{events_of}
 use Rattle.ticket_book.specs.SummaryView.{summary_view}
 use Rattle.ticket_book.specs.Tallying.{FitsTally}
 use Rattle.ticket_book.specs.Told.{Tell, cause_view, view_at}
@@ -34,11 +36,11 @@ use Rattle.ticket_book.specs.declared.verdict.Verdict.TheVariants.{Run, Fault}
 
 -- what a record keeps, as the laws of the replays take it
 pub record_in_order : (r : RecordView) → IsRecordInOrder r
-    → IsRecord r.start r.floors r.tasks (claimed r.claims r.nices r.events) r.cpus
+    → IsRecord r.start r.floors r.tasks (events_of r) r.cpus
 record_in_order r o =
     let start = start_from r.floors r.tasks o.companion.pids_rise o.companion.one_runs_a_cpu
     (λ k d h. (o.companion.tasks_in_limits k d h).v) o.companion.floors_in_limits in
-    record_from r.start r.floors r.tasks r.claims r.nices r.events r.cpus start
+    record_from r.start r.floors r.tasks r.claims r.nices (policy_of r) r.events r.cpus start
     (λ k d h. (o.companion.tasks_in_limits k d h).cpu) o.inside (λ k d h. (o.companion.claims_in_limits k d h).v)
     o.events.never_falls o.started o.events.lines_rise o.events.from_one
 
@@ -57,7 +59,7 @@ page_there (page ∷ pages) (suc cpu) h = page_there pages cpu (omega arith)
 -- a page that suffices, as the laws of the closing take it
 suffices_among : (knobs : Settings) (r : RecordView) (pages : List ReplayView) (cpu : ℕ) (page : ReplayView)
     → SufficesBeside knobs r pages cpu page → view_at pages cpu ≡ page.page
-    → SufficesAmong knobs r.start r.floors r.tasks (claimed r.claims r.nices r.events) (length pages) (view_at pages) cpu
+    → SufficesAmong knobs r.start r.floors r.tasks (events_of r) (length pages) (view_at pages) cpu
 suffices_among knobs r pages cpu page s is = record {
   made = page.made;
   is_page = subst (λ v. IsPageOf (cut_of r cpu) knobs page.made v) (sym is)
@@ -71,34 +73,34 @@ module _ (knobs : Settings) (r : RecordView) (pages : List ReplayView) (sufficie
   -- each processor's page suffices
   abbrev pub AreTold : Type 0
   AreTold = (cpu : ℕ) → cpu < length pages
-      → SufficesAmong knobs r.start r.floors r.tasks (claimed r.claims r.nices r.events) (length pages) (view_at pages) cpu
+      → SufficesAmong knobs r.start r.floors r.tasks (events_of r) (length pages) (view_at pages) cpu
 
   pub all_suffice : AreTold
   all_suffice cpu h =
       let p = page_there pages cpu h in suffices_among knobs r pages cpu p.0 (sufficient.each cpu p.0 p.1) p.2
 
-  in_record : IsRecordInOrder r → IsRecord r.start r.floors r.tasks (claimed r.claims r.nices r.events) (length pages)
-  in_record o = subst (IsRecord r.start r.floors r.tasks (claimed r.claims r.nices r.events)) (sym sufficient.count) (record_in_order r o)
+  in_record : IsRecordInOrder r → IsRecord r.start r.floors r.tasks (events_of r) (length pages)
+  in_record o = subst (IsRecord r.start r.floors r.tasks (events_of r)) (sym sufficient.count) (record_in_order r o)
 
   -- what they say first is what is wrong
   pub fault_of : PagesTellFault → IsRecordInOrder r → (line : ℕ) (cause : FoundCause)
-      → Tell (view_at pages) (length pages) r.tasks (claimed r.claims r.nices r.events) (Some (line, cause))
+      → Tell (view_at pages) (length pages) r.tasks (events_of r) (Some (line, cause))
       → IsVerdict knobs r (Fault line cause.cpu cause.pid cause.kind)
   fault_of faults o line cause tell =
-      subst (λ n. IsFirstFault knobs r.start (start_machine r.start r.floors r.tasks) (claimed r.claims r.nices r.events) n (cause_view cause))
+      subst (λ n. IsFirstFault knobs r.start (start_machine r.start r.floors r.tasks) (events_of r) n (cause_view cause))
       tell.line_is
-      (faults knobs r.start r.floors r.tasks (claimed r.claims r.nices r.events) tell.before tell.rest tell.event (length pages) (view_at pages)
+      (faults knobs r.start r.floors r.tasks (events_of r) tell.before tell.rest tell.event (length pages) (view_at pages)
       (cause_view cause) (in_record o) all_suffice tell.whole tell.nothing tell.why)
 
   module _ (o : IsRecordInOrder r)
-      (nothing : SayNothing (view_at pages) (length pages) r.tasks (claimed r.claims r.nices r.events)) where
+      (nothing : SayNothing (view_at pages) (length pages) r.tasks (events_of r)) where
     -- where they say nothing, the summary by them is the run's
     pub run_of : PagesTellSummary → (summary : Summary)
-        → summary_view summary ≡ summary_by (tallies_below (view_at pages) (length pages)) r.tasks (claimed r.claims r.nices r.events)
+        → summary_view summary ≡ summary_by (tallies_below (view_at pages) (length pages)) r.tasks (events_of r)
         → IsVerdict knobs r (Run summary)
     run_of tells summary is =
         subst (IsScheduled knobs r) (sym is)
-        (tells knobs r.start r.floors r.tasks (claimed r.claims r.nices r.events) (length pages) (view_at pages)
+        (tells knobs r.start r.floors r.tasks (events_of r) (length pages) (view_at pages)
         (in_record o) all_suffice nothing)
 
     -- and no sum of their tallies is too great
@@ -106,16 +108,16 @@ module _ (knobs : Settings) (r : RecordView) (pages : List ReplayView) (sufficie
         → last_line ≡ record_last_line r → last_line < 2 ^ 32 → (pids : List ℕ)
         → All (λ pid. FitsTally (total_of (tallies_below (view_at pages) (length pages)) pid)) pids
     sums_fit add_up bounded last_time last_line time_is time line_is line pids k d h =
-        let added = add_up knobs r.start r.floors r.tasks (claimed r.claims r.nices r.events) (length pages) (view_at pages)
+        let added = add_up knobs r.start r.floors r.tasks (events_of r) (length pages) (view_at pages)
         (in_record o) all_suffice nothing in
         let pid = get_or pids k d in
         subst FitsTally (sym (added.1 pid))
-        (bounds_fit _ (length (claimed r.claims r.nices r.events)) last_time
-        (let n = length-map r.events (with_claim r.claims r.nices) in
+        (bounds_fit _ (length (events_of r)) last_time
+        (let n = length-map r.events (with_claim r.claims r.nices (policy_of r)) in
         let few = events_few r.events o.events.from_one o.events.lines_rise in
         omega (arith, n, few, line_is, line)) time
-        (bounded knobs r.start r.floors r.tasks (claimed r.claims r.nices r.events) last_time pid (in_record o).is_start
-        (times_below r.claims r.nices r.events last_time
+        (bounded knobs r.start r.floors r.tasks (events_of r) last_time pid (in_record o).is_start
+        (times_below r.claims r.nices (policy_of r) r.events last_time
         (λ j e w. let below = last_greatest (λ (event : Entry). event.time) r.events r.start o.events.never_falls j e w in
         omega (arith, below, time_is))) added.0))
 

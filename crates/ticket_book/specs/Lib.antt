@@ -6,6 +6,7 @@ pub mod EventCounts
 pub mod Framed
 pub mod Relying
 pub mod Remade
+pub mod SaidEvents
 pub mod Alive
 pub mod Idling
 pub mod Lesser

@@ -1,26 +1,26 @@
 -- The verdict on a record: the headline (this project's profile). What a run is, is said by cfs_model; what its summary
 -- is, and what is wrong with the first event up to which the events are none, by replay_model.
 use Rattle.std.specs.Prelude.{ℕ}
-use Rattle.cfs_model.specs.Claimed.{claimed}
 use Rattle.cfs_model.specs.Settings.{Settings}
 use Rattle.cfs_model.specs.Start.{start_machine}
 use Rattle.replay_model.specs.Cause.{FaultCause, IsFirstFault}
 use Rattle.replay_model.specs.Summary.{SummaryView, IsSummary}
 use Rattle.sched_record.specs.Record.{RecordView}
+use Rattle.ticket_book.specs.SaidEvents.{events_of}
 use Rattle.ticket_book.specs.SummaryView.{summary_view}
 use Rattle.ticket_book.specs.declared.verdict.Verdict.{Verdict}
 use Rattle.ticket_book.specs.declared.verdict.Verdict.TheVariants.{Run, Fault}
 
--- the record's events, with the claims and the changes of nice values on their lines, are a run of the scheduler from the
--- record's start state, and this is the summary of that run
+-- the record's events, with the claims and the changes of nice values on their lines and the policies of the tasks that they
+-- bear or move, are a run of the scheduler from the record's start state, and this is the summary of that run
 abbrev pub IsScheduled : Settings → RecordView → SummaryView → Type 0
 IsScheduled knobs r summary =
-    IsSummary knobs r.start (start_machine r.start r.floors r.tasks) r.tasks (claimed r.claims r.nices r.events) summary
+    IsSummary knobs r.start (start_machine r.start r.floors r.tasks) r.tasks (events_of r) summary
 
 -- the record's events are none from this line on, which is the first, and this is what is wrong there
 abbrev pub IsFaulty : Settings → RecordView → ℕ → FaultCause → Type 0
 IsFaulty knobs r line cause =
-    IsFirstFault knobs r.start (start_machine r.start r.floors r.tasks) (claimed r.claims r.nices r.events) line cause
+    IsFirstFault knobs r.start (start_machine r.start r.floors r.tasks) (events_of r) line cause
 
 -- a verdict on a record: yes means that it is a run, and tells what the run did; a fault names the first line up to which
 -- the events are none, and what is wrong there

@@ -1,6 +1,6 @@
 ghost use Rattle.std.specs.Prelude.{◌≡◌, IfOk, length};
-ghost use Rattle.cfs_model.specs.Claimed.{claimed};
 ghost use Rattle.sched_record.specs.Record.{record_view};
+ghost use Rattle.ticket_book.specs.SaidEvents.{events_of};
 ghost use Rattle.ticket_book.specs.Told.{Tell, view_at};
 ghost use Rattle.ticket_book.specs.Verdict.{IsVerdict};
 ghost use Rattle.ticket_book.specs.Walk.{TicketsRise};
@@ -53,7 +53,7 @@ pub(crate) fn told_by(
     requires count { length pages.now ≡ (record_view joined.now).cpus }
     requires rise { TicketsRise pages.now }
     ensures { IfOk result (Tell (view_at pages.now) (length pages.now) (record_view joined.now).tasks
-        (claimed (record_view joined.now).claims (record_view joined.now).nices (record_view joined.now).events)) }
+        (events_of (record_view joined.now))) }
 {
     let mut walk = Walk::new(alloc, pages, joined.tasks())?;
     for event in joined.events() {

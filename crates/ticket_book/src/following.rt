@@ -1,12 +1,13 @@
 //! All events of a record dealt once, past the pages of all processors.
 ghost use Rattle.std.specs.Prelude.{◌≡◌, ◌≢◌, ◌==◌, ◌||◌, ℕ, List, [], ◌∷◌, ◌++◌, IfOk, slice_get, vec_len};
 ghost use Rattle.std.specs.List.{list_any};
-ghost use Rattle.cfs_model.specs.Claimed.{Claimed, claimed};
+ghost use Rattle.cfs_model.specs.Claimed.{Claimed};
 ghost use Rattle.cfs_model.specs.Touch.{touched};
 ghost use Rattle.replay_model.specs.declared.step.Step.{Step};
 ghost use Rattle.sched_record.specs.Record.{record_view};
 ghost use Rattle.ticket_book.specs.Book.{page_at};
 ghost use Rattle.ticket_book.specs.Cursor.{AreFollowed, IsFollowed, steps_in};
+ghost use Rattle.ticket_book.specs.SaidEvents.{events_of};
 
 use crate::cursor::Cursor;
 use cfs_model::{Act, Claim, Entry, Memory, NiceLine};
@@ -22,8 +23,7 @@ pub(crate) fn cursors_of(
     joined: &Record,
 ) -> Result<Vec<Cursor>, Memory>
     ensures count { IfOk result (λ cursors. vec_len cursors ≡ (record_view joined.now).cpus) }
-    ensures followed { IfOk result (λ cursors. AreFollowed places.now cursors.items
-        (claimed (record_view joined.now).claims (record_view joined.now).nices (record_view joined.now).events)) }
+    ensures followed { IfOk result (λ cursors. AreFollowed places.now cursors.items (events_of (record_view joined.now))) }
 {
     let mut cursors = Vec::from_elem(alloc, Cursor::At(0), joined.cpus() as usize)?;
     let mut claim_place = 0;
@@ -31,33 +31,34 @@ pub(crate) fn cursors_of(
     for (index, event) in joined.events().iter().enumerate() {
         let (claim, next_claim) = joined.claim_beside(index, claim_place);
         let (nice, next_nice) = joined.nice_beside(index, nice_place);
-        follow(&mut cursors, places, event, claim, &nice);
+        let idle = joined.policy_at(index);
+        follow(&mut cursors, places, event, claim, &nice, idle);
         claim_place = next_claim;
         nice_place = next_nice;
     }
     Ok(cursors)
 }
 
-/// Deals one more event, with the claim and the change of a nice value on its line.
+/// Deals one more event, with the claim and the change of a nice value on its line, and the policy of the task that it bears
+/// or moves.
 fn follow(
     cursors: &mut [Cursor],
     places: &[Option<Page>],
     event: &Entry,
     claim: Option<Claim>,
     nice: &Option<NiceLine>,
+    idle: bool,
 )
     ensures { (events : List Claimed) → AreFollowed places.now cursors.old events
-        → AreFollowed places.now cursors.new (events ++ record { entry = event.now; claim = claim; nice = nice.now } ∷ []) }
+        → AreFollowed places.now cursors.new
+        (events ++ record { entry = event.now; claim = claim; nice = nice.now; idle = idle } ∷ []) }
 {
     let (first, second) = ends_of(event);
-    follow_at(cursors, places, first, step_at(*event, claim, *nice, first));
+    let step = step_at(*event, claim, *nice, idle, first);
+    follow_at(cursors, places, first, step);
     if second != first {
-        follow_at(
-            cursors,
-            places,
-            second,
-            step_at(*event, claim, *nice, second),
-        );
+        let step = step_at(*event, claim, *nice, idle, second);
+        follow_at(cursors, places, second, step);
     }
 }
 

@@ -2,11 +2,11 @@
 ghost use Rattle.std.specs.Prelude.{◌≡◌, ◌<◌, ℕ, IfNone, IfSome, length};
 ghost use Rattle.sched_record.specs.Record.{record_view};
 ghost use Rattle.sched_record.specs.Stream.{cut_of};
-ghost use Rattle.cfs_model.specs.Claimed.{claimed};
 ghost use Rattle.ticket_book.specs.Book.{page_at};
 ghost use Rattle.ticket_book.specs.Cursor.{AreFollowed, IsCursor, steps_in};
 ghost use Rattle.ticket_book.specs.Relying.{IsLeastOf};
 ghost use Rattle.ticket_book.specs.Remade.{HasFaultAt};
+ghost use Rattle.ticket_book.specs.SaidEvents.{events_of};
 
 use crate::cursor::Cursor;
 use crate::lesser::lesser;
@@ -24,8 +24,7 @@ pub(crate) fn least_fault(
     cursors: &[Cursor],
 ) -> Option<u64>
     requires count { length cursors.now ≡ (record_view joined.now).cpus }
-    requires followed { AreFollowed places.now cursors.now
-        (claimed (record_view joined.now).claims (record_view joined.now).nices (record_view joined.now).events) }
+    requires followed { AreFollowed places.now cursors.now (events_of (record_view joined.now)) }
     ensures { IsLeastOf knobs (record_view joined.now) places.now (record_view joined.now).cpus result }
 {
     let mut least = None;

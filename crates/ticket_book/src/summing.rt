@@ -1,11 +1,11 @@
 //! The summary of a run: its events counted in one walk, and the tallies of all its pages added in another.
 ghost use Rattle.std.specs.Prelude.{◌≡◌, All, IfOk, OnOk, length, map};
-ghost use Rattle.cfs_model.specs.Claimed.{claimed};
 ghost use Rattle.replay_model.specs.Summary.{born_by, tasks_of_run};
 ghost use Rattle.replay_model.specs.Totals.{summary_by, tallies_below, total_of};
 ghost use Rattle.sched_record.specs.Record.{record_view};
 ghost use Rattle.ticket_book.specs.EventCounts.{counts_of};
 ghost use Rattle.ticket_book.specs.Naming.{births_in, with_named};
+ghost use Rattle.ticket_book.specs.SaidEvents.{events_of};
 ghost use Rattle.ticket_book.specs.SummaryView.{summary_view};
 ghost use Rattle.ticket_book.specs.Tallying.{FitsTally, with_tallies};
 ghost use Rattle.ticket_book.specs.Told.{view_at};
@@ -21,10 +21,10 @@ use std::alloc::Global;
 /// The summary of a record's events by the tallies on its processors' pages.
 pub(crate) fn summary_by(alloc: Global, pages: &[Page], joined: &Record) -> Result<Summary, Memory>
     requires { All (λ pid. FitsTally (total_of (tallies_below (view_at pages.now) (length pages.now)) pid))
-        (tasks_of_run (record_view joined.now).tasks (claimed (record_view joined.now).claims (record_view joined.now).nices (record_view joined.now).events)) }
+        (tasks_of_run (record_view joined.now).tasks (events_of (record_view joined.now))) }
     ensures { IfOk result (λ summary. summary_view summary
         ≡ summary_by (tallies_below (view_at pages.now) (length pages.now)) (record_view joined.now).tasks
-        (claimed (record_view joined.now).claims (record_view joined.now).nices (record_view joined.now).events)) }
+        (events_of (record_view joined.now))) }
 {
     let events = joined.events();
     let mut sums = TallyBook::new(alloc);

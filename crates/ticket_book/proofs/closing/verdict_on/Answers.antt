@@ -1,7 +1,7 @@
 use Rattle.std.proofs.Common.{length, subst}
-use Rattle.cfs_model.specs.Claimed.{claimed}
 use Rattle.replay_model.specs.Summary.{tasks_of_run}
 use Rattle.sched_record.specs.Record.{record_view}
+use Rattle.ticket_book.specs.SaidEvents.{events_of}
 use Rattle.ticket_book.specs.Told.{Tell, view_at}
 use Rattle.ticket_book.proofs.Verdicts.{fault_of, run_of, sums_fit, tickets_rise}
 use Rattle.ticket_book.proofs.closing.verdict_on.Goals as goal
@@ -15,25 +15,25 @@ returns-in-Some c =
     let r = record_view c.args.joined.now in
     let pages = c.args.pages.now in
     fault_of c.args.knobs r pages c.requires c.closing.ensures.fault c.args.joined.now.in_order c.in-Some.line c.in-Some.cause
-    (subst (Tell (view_at pages) (length pages) r.tasks (claimed r.claims r.nices r.events)) c.in-Some.is c.in_ok-line.ensures)
+    (subst (Tell (view_at pages) (length pages) r.tasks (events_of r)) c.in-Some.is c.in_ok-line.ensures)
 
 pub summary_by-requires : goal.summary_by-requires
 summary_by-requires c =
     let r = record_view c.args.joined.now in
     let pages = c.args.pages.now in
     let order = c.args.joined.now.in_order in
-    let nothing = subst (Tell (view_at pages) (length pages) r.tasks (claimed r.claims r.nices r.events)) c.in-None.is
+    let nothing = subst (Tell (view_at pages) (length pages) r.tasks (events_of r)) c.in-None.is
     c.in_ok-line.ensures in
     sums_fit c.args.knobs r pages c.requires order
     nothing c.tallying.ensures.totals c.tallying.ensures.bounded c.last_time.result c.last_line.result c.last_time.ensures
-    c.last_time.type_inv c.last_line.ensures c.last_line.type_inv (tasks_of_run r.tasks (claimed r.claims r.nices r.events))
+    c.last_time.type_inv c.last_line.ensures c.last_line.type_inv (tasks_of_run r.tasks (events_of r))
 
 pub returns-in_ok-summary_by-in-None : goal.returns-in_ok-summary_by-in-None
 returns-in_ok-summary_by-in-None c =
     let r = record_view c.args.joined.now in
     let pages = c.args.pages.now in
     let order = c.args.joined.now.in_order in
-    let nothing = subst (Tell (view_at pages) (length pages) r.tasks (claimed r.claims r.nices r.events)) c.in-None.is
+    let nothing = subst (Tell (view_at pages) (length pages) r.tasks (events_of r)) c.in-None.is
     c.in_ok-line.ensures in
     run_of c.args.knobs r pages c.requires order
     nothing c.tallying.ensures.summary c.in_ok-summary_by-in-None.field-0 c.in_ok-summary_by-in-None.ensures

@@ -1,5 +1,6 @@
 use Rattle.std.proofs.Common.{◌≡◌, vec_len, take}
 use Rattle.cfs_model.specs.Claimed.{claimed}
+use Rattle.sched_record.specs.Kept.{policy_of}
 use Rattle.sched_record.specs.Beside.{IsClaimPlace, IsNicePlace}
 use Rattle.sched_record.specs.Record.{record_view}
 use Rattle.ticket_book.specs.Cursor.{AreFollowed}
@@ -11,5 +12,5 @@ invariant-loop-index l = record {
   claims : IsClaimPlace (record_view l.joined) l.index l.claim_place;
   nices : IsNicePlace (record_view l.joined) l.index l.nice_place;
   followed : AreFollowed l.places l.cursors.items
-      (claimed (record_view l.joined).claims (record_view l.joined).nices (take l.index (record_view l.joined).events));
+      (claimed (record_view l.joined).claims (record_view l.joined).nices (policy_of (record_view l.joined)) (take l.index (record_view l.joined).events));
 }

@@ -1,9 +1,14 @@
-use Rattle.std.proofs.Common.{◌≡◌, [], ◌∷◌, ◌++◌, refl, sym, ap, ◌∙◌, subst, arith}
+use Rattle.std.proofs.Common.{rules, ◌≡◌, ◌<◌, [], ◌∷◌, ◌++◌, length, Some, refl, sym, ap, ◌∙◌, subst, arith}
+use Rattle.std.proofs.lemmas.Option.{slice_get-get_or}
+use Rattle.replay_model.specs.Cut.{steps_at}
 use Rattle.queue_replay.specs.Replay.{ReplayView}
 use Rattle.sched_record.specs.Record.{record_view}
 use Rattle.ticket_book.specs.BookView.{book_view}
+use Rattle.ticket_book.specs.Cursor.{AreFollowed}
 use Rattle.ticket_book.specs.Relying.{IsLeastOf, IsReliableAt}
 use Rattle.ticket_book.specs.Remade.{Suffices}
+use Rattle.ticket_book.specs.SaidEvents.{events_of}
+use Rattle.ticket_book.proofs.EventsFollowed.{own_cursor}
 use Rattle.ticket_book.proofs.Gathering.{AreGathered, IsGathered, all_gathered, gathered_one, made_one, reliable_suffices, suffices_reliable, whole_suffices}
 use Rattle.ticket_book.proofs.remaking.sufficing_pages.Goals as goal
 use Rattle.ticket_book.proofs.remaking.sufficing_pages.Goals.{in-Some, in-None+in_ok-page-in-None}
@@ -55,3 +60,25 @@ returns-clause-suffice c =
     let same : c.loop-cpu.cpu ≡ r.cpus = omega (arith, count, most, all) in
     all_gathered knobs r places c.loop-cpu.left c.loop-cpu.pages.items c.loop-cpu.remade
     (subst (λ n. AreGathered knobs r places c.loop-cpu.left c.loop-cpu.pages.items n c.loop-cpu.remade) same c.loop-cpu.invariant)
+
+pub least_fault-least-requires-clause-followed : goal.least_fault-least-requires-clause-followed
+least_fault-least-requires-clause-followed c =
+    let r = record_view c.args.joined.now in
+    let cursors = c.in_ok-cursors.cursors.items in
+    subst (λ cs. AreFollowed c.deref-2.result.now cs (events_of r)) (sym c.deref-3.ensures.value)
+    (subst (λ ps. AreFollowed ps cursors (events_of r)) (c.deref.ensures.value ∙ sym c.deref-2.ensures.value)
+    c.in_ok-cursors.ensures.followed)
+
+pub relied_on-requires-clause-followed : goal.relied_on-requires-clause-followed
+relied_on-requires-clause-followed c =
+    let r = record_view c.args.joined.now in
+    let places = book_view c.args.book in
+    let cursors = c.in_ok-cursors.cursors.items in
+    let cpu = c.loop-cpu.cpu in
+    let within : cpu < length cursors = search rules in
+    let followed : AreFollowed places cursors (events_of r) =
+    subst (λ ps. AreFollowed ps cursors (events_of r)) (c.deref.ensures.value ∙ c.into_places-places.ensures)
+    c.in_ok-cursors.ensures.followed in
+    own_cursor places c.loop-cpu.left cursors cpu (steps_at cpu (events_of r)) c.take_page-place.result c.index.result.now
+    (followed cpu) (c.loop-cpu.invariant.left_are cpu (omega arith)) c.take_page-place.ensures.page
+    (slice_get-get_or cursors cpu c.index.result.now within ∙ ap Some (sym c.index.ensures))

@@ -1,9 +1,9 @@
 use Rattle.std.proofs.Common.{◌≡◌, All, length, map, sym, ◌∙◌, refl, subst}
-use Rattle.cfs_model.specs.Claimed.{claimed}
 use Rattle.replay_model.specs.Noted.{new_tally}
 use Rattle.replay_model.specs.Summary.{tasks_of_run}
 use Rattle.replay_model.specs.Totals.{tallies_below}
 use Rattle.sched_record.specs.Record.{record_view}
+use Rattle.ticket_book.specs.SaidEvents.{events_of}
 use Rattle.ticket_book.specs.Tallying.{FitsTally, with_tallies}
 use Rattle.ticket_book.specs.Told.{view_at}
 use Rattle.ticket_book.proofs.PagesAdded.{totals_fit}
@@ -14,18 +14,18 @@ pub add_pages-requires : goal.add_pages-requires
 add_pages-requires c =
     let r = record_view c.args.joined.now in
     let tallies = tallies_below (view_at c.args.pages.now) (length c.args.pages.now) in
-    let named : c.count_events.new.sums.list.items ≡ map new_tally (tasks_of_run r.tasks (claimed r.claims r.nices r.events)) =
+    let named : c.count_events.new.sums.list.items ≡ map new_tally (tasks_of_run r.tasks (events_of r)) =
     tasks_named r c.tasks.result.now c.events-events.result.now c.tasks.ensures c.events-events.ensures c.new-sums.result.list.items
     c.name_tasks.new.sums.list.items c.count_events.new.sums.list.items c.new-sums.ensures c.in_ok-name_tasks.ensures
     c.in_ok-counts.ensures.named in
     subst (All (λ sum. FitsTally (with_tallies tallies sum))) (sym named)
-    (totals_fit tallies (tasks_of_run r.tasks (claimed r.claims r.nices r.events)) c.requires)
+    (totals_fit tallies (tasks_of_run r.tasks (events_of r)) c.requires)
 
 pub returns : goal.returns
 returns c =
     let r = record_view c.args.joined.now in
     let tallies = tallies_below (view_at c.args.pages.now) (length c.args.pages.now) in
-    let named : c.count_events.new.sums.list.items ≡ map new_tally (tasks_of_run r.tasks (claimed r.claims r.nices r.events)) =
+    let named : c.count_events.new.sums.list.items ≡ map new_tally (tasks_of_run r.tasks (events_of r)) =
     tasks_named r c.tasks.result.now c.events-events.result.now c.tasks.ensures c.events-events.ensures c.new-sums.result.list.items
     c.name_tasks.new.sums.list.items c.count_events.new.sums.list.items c.new-sums.ensures c.in_ok-name_tasks.ensures
     c.in_ok-counts.ensures.named in

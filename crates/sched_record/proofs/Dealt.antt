@@ -1,5 +1,5 @@
 -- What dealing finds: what stands on an event's line, and the step with it.
-use Rattle.std.proofs.Common.{◌≡◌, ℕ, zero, suc, ◌+◌, ◌<◌, List, [], ◌∷◌, ◌++◌, length, get_or, map, take, cond, eqb, Option, Some, None, refl, sym, ap, ◌∙◌, arith}
+use Rattle.std.proofs.Common.{◌≡◌, ℕ, Bool, zero, suc, ◌+◌, ◌<◌, List, [], ◌∷◌, ◌++◌, length, get_or, map, take, cond, eqb, Option, Some, None, refl, sym, ap, ◌∙◌, arith}
 use Rattle.std.specs.Prelude.{find}
 use Rattle.std.proofs.lemmas.Bool.{eq-eqb, ne_eqb}
 use Rattle.std.proofs.lemmas.List.{map_more}
@@ -32,27 +32,27 @@ item_missing {X} f (item ∷ items) line none =
     ∙ item_missing f items line (λ k e h. none (suc k) e (omega arith))
 
 -- a step with what stands on its line
-step_is : (cpu : ℕ) (claims : List Claim) (nices : List NiceLine) (event : Entry) (deed : Deed) (found claim : Option Claim) (change nice : Option NiceLine)
-    → deed ≡ deed_at cpu event.act → found ≡ claim_at claims event.line → claim ≡ claim_for deed found → change ≡ nice_at nices event.line
+step_is : (cpu : ℕ) (claims : List Claim) (nices : List NiceLine) (policy : Entry → Bool) (event : Entry) (deed : Deed) (found claim : Option Claim) (change nice : Option NiceLine)
+    → deed ≡ deed_at cpu (policy event) event.act → found ≡ claim_at claims event.line → claim ≡ claim_for deed found → change ≡ nice_at nices event.line
     → nice ≡ nice_for deed change
-    → record { line = event.line; time = event.time; deed = deed; claim = claim; nice = nice } ≡ step_at cpu (with_claim claims nices event)
-step_is cpu claims nices event deed found claim change nice is_deed is_found is_claim is_change is_nice =
+    → record { line = event.line; time = event.time; deed = deed; claim = claim; nice = nice } ≡ step_at cpu (with_claim claims nices policy event)
+step_is cpu claims nices policy event deed found claim change nice is_deed is_found is_claim is_change is_nice =
     let step : Deed → Option Claim → Option NiceLine → Step = λ d c n. record { line = event.line; time = event.time; deed = d; claim = c; nice = n } in
     ap (λ c. step deed c nice) (is_claim ∙ ap (λ f. claim_for deed f) is_found)
     ∙ ap (λ n. step deed (claim_for deed (claim_at claims event.line)) n) (is_nice ∙ ap (λ f. nice_for deed f) is_change)
     ∙ ap (λ d. step d (claim_for d (claim_at claims event.line)) (nice_for d (nice_at nices event.line))) is_deed
 
 -- the step of the next of the events that touch the processor
-pub dealt_more : (cpu : ℕ) (claims : List Claim) (nices : List NiceLine) (events : List Entry) (i : ℕ) (event : Entry) (steps : List Step) (deed : Deed)
+pub dealt_more : (cpu : ℕ) (claims : List Claim) (nices : List NiceLine) (policy : Entry → Bool) (events : List Entry) (i : ℕ) (event : Entry) (steps : List Step) (deed : Deed)
     (found claim : Option Claim) (change nice : Option NiceLine) → i < length (touching cpu events) → event ≡ get_or (touching cpu events) i event
-    → steps ≡ map (step_of cpu claims nices) (take i (touching cpu events))
-    → deed ≡ deed_at cpu event.act → found ≡ claim_at claims event.line → claim ≡ claim_for deed found → change ≡ nice_at nices event.line
+    → steps ≡ map (step_of cpu claims nices policy) (take i (touching cpu events))
+    → deed ≡ deed_at cpu (policy event) event.act → found ≡ claim_at claims event.line → claim ≡ claim_for deed found → change ≡ nice_at nices event.line
     → nice ≡ nice_for deed change
     → steps ++ record { line = event.line; time = event.time; deed = deed; claim = claim; nice = nice } ∷ []
-    ≡ map (step_of cpu claims nices) (take (i + 1) (touching cpu events))
-dealt_more cpu claims nices events i event steps deed found claim change nice h is_event dealt is_deed is_found is_claim is_change is_nice =
+    ≡ map (step_of cpu claims nices policy) (take (i + 1) (touching cpu events))
+dealt_more cpu claims nices policy events i event steps deed found claim change nice h is_event dealt is_deed is_found is_claim is_change is_nice =
     let there = touching cpu events in
-    ap (λ step. steps ++ step ∷ []) (step_is cpu claims nices event deed found claim change nice is_deed is_found is_claim is_change is_nice
-    ∙ ap (step_of cpu claims nices) is_event)
-    ∙ ap (λ ss. ss ++ step_of cpu claims nices (get_or there i event) ∷ []) dealt
-    ∙ sym (map_more (step_of cpu claims nices) there i event h)
+    ap (λ step. steps ++ step ∷ []) (step_is cpu claims nices policy event deed found claim change nice is_deed is_found is_claim is_change is_nice
+    ∙ ap (step_of cpu claims nices policy) is_event)
+    ∙ ap (λ ss. ss ++ step_of cpu claims nices policy (get_or there i event) ∷ []) dealt
+    ∙ sym (map_more (step_of cpu claims nices policy) there i event h)

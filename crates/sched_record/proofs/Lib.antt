@@ -1,6 +1,4 @@
 pub mod Beside
-pub mod Pairs
-pub mod Shares
 pub mod Dealt
 pub mod Following
 pub mod Lines
@@ -9,13 +7,19 @@ pub mod OneRecord
 pub mod OneSaying
 pub mod OneTrace
 pub mod Order
+pub mod Pairs
 pub mod Placing
 pub mod Reader
 pub mod Rising
-pub mod Seeking
 pub mod Same
+pub mod Seeking
 pub mod Settled
+pub mod Shares
+pub mod SpanPlace
 pub mod Splits
 pub mod Straying
 pub mod Telling
 pub mod Walk
+pub mod Births
+pub mod SpanEnds
+pub mod PolicyTold

@@ -1,7 +1,6 @@
 -- Joining gives one answer: a first element that isn't so is one, and where all are so there is none.
-use Rattle.std.proofs.Common.{◌≡◌, ℕ, ◌<◌, ◌≤◌, List, ◌∷◌, Result, Ok, Err, IsTrue, ◌↔◌, ◌⊎◌, inl, inr, refl, sym, ap, ◌∙◌, subst, arith}
+use Rattle.std.proofs.Common.{◌≡◌, ℕ, ◌≤◌, List, ◌∷◌, Result, Ok, Err, IsTrue, ◌↔◌, inl, inr, refl, sym, ap, ◌∙◌, subst, arith}
 use Rattle.std.specs.Prelude.{All, Any}
-use Rattle.std.proofs.lemmas.Bool.{cases_order}
 use Rattle.cfs_model.specs.declared.act.Entry.{Entry}
 use Rattle.cfs_model.specs.declared.claim.Claim.{Claim}
 use Rattle.cfs_model.specs.declared.nice_line.NiceLine.{NiceLine}
@@ -9,8 +8,8 @@ use Rattle.cfs_model.specs.Touch.{touched}
 use Rattle.companion_file.specs.Companion.{CompanionView}
 use Rattle.sched_record.specs.declared.joining.JoinCause.{JoinCause}
 use Rattle.sched_record.specs.declared.joining.JoinCause.TheVariants.{CpuOutside, StartLate, ClaimNoEvent}
-use Rattle.sched_record.specs.Kept.{RecordView, IsInside, is_event_line}
-use Rattle.sched_record.specs.Join.{IsFirstOutside, IsBeforeStart, BeginsInTime, IsSaidOf, IsFirstStray, Refuses, GoTogether, RecordAnswer}
+use Rattle.sched_record.specs.Kept.{RecordView, IsInside, NamesBirth, is_event_line}
+use Rattle.sched_record.specs.Join.{IsFirstOutside, IsBeforeStart, BeginsInTime, IsFirstStray, IsStray, Refuses, GoTogether, RecordAnswer}
 use Rattle.sched_record.proofs.Splits.{one_first, all_at_cut}
 
 -- an event outside isn't inside
@@ -44,27 +43,22 @@ said_line : {X : Type 0} (f : X → ℕ) (events : List Entry) (items : List X) 
 said_line {X} f events items line all (k, item, h, at, on) =
     subst (λ n. IsTrue (is_event_line events n)) on (subst (λ (x : X). IsTrue (is_event_line events (f x))) at (all k item h))
 
-none_stray : (events : List Entry) (companion : CompanionView) (line : ℕ) → All (λ claim. IsTrue (is_event_line events claim.line)) companion.claims
-    → All (λ change. IsTrue (is_event_line events change.line)) companion.nices → IsFirstStray events companion line → ⊥
-none_stray events companion line claimed reniced x = x.stray (on x.said)
-  where
-    on : IsSaidOf companion line → IsTrue (is_event_line events line)
-    on (inl claim) = said_line (λ (c : Claim). c.line) events companion.claims line claimed claim
-    on (inr change) = said_line (λ (n : NiceLine). n.line) events companion.nices line reniced change
+none_stray : (events : List Entry) (companion : CompanionView) (line : ℕ) → GoTogether events companion → IsStray events companion line → ⊥
+none_stray events companion line good (inl claim) = claim.1 (said_line (λ (c : Claim). c.line) events companion.claims line good.claimed claim.0)
+none_stray events companion line good (inr (inl change)) = change.1 (said_line (λ (n : NiceLine). n.line) events companion.nices line good.reniced change.0)
+none_stray events companion line good (inr (inr (k, idle, h, at, (on, stray)))) = stray (subst (NamesBirth events) at (good.born k idle h))
 
 one_stray : (events : List Entry) (companion : CompanionView) (m n : ℕ) → IsFirstStray events companion m → IsFirstStray events companion n → m ≡ n
-one_stray events companion m n x y = go (cases_order m n)
-  where
-    go : (m ≡ n) ⊎ ((m < n) ⊎ (n < m)) → m ≡ n
-    go (inl same) = same
-    go (inr (inl less)) = absurd (x.stray (y.least m x.said less))
-    go (inr (inr more)) = absurd (y.stray (x.least n y.said more))
+one_stray events companion m n x y =
+    let le = x.1 n y.0 in
+    let ge = y.1 m x.0 in
+    omega (arith, le, ge)
 
 not_mixed : (events : List Entry) (companion : CompanionView) (line : ℕ) (cause : JoinCause) → GoTogether events companion
     → Refuses events companion line cause → ⊥
 not_mixed events companion line CpuOutside good bad = none_outside companion.cpus events line good.inside bad
 not_mixed events companion line StartLate good bad = none_early companion.start events line good.in_time bad.1
-not_mixed events companion line ClaimNoEvent good bad = none_stray events companion line good.claimed good.reniced bad.2
+not_mixed events companion line ClaimNoEvent good bad = none_stray events companion line good bad.2.0
 
 one_refusal : (events : List Entry) (companion : CompanionView) (m n : ℕ) (c d : JoinCause) → Refuses events companion m c
     → Refuses events companion n d → (m ≡ n) × (c ≡ d)

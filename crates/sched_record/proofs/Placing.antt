@@ -107,20 +107,20 @@ places_within cpu events =
     All-weaker (λ place. place < 0 + length events) (λ place. place < length events) (λ place lt. omega arith) _ (within_from cpu 0 events)
 
 -- an event with what is said on its line, as a processor sees it
-abbrev pub step_of : ℕ → List Claim → List NiceLine → Entry → Step
-step_of cpu claims nices event = step_at cpu (with_claim claims nices event)
+abbrev pub step_of : ℕ → List Claim → List NiceLine → (Entry → Bool) → Entry → Step
+step_of cpu claims nices policy event = step_at cpu (with_claim claims nices policy event)
 
 -- the steps at a processor are those of the events that touch it
-pub steps_are : (cpu : ℕ) (claims : List Claim) (nices : List NiceLine) (events : List Entry)
-    → steps_at cpu (claimed claims nices events) ≡ map (step_of cpu claims nices) (touching cpu events)
-steps_are cpu claims nices [] = refl
-steps_are cpu claims nices (event ∷ events) = by (touches_cpu cpu event.act) refl (steps_are cpu claims nices events)
+pub steps_are : (cpu : ℕ) (claims : List Claim) (nices : List NiceLine) (policy : Entry → Bool) (events : List Entry)
+    → steps_at cpu (claimed claims nices policy events) ≡ map (step_of cpu claims nices policy) (touching cpu events)
+steps_are cpu claims nices policy [] = refl
+steps_are cpu claims nices policy (event ∷ events) = by (touches_cpu cpu event.act) refl (steps_are cpu claims nices policy events)
   where
-    by : (b : Bool) → touches_cpu cpu event.act ≡ b → steps_at cpu (claimed claims nices events) ≡ map (step_of cpu claims nices) (touching cpu events)
-        → map (step_at cpu) (cond (touches_cpu cpu event.act) (with_claim claims nices event ∷ filter (touches cpu) (claimed claims nices events))
-        (filter (touches cpu) (claimed claims nices events)))
-        ≡ map (step_of cpu claims nices) (cond (touches_cpu cpu event.act) (event ∷ touching cpu events) (touching cpu events))
-    by true e rest = rw e (ap (λ xs. step_of cpu claims nices event ∷ xs) rest)
+    by : (b : Bool) → touches_cpu cpu event.act ≡ b → steps_at cpu (claimed claims nices policy events) ≡ map (step_of cpu claims nices policy) (touching cpu events)
+        → map (step_at cpu) (cond (touches_cpu cpu event.act) (with_claim claims nices policy event ∷ filter (touches cpu) (claimed claims nices policy events))
+        (filter (touches cpu) (claimed claims nices policy events)))
+        ≡ map (step_of cpu claims nices policy) (cond (touches_cpu cpu event.act) (event ∷ touching cpu events) (touching cpu events))
+    by true e rest = rw e (ap (λ xs. step_of cpu claims nices policy event ∷ xs) rest)
     by false e rest = rw e rest
 
 -- what stands at the next place is the next of these events

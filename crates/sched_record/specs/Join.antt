@@ -1,11 +1,15 @@
 -- What joining a trace and a companion gives (this project's profile).
-use Rattle.std.specs.Prelude.{◌≡◌, ℕ, ◌<◌, ◌≤◌, IsTrue, List, [], ◌∷◌, ◌++◌, ◌⊎◌, Any, All, Result, Ok, Err}
+use Rattle.std.specs.Prelude.{◌≡◌, ℕ, ◌<◌, ◌≤◌, IsTrue, List, [], ◌∷◌, ◌++◌, ◌⊎◌, ◌==◌, Bool, false, ◌&&◌, min, slice_get, Any, All, Option, Some, None, Result, Ok, Err}
+use Rattle.std.specs.Option.{option_map_or}
 use Rattle.cfs_model.specs.declared.act.Entry.{Entry}
+use Rattle.cfs_model.specs.declared.claim.Claim.{Claim}
+use Rattle.cfs_model.specs.declared.idle_line.IdleLine.{IdleLine}
+use Rattle.cfs_model.specs.declared.nice_line.NiceLine.{NiceLine}
 use Rattle.cfs_model.specs.Touch.{touched}
 use Rattle.companion_file.specs.Companion.{CompanionView}
 use Rattle.sched_record.specs.declared.joining.JoinCause.{JoinCause}
 use Rattle.sched_record.specs.declared.joining.JoinCause.TheVariants.{CpuOutside, StartLate, ClaimNoEvent}
-use Rattle.sched_record.specs.Kept.{RecordView, IsInside, is_event_line}
+use Rattle.sched_record.specs.Kept.{RecordView, IsInside, NamesBirth, is_birth_of, is_event_line}
 
 -- the first event that touches a processor which the companion doesn't have, by its line
 pub record IsFirstOutside (cpus : ℕ) (events : List Entry) (line : ℕ) : Type 0 where
@@ -30,16 +34,32 @@ abbrev pub BeginsInTime : ℕ → List Entry → Type 0
 BeginsInTime start [] = Unit {0}
 BeginsInTime start (event ∷ after) = start ≤ event.time
 
--- the companion has a claim or a change of a nice value on the line
-abbrev pub IsSaidOf : CompanionView → ℕ → Type 0
-IsSaidOf companion line =
-    Any (λ claim. claim.line ≡ line) companion.claims ⊎ Any (λ change. change.line ≡ line) companion.nices
+-- a claim stands on the line, which is no event's
+abbrev pub HasStrayClaim : List Entry → List Claim → ℕ → Type 0
+HasStrayClaim events claims line = Any (λ claim. claim.line ≡ line) claims × (¬ IsTrue (is_event_line events line))
 
--- the least line of a claim or of a change of a nice value that is no event's line
-pub record IsFirstStray (events : List Entry) (companion : CompanionView) (line : ℕ) : Type 0 where
-  pub said : IsSaidOf companion line
-  pub stray : ¬ IsTrue (is_event_line events line)
-  pub least : (other : ℕ) → IsSaidOf companion other → other < line → IsTrue (is_event_line events other)
+-- a change of a nice value stands on the line, which is no event's
+abbrev pub HasStrayNice : List Entry → List NiceLine → ℕ → Type 0
+HasStrayNice events nices line = Any (λ change. change.line ≡ line) nices × (¬ IsTrue (is_event_line events line))
+
+-- an idle line of a task that is born stands on the line, on which no birth of its pid stands
+abbrev pub HasStrayIdle : List Entry → List IdleLine → ℕ → Type 0
+HasStrayIdle events idles line = Any (λ idle. (idle.line ≡ line) × (¬ NamesBirth events idle)) idles
+
+-- one of these does
+abbrev pub IsStray : List Entry → CompanionView → ℕ → Type 0
+IsStray events companion line =
+    HasStrayClaim events companion.claims line ⊎ HasStrayNice events companion.nices line ⊎ HasStrayIdle events companion.idles line
+
+-- the least number of which this holds, if there is one
+abbrev pub IsLeastOf : (ℕ → Type 0) → Option ℕ → Type 0
+IsLeastOf P None = (n : ℕ) → ¬ P n
+IsLeastOf P (Some n) = P n × ((m : ℕ) → P m → n ≤ m)
+
+-- the least line on which a claim or a change of a nice value stands that is no event's line, or an idle line with no birth
+-- of its pid
+abbrev pub IsFirstStray : List Entry → CompanionView → ℕ → Type 0
+IsFirstStray events companion line = IsLeastOf (IsStray events companion) (Some line)
 
 -- why a trace and a companion don't go together, with the line in the trace: each test goes over the whole, and
 -- comes only where the one before it found nothing
@@ -56,6 +76,7 @@ pub record GoTogether (events : List Entry) (companion : CompanionView) : Type 0
   pub in_time : BeginsInTime companion.start events
   pub claimed : All (λ claim. IsTrue (is_event_line events claim.line)) companion.claims
   pub reniced : All (λ change. IsTrue (is_event_line events change.line)) companion.nices
+  pub born : All (NamesBirth events) companion.idles
 
 -- the record of a trace's events and a companion: all of both
 abbrev pub joined_record : List Entry → CompanionView → RecordView
@@ -67,9 +88,21 @@ joined_record events c = record {
   events = events;
   claims = c.claims;
   nices = c.nices;
+  idles = c.idles;
 }
 
 -- joining gives the record of both, or the first reason why they don't go together
 abbrev pub RecordAnswer : List Entry → CompanionView → Result RecordView (ℕ × JoinCause) → Type 0
 RecordAnswer events companion (Ok r) = GoTogether events companion × (r ≡ joined_record events companion)
 RecordAnswer events companion (Err fault) = Refuses events companion fault.0 fault.1
+
+-- the lesser of the numbers that there are
+abbrev pub lesser_of : Option ℕ → Option ℕ → Option ℕ
+lesser_of None b = b
+lesser_of (Some a) None = Some a
+lesser_of (Some a) (Some b) = Some (min a b)
+
+-- the event at the place is the birth that the idle line speaks of
+abbrev pub is_birth_there : List Entry → ℕ → IdleLine → Bool
+is_birth_there events place idle =
+    option_map_or (λ event. (event.line == idle.line) && is_birth_of idle.pid event.act) (slice_get events place) false

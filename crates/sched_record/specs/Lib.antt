@@ -2,6 +2,7 @@ pub mod Beside
 pub mod Join
 pub mod Kept
 pub mod Places
+pub mod Policies
 pub mod Record
 pub mod Said
 pub mod Same

@@ -10,15 +10,15 @@ use Rattle.replay_model.specs.declared.step.Deed.{Deed}
 use Rattle.replay_model.specs.declared.step.Deed.TheVariants.{Switch, Wake, Born, Leave, Arrive}
 use Rattle.replay_model.specs.declared.step.Step.{Step}
 use Rattle.cfs_model.specs.declared.task.Place.TheVariants.{Run}
-use Rattle.sched_record.specs.Kept.{RecordView}
+use Rattle.sched_record.specs.Kept.{RecordView, policy_of}
 
 -- the pids of a deed that can't be the idle task's
 abbrev pub tasks_of_deed : Deed → List ℕ
 tasks_of_deed (Switch prev prev_nice way next next_nice) = []
 tasks_of_deed (Wake pid nice) = pid ∷ []
-tasks_of_deed (Born pid nice) = pid ∷ []
+tasks_of_deed (Born pid nice idle) = pid ∷ []
 tasks_of_deed (Leave pid nice dest) = pid ∷ []
-tasks_of_deed (Arrive pid nice orig) = pid ∷ []
+tasks_of_deed (Arrive pid nice orig idle) = pid ∷ []
 
 -- a step's claim stands on its line, with a virtual runtime in range
 pub record OwnsClaim (step : Step) (claim : Claim) : Type 0 where
@@ -47,4 +47,4 @@ pub record IsShare (s : StreamView) : Type 0 where
 
 -- what a processor sees of a record
 abbrev pub cut_of : RecordView → ℕ → StreamView
-cut_of r cpu = cut r.start r.floors r.tasks (claimed r.claims r.nices r.events) cpu
+cut_of r cpu = cut r.start r.floors r.tasks (claimed r.claims r.nices (policy_of r) r.events) cpu

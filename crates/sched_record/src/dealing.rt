@@ -1,24 +1,25 @@
 ghost use Rattle.std.specs.Prelude.{◌≡◌, ◌==◌, ℕ, ◌<◌, ◌≤◌, length, pos, IfOk, slice_index_or};
-ghost use Rattle.std.specs.List.{AllPairs};
-ghost use Rattle.cfs_model.specs.Claimed.{claim_at, claimed, nice_at};
-ghost use Rattle.replay_model.specs.Cut.{claim_for, deed_at as deed_here, nice_for, step_at as step_here, steps_at, tasks_at};
-ghost use Rattle.cfs_model.specs.Limits.{most_processors};
-ghost use Rattle.sched_record.specs.Trace.{trace_view};
+ghost use Rattle.cfs_model.specs.Claimed.{claim_at, nice_at};
+ghost use Rattle.replay_model.specs.Cut.{claim_for, deed_at as deed_here, nice_for, step_at as step_here, tasks_at};
 
 use crate::lists::Steps;
 use crate::on_line::{item_on, place_from, place_near};
+use crate::policies::{has_span, span_before};
 use crate::record::Record;
 use crate::stream::Stream;
-use crate::trace::Trace;
-use cfs_model::{Act, Claim, Entry, Memory, NiceLine, Task};
+use cfs_model::{Act, Claim, Entry, Memory, NO_LINE, NiceLine, Task};
 use companion_file::Tasks;
 use replay_model::{Deed, Step};
 use std::alloc::Global;
 
 impl Record {
     ghost use Rattle.std.specs.Prelude.{◌+◌};
+    ghost use Rattle.cfs_model.specs.Claimed.{claimed, policies_before};
+    ghost use Rattle.cfs_model.specs.Start.{starts_idle};
     ghost use Rattle.cfs_model.specs.declared.act.Entry.{Entry};
+    ghost use Rattle.replay_model.specs.Cut.{steps_at};
     ghost use Rattle.sched_record.specs.Beside.{IsClaimPlace, IsNicePlace};
+    ghost use Rattle.sched_record.specs.Kept.{policy_of};
     ghost use Rattle.sched_record.specs.Record.{record_view};
     ghost use Rattle.sched_record.specs.Stream.{cut_of, stream_view};
 
@@ -29,7 +30,7 @@ impl Record {
     {
         let alloc = self.allocator();
         let tasks = tasks_of(alloc, self.tasks(), cpu)?;
-        let steps = steps_of(alloc, self.trace(), self.claims(), self.nices(), cpu)?;
+        let steps = self.steps_of(alloc, cpu)?;
         Ok(Stream {
             cpu,
             tasks,
@@ -68,6 +69,80 @@ impl Record {
         let place = place_from(nices, from, line);
         (item_on(nices, place, line), place)
     }
+
+    /// Whether the task that an event bears or moves is of the idle policy. It takes no memory.
+    pub fn policy_at(&self, event: usize) -> bool
+        requires { event < length (record_view self.now).events }
+        ensures { (entry : Entry) → result ≡ policy_of (record_view self.now) (slice_index_or (record_view self.now).events event entry) }
+    {
+        self.policy_of(&self.events()[event])
+    }
+
+    /// The same of an event of the record that is at hand.
+    fn policy_of(&self, event: &Entry) -> bool
+        requires { 0 < event.now.line }
+        ensures { result ≡ policy_of (record_view self.now) event.now }
+    {
+        let act = event.act;
+        match act {
+            Act::Born { pid, .. } => has_span(self.spans(), event.line, pid),
+            Act::Shift { pid, .. } => self.policy_before(event.line, pid),
+            Act::Switch { .. } | Act::Wake { .. } => false,
+        }
+    }
+
+    /// Whether the task of this pid is of the idle policy as a line of the trace begins: as it was told at its last birth
+    /// above the line, or at the start.
+    fn policy_before(&self, line: u32, pid: u32) -> bool
+        requires { 0 < line }
+        ensures { let r = record_view self.now in
+            result ≡ policies_before r.idles (starts_idle r.tasks) r.events line pid }
+    {
+        let spans = self.spans();
+        match span_before(spans, line, pid) {
+            Some(place) => {
+                let until = spans[place].until;
+                until == NO_LINE || line <= until
+            }
+            None => false,
+        }
+    }
+
+    /// The steps of the events that touch a processor.
+    fn steps_of(&self, alloc: Global, cpu: u32) -> Result<Steps, Memory>
+        requires { cpu < (record_view self.now).cpus }
+        ensures { let r = record_view self.now in
+            IfOk result (λ list. list ≡ steps_at cpu (claimed r.claims r.nices (policy_of r) r.events)) }
+    {
+        let trace = self.trace();
+        let claims = self.claims();
+        let nices = self.nices();
+        let events = self.events();
+        let places = trace.places(cpu);
+        let mut steps = Vec::with_capacity(alloc, places.len())?;
+        let mut claims_from = 0;
+        let mut nices_from = 0;
+        for place in places {
+            let event = events[*place as usize];
+            let hint = trace.hint(*place);
+            claims_from = place_near(claims, claims_from, hint.claim, event.line);
+            nices_from = place_near(nices, nices_from, hint.nice, event.line);
+            let claimed = item_on(claims, claims_from, event.line);
+            let change = item_on(nices, nices_from, event.line);
+            let idle = self.policy_of(&event);
+            let deed = deed_at(event.act, idle, cpu);
+            let claim = claim_for(&deed, claimed);
+            let nice = nice_for(&deed, change);
+            steps.push(Step {
+                line: event.line,
+                time: event.time,
+                deed,
+                claim,
+                nice,
+            })?;
+        }
+        Ok(Steps::from_vec(steps))
+    }
 }
 
 /// A processor's floor.
@@ -91,50 +166,18 @@ fn tasks_of(alloc: Global, tasks: &[Task], cpu: u32) -> Result<Tasks, Memory>
     Ok(Tasks::from_vec(here))
 }
 
-/// The steps of the events that touch a processor.
-fn steps_of(
-    alloc: Global,
-    trace: &Trace,
-    claims: &[Claim],
-    nices: &[NiceLine],
+/// An event with the claim and the change of a nice value on its line, and the policy of the task that it bears or moves, as
+/// a processor that it touches sees it.
+pub fn step_at(
+    event: Entry,
+    claim: Option<Claim>,
+    nice: Option<NiceLine>,
+    idle: bool,
     cpu: u32,
-) -> Result<Steps, Memory>
-    requires cpu { cpu < most_processors }
-    requires claims_rise { AllPairs (λ a b. a.line < b.line) claims.now }
-    requires nices_rise { AllPairs (λ a b. a.line < b.line) nices.now }
-    ensures { IfOk result (λ list. list ≡ steps_at cpu (claimed claims.now nices.now (trace_view trace.now))) }
+) -> Step
+    ensures { result ≡ step_here cpu (record { entry = event; claim = claim; nice = nice; idle = idle }) }
 {
-    let events = trace.events();
-    let places = trace.places(cpu);
-    let mut steps = Vec::with_capacity(alloc, places.len())?;
-    let mut claims_from = 0;
-    let mut nices_from = 0;
-    for place in places {
-        let event = events[*place as usize];
-        let hint = trace.hint(*place);
-        claims_from = place_near(claims, claims_from, hint.claim, event.line);
-        nices_from = place_near(nices, nices_from, hint.nice, event.line);
-        let claimed = item_on(claims, claims_from, event.line);
-        let change = item_on(nices, nices_from, event.line);
-        let deed = deed_at(event.act, cpu);
-        let claim = claim_for(&deed, claimed);
-        let nice = nice_for(&deed, change);
-        steps.push(Step {
-            line: event.line,
-            time: event.time,
-            deed,
-            claim,
-            nice,
-        })?;
-    }
-    Ok(Steps::from_vec(steps))
-}
-
-/// An event with the claim and the change of a nice value on its line, as a processor that it touches sees it.
-pub fn step_at(event: Entry, claim: Option<Claim>, nice: Option<NiceLine>, cpu: u32) -> Step
-    ensures { result ≡ step_here cpu (record { entry = event; claim = claim; nice = nice }) }
-{
-    let deed = deed_at(event.act, cpu);
+    let deed = deed_at(event.act, idle, cpu);
     Step {
         line: event.line,
         time: event.time,
@@ -144,9 +187,9 @@ pub fn step_at(event: Entry, claim: Option<Claim>, nice: Option<NiceLine>, cpu: 
     }
 }
 
-/// What an event does at a processor that it touches.
-fn deed_at(act: Act, cpu: u32) -> Deed
-    ensures { result ≡ deed_here cpu act }
+/// What an event does at a processor that it touches, with the policy of who is born or comes.
+fn deed_at(act: Act, idle: bool, cpu: u32) -> Deed
+    ensures { result ≡ deed_here cpu idle act }
 {
     match act {
         Act::Switch {
@@ -164,7 +207,7 @@ fn deed_at(act: Act, cpu: u32) -> Deed
             next_nice,
         },
         Act::Wake { pid, nice, .. } => Deed::Wake { pid, nice },
-        Act::Born { pid, nice, .. } => Deed::Born { pid, nice },
+        Act::Born { pid, nice, .. } => Deed::Born { pid, nice, idle },
         Act::Shift {
             orig,
             dest,
@@ -174,7 +217,12 @@ fn deed_at(act: Act, cpu: u32) -> Deed
             if orig == cpu {
                 Deed::Leave { pid, nice, dest }
             } else {
-                Deed::Arrive { pid, nice, orig }
+                Deed::Arrive {
+                    pid,
+                    nice,
+                    orig,
+                    idle,
+                }
             }
         }
     }

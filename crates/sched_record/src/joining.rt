@@ -3,15 +3,16 @@ ghost use Rattle.std.specs.Bool.{OnFalse, OnTrue};
 ghost use Rattle.std.specs.List.{AllPairs};
 ghost use Rattle.cfs_model.specs.Touch.{touched};
 ghost use Rattle.companion_file.specs.Companion.{companion_view};
-ghost use Rattle.sched_record.specs.Join.{BeginsInTime, GoTogether, IsBeforeStart, IsFirstOutside, IsFirstStray, Refuses};
-ghost use Rattle.sched_record.specs.Kept.{AreInOrder, IsInside, is_event_line};
+ghost use Rattle.companion_file.specs.Reading.{IdleRises};
+ghost use Rattle.sched_record.specs.Join.{BeginsInTime, GoTogether, HasStrayIdle, IsBeforeStart, IsFirstOutside, IsFirstStray, IsLeastOf, Refuses, is_birth_there, lesser_of};
+ghost use Rattle.sched_record.specs.Kept.{AreInOrder, IsInside, NamesBirth, is_birth_of, is_event_line};
 ghost use Rattle.sched_record.specs.Record.{RecordAnswer, RecordView, join_answer_view};
 ghost use Rattle.sched_record.specs.Trace.{trace_view};
 
 use crate::on_line::{OnLine, place_from};
 use crate::record::Record;
 use crate::trace::Trace;
-use cfs_model::{Act, Entry};
+use cfs_model::{Act, Entry, IdleLine, NO_LINE};
 use companion_file::Companion;
 
 /// Why a trace and a companion don't go together, in the order of the tests, each over the whole.
@@ -21,7 +22,8 @@ pub enum JoinCause {
     CpuOutside,
     /// The first event comes before the start.
     StartLate,
-    /// A claim or a change of a nice value stands on a line that is no event's: the least such line.
+    /// A claim or a change of a nice value stands on a line that is no event's, or an idle line of a task that is born on one
+    /// that is no birth of its pid: the least such line.
     ClaimNoEvent,
 }
 
@@ -76,7 +78,8 @@ fn refusal_of(events: &[Entry], companion: &Companion) -> Option<JoinFault>
     if let Some(line) = early_line(events, companion.start()) {
         return Some(refusal(line, JoinCause::StartLate));
     }
-    stray_line(events, companion).map(|line| refusal(line, JoinCause::ClaimNoEvent))
+    let line = stray_line(events, companion)?;
+    Some(refusal(line, JoinCause::ClaimNoEvent))
 }
 
 fn refusal(line: u32, cause: JoinCause) -> JoinFault
@@ -123,19 +126,66 @@ fn early_line(events: &[Entry], start: u64) -> Option<u32>
     }
 }
 
-/// The least line of a claim or of a change of a nice value that is no event's line.
+/// The least line of a claim or of a change of a nice value that is no event's line, or of an idle line with no birth of its
+/// pid.
 fn stray_line(events: &[Entry], companion: &Companion) -> Option<u32>
     requires { AllPairs (λ a b. a.line < b.line) events.now }
     ensures claimed { IfNone result (All (λ claim. IsTrue (is_event_line events.now claim.line)) (companion_view companion.now).claims) }
     ensures reniced { IfNone result (All (λ change. IsTrue (is_event_line events.now change.line)) (companion_view companion.now).nices) }
+    ensures born { IfNone result (All (NamesBirth events.now) (companion_view companion.now).idles) }
     ensures found { IfSome result (λ line. IsFirstStray events.now (companion_view companion.now) line) }
 {
     let claim = first_stray(events, companion.claims());
     let change = first_stray(events, companion.nices());
-    match (claim, change) {
-        (Some(claim), Some(change)) => Some(claim.min(change)),
+    let idle = first_stray_idle(events, companion.idles());
+    lesser(claim, lesser(change, idle))
+}
+
+/// The lesser of the lines that there are.
+fn lesser(first: Option<u32>, second: Option<u32>) -> Option<u32>
+    ensures { result ≡ lesser_of first second }
+{
+    match (first, second) {
+        (Some(a), Some(b)) => Some(a.min(b)),
         (Some(line), None) | (None, Some(line)) => Some(line),
         (None, None) => None,
+    }
+}
+
+/// The line of the first idle line that isn't of the start, and on whose line no birth of its pid stands. They and the
+/// events are walked side by side.
+fn first_stray_idle(events: &[Entry], idles: &[IdleLine]) -> Option<u32>
+    requires events_rise { AllPairs (λ a b. a.line < b.line) events.now }
+    requires idles_rise { AllPairs IdleRises idles.now }
+    ensures { IsLeastOf (HasStrayIdle events.now idles.now) result }
+{
+    let mut place = 0;
+    for idle in idles {
+        place = place_from(events, place, idle.line);
+        if idle.line != NO_LINE && !is_birth_at(events, place, *idle) {
+            return Some(idle.line);
+        }
+    }
+    None
+}
+
+/// Whether the event at a place is the birth that an idle line speaks of.
+fn is_birth_at(events: &[Entry], place: usize, idle: IdleLine) -> bool
+    ensures { result ≡ is_birth_there events.now place idle }
+{
+    match events.get(place) {
+        Some(event) => event.line == idle.line && is_birth_of(event.act, idle.pid),
+        None => false,
+    }
+}
+
+/// Whether what an event does is the birth of this pid.
+fn is_birth_of(act: Act, pid: u32) -> bool
+    ensures { result ≡ is_birth_of pid act }
+{
+    match act {
+        Act::Born { pid: born, .. } => born == pid,
+        Act::Switch { .. } | Act::Wake { .. } | Act::Shift { .. } => false,
     }
 }
 

@@ -3,12 +3,14 @@
 
 mod cause;
 mod dealing;
+mod ending;
 mod entry;
 mod joining;
 mod laws;
 mod lists;
 mod on_line;
 mod places;
+mod policies;
 mod reading;
 mod reading_wide;
 mod record;

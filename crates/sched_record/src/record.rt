@@ -1,11 +1,13 @@
-ghost use Rattle.std.specs.Prelude.{◌≡◌};
+ghost use Rattle.std.specs.Prelude.{◌≡◌, All};
 ghost use Rattle.companion_file.specs.Companion.{companion_view};
 ghost use Rattle.sched_record.specs.Join.{joined_record};
 ghost use Rattle.sched_record.specs.Kept.{IsRecordInOrder};
+ghost use Rattle.sched_record.specs.Policies.{EndsAtBirth};
 
+use crate::ending::end_spans;
 use crate::trace::Trace;
-use cfs_model::{Claim, Entry, NO_LINE, NiceLine, Task};
-use companion_file::Companion;
+use cfs_model::{Claim, Entry, IdleLine, NO_LINE, NiceLine, Task};
+use companion_file::{Companion, IdleSpan};
 use std::alloc::Global;
 
 /// A trace and its companion, joined.
@@ -14,6 +16,7 @@ pub struct Record {
     trace: Trace,
     companion: Companion,
     pub ghost in_order: { IsRecordInOrder (joined_record trace.events (companion_view companion)) },
+    pub ghost spans_end: { All (EndsAtBirth trace.events) companion.spans },
 }
 
 impl Record {
@@ -26,7 +29,9 @@ impl Record {
         ensures { record_view result ≡ joined_record (trace_view trace) (companion_view companion) }
     {
         let mut trace = trace;
+        let mut companion = companion;
         trace.mark(companion.claims(), companion.nices());
+        end_spans(trace.events(), &mut companion);
         Record { trace, companion }
     }
 
@@ -63,6 +68,20 @@ impl Record {
         ensures { result.now ≡ (record_view self.now).nices }
     {
         self.companion.nices()
+    }
+
+    /// Who is of the idle policy, in the order of their lines, and at one line by rising pid.
+    pub fn idles(&self) -> &[IdleLine]
+        ensures { result.now ≡ (record_view self.now).idles }
+    {
+        self.companion.idles()
+    }
+
+    /// From which line to which tasks are of the idle policy, by rising pid, and at one pid by rising line.
+    pub(crate) fn spans(&self) -> &[IdleSpan]
+        ensures { result.now ≡ self.now.companion.spans }
+    {
+        self.companion.spans()
     }
 
     /// The tasks of the start state, by rising pid.

@@ -1,10 +1,8 @@
-use Rattle.std.proofs.Common.{w64, rules, sym, ap, subst}
+use Rattle.std.proofs.Common.{w64, rules, sym, subst}
 use Rattle.std.proofs.lemmas.Int.{to_z-of_z}
 use mir.Val.{SFits}
 use Rattle.sched_record.specs.Record.{record_view}
 use Rattle.sched_record.specs.Share.{IsShare}
-use Rattle.sched_record.specs.Trace.{trace_view}
-use Rattle.sched_record.specs.declared.trace.Trace.{Trace}
 use Rattle.sched_record.proofs.Shares.{cut_is, share_of}
 use Rattle.sched_record.proofs.record.Record.deal.Goals as goal
 
@@ -13,13 +11,13 @@ invariant_of-result c =
     let fits : SFits w64 c.floor_of.result = search rules in
     let r = record_view c.args.self.now in
     let is_cut =
-    cut_is r c.args.cpu _ _ _ _ _ _ _ _ _ _ _ c.tasks.ensures c.in_ok-tasks.ensures c.floors.ensures c.floor_of.ensures c.start.ensures
-    c.claims.ensures c.nices.ensures (ap (λ (trace : Trace). trace_view trace) c.trace.ensures) c.in_ok-steps.ensures c.last_time.ensures c.last_line.ensures in
+    cut_is r c.args.cpu _ _ _ _ _ _ _ _ c.tasks.ensures c.in_ok-tasks.ensures c.floors.ensures c.floor_of.ensures c.start.ensures
+    c.in_ok-steps.ensures c.last_time.ensures c.last_line.ensures in
     rw to_z-of_z (record { share = subst IsShare (sym is_cut) (share_of r c.args.cpu c.args.self.now.in_order c.requires) })
 
 pub returns : goal.returns
 returns c =
     let fits : SFits w64 c.floor_of.result = search rules in
     rw to_z-of_z
-    (cut_is (record_view c.args.self.now) c.args.cpu _ _ _ _ _ _ _ _ _ _ _ c.tasks.ensures c.in_ok-tasks.ensures c.floors.ensures c.floor_of.ensures c.start.ensures
-    c.claims.ensures c.nices.ensures (ap (λ (trace : Trace). trace_view trace) c.trace.ensures) c.in_ok-steps.ensures c.last_time.ensures c.last_line.ensures)
+    (cut_is (record_view c.args.self.now) c.args.cpu _ _ _ _ _ _ _ _ c.tasks.ensures c.in_ok-tasks.ensures c.floors.ensures c.floor_of.ensures c.start.ensures
+    c.in_ok-steps.ensures c.last_time.ensures c.last_line.ensures)

@@ -2,9 +2,11 @@ use Rattle.std.proofs.Common.{◌≡◌, ◌≤◌, length, map, take}
 use Rattle.cfs_model.specs.declared.act.Entry.{Entry}
 use Rattle.cfs_model.specs.declared.claim.Claim.{Claim}
 use Rattle.cfs_model.specs.declared.nice_line.NiceLine.{NiceLine}
+use Rattle.sched_record.specs.Kept.{policy_of}
+use Rattle.sched_record.specs.Record.{record_view}
 use Rattle.sched_record.proofs.Placing.{step_of, touching}
 use Rattle.sched_record.proofs.Walk.{HasPassed}
-use Rattle.sched_record.proofs.dealing.steps_of.Given as goal
+use Rattle.sched_record.proofs.record.Record.steps_of.Given as goal
 
 abbrev pub invariant-loop-place : goal.invariant-loop-place
 invariant-loop-place l = record {
@@ -12,5 +14,5 @@ invariant-loop-place l = record {
   claims_passed : HasPassed (λ (claim : Claim). claim.line) (λ (event : Entry). event.line) l.claims (touching l.cpu l.events) l.claims_from l.place-index;
   nices_within : l.nices_from ≤ length l.nices;
   nices_passed : HasPassed (λ (change : NiceLine). change.line) (λ (event : Entry). event.line) l.nices (touching l.cpu l.events) l.nices_from l.place-index;
-  dealt : l.steps.items ≡ map (step_of l.cpu l.claims l.nices) (take l.place-index (touching l.cpu l.events));
+  dealt : l.steps.items ≡ map (step_of l.cpu l.claims l.nices (policy_of (record_view l.self))) (take l.place-index (touching l.cpu l.events));
 }

@@ -1,0 +1,11 @@
+use Rattle.std.proofs.Common.{◌≡◌, ℕ, ◌<◌, length, get_or}
+use Rattle.companion_file.specs.Companion.{companion_view}
+use Rattle.companion_file.specs.declared.idle_span.IdleSpan.{IdleSpan}
+use Rattle.sched_record.proofs.ending.forget_ends.Given as goal
+
+abbrev pub invariant-loop-place : goal.invariant-loop-place
+invariant-loop-place l = record {
+  count : length l.companion.spans ≡ length l.initial.companion.spans;
+  forgotten : (k : ℕ) (d : IdleSpan) → k < l.place → (get_or l.companion.spans k d).until ≡ 0;
+  others : companion_view l.companion ≡ companion_view l.initial.companion;
+}

@@ -1,0 +1,44 @@
+use crate::forecast::Forecast;
+use crate::machine::Machine;
+use crate::strategy::Strategy;
+use crate::wishes::Wishes;
+use cfs_model::{Claim, Entry, Memory, NiceLine, Task};
+use std::alloc::Global;
+use std::collections::BTreeMap;
+
+/// What a companion says, as one strategy makes it.
+#[derive(Drop)]
+pub(crate) struct Candidate {
+    pub strategy: Strategy,
+    /// The greatest distance of a picked task from the least waiting one, in virtual nanoseconds.
+    pub granularity: u64,
+    pub claims: Vec<Claim>,
+    /// By line of the trace.
+    pub nices: BTreeMap<u32, NiceLine>,
+}
+
+/// What is known of a trace before a strategy is followed.
+#[derive(Drop)]
+pub(crate) struct Outset {
+    pub cpus: u32,
+    /// In nanoseconds.
+    pub start: u64,
+    /// By rising pid.
+    pub tasks: Vec<Task>,
+    pub forecast: Forecast,
+}
+
+/// Goes through the events by the rules, and places tasks by the strategy.
+pub(crate) fn candidate_of(
+    alloc: Global,
+    outset: &Outset,
+    events: &[Entry],
+    wishes: &Wishes,
+    strategy: Strategy,
+) -> Result<Candidate, Memory> {
+    let mut machine = Machine::new(alloc, outset, wishes, strategy)?;
+    for (place, event) in events.iter().enumerate() {
+        machine.pass(event, outset.forecast.is_picked(place))?;
+    }
+    Ok(machine.into_candidate())
+}

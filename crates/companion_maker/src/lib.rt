@@ -1,0 +1,25 @@
+//! Makes a companion for a trace alone. It is a guess at what the kernel did; the auditor judges it.
+#![tactic(auto)]
+
+mod candidate;
+mod forecast;
+mod machine;
+mod made;
+mod making;
+mod not_made;
+mod opening;
+mod plain;
+mod processor;
+mod standing;
+mod strategy;
+mod touching;
+mod values;
+mod waiting_task;
+mod wishes;
+mod writing;
+
+pub use made::{Guessed, Made};
+pub use making::{companion_of_text, make_companion};
+pub use not_made::NotMade;
+pub use strategy::{STRATEGIES, Strategy};
+pub use wishes::Wishes;

@@ -1,0 +1,85 @@
+use crate::candidate::{Candidate, Outset, candidate_of};
+use crate::forecast::Forecast;
+use crate::made::{Guessed, Made};
+use crate::not_made::NotMade;
+use crate::opening::tasks_at_start;
+use crate::plain::plain_text;
+use crate::strategy::{STRATEGIES, Strategy};
+use crate::touching::{outside_line, processors_of};
+use crate::wishes::Wishes;
+use crate::writing::text_of;
+use cfs_model::{Entry, Memory};
+use companion_file::{CompanionFault, read_companion};
+use sched_record::{Trace, join, read_trace};
+use std::alloc::Global;
+
+/// A companion for the text of a trace.
+pub fn companion_of_text(alloc: Global, text: &[u8], wishes: &Wishes) -> Result<Made, NotMade> {
+    make_companion(alloc, read_trace(alloc, text)?, wishes)
+}
+
+/// A companion for a trace. What was guessed is read back and joined with the trace; where that should fail, the
+/// companion is the plain one, which goes together with every trace.
+pub fn make_companion(alloc: Global, trace: Trace, wishes: &Wishes) -> Result<Made, NotMade> {
+    if let Some(line) = outside_line(trace.events()) {
+        return Err(NotMade::CpuOutside {
+            line: u64::from(line),
+        });
+    }
+    let made = guessed_text(alloc, trace.events(), wishes)?;
+    if go_together(alloc, trace, made.text.as_slice())? {
+        Ok(made)
+    } else {
+        Ok(Made {
+            text: plain_text(alloc)?,
+            guess: None,
+        })
+    }
+}
+
+/// Whether the text is a companion that goes together with the trace.
+fn go_together(alloc: Global, trace: Trace, text: &[u8]) -> Result<bool, Memory> {
+    match read_companion(alloc, text) {
+        Ok(companion) => Ok(join(trace, companion).is_ok()),
+        Err(CompanionFault::Text { .. }) => Ok(false),
+        Err(CompanionFault::Memory) => Err(Memory),
+    }
+}
+
+/// The companion that the strategies find.
+fn guessed_text(alloc: Global, events: &[Entry], wishes: &Wishes) -> Result<Made, NotMade> {
+    let outset = Outset {
+        cpus: processors_of(events),
+        start: events.first().map_or(0, |event| event.time),
+        tasks: tasks_at_start(alloc, events)?,
+        forecast: Forecast::of(alloc, events)?,
+    };
+    let candidate = best_of(alloc, &outset, events, wishes)?;
+    Ok(Made {
+        text: text_of(alloc, &outset, &candidate)?,
+        guess: Some(Guessed {
+            strategy: candidate.strategy,
+            granularity: candidate.granularity,
+        }),
+    })
+}
+
+/// What the wanted strategy makes; where none is named, what needs the least granularity.
+fn best_of(
+    alloc: Global,
+    outset: &Outset,
+    events: &[Entry],
+    wishes: &Wishes,
+) -> Result<Candidate, Memory> {
+    if let Some(strategy) = wishes.strategy {
+        return candidate_of(alloc, outset, events, wishes, strategy);
+    }
+    let mut best = candidate_of(alloc, outset, events, wishes, Strategy::Low)?;
+    for strategy in STRATEGIES {
+        let other = candidate_of(alloc, outset, events, wishes, *strategy)?;
+        if other.granularity < best.granularity {
+            best = other;
+        }
+    }
+    Ok(best)
+}

@@ -1,0 +1,166 @@
+//! Who stands where at the start.
+
+use cfs_model::{Act, Entry, IDLE_PID, MOST_PROCESSORS, Memory, Nice, Place, Task};
+use std::alloc::Global;
+use std::collections::BTreeMap;
+
+/// How an event names a task.
+#[derive(Clone, Copy, Debug, PartialEq, Eq)]
+enum Sight {
+    Previous,
+    Next,
+    Woken,
+    Moved,
+    Born,
+}
+
+/// What is known so far of where a task stood at the start.
+#[derive(Clone, Copy, Debug, PartialEq, Eq)]
+enum Guess {
+    /// It stood here.
+    Stood(Place),
+    /// It was first woken: it rested, or it ran where it is switched away from without having been picked.
+    Woken,
+    /// It was first migrated: it rested, or it waited where it is picked without having been woken.
+    Moved,
+    /// It stood nowhere.
+    Unborn,
+}
+
+/// A task as it was first named.
+#[derive(Clone, Copy, Debug)]
+struct FirstSight {
+    guess: Guess,
+    cpu: u32,
+    nice: Nice,
+}
+
+#[derive(Drop)]
+struct Opening {
+    tasks: BTreeMap<u32, FirstSight>,
+    /// By processor, whether it is known who ran there.
+    known: [bool; MOST_PROCESSORS],
+}
+
+/// The tasks of the start state, by rising pid: where each stood is told by the first events that name it.
+pub(crate) fn tasks_at_start(alloc: Global, events: &[Entry]) -> Result<Vec<Task>, Memory> {
+    let mut opening = Opening {
+        tasks: BTreeMap::new(alloc),
+        known: [false; MOST_PROCESSORS],
+    };
+    for event in events {
+        opening.pass(event.act)?;
+    }
+    let mut tasks = Vec::new(alloc);
+    for (pid, sight) in opening.tasks.iter() {
+        if let Some(place) = place_of(sight.guess) {
+            tasks.push(Task {
+                pid: *pid,
+                nice: sight.nice,
+                cpu: sight.cpu,
+                place,
+                v: 0,
+            })?;
+        }
+    }
+    Ok(tasks)
+}
+
+/// Where a task stood, where it stood anywhere.
+fn place_of(guess: Guess) -> Option<Place> {
+    match guess {
+        Guess::Stood(place) => Some(place),
+        Guess::Woken | Guess::Moved => Some(Place::Rest),
+        Guess::Unborn => None,
+    }
+}
+
+/// What more is known of a task that is named again.
+fn guess_after(guess: Guess, sight: Sight) -> Guess {
+    match (guess, sight) {
+        (Guess::Woken, Sight::Previous) => Guess::Stood(Place::Run),
+        (Guess::Woken, Sight::Next | Sight::Moved | Sight::Born) => Guess::Stood(Place::Rest),
+        (Guess::Moved, Sight::Next | Sight::Previous) => Guess::Stood(Place::Wait),
+        (Guess::Moved, Sight::Woken | Sight::Born) => Guess::Stood(Place::Rest),
+        _ => guess,
+    }
+}
+
+/// What is known of a task that is first named so.
+fn first_guess(sight: Sight) -> Guess {
+    match sight {
+        Sight::Previous => Guess::Stood(Place::Run),
+        Sight::Next => Guess::Stood(Place::Wait),
+        Sight::Woken => Guess::Woken,
+        Sight::Moved => Guess::Moved,
+        Sight::Born => Guess::Unborn,
+    }
+}
+
+impl Opening {
+    fn pass(&mut self, act: Act) -> Result<(), Memory> {
+        match act {
+            Act::Switch {
+                cpu,
+                prev,
+                prev_nice,
+                next,
+                next_nice,
+                ..
+            } => {
+                self.see(prev, cpu, prev_nice, Sight::Previous)?;
+                self.settle(cpu);
+                self.see(next, cpu, next_nice, Sight::Next)
+            }
+            Act::Wake { cpu, pid, nice } => self.see(pid, cpu, nice, Sight::Woken),
+            Act::Born { cpu, pid, nice } => self.see(pid, cpu, nice, Sight::Born),
+            Act::Shift {
+                orig,
+                pid,
+                nice,
+                ..
+            } => self.see(pid, orig, nice, Sight::Moved),
+        }
+    }
+
+    /// One more event names a task.
+    fn see(&mut self, pid: u32, cpu: u32, nice: Nice, sight: Sight) -> Result<(), Memory> {
+        if pid == IDLE_PID {
+            return Ok(());
+        }
+        let first = match self.tasks.get(&pid).copied() {
+            Some(first) => FirstSight {
+                guess: self.possible(guess_after(first.guess, sight), first.guess, first.cpu),
+                cpu: first.cpu,
+                nice: first.nice,
+            },
+            None => FirstSight {
+                guess: self.possible(first_guess(sight), Guess::Unborn, cpu),
+                cpu,
+                nice,
+            },
+        };
+        self.tasks.insert(pid, first)?;
+        Ok(())
+    }
+
+    /// The guess, where it isn't that one more task runs at a processor of which it is known who runs.
+    fn possible(&self, guess: Guess, before: Guess, cpu: u32) -> Guess {
+        if guess != before && guess == Guess::Stood(Place::Run) && self.is_settled(cpu) {
+            Guess::Stood(Place::Rest)
+        } else {
+            guess
+        }
+    }
+
+    fn is_settled(&self, cpu: u32) -> bool {
+        self.known.get(cpu as usize).copied().unwrap_or(true)
+    }
+
+    /// It is known who ran at the processor.
+    fn settle(&mut self, cpu: u32) {
+        if let Some(known) = self.known.get_mut(cpu as usize) {
+            *known = true;
+        }
+    }
+}

@@ -1,0 +1,43 @@
+/// Where tasks are placed that are woken or born, within the bounds that the settings leave.
+#[derive(Clone, Copy, Debug, PartialEq, Eq)]
+pub enum Strategy {
+    /// A woken task as low as it may be, a new one as high.
+    Low,
+    /// Each as high as it may be.
+    High,
+    /// As low as it may be where it is the next to be picked at its processor, else as high.
+    Picked,
+    /// As near as may be to the least who waits, where it is the next to be picked at its processor, else as high.
+    Level,
+}
+
+/// All strategies, in the order in which they are tried.
+pub const STRATEGIES: &[Strategy] = &[
+    Strategy::Low,
+    Strategy::High,
+    Strategy::Picked,
+    Strategy::Level,
+];
+
+impl Strategy {
+    /// The word of a command line that names it.
+    pub fn name(self) -> &'static str {
+        match self {
+            Strategy::Low => "low",
+            Strategy::High => "high",
+            Strategy::Picked => "picked",
+            Strategy::Level => "level",
+        }
+    }
+
+    /// The strategy of this name, if there is one.
+    pub fn of_name(name: &str) -> Option<Strategy> {
+        match name {
+            "low" => Some(Strategy::Low),
+            "high" => Some(Strategy::High),
+            "picked" => Some(Strategy::Picked),
+            "level" => Some(Strategy::Level),
+            _ => None,
+        }
+    }
+}

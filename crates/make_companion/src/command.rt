@@ -1,0 +1,100 @@
+//! The command line, as clap reads it.
+
+use clap::error::ErrorKind;
+use clap::{Arg, ArgMatches, Command, Error, value_parser};
+use companion_maker::{Strategy, Wishes};
+use std::alloc::{AllocError, Global};
+use std::convert::AsStr;
+
+/// The greatest setting, in nanoseconds.
+const MOST: i64 = 1_000_000_000_000;
+
+/// The auditor's own credit and debit, in nanoseconds.
+const STANDARD: u64 = 3_000_000;
+
+/// What a command line asks for.
+#[derive(Clone, Copy, Debug)]
+pub(crate) struct Request<'a> {
+    /// The name of the trace's file, as given.
+    pub trace: &'a str,
+    pub wishes: Wishes,
+}
+
+/// What these words ask for; the first is the program's own name.
+pub(crate) fn command_line<'a, S: AsStr>(
+    alloc: Global,
+    words: &'a [S],
+) -> Result<Request<'a>, Error> {
+    let mut command = command(alloc)?;
+    let matches = command.try_get_matches_from_mut(words)?;
+    match request_of(&matches) {
+        Some(request) => Ok(request),
+        None => Err(command.error(
+            ErrorKind::ValueValidation,
+            "a strategy is one of best, low, high, picked and level",
+        )?),
+    }
+}
+
+fn command<'a>(alloc: Global) -> Result<Command<'a>, AllocError> {
+    Command::new(alloc, "make_companion")
+        .version("0.1.0")
+        .about("Makes a companion for a recorded trace; sched_audit judges it")
+        .bin_name("make_companion")?
+        .arg(
+            Arg::new(alloc, "TRACE")
+                .required(true)
+                .help("The recording: the file `trace` of tracefs"),
+        )?
+        .arg(
+            Arg::new(alloc, "strategy")
+                .long("strategy")
+                .value_name("NAME")
+                .help(
+                    "How tasks are placed: low, high, picked, level, or best, which tries all [default: best]",
+                ),
+        )?
+        .arg(setting(
+            alloc,
+            "credit-ns",
+            "How far below the floor a woken task may be placed [default: 3000000]",
+        ))?
+        .arg(setting(
+            alloc,
+            "debit-ns",
+            "How far above the floor a new task may be placed [default: 3000000]",
+        ))
+}
+
+/// An option with a number of nanoseconds.
+fn setting<'a>(alloc: Global, id: &'a str, help: &'a str) -> Arg<'a> {
+    Arg::new(alloc, id)
+        .long(id)
+        .value_name("N")
+        .value_parser(value_parser!(u64).range(0..=MOST))
+        .help(help)
+}
+
+/// The name and the wishes that the values are; None where one has no sense.
+fn request_of<'a>(matches: &ArgMatches<'a>) -> Option<Request<'a>> {
+    let strategy = match matches.get_str("strategy") {
+        None | Some("best") => None,
+        Some(name) => Some(Strategy::of_name(name)?),
+    };
+    Some(Request {
+        trace: matches.get_str("TRACE")?,
+        wishes: Wishes {
+            credit: number_of(matches, "credit-ns")?,
+            debit: number_of(matches, "debit-ns")?,
+            strategy,
+        },
+    })
+}
+
+/// An option's number, or the auditor's own where it isn't given; None where it is no number.
+fn number_of(matches: &ArgMatches<'_>, id: &str) -> Option<u64> {
+    match matches.try_get_one::<u64>(id) {
+        Ok(number) => Some(number.unwrap_or(STANDARD)),
+        Err(_) => None,
+    }
+}

@@ -1,0 +1,16 @@
+//! `make_companion TRACE`, with options: writes a companion for a recorded trace to standard output.
+#![tactic(auto)]
+
+mod command;
+mod ending;
+mod making;
+
+use std::process::ExitCode;
+
+fn main(rt: HostRuntime) -> ExitCode {
+    let ending = making::obey(&rt, rt.alloc());
+    if let Some(words) = ending.words() {
+        let _ = eprintln!(rt; "make_companion: {words}");
+    }
+    ExitCode::from(ending.code())
+}

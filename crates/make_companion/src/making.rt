@@ -1,0 +1,82 @@
+use crate::command::{Request, command_line};
+use crate::ending::Ending;
+use clap::Error;
+use clap::error::ErrorKind::OutOfMemory;
+use companion_maker::{NotMade, companion_of_text};
+use std::alloc::Global;
+use std::io::{ErrorKind, Write};
+use std::rt::{Env, Files};
+use std::{env, fs, io};
+
+/// Does what the command line says.
+pub(crate) fn obey<R: Env + Files + Print + Eprint + AllocGlobal>(rt: &R, alloc: Global) -> Ending {
+    let words = match words_of(rt, alloc) {
+        Ok(words) => words,
+        Err(error) if error.kind() == ErrorKind::OutOfMemory => return Ending::Memory,
+        Err(_) => {
+            let _ = eprintln!(rt; "error: a word of the command line isn't UTF-8");
+            return Ending::Misused;
+        }
+    };
+    match command_line(alloc, words.as_slice()) {
+        Ok(request) => make(rt, alloc, request),
+        Err(error) => tell(rt, &error),
+    }
+}
+
+/// The words of the command line; the first is the program's own name.
+fn words_of<R: Env + AllocGlobal>(rt: &R, alloc: Global) -> io::Result<Vec<String>> {
+    Ok(env::args(rt)?.collect(alloc)?)
+}
+
+/// Makes the companion, and writes it to standard output.
+fn make<R: Files + Print + Eprint + AllocGlobal>(
+    rt: &R,
+    alloc: Global,
+    request: Request<'_>,
+) -> Ending {
+    let text = match fs::read(rt, request.trace) {
+        Ok(text) => text,
+        Err(error) if error.kind() == ErrorKind::OutOfMemory => return Ending::Memory,
+        Err(_) => return Ending::Unread,
+    };
+    match companion_of_text(alloc, text.as_slice(), &request.wishes) {
+        Ok(made) => {
+            if made.guess.is_none() {
+                let _ = eprintln!(rt;
+                    "make_companion: nothing is known of this trace; the companion says nothing"
+                );
+            }
+            match io::writer(rt).write_all(made.text.as_slice()) {
+                Ok(()) => Ending::Told,
+                Err(_) => Ending::Unwritten,
+            }
+        }
+        Err(NotMade::Trace { line, cause }) => {
+            let _ = eprintln!(rt; "make_companion: refused trace line {line} {cause:?}");
+            Ending::Refused
+        }
+        Err(NotMade::CpuOutside { line }) => {
+            let _ = eprintln!(rt;
+                "make_companion: refused trace line {line}: a processor above 63"
+            );
+            Ending::Refused
+        }
+        Err(NotMade::Memory) => Ending::Memory,
+    }
+}
+
+/// Prints clap's text: help and the version to standard output, a mistake to standard error.
+fn tell<R: Print + Eprint>(rt: &R, error: &Error) -> Ending {
+    if error.kind() == OutOfMemory {
+        return Ending::Memory;
+    }
+    let printed = error.print(rt);
+    if error.use_stderr() {
+        Ending::Misused
+    } else if printed.is_ok() {
+        Ending::Told
+    } else {
+        Ending::Unwritten
+    }
+}

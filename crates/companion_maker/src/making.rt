@@ -1,3 +1,13 @@
+ghost use Rattle.std.specs.Prelude.{◌≡◌, ℕ, List, All, Ok, Err, IfOk, IfErr, IsErrOf};
+ghost use Rattle.std.specs.Bool.{OnTrue};
+ghost use Rattle.cfs_model.specs.declared.act.Entry.{Entry as Event};
+ghost use Rattle.cfs_model.specs.Limits.{most_processors};
+ghost use Rattle.sched_record.specs.declared.cause.TraceCause.{TraceCause};
+ghost use Rattle.sched_record.specs.Join.{IsFirstOutside};
+ghost use Rattle.sched_record.specs.Kept.{IsInside};
+ghost use Rattle.sched_record.specs.Trace.{TraceAnswer, trace_view};
+ghost use Rattle.companion_maker.specs.Fitting.{ReadsAndJoins, IsNotMadeFor};
+
 use crate::candidate::{Candidate, Outset, candidate_of};
 use crate::forecast::Forecast;
 use crate::made::{Guessed, Made};
@@ -10,17 +20,35 @@ use crate::wishes::Wishes;
 use crate::writing::text_of;
 use cfs_model::{Entry, Memory};
 use companion_file::{CompanionFault, read_companion};
-use sched_record::{Trace, join, read_trace};
+use sched_record::{Trace, join, one_trace_answer, read_trace};
 use std::alloc::Global;
 
 /// A companion for the text of a trace.
-pub fn companion_of_text(alloc: Global, text: &[u8], wishes: &Wishes) -> Result<Made, NotMade> {
+pub fn companion_of_text(alloc: Global, text: &[u8], wishes: &Wishes) -> Result<Made, NotMade>
+    // What is made is a companion, and joins with the trace.
+    ensures fits { IfOk result (λ made. (events : List Event) × TraceAnswer text.now (Ok events) × ReadsAndJoins events made.text.items) }
+    // It is made for every trace that is read and whose processors a companion can have, unless a growth is refused.
+    ensures made { (events : List Event) → TraceAnswer text.now (Ok events) → All (IsInside most_processors) events → IfErr result (λ why. why ≡ NotMade.Memory) }
+    // Else it is said why: the trace's first bad line,
+    ensures refused { (line : ℕ) (cause : TraceCause) → IsErrOf result (NotMade.Trace line cause) → TraceAnswer text.now (Err (line, cause)) }
+    // or its first event that touches a processor which no companion has.
+    ensures outside { (line : ℕ) → IsErrOf result (NotMade.CpuOutside line) → (events : List Event) × TraceAnswer text.now (Ok events) × IsFirstOutside most_processors events line }
+{
+    one_trace_answer();
     make_companion(alloc, read_trace(alloc, text)?, wishes)
 }
 
 /// A companion for a trace. What was guessed is read back and joined with the trace; where that should fail, the
 /// companion is the plain one, which goes together with every trace.
-pub fn make_companion(alloc: Global, trace: Trace, wishes: &Wishes) -> Result<Made, NotMade> {
+#[tactic(auto, using(crate::proofs::Outside::none_outside))]
+pub fn make_companion(alloc: Global, trace: Trace, wishes: &Wishes) -> Result<Made, NotMade>
+    // What is made is a companion, and joins with the trace.
+    ensures fits { IfOk result (λ made. ReadsAndJoins (trace_view trace) made.text.items) }
+    // It is made for every trace whose processors a companion can have, unless a growth is refused.
+    ensures made { All (IsInside most_processors) (trace_view trace) → IfErr result (λ why. why ≡ NotMade.Memory) }
+    // Else it is said why: the first event that touches a processor which no companion has.
+    ensures outside { IfErr result (IsNotMadeFor (trace_view trace)) }
+{
     if let Some(line) = outside_line(trace.events()) {
         return Err(NotMade::CpuOutside {
             line: u64::from(line),
@@ -38,7 +66,9 @@ pub fn make_companion(alloc: Global, trace: Trace, wishes: &Wishes) -> Result<Ma
 }
 
 /// Whether the text is a companion that goes together with the trace.
-fn go_together(alloc: Global, trace: Trace, text: &[u8]) -> Result<bool, Memory> {
+fn go_together(alloc: Global, trace: Trace, text: &[u8]) -> Result<bool, Memory>
+    ensures { IfOk result (λ fits. OnTrue fits (ReadsAndJoins (trace_view trace) text.now)) }
+{
     match read_companion(alloc, text) {
         Ok(companion) => Ok(join(trace, companion).is_ok()),
         Err(CompanionFault::Text { .. }) => Ok(false),
@@ -47,7 +77,7 @@ fn go_together(alloc: Global, trace: Trace, text: &[u8]) -> Result<bool, Memory>
 }
 
 /// The companion that the strategies find.
-fn guessed_text(alloc: Global, events: &[Entry], wishes: &Wishes) -> Result<Made, NotMade> {
+fn guessed_text(alloc: Global, events: &[Entry], wishes: &Wishes) -> Result<Made, Memory> {
     let outset = Outset {
         cpus: processors_of(events),
         start: events.first().map_or(0, |event| event.time),

@@ -1,3 +1,7 @@
+ghost use Rattle.std.specs.Prelude.{◌≡◌};
+ghost use Rattle.companion_maker.specs.Fitting.{reason_of};
+ghost use Rattle.companion_maker.specs.declared.not_made.NotMade.TheVariants as reasons;
+
 use cfs_model::Memory;
 use sched_record::{TraceCause, TraceFault};
 use std::alloc::AllocError;
@@ -14,18 +18,24 @@ pub enum NotMade {
 }
 
 impl From<Memory> for NotMade {
+    ghost from_gives = { λ _ why. why ≡ reasons.Memory };
+
     fn from(_want: Memory) -> NotMade {
         NotMade::Memory
     }
 }
 
 impl From<AllocError> for NotMade {
+    ghost from_gives = { λ _ why. why ≡ reasons.Memory };
+
     fn from(_want: AllocError) -> NotMade {
         NotMade::Memory
     }
 }
 
 impl From<TraceFault> for NotMade {
+    ghost from_gives = { λ fault why. why ≡ reason_of fault };
+
     fn from(fault: TraceFault) -> NotMade {
         match fault {
             TraceFault::Text { line, cause } => NotMade::Trace { line, cause },

@@ -1,0 +1,3 @@
+mod Outside
+mod Told
+mod Unguessed

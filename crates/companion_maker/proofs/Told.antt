@@ -1,0 +1,17 @@
+-- What a reading of a trace tells whose text means these events.
+use Rattle.std.proofs.Common.{◌≡◌, ℕ, List, Result, Ok, Err, refl}
+use Rattle.cfs_model.specs.declared.act.Entry.{Entry}
+use Rattle.sched_record.specs.declared.cause.TraceCause.{TraceCause}
+use Rattle.sched_record.specs.declared.cause.TraceFault.{TraceFault}
+use Rattle.sched_record.specs.declared.cause.TraceFault.TheVariants as faults
+use Rattle.sched_record.specs.Trace.{Tells}
+use Rattle.companion_maker.specs.declared.not_made.NotMade.TheVariants as reasons
+use Rattle.companion_maker.specs.Fitting.{reason_of}
+
+pub same_events : (a b : List Entry) → ◌≡◌ {A = Result (List Entry) (ℕ × TraceCause)} (Ok a) (Ok b) → a ≡ b
+same_events a b e = cc
+
+-- it is refused for want of memory alone
+pub only_memory : (fault : TraceFault) (events : List Entry) → Tells (Err fault) (λ told. told ≡ Ok events) → reason_of fault ≡ reasons.Memory
+only_memory (faults.Text line cause) events told = absurd cc
+only_memory faults.Memory events told = refl

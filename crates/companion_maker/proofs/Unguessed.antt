@@ -178,19 +178,19 @@ plain_good =
 
 -- what the plain companion says
 abbrev said_plainly : CompanionView
-said_plainly = record { cpus = 64; start = 0; floors = (summed all_said).floors; tasks = []; claims = []; nices = [] }
+said_plainly = record { cpus = 64; start = 0; floors = (summed all_said).floors; tasks = []; claims = []; nices = []; idles = [] }
 
 plain_read : CompanionAnswer plain (Ok said_plainly)
 plain_read =
     rw split_plain
-    (record { said = all_said; good = plain_good; whole = refl; cpus_is = refl; start_is = refl; floors_is = refl; tasks_is = refl; claims_is = refl; nices_is = refl })
+    (record { said = all_said; good = plain_good; whole = refl; cpus_is = refl; start_is = refl; floors_is = refl; tasks_is = refl; claims_is = refl; nices_is = refl; idles_is = refl })
 
 begins_late : (events : List Entry) → BeginsInTime 0 events
 begins_late [] = tt
 begins_late (event ∷ events) = omega arith
 
 plain_joins : (events : List Entry) → All (IsInside most_processors) events → GoTogether events said_plainly
-plain_joins events inside = record { inside = inside; in_time = begins_late events; claimed = All-nil _; reniced = All-nil _ }
+plain_joins events inside = record { inside = inside; in_time = begins_late events; claimed = All-nil _; reniced = All-nil _; born = All-nil _ }
 
 -- the plain companion fits each trace whose processors are those that it has
 pub plain_fits : (text : List ℕ) → text ≡ plain → (events : List Entry) → All (IsInside most_processors) events → ReadsAndJoins events text

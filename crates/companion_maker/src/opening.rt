@@ -57,6 +57,7 @@ pub(crate) fn tasks_at_start(alloc: Global, events: &[Entry]) -> Result<Vec<Task
             tasks.push(Task {
                 pid: *pid,
                 nice: sight.nice,
+                idle: false,
                 cpu: sight.cpu,
                 place,
                 v: 0,

@@ -1,6 +1,6 @@
 //! Who stands where at the start.
 
-use cfs_model::{Act, Entry, IDLE_PID, MOST_PROCESSORS, Memory, Nice, Place, Task};
+use cfs_model::{Act, Entry, GREATEST_PID, IDLE_PID, MOST_PROCESSORS, Memory, Nice, Place, Task};
 use std::alloc::Global;
 use std::collections::BTreeMap;
 
@@ -35,24 +35,38 @@ struct FirstSight {
     nice: Nice,
 }
 
+/// What is known so far of who ran at a processor at the start.
+#[derive(Clone, Copy, Debug, PartialEq, Eq)]
+enum Runner {
+    /// Nothing, and no task has come there since.
+    Unsought,
+    /// Nothing, though tasks have come there.
+    Unnamed,
+    /// A switch has told it.
+    Told,
+}
+
 #[derive(Drop)]
 struct Opening {
     tasks: BTreeMap<u32, FirstSight>,
-    /// By processor, whether it is known who ran there.
-    known: [bool; MOST_PROCESSORS],
+    /// By processor.
+    runners: [Runner; MOST_PROCESSORS],
 }
 
-/// The tasks of the start state, by rising pid: where each stood is told by the first events that name it.
+/// The tasks of the start state, by rising pid: where each stood is told by the first events that name it. Behind them a
+/// stand-in for each who must have run all along, unnamed, at a processor to which tasks come and which never switches.
 pub(crate) fn tasks_at_start(alloc: Global, events: &[Entry]) -> Result<Vec<Task>, Memory> {
     let mut opening = Opening {
         tasks: BTreeMap::new(alloc),
-        known: [false; MOST_PROCESSORS],
+        runners: [Runner::Unsought; MOST_PROCESSORS],
     };
     for event in events {
         opening.pass(event.act)?;
     }
     let mut tasks = Vec::new(alloc);
+    let mut last = IDLE_PID;
     for (pid, sight) in opening.tasks.iter() {
+        last = *pid;
         if let Some(place) = place_of(sight.guess) {
             tasks.push(Task {
                 pid: *pid,
@@ -64,7 +78,30 @@ pub(crate) fn tasks_at_start(alloc: Global, events: &[Entry]) -> Result<Vec<Task
             })?;
         }
     }
+    for cpu in 0..MOST_PROCESSORS as u32 {
+        if opening.is_unnamed(cpu) {
+            last = last.saturating_add(1);
+            if let Some(task) = stand_in(last, cpu) {
+                tasks.push(task)?;
+            }
+        }
+    }
     Ok(tasks)
+}
+
+/// Who runs at a processor without ever being named. None where no such pid is left.
+fn stand_in(pid: u32, cpu: u32) -> Option<Task> {
+    if u64::from(pid) > GREATEST_PID {
+        return None;
+    }
+    Some(Task {
+        pid,
+        nice: Nice::new(0)?,
+        idle: false,
+        cpu,
+        place: Place::Run,
+        v: 0,
+    })
 }
 
 /// Where a task stood, where it stood anywhere.
@@ -113,14 +150,23 @@ impl Opening {
                 self.settle(cpu);
                 self.see(next, cpu, next_nice, Sight::Next)
             }
-            Act::Wake { cpu, pid, nice } => self.see(pid, cpu, nice, Sight::Woken),
-            Act::Born { cpu, pid, nice } => self.see(pid, cpu, nice, Sight::Born),
+            Act::Wake { cpu, pid, nice } => {
+                self.seek(cpu);
+                self.see(pid, cpu, nice, Sight::Woken)
+            }
+            Act::Born { cpu, pid, nice } => {
+                self.seek(cpu);
+                self.see(pid, cpu, nice, Sight::Born)
+            }
             Act::Shift {
                 orig,
+                dest,
                 pid,
                 nice,
-                ..
-            } => self.see(pid, orig, nice, Sight::Moved),
+            } => {
+                self.seek(dest);
+                self.see(pid, orig, nice, Sight::Moved)
+            }
         }
     }
 
@@ -155,13 +201,30 @@ impl Opening {
     }
 
     fn is_settled(&self, cpu: u32) -> bool {
-        self.known.get(cpu as usize).copied().unwrap_or(true)
+        match self.runners.get(cpu as usize) {
+            Some(runner) => *runner == Runner::Told,
+            None => true,
+        }
+    }
+
+    /// Whether tasks came to the processor, and no switch has told who ran there.
+    fn is_unnamed(&self, cpu: u32) -> bool {
+        matches!(self.runners.get(cpu as usize), Some(Runner::Unnamed))
     }
 
     /// It is known who ran at the processor.
     fn settle(&mut self, cpu: u32) {
-        if let Some(known) = self.known.get_mut(cpu as usize) {
-            *known = true;
+        if let Some(runner) = self.runners.get_mut(cpu as usize) {
+            *runner = Runner::Told;
+        }
+    }
+
+    /// A task comes to the processor, where somebody may have run.
+    fn seek(&mut self, cpu: u32) {
+        if let Some(runner) = self.runners.get_mut(cpu as usize) {
+            if *runner == Runner::Unsought {
+                *runner = Runner::Unnamed;
+            }
         }
     }
 }

@@ -330,23 +330,41 @@ def nice_added(rng, draft):
         draft.call_it(b"2")
 
 
-def nice_changed(rng, draft):
-    """A change of a nice value on the line before or behind it, of another task, or to another value; or gone."""
-    found = a_line_with(rng, draft, draft.companion, NICE)
+def another_pid(rng, draft):
+    """A pid that some line of the trace names."""
+    return rng.choice(PID.findall(rng.choice(draft.trace)) or [b"101"])
+
+
+def one_off(rng, number):
+    """The number before or behind one."""
+    return b"%d" % (int(number) + rng.choice((-1, 1)))
+
+
+def word_turned(rng, draft, pattern, name, turned):
+    """A line of the companion with one of its words turned, or gone."""
+    found = a_line_with(rng, draft, draft.companion, pattern)
     if not found:
         return
-    place, change = found
-    words, at = list(change.groups()), rng.randrange(4)
-    if at == 3:
+    place, line = found
+    words = list(line.groups())
+    at = rng.randrange(len(words) + 1)
+    if at == len(words):
         del draft.companion[place]
         return
-    if at == 1:
-        words[1] = rng.choice(PID.findall(rng.choice(draft.trace)) or [b"101"])
-    elif at == 2 and rng.random() < 0.5:
-        words[2] = b"%d" % rng.choice(NICES)
-    else:
-        words[at] = b"%d" % (int(words[at]) + rng.choice((-1, 1)))
-    draft.companion[place] = b" ".join([b"nice", *words])
+    words[at] = turned(at, words[at])
+    draft.companion[place] = b" ".join([name, *words])
+
+
+def nice_changed(rng, draft):
+    """A change of a nice value on the line before or behind it, of another task, or to another value; or gone."""
+    def turned(at, word):
+        if at == 1:
+            return another_pid(rng, draft)
+        if at == 2 and rng.random() < 0.5:
+            return b"%d" % rng.choice(NICES)
+        return one_off(rng, word)
+
+    word_turned(rng, draft, NICE, b"nice", turned)
 
 
 def idle_added(rng, draft):
@@ -356,7 +374,7 @@ def idle_added(rng, draft):
     line, pid = rng.choice(births + tasks or [(0, b"101")])
     what = rng.random()
     if what < 0.15:
-        pid = rng.choice(PID.findall(rng.choice(draft.trace)) or [b"101"])
+        pid = another_pid(rng, draft)
     elif what < 0.3:
         line = rng.choice((0, 1, line + 1, line - 1 if line else 0))
     behind = [place for place, idle in draft.idles() if (int(idle.group(1)), int(idle.group(2))) > (line, int(pid))]
@@ -368,19 +386,12 @@ def idle_added(rng, draft):
 
 def idle_changed(rng, draft):
     """A name of a task of the idle policy that is for the line before or behind it, or for another task; or gone."""
-    found = a_line_with(rng, draft, draft.companion, IDLE)
-    if not found:
-        return
-    place, idle = found
-    words, at = list(idle.groups()), rng.randrange(3)
-    if at == 2:
-        del draft.companion[place]
-        return
-    if at == 1 and rng.random() < 0.5:
-        words[1] = rng.choice(PID.findall(rng.choice(draft.trace)) or [b"101"])
-    else:
-        words[at] = b"%d" % max(int(words[at]) + rng.choice((-1, 1)), 0)
-    draft.companion[place] = b" ".join([b"idle", *words])
+    def turned(at, word):
+        if at == 1 and rng.random() < 0.5:
+            return another_pid(rng, draft)
+        return one_off(rng, word) if int(word) else b"1"
+
+    word_turned(rng, draft, IDLE, b"idle", turned)
 
 
 def version_changed(rng, draft):

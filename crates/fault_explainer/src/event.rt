@@ -1,0 +1,71 @@
+use cfs_model::{Act, Claim, Entry, IdleLine, Kind, NiceLine};
+use sched_record::Record;
+
+/// A fault, as an audit told it.
+#[derive(Clone, Copy, Debug)]
+pub(crate) struct Fault {
+    /// The line in the trace, from 1, comments counted.
+    pub line: u32,
+    pub cpu: u32,
+    /// 0 where the fault is no task's.
+    pub pid: u32,
+    pub kind: Kind,
+}
+
+/// The event on a line, and what the companion says on it.
+#[derive(Clone, Copy, Debug)]
+pub(crate) struct Event {
+    /// The line in the trace.
+    pub line: u32,
+    /// In nanoseconds.
+    pub time: u64,
+    pub act: Act,
+    pub claim: Option<Claim>,
+    pub nice: Option<NiceLine>,
+    pub idle: Option<IdleLine>,
+}
+
+impl Event {
+    /// That of a record on a line, if there is one.
+    pub(crate) fn on_line(record: &Record, line: u32) -> Option<Event> {
+        let Entry { line, time, act } = *record.events().iter().find(|event| event.line == line)?;
+        Some(Event {
+            line,
+            time,
+            act,
+            claim: record
+                .claims()
+                .iter()
+                .copied()
+                .find(|claim| claim.line == line),
+            nice: record
+                .nices()
+                .iter()
+                .copied()
+                .find(|change| change.line == line),
+            idle: record
+                .idles()
+                .iter()
+                .copied()
+                .find(|idle| idle.line == line),
+        })
+    }
+
+    /// The processors of a migration from one to another: its origin and its destination.
+    pub(crate) fn ends(&self) -> Option<(u32, u32)> {
+        let act = self.act;
+        match act {
+            Act::Shift { orig, dest, .. } if orig != dest => Some((orig, dest)),
+            _ => None,
+        }
+    }
+
+    /// The task that it wakes, bears or moves, or the previous one of a switch.
+    pub(crate) fn pid(&self) -> u32 {
+        let act = self.act;
+        match act {
+            Act::Switch { prev, .. } => prev,
+            Act::Wake { pid, .. } | Act::Born { pid, .. } | Act::Shift { pid, .. } => pid,
+        }
+    }
+}

@@ -1,0 +1,21 @@
+//! Explains the fault of a recording, or shows the line that is refused, in lines for people. The one call is
+//! `explanation`. What it says is no part of what is proved.
+#![tactic(auto)]
+
+mod bounds;
+mod charge;
+mod claim_bounds;
+mod companion_lines;
+mod event;
+mod explaining;
+mod pick_bounds;
+mod place_bounds;
+mod processor;
+mod quoting;
+mod scene;
+mod share;
+mod standing;
+mod stood;
+mod waiting_task;
+
+pub use explaining::explanation;

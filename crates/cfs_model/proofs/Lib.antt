@@ -1,3 +1,4 @@
+pub mod BadAtAll
 pub mod BirthExample
 pub mod Deciding
 pub mod FloorsRise

@@ -9,9 +9,9 @@ use Rattle.cfs_model.specs.Touch.{touched}
 use Rattle.cfs_model.specs.Lifted.{IsLifted}
 use Rattle.cfs_model.specs.Reniced.{home_of, IsReniced}
 use Rattle.cfs_model.specs.Step.{IsStep}
-use Rattle.cfs_model.specs.Run.{AreSteps, IsRun, last_of}
+use Rattle.cfs_model.specs.Run.{AreSteps, IsRun, IsFirstBad, last_of}
 use Rattle.cfs_model.specs.Order.{IsInOrder, IsStart}
-use Rattle.cfs_model.specs.Least.{AtMost, lesser, AreLeast}
+use Rattle.cfs_model.specs.Least.{AtMost, lesser, AreLeast, greatest_settings, IsFirstBadAtAll}
 use Rattle.cfs_model.specs.declared.act.Act.TheVariants.{Shift}
 use Rattle.cfs_model.specs.declared.act.Entry.{Entry}
 use Rattle.cfs_model.specs.declared.claim.Claim.{Claim}
@@ -114,3 +114,8 @@ RunFromLeast = (start : ℕ) (first : Machine) (events : List Claimed) (least ot
 abbrev pub LeastOfPrefix : Type 0
 LeastOfPrefix = (start : ℕ) (first : Machine) (events rest : List Claimed) (front whole : Settings)
     → AreLeast start first events front → AreLeast start first (events ++ rest) whole → AtMost front whole
+
+-- the first bad line at the greatest settings is the first one that no settings in range help
+abbrev pub GreatestTellBadAtAll : Type 0
+GreatestTellBadAtAll = (start : ℕ) (first : Machine) (events : List Claimed) (line : ℕ)
+    → IsFirstBad greatest_settings start first events line → IsFirstBadAtAll start first events line

@@ -1,4 +1,5 @@
 ghost use Rattle.std.specs.Prelude.{◌≡◌, ◌≤◌, ◌↔◌, IsSome, IfSome};
+ghost use Rattle.cfs_model.specs.Least.{greatest_settings};
 ghost use Rattle.cfs_model.specs.Settings.{Settings, AreInRange, most};
 
 use std::marker::Model;
@@ -54,6 +55,18 @@ impl Knobs {
             credit: 3_000_000,
             debit: 3_000_000,
             slack: 100_000,
+        }
+    }
+
+    /// Each as large as it may be, 10^12 ns.
+    pub fn greatest() -> Knobs
+        ensures { result ≡ greatest_settings }
+    {
+        Knobs {
+            granularity: MOST,
+            credit: MOST,
+            debit: MOST,
+            slack: MOST,
         }
     }
 

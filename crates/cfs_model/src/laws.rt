@@ -1,5 +1,5 @@
 //! The laws of steps and runs. Each is the contract of a function that does nothing.
-ghost use Rattle.cfs_model.specs.Laws.{OneNext, OneList, RunPrefix, StepKeepsOrder, RunKeepsOrder, StartInOrder, FloorsRise, MarksMove, MoreKeepsRun, LesserKeepsRun, SameStates, OneLeast, RunFromLeast, LeastOfPrefix, PoliciesAreTold, MoverKeepsPolicy};
+ghost use Rattle.cfs_model.specs.Laws.{OneNext, OneList, RunPrefix, StepKeepsOrder, RunKeepsOrder, StartInOrder, FloorsRise, MarksMove, MoreKeepsRun, LesserKeepsRun, SameStates, OneLeast, RunFromLeast, LeastOfPrefix, GreatestTellBadAtAll, PoliciesAreTold, MoverKeepsPolicy};
 
 /// From a machine an event leads to at most one machine, and events lead through at most one list of states.
 pub fn one_list()
@@ -41,7 +41,7 @@ pub fn policies()
 
 /// More generous settings keep a run and its states, and so does the lesser of two settings that make one. So there are at
 /// most one least settings, the events are a run just at the settings that are at least these, and a prefix's are at
-/// most the whole's.
+/// most the whole's; and the first bad line at the greatest settings is one that no settings in range help.
 pub fn least_settings()
     ensures more { MoreKeepsRun }
     ensures lesser { LesserKeepsRun }
@@ -49,4 +49,5 @@ pub fn least_settings()
     ensures one { OneLeast }
     ensures exact { RunFromLeast }
     ensures prefix { LeastOfPrefix }
+    ensures bad_at_all { GreatestTellBadAtAll }
 {}

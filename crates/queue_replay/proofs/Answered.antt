@@ -1,5 +1,5 @@
 -- What a runqueue answers of a pid, and what the part says.
-use Rattle.std.proofs.Common.{◌≡◌, ◌≢◌, ◌↔◌, ℕ, zero, suc, Bool, true, false, not, IsTrue, Option, Some, None, is_none, is_some, option_map, ℤ, pos, ◌+ℤ◌, ◌-ℤ◌, ◌≤ℤ◌, ◌<ℤ◌, refl, sym, ap, ◌∙◌, subst, arith}
+use Rattle.std.proofs.Common.{◌≡◌, ◌≢◌, ◌↔◌, ℕ, zero, suc, Bool, true, false, not, IsTrue, Option, Some, None, is_none, is_some, option_map, ℤ, pos, ◌-ℤ◌, ◌≤ℤ◌, refl, sym, ap, ◌∙◌, subst, arith}
 use Rattle.std.specs.Int.{int_max}
 use Rattle.std.proofs.lemmas.Int.{ints, clamps}
 use Rattle.std.proofs.lemmas.Bool.{false≢true, not-true, not_from_false}
@@ -9,7 +9,7 @@ use Rattle.replay_model.specs.ClaimTests.{IsInWakeBounds}
 use Rattle.replay_model.specs.QueueTests.{HasOtherNice, IsRunner}
 use Rattle.cfs_model.specs.declared.task.Place.TheVariants.{Run, Wait, Rest}
 use Rattle.cfs_model.specs.declared.task.Task.{Task}
-use Rattle.queue_replay.specs.Queue.{IdlesBeside, IsAboveGranularity, IsTheRunner, IsLeastOfWaiting}
+use Rattle.queue_replay.specs.Queue.{IdlesBeside, IsTheRunner, IsLeastOfWaiting}
 use Rattle.queue_replay.specs.Tasks.{entity_of}
 use Rattle.queue_replay.proofs.Parts.{its_place}
 
@@ -68,28 +68,6 @@ idles_beside part zero v e w = ((w.pid, ap its_place w.stands ∙ ap Some w.wait
 pub idles_not : (part : Part) (next : ℕ) → NobodyIn part Wait → (pid : ℕ) → ¬ IdlesBeside part next pid
 idles_not part (suc n) nobody pid h = h
 idles_not part zero nobody pid h = nobody h.0.0 h.0.1
-
-pub beyond : (part : Part) (granularity next : ℕ) (own : Task) (v : ℤ) → next ≢ 0 → IsLeastOfWaiting part v
-    → (v +ℤ pos granularity) <ℤ own.v → IsAboveGranularity granularity (Some (entity_of own)) part next next
-beyond part granularity zero own v ne w far = absurd (ne refl)
-beyond part granularity (suc n) own v ne w far =
-    let r = w.runtime in ((entity_of own, w.task, w.pid, refl, w.stands, w.waits, omega (arith, ints, r, far)), refl)
-
-pub beyond_not : (part : Part) (granularity next : ℕ) (own : Task) (v : ℤ) → IsLeastOfWaiting part v
-    → ((v +ℤ pos granularity) <ℤ own.v → ⊥) → (pid : ℕ) → ¬ IsAboveGranularity granularity (Some (entity_of own)) part next pid
-beyond_not part granularity zero own v w near pid h = h
-beyond_not part granularity (suc n) own v w near pid h =
-    let s = h.0.0 in
-    let t = h.0.1 in
-    let same : s ≡ entity_of own = sym (same_Some (entity_of own) s h.0.3) in
-    let low : (t.runtime +ℤ pos granularity) <ℤ own.v = subst (λ (x : Entity). (t.runtime +ℤ pos granularity) <ℤ x.runtime) same h.0.6 in
-    let least = w.least h.0.2 t h.0.4 h.0.5 in
-    near (omega (arith, ints, low, least))
-
-pub beyond_nobody : (part : Part) (granularity next : ℕ) (own : Task) → NobodyIn part Wait
-    → (pid : ℕ) → ¬ IsAboveGranularity granularity (Some (entity_of own)) part next pid
-beyond_nobody part granularity zero own nobody pid h = h
-beyond_nobody part granularity (suc n) own nobody pid h = nobody h.0.2 (ap its_place h.0.4 ∙ ap Some h.0.5)
 
 -- the bounds of a wakeup, one by one
 pub in_bounds : (credit : ℕ) (floor own v : ℤ) (b : Bool) → own ≤ℤ v → v ≤ℤ int_max own floor

@@ -11,6 +11,7 @@ use Rattle.replay_model.specs.declared.page.Tally.{Tally}
 use Rattle.replay_model.specs.declared.step.Step.{Step}
 use Rattle.queue_replay.specs.Counting.{page_draft_view, faulted_page}
 use Rattle.queue_replay.specs.Stretches.{IsWithin}
+use Rattle.queue_replay.specs.Needing.{needs_view}
 use Rattle.queue_replay.specs.ReplayState.{replay_state_view, IsGoing, IsPassed, IsStepped, IsUndone}
 use Rattle.queue_replay.specs.Queue.{runqueue_view}
 use Rattle.queue_replay.specs.declared.replay_state.ReplayState.{ReplayState}
@@ -21,11 +22,11 @@ no_deadline IdleTooLong slack since ne = absurd (ne refl)
 no_deadline _ slack since ne = refl
 
 -- a step that fails
-pub failed : (knobs : Settings) (cpu : ℕ) (before : ReplayStateView) (step : Step) (kind : Kind) (pid : ℕ) (deadline : Option ℕ) (page : PageView) (new : ReplayState)
+pub failed : (knobs : Settings) (cpu : ℕ) (before : ReplayStateView) (needed : Settings) (step : Step) (kind : Kind) (pid : ℕ) (deadline : Option ℕ) (page : PageView) (new : ReplayState)
     → FailsTest knobs cpu before step kind pid → deadline ≡ deadline_of kind knobs.slack before.since → page ≡ before.page
     → page_draft_view new.draft ≡ faulted_page page (record { line = step.line; kind = kind; pid = pid; deadline = deadline })
-    → IsStepped knobs cpu before step new
-failed knobs cpu before step kind pid deadline page new fails is same noted =
+    → IsStepped knobs cpu before needed step new
+failed knobs cpu before needed step kind pid deadline page new fails is same noted =
     let fault : StepFault = record { line = step.line; kind = kind; pid = pid; deadline = deadline } in
     inr (
       fault,
@@ -40,10 +41,10 @@ failed knobs cpu before step kind pid deadline page new fails is same noted =
 
 -- a step that passes
 pub passed : (knobs : Settings) (cpu : ℕ) (old between new : ReplayState) (step : Step) → IsPassed knobs cpu old step between
-    → new ≡ record between { made = old.made + 1 } → IsStepped knobs cpu (replay_state_view old) step new
+    → new ≡ record between { made = old.made + 1 } → IsStepped knobs cpu (replay_state_view old) (needs_view old.needs) step new
 passed knobs cpu old between new step p e =
-    subst (λ (c : ReplayState). IsStepped knobs cpu (replay_state_view old) step c) (sym e)
-    (inl (p.passes, record { fault = ap (λ x. x.fault) p.passes.page; within = p.within }))
+    subst (λ (c : ReplayState). IsStepped knobs cpu (replay_state_view old) (needs_view old.needs) step c) (sym e)
+    (inl (p.passes, record { fault = ap (λ x. x.fault) p.passes.1.passes.page; within = p.within }))
 
 -- a step that was undone
 pub undone_state : (old new : ReplayState) → IsUndone old new → replay_state_view new ≡ replay_state_view old
@@ -65,5 +66,6 @@ undone_both old mid new g h = record {
   made = h.made ∙ g.made;
   part = h.part ∙ g.part;
   since = h.since ∙ g.since;
+  needs = h.needs ∙ g.needs;
   noted = h.noted ∙ g.noted;
 }

@@ -7,6 +7,7 @@ pub mod Answered
 pub mod Moved
 pub mod Coming
 pub mod Passed
+pub mod Needed
 pub mod Rows
 pub mod PlacedBy
 pub mod Placed

@@ -253,6 +253,6 @@ deed_after knobs cpu part step change after outcome says stands h =
         (sym (put-at part.tasks change.pid (option_map (changed change.nice) (part.tasks change.pid)) change.pid refl) ∙ j.0))
 
     go : (o : Outcome) → IsDeedTried knobs cpu (reniced (Some change) part) step after o → IsTried knobs cpu (reniced (Some change) part) step after o
-    go (Made ticket) i = ((not_strange, i.0.1), i.1, i.2)
+    go (Made deed) i = ((not_strange, i.0.1), i.1, i.2, i.3)
     go (Failed failed) (inl i) = absurd i.0
     go (Failed failed) (inr i) = inr (not_strange, i.1)

@@ -1,17 +1,22 @@
 -- The replay of a stream by one step more, and the page of the steps made.
-use Rattle.std.proofs.Common.{◌≡◌, ℕ, ◌+◌, ◌-◌, ◌<◌, ◌≤◌, min, nat_le, List, [], ◌∷◌, ◌++◌, length, take, get_or, Option, Some, None, IsSome, is_some, ◌⊎◌, inl, inr, refl, sym, ap, ◌∙◌, subst, true≢false, arith}
+use Rattle.std.proofs.Common.{◌≡◌, ℕ, ◌+◌, ◌-◌, ◌<◌, ◌≤◌, min, nat_le, nat_lt, if◌then◌else◌, Bool, true, false, List, [], ◌∷◌, ◌++◌, length, take, get_or, Option, Some, None, IsSome, is_some, ◌⊎◌, inl, inr, refl, sym, ap, ◌∙◌, subst, true≢false, arith}
 use Rattle.std.proofs.lemmas.Bool.{cond-true, cond-false, le-leb, lt-leb}
-use Rattle.std.proofs.lemmas.List.{take_more}
+use Rattle.std.proofs.lemmas.List.{take_all, take_more}
 use Rattle.replay_model.specs.Cut.{StreamView}
 use Rattle.replay_model.specs.Noted.{PageView}
 use Rattle.replay_model.specs.Page.{ReplayStateView, PassesStep, FailsStep, with_fault, IsReplayStep, IsReplay, IsStartOf, IsPageOf, end_page}
+use Rattle.cfs_model.specs.Least.{larger}
 use Rattle.cfs_model.specs.Settings.{Settings}
+use Rattle.cfs_model.specs.declared.kind.Kind.TheVariants.{IdleTooLong}
+use Rattle.replay_model.specs.Needs.{AllPassNeeding, idle_need, only_slack}
 use Rattle.replay_model.specs.declared.page.StepFault.{StepFault}
 use Rattle.replay_model.specs.declared.step.Step.{Step}
 use Rattle.queue_replay.specs.Counting.{page_draft_view}
+use Rattle.queue_replay.specs.Needing.{needs_view}
 use Rattle.queue_replay.specs.ReplayState.{replay_state_view, IsGoing, IsStepped}
 use Rattle.queue_replay.specs.Made.{IsUnderWay, IsAt, IsFaultless, GoesOn}
 use Rattle.queue_replay.specs.declared.replay_state.ReplayState.{ReplayState}
+use Rattle.queue_replay.proofs.Needed.{needing_more}
 
 -- one more step
 IsReplay-push : (knobs : Settings) (cpu : ℕ) (before : ReplayStateView) (steps : List Step) (between : ReplayStateView) (step : Step) (after : ReplayStateView)
@@ -35,21 +40,25 @@ pub record IsReached (s : StreamView) (knobs : Settings) (c : ReplayState) : Typ
   pub end : ReplayStateView
   pub replay : IsReplay knobs s.cpu start (take c.made s.steps) end
   pub page : page_draft_view c.draft ≡ end.page
+  pub needing : c.draft.fault ≡ None → AllPassNeeding knobs s.cpu start (take c.made s.steps) (replay_state_view c) (needs_view c.needs)
   pub going : c.draft.fault ≡ None → (end ≡ replay_state_view c) × IsGoing c
 
 pub reached_more : (s : StreamView) (knobs : Settings) (old new : ReplayState) (step : Step) (cpu : ℕ) → cpu ≡ s.cpu → IsUnderWay s knobs old
-    → old.made < length s.steps → step ≡ get_or s.steps old.made step → IsStepped knobs cpu (replay_state_view old) step new → new.made ≡ old.made + 1
+    → old.made < length s.steps → step ≡ get_or s.steps old.made step → IsStepped knobs cpu (replay_state_view old) (needs_view old.needs) step new → new.made ≡ old.made + 1
     → IsReached s knobs new
-reached_more s knobs old new step cpu same u within is stepped made = go (subst (λ n. IsStepped knobs n (replay_state_view old) step new) same stepped)
+reached_more s knobs old new step cpu same u within is stepped made = go (subst (λ n. IsStepped knobs n (replay_state_view old) (needs_view old.needs) step new) same stepped)
   where
-    go : IsStepped knobs s.cpu (replay_state_view old) step new → IsReached s knobs new
+    go : IsStepped knobs s.cpu (replay_state_view old) (needs_view old.needs) step new → IsReached s knobs new
     go (inl p) = record {
       start = u.start;
       is_start = u.is_start;
       end = replay_state_view new;
       replay = subst (λ n. IsReplay knobs s.cpu u.start (take n s.steps) (replay_state_view new)) (sym made)
-          (replay_more knobs s.cpu u.start s.steps old.made (replay_state_view old) step (replay_state_view new) within is u.replay u.going.fault (inl p.0));
+          (replay_more knobs s.cpu u.start s.steps old.made (replay_state_view old) step (replay_state_view new) within is u.replay u.going.fault (inl p.0.1.passes));
       page = refl;
+      needing = λ _. subst (λ n. AllPassNeeding knobs s.cpu u.start (take n s.steps) (replay_state_view new) (needs_view new.needs)) (sym made)
+          (needing_more knobs s.cpu u.start s.steps old.made (replay_state_view old) (needs_view old.needs) step (replay_state_view new) (needs_view new.needs)
+          within is u.needing p.0);
       going = λ _. (refl, p.1);
     }
     go (inr f) = record {
@@ -59,6 +68,7 @@ reached_more s knobs old new step cpu same u within is stepped made = go (subst 
       replay = subst (λ n. IsReplay knobs s.cpu u.start (take n s.steps) (with_fault (replay_state_view old) f.0)) (sym made)
           (replay_more knobs s.cpu u.start s.steps old.made (replay_state_view old) step (with_fault (replay_state_view old) f.0) within is u.replay u.going.fault (inr f.1));
       page = f.2;
+      needing = λ none. let e : Some f.0 ≡ None = sym (ap (λ p. p.fault) f.2) ∙ none in absurd cc;
       going = λ none. let e : Some f.0 ≡ None = sym (ap (λ p. p.fault) f.2) ∙ none in absurd cc;
     }
 
@@ -73,10 +83,12 @@ at_middle s knobs c r within = record {
     replay = r.replay;
     result = r.page ∙ sym (cond-false (nat_le (length s.steps) c.made) _ r.end.page (lt-leb (length s.steps) c.made within));
   };
+  has_needs = λ none all. absurd (omega arith);
   under_way = λ none left. let g = r.going none in record {
     start = r.start;
     is_start = r.is_start;
     replay = subst (λ p. IsReplay knobs s.cpu r.start (take c.made s.steps) p) g.0 r.replay;
+    needing = r.needing none;
     going = g.1;
   };
 }
@@ -85,10 +97,29 @@ end_faulted : (slack : ℕ) (s : StreamView) (since : Option ℕ) (fault : StepF
 end_faulted slack s None fault page = refl
 end_faulted slack s (Some since) fault page = refl
 
+-- an end test that leaves no fault leaves the page
+end_faultless : (slack : ℕ) (s : StreamView) (since : Option ℕ) (fault : Option StepFault) (page : PageView) → page.fault ≡ fault
+    → (end_page slack s since fault page).fault ≡ None → (fault ≡ None) × (end_page slack s since fault page ≡ page)
+end_faultless slack s None (Some f) page has none = let e : Some f ≡ None = sym has ∙ none in absurd cc
+end_faultless slack s (Some since) (Some f) page has none = let e : Some f ≡ None = sym has ∙ none in absurd cc
+end_faultless slack s None None page has none = (refl, refl)
+end_faultless slack s (Some since) None page has none = (refl, go (nat_lt (since + slack) s.last_time) none)
+  where
+    failed : PageView
+    failed = record page {
+      fault = Some (record { line = s.last_line; kind = IdleTooLong; pid = 0; deadline = Some (since + slack) });
+    }
+
+    go : (late : Bool) → (if late then failed else page).fault ≡ None → (if late then failed else page) ≡ page
+    go true e = absurd cc
+    go false e = refl
+
 -- after the last step the end test is made
 pub at_end : (s : StreamView) (knobs : Settings) (c after : ReplayState) → IsReached s knobs c → c.made ≡ length s.steps → after.made ≡ c.made
-    → page_draft_view after.draft ≡ end_page knobs.slack s c.since c.draft.fault (page_draft_view c.draft) → IsAt s knobs after
-at_end s knobs c after r last made noted = record {
+    → page_draft_view after.draft ≡ end_page knobs.slack s c.since c.draft.fault (page_draft_view c.draft)
+    → (c.draft.fault ≡ None → needs_view after.needs ≡ larger (needs_view c.needs) (only_slack (idle_need c.since s.last_time)))
+    → IsAt s knobs after
+at_end s knobs c after r last made noted raised = record {
   within = omega arith;
   is_page = subst (λ n. IsPageOf s knobs n (page_draft_view after.draft)) (sym made) (record {
     start = r.start;
@@ -98,6 +129,17 @@ at_end s knobs c after r last made noted = record {
     result = noted ∙ same c.draft.fault refl
         ∙ sym (cond-true (nat_le (length s.steps) c.made) (end_page knobs.slack s r.end.since r.end.page.fault r.end.page) r.end.page (le-leb (length s.steps) c.made (omega arith)));
   });
+  has_needs = λ none all.
+      let u = end_faultless knobs.slack s c.since c.draft.fault (page_draft_view c.draft) refl (sym (ap (λ p. p.fault) noted) ∙ none) in
+      record {
+        start = r.start;
+        is_start = r.is_start;
+        end = replay_state_view c;
+        of_steps = needs_view c.needs;
+        all_pass = subst (λ l. AllPassNeeding knobs s.cpu r.start l (replay_state_view c) (needs_view c.needs)) (take_all c.made s.steps (omega arith)) (r.needing u.0);
+        page_is = noted ∙ u.1;
+        needs_are = raised u.0;
+      };
   under_way = λ none left. absurd (omega arith);
 }
   where
@@ -110,13 +152,15 @@ at_end s knobs c after r last made noted = record {
         ∙ sym (end_faulted knobs.slack s r.end.since f r.end.page) ∙ ap (λ o. end_page knobs.slack s r.end.since o r.end.page) (sym g)
 
 -- a state before the first step
-pub reached_start : (s : StreamView) (knobs : Settings) (c : ReplayState) → c.made ≡ 0 → IsStartOf s (replay_state_view c) → IsGoing c → IsReached s knobs c
-reached_start s knobs c e start going = record {
+pub reached_start : (s : StreamView) (knobs : Settings) (c : ReplayState) → c.made ≡ 0 → IsStartOf s (replay_state_view c) → IsGoing c → needs_view c.needs ≡ only_slack 0
+    → IsReached s knobs c
+reached_start s knobs c e start going none = record {
   start = replay_state_view c;
   is_start = start;
   end = replay_state_view c;
   replay = subst (λ n. IsReplay knobs s.cpu (replay_state_view c) (take n s.steps) (replay_state_view c)) (sym e) refl;
   page = refl;
+  needing = λ _. subst (λ n. AllPassNeeding knobs s.cpu (replay_state_view c) (take n s.steps) (replay_state_view c) (needs_view c.needs)) (sym e) (refl, none);
   going = λ _. (refl, going);
 }
 

@@ -4,7 +4,6 @@ use Rattle.std.specs.Prelude.{⊤}
 use Rattle.replay_model.specs.Deeds.{after_deed}
 use Rattle.replay_model.specs.Part.{Part}
 use Rattle.replay_model.specs.Tests.{Test, FirstHolds, late_tests}
-use Rattle.replay_model.specs.declared.page.Ticket.{Ticket}
 use Rattle.replay_model.specs.declared.step.Deed.{Deed}
 use Rattle.replay_model.specs.declared.step.Deed.TheVariants.{Switch, Wake, Born, Leave, Arrive}
 use Rattle.replay_model.specs.declared.step.Step.{Step}
@@ -15,8 +14,10 @@ use Rattle.cfs_model.specs.declared.kind.Kind.{Kind}
 use Rattle.cfs_model.specs.declared.kind.Kind.TheVariants.{IdleTooLong}
 use Rattle.queue_replay.specs.Counting.{ticket_by}
 use Rattle.queue_replay.specs.FirstTest.{IsFirst}
+use Rattle.queue_replay.specs.Needing.{IsNeed}
 use Rattle.queue_replay.specs.Rows.{IsDeedTried, arrival_tests, birth_tests, leave_tests, switch_tests, wake_tests}
 use Rattle.queue_replay.specs.declared.failed_test.FailedTest.{FailedTest}
+use Rattle.queue_replay.specs.declared.made_deed.MadeDeed.{MadeDeed}
 use Rattle.queue_replay.specs.declared.outcome.Outcome.TheVariants.{Made, Failed}
 
 -- what is first among some tests is first among more
@@ -90,13 +91,16 @@ module _ (knobs : Settings) (cpu : ℕ) (part : Part) (step : Step) (deed : Deed
   fails after failed h = among (Some failed) h
 
   -- it passes
-  pub passes : (after : Part) (ticket : Option Ticket) → IsFirst None tests → after ≡ after_deed part deed claim
-      → ticket ≡ ticket_by part (record step { claim = claim }) deed → IsDeedTried knobs cpu part step after (Made ticket)
-  passes after ticket h e t = (
+  pub passes : (after : Part) (made : MadeDeed) → IsFirst None tests → after ≡ after_deed part deed claim
+      → made.ticket ≡ ticket_by part (record step { claim = claim }) deed → IsNeed part deed claim made.need
+      → IsDeedTried knobs cpu part step after (Made made)
+  passes after made h e t n = (
     among None h,
     e ∙ sym (ap (after_deed part deed) says) ∙ sym (ap (λ (d : Deed). after_deed part d step.claim) is),
     t ∙ sym (ap (λ (c : Option Claim). ticket_by part (record step { claim = c }) deed) says)
         ∙ sym (ap (λ (d : Deed). ticket_by part step d) is),
+    subst (λ (d : Deed). IsNeed part d step.claim made.need) (sym is)
+        (subst (λ (c : Option Claim). IsNeed part deed c made.need) (sym says) n),
   )
 
 -- none of the tests is the first of a step's

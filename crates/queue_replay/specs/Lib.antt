@@ -5,6 +5,7 @@ pub mod FirstTest
 pub mod Places
 pub mod Stretches
 pub mod Counting
+pub mod Needing
 pub mod Rows
 pub mod ReplayState
 pub mod Made

@@ -2,10 +2,12 @@
 use Rattle.std.specs.Prelude.{◌≡◌, ℕ, ◌+◌, ◌-◌, ◌<◌, ◌≤◌, min, nat_lt, if◌then◌else◌, Option, Some, None, IsSome, length, take}
 use Rattle.cfs_model.specs.Settings.{Settings}
 use Rattle.replay_model.specs.Cut.{StreamView}
+use Rattle.replay_model.specs.Needs.{AllPassNeeding}
 use Rattle.replay_model.specs.Noted.{PageView}
 use Rattle.replay_model.specs.Page.{ReplayStateView, IsStartOf, IsReplay, IsPageOf}
 use Rattle.replay_model.specs.declared.page.StepFault.{StepFault}
 use Rattle.queue_replay.specs.Counting.{page_draft_view}
+use Rattle.queue_replay.specs.Needing.{HasNeeds, needs_view}
 use Rattle.queue_replay.specs.ReplayState.{replay_state_view, IsGoing}
 use Rattle.queue_replay.specs.declared.replay_state.ReplayState.{ReplayState}
 use Rattle.queue_replay.specs.declared.state.State.{State}
@@ -13,17 +15,19 @@ use Rattle.queue_replay.specs.declared.state.State.TheVariants as states
 use Rattle.queue_replay.specs.declared.tag.Reached.{Reached}
 use Rattle.queue_replay.specs.declared.tag.Reached.TheVariants.{Stopped, Done, Faulted}
 
--- the state is that of the stream's replay by its first steps, none of which failed
+-- the state is that of the stream's replay by its first steps, none of which failed, and its needs are theirs
 pub record IsUnderWay (stream : StreamView) (knobs : Settings) (state : ReplayState) : Type 0 where
   pub start : ReplayStateView
   pub is_start : IsStartOf stream start
   pub replay : IsReplay knobs stream.cpu start (take state.made stream.steps) (replay_state_view state)
+  pub needing : AllPassNeeding knobs stream.cpu start (take state.made stream.steps) (replay_state_view state) (needs_view state.needs)
   pub going : IsGoing state
 
--- the state has the page of the steps made, and can go on where none has failed and some are left
+-- the state has the page of the steps made, with what they need, and can go on where none has failed and some are left
 pub record IsAt (stream : StreamView) (knobs : Settings) (state : ReplayState) : Type 0 where
   pub within : state.made ≤ length stream.steps
   pub is_page : IsPageOf stream knobs state.made (page_draft_view state.draft)
+  pub has_needs : HasNeeds stream knobs state.made (page_draft_view state.draft) (needs_view state.needs)
   pub under_way : state.draft.fault ≡ None → state.made < length stream.steps → IsUnderWay stream knobs state
 
 -- a replay with this page, after so many steps of so many

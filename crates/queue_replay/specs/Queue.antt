@@ -3,6 +3,7 @@ use Rattle.std.specs.Prelude.{◌≡◌, ◌≢◌, ℕ, zero, suc, Option, Some
 use Rattle.std.specs.BTreeMap.{get}
 use Rattle.std.specs.BTreeSet.{contains}
 use Rattle.std.specs.Ordering.{nat_cmp}
+use Rattle.replay_model.specs.Needs.{IsExcess}
 use Rattle.replay_model.specs.Part.{Part, Entity, IsIn, NobodyIn, IsQueuedHere, IsLeastHere}
 use Rattle.cfs_model.specs.declared.task.Place.TheVariants.{Run, Wait}
 use Rattle.cfs_model.specs.declared.task.Task.{Task}
@@ -55,6 +56,17 @@ IsAboveGranularity granularity own part zero pid = ⊥
 IsAboveGranularity granularity own part (suc n) pid =
     ((s t : Entity) × (other : ℕ) × (own ≡ Some s) × (part.tasks other ≡ Some t) × (t.place ≡ Wait)
     × ((t.runtime +ℤ pos granularity) <ℤ s.runtime)) × (pid ≡ suc n)
+
+-- how far a task is above the least of those who wait; 0 where it isn't, and where there is none or nobody waits
+abbrev pub IsAbove : Option Entity → Option ℤ → ℕ → Type 0
+IsAbove (Some s) (Some least) lead = IsExcess s.runtime least lead
+IsAbove None least lead = lead ≡ 0
+IsAbove (Some s) None lead = lead ≡ 0
+
+-- how far the next task, as it stood, is above the least of those who wait; 0 where the processor goes idle
+abbrev pub IsLead : Option Entity → Part → ℕ → ℕ → Type 0
+IsLead own part zero lead = lead ≡ 0
+IsLead own part (suc n) lead = (least : Option ℤ) × IsLeastWaiting part least × IsAbove own least lead
 
 -- the task of a pid, if it stands here
 abbrev pub IsTaskAt : Part → ℕ → Option Task → Type 0

@@ -11,3 +11,5 @@ pub record ReplayView : Type 0 where
   pub made : ℕ
   -- what its page would show
   pub page : PageView
+  -- what the steps made need of each setting; with the end test, the processor that idles at the record's last time too
+  pub needs : Settings

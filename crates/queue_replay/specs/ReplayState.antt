@@ -1,10 +1,11 @@
 -- A replay under way, as the definitions have it (this project's profile).
 use Rattle.std.specs.Prelude.{◌≡◌, ℕ, ◌+◌, None, ◌⊎◌, All}
 use Rattle.cfs_model.specs.Settings.{Settings}
-use Rattle.replay_model.specs.Page.{ReplayStateView, PassesStep, FailsStep, with_fault}
+use Rattle.replay_model.specs.Page.{ReplayStateView, FailsStep, with_fault}
 use Rattle.replay_model.specs.declared.page.StepFault.{StepFault}
 use Rattle.replay_model.specs.declared.step.Step.{Step}
 use Rattle.queue_replay.specs.Counting.{page_draft_view}
+use Rattle.queue_replay.specs.Needing.{needs_view, PassesRaising}
 use Rattle.queue_replay.specs.Queue.{runqueue_view}
 use Rattle.queue_replay.specs.Stretches.{IsWithin}
 use Rattle.queue_replay.specs.declared.replay_state.ReplayState.{ReplayState}
@@ -19,13 +20,13 @@ pub record IsGoing (state : ReplayState) : Type 0 where
 
 -- the step passed, and was noted
 pub record IsPassed (knobs : Settings) (cpu : ℕ) (old : ReplayState) (step : Step) (new : ReplayState) : Type 0 where
-  pub passes : PassesStep knobs cpu (replay_state_view old) step (replay_state_view new)
+  pub passes : PassesRaising knobs cpu (replay_state_view old) (needs_view old.needs) step (replay_state_view new) (needs_view new.needs)
   pub within : All (IsWithin (old.made + 1)) new.draft.tallies.list.items
 
 -- a step was made, which passed, or failed
-abbrev pub IsStepped : Settings → ℕ → ReplayStateView → Step → ReplayState → Type 0
-IsStepped knobs cpu before step new =
-    (PassesStep knobs cpu before step (replay_state_view new) × IsGoing new)
+abbrev pub IsStepped : Settings → ℕ → ReplayStateView → Settings → Step → ReplayState → Type 0
+IsStepped knobs cpu before needed step new =
+    (PassesRaising knobs cpu before needed step (replay_state_view new) (needs_view new.needs) × IsGoing new)
     ⊎ ((fault : StepFault) × FailsStep knobs cpu before step (with_fault before fault)
     × (page_draft_view new.draft ≡ (with_fault before fault).page))
 
@@ -34,4 +35,5 @@ pub record IsUndone (old new : ReplayState) : Type 0 where
   pub made : new.made ≡ old.made
   pub part : runqueue_view new.queue ≡ runqueue_view old.queue
   pub since : new.since ≡ old.since
+  pub needs : new.needs ≡ old.needs
   pub noted : page_draft_view new.draft ≡ page_draft_view old.draft

@@ -15,6 +15,7 @@ use Rattle.cfs_model.specs.declared.claim.Claim.{Claim}
 use Rattle.cfs_model.specs.declared.claim.ClaimSort.TheVariants.{At}
 use Rattle.cfs_model.specs.declared.kind.Kind.TheVariants as kind
 use Rattle.queue_replay.specs.Counting.{ticket_by}
+use Rattle.queue_replay.specs.Needing.{IsNeed}
 use Rattle.queue_replay.specs.Queue.{IdlesBeside, IsAboveGranularity}
 use Rattle.queue_replay.specs.declared.context_switch.ContextSwitch.{ContextSwitch}
 use Rattle.queue_replay.specs.declared.outcome.Outcome.{Outcome}
@@ -100,11 +101,12 @@ arrival_tests part deed claim =
     record { kind = kind.ClaimMissing; holds = IsClaimMissing part deed claim } ∷
     record { kind = kind.ClaimPid; holds = IsOfAnother (claimant part deed) claim } ∷ []
 
--- a step passed its tests and its deed made this of the part, with this ticket; or the first test that it fails
+-- a step passed its tests and its deed made this of the part, with this ticket and this need; or the first test that it
+-- fails
 abbrev pub IsTried : Settings → ℕ → Part → Step → Part → Outcome → Type 0
-IsTried knobs cpu part step after (Made ticket) =
+IsTried knobs cpu part step after (Made deed) =
     NoneHolds (late_tests knobs cpu part step) × (after ≡ after_deed part step.deed step.claim)
-    × (ticket ≡ ticket_by part step step.deed)
+    × (deed.ticket ≡ ticket_by part step step.deed) × IsNeed part step.deed step.claim deed.need
 IsTried knobs cpu part step after (Failed failed) = FirstHolds (late_tests knobs cpu part step) failed.kind failed.pid
 
 -- the same of a step's deed alone, whatever its line changes

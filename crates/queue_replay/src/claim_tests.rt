@@ -1,13 +1,13 @@
-ghost use Rattle.std.specs.Prelude.{◌≡◌, ◌≢◌, ℕ, Bool, ℤ, IsTrue, ◌↔◌, Some, option_map, pos, ◌+ℤ◌, ◌-ℤ◌, ◌≤ℤ◌, ◌<ℤ◌};
+ghost use Rattle.std.specs.Prelude.{◌≡◌, ◌≢◌, ℕ, Bool, ℤ, IsTrue, ◌↔◌, Option, Some, pos, ◌-ℤ◌, ◌≤ℤ◌};
 ghost use Rattle.replay_model.specs.ClaimTests.{if_resting, IsClaimMissing, IsInWakeBounds, IsWakeOutside, IsInForkBounds, IsForkOutside};
 ghost use Rattle.replay_model.specs.Part.{Part, Entity, place_in};
 ghost use Rattle.replay_model.specs.declared.step.Deed.TheVariants.{Wake, Born, Arrive};
 ghost use Rattle.cfs_model.specs.declared.task.Place.TheVariants.{Rest};
-ghost use Rattle.queue_replay.specs.Queue.{runqueue_view, IdlesBeside, IsAboveGranularity, IsTaskAt};
-ghost use Rattle.queue_replay.specs.Tasks.{entity_of};
+ghost use Rattle.queue_replay.specs.Queue.{runqueue_view, IdlesBeside, IsAboveGranularity, IsLead, IsTaskAt};
 ghost use Rattle.queue_replay.specs.FirstTest.{Decides};
 ghost use Rattle.queue_replay.specs.Rows.{HasClaimAt, IsUnclaimed, IsNeedless, IsOfAnother};
 
+use crate::excess::excess;
 use crate::queue_tests::stands_in;
 use crate::runqueue::Runqueue;
 use cfs_model::{Claim, ClaimSort, IDLE_PID, Place, Task};
@@ -117,33 +117,11 @@ pub(crate) fn idle_beside_waiting(moved: &Runqueue, next: u32) -> Option<u32>
     moved.least_waiting().is_some().then_some(IDLE_PID)
 }
 
-/// The next task, as it stood, is above one that waits here by more than the granularity, in nanoseconds; the
-/// previous task has gone its way.
-pub(crate) fn not_least(
-    moved: &Runqueue,
-    next: u32,
-    own: Option<Task>,
-    granularity: u64,
-) -> Option<u32>
-    ensures { Decides result (IsAboveGranularity granularity (option_map entity_of own) (runqueue_view moved.now) next) }
+/// The next task leads the least of those who wait by more than the granularity; both in nanoseconds.
+pub(crate) fn not_least(next: u32, lead: u64, granularity: u64) -> Option<u32>
+    ensures { (own : Option Entity) (part : Part) → IsLead own part next lead → Decides result (IsAboveGranularity granularity own part next) }
 {
-    if next == IDLE_PID {
-        return None;
-    }
-    let task = own?;
-    let least = moved.least_waiting()?;
-    if is_below(least, task, granularity) {
-        Some(next)
-    } else {
-        None
-    }
-}
-
-/// The virtual runtime is below the task's by more than the granularity, in nanoseconds.
-fn is_below(runtime: i64, task: Task, granularity: u64) -> bool
-    ensures { IsTrue result ↔ ((runtime +ℤ pos granularity) <ℤ task.v) }
-{
-    i128::from(runtime) + i128::from(granularity) < i128::from(task.v)
+    if granularity < lead { Some(next) } else { None }
 }
 
 /// The task stands here, at another virtual runtime than the claimed one.
@@ -185,7 +163,7 @@ fn is_in_wake_bounds(queue: &Runqueue, task: Task, claim: Claim, credit: u64) ->
 fn reaches_credit(queue: &Runqueue, claim: Claim, credit: u64) -> bool
     ensures { IsTrue result ↔ ((queue.now.floor -ℤ pos credit) ≤ℤ claim.v) }
 {
-    i128::from(queue.floor) <= i128::from(claim.v) + i128::from(credit)
+    excess(queue.floor, claim.v) <= credit
 }
 
 /// The claim is within the bounds of a birth, by the floor and the debit.
@@ -195,5 +173,5 @@ fn is_in_fork_bounds(queue: &Runqueue, claim: Claim, debit: u64) -> bool
     if claim.v < queue.floor {
         return false;
     }
-    i128::from(claim.v) <= i128::from(queue.floor) + i128::from(debit)
+    excess(claim.v, queue.floor) <= debit
 }

@@ -6,6 +6,8 @@ ghost use Rattle.queue_replay.specs.Rows.{IsDeedTried, switch_deed};
 
 use crate::claimed::{came_ticket, claimed_task, left_ticket, place_of};
 use crate::context_switch::ContextSwitch;
+use crate::excess::{excess, lead};
+use crate::made_deed::MadeDeed;
 use crate::outcome::Outcome;
 use crate::runqueue::Runqueue;
 use crate::step_table::{
@@ -93,11 +95,12 @@ fn try_switch(
         return Ok(Outcome::Failed(failed));
     }
     moves!(queue: runner leaves by way);
-    if let Some(failed) = first_pick_test(queue, pid, &next, knobs) {
+    let need = lead(queue, pid, next);
+    if let Some(failed) = first_pick_test(queue, pid, need, knobs) {
         return Ok(Outcome::Failed(failed));
     }
     moves!(queue: next of pid runs);
-    Ok(Outcome::Made(None))
+    Ok(Outcome::Made(MadeDeed { ticket: None, need }))
 }
 
 fn try_wake(
@@ -116,10 +119,14 @@ fn try_wake(
         return Ok(Outcome::Failed(failed));
     }
     let Some(claim) = step.claim else {
-        return Ok(Outcome::Made(None));
+        return Ok(Outcome::Made(MadeDeed {
+            ticket: None,
+            need: 0,
+        }));
     };
+    let need = excess(queue.floor, claim.v);
     moves!(queue: task of pid wakes at claim);
-    Ok(Outcome::Made(None))
+    Ok(Outcome::Made(MadeDeed { ticket: None, need }))
 }
 
 fn try_birth(
@@ -140,10 +147,13 @@ fn try_birth(
         return Ok(Outcome::Failed(failed));
     }
     match step.claim {
-        Some(claim) => moves!(queue: claimed_task(Place::Wait, pid, nice, idle, cpu, claim), comes),
+        Some(claim) => {
+            let need = excess(claim.v, queue.floor);
+            moves!(queue: claimed_task(Place::Wait, pid, nice, idle, cpu, claim), comes);
+            Ok(Outcome::Made(MadeDeed { ticket: None, need }))
+        }
         None => unreachable!(),
     }
-    Ok(Outcome::Made(None))
 }
 
 fn try_leave(
@@ -164,7 +174,7 @@ fn try_leave(
     }
     let ticket = left_ticket(queue, step.line, pid, &task);
     moves!(queue: pid is gone);
-    Ok(Outcome::Made(ticket))
+    Ok(Outcome::Made(MadeDeed { ticket, need: 0 }))
 }
 
 fn try_arrival(
@@ -187,7 +197,10 @@ fn try_arrival(
         Some(claim) => {
             let ticket = came_ticket(queue, step.line, pid, nice, idle, claim);
             moves!(queue: claimed_task(place_of(claim), pid, nice, idle, cpu, claim), comes);
-            Ok(Outcome::Made(Some(ticket)))
+            Ok(Outcome::Made(MadeDeed {
+                ticket: Some(ticket),
+                need: 0,
+            }))
         }
         None => unreachable!(),
     }

@@ -1,11 +1,11 @@
 use crate::failed_test::FailedTest;
-use replay_model::Ticket;
+use crate::made_deed::MadeDeed;
 
 /// What becomes of a step's deed.
 #[derive(Clone, Copy)]
 pub(crate) enum Outcome {
-    /// It passed its tests, and is made; with the ticket of a task that leaves or comes.
-    Made(Option<Ticket>),
+    /// It passed its tests, and is made.
+    Made(MadeDeed),
     /// The first test that it fails.
     Failed(FailedTest),
 }

@@ -1,9 +1,11 @@
 ghost use Rattle.std.specs.Prelude.{◌≡◌, length};
 ghost use Rattle.replay_model.specs.Page.{IsPageOf};
 ghost use Rattle.queue_replay.specs.Made.{reached_of};
+ghost use Rattle.queue_replay.specs.Needing.{HasNeeds, needs_view};
 ghost use Rattle.sched_record.specs.Stream.{stream_view};
 
 use crate::lists::{LifeEvents, Tallies, Tickets};
+use crate::needs::Needs;
 use crate::tag::{Reached, Tag};
 use cfs_model::Knobs;
 use replay_model::{LifeEvent, StepFault, Tally, Ticket};
@@ -16,6 +18,7 @@ pub struct Page {
     pub(crate) stream: Stream,
     pub(crate) knobs: Knobs,
     pub(crate) made: usize,
+    pub(crate) needs: Needs,
     pub(crate) line: u32,
     pub(crate) fault: Option<StepFault>,
     pub(crate) left: Tickets,
@@ -26,6 +29,7 @@ pub struct Page {
 }
 
 impl Model for Page {
+    ghost use Rattle.queue_replay.specs.Needing.{HasNeeds, needs_view};
     ghost use Rattle.queue_replay.specs.Replay.{ReplayView};
     ghost use Rattle.replay_model.specs.Page.{IsPageOf};
     ghost use Rattle.sched_record.specs.Stream.{stream_view};
@@ -45,6 +49,7 @@ impl Model for Page {
         deaths = p.deaths;
         tallies = p.tallies;
       };
+      needs = needs_view p.needs;
     } };
 
     ghost invariant = { λ p. IsPageOf (stream_view p.stream) p.knobs p.made (record {
@@ -55,7 +60,15 @@ impl Model for Page {
       births = p.births;
       deaths = p.deaths;
       tallies = p.tallies;
-    }) };
+    }) × HasNeeds (stream_view p.stream) p.knobs p.made (record {
+      line = p.line;
+      fault = p.fault;
+      left = p.left;
+      came = p.came;
+      births = p.births;
+      deaths = p.deaths;
+      tallies = p.tallies;
+    }) (needs_view p.needs) };
 }
 
 impl Page {
@@ -66,11 +79,21 @@ impl Page {
         &self.stream
     }
 
-    /// A law: the page is that of its stream by the steps made.
+    /// A law: the page is that of its stream by the steps made, and where it is by all of them and nothing failed, its
+    /// needs are the replay's.
     pub fn replayed(&self)
-        ensures { IsPageOf self.now.stream self.now.knobs self.now.made self.now.page }
+        ensures page { IsPageOf self.now.stream self.now.knobs self.now.made self.now.page }
+        ensures needs { HasNeeds self.now.stream self.now.knobs self.now.made self.now.page self.now.needs }
     {
         let _stream = &self.stream;
+    }
+
+    /// What its steps need of each setting, and the processor that idles at the record's last time; where a step failed,
+    /// or some are left, nothing is said of them.
+    pub fn needs(&self) -> Needs
+        ensures { needs_view result ≡ self.now.needs }
+    {
+        self.needs
     }
 
     /// The settings that it was replayed by.

@@ -27,12 +27,13 @@ pub struct Replay {
 impl Model for Replay {
     ghost use Rattle.queue_replay.specs.Counting.{page_draft_view};
     ghost use Rattle.queue_replay.specs.Made.{IsAt};
+    ghost use Rattle.queue_replay.specs.Needing.{needs_view};
     ghost use Rattle.queue_replay.specs.Replay.{ReplayView};
     ghost use Rattle.sched_record.specs.Stream.{stream_view};
 
     ghost Value = { ReplayView };
 
-    ghost view = { λ replay. record { stream = stream_view replay.stream; knobs = replay.knobs; made = replay.state.made; page = page_draft_view replay.state.draft } };
+    ghost view = { λ replay. record { stream = stream_view replay.stream; knobs = replay.knobs; made = replay.state.made; page = page_draft_view replay.state.draft; needs = needs_view replay.state.needs } };
 
     ghost invariant = { λ replay. IsAt (stream_view replay.stream) replay.knobs replay.state };
 }
@@ -105,7 +106,12 @@ impl Replay {
             knobs,
             state,
         } = self;
-        let ReplayState { made, draft, .. } = state;
+        let ReplayState {
+            made,
+            needs,
+            draft,
+            ..
+        } = state;
         let PageDraft {
             line,
             fault,
@@ -120,6 +126,7 @@ impl Replay {
             stream,
             knobs,
             made,
+            needs,
             line,
             fault,
             left: Tickets::from_vec(left),

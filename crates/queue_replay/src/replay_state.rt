@@ -1,12 +1,15 @@
 ghost use Rattle.std.specs.Prelude.{◌≡◌, ◌≢◌, ℕ, ◌+◌, ◌-◌, ◌^◌, ◌<◌, Some, None, MatchOption, IfSome, IfOk, OnOk, OnErr};
+ghost use Rattle.replay_model.specs.Needs.{idle_need};
 ghost use Rattle.replay_model.specs.Page.{FailsTest, IsSince, deadline_of};
 ghost use Rattle.replay_model.specs.QueueTests.{IsIdleTooLong};
 ghost use Rattle.cfs_model.specs.declared.kind.Kind.TheVariants.{IdleTooLong};
 ghost use Rattle.queue_replay.specs.Counting.{HasDraftRoom, page_draft_view, faulted_page};
+ghost use Rattle.queue_replay.specs.Needing.{needs_view};
 ghost use Rattle.queue_replay.specs.Queue.{runqueue_view};
 ghost use Rattle.queue_replay.specs.ReplayState.{IsGoing, IsPassed, IsStepped, IsUndone, replay_state_view};
 
 use crate::failed_test::FailedTest;
+use crate::needs::Needs;
 use crate::outcome::Outcome;
 use crate::page_draft::PageDraft;
 use crate::renice::try_step;
@@ -34,6 +37,8 @@ pub(crate) struct ReplayState {
     pub queue: Runqueue,
     /// Since when nothing has run here while somebody waited, in nanoseconds; if that is so.
     pub since: Option<u64>,
+    /// What the steps made need.
+    pub needs: Needs,
     pub draft: PageDraft,
 }
 
@@ -43,8 +48,8 @@ impl ReplayState {
         requires going { IsGoing self.old }
         requires few { self.old.made < 2 ^ 64 - 1 }
         ensures made { OnOk result (self.new.made ≡ self.old.made + 1) }
-        ensures stepped { OnOk result (IsStepped knobs cpu (replay_state_view self.old) step.now self.new) }
-        ensures memory { OnErr result (IsGoing self.new × (replay_state_view self.new ≡ replay_state_view self.old) × (self.new.made ≡ self.old.made)) }
+        ensures stepped { OnOk result (IsStepped knobs cpu (replay_state_view self.old) (needs_view self.old.needs) step.now self.new) }
+        ensures memory { OnErr result (IsGoing self.new × (replay_state_view self.new ≡ replay_state_view self.old) × (self.new.made ≡ self.old.made) × (self.new.needs ≡ self.old.needs)) }
     {
         self.draft.make_room(step.deed)?;
         self.test_step(cpu, step, knobs)
@@ -56,7 +61,7 @@ impl ReplayState {
         requires few { self.old.made < 2 ^ 64 - 1 }
         requires draft { HasDraftRoom step.now.deed self.old.draft }
         ensures made { OnOk result (self.new.made ≡ self.old.made + 1) }
-        ensures stepped { OnOk result (IsStepped knobs cpu (replay_state_view self.old) step.now self.new) }
+        ensures stepped { OnOk result (IsStepped knobs cpu (replay_state_view self.old) (needs_view self.old.needs) step.now self.new) }
         ensures memory { OnErr result (IsUndone self.old self.new) }
     {
         if let Some(deadline) = idle_deadline(self.since, step.time, knobs.slack()) {
@@ -107,8 +112,8 @@ impl ReplayState {
         let before = self.queue.unlifted();
         let time = step.time.saturating_sub(before.mark);
         lift!(self.queue, step.time);
-        let ticket = match try_step(&mut self.queue, cpu, step, knobs) {
-            Ok(Outcome::Made(ticket)) => ticket,
+        let deed = match try_step(&mut self.queue, cpu, step, knobs) {
+            Ok(Outcome::Made(deed)) => deed,
             Ok(Outcome::Failed(failed)) => return Ok(Some(failed)),
             Err(memory) => {
                 self.queue.restore(before);
@@ -116,9 +121,21 @@ impl ReplayState {
             }
         };
         self.draft.note_stretch(before.runner, time, self.made);
-        self.draft.note(step, ticket, self.made);
+        self.draft.note(step, deed.ticket, self.made);
+        let idle = idle_time(self.since, step.time);
+        self.needs.raise(step.deed, deed.need, idle);
         self.since = since_after(self.since, step.time, &self.queue);
         Ok(None)
+    }
+}
+
+/// For how long the processor has idled beside a waiting task, if it has since a time; in nanoseconds.
+pub(crate) fn idle_time(since: Option<u64>, time: u64) -> u64
+    ensures { result ≡ idle_need since time }
+{
+    match since {
+        Some(since) => time.saturating_sub(since),
+        None => 0,
     }
 }
 

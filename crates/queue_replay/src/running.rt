@@ -1,17 +1,21 @@
 ghost use Rattle.std.specs.Prelude.{◌≡◌, ◌+◌, ◌<◌, ◌≤◌, true, false, None, IsSome, ◌⊎◌, map, length, OnOk, OnErr, IfOk};
 ghost use Rattle.std.specs.List.{AllPairs};
 ghost use Rattle.cfs_model.specs.declared.task.Place.TheVariants.{Run};
+ghost use Rattle.cfs_model.specs.Least.{larger};
+ghost use Rattle.replay_model.specs.Needs.{idle_need, only_slack};
 ghost use Rattle.replay_model.specs.Page.{IsStartOf, end_page};
 ghost use Rattle.replay_model.specs.Part.{start_part};
 ghost use Rattle.queue_replay.specs.Queue.{runqueue_view};
 ghost use Rattle.queue_replay.specs.Tasks.{RisesByPid};
 ghost use Rattle.queue_replay.specs.Counting.{page_draft_view};
+ghost use Rattle.queue_replay.specs.Needing.{needs_view};
 ghost use Rattle.queue_replay.specs.ReplayState.{IsGoing, replay_state_view};
 ghost use Rattle.queue_replay.specs.Made.{IsAt, IsCut, GoesOn};
 ghost use Rattle.sched_record.specs.Stream.{stream_view};
 
+use crate::needs::Needs;
 use crate::page_draft::PageDraft;
-use crate::replay_state::{ReplayState, idle_deadline, since_after};
+use crate::replay_state::{ReplayState, idle_deadline, idle_time, since_after};
 use crate::runqueue::Runqueue;
 use crate::tally_book::TallyBook;
 use cfs_model::{IDLE_PID, Kind, Knobs, Memory, NO_LINE, Task};
@@ -67,14 +71,18 @@ fn advance(stream: &Stream, knobs: Knobs, state: &mut ReplayState) -> Result<(),
     Ok(())
 }
 
-/// A processor that idles beside a waiting task at the record's end may have idled for too long.
+/// A processor that idles beside a waiting task at the record's end needs the slack for it, and may have idled for too
+/// long.
 fn end_test(stream: &Stream, knobs: Knobs, state: &mut ReplayState)
     ensures made { state.new.made ≡ state.old.made }
+    ensures needs { state.old.draft.fault ≡ None → needs_view state.new.needs ≡ larger (needs_view state.old.needs) (only_slack (idle_need state.old.since (stream_view stream.now).last_time)) }
     ensures page { page_draft_view state.new.draft ≡ end_page knobs.slack (stream_view stream.now) state.old.since state.old.draft.fault (page_draft_view state.old.draft) }
 {
     if state.draft.fault.is_some() {
         return;
     }
+    let idle = idle_time(state.since, stream.last_time());
+    state.needs.raise_slack(idle);
     if let Some(deadline) = idle_deadline(state.since, stream.last_time(), knobs.slack()) {
         state.draft.fault = Some(StepFault {
             line: stream.last_line(),
@@ -102,11 +110,13 @@ fn before_steps(alloc: Global, stream: &Stream) -> Result<ReplayState, Memory>
     ensures made { IfOk result (λ state. state.made ≡ 0) }
     ensures start { IfOk result (λ state. IsStartOf (stream_view stream.now) (replay_state_view state)) }
     ensures going { IfOk result IsGoing }
+    ensures needs { IfOk result (λ state. needs_view state.needs ≡ only_slack 0) }
 {
     let queue = queue_of(alloc, stream.tasks(), stream.floor(), stream.start())?;
     Ok(ReplayState {
         made: 0,
         since: since_after(None, stream.start(), &queue),
+        needs: Needs::none(),
         queue,
         draft: PageDraft {
             line: NO_LINE,

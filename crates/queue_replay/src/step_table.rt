@@ -1,12 +1,11 @@
-ghost use Rattle.std.specs.Prelude.{◌≡◌, ◌≢◌, ℕ, Bool, ℤ, None, option_map};
+ghost use Rattle.std.specs.Prelude.{◌≡◌, ◌≢◌, ℕ, Bool, ℤ, Option, None};
 ghost use Rattle.cfs_model.specs.Settings.{Settings};
-ghost use Rattle.replay_model.specs.Part.{Part};
+ghost use Rattle.replay_model.specs.Part.{Part, Entity};
 ghost use Rattle.replay_model.specs.QueueTests.{IsPrevNotRunning};
 ghost use Rattle.replay_model.specs.declared.step.Deed.TheVariants.{Wake, Born, Leave, Arrive};
 ghost use Rattle.queue_replay.specs.FirstTest.{FindsFirst, IsFirst};
-ghost use Rattle.queue_replay.specs.Queue.{runqueue_view, IsSwitchTask, IsTaskAt};
+ghost use Rattle.queue_replay.specs.Queue.{runqueue_view, IsLead, IsSwitchTask, IsTaskAt};
 ghost use Rattle.queue_replay.specs.Rows.{arrival_tests, birth_tests, leave_tests, moved_tests, pick_tests, switch_deed, switch_tests, wake_tests};
-ghost use Rattle.queue_replay.specs.Tasks.{entity_of};
 
 use crate::claim_tests::{
     arrival_claim_missing, claim_extra, claim_missing, claim_pid, fork_outside,
@@ -59,19 +58,19 @@ pub(crate) fn first_switch_test(
     None
 }
 
-/// A switch's pick, after its previous task has gone its way: the first test that it fails. The next task is as it
-/// stood before.
+/// A switch's pick, after its previous task has gone its way: the first test that it fails. The next task, as it stood
+/// before, leads the least of those who wait by so many nanoseconds.
 pub(crate) fn first_pick_test(
     moved: &Runqueue,
     next: u32,
-    own: &Option<Task>,
+    lead: u64,
     knobs: Knobs,
 ) -> Option<FailedTest>
-    ensures { IsFirst result (moved_tests knobs.granularity (option_map entity_of own.now) (runqueue_view moved.now) next) }
+    ensures { (own : Option Entity) → IsLead own (runqueue_view moved.now) next lead → IsFirst result (moved_tests knobs.granularity own (runqueue_view moved.now) next) }
 {
     guard!(
         IdleBesideWaiting: idle_beside_waiting(moved, next),
-        NotLeast: not_least(moved, next, *own, knobs.granularity()),
+        NotLeast: not_least(next, lead, knobs.granularity()),
     );
     None
 }

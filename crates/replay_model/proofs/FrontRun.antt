@@ -1,7 +1,7 @@
 -- Events against which the pages of all processors say nothing are a run: each replay among them passes, and the tickets
--- of their lines are those on the pages, since lines rise. Sufficing pages that say nothing against any event are whole: a
--- page that stopped did so at a fault, which would be due at an event.
-use Rattle.std.proofs.Common.{◌≡◌, ℕ, ◌<◌, ℤ, Some, is_some, inl, inr, List, [], ◌∷◌, ◌++◌, refl, sym, ap, ◌∙◌, subst}
+-- of their lines are those on the pages, since lines rise. Sufficing pages that say nothing against any event have no
+-- fault, since one would be due at an event, and are by all steps: a page that stopped before did so at a fault.
+use Rattle.std.proofs.Common.{◌≡◌, ℕ, ◌<◌, ◌≤◌, ℤ, Option, Some, None, is_some, IsSome, inl, inr, List, [], ◌∷◌, ◌++◌, length, refl, sym, ap, ◌∙◌, subst, true≢false}
 use Rattle.std.specs.List.{AllByRecursion}
 use Rattle.cfs_model.specs.Settings.{Settings}
 use Rattle.cfs_model.specs.Start.{start_machine}
@@ -10,9 +10,9 @@ use Rattle.cfs_model.specs.Touch.{touched}
 use Rattle.cfs_model.specs.Run.{IsRun}
 use Rattle.replay_model.specs.Noted.{PageView}
 use Rattle.replay_model.specs.Composition.{LinesRise, ticket_at, TicketsAgree, IsRecord}
-use Rattle.replay_model.specs.Closing.{IsWholePage, SufficesAmong, ComesAfter, SayNothing, SilentPagesAreWhole, PagesTellRun}
+use Rattle.replay_model.specs.Closing.{IsWholePage, SufficesAmong, ComesAfter, SayNothing, SilentPagesAreDone, PagesTellRun}
 use Rattle.replay_model.specs.QueueTests.{IsIdleTooLong}
-use Rattle.replay_model.specs.Cut.{last_time_of}
+use Rattle.replay_model.specs.Cut.{steps_at, last_time_of}
 use Rattle.replay_model.proofs.Fronts.{AtFront, record_front, at_front}
 use Rattle.replay_model.proofs.PagesCompose.{agree_at, shares_compose}
 use Rattle.replay_model.proofs.StepLines.{lines_back, steps_above}
@@ -91,17 +91,42 @@ no_fault_at_all knobs start floors tasks events cpus cpu page fault r k w c f =
           (sym (ap (λ y. y.since) (sym b.replay) ∙ h.2)) (h.4, refl))
     ]
 
-pub silent_whole : SilentPagesAreWhole
-silent_whole knobs start floors tasks events cpus pages r enough say cpu k =
-    let w = enough cpu k in
-    elim w.enough [
-      | inl some ↦ record { made = w.made; is_page = w.is_page; whole = inl some }
-      | inr (inl all) ↦ record { made = w.made; is_page = w.is_page; whole = inr all }
-      | inr (inr by) ↦ absurd (no_fault_at_all knobs start floors tasks events cpus by.cpu (pages by.cpu) by.fault r
-          by.within
-          (whole_by_fault knobs start floors tasks events cpus pages by.cpu by.fault (enough by.cpu by.within) by.is_fault)
-          (say.no_fault by.cpu by.within) by.is_fault)
-    ]
+-- where the pages of all processors suffice and say nothing against any event
+module _ (knobs : Settings) (start : ℕ) (floors : List ℤ) (tasks : List Task) (events : List Claimed) (cpus : ℕ)
+    (pages : ℕ → PageView) (r : IsRecord start floors tasks events cpus)
+    (enough : (cpu : ℕ) → cpu < cpus → SufficesAmong knobs start floors tasks events cpus pages cpu)
+    (say : SayNothing pages cpus tasks events) where
+  not_at_fault : (cpu : ℕ) → cpu < cpus → (fault : StepFault) → (pages cpu).fault ≡ Some fault → ⊥
+  not_at_fault cpu k fault f =
+      no_fault_at_all knobs start floors tasks events cpus cpu (pages cpu) fault r k
+      (whole_by_fault knobs start floors tasks events cpus pages cpu fault (enough cpu k) f) (say.no_fault cpu k) f
+
+  silent_no_fault : (cpu : ℕ) → cpu < cpus → (pages cpu).fault ≡ None
+  silent_no_fault cpu k = go (pages cpu).fault refl
+    where
+      go : (o : Option StepFault) → (pages cpu).fault ≡ o → (pages cpu).fault ≡ None
+      go None f = f
+      go (Some fault) f = absurd (not_at_fault cpu k fault f)
+
+  silent_all_made : (cpu : ℕ) → (k : cpu < cpus) → length (steps_at cpu events) ≤ (enough cpu k).made
+  silent_all_made cpu k = elim (enough cpu k).enough [
+    | inl some ↦ absurd (true≢false (sym (subst IsSome (silent_no_fault cpu k) some)))
+    | inr (inl all) ↦ all
+    | inr (inr by) ↦ absurd (not_at_fault by.cpu by.within by.fault by.is_fault)
+  ]
+
+  pub silent_whole : (cpu : ℕ) → cpu < cpus → IsWholePage knobs start floors tasks events cpu (pages cpu)
+  silent_whole cpu k = record {
+    made = (enough cpu k).made;
+    is_page = (enough cpu k).is_page;
+    whole = inr (silent_all_made cpu k);
+  }
+
+pub silent_done : SilentPagesAreDone
+silent_done knobs start floors tasks events cpus pages r enough say cpu k = (
+  silent_no_fault knobs start floors tasks events cpus pages r enough say cpu k,
+  silent_all_made knobs start floors tasks events cpus pages r enough say cpu k,
+)
 
 pub pages_tell_run : PagesTellRun
 pages_tell_run knobs start floors tasks events cpus pages r enough say =

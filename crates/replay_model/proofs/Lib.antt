@@ -21,6 +21,7 @@ pub mod OnePage
 pub mod OnePid
 pub mod OneRunner
 pub mod PageCauses
+pub mod PageNeeds
 pub mod PagesCompose
 pub mod PagesSuffice
 pub mod PagesTell
@@ -39,7 +40,6 @@ pub mod Replayed
 pub mod Roll
 pub mod RunEndings
 pub mod RunEnds
-pub mod ShareNeeds
 pub mod Shares
 pub mod ShiftTickets
 pub mod StartFrom

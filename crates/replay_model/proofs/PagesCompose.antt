@@ -50,7 +50,7 @@ start_roll start floors tasks pid = go (task_of tasks pid)
     go (Some t) = refl
 
 -- all processors' replays make a run
-compose_shares : (knobs : Settings) (start : ℕ) (floors : List ℤ) (tasks : List Task) (events : List Claimed)
+pub compose_shares : (knobs : Settings) (start : ℕ) (floors : List ℤ) (tasks : List Task) (events : List Claimed)
     (cpus : ℕ) (pages : ℕ → PageView) → IsRecord start floors tasks events cpus
     → ((cpu : ℕ) → ShareOf knobs start floors tasks events cpus (pages cpu) cpu)
     → AllByRecursion (λ (event : Claimed). TicketsAgree pages event.entry.line event.entry.act) events

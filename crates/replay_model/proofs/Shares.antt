@@ -205,6 +205,16 @@ pub record ShareOf (knobs : Settings) (start : ℕ) (floors : List ℤ) (tasks :
   pub left : cpu < cpus → page.left ≡ share.end.page.left
   pub came : cpu < cpus → page.came ≡ share.end.page.came
 
+-- of a processor past the record's, whatever its page
+pub past_share_of : (knobs : Settings) (start : ℕ) (floors : List ℤ) (tasks : List Task) (events : List Claimed)
+    (cpus : ℕ) (page : PageView) → IsRecord start floors tasks events cpus → (cpu : ℕ) → cpus ≤ cpu
+    → ShareOf knobs start floors tasks events cpus page cpu
+past_share_of knobs start floors tasks events cpus page r cpu k = record {
+  share = past_done knobs start floors tasks events cpus cpu r k;
+  left = λ h. absurd (omega arith);
+  came = λ h. absurd (omega arith);
+}
+
 pub share_of : (knobs : Settings) (start : ℕ) (floors : List ℤ) (tasks : List Task) (events : List Claimed) (cpus : ℕ)
     (page : PageView) → IsRecord start floors tasks events cpus
     → (cpu : ℕ) → (cpu < cpus → IsDone knobs start floors tasks events cpu page)
@@ -212,12 +222,7 @@ pub share_of : (knobs : Settings) (start : ℕ) (floors : List ℤ) (tasks : Lis
 share_of knobs start floors tasks events cpus page r cpu d = elim (cases_lt cpu cpus) [
   | inl k ↦ (let s = share_done knobs start floors tasks events cpu page
       (d k) in record { share = s.0; left = λ h. s.1; came = λ h. s.2 })
-  | inr k ↦ record {
-    share = past_done knobs start floors tasks events cpus cpu r k;
-    left = λ h. absurd
-        (omega arith);
-    came = λ h. absurd (omega arith);
-  }
+  | inr k ↦ past_share_of knobs start floors tasks events cpus page r cpu k
 ]
 
 -- a replay that passes its share, as every processor's is wanted
@@ -240,11 +245,7 @@ share_from knobs start floors tasks events cpus last r cpu d = elim (cases_lt cp
         left = λ h. refl;
         came = λ h. refl;
       })
-  | inr k ↦ record {
-    share = past_done knobs start floors tasks events cpus cpu r k;
-    left = λ h. absurd (omega arith);
-    came = λ h. absurd (omega arith);
-  }
+  | inr k ↦ past_share_of knobs start floors tasks events cpus last.page r cpu k
 ]
   where
     for_nobody : (slack : ℕ) (since : Option ℕ) (time pid : ℕ) → IsIdleTooLong slack since time pid

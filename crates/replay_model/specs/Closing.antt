@@ -105,14 +105,15 @@ pub record SayNothing (pages : ℕ → PageView) (cpus : ℕ) (tasks : List Task
   pub tickets : AllByRecursion (λ event. TicketsAgree pages event.entry.line event.entry.act) events
   pub births : BirthsAreNew (named tasks) events
 
--- where the pages of all processors suffice and say nothing against any event, they are whole
-abbrev pub SilentPagesAreWhole : Type 0
-SilentPagesAreWhole = (knobs : Settings) (start : ℕ) (floors : List ℤ) (tasks : List Task) (events : List Claimed)
+-- where the pages of all processors suffice and say nothing against any event, none has a fault, and each is by all steps
+abbrev pub SilentPagesAreDone : Type 0
+SilentPagesAreDone = (knobs : Settings) (start : ℕ) (floors : List ℤ) (tasks : List Task) (events : List Claimed)
     (cpus : ℕ) (pages : ℕ → PageView)
     → IsRecord start floors tasks events cpus
-    → ((cpu : ℕ) → cpu < cpus → SufficesAmong knobs start floors tasks events cpus pages cpu)
+    → (suffice : (cpu : ℕ) → cpu < cpus → SufficesAmong knobs start floors tasks events cpus pages cpu)
     → SayNothing pages cpus tasks events
-    → (cpu : ℕ) → cpu < cpus → IsWholePage knobs start floors tasks events cpu (pages cpu)
+    → (cpu : ℕ) → (below : cpu < cpus)
+    → ((pages cpu).fault ≡ None) × (length (steps_at cpu events) ≤ (suffice cpu below).made)
 
 -- then the events are a run
 abbrev pub PagesTellRun : Type 0

@@ -8,8 +8,8 @@ use Rattle.cfs_model.specs.Claimed.{Claimed}
 use Rattle.cfs_model.specs.Least.{AtMost, larger, AreLeast}
 use Rattle.replay_model.specs.Part.{Part, Entity}
 use Rattle.replay_model.specs.Deeds.{part_after_prev}
-use Rattle.replay_model.specs.QueueTests.{IsIdleTooLong}
-use Rattle.replay_model.specs.Cut.{steps_at, last_time_of, cut}
+use Rattle.replay_model.specs.Cut.{StreamView, cut}
+use Rattle.replay_model.specs.Noted.{PageView}
 use Rattle.replay_model.specs.Page.{ReplayStateView, IsStartOf, PassesStep}
 use Rattle.replay_model.specs.Composition.{IsRecord, TicketsAgree, BirthsAreNew, named}
 use Rattle.cfs_model.specs.declared.claim.Claim.{Claim}
@@ -80,16 +80,16 @@ AllPassNeeding knobs cpu before (step ∷ steps) after needs =
     (between : ReplayStateView) × (here later : Settings) × PassesNeeding knobs cpu before step between here
     × AllPassNeeding knobs cpu between steps after later × (needs ≡ larger here later)
 
--- a processor's replay of its steps among some events passes and ends like this, and needs has of each setting the
--- greatest that one of the steps needs, or that the processor needs which still idles at the last of the events
-pub record PassesShareNeeding (knobs : Settings) (start : ℕ) (floors : List ℤ) (tasks : List Task) (events : List Claimed)
-    (cpu : ℕ) (last : ReplayStateView) (needs : Settings) : Type 0 where
-  pub first : ReplayStateView
-  pub is_start : IsStartOf (cut start floors tasks events cpu) first
+-- this is the page of a stream's whole replay, which passes by all steps, and needs has of each setting the greatest that
+-- one of the steps needs, or that the processor needs which still idles at the record's last time
+pub record IsPageNeeding (stream : StreamView) (knobs : Settings) (page : PageView) (needs : Settings) : Type 0 where
+  pub start : ReplayStateView
+  pub is_start : IsStartOf stream start
+  pub end : ReplayStateView
   pub of_steps : Settings
-  pub all_pass : AllPassNeeding knobs cpu first (steps_at cpu events) last of_steps
-  pub in_time : ¬ IsIdleTooLong knobs.slack last.since (last_time_of start events) 0
-  pub needs_are : needs ≡ larger of_steps (only_slack (idle_need last.since (last_time_of start events)))
+  pub all_pass : AllPassNeeding knobs stream.cpu start stream.steps end of_steps
+  pub page_is : page ≡ end.page
+  pub needs_are : needs ≡ larger of_steps (only_slack (idle_need end.since stream.last_time))
 
 -- of each setting the greatest among those of the processors below a number
 abbrev pub largest : (ℕ → Settings) → ℕ → Settings
@@ -103,13 +103,13 @@ PassesFromNeeds = (knobs other : Settings) (cpu : ℕ) (before : ReplayStateView
     → PassesNeeding knobs cpu before step after needs
     → PassesStep other cpu before step after ↔ AtMost needs other
 
--- where each processor's replay of its steps among the events of a record passes with its needs, the tickets of each
--- migration agree and each birth is new, the largest needs are the least settings at which the events are a run
-abbrev pub SharesTellLeast : Type 0
-SharesTellLeast = (knobs : Settings) (start : ℕ) (floors : List ℤ) (tasks : List Task) (events : List Claimed)
-    (cpus : ℕ) (last : ℕ → ReplayStateView) (needs : ℕ → Settings)
+-- where the replays of all processors of a record pass, with these pages and needs, the tickets of each migration agree and
+-- each birth is new, the largest needs are the least settings at which the events are a run
+abbrev pub PagesTellLeast : Type 0
+PagesTellLeast = (knobs : Settings) (start : ℕ) (floors : List ℤ) (tasks : List Task) (events : List Claimed)
+    (cpus : ℕ) (pages : ℕ → PageView) (needs : ℕ → Settings)
     → IsRecord start floors tasks events cpus
-    → ((cpu : ℕ) → cpu < cpus → PassesShareNeeding knobs start floors tasks events cpu (last cpu) (needs cpu))
-    → AllByRecursion (λ event. TicketsAgree (λ cpu. (last cpu).page) event.entry.line event.entry.act) events
+    → ((cpu : ℕ) → cpu < cpus → IsPageNeeding (cut start floors tasks events cpu) knobs (pages cpu) (needs cpu))
+    → AllByRecursion (λ event. TicketsAgree pages event.entry.line event.entry.act) events
     → BirthsAreNew (named tasks) events
     → AreLeast start (start_machine start floors tasks) events (largest needs cpus)

@@ -1,12 +1,12 @@
 //! The laws of a processor's part, of the replay of one processor, and of what the pages of all processors tell. Each is
 //! the contract of a function that does nothing.
-ghost use Rattle.replay_model.specs.Closing.{FaultIsFirstBad, OneFirstFault, PagesTellFault, PagesTellRun, RunHasNoFault, SilentPagesAreWhole};
+ghost use Rattle.replay_model.specs.Closing.{FaultIsFirstBad, OneFirstFault, PagesTellFault, PagesTellRun, RunHasNoFault, SilentPagesAreDone};
 ghost use Rattle.replay_model.specs.Composition.{PagesCompose, SharesCompose};
 ghost use Rattle.replay_model.specs.Endings.{BirthEndsRun, IdlingEndsRun, TicketsEndRun};
 ghost use Rattle.replay_model.specs.Faults.{FaultEndsRun};
 ghost use Rattle.replay_model.specs.Following.{ReplayFollows, SlackFollows};
 ghost use Rattle.replay_model.specs.Migration.{MachineMigrates, PartsMigrate};
-ghost use Rattle.replay_model.specs.Needs.{PassesFromNeeds, SharesTellLeast};
+ghost use Rattle.replay_model.specs.Needs.{PagesTellLeast, PassesFromNeeds};
 ghost use Rattle.replay_model.specs.OnePage.{OnePage};
 ghost use Rattle.replay_model.specs.PartStep.{MachineSteps, PartSteps};
 ghost use Rattle.replay_model.specs.Totals.{PagesAddUp, PagesTellSummary, TalliesBounded, TalliesOfTasks, TalliesOnce};
@@ -57,11 +57,11 @@ pub fn composition()
     ensures pages { PagesCompose }
 {}
 
-/// Of a record's pages, each of which suffices among them: where they say nothing against any event, they are whole, and the
-/// events are a run; and the first thing that they say against one is what is wrong with it, and it is the first event up
-/// to which the events are no run.
+/// Of a record's pages, each of which suffices among them: where they say nothing against any event, they are by all steps
+/// and without a fault, and the events are a run; and the first thing that they say against one is what is wrong with it,
+/// and it is the first event up to which the events are no run.
 pub fn closing()
-    ensures whole { SilentPagesAreWhole }
+    ensures done { SilentPagesAreDone }
     ensures run { PagesTellRun }
     ensures fault { PagesTellFault }
 {}
@@ -89,5 +89,5 @@ pub fn tallying()
 /// largest needs over the processors are the least settings at which the events are a run.
 pub fn needs()
     ensures step { PassesFromNeeds }
-    ensures shares { SharesTellLeast }
+    ensures pages { PagesTellLeast }
 {}

@@ -1,5 +1,6 @@
 use Rattle.cfs_model.proofs.MoreGenerous.{run_more}
 use Rattle.cfs_model.proofs.LeastSettings.{run_lesser, same_states, one_least, run_from_least, least_of_prefix}
+use Rattle.cfs_model.proofs.BadAtAll.{bad_at_all}
 use Rattle.cfs_model.proofs.laws.least_settings.Goals as goal
 
 pub returns-clause-more : goal.returns-clause-more
@@ -19,3 +20,6 @@ returns-clause-exact c = run_from_least
 
 pub returns-clause-prefix : goal.returns-clause-prefix
 returns-clause-prefix c = least_of_prefix
+
+pub returns-clause-bad_at_all : goal.returns-clause-bad_at_all
+returns-clause-bad_at_all c = bad_at_all

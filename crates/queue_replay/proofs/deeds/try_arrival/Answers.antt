@@ -47,4 +47,4 @@ returns-clause-tried c knobs =
     ∙ ap (λ (s : Entity). with_entity part pid (Some s)) task.ensures.entity
     ∙ ap (λ p. with_entity part pid (Some (record { place = p; nice = nice; idle = idle; runtime = claim.v }))) c.place_of.ensures
     ∙ ap (after_deed part deed) (sym c.in-Some-claim.is))
-    (c.came_ticket-ticket.ensures ∙ ap (came_ticket part step.line pid nice idle) (sym c.in-Some-claim.is))
+    (c.came_ticket-ticket.ensures ∙ ap (came_ticket part step.line pid nice idle) (sym c.in-Some-claim.is)) refl

@@ -1,7 +1,10 @@
-use Rattle.std.proofs.Common.{◌∙◌, sym, ap, refl, Some, None}
+use Rattle.std.proofs.Common.{◌≡◌, ◌∙◌, sym, ap, subst, refl, rules, to_z, of_z, w64, Option, Some}
+use Rattle.cfs_model.specs.declared.claim.Claim.{Claim}
 use Rattle.replay_model.specs.Deeds.{after_deed, with_entity}
+use Rattle.replay_model.specs.Needs.{IsExcess}
 use Rattle.replay_model.specs.Part.{Entity}
 use Rattle.replay_model.specs.declared.step.Deed.TheVariants.{Born}
+use Rattle.queue_replay.specs.Needing.{IsNeed}
 use Rattle.queue_replay.specs.Queue.{runqueue_view}
 use Rattle.queue_replay.specs.Rows.{birth_tests}
 use Rattle.queue_replay.specs.Tasks.{entity_of}
@@ -34,10 +37,15 @@ returns-clause-tried c =
     let nice = c.args.nice in
     let idle = c.args.idle in
     let deed = Born pid nice idle in
+    let claim = c.in-Some-claim.claim in
+    let at : to_z w64 (of_z w64 claim.v) ≡ claim.v = search rules in
+    let floor : to_z w64 (of_z w64 part.floor) ≡ part.floor = search rules in
     let task = c.claimed_task in
     passes c.args.knobs c.args.cpu part step deed step.claim (birth_tests c.args.knobs.debit part deed step.claim)
-    (birth_row c.args.knobs c.args.cpu part pid nice idle step.claim) c.requires refl _ None (c.in_default.ensures nice idle)
+    (birth_row c.args.knobs c.args.cpu part pid nice idle step.claim) c.requires refl _ _ (c.in_default.ensures nice idle)
     (c.in_ok-add-in-Some-claim.ensures.part ∙ ap (λ p. with_entity part p (Some (entity_of task.result))) task.ensures.pid
     ∙ ap (λ (s : Entity). with_entity part pid (Some s)) task.ensures.entity
     ∙ ap (after_deed part deed) (sym c.in-Some-claim.is))
     refl
+    (subst (λ (x : Option Claim). IsNeed part deed x c.excess-need.result) (sym c.in-Some-claim.is)
+    (subst (λ v. IsExcess v part.floor c.excess-need.result) at (subst (λ v. IsExcess (to_z w64 (of_z w64 claim.v)) v c.excess-need.result) floor c.excess-need.ensures)))

@@ -17,4 +17,4 @@ returns-clause-tried c knobs =
     let deed = Leave c.args.pid c.args.nice c.args.dest in
     passes knobs c.args.cpu part step deed step.claim (leave_tests c.args.cpu part deed)
     (leave_row knobs c.args.cpu part c.args.pid c.args.nice c.args.dest step.claim) c.requires refl _ _
-    (c.in_default.ensures part c.task_at-task.ensures) c.remove.ensures c.left_ticket-ticket.ensures
+    (c.in_default.ensures part c.task_at-task.ensures) c.remove.ensures c.left_ticket-ticket.ensures refl

@@ -1,6 +1,9 @@
-use Rattle.std.proofs.Common.{◌∙◌, sym, ap, refl, None}
+use Rattle.std.proofs.Common.{◌≡◌, ◌∙◌, sym, ap, subst, refl, rules, to_z, of_z, w64, Option}
+use Rattle.cfs_model.specs.declared.claim.Claim.{Claim}
 use Rattle.replay_model.specs.Deeds.{after_deed}
+use Rattle.replay_model.specs.Needs.{IsExcess}
 use Rattle.replay_model.specs.declared.step.Deed.TheVariants.{Wake}
+use Rattle.queue_replay.specs.Needing.{IsNeed}
 use Rattle.queue_replay.specs.Queue.{runqueue_view}
 use Rattle.queue_replay.specs.Rows.{wake_tests}
 use Rattle.queue_replay.proofs.Passed.{unwoken}
@@ -21,14 +24,20 @@ returns-in_default-claim-clause-tried c cpu =
     let step = c.args.step.now in
     let deed = Wake c.args.pid c.args.nice in
     passes c.args.knobs cpu part step deed step.claim (wake_tests c.args.knobs.credit part deed step.claim)
-    (wake_row c.args.knobs cpu part c.args.pid c.args.nice step.claim) c.requires refl part None c.in_default.ensures
+    (wake_row c.args.knobs cpu part c.args.pid c.args.nice step.claim) c.requires refl part _ c.in_default.ensures
     (sym (unwoken part c.args.pid) ∙ ap (after_deed part deed) (sym c.in_default-claim.is)) refl
+    (subst (λ (x : Option Claim). IsNeed part deed x 0) (sym c.in_default-claim.is) refl)
 
 pub returns-clause-tried : goal.returns-clause-tried
 returns-clause-tried c cpu =
     let part = runqueue_view c.args.queue.now in
     let step = c.args.step.now in
     let deed = Wake c.args.pid c.args.nice in
+    let claim = c.in-Some-claim.claim in
+    let at : to_z w64 (of_z w64 claim.v) ≡ claim.v = search rules in
+    let floor : to_z w64 (of_z w64 part.floor) ≡ part.floor = search rules in
     passes c.args.knobs cpu part step deed step.claim (wake_tests c.args.knobs.credit part deed step.claim)
-    (wake_row c.args.knobs cpu part c.args.pid c.args.nice step.claim) c.requires refl _ None c.in_default.ensures
+    (wake_row c.args.knobs cpu part c.args.pid c.args.nice step.claim) c.requires refl _ _ c.in_default.ensures
     (c.in_ok-wake.ensures.part ∙ ap (after_deed part deed) (sym c.in-Some-claim.is)) refl
+    (subst (λ (x : Option Claim). IsNeed part deed x c.excess-need.result) (sym c.in-Some-claim.is)
+    (subst (λ v. IsExcess part.floor v c.excess-need.result) at (subst (λ v. IsExcess v (to_z w64 (of_z w64 claim.v)) c.excess-need.result) floor c.excess-need.ensures)))

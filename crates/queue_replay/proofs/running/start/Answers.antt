@@ -11,13 +11,13 @@ returns-clause-at c =
     let s = stream_view c.args.stream.now in
     let first = c.in_ok-state.state in
     let e = c.in_ok-state.ensures in
-    let r = reached_start s c.args.knobs first e.made e.start e.going in
+    let r = reached_start s c.args.knobs first e.made e.start e.going e.needs in
     let n = ap length c.steps.ensures in
     elim c.if-is_empty.branch [
       | then-is_empty w ↦
           let z = eqb-true (length c.steps.result.now) 0 (sym c.is_empty.ensures ∙ w.if-is_empty.true) in
           subst (IsAt s c.args.knobs) (sym w.state-is)
-          (at_end s c.args.knobs first w.end_test.new.state r (e.made ∙ sym z ∙ n) w.end_test.ensures.made w.end_test.ensures.page)
+          (at_end s c.args.knobs first w.end_test.new.state r (e.made ∙ sym z ∙ n) w.end_test.ensures.made w.end_test.ensures.page w.end_test.ensures.needs)
       | else-is_empty w ↦
           let z = eqb-false (length c.steps.result.now) 0 (sym c.is_empty.ensures ∙ w.if-is_empty.false) in
           subst (IsAt s c.args.knobs) (sym w.state-is) (at_middle s c.args.knobs first r (let m = e.made in omega (arith, z, n)))

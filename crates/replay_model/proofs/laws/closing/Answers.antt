@@ -1,4 +1,4 @@
-use Rattle.replay_model.proofs.FrontRun.{pages_tell_run, silent_whole}
+use Rattle.replay_model.proofs.FrontRun.{pages_tell_run, silent_done}
 use Rattle.replay_model.proofs.PagesSuffice.{pages_tell_fault}
 use Rattle.replay_model.proofs.laws.closing.Goals as goal
 
@@ -8,5 +8,5 @@ returns-clause-run c = pages_tell_run
 pub returns-clause-fault : goal.returns-clause-fault
 returns-clause-fault c = pages_tell_fault
 
-pub returns-clause-whole : goal.returns-clause-whole
-returns-clause-whole c = silent_whole
+pub returns-clause-done : goal.returns-clause-done
+returns-clause-done c = silent_done

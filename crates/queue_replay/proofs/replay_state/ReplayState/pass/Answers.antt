@@ -8,12 +8,14 @@ use Rattle.replay_model.specs.declared.page.Tally.{Tally}
 use Rattle.queue_replay.specs.Counting.{stretched}
 use Rattle.queue_replay.specs.Standing.{by_runtime, IsQueue, waiting_task}
 use Rattle.queue_replay.specs.Stretches.{IsWithin}
+use Rattle.queue_replay.specs.Needing.{step_needs}
 use Rattle.queue_replay.specs.Rows.{IsTried}
 use Rattle.queue_replay.specs.Queue.{runqueue_view, IsTheRunner}
 use Rattle.queue_replay.specs.declared.outcome.Outcome.{Outcome}
 use Rattle.queue_replay.proofs.Counts.{charged_same}
 use Rattle.queue_replay.proofs.Growing.{IsRan, noted_ran, ran_picks, tallied_within}
 use Rattle.queue_replay.proofs.Moved.{restored_part}
+use Rattle.queue_replay.proofs.Needed.{needs_of_step}
 use Rattle.queue_replay.proofs.Noting.{page_is}
 use Rattle.queue_replay.proofs.Rows.{is_later}
 use Rattle.queue_replay.proofs.Standings.{same_queue, the_runner}
@@ -54,6 +56,7 @@ returns-in-Err-try_step-clause-memory c =
       part = c.restore.ensures ∙ restored_part q.runner before.runner q.tasks made.tasks q.floor before.floor q.mark before.mark e.runner e.floor e.mark
           (λ p. c.in-Err-try_step.ensures.same.tasks p ∙ ap (λ m. get nat_cmp m p) c.lift.ensures.same.0);
       since = refl;
+      needs = refl;
       noted = refl;
     }
 
@@ -88,6 +91,8 @@ returns-clause-passes c _ =
     let l = c.in_default.ensures in
     let T : Outcome → Type 0 = λ o. IsTried c.args.knobs c.args.cpu (reniced step.nice lifted) step (runqueue_view c.try_step.new.queue) o in
     let tried = subst T c.in-Ok-Made.field-0-is c.in-Ok-Made.ensures.tried in
+    let deed = c.in-Ok-Made.deed in
+    let needs = step_needs step.deed deed.need c.idle_time-idle.result in
     let mid = c.note_stretch.new.self in
     let s = c.note_stretch.ensures.same in
     let ran = (noted_ran (runqueue_view q) step.time c.saturating_sub-time.result old.made c.in_default.ensures.in_range
@@ -97,34 +102,41 @@ returns-clause-passes c _ =
     let P : List Tally → Type 0 = λ x. All (IsRan old.made) x in
     let W : List Tally → Type 0 = λ x. All (IsWithin (old.made + 1)) x in
     record {
-      passes = record {
-        in_time = c.requires.in_time;
-        found = reniced step.nice lifted;
-        passes = record {
-          in_range = l.in_range;
-          is_found = record { lifted = lifted; is_lifted = l.lifted; is_reniced = refl };
-          none = tried.0;
-        };
-        part = tried.1;
-        since = c.since_after-self.ensures;
-        page = page_is old.draft mid c.note.new.self (runqueue_view q) (reniced step.nice lifted) step c.in-Ok-Made.ticket c.requires.going.fault
-            (record { line = s.0; fault = s.1; left = s.2; came = s.3; births = s.4; deaths = s.5 })
-            (c.note_stretch.ensures.tallies
-            ∙ ap (λ n. stretched c.unlifted-before.result.runner n old.draft.tallies.list.items)
-            (c.saturating_sub-time.ensures ∙ ap (λ n. step.time - n) c.unlifted-before.ensures.mark)
-            ∙ sym (charged_same (runqueue_view q) step.time c.unlifted-before.result.runner
-            (subst (IsTheRunner (runqueue_view q)) (sym c.unlifted-before.ensures.runner) (the_runner q.runner q.tasks q.waiting q.floor q.mark q.kept))
-            old.draft.tallies.list.items))
-            tried.2
-            (let n = c.note.ensures in record {
-              line = n.line;
-              fault = n.fault;
-              left = n.left;
-              came = n.came;
-              births = n.births;
-              deaths = n.deaths;
-              tallies = n.tallies;
-            });
-      };
+      passes = (
+        needs,
+        record {
+          passes = record {
+            in_time = c.requires.in_time;
+            found = reniced step.nice lifted;
+            passes = record {
+              in_range = l.in_range;
+              is_found = record { lifted = lifted; is_lifted = l.lifted; is_reniced = refl };
+              none = tried.0;
+            };
+            part = tried.1;
+            since = c.since_after-self.ensures;
+            page = page_is old.draft mid c.note.new.self (runqueue_view q) (reniced step.nice lifted) step c.in-Ok-Made.deed.ticket c.requires.going.fault
+                (record { line = s.0; fault = s.1; left = s.2; came = s.3; births = s.4; deaths = s.5 })
+                (c.note_stretch.ensures.tallies
+                ∙ ap (λ n. stretched c.unlifted-before.result.runner n old.draft.tallies.list.items)
+                (c.saturating_sub-time.ensures ∙ ap (λ n. step.time - n) c.unlifted-before.ensures.mark)
+                ∙ sym (charged_same (runqueue_view q) step.time c.unlifted-before.result.runner
+                (subst (IsTheRunner (runqueue_view q)) (sym c.unlifted-before.ensures.runner) (the_runner q.runner q.tasks q.waiting q.floor q.mark q.kept))
+                old.draft.tallies.list.items))
+                tried.2
+                (let n = c.note.ensures in record {
+                  line = n.line;
+                  fault = n.fault;
+                  left = n.left;
+                  came = n.came;
+                  births = n.births;
+                  deaths = n.deaths;
+                  tallies = n.tallies;
+                });
+          };
+          needs_are = needs_of_step old.since (reniced step.nice lifted) step deed.need c.idle_time-idle.result tried.3 c.idle_time-idle.ensures;
+        },
+        c.raise.ensures,
+      );
       within = subst W (sym c.note.ensures.tallies) (tallied_within old.made step.deed mid.tallies.list.items (subst P (sym c.note_stretch.ensures.tallies) ran));
     }

@@ -12,18 +12,20 @@ use Rattle.cfs_model.specs.Run.{AreSteps, times_of, IsRun}
 use Rattle.cfs_model.specs.Least.{AtMost, larger}
 use Rattle.cfs_model.proofs.LeastSettings.{below_larger, other_below_larger, at_most_trans, larger_at_most}
 use Rattle.replay_model.specs.Part.{part_of}
-use Rattle.replay_model.specs.Cut.{touches, step_at, steps_at, last_time_of}
+use Rattle.replay_model.specs.Cut.{touches, step_at, steps_at, last_time_of, cut}
+use Rattle.replay_model.specs.Noted.{PageView}
 use Rattle.replay_model.specs.PartStep.{PartStep}
 use Rattle.replay_model.specs.Page.{ReplayStateView, IsReplayStep, IsReplay}
 use Rattle.replay_model.specs.Following.{TimesRise}
 use Rattle.replay_model.specs.Composition.{IsRecord, PassesShare}
-use Rattle.replay_model.specs.Needs.{idle_need, only_slack, AllPassNeeding, PassesShareNeeding, largest, SharesTellLeast}
+use Rattle.replay_model.specs.Needs.{idle_need, only_slack, AllPassNeeding, IsPageNeeding, largest, PagesTellLeast}
 use Rattle.replay_model.proofs.OneLift.{same_found}
 use Rattle.replay_model.proofs.Touching.{steps_at_cpu}
 use Rattle.replay_model.proofs.Follow.{KeepsUp, state_idles, touched_steps, untouched_steps, advance}
 use Rattle.replay_model.proofs.Followed.{Still, idles_one, still_more, keeps_more}
 use Rattle.replay_model.proofs.FollowLaws.{starts_at, follows_start, still_start}
-use Rattle.replay_model.proofs.PagesCompose.{shares_compose}
+use Rattle.replay_model.proofs.PagesCompose.{compose_shares}
+use Rattle.replay_model.proofs.Shares.{ShareOf, past_share_of, share_from}
 use Rattle.replay_model.proofs.StepNeeds.{idle_within, idle_needs, passes_within, needs_of_tests}
 use Rattle.cfs_model.specs.declared.task.Task.{Task}
 use Rattle.replay_model.specs.declared.step.Step.{Step}
@@ -53,24 +55,38 @@ replay_within knobs other cpu before (step ∷ steps) after needs f p h =
       rest.1,
     )
 
--- a share passes under any settings that are at least what it needs
+-- a share passes under any settings that are at least what its page needs
 share_within : (knobs other : Settings) (start : ℕ) (floors : List ℤ) (tasks : List Task) (events : List Claimed)
-    (cpu : ℕ) (last : ReplayStateView) (needs : Settings)
-    → PassesShareNeeding knobs start floors tasks events cpu last needs → AtMost needs other
-    → PassesShare other start floors tasks events cpu last
-share_within knobs other start floors tasks events cpu last needs p h =
-    let still = idle_need last.since (last_time_of start events) in
+    (cpu : ℕ) (page : PageView) (needs : Settings)
+    → (p : IsPageNeeding (cut start floors tasks events cpu) knobs page needs) → AtMost needs other
+    → PassesShare other start floors tasks events cpu p.end
+share_within knobs other start floors tasks events cpu page needs p h =
+    let still = idle_need p.end.since (last_time_of start events) in
     let k : AtMost (larger p.of_steps (only_slack still)) other = subst (λ x. AtMost x other) p.needs_are h in
-    let r = replay_within knobs other cpu p.first (steps_at cpu events) last p.of_steps
+    let r = replay_within knobs other cpu p.start (steps_at cpu events) p.end p.of_steps
     (ap (λ x. x.fault) p.is_start.page) p.all_pass
     (at_most_trans p.of_steps (larger p.of_steps (only_slack still)) other (below_larger p.of_steps (only_slack still)) k) in
     record {
-      share = record { first = p.first; is_start = p.is_start; replay = r.0 };
+      share = record { first = p.start; is_start = p.is_start; replay = r.0 };
       no_fault = r.1;
-      in_time = idle_within other.slack last.since (last_time_of start events)
+      in_time = idle_within other.slack p.end.since (last_time_of start events)
           (at_most_trans (only_slack still) (larger p.of_steps (only_slack still)) other
           (other_below_larger p.of_steps (only_slack still)) k).slack 0;
     }
+
+-- the share has the page's tickets, as every processor's is wanted
+share_needing : (knobs other : Settings) (start : ℕ) (floors : List ℤ) (tasks : List Task) (events : List Claimed)
+    (cpus : ℕ) (page : PageView) (needs : Settings) → IsRecord start floors tasks events cpus → (cpu : ℕ)
+    → (cpu < cpus → IsPageNeeding (cut start floors tasks events cpu) knobs page needs)
+    → (cpu < cpus → AtMost needs other)
+    → ShareOf other start floors tasks events cpus page cpu
+share_needing knobs other start floors tasks events cpus page needs r cpu passes within = elim (cases_lt cpu cpus) [
+  | inl k ↦ (let p = passes k in
+      subst (λ shown. ShareOf other start floors tasks events cpus shown cpu) (sym p.page_is)
+      (share_from other start floors tasks events cpus p.end r cpu
+      (λ h. share_within knobs other start floors tasks events cpu page needs p (within h))))
+  | inr k ↦ past_share_of other start floors tasks events cpus page r cpu k
+]
 
 -- a replay that keeps up with a run under other settings, one event later, and what the event's step needs
 record OneLater (knobs other : Settings) (cpu : ℕ) (event : Claimed) (after : Machine) (s : ReplayStateView)
@@ -172,23 +188,23 @@ needs_along knobs other cpu m time s (event ∷ events) (after ∷ states) last 
     l.rest in
     (l.within rest.0, rest.1)
 
--- the settings of a run are at least what a share needs
-share_needs : (knobs other : Settings) (start : ℕ) (floors : List ℤ) (tasks : List Task) (events : List Claimed)
-    (cpus cpu : ℕ) (last : ReplayStateView) (needs : Settings)
+-- the settings of a run are at least what a page needs
+page_needs : (knobs other : Settings) (start : ℕ) (floors : List ℤ) (tasks : List Task) (events : List Claimed)
+    (cpus cpu : ℕ) (page : PageView) (needs : Settings)
     → IsRecord start floors tasks events cpus
-    → PassesShareNeeding knobs start floors tasks events cpu last needs
+    → IsPageNeeding (cut start floors tasks events cpu) knobs page needs
     → IsRun other start (start_machine start floors tasks) events → AtMost needs other
-share_needs knobs other start floors tasks events cpus cpu last needs r p run =
+page_needs knobs other start floors tasks events cpus cpu page needs r p run =
     let m = start_machine start floors tasks in
-    let a = needs_along knobs other cpu m start p.first events run.states last p.of_steps
-    (follows_start start floors tasks events cpu p.first r.is_start p.is_start) run.steps r.times_rise
-    (still_start other.slack start m cpu p.first events run.states p.is_start.since run.slack) run.slack
-    (λ x e. (let k : x ≡ start = starts_at start p.first.part p.first.since p.is_start.since x e in omega arith))
+    let a = needs_along knobs other cpu m start p.start events run.states p.end p.of_steps
+    (follows_start start floors tasks events cpu p.start r.is_start p.is_start) run.steps r.times_rise
+    (still_start other.slack start m cpu p.start events run.states p.is_start.since run.slack) run.slack
+    (λ x e. (let k : x ≡ start = starts_at start p.start.part p.start.since p.is_start.since x e in omega arith))
     p.all_pass in
-    let still = idle_need last.since (last_time_of start events) in
+    let still = idle_need p.end.since (last_time_of start events) in
     subst (λ x. AtMost x other) (sym p.needs_are)
     (larger_at_most p.of_steps (only_slack still) other a.0
-    (slack_within still other (idle_needs other.slack last.since (last_time_of start events) a.1)))
+    (slack_within still other (idle_needs other.slack p.end.since (last_time_of start events) a.1)))
 
 -- the largest needs are at least each, and at most what each is at most
 above_each : (needs : ℕ → Settings) (cpus cpu : ℕ) → cpu < cpus → AtMost (needs cpu) (largest needs cpus)
@@ -210,11 +226,11 @@ largest_within needs (suc cpus) other h =
     larger_at_most (largest needs cpus) (needs cpus) other
     (largest_within needs cpus other (λ cpu k. h cpu (omega arith))) (h cpus (omega arith))
 
-pub shares_tell_least : SharesTellLeast
-shares_tell_least knobs start floors tasks events cpus last needs r passes agree new = record {
-  run = shares_compose (largest needs cpus) start floors tasks events cpus last r
-      (λ cpu k. share_within knobs (largest needs cpus) start floors tasks events cpu (last cpu) (needs cpu)
-      (passes cpu k) (above_each needs cpus cpu k)) agree new;
+pub pages_tell_least : PagesTellLeast
+pages_tell_least knobs start floors tasks events cpus pages needs r passes agree new = record {
+  run = compose_shares (largest needs cpus) start floors tasks events cpus pages r
+      (λ cpu. share_needing knobs (largest needs cpus) start floors tasks events cpus (pages cpu) (needs cpu) r cpu
+      (passes cpu) (above_each needs cpus cpu)) agree new;
   least = λ other run. largest_within needs cpus other
-      (λ cpu k. share_needs knobs other start floors tasks events cpus cpu (last cpu) (needs cpu) r (passes cpu k) run);
+      (λ cpu k. page_needs knobs other start floors tasks events cpus cpu (pages cpu) (needs cpu) r (passes cpu k) run);
 }

@@ -1,0 +1,44 @@
+-- What a replay says of the least settings (this project's profile).
+use Rattle.std.specs.Prelude.{◌≡◌, ℕ, ◌≤◌, Option, None, length}
+use Rattle.cfs_model.specs.Least.{larger}
+use Rattle.cfs_model.specs.Settings.{Settings}
+use Rattle.cfs_model.specs.declared.claim.Claim.{Claim}
+use Rattle.replay_model.specs.Cut.{StreamView}
+use Rattle.replay_model.specs.Needs.{IsBirthNeed, IsPageNeeding, IsPickNeed, IsWakeNeed, PassesNeeding, only_slack}
+use Rattle.replay_model.specs.Noted.{PageView}
+use Rattle.replay_model.specs.Page.{ReplayStateView}
+use Rattle.replay_model.specs.Part.{Part}
+use Rattle.replay_model.specs.declared.step.Deed.{Deed}
+use Rattle.replay_model.specs.declared.step.Deed.TheVariants.{Switch, Wake, Born, Leave, Arrive}
+use Rattle.replay_model.specs.declared.step.Step.{Step}
+use Rattle.queue_replay.specs.declared.needs.Needs.{Needs}
+
+-- the needs as the settings that meet them
+abbrev pub needs_view : Needs → Settings
+needs_view n = record { granularity = n.granularity; credit = n.credit; debit = n.debit; slack = n.slack }
+
+-- what a deed needs of the one setting that it asks for; a task that leaves or comes asks for none
+abbrev pub IsNeed : Part → Deed → Option Claim → ℕ → Type 0
+IsNeed part (Switch prev prev_nice way next next_nice) claim need = IsPickNeed part (Switch prev prev_nice way next next_nice) need
+IsNeed part (Wake pid nice) claim need = IsWakeNeed part (Wake pid nice) claim need
+IsNeed part (Born pid nice idle) claim need = IsBirthNeed part (Born pid nice idle) claim need
+IsNeed part (Leave pid nice dest) claim need = need ≡ 0
+IsNeed part (Arrive pid nice orig idle) claim need = need ≡ 0
+
+-- what a step needs whose deed has this need, after the processor has idled beside a waiting task for so long
+abbrev pub step_needs : Deed → ℕ → ℕ → Settings
+step_needs (Switch prev prev_nice way next next_nice) need idle = record (only_slack idle) { granularity = need }
+step_needs (Wake pid nice) need idle = record (only_slack idle) { credit = need }
+step_needs (Born pid nice idles) need idle = record (only_slack idle) { debit = need }
+step_needs (Leave pid nice dest) need idle = only_slack idle
+step_needs (Arrive pid nice orig idles) need idle = only_slack idle
+
+-- the replay goes on by a step that passes, and its needs rise to what the step needs
+abbrev pub PassesRaising : Settings → ℕ → ReplayStateView → Settings → Step → ReplayStateView → Settings → Type 0
+PassesRaising knobs cpu before needed step after needs =
+    (here : Settings) × PassesNeeding knobs cpu before step after here × (needs ≡ larger needed here)
+
+-- where all steps were made and nothing failed, these are the needs of the stream's whole replay
+abbrev pub HasNeeds : StreamView → Settings → ℕ → PageView → Settings → Type 0
+HasNeeds stream knobs made page needs =
+    page.fault ≡ None → length stream.steps ≤ made → IsPageNeeding stream knobs page needs

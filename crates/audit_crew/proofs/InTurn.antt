@@ -1,16 +1,17 @@
 -- The whole pages of a record's processors, posted in turn: each finds its place empty, and none is made again.
 use Rattle.std.proofs.Common.{◌≡◌, ◌≢◌, ℕ, zero, suc, ◌+◌, ◌<◌, ◌≤◌, ◌⊎◌, inl, inr, List, [], ◌∷◌, length, set, replicate, Option, Some, None, Result, Ok, Err, sym, ap, ◌∙◌, subst, arith}
 use Rattle.std.specs.Prelude.{OnOk}
-use Rattle.std.proofs.lemmas.Bool.{cases_eq}
+use Rattle.std.proofs.lemmas.Bool.{cases_eq, cases_lt}
 use Rattle.std.proofs.lemmas.List.{get_or-set_same, get_or-set_other, length-replicate, length-set}
-use Rattle.std.proofs.lemmas.Option.{none-some}
+use Rattle.std.proofs.lemmas.Option.{none-some, same_Some}
 use Rattle.cfs_model.specs.Settings.{Settings}
 use Rattle.replay_model.specs.Cut.{StreamView}
 use Rattle.queue_replay.specs.Replay.{ReplayView}
 use Rattle.sched_record.specs.Record.{RecordView}
 use Rattle.ticket_book.specs.Book.{page_at, post_refusal, refusal_at, refusal_in}
+use Rattle.ticket_book.specs.Own.{AreOwn}
 use Rattle.ticket_book.specs.Remade.{AreRemade, Suffices}
-use Rattle.ticket_book.specs.Whole.{IsWholePageOf}
+use Rattle.ticket_book.specs.Whole.{IsOwnPageOf, IsWholePageOf}
 use Rattle.ticket_book.specs.declared.post_fault.PostFault.{PostFault}
 use Rattle.ticket_book.proofs.BookPlaces.{none_there}
 use Rattle.ticket_book.proofs.CoreKept.{none_remade}
@@ -91,6 +92,18 @@ one_more knobs r places after cpu page answer first within whole refused added =
         subst (λ (ps : List (Option ReplayView)). AreFirst knobs r ps (cpu + 1))
         (sym (added ∙ ap (λ (n : ℕ). set places n (Some page)) own)) posted
     go (Err back) refused added = absurd (none-some back.1 (sym (refused ∙ accepted)))
+
+-- so all pages are the record's own
+pub all_own : (knobs : Settings) (r : RecordView) (places : List (Option ReplayView)) → AreFirst knobs r places r.cpus
+    → AreOwn knobs r places
+all_own knobs r places all cpu page e = go (cases_lt cpu r.cpus)
+  where
+    go : (cpu < r.cpus) ⊎ (r.cpus ≤ cpu) → IsOwnPageOf knobs r cpu page
+    go (inl below) =
+        let at = all.whole cpu below in
+        subst (λ (p : ReplayView). IsOwnPageOf knobs r cpu p) (same_Some at.0 page (sym at.1 ∙ e))
+        (record { stream = at.2.stream; knobs_are = at.2.knobs_are })
+    go (inr above) = absurd (none-some page (sym (all.empty cpu above) ∙ e))
 
 -- of the pages of all processors none is made again
 pub nothing_remade : (knobs : Settings) (r : RecordView) (places : List (Option ReplayView)) (count : ℕ)

@@ -1,4 +1,5 @@
 mod InTurn
+mod Owned
 mod Pages
 mod Reached
 mod Remaking

@@ -1,3 +1,4 @@
 pub mod Filled
+pub mod Own
 pub mod Refusal
 pub mod Tags

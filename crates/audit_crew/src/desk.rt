@@ -1,5 +1,6 @@
 ghost use Rattle.std.specs.Prelude.{◌≡◌, None, if◌then◌else◌, length};
 ghost use Rattle.std.specs.Option.{option_to_list};
+ghost use Rattle.audit_crew.specs.Own.{IsOwn};
 ghost use Rattle.audit_crew.specs.Tags.{tag_of};
 
 use crate::Shelf;
@@ -60,6 +61,8 @@ impl<L: CrewLedger, R: Wait> Shelf for Desk<'_, L, R> {
     ghost told = { λ desk. desk.told };
 
     ghost refused = { λ desk. desk.refused };
+
+    ghost takes = { IsOwn L.knobs L.joined };
 
     fn post(&mut self, page: Page) -> Result<(), (Page, PostFault)> {
         let tag = page.tag();

@@ -47,6 +47,8 @@ pub(crate) fn begin_all<L: CrewLedger + Send + Sync, R: Threads + Wait + Sync, G
     requires one_each { length seats.old ≡ (record_view joined.now).cpus }
     requires free { All (λ seat. seat.posted ≡ false) seats.old }
     requires idle { All (λ seat. seat.underway ≡ None) seats.old }
+    requires joined { L.joined ≡ record_view joined.now }
+    requires knobs { L.knobs ≡ knobs }
 {
     let threads = seats.len();
     thread::for_each_mut(
@@ -54,7 +56,8 @@ pub(crate) fn begin_all<L: CrewLedger + Send + Sync, R: Threads + Wait + Sync, G
         seats,
         threads,
         &|cpu: usize, seat: &mut Seat<L>|
-            requires { (cpu < (record_view joined.now).cpus) × (seat.old.posted ≡ false) × (seat.old.underway ≡ None) }
+            requires { (cpu < (record_view joined.now).cpus) × (seat.old.posted ≡ false) × (seat.old.underway ≡ None)
+                × (L.joined ≡ record_view joined.now) × (L.knobs ≡ knobs) }
         { seat.begin(rt, alloc, shared, joined, cpu as u32, knobs, gate) },
     );
 }

@@ -19,5 +19,5 @@ pub fn audit_serial(alloc: Global, joined: &Record, knobs: Knobs) -> Result<Clos
         // The book takes it: each of the record's processors has a place there, and this one's is empty.
         let _told = book.post(page);
     }
-    book.close(joined, knobs)
+    book.close_own(joined, knobs)
 }

@@ -1,6 +1,10 @@
-ghost use Rattle.std.specs.Prelude.{◌≡◌, ℕ, ◌+◌, ◌<◌, [], length, IfErr, OnOk, OnErr};
+ghost use Rattle.std.specs.Prelude.{◌≡◌, ◌+◌, ◌<◌, length, IfErr, OnOk, OnErr};
+ghost use Rattle.cfs_model.specs.Settings.{Settings};
+ghost use Rattle.sched_record.specs.Record.{RecordView};
 ghost use Rattle.audit_crew.specs.Filled.{filled};
+ghost use Rattle.audit_crew.specs.Own.{IsOwn, no_knobs, no_record};
 ghost use Rattle.ticket_book.specs.BookView.{book_view};
+ghost use Rattle.ticket_book.specs.Own.{AreOwn};
 
 use crate::Gathered;
 use queue_replay::Page;
@@ -9,13 +13,17 @@ use std::sync::ledger;
 use std::sync::ledger::{Ledger, Share};
 use ticket_book::{Book, PostFault};
 
-/// Which ledger counts a crew's posts, and in a book of how many places.
+/// Which ledger counts a crew's posts, and of which record and by which settings the pages are.
 pub(crate) trait CrewLedger: Ledger {
-    ghost places: { ℕ };
+    ghost joined: { RecordView };
+
+    ghost knobs: { Settings };
 }
 
 impl CrewLedger for Brand {
-    ghost places = { 0 };
+    ghost joined = { no_record };
+
+    ghost knobs = { no_knobs };
 }
 
 /// What the auditors share under their one lock: the book, and the ledger of the posts that it accepted.
@@ -23,14 +31,16 @@ impl CrewLedger for Brand {
 pub(crate) struct SharedBook<L: CrewLedger> {
     book: Book,
     posts: ledger::Book<L>,
-    ghost places: { length (book_view book) ≡ L.places },
+    ghost places: { length (book_view book) ≡ L.joined.cpus },
+    ghost own: { AreOwn L.knobs L.joined (book_view book) },
     ghost counted: { filled (book_view book) ≡ posts.total },
 }
 
 impl<L: CrewLedger> SharedBook<L> {
     /// A book without pages, and its ledger without posts.
     pub(crate) fn new(book: Book, posts: ledger::Book<L>) -> SharedBook<L>
-        requires places { length (book_view book) ≡ L.places }
+        requires places { length (book_view book) ≡ L.joined.cpus }
+        requires own { AreOwn L.knobs L.joined (book_view book) }
         requires counted { filled (book_view book) ≡ posts.total }
     {
         SharedBook { book, posts }
@@ -38,7 +48,8 @@ impl<L: CrewLedger> SharedBook<L> {
 
     /// Posts a page, and counts it where it is accepted.
     pub(crate) fn post(&mut self, page: Page, share: &mut Share<L>) -> Result<(), (Page, PostFault)>
-        requires { 0 < share.old.parts }
+        requires parts { 0 < share.old.parts }
+        requires own { IsOwn L.knobs L.joined page }
         ensures parts { share.new.parts ≡ share.old.parts }
         ensures counted { OnOk result (share.new.amount ≡ share.old.amount + 1) }
         ensures uncounted { OnErr result (share.new.amount ≡ share.old.amount) }
@@ -63,7 +74,8 @@ impl<L: CrewLedger> SharedBook<L> {
     pub(crate) fn gathered(self, mut all: Share<L>, posted: u32) -> Gathered
         requires whole { all.parts ≡ L.parts }
         requires posted { all.amount ≡ posted }
-        ensures places { length (book_view result.book) ≡ L.places }
+        ensures places { length (book_view result.book) ≡ L.joined.cpus }
+        ensures own { AreOwn L.knobs L.joined (book_view result.book) }
         ensures pages { filled (book_view result.book) ≡ result.posted }
     {
         let SharedBook { book, mut posts } = self;

@@ -3,6 +3,8 @@ ghost use Rattle.std.specs.Prelude.{◌≡◌, ◌≤◌, length, IfOk};
 ghost use Rattle.audit_crew.specs.Filled.{filled};
 ghost use Rattle.sched_record.specs.Record.{record_view};
 ghost use Rattle.ticket_book.specs.BookView.{book_view};
+ghost use Rattle.ticket_book.specs.LeastAnswer.{IsLeastAnswer};
+ghost use Rattle.ticket_book.specs.Own.{AreOwn};
 ghost use Rattle.ticket_book.specs.Verdict.{IsVerdict};
 
 use crate::seats::{begin_all, end_all, gather, seats_of};
@@ -15,7 +17,7 @@ use std::marker::Brand;
 use std::sync::ledger::Blank;
 use std::sync::{Mutex, Wait};
 use std::thread::Threads;
-use ticket_book::{Book, Closed};
+use ticket_book::{Book, Closed, ClosedLeast};
 
 /// The audit of a record by a crew: its auditors' pages in one book, which is then closed.
 pub fn audit<R: Threads + Wait + Sync, G: Gate>(
@@ -30,7 +32,23 @@ pub fn audit<R: Threads + Wait + Sync, G: Gate>(
 {
     crew(rt, alloc, joined, knobs, gate)?
         .book
-        .close(joined, knobs)
+        .close_own(joined, knobs)
+}
+
+/// The least settings of a record, by a crew at the greatest settings: its auditors' pages in one book, which is then
+/// closed.
+pub fn audit_least<R: Threads + Wait + Sync, G: Gate>(
+    rt: &R,
+    alloc: Global,
+    joined: &Record,
+    gate: &G,
+) -> Result<ClosedLeast, Memory>
+    ensures least { IfOk result (λ closed. IsLeastAnswer (record_view joined.now) closed.least) }
+    ensures remade { IfOk result (λ closed. closed.remade ≤ (record_view joined.now).cpus) }
+{
+    crew(rt, alloc, joined, Knobs::greatest(), gate)?
+        .book
+        .close_least(joined)
 }
 
 /// Audits each processor of a record in a thread of its own, all at once, and gathers their pages in one book. No auditor
@@ -46,6 +64,7 @@ pub fn crew<R: Threads + Wait + Sync, G: Gate>(
 ) -> Result<Gathered, Memory>
     ensures places { IfOk result (λ gathered. length (book_view gathered.book) ≡ (record_view joined.now).cpus) }
     ensures pages { IfOk result (λ gathered. filled (book_view gathered.book) ≡ gathered.posted) }
+    ensures own { IfOk result (λ gathered. AreOwn knobs (record_view joined.now) (book_view gathered.book)) }
 {
     let blank = Blank::new(u64::from(joined.cpus()));
     crew_of::<Brand, R, G>(rt, alloc, blank, joined, knobs, gate)
@@ -63,9 +82,11 @@ fn crew_of<L: CrewLedger + Send + Sync, R: Threads + Wait + Sync, G: Gate>(
     requires name { blank.name ≡ L.name }
     requires parts { blank.parts ≡ L.parts }
     requires one_each { blank.parts ≡ (record_view joined.now).cpus }
-    requires places { L.places ≡ (record_view joined.now).cpus }
-    ensures places { IfOk result (λ gathered. length (book_view gathered.book) ≡ L.places) }
+    requires joined { L.joined ≡ record_view joined.now }
+    requires knobs { L.knobs ≡ knobs }
+    ensures places { IfOk result (λ gathered. length (book_view gathered.book) ≡ L.joined.cpus) }
     ensures pages { IfOk result (λ gathered. filled (book_view gathered.book) ≡ gathered.posted) }
+    ensures own { IfOk result (λ gathered. AreOwn L.knobs L.joined (book_view gathered.book)) }
 {
     let cpus = joined.cpus();
     let (posts, mut all) = blank.open::<L>();

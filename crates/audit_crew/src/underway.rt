@@ -1,5 +1,6 @@
 //! An auditor that has made its first stretch: what it began with, and what it still does.
 ghost use Rattle.std.specs.Prelude.{◌≡◌, ◌<◌, ◌≤◌, None, [], length, IfOk, IfErr, OnOk, OnErr};
+ghost use Rattle.audit_crew.specs.Own.{AreTaken};
 ghost use Rattle.audit_crew.specs.Refusal.{IsToldBy};
 ghost use Rattle.audit_crew.specs.Tags.{IsOneTag, IsThrough};
 ghost use Rattle.queue_replay.specs.Made.{state_of};
@@ -59,6 +60,7 @@ impl Underway {
         requires stretch { 0 < stretch }
         requires accepted { S.accepted shelf.old ≡ [] }
         requires refused { S.refused shelf.old ≡ None }
+        requires taken { AreTaken S.takes self.replay.stream self.replay.knobs }
         ensures posted { OnOk result (IsOneTag self.replay.stream self.replay.knobs (S.told shelf.new) (S.accepted shelf.new)) }
         ensures none_refused { OnOk result (S.refused shelf.new ≡ None) }
         ensures kept { OnErr result (S.accepted shelf.new ≡ S.accepted shelf.old) }

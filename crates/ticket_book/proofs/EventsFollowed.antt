@@ -1,16 +1,13 @@
 -- One more event followed, with what the record says of it.
-use Rattle.std.proofs.Common.{◌≡◌, ℕ, Bool, ◌+◌, ◌<◌, List, [], ◌∷◌, ◌++◌, length, get_or, take, drop, Option, Some, sym, ap, ◌∙◌, subst}
-use Rattle.std.specs.Prelude.{slice_get}
+use Rattle.std.proofs.Common.{◌≡◌, ℕ, Bool, ◌+◌, ◌<◌, List, [], ◌∷◌, ◌++◌, length, get_or, take, drop, Option, sym, ap, ◌∙◌, subst}
 use Rattle.std.proofs.Math.Seq.{take-append_seam}
 use Rattle.std.proofs.lemmas.List.{map-append, take_more}
 use Rattle.cfs_model.specs.Claimed.{Claimed, claim_at, claimed, nice_at, with_claim}
 use Rattle.cfs_model.specs.declared.act.Entry.{Entry}
 use Rattle.cfs_model.specs.declared.claim.Claim.{Claim}
 use Rattle.cfs_model.specs.declared.nice_line.NiceLine.{NiceLine}
-use Rattle.replay_model.specs.declared.step.Step.{Step}
 use Rattle.queue_replay.specs.Replay.{ReplayView}
-use Rattle.ticket_book.specs.Book.{page_at}
-use Rattle.ticket_book.specs.Cursor.{AreFollowed, IsCursor, IsFollowed, steps_in}
+use Rattle.ticket_book.specs.Cursor.{AreFollowed}
 use Rattle.ticket_book.specs.declared.cursor.Cursor.{Cursor}
 
 -- what was lent is the whole list
@@ -37,10 +34,3 @@ followed_more places before after claims nices policy events i event claim nice 
     sym (ap (claimed claims nices policy) (take_more events i event lt ∙ ap (λ e. take i events ++ e ∷ []) (sym is))
     ∙ map-append (with_claim claims nices policy) (take i events) (event ∷ [])) in
     subst (AreFollowed places after) (ap (λ e. dealt ++ e ∷ []) said ∙ more) (follows dealt followed)
-
--- the cursor of the page that is taken out of a processor's place, which is as it was
-pub own_cursor : (places left : List (Option ReplayView)) (cursors : List Cursor) (cpu : ℕ) (dealt : List Step)
-    (place : Option ReplayView) (cursor : Cursor) → IsFollowed places cursors cpu dealt → page_at left cpu ≡ page_at places cpu
-    → place ≡ page_at left cpu → slice_get cursors cpu ≡ Some cursor → IsCursor (steps_in place) dealt cursor
-own_cursor places left cursors cpu dealt place cursor followed kept is here =
-    subst (λ (p : Option ReplayView). IsCursor (steps_in p) dealt cursor) (sym (is ∙ kept)) (followed cursor here)

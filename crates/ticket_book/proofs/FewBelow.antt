@@ -1,5 +1,5 @@
 -- The elements that a list begins with are no more than its length.
-use Rattle.std.proofs.Common.{ℕ, ◌≤◌, Bool, List, length}
+use Rattle.std.proofs.Common.{◌≤◌, Bool, List, length}
 use Rattle.std.specs.List.{prefix_len}
 use Rattle.std.proofs.lemmas.List.Sums.{prefix_len-le-length}
 

@@ -17,7 +17,8 @@ use Rattle.queue_replay.specs.declared.tag.Reached.{Reached}
 use Rattle.queue_replay.specs.declared.tag.Reached.TheVariants.{Stopped, Done, Faulted}
 use Rattle.sched_record.specs.Record.{RecordView}
 use Rattle.ticket_book.specs.Book.{page_at}
-use Rattle.ticket_book.specs.Relying.{IsEnough, IsLeastOf, IsReliable, IsReliableAt}
+use Rattle.ticket_book.specs.Own.{IsToldOwn}
+use Rattle.ticket_book.specs.Relying.{IsEnough, IsLeastOf, IsReliable}
 use Rattle.ticket_book.specs.Remade.{AreRemadeBelow, HasFaultAt, IsLeastFault, ReachesEnough, Suffices, SufficesFor}
 use Rattle.ticket_book.specs.Told.{view_at}
 use Rattle.ticket_book.specs.Whole.{AreSufficient, IsWholePageOf, SufficesBeside}
@@ -41,20 +42,20 @@ module _ (knobs : Settings) (r : RecordView) (places : List (Option ReplayView))
       let past = h.2 in
       omega (arith, first, past)
 
-  pub reliable_suffices : (least : Option ℕ) (cpu : ℕ) (page : ReplayView) → IsLeastOf knobs r places r.cpus least
-      → IsReliable knobs r least cpu page → SufficesFor knobs r places cpu page
-  reliable_suffices least cpu page is h = record {
-    own = h.own;
-    enough = enough_reaches least (reached_of page.page page.made (length page.stream.steps)) is h.enough;
+  pub reliable_suffices : (own : Bool) (least : Option ℕ) (cpu : ℕ) (page : ReplayView)
+      → IsLeastOf knobs r places r.cpus least → IsToldOwn knobs r cpu (Some page) own → IsReliable own least (Some page)
+      → SufficesFor knobs r places cpu page
+  reliable_suffices own least cpu page is told h = record {
+    own = told.0 h.0;
+    enough = enough_reaches least (reached_of page.page page.made (length page.stream.steps)) is h.1;
   }
 
-  pub suffices_reliable : (least : Option ℕ) (cpu : ℕ) (place : Option ReplayView) → IsLeastOf knobs r places r.cpus least
-      → Suffices knobs r places cpu place → IsReliableAt knobs r least cpu place
-  suffices_reliable least cpu None is h = h
-  suffices_reliable least cpu (Some page) is h = record {
-    own = h.own;
-    enough = reaches_enough least (reached_of page.page page.made (length page.stream.steps)) is h.enough;
-  }
+  pub suffices_reliable : (own : Bool) (least : Option ℕ) (cpu : ℕ) (place : Option ReplayView)
+      → IsLeastOf knobs r places r.cpus least → IsToldOwn knobs r cpu place own → Suffices knobs r places cpu place
+      → IsReliable own least place
+  suffices_reliable own least cpu None is told h = h
+  suffices_reliable own least cpu (Some page) is told h =
+      (told.1 h.own, reaches_enough least (reached_of page.page page.made (length page.stream.steps)) is h.enough)
 
   -- a whole page suffices
   pub whole_reaches : (o : Option StepFault) (line made steps : ℕ) → IsSome o ⊎ (steps ≤ made)
@@ -122,12 +123,12 @@ none_gathered knobs r places = record {
   few = omega arith;
 }
 
-push_before : {X : Type 0} (xs : List X) (x : X) (i : ℕ) → i < length xs → slice_get (xs ++ x ∷ []) i ≡ slice_get xs i
+pub push_before : {X : Type 0} (xs : List X) (x : X) (i : ℕ) → i < length xs → slice_get (xs ++ x ∷ []) i ≡ slice_get xs i
 push_before [] x i h = absurd (omega arith)
 push_before (y ∷ ys) x zero h = refl
 push_before (y ∷ ys) x (suc i) h = push_before ys x i (omega arith)
 
-push_last : {X : Type 0} (xs : List X) (x : X) → slice_get (xs ++ x ∷ []) (length xs) ≡ Some x
+pub push_last : {X : Type 0} (xs : List X) (x : X) → slice_get (xs ++ x ∷ []) (length xs) ≡ Some x
 push_last [] x = refl
 push_last (y ∷ ys) x = push_last ys x
 

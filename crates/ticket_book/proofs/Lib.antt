@@ -8,9 +8,12 @@ pub mod FewBelow
 mod StreamsFollowed
 mod Framed
 pub mod Gathering
+mod LargestNeeds
 mod LeastFaults
+mod LeastFound
 mod Living
 mod Naming
+mod Owned
 mod Counting
 mod PagesAdded
 pub mod BookPlaces

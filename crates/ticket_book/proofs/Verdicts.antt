@@ -44,20 +44,20 @@ record_in_order r o =
     (λ k d h. (o.companion.tasks_in_limits k d h).cpu) o.inside (λ k d h. (o.companion.claims_in_limits k d h).v)
     o.events.never_falls o.started o.events.lines_rise o.events.from_one
 
-slice_get-within : (pages : List ReplayView) (cpu : ℕ) (page : ReplayView) → slice_get pages cpu ≡ Some page → cpu < length pages
+pub slice_get-within : (pages : List ReplayView) (cpu : ℕ) (page : ReplayView) → slice_get pages cpu ≡ Some page → cpu < length pages
 slice_get-within [] cpu page is = cc
 slice_get-within (p ∷ pages) zero page is = omega arith
 slice_get-within (p ∷ pages) (suc cpu) page is = let h = slice_get-within pages cpu page is in omega arith
 
 -- the page at a place
-page_there : (pages : List ReplayView) (cpu : ℕ) → cpu < length pages
+pub page_there : (pages : List ReplayView) (cpu : ℕ) → cpu < length pages
     → (page : ReplayView) × (slice_get pages cpu ≡ Some page) × (view_at pages cpu ≡ page.page)
 page_there [] cpu h = absurd (omega arith)
 page_there (page ∷ pages) zero h = (page, refl, refl)
 page_there (page ∷ pages) (suc cpu) h = page_there pages cpu (omega arith)
 
 -- a page that suffices, as the laws of the closing take it
-suffices_among : (knobs : Settings) (r : RecordView) (pages : List ReplayView) (cpu : ℕ) (page : ReplayView)
+abbrev pub suffices_among : (knobs : Settings) (r : RecordView) (pages : List ReplayView) (cpu : ℕ) (page : ReplayView)
     → SufficesBeside knobs r pages cpu page → view_at pages cpu ≡ page.page
     → SufficesAmong knobs r.start r.floors r.tasks (events_of r) (length pages) (view_at pages) cpu
 suffices_among knobs r pages cpu page s is = record {
@@ -79,7 +79,7 @@ module _ (knobs : Settings) (r : RecordView) (pages : List ReplayView) (sufficie
   all_suffice cpu h =
       let p = page_there pages cpu h in suffices_among knobs r pages cpu p.0 (sufficient.each cpu p.0 p.1) p.2
 
-  in_record : IsRecordInOrder r → IsRecord r.start r.floors r.tasks (events_of r) (length pages)
+  pub in_record : IsRecordInOrder r → IsRecord r.start r.floors r.tasks (events_of r) (length pages)
   in_record o = subst (IsRecord r.start r.floors r.tasks (events_of r)) (sym sufficient.count) (record_in_order r o)
 
   -- what they say first is what is wrong

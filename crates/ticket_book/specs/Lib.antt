@@ -9,8 +9,11 @@ pub mod Remade
 pub mod SaidEvents
 pub mod Alive
 pub mod Idling
+pub mod LeastAnswer
 pub mod Lesser
+pub mod Own
 pub mod Naming
+pub mod NeedsOfPages
 pub mod Same
 pub mod SummaryView
 pub mod Tallying

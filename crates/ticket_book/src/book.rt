@@ -3,8 +3,9 @@ ghost use Rattle.cfs_model.specs.Limits.{most_processors};
 ghost use Rattle.ticket_book.specs.Book.{IsBook, line_of_fault, least_line, refusal_in, post_refusal};
 
 use crate::closing::verdict_on;
-use crate::remaking::sufficing_pages;
-use crate::{Closed, PostFault};
+use crate::least_closing::least_on;
+use crate::remaking::{sufficing_own_pages, sufficing_pages};
+use crate::{Closed, ClosedLeast, PostFault};
 use cfs_model::{Knobs, Memory};
 use queue_replay::Page;
 use replay_model::StepFault;
@@ -23,9 +24,12 @@ pub struct Book {
 }
 
 impl Book {
+    ghost use Rattle.cfs_model.specs.Least.{greatest_settings};
     ghost use Rattle.sched_record.specs.Record.{record_view};
     ghost use Rattle.ticket_book.specs.BookView.{book_view};
     ghost use Rattle.ticket_book.specs.Core.{AreLeft};
+    ghost use Rattle.ticket_book.specs.LeastAnswer.{IsLeastAnswer};
+    ghost use Rattle.ticket_book.specs.Own.{AreOwn};
     ghost use Rattle.ticket_book.specs.Remade.{AreRemade};
     ghost use Rattle.ticket_book.specs.Verdict.{IsVerdict};
 
@@ -92,6 +96,36 @@ impl Book {
         let (pages, remade) = sufficing_pages(alloc, self, joined, knobs)?;
         let verdict = verdict_on(alloc, &pages, joined, knobs)?;
         Ok(Closed { verdict, remade })
+    }
+
+    /// The least settings of a record, for a book whose pages are all of the record's own streams, at the greatest settings:
+    /// those that got far enough are relied on, and the others are made again, as `close_own` does.
+    pub fn close_least(self, joined: &Record) -> Result<ClosedLeast, Memory>
+        requires own { AreOwn greatest_settings (record_view joined.now) (book_view self) }
+        ensures least { IfOk result (λ closed. IsLeastAnswer (record_view joined.now) closed.least) }
+        ensures remade { IfOk result (λ closed. AreRemade greatest_settings (record_view joined.now) (book_view self) closed.remade) }
+        ensures nothing_remade { IfOk result (λ closed. AreLeft greatest_settings (record_view joined.now) (book_view self) → closed.remade ≡ 0) }
+    {
+        let alloc = *self.places.allocator();
+        let (pages, remade) = sufficing_own_pages(alloc, self, joined, Knobs::greatest())?;
+        let least = least_on(alloc, &pages, joined)?;
+        Ok(ClosedLeast { least, remade })
+    }
+
+    /// The verdict on a record, for a book whose pages are all of the record's own streams, with these settings. None is
+    /// compared with the record: those that got far enough are relied on, and the others are made again.
+    pub fn close_own(self, joined: &Record, knobs: Knobs) -> Result<Closed, Memory>
+        requires own { AreOwn knobs (record_view joined.now) (book_view self) }
+        ensures verdict { IfOk result (λ closed. IsVerdict knobs (record_view joined.now) closed.verdict) }
+        ensures remade { IfOk result (λ closed. AreRemade knobs (record_view joined.now) (book_view self) closed.remade) }
+        ensures nothing_remade { IfOk result (λ closed. AreLeft knobs (record_view joined.now) (book_view self) → closed.remade ≡ 0) }
+    {
+        let alloc = *self.places.allocator();
+        let (pages, remade) = sufficing_own_pages(alloc, self, joined, knobs)?;
+        Ok(Closed {
+            verdict: verdict_on(alloc, &pages, joined, knobs)?,
+            remade,
+        })
     }
 
     /// The places of the book's processors.

@@ -4,14 +4,18 @@
 mod alive;
 mod book;
 mod closed;
+mod closed_least;
 mod closing;
 mod cursor;
 mod event_counts;
 mod fault_cause;
 mod following;
 mod idling;
+mod least_closing;
 mod least_fault;
+mod least_settings;
 mod lesser;
+mod owning;
 mod post_fault;
 mod relying;
 mod remaking;
@@ -24,6 +28,8 @@ mod walk;
 
 pub use book::{Book, NO_FAULT};
 pub use closed::Closed;
+pub use closed_least::ClosedLeast;
+pub use least_settings::LeastSettings;
 pub use post_fault::PostFault;
 pub use remaking::whole_page;
 pub use summary::Summary;

@@ -1,20 +1,18 @@
 //! A page for each processor on which a verdict can rest: of a book's pages those that suffice, and the others made again.
-ghost use Rattle.std.specs.Prelude.{◌≡◌, ◌≢◌, ℕ, None, Some, ◌<◌, IfOk, IfSome};
+ghost use Rattle.std.specs.Prelude.{◌≡◌, ◌≢◌, ℕ, None, Some, ◌<◌, IfOk, IfSome, length};
 ghost use Rattle.replay_model.specs.Page.{IsPageOf};
 ghost use Rattle.sched_record.specs.Record.{record_view};
-ghost use Rattle.sched_record.specs.Stream.{cut_of};
 ghost use Rattle.ticket_book.specs.Book.{page_at};
 ghost use Rattle.ticket_book.specs.BookView.{book_view};
-ghost use Rattle.ticket_book.specs.Cursor.{IsCursor, steps_in};
-ghost use Rattle.ticket_book.specs.Relying.{IsReliable, IsReliableAt};
+ghost use Rattle.ticket_book.specs.Own.{AreOwn, AreToldOwn};
+ghost use Rattle.ticket_book.specs.Relying.{IsReliable};
 ghost use Rattle.ticket_book.specs.Remade.{AreRemade};
 ghost use Rattle.ticket_book.specs.Whole.{AreSufficient, IsWholePageOf};
 
 use crate::Book;
-use crate::cursor::Cursor;
-use crate::following::cursors_of;
 use crate::least_fault::least_fault;
-use crate::relying::{is_enough, is_own_page_of};
+use crate::owning::own_places;
+use crate::relying::is_enough;
 use cfs_model::{Knobs, Memory};
 use queue_replay::{Page, Replay};
 use sched_record::Record;
@@ -30,15 +28,47 @@ pub(crate) fn sufficing_pages(
     ensures suffice { IfOk result (λ made. AreSufficient knobs (record_view joined.now) made.0.items) }
     ensures remade { IfOk result (λ made. AreRemade knobs (record_view joined.now) (book_view book) made.1) }
 {
-    let mut places = book.into_places();
-    let cursors = cursors_of(alloc, &places, joined)?;
-    let least = least_fault(&places, joined, knobs, &cursors);
+    let places = book.into_places();
+    let own = own_places(alloc, &places, joined, knobs)?;
+    gathered_pages(alloc, places, &own, joined, knobs)
+}
+
+/// The same of a book whose pages are all the record's own, so that none is compared with it.
+pub(crate) fn sufficing_own_pages(
+    alloc: Global,
+    book: Book,
+    joined: &Record,
+    knobs: Knobs,
+) -> Result<(Vec<Page>, u32), Memory>
+    requires own { AreOwn knobs (record_view joined.now) (book_view book) }
+    ensures suffice { IfOk result (λ made. AreSufficient knobs (record_view joined.now) made.0.items) }
+    ensures remade { IfOk result (λ made. AreRemade knobs (record_view joined.now) (book_view book) made.1) }
+{
+    let own = Vec::from_elem(alloc, true, joined.cpus() as usize)?;
+    gathered_pages(alloc, book.into_places(), &own, joined, knobs)
+}
+
+/// The same of a book's places, where it is told of each whether its page is the record's own.
+fn gathered_pages(
+    alloc: Global,
+    places: Vec<Option<Page>>,
+    own: &[bool],
+    joined: &Record,
+    knobs: Knobs,
+) -> Result<(Vec<Page>, u32), Memory>
+    requires count { length own.now ≡ (record_view joined.now).cpus }
+    requires told { AreToldOwn knobs (record_view joined.now) places.items own.now }
+    ensures suffice { IfOk result (λ made. AreSufficient knobs (record_view joined.now) made.0.items) }
+    ensures remade { IfOk result (λ made. AreRemade knobs (record_view joined.now) places.items made.1) }
+{
+    let mut places = places;
+    let least = least_fault(&places, own);
     let left = places.as_mut_slice();
     let mut pages = Vec::with_capacity(alloc, joined.cpus() as usize)?;
     let mut remade = 0;
     for cpu in 0..joined.cpus() {
         let place = take_page(left, cpu);
-        let page = match relied_on(place, joined, cpu, knobs, cursors[cpu as usize], least) {
+        let page = match relied_on(place, own[cpu as usize], least) {
             Some(page) => page,
             None => {
                 remade += 1;
@@ -63,27 +93,18 @@ fn take_page(places: &mut [Option<Page>], cpu: u32) -> Option<Page>
     }
 }
 
-/// The page from a processor's place, where a verdict can rest on it beside the least line of a fault. The cursor is that
-/// of the page's stream, with all events dealt.
-fn relied_on(
-    place: Option<Page>,
-    joined: &Record,
-    cpu: u32,
-    knobs: Knobs,
-    cursor: Cursor,
-    least: Option<u64>,
-) -> Option<Page>
-    requires below { cpu < (record_view joined.now).cpus }
-    requires followed { IsCursor (steps_in place) (cut_of (record_view joined.now) cpu).steps cursor }
-    ensures reliable { IfSome result (IsReliable knobs (record_view joined.now) least cpu) }
+/// The page from a place, where a verdict can rest on it beside the least line of a fault. It is told whether the page is
+/// the record's own.
+fn relied_on(place: Option<Page>, own: bool, least: Option<u64>) -> Option<Page>
+    ensures reliable { IfSome result (λ page. IsReliable own least (Some page)) }
     ensures is_page { IfSome result (λ page. IsPageOf page.stream page.knobs page.made page.page) }
     ensures same { IfSome result (λ page. place ≡ Some page) }
-    ensures none { result ≡ None → ¬ IsReliableAt knobs (record_view joined.now) least cpu place }
+    ensures none { result ≡ None → ¬ IsReliable own least place }
 {
     match place {
         Some(page) => {
             page.replayed();
-            if is_own_page_of(&page, joined, cpu, knobs, cursor) && is_enough(&page, least) {
+            if own && is_enough(&page, least) {
                 Some(page)
             } else {
                 None

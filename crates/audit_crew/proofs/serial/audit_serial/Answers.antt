@@ -2,7 +2,7 @@ use Rattle.std.proofs.Common.{◌≡◌, ◌<◌, subst, arith}
 use Rattle.std.proofs.lemmas.Result.{IfOk-weaker}
 use Rattle.sched_record.specs.Record.{record_view}
 use Rattle.ticket_book.specs.BookView.{book_view}
-use Rattle.audit_crew.proofs.InTurn.{AreFirst, nothing_remade, one_more}
+use Rattle.audit_crew.proofs.InTurn.{AreFirst, all_own, nothing_remade, one_more}
 use Rattle.audit_crew.proofs.serial.audit_serial.Goals as goal
 
 pub loop-cpu-preserved : goal.loop-cpu-preserved
@@ -23,7 +23,19 @@ returns-clause-nothing_remade c =
     let all : c.loop-cpu.cpu ≡ r.cpus =
     (let not_below = c.loop-cpu-test.false in let at_most = c.loop-cpu.auto.cpu-end in let end = c.cpus-cpu-end.ensures in
     omega (arith, not_below, at_most, end)) in
-    IfOk-weaker c.close.result _ _
+    IfOk-weaker c.close_own.result _ _
     (λ closed remade. nothing_remade c.args.knobs r (book_view c.loop-cpu.book) closed.remade
     (subst (AreFirst c.args.knobs r (book_view c.loop-cpu.book)) all c.loop-cpu.invariant.posted) remade)
-    c.close.ensures.remade
+    c.close_own.ensures.remade
+
+pub close_own-requires : goal.close_own-requires
+close_own-requires c =
+    let r = record_view c.args.joined.now in
+    let all : c.loop-cpu.cpu ≡ r.cpus =
+    (let not_below = c.loop-cpu-test.false in let at_most = c.loop-cpu.auto.cpu-end in let end = c.cpus-cpu-end.ensures in
+    omega (arith, not_below, at_most, end)) in
+    record {
+      own =
+          all_own c.args.knobs r (book_view c.loop-cpu.book)
+          (subst (AreFirst c.args.knobs r (book_view c.loop-cpu.book)) all c.loop-cpu.invariant.posted);
+    }

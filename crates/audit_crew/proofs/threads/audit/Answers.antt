@@ -7,6 +7,6 @@ use Rattle.audit_crew.proofs.threads.audit.Goals as goal
 pub returns-clause-remade : goal.returns-clause-remade
 returns-clause-remade g c =
     let r = record_view c.args.joined.now in
-    IfOk-weaker c.close.result _ _
+    IfOk-weaker c.close_own.result _ _
     (λ closed remade. one_each c.args.knobs r (book_view c.in_ok-crew.field-0.book) r.cpus closed.remade remade)
-    c.close.ensures.remade
+    c.close_own.ensures.remade

@@ -1,21 +1,28 @@
-use Rattle.std.proofs.Common.{◌≡◌, ◌+◌, sym, subst, arith}
-use Rattle.sched_record.specs.Record.{record_view}
+use Rattle.std.proofs.Common.{◌≡◌, ◌+◌, length, sym, subst, arith}
+use Rattle.std.proofs.lemmas.Option.{slice_get-get_or}
+use Rattle.std.specs.Prelude.{IfNone, IfSome, ℕ}
+use Rattle.ticket_book.specs.Book.{page_at}
 use Rattle.ticket_book.specs.Relying.{IsLeastOf}
+use Rattle.ticket_book.specs.Remade.{HasFaultAt}
 use Rattle.ticket_book.proofs.LeastFaults.{least_more}
+use Rattle.ticket_book.proofs.Owned.{line_none, line_some}
 use Rattle.ticket_book.proofs.least_fault.least_fault.Goals as goal
 
 pub loop-cpu-preserved : goal.loop-cpu-preserved
-loop-cpu-preserved c =
-    let r = record_view c.args.joined.now in
-    subst (IsLeastOf c.args.knobs r c.args.places.now (c.loop-cpu.cpu + 1)) (sym c.lesser-least.ensures)
-    (least_more c.args.knobs r c.args.places.now c.loop-cpu.cpu c.loop-cpu.least c.fault_at-line.result c.loop-cpu.invariant
-    c.fault_at-line.ensures.none c.fault_at-line.ensures.found)
+loop-cpu-preserved c = λ knobs r told.
+    let places = c.args.places.now in
+    let cpu = c.loop-cpu.cpu in
+    let place = page_at places cpu in
+    let here = told cpu _ (slice_get-get_or c.args.own.now cpu _ c.loop-cpu-test.true) in
+    let none = subst (λ o. IfNone o ((line : ℕ) → ¬ HasFaultAt knobs r cpu place line)) (sym c.fault_at.ensures)
+    (line_none knobs r cpu _ place here) in
+    let some = subst (λ o. IfSome o (HasFaultAt knobs r cpu place)) (sym c.fault_at.ensures) (line_some knobs r cpu _ place here) in
+    subst (IsLeastOf knobs r places (cpu + 1)) (sym c.lesser-least.ensures)
+    (least_more knobs r places cpu c.loop-cpu.least c.fault_at.result (c.loop-cpu.invariant knobs r told) none some)
 
 pub returns : goal.returns
-returns c =
-    let r = record_view c.args.joined.now in
-    let count = c.cpus-cpu-end.ensures in
+returns c = λ knobs r told.
     let most = c.loop-cpu.auto.cpu-end in
     let all = c.loop-cpu-test.false in
-    let same : c.loop-cpu.cpu ≡ r.cpus = omega (arith, count, most, all) in
-    subst (λ n. IsLeastOf c.args.knobs r c.args.places.now n c.loop-cpu.least) same c.loop-cpu.invariant
+    let same : c.loop-cpu.cpu ≡ length c.args.own.now = omega (arith, most, all) in
+    subst (λ n. IsLeastOf knobs r c.args.places.now n c.loop-cpu.least) same (c.loop-cpu.invariant knobs r told)

@@ -1,7 +1,10 @@
-use Rattle.std.proofs.Common.{◌+◌, ◌∙◌, length, Some, sym, ap}
+use Rattle.std.proofs.Common.{◌+◌, ◌∙◌, length, Some, sym, ap, subst}
 use Rattle.std.proofs.lemmas.List.{length-set}
 use Rattle.ticket_book.specs.BookView.{book_view}
+use Rattle.ticket_book.specs.Own.{AreOwn}
+use Rattle.ticket_book.specs.declared.book.Book.{Book}
 use Rattle.audit_crew.specs.Filled.{filled}
+use Rattle.audit_crew.proofs.Owned.{own_put}
 use Rattle.audit_crew.proofs.Pages.{one_page_more}
 use Rattle.audit_crew.proofs.shared_book.SharedBook.post.Goals as goal
 
@@ -12,7 +15,19 @@ invariant_of-self g c =
     record {
       places =
           ap length c.in-Ok.ensures.added ∙ length-set places page.stream.cpu (Some page) ∙ c.args.self.now.places;
+      own =
+          subst (AreOwn _ _) (sym c.in-Ok.ensures.added)
+          (own_put _ _ places page c.args.self.now.own c.requires.own c.in-Ok.ensures.refused);
       counted =
           ap filled c.in-Ok.ensures.added ∙ one_page_more places page.stream.cpu page c.in-Ok.ensures.refused
           ∙ ap (λ n. n + 1) c.args.self.now.counted ∙ sym c.add.ensures.total;
+    }
+
+pub invariant_of-self-in-Err-1 : goal.invariant_of-self-in-Err-1
+invariant_of-self-in-Err-1 g c =
+    let same = c.in-Err.ensures.unchanged in
+    record {
+      places = ap (λ (book : Book). length (book_view book)) same ∙ c.args.self.now.places;
+      own = subst (λ (book : Book). AreOwn _ _ (book_view book)) (sym same) c.args.self.now.own;
+      counted = ap (λ (book : Book). filled (book_view book)) same ∙ c.args.self.now.counted;
     }

@@ -20,3 +20,9 @@ returns-in-Ok-clause-posted g c =
       subst (λ s. IsTagOf s c.args.self.replay.knobs told (tag_of page)) stream
           (subst (λ k. IsTagOf page.stream k told (tag_of page)) knobs (tag_through page told c.page.ensures.is_page through)),
     )
+
+pub post-requires-clause-taken : goal.post-requires-clause-taken
+post-requires-clause-taken g c =
+    c.requires.taken c.page.result
+    (ap (λ (r : ReplayView). r.stream) c.page.ensures.same ∙ c.in_ok-go_through.ensures.stream)
+    (ap (λ (r : ReplayView). r.knobs) c.page.ensures.same ∙ c.in_ok-go_through.ensures.knobs)

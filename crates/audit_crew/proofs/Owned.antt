@@ -1,0 +1,54 @@
+-- The pages of a crew's book are the record's own: the book begins with none, and one that is posted is.
+use Rattle.std.proofs.Common.{◌≡◌, ◌≢◌, ℕ, ◌<◌, ◌⊎◌, inl, inr, List, length, set, replicate, Option, Some, None, sym, ap, ◌∙◌, subst}
+use Rattle.std.proofs.lemmas.Bool.{cases_eq}
+use Rattle.std.proofs.lemmas.List.{get_or-set_same, get_or-set_other}
+use Rattle.std.proofs.lemmas.Option.{none-some, same_Some, slice_get_within}
+use Rattle.cfs_model.specs.Settings.{Settings}
+use Rattle.replay_model.specs.Cut.{StreamView}
+use Rattle.queue_replay.specs.Replay.{ReplayView}
+use Rattle.sched_record.specs.Record.{RecordView}
+use Rattle.sched_record.specs.Stream.{cut_of}
+use Rattle.ticket_book.specs.Book.{page_at, post_refusal}
+use Rattle.ticket_book.specs.Own.{AreOwn}
+use Rattle.ticket_book.specs.Whole.{IsOwnPageOf}
+use Rattle.ticket_book.proofs.BookPlaces.{none_there, room}
+use Rattle.audit_crew.specs.Own.{AreTaken, IsOwn}
+
+pub none_own : (knobs : Settings) (r : RecordView) (cpus : ℕ) → AreOwn knobs r (replicate cpus None)
+none_own knobs r cpus cpu page e = absurd (none-some page (sym (none_there cpus cpu) ∙ e))
+
+-- a page that isn't refused
+pub own_put : (knobs : Settings) (r : RecordView) (places : List (Option ReplayView)) (page : ReplayView)
+    → AreOwn knobs r places → IsOwn knobs r page → None ≡ post_refusal places page.stream.cpu
+    → AreOwn knobs r (set places page.stream.cpu (Some page))
+own_put knobs r places page own is room_for other p e = go (cases_eq other cpu)
+  where
+    cpu : ℕ
+    cpu = page.stream.cpu
+
+    within : cpu < length places
+    within = slice_get_within places cpu None (room places cpu room_for)
+
+    go : (other ≡ cpu) ⊎ (other ≢ cpu) → IsOwnPageOf knobs r other p
+    go (inl same) =
+        let here : page_at (set places cpu (Some page)) other ≡ Some page =
+        ap (page_at (set places cpu (Some page))) same ∙ get_or-set_same places cpu (Some page) None within in
+        subst (λ (q : ReplayView). IsOwnPageOf knobs r other q) (same_Some page p (sym here ∙ e))
+        (subst (λ (n : ℕ). IsOwnPageOf knobs r n page) (sym same) is)
+    go (inr not) = own other p (sym (get_or-set_other places cpu other (Some page) None not) ∙ e)
+
+-- the pages of a replay's stream, by its settings
+pub own_taken : (knobs : Settings) (r : RecordView) (replay : ReplayView) → IsOwn knobs r replay
+    → AreTaken (IsOwn knobs r) replay.stream replay.knobs
+own_taken knobs r replay own page stream settings = record {
+  stream = stream ∙ own.stream ∙ ap (λ (s : StreamView). cut_of r s.cpu) (sym stream);
+  knobs_are = settings ∙ own.knobs_are;
+}
+
+-- a replay of the stream that the record deals to a processor
+pub dealt_own : (knobs : Settings) (r : RecordView) (cpu : ℕ) (replay : ReplayView) → replay.stream ≡ cut_of r cpu
+    → replay.knobs ≡ knobs → IsOwn knobs r replay
+dealt_own knobs r cpu replay stream settings = record {
+  stream = stream ∙ ap (cut_of r) (sym (ap (λ (s : StreamView). s.cpu) stream));
+  knobs_are = settings;
+}

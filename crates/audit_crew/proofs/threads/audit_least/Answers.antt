@@ -1,0 +1,13 @@
+use Rattle.std.proofs.lemmas.Result.{IfOk-weaker}
+use Rattle.cfs_model.specs.Least.{greatest_settings}
+use Rattle.sched_record.specs.Record.{record_view}
+use Rattle.ticket_book.specs.BookView.{book_view}
+use Rattle.audit_crew.proofs.Remaking.{one_each}
+use Rattle.audit_crew.proofs.threads.audit_least.Goals as goal
+
+pub returns-clause-remade : goal.returns-clause-remade
+returns-clause-remade g c =
+    let r = record_view c.args.joined.now in
+    IfOk-weaker c.close_least.result _ _
+    (λ closed remade. one_each greatest_settings r (book_view c.in_ok-crew.field-0.book) r.cpus closed.remade remade)
+    c.close_least.ensures.remade

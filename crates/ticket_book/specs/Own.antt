@@ -1,0 +1,26 @@
+-- Which of a book's pages are the record's own (this project's profile).
+use Rattle.std.specs.Prelude.{◌≡◌, ◌↔◌, ℕ, Bool, IsTrue, ⊤, if◌then◌else◌, Option, Some, None, List, option_map, slice_get}
+use Rattle.cfs_model.specs.Settings.{Settings}
+use Rattle.queue_replay.specs.Replay.{ReplayView}
+use Rattle.sched_record.specs.Record.{RecordView}
+use Rattle.ticket_book.specs.Book.{page_at}
+use Rattle.ticket_book.specs.Whole.{IsOwnPageOf}
+
+-- each page is of the record's stream for its place's processor, with these settings
+abbrev pub AreOwn : Settings → RecordView → List (Option ReplayView) → Type 0
+AreOwn knobs r places = (cpu : ℕ) (page : ReplayView) → page_at places cpu ≡ Some page → IsOwnPageOf knobs r cpu page
+
+-- of the page at a processor's place, if there is one, it is told whether it is so
+abbrev pub IsToldOwn : Settings → RecordView → ℕ → Option ReplayView → Bool → Type 0
+IsToldOwn knobs r cpu None own = ⊤
+IsToldOwn knobs r cpu (Some page) own = IsTrue own ↔ IsOwnPageOf knobs r cpu page
+
+-- of the page at each of these places, in the order of the processors
+abbrev pub AreToldOwn : Settings → RecordView → List (Option ReplayView) → List Bool → Type 0
+AreToldOwn knobs r places owns =
+    (cpu : ℕ) (own : Bool) → slice_get owns cpu ≡ Some own → IsToldOwn knobs r cpu (page_at places cpu) own
+
+-- the line of the fault of the page at a place, where the page is told to be the record's own and has a fault
+abbrev pub own_line : Bool → Option ReplayView → Option ℕ
+own_line own None = None
+own_line own (Some page) = if own then option_map (λ fault. fault.line) page.page.fault else None

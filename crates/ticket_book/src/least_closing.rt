@@ -1,0 +1,90 @@
+//! The least settings of a record, by its processors' pages at the greatest settings.
+ghost use Rattle.std.specs.Prelude.{◌≡◌, IfOk, length};
+ghost use Rattle.cfs_model.specs.Least.{greatest_settings, larger};
+ghost use Rattle.cfs_model.specs.Settings.{AreInRange};
+ghost use Rattle.queue_replay.specs.Needing.{needs_view};
+ghost use Rattle.replay_model.specs.Needs.{largest};
+ghost use Rattle.sched_record.specs.Record.{record_view};
+ghost use Rattle.ticket_book.specs.LeastAnswer.{IsLeastAnswer};
+ghost use Rattle.ticket_book.specs.NeedsOfPages.{HaveNeeds, needs_at};
+ghost use Rattle.ticket_book.specs.Whole.{AreSufficient};
+
+use crate::LeastSettings;
+use crate::closing::told_by;
+use cfs_model::{Knobs, Memory, least_settings};
+use queue_replay::{Needs, Page};
+use replay_model::{closing, first_faults, needs};
+use sched_record::Record;
+use std::alloc::Global;
+
+/// What steps need that pass at any settings.
+const NO_NEEDS: Needs = Needs {
+    granularity: 0,
+    credit: 0,
+    debit: 0,
+    slack: 0,
+};
+
+/// The least settings of a record to which pages that suffice, at the greatest settings, come together.
+pub(crate) fn least_on(
+    alloc: Global,
+    pages: &[Page],
+    joined: &Record,
+) -> Result<LeastSettings, Memory>
+    requires { AreSufficient greatest_settings (record_view joined.now) pages.now }
+    ensures { IfOk result (IsLeastAnswer (record_view joined.now)) }
+{
+    closing();
+    least_settings();
+    match told_by(alloc, pages, joined)? {
+        Some((line, cause)) => {
+            first_faults();
+            Ok(LeastSettings::Fault {
+                line,
+                cpu: cause.cpu,
+                pid: cause.pid,
+                kind: cause.kind,
+            })
+        }
+        None => {
+            needs();
+            Ok(LeastSettings::Found(knobs_of(largest_needs(pages))))
+        }
+    }
+}
+
+/// Needs that are in range, as settings.
+fn knobs_of(needs: Needs) -> Knobs
+    requires { AreInRange (needs_view needs) }
+    ensures { result ≡ needs_view needs }
+{
+    match Knobs::new(needs.granularity, needs.credit, needs.debit, needs.slack) {
+        Some(knobs) => knobs,
+        None => unreachable!(),
+    }
+}
+
+/// Of each setting the greatest that one of the pages needs.
+fn largest_needs(pages: &[Page]) -> Needs
+    ensures largest { needs_view result ≡ largest (needs_at pages.now) (length pages.now) }
+    ensures have { HaveNeeds pages.now }
+{
+    let mut largest = NO_NEEDS;
+    for page in pages {
+        page.replayed();
+        largest = larger(largest, page.needs());
+    }
+    largest
+}
+
+/// Of each setting the larger need.
+fn larger(one: Needs, other: Needs) -> Needs
+    ensures { needs_view result ≡ larger (needs_view one) (needs_view other) }
+{
+    Needs {
+        granularity: one.granularity.max(other.granularity),
+        credit: one.credit.max(other.credit),
+        debit: one.debit.max(other.debit),
+        slack: one.slack.max(other.slack),
+    }
+}

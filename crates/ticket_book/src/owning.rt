@@ -1,0 +1,52 @@
+//! Which of a book's pages are a record's own.
+ghost use Rattle.std.specs.Prelude.{◌≡◌, ◌<◌, IfOk, vec_len};
+ghost use Rattle.sched_record.specs.Record.{record_view};
+ghost use Rattle.sched_record.specs.Stream.{cut_of};
+ghost use Rattle.ticket_book.specs.Book.{page_at};
+ghost use Rattle.ticket_book.specs.Cursor.{IsCursor, steps_in};
+ghost use Rattle.ticket_book.specs.Own.{AreToldOwn, IsToldOwn};
+
+use crate::cursor::Cursor;
+use crate::following::cursors_of;
+use crate::relying::is_own_page_of;
+use cfs_model::{Knobs, Memory};
+use queue_replay::Page;
+use sched_record::Record;
+use std::alloc::Global;
+
+/// For each of the record's processors whether the page at its place is of the record's stream for it, with these
+/// settings.
+pub(crate) fn own_places(
+    alloc: Global,
+    places: &[Option<Page>],
+    joined: &Record,
+    knobs: Knobs,
+) -> Result<Vec<bool>, Memory>
+    ensures count { IfOk result (λ own. vec_len own ≡ (record_view joined.now).cpus) }
+    ensures told { IfOk result (λ own. AreToldOwn knobs (record_view joined.now) places.now own.items) }
+{
+    let cursors = cursors_of(alloc, places, joined)?;
+    let mut own = Vec::with_capacity(alloc, joined.cpus() as usize)?;
+    for cpu in 0..joined.cpus() {
+        own.push(is_own_at(places, joined, cpu, knobs, cursors[cpu as usize]))?;
+    }
+    Ok(own)
+}
+
+/// Whether the page at a processor's place is the record's own. The cursor is that of its stream, with all events dealt.
+fn is_own_at(
+    places: &[Option<Page>],
+    joined: &Record,
+    cpu: u32,
+    knobs: Knobs,
+    cursor: Cursor,
+) -> bool
+    requires below { cpu < (record_view joined.now).cpus }
+    requires followed { IsCursor (steps_in (page_at places.now cpu)) (cut_of (record_view joined.now) cpu).steps cursor }
+    ensures { IsToldOwn knobs (record_view joined.now) cpu (page_at places.now cpu) result }
+{
+    match places.get(cpu as usize) {
+        Some(Some(page)) => is_own_page_of(page, joined, cpu, knobs, cursor),
+        _ => false,
+    }
+}

@@ -1,4 +1,6 @@
 mod Counting
 mod Holding
+mod LeastOutcomes
 mod Outcomes
 mod Passing
+mod Written

@@ -6,6 +6,9 @@ use Rattle.sched_audit.specs.declared.fault.Fault.{Fault}
 use Rattle.sched_audit.specs.declared.fault.Fault.TheVariants.{ReadTrace, ReadCompanion, Write, Memory}
 use Rattle.sched_audit.specs.declared.outcome.Outcome.{Outcome}
 use Rattle.sched_audit.specs.declared.outcome.Outcome.TheVariants.{Judged, Text}
+use Rattle.sched_audit.specs.declared.least_outcome.LeastOutcome.{LeastOutcome}
+use Rattle.sched_audit.specs.declared.least_outcome.LeastOutcome.TheVariants as least_outcomes
+use Rattle.ticket_book.specs.declared.least_settings.LeastSettings.TheVariants as leasts
 use Rattle.ticket_book.specs.declared.verdict.Verdict.TheVariants as verdicts
 
 -- yes, no, and a refused text
@@ -26,3 +29,9 @@ abbrev pub status_of : Outcome → Status
 status_of (Judged (verdicts.Run summary)) = Yes
 status_of (Judged (verdicts.Fault line cpu pid kind)) = No
 status_of (Text source line cause) = Refused
+
+-- least settings are a yes, and a fault at all settings a no
+abbrev pub least_status_of : LeastOutcome → Status
+least_status_of (least_outcomes.Told (leasts.Found knobs)) = Yes
+least_status_of (least_outcomes.Told (leasts.Fault line cpu pid kind)) = No
+least_status_of (least_outcomes.Text source line cause) = Refused

@@ -1,12 +1,16 @@
 -- The command line (this project's format). How words go to arguments and options is clap's: its `matches_of` says, for a
 -- command and the words, which values each argument has.
-use Rattle.std.specs.Prelude.{◌≡◌, ℕ, List, Some, true, codes}
+use Rattle.std.specs.Prelude.{◌≡◌, ℕ, Bool, List, None, Some, true, false, codes}
 use Rattle.std.specs.Option.{option_map_or}
+use Rattle.std.specs.Str.{bytes_eq}
 use Rattle.std.specs.Str.Parse.{digits_value, without_leading_plus}
 use Rattle.cfs_model.specs.Settings.{Settings, AreInRange, most}
 use Rattle.clap.specs.Walk.{Row, Rule, Text, first_of, one_of}
 use Rattle.clap.specs.Simple.{App, matches_of, new_app, new_rule, on_top, with_rule}
+use Rattle.clap.specs.declared.builder.action.ArgAction.TheVariants.{SetTrue}
 use Rattle.clap.specs.declared.builder.value_parser.ValueParser.TheVariants as parsers
+use Rattle.sched_audit.specs.declared.asked.Asked.{Asked}
+use Rattle.sched_audit.specs.declared.asked.Asked.TheVariants.{Verdict, LeastSettings}
 use Rattle.sched_audit.specs.declared.request.Request.{Request}
 
 -- a file's name, which has to be there
@@ -21,14 +25,23 @@ setting_rule id = record (new_rule id) {
   parser = Some (parsers.Unsigned 0 most);
 }
 
--- the names of the two files, and the four settings; clap adds help and version
+-- an option of this name without a value
+abbrev pub flag_rule : Text → Rule
+flag_rule id = record (new_rule id) { long = Some id; action = Some SetTrue }
+
+-- a flag that doesn't go with the settings
+abbrev pub lone_flag_rule : Text → Rule
+lone_flag_rule id = record (flag_rule id) { is_free = false }
+
+-- the names of the two files, the four settings, and the two flags; clap adds help and version
 abbrev pub audit_app : App
 audit_app =
-    with_rule (with_rule (with_rule (with_rule (with_rule (with_rule
+    with_rule (with_rule (with_rule (with_rule (with_rule (with_rule (with_rule (with_rule
     (on_top (λ s. record s { has_version = true }) (new_app (codes "sched_audit")))
     (name_rule (codes "TRACE"))) (name_rule (codes "COMPANION")))
     (setting_rule (codes "granularity-ns"))) (setting_rule (codes "credit-ns")))
-    (setting_rule (codes "debit-ns"))) (setting_rule (codes "slack-ns"))
+    (setting_rule (codes "debit-ns"))) (setting_rule (codes "slack-ns")))
+    (lone_flag_rule (codes "least"))) (flag_rule (codes "explain"))
 
 -- a number as it is written, with or without a plus before it
 abbrev pub number_of : Text → ℕ
@@ -47,12 +60,29 @@ settings_of rows = record {
   slack = setting_of (codes "slack-ns") 100000 rows;
 }
 
--- the request has the two names and the settings of these values
+-- whether the flag is given
+abbrev pub is_flagged : Text → List Row → Bool
+is_flagged id rows = option_map_or (λ text. bytes_eq text (codes "true")) (one_of id rows) false
+
+-- none of the four settings is given
+pub record HasNoSetting (rows : List Row) : Type 0 where
+  pub granularity : first_of (codes "granularity-ns") rows ≡ None
+  pub credit : first_of (codes "credit-ns") rows ≡ None
+  pub debit : first_of (codes "debit-ns") rows ≡ None
+  pub slack : first_of (codes "slack-ns") rows ≡ None
+
+-- a verdict is asked for by the settings, unless the least of them are asked for, and then none is given
+abbrev pub IsAsked : List Row → Asked → Type 0
+IsAsked rows (Verdict knobs) =
+    (is_flagged (codes "least") rows ≡ false) × (knobs ≡ settings_of rows) × AreInRange (settings_of rows)
+IsAsked rows LeastSettings = (is_flagged (codes "least") rows ≡ true) × HasNoSetting rows
+
+-- the request has the two names of these values, and what they ask for
 pub record IsRequestOf (rows : List Row) (request : Request) : Type 0 where
   pub trace : first_of (codes "TRACE") rows ≡ Some request.trace.now
   pub companion : first_of (codes "COMPANION") rows ≡ Some request.companion.now
-  pub settings : request.knobs ≡ settings_of rows
-  pub in_range : AreInRange (settings_of rows)
+  pub asked : IsAsked rows request.asked
+  pub explain : request.explain ≡ is_flagged (codes "explain") rows
 
 -- the request is what these words ask for; the first word is the program's own name
 abbrev pub IsAskedBy : List Text → Request → Type 0

@@ -82,8 +82,13 @@ fault_line line cpu pid kind =
     line_of (codes "fault line " ++ (decimal line ++ (codes " cpu " ++ (decimal cpu
     ++ (codes " pid " ++ (decimal pid ++ (codes " " ++ words_of kind)))))))
 
+-- the line of a refusal
+abbrev pub refusal_line : Source → ℕ → Cause → List ℕ
+refusal_line source line cause =
+    line_of (codes "refused " ++ (source_word source ++ (codes " line " ++ (decimal line ++ (codes " " ++ cause_word cause)))))
+
 -- what is written for an outcome
 abbrev pub report_of : Outcome → List ℕ
 report_of (Judged (verdicts.Run summary)) = run_lines (summary_view summary)
 report_of (Judged (verdicts.Fault line cpu pid kind)) = fault_line line cpu pid kind
-report_of (Text source line cause) = line_of (codes "refused " ++ (source_word source ++ (codes " line " ++ (decimal line ++ (codes " " ++ cause_word cause)))))
+report_of (Text source line cause) = refusal_line source line cause

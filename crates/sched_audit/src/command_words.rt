@@ -1,13 +1,17 @@
 //! The command line, as clap reads it.
 
-ghost use Rattle.std.specs.Prelude.{◌≡◌, IfOk, IfSome, false, map};
+ghost use Rattle.std.specs.Bool.{OnTrue};
+ghost use Rattle.std.specs.Prelude.{◌≡◌, IfOk, IfSome, None, false, map};
+ghost use Rattle.clap.specs.Walk.{first_of};
 ghost use Rattle.clap.specs.Words.{app_of, found_of, rows_of, rule_of};
-ghost use Rattle.sched_audit.specs.CommandLine.{IsAskedBy, IsRequestOf, audit_app, name_rule, setting_of, setting_rule};
+ghost use Rattle.cfs_model.specs.Settings.{AreInRange};
+ghost use Rattle.sched_audit.specs.CommandLine.{HasNoSetting, IsAsked, IsAskedBy, IsRequestOf, audit_app, flag_rule, is_flagged};
+ghost use Rattle.sched_audit.specs.CommandLine.{lone_flag_rule, name_rule, setting_of, setting_rule, settings_of};
 
-use crate::Request;
+use crate::{Asked, Request};
 use cfs_model::Knobs;
 use clap::error::ErrorKind;
-use clap::{Arg, ArgMatches, Command, Error, value_parser};
+use clap::{Arg, ArgAction, ArgMatches, Command, Error, value_parser};
 use std::alloc::{AllocError, Global};
 use std::convert::AsStr;
 
@@ -30,7 +34,7 @@ pub fn command_line<'a, S: AsStr>(alloc: Global, words: &'a [S]) -> Result<Reque
     }
 }
 
-/// The two names, the four settings, and what clap adds: help and the version.
+/// The two names, the four settings, the two flags, and what clap adds: help and the version.
 fn command<'a>(alloc: Global) -> Result<Command<'a>, AllocError>
     ensures { IfOk result (λ command. app_of command ≡ audit_app) }
 {
@@ -63,6 +67,16 @@ fn command<'a>(alloc: Global) -> Result<Command<'a>, AllocError>
             alloc,
             "slack-ns",
             "How long a processor may idle beside a waiting task [default: 100000]",
+        ))?
+        .arg(lone_flag(
+            alloc,
+            "least",
+            "Print the least settings at which the recording is a run",
+        )?)?
+        .arg(flag(
+            alloc,
+            "explain",
+            "After the report of a fault, say why in lines that begin with #",
         ))
 }
 
@@ -86,22 +100,83 @@ fn setting<'a>(alloc: Global, id: &'a str, help: &'a str) -> Arg<'a>
         .help(help)
 }
 
-/// The names and the settings that the values are; None where one has no sense.
+/// An option without a value.
+fn flag<'a>(alloc: Global, id: &'a str, help: &'a str) -> Arg<'a>
+    ensures rule { rule_of result ≡ flag_rule id.now }
+    ensures local { result.global ≡ false }
+{
+    Arg::new(alloc, id)
+        .long(id)
+        .action(ArgAction::SetTrue)
+        .help(help)
+}
+
+/// A flag that doesn't go with any of the settings.
+fn lone_flag<'a>(alloc: Global, id: &'a str, help: &'a str) -> Result<Arg<'a>, AllocError>
+    ensures rule { IfOk result (λ flag. rule_of flag ≡ lone_flag_rule id.now) }
+    ensures local { IfOk result (λ flag. flag.global ≡ false) }
+{
+    flag(alloc, id, help)
+        .conflicts_with("granularity-ns")?
+        .conflicts_with("credit-ns")?
+        .conflicts_with("debit-ns")?
+        .conflicts_with("slack-ns")
+}
+
+/// The names, and what is asked of them; None where a value has no sense.
 fn request_of<'a>(matches: &ArgMatches<'a>) -> Option<Request<'a>>
     ensures { IfSome result (IsRequestOf (rows_of (found_of matches.now))) }
 {
+    Some(Request {
+        trace: matches.get_str("TRACE")?,
+        companion: matches.get_str("COMPANION")?,
+        asked: asked_of(matches)?,
+        explain: flag_of(matches, "explain")?,
+    })
+}
+
+/// The settings to judge by, or that the least of them are asked for; None where that has no sense.
+fn asked_of(matches: &ArgMatches<'_>) -> Option<Asked>
+    ensures { IfSome result (IsAsked (rows_of (found_of matches.now))) }
+{
+    if !flag_of(matches, "least")? {
+        return Some(Asked::Verdict(knobs_of(matches)?));
+    }
+    if !has_no_setting(matches) {
+        return None;
+    }
+    Some(Asked::LeastSettings)
+}
+
+/// Whether none of the settings is given.
+fn has_no_setting(matches: &ArgMatches<'_>) -> bool
+    ensures { OnTrue result (HasNoSetting (rows_of (found_of matches.now))) }
+{
+    is_absent(matches, "granularity-ns")
+        && is_absent(matches, "credit-ns")
+        && is_absent(matches, "debit-ns")
+        && is_absent(matches, "slack-ns")
+}
+
+/// Whether an option isn't given.
+fn is_absent(matches: &ArgMatches<'_>, id: &str) -> bool
+    ensures { OnTrue result (first_of id.now (rows_of (found_of matches.now)) ≡ None) }
+{
+    matches.get_str(id).is_none()
+}
+
+/// The settings that the values are; None where one has no sense.
+fn knobs_of(matches: &ArgMatches<'_>) -> Option<Knobs>
+    ensures same { IfSome result (λ knobs. knobs ≡ settings_of (rows_of (found_of matches.now))) }
+    ensures in_range { IfSome result (λ _. AreInRange (settings_of (rows_of (found_of matches.now)))) }
+{
     let standard = Knobs::standard();
-    let knobs = Knobs::new(
+    Knobs::new(
         number_of(matches, "granularity-ns", standard.granularity())?,
         number_of(matches, "credit-ns", standard.credit())?,
         number_of(matches, "debit-ns", standard.debit())?,
         number_of(matches, "slack-ns", standard.slack())?,
-    )?;
-    Some(Request {
-        trace: matches.get_str("TRACE")?,
-        companion: matches.get_str("COMPANION")?,
-        knobs,
-    })
+    )
 }
 
 /// An option's number, or this where it isn't given; None where it is no number.
@@ -110,6 +185,16 @@ fn number_of(matches: &ArgMatches<'_>, id: &str, default: u64) -> Option<u64>
 {
     match matches.try_get_one::<u64>(id) {
         Ok(number) => Some(number.unwrap_or(default)),
+        Err(_) => None,
+    }
+}
+
+/// Whether a flag is given; None where its value is neither.
+fn flag_of(matches: &ArgMatches<'_>, id: &str) -> Option<bool>
+    ensures { IfSome result (λ given. given ≡ is_flagged id.now (rows_of (found_of matches.now))) }
+{
+    match matches.try_get_one::<bool>(id) {
+        Ok(given) => Some(given.unwrap_or(false)),
         Err(_) => None,
     }
 }

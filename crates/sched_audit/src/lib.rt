@@ -1,6 +1,7 @@
 //! Judges a recorded schedule: a trace and its companion in, a verdict and its report out.
 #![tactic(auto)]
 
+mod asked;
 mod audit;
 mod cause;
 mod command_words;
@@ -9,6 +10,10 @@ mod fault;
 mod feed;
 mod feed_of;
 mod headline;
+mod least_audit;
+mod least_headline;
+mod least_outcome;
+mod least_reporting;
 mod lines;
 mod outcome;
 mod reading;
@@ -22,6 +27,7 @@ mod status;
 mod texts;
 mod writing;
 
+pub use asked::Asked;
 pub use audit_crew::{Gate, OpenGate};
 pub use cause::Cause;
 pub use command_words::command_line;
@@ -30,6 +36,9 @@ pub use fault::Fault;
 pub use feed::Feed;
 pub use feed_of::FeedOf;
 pub use headline::{audit_texts, run};
+pub use least_headline::{least_texts, run_least};
+pub use least_outcome::LeastOutcome;
+pub use least_reporting::least_report;
 pub use outcome::Outcome;
 pub use refused::Refused;
 pub use reporting::report;
@@ -38,4 +47,4 @@ pub use sink::Sink;
 pub use sink_of::SinkOf;
 pub use source::Source;
 pub use status::Status;
-pub use ticket_book::{Summary, Verdict};
+pub use ticket_book::{LeastSettings, Summary, Verdict};

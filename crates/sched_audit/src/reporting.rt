@@ -1,9 +1,9 @@
 ghost use Rattle.std.specs.Prelude.{◌≡◌, ◌++◌, IfOk, OnOk, string_bytes};
 ghost use Rattle.ticket_book.specs.SummaryView.{summary_view};
-ghost use Rattle.sched_audit.specs.Report.{count_lines, report_of, run_lines, tally_lines};
+ghost use Rattle.sched_audit.specs.Report.{count_lines, fault_line, refusal_line, report_of, run_lines, tally_lines};
 
-use crate::{Outcome, Summary, Verdict};
-use cfs_model::Memory;
+use crate::{Cause, Outcome, Source, Summary, Verdict};
+use cfs_model::{Kind, Memory};
 use replay_model::Tally;
 use std::alloc::{AllocError, Global};
 
@@ -35,21 +35,44 @@ fn text_of(alloc: Global, outcome: &Outcome) -> Result<String, AllocError>
                 pid,
                 kind,
             },
-        ) => {
-            let (name, words) = kind.words();
-            lines!(text; "fault line {line} cpu {cpu} pid {pid} {name}: {words}");
-        }
+        ) => push_fault(&mut text, *line, *cpu, *pid, *kind)?,
         Outcome::Text {
             source,
             line,
             cause,
-        } => {
-            let source = source.word();
-            let cause = cause.word();
-            lines!(text; "refused {source} line {line} {cause}");
-        }
+        } => push_refusal(&mut text, *source, *line, *cause)?,
     }
     Ok(text)
+}
+
+/// Writes where a fault is, and what it is.
+pub(crate) fn push_fault(
+    text: &mut String,
+    line: u32,
+    cpu: u32,
+    pid: u32,
+    kind: Kind,
+) -> Result<(), AllocError>
+    ensures { OnOk result (string_bytes text.new ≡ string_bytes text.old ++ fault_line line cpu pid kind) }
+{
+    let (name, words) = kind.words();
+    lines!(text; "fault line {line} cpu {cpu} pid {pid} {name}: {words}");
+    Ok(())
+}
+
+/// Writes which text is refused, where and why.
+pub(crate) fn push_refusal(
+    text: &mut String,
+    source: Source,
+    line: u64,
+    cause: Cause,
+) -> Result<(), AllocError>
+    ensures { OnOk result (string_bytes text.new ≡ string_bytes text.old ++ refusal_line source line cause) }
+{
+    let source = source.word();
+    let cause = cause.word();
+    lines!(text; "refused {source} line {line} {cause}");
+    Ok(())
 }
 
 /// Writes that it is a run, and what it did.

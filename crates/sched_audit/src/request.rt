@@ -1,4 +1,4 @@
-use cfs_model::Knobs;
+use crate::Asked;
 
 /// What a command line asks for.
 #[derive(Clone, Copy, Debug, PartialEq, Eq)]
@@ -7,5 +7,7 @@ pub struct Request<'a> {
     pub trace: &'a str,
     /// The name of the companion's file, as given.
     pub companion: &'a str,
-    pub knobs: Knobs,
+    pub asked: Asked,
+    /// Whether a fault's report is to be followed by why it is one.
+    pub explain: bool,
 }

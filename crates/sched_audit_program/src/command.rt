@@ -1,7 +1,11 @@
 use crate::ending::Ending;
+use crate::explaining::explain;
+use cfs_model::Knobs;
 use clap::Error;
 use clap::error::ErrorKind::OutOfMemory;
-use sched_audit::{Fault, FeedOf, OpenGate, Request, SinkOf, Status, command_line, run};
+use sched_audit::{
+    Asked, Fault, FeedOf, OpenGate, Request, SinkOf, Status, command_line, run, run_least,
+};
 use std::alloc::Global;
 use std::fs::File;
 use std::io::ErrorKind;
@@ -26,11 +30,26 @@ pub fn obey<R: Env + Files + Print + Eprint + AllocGlobal + Threads + Wait + Syn
         }
     };
     match command_line(alloc, words.as_slice()) {
-        Ok(request) => match audit(rt, alloc, request) {
-            Ok(status) => Ending::Answered(status),
-            Err(fault) => Ending::Failed(fault),
-        },
+        Ok(request) => ending_of(rt, alloc, request),
         Err(error) => tell(rt, &error),
+    }
+}
+
+/// Answers a request.
+fn ending_of<R: Files + Print + AllocGlobal + Threads + Wait + Sync>(
+    rt: &R,
+    alloc: Global,
+    request: Request<'_>,
+) -> Ending {
+    let Request {
+        trace,
+        companion,
+        asked,
+        explain,
+    } = request;
+    match answer(rt, alloc, trace, companion, &asked, explain) {
+        Ok(status) => Ending::Answered(status),
+        Err(fault) => Ending::Failed(fault),
     }
 }
 
@@ -39,23 +58,56 @@ fn words_of<R: Env + AllocGlobal>(rt: &R, alloc: Global) -> io::Result<Vec<Strin
     Ok(env::args(rt)?.collect(alloc)?)
 }
 
-/// Opens the trace, then the companion, and runs the audit into standard output.
-fn audit<R: Files + Print + Threads + Wait + Sync>(
+/// Answers a request, and explains the answer where that is asked for and it is no run.
+fn answer<R: Files + Print + AllocGlobal + Threads + Wait + Sync>(
     rt: &R,
     alloc: Global,
-    request: Request<'_>,
+    trace: &str,
+    companion: &str,
+    asked: &Asked,
+    explains: bool,
 ) -> Result<Status, Fault> {
-    let trace = File::open(rt, request.trace).map_err(|_| Fault::ReadTrace)?;
-    let companion = File::open(rt, request.companion).map_err(|_| Fault::ReadCompanion)?;
-    run(
-        rt,
-        alloc,
-        &mut FeedOf::new(trace),
-        &mut FeedOf::new(companion),
-        request.knobs,
-        &OpenGate,
-        &mut SinkOf::new(io::writer(rt)),
-    )
+    let status = report(rt, alloc, trace, companion, asked)?;
+    if explains && status != Status::Yes {
+        explain(rt, alloc, trace, companion, knobs_of(asked))?;
+    }
+    Ok(status)
+}
+
+/// Opens the trace, then the companion, and writes what is asked of them to standard output.
+fn report<R: Files + Print + Threads + Wait + Sync>(
+    rt: &R,
+    alloc: Global,
+    trace: &str,
+    companion: &str,
+    asked: &Asked,
+) -> Result<Status, Fault> {
+    let trace = File::open(rt, trace).map_err(|_| Fault::ReadTrace)?;
+    let companion = File::open(rt, companion).map_err(|_| Fault::ReadCompanion)?;
+    let mut trace = FeedOf::new(trace);
+    let mut companion = FeedOf::new(companion);
+    let mut out = SinkOf::new(io::writer(rt));
+    if matches!(asked, Asked::LeastSettings) {
+        run_least(rt, alloc, &mut trace, &mut companion, &OpenGate, &mut out)
+    } else {
+        run(
+            rt,
+            alloc,
+            &mut trace,
+            &mut companion,
+            knobs_of(asked),
+            &OpenGate,
+            &mut out,
+        )
+    }
+}
+
+/// The settings that a fault is told by.
+fn knobs_of(asked: &Asked) -> Knobs {
+    match asked {
+        Asked::Verdict(knobs) => *knobs,
+        Asked::LeastSettings => Knobs::greatest(),
+    }
 }
 
 /// Prints clap's text: help and the version to standard output, a mistake to standard error.

@@ -3,6 +3,7 @@
 
 mod command;
 mod ending;
+mod explaining;
 
 use ending::Ending;
 use std::process::ExitCode;

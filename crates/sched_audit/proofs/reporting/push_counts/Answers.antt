@@ -1,11 +1,8 @@
 -- Each line stands behind those that were written before it.
-use Rattle.std.proofs.Common.{ℕ, List, ◌≡◌, ◌∙◌, ◌++◌, ap, codes, string_bytes}
-use Rattle.std.proofs.lemmas.List.{append_assoc}
+use Rattle.std.proofs.Common.{◌++◌, codes, string_bytes}
+use Rattle.sched_audit.proofs.Written.{behind}
 use Rattle.sched_audit.specs.Report.{count_line, line_of}
 use Rattle.sched_audit.proofs.reporting.push_counts.Goals as goal
-
-behind : (a b c x y : List ℕ) → b ≡ a ++ x → c ≡ b ++ y → c ≡ a ++ (x ++ y)
-behind a b c x y first second = second ∙ (ap (λ (t : List ℕ). t ++ y) first ∙ append_assoc a x y)
 
 pub returns : goal.returns
 returns c =

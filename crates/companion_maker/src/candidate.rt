@@ -17,6 +17,16 @@ pub(crate) struct Candidate {
     pub nices: BTreeMap<u32, NiceLine>,
 }
 
+impl Candidate {
+    /// Whether it needs less granularity than another; of two that need the same, the one is better whose strategy is listed
+    /// first.
+    pub(crate) fn is_better_than(&self, other: &Candidate) -> bool {
+        self.granularity < other.granularity
+            || (self.granularity == other.granularity
+                && self.strategy.rank() < other.strategy.rank())
+    }
+}
+
 /// What is known of a trace before a strategy is followed.
 #[derive(Drop)]
 pub(crate) struct Outset {
@@ -41,4 +51,29 @@ pub(crate) fn candidate_of(
         machine.pass(event, outset.forecast.is_picked(place))?;
     }
     Ok(machine.into_candidate())
+}
+
+/// The same, where it is better than another; it is given up at the first event by which it can't be any more.
+pub(crate) fn better_candidate(
+    alloc: Global,
+    outset: &Outset,
+    events: &[Entry],
+    wishes: &Wishes,
+    strategy: Strategy,
+    other: &Candidate,
+) -> Result<Option<Candidate>, Memory> {
+    let mut machine = Machine::new(alloc, outset, wishes, strategy)?;
+    for (place, event) in events.iter().enumerate() {
+        // What is needed never falls.
+        if !machine.candidate().is_better_than(other) {
+            return Ok(None);
+        }
+        machine.pass(event, outset.forecast.is_picked(place))?;
+    }
+    let candidate = machine.into_candidate();
+    if candidate.is_better_than(other) {
+        Ok(Some(candidate))
+    } else {
+        Ok(None)
+    }
 }

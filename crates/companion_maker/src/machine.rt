@@ -62,6 +62,11 @@ impl Machine {
         Ok(machine)
     }
 
+    /// What the companion says so far.
+    pub(crate) fn candidate(&self) -> &Candidate {
+        &self.made
+    }
+
     /// What the companion says.
     pub(crate) fn into_candidate(self) -> Candidate {
         self.made
@@ -157,11 +162,14 @@ impl Machine {
     /// Where the event prints another nice value than the task's, it has changed: on this line, or on an earlier one of the
     /// processor that doesn't name it.
     fn renice(&mut self, line: u32, cpu: u32, pid: u32, nice: Nice) -> Result<(), Memory> {
-        let Some(task) = self.tasks.get(&pid).copied() else {
+        let Some(task) = self.tasks.get_mut(&pid) else {
             return Ok(());
         };
-        if task.cpu == cpu && task.nice != nice {
-            if let Some(told) = self.line_of_change(line, &task) {
+        let before = *task;
+        task.nice = nice;
+        task.named = line;
+        if before.cpu == cpu && before.nice != nice {
+            if let Some(told) = self.line_of_change(line, &before) {
                 self.made.nices.insert(
                     told,
                     NiceLine {
@@ -172,12 +180,6 @@ impl Machine {
                 )?;
             }
         }
-        let now = Standing {
-            nice,
-            named: line,
-            ..task
-        };
-        self.tasks.insert(pid, now)?;
         Ok(())
     }
 

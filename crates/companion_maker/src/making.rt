@@ -8,13 +8,13 @@ ghost use Rattle.sched_record.specs.Kept.{IsInside};
 ghost use Rattle.sched_record.specs.Trace.{TraceAnswer, trace_view};
 ghost use Rattle.companion_maker.specs.Fitting.{ReadsAndJoins, IsNotMadeFor};
 
-use crate::candidate::{Candidate, Outset, candidate_of};
+use crate::candidate::{Candidate, Outset, better_candidate, candidate_of};
 use crate::forecast::Forecast;
 use crate::made::{Guessed, Made};
 use crate::not_made::NotMade;
 use crate::opening::tasks_at_start;
 use crate::plain::plain_text;
-use crate::strategy::{STRATEGIES, Strategy};
+use crate::strategy::Strategy;
 use crate::touching::{outside_line, processors_of};
 use crate::wishes::Wishes;
 use crate::writing::text_of;
@@ -104,11 +104,11 @@ fn best_of(
     if let Some(strategy) = wishes.strategy {
         return candidate_of(alloc, outset, events, wishes, strategy);
     }
-    let mut best = candidate_of(alloc, outset, events, wishes, Strategy::Low)?;
-    for strategy in STRATEGIES {
-        let other = candidate_of(alloc, outset, events, wishes, *strategy)?;
-        if other.granularity < best.granularity {
-            best = other;
+    // The one that is mostly best goes first, so that the others are soon given up.
+    let mut best = candidate_of(alloc, outset, events, wishes, Strategy::Picked)?;
+    for strategy in [Strategy::Level, Strategy::High, Strategy::Low] {
+        if let Some(better) = better_candidate(alloc, outset, events, wishes, strategy, &best)? {
+            best = better;
         }
     }
     Ok(best)

@@ -53,7 +53,7 @@ struct Opening {
     runners: [Runner; MOST_PROCESSORS],
 }
 
-/// The tasks of the start state, by rising pid: where each stood is told by the first events that name it. Behind them a
+/// The tasks of the start state, by rising pid: where each stood is told by the first events that name it. Among them a
 /// stand-in for each who must have run all along, unnamed, at a processor to which tasks come and which never switches.
 pub(crate) fn tasks_at_start(alloc: Global, events: &[Entry]) -> Result<Vec<Task>, Memory> {
     let mut opening = Opening {
@@ -63,45 +63,30 @@ pub(crate) fn tasks_at_start(alloc: Global, events: &[Entry]) -> Result<Vec<Task
     for event in events {
         opening.pass(event.act)?;
     }
-    let mut tasks = Vec::new(alloc);
-    let mut last = IDLE_PID;
+    let mut stood = BTreeMap::new(alloc);
     for (pid, sight) in opening.tasks.iter() {
-        last = *pid;
         if let Some(place) = place_of(sight.guess) {
-            tasks.push(Task {
-                pid: *pid,
-                nice: sight.nice,
-                idle: false,
-                cpu: sight.cpu,
-                place,
-                v: 0,
-            })?;
+            stood.insert(*pid, task_at_start(*pid, sight.nice, sight.cpu, place))?;
         }
     }
-    for cpu in 0..MOST_PROCESSORS as u32 {
-        if opening.is_unnamed(cpu) {
-            last = last.saturating_add(1);
-            if let Some(task) = stand_in(last, cpu) {
-                tasks.push(task)?;
-            }
-        }
+    opening.add_stand_ins(&mut stood)?;
+    let mut tasks = Vec::with_capacity(alloc, stood.len())?;
+    for task in stood.values() {
+        tasks.push(*task)?;
     }
     Ok(tasks)
 }
 
-/// Who runs at a processor without ever being named. None where no such pid is left.
-fn stand_in(pid: u32, cpu: u32) -> Option<Task> {
-    if u64::from(pid) > GREATEST_PID {
-        return None;
-    }
-    Some(Task {
+/// A task at the start: all begin at virtual runtime 0.
+fn task_at_start(pid: u32, nice: Nice, cpu: u32, place: Place) -> Task {
+    Task {
         pid,
-        nice: Nice::new(0)?,
+        nice,
         idle: false,
         cpu,
-        place: Place::Run,
+        place,
         v: 0,
-    })
+    }
 }
 
 /// Where a task stood, where it stood anywhere.
@@ -205,6 +190,25 @@ impl Opening {
             Some(runner) => *runner == Runner::Told,
             None => true,
         }
+    }
+
+    /// Adds who runs at a processor without ever being named, each with the lowest pid that is free; none where no pid is.
+    fn add_stand_ins(&self, stood: &mut BTreeMap<u32, Task>) -> Result<(), Memory> {
+        let mut last = IDLE_PID;
+        for cpu in 0..MOST_PROCESSORS as u32 {
+            if self.is_unnamed(cpu) {
+                if let (Some(pid), Some(nice)) = (self.free_pid(last), Nice::new(0)) {
+                    stood.insert(pid, task_at_start(pid, nice, cpu, Place::Run))?;
+                    last = pid;
+                }
+            }
+        }
+        Ok(())
+    }
+
+    /// The lowest pid above this one that no event names.
+    fn free_pid(&self, last: u32) -> Option<u32> {
+        (last.saturating_add(1)..=GREATEST_PID as u32).find(|pid| !self.tasks.contains_key(pid))
     }
 
     /// Whether tasks came to the processor, and no switch has told who ran there.

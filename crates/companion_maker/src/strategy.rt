@@ -11,7 +11,7 @@ pub enum Strategy {
     Level,
 }
 
-/// All strategies, in the order in which they are tried.
+/// All strategies, by their ranks.
 pub const STRATEGIES: &[Strategy] = &[
     Strategy::Low,
     Strategy::High,
@@ -20,6 +20,16 @@ pub const STRATEGIES: &[Strategy] = &[
 ];
 
 impl Strategy {
+    /// Of two that need the same granularity, the one of the lower rank is kept.
+    pub(crate) fn rank(self) -> u8 {
+        match self {
+            Strategy::Low => 0,
+            Strategy::High => 1,
+            Strategy::Picked => 2,
+            Strategy::Level => 3,
+        }
+    }
+
     /// The word of a command line that names it.
     pub fn name(self) -> &'static str {
         match self {

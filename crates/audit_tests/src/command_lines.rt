@@ -2,18 +2,19 @@
 
 use cfs_model::Knobs;
 use clap::error::ErrorKind;
-use sched_audit::{Request, command_line};
+use sched_audit::{Asked, Request, command_line};
 use std::test::Fail;
 
 fn knobs(granularity: u64, credit: u64, debit: u64, slack: u64) -> Knobs {
     Knobs::new(granularity, credit, debit, slack).unwrap_or(Knobs::standard())
 }
 
-fn asked(knobs: Knobs) -> Request<'static> {
+fn judged(knobs: Knobs) -> Request<'static> {
     Request {
         trace: "a",
         companion: "b",
-        knobs,
+        asked: Asked::Verdict(knobs),
+        explain: false,
     }
 }
 
@@ -39,7 +40,11 @@ fn each_option_is_its_own_setting(rt: HostRuntime) -> Result<(), Fail> {
             ["sched_audit", "a", option, "b"],
             ["sched_audit", option, "a", "b"],
         ] {
-            assert_eq!(rt; command_line(rt.alloc(), &words)?, asked(given), "{option}");
+            assert_eq!(rt;
+                command_line(rt.alloc(), &words)?,
+                judged(given),
+                "{option}"
+            );
         }
     }
     Ok(())
@@ -47,7 +52,7 @@ fn each_option_is_its_own_setting(rt: HostRuntime) -> Result<(), Fail> {
 
 #[test]
 fn settings_have_defaults(rt: HostRuntime) -> Result<(), Fail> {
-    let standard = asked(Knobs::standard());
+    let standard = judged(Knobs::standard());
     assert_eq!(rt;
         command_line(rt.alloc(), &["sched_audit", "a", "b"])?,
         standard
@@ -56,6 +61,28 @@ fn settings_have_defaults(rt: HostRuntime) -> Result<(), Fail> {
         command_line(rt.alloc(), &["sched_audit", "--", "a", "b"])?,
         standard
     );
+    Ok(())
+}
+
+#[test]
+fn least_settings_go_with_no_setting(rt: HostRuntime) -> Result<(), Fail> {
+    for option in [
+        "--granularity-ns=1000000",
+        "--credit-ns=0",
+        "--debit-ns=3000000",
+        "--slack-ns=1",
+    ] {
+        for words in [
+            ["sched_audit", "a", "b", "--least", option],
+            ["sched_audit", "a", "b", option, "--least"],
+            ["sched_audit", option, "a", "--least", "b"],
+        ] {
+            let Err(error) = command_line(rt.alloc(), &words) else {
+                return Err(Fail::from("a request"));
+            };
+            assert_eq!(rt; error.kind(), ErrorKind::ArgumentConflict, "{option}");
+        }
+    }
     Ok(())
 }
 
@@ -93,6 +120,15 @@ fn other_words_are_refused(rt: HostRuntime) -> Result<(), Fail> {
             ["a", "b", "--slack-ns=1", "--slack-ns=1"].as_slice(),
             ErrorKind::ArgumentConflict,
         ),
+        (
+            ["a", "b", "--least", "--least"].as_slice(),
+            ErrorKind::ArgumentConflict,
+        ),
+        (
+            ["a", "b", "--explain", "--explain"].as_slice(),
+            ErrorKind::ArgumentConflict,
+        ),
+        (["a", "b", "--least=1"].as_slice(), ErrorKind::TooManyValues),
         (["--help"].as_slice(), ErrorKind::DisplayHelp),
         (["--version"].as_slice(), ErrorKind::DisplayVersion),
     ] {

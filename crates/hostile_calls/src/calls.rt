@@ -1,9 +1,9 @@
 use crate::tray::Tray;
-use audit_crew::{OpenGate, audit, audit_serial, auditor, crew};
+use audit_crew::{OpenGate, audit, audit_least, audit_serial, auditor, crew};
 use cfs_model::{Knobs, Memory};
 use companion_file::read_companion;
 use queue_replay::{Page, Replay};
-use sched_audit::{Outcome, audit_texts, report};
+use sched_audit::{LeastOutcome, Outcome, audit_texts, least_report, least_texts, report};
 use sched_record::{Record, Stream, join, read_trace, read_trace_wide};
 use std::alloc::Global;
 use std::io;
@@ -35,6 +35,10 @@ pub fn print_call<R: AllocGlobal + Print + Threads + Wait + Sync>(
         }
         "audit_texts" => {
             let answer = audit_texts(rt, alloc, trace, companion, Knobs::standard(), &OpenGate);
+            println!(rt; "{answer:?}")?;
+        }
+        "least_texts" => {
+            let answer = least_texts(rt, alloc, trace, companion, &OpenGate);
             println!(rt; "{answer:?}")?;
         }
         _ => {
@@ -82,6 +86,15 @@ fn print_call_on<R: AllocGlobal + Print + Threads + Wait + Sync>(
         "report" => {
             let closed = audit_serial(alloc, record, knobs).map_err(out_of_memory)?;
             let answer = report(alloc, &Outcome::Judged(closed.verdict));
+            println!(rt; "{answer:?}")?;
+        }
+        "audit_least" => {
+            let answer = audit_least(rt, alloc, record, &OpenGate);
+            println!(rt; "{answer:?}")?;
+        }
+        "least_report" => {
+            let closed = audit_least(rt, alloc, record, &OpenGate).map_err(out_of_memory)?;
+            let answer = least_report(alloc, &LeastOutcome::Told(closed.least));
             println!(rt; "{answer:?}")?;
         }
         _ => return print_calls_by_processor(rt, call, record),

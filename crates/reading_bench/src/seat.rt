@@ -33,12 +33,6 @@ impl Seat {
             self.page = replayed(alloc, stream).ok();
         }
     }
-
-    /// The page, if there is one.
-    pub fn leave(self) -> Option<Page> {
-        let Seat { page, .. } = self;
-        page
-    }
 }
 
 /// The whole page of a stream.

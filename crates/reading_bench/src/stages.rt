@@ -1,9 +1,9 @@
 //! The stages of an audit, each ended for all processors before the next begins, in one thread and in several; and whole
-//! audits.
+//! audits. What is closed is the book of a crew, as `audit` closes it.
 
 use crate::counting_gate::CountingGate;
 use crate::seat::Seat;
-use audit_crew::{audit, audit_serial};
+use audit_crew::{OpenGate, audit, audit_serial, crew};
 use cfs_model::{Knobs, Memory};
 use companion_file::{Companion, read_companion};
 use sched_record::{Record, Trace, join, read_trace};
@@ -14,7 +14,7 @@ use std::sync::Wait;
 use std::thread::Threads;
 use std::time::Instant;
 use std::{io, thread};
-use ticket_book::{Book, Closed};
+use ticket_book::Closed;
 
 /// How many threads at most share the processors of a record, where there are several.
 const THREADS: usize = 4;
@@ -123,7 +123,7 @@ fn crew_of<R: Clock + Threads + Wait + Sync>(
 }
 
 /// Audits a record stage by stage, in at most so many threads.
-fn stages_of<R: Clock + Threads + Sync>(
+fn stages_of<R: Clock + Threads + Wait + Sync>(
     rt: &R,
     alloc: Global,
     record: &Record,
@@ -145,13 +145,29 @@ fn stages_of<R: Clock + Threads + Sync>(
         &|_cpu, seat: &mut Seat| seat.replay(alloc),
     );
     let replaying = lap(rt, &mut last)?;
-    let _closed = close_book(alloc, seats, record).map_err(out_of_memory)?;
-    let closing = lap(rt, &mut last)?;
+    let _left = seats;
+    let closing = closing_of(rt, alloc, record)?;
     Ok(Stages {
         dealing,
         replaying,
         closing,
     })
+}
+
+/// How long the closing of the book takes that a crew filled.
+fn closing_of<R: Clock + Threads + Wait + Sync>(
+    rt: &R,
+    alloc: Global,
+    record: &Record,
+) -> io::Result<u128> {
+    let knobs = Knobs::standard();
+    let gathered = crew(rt, alloc, record, knobs, &OpenGate).map_err(out_of_memory)?;
+    let mut last = Instant::now(rt)?;
+    let _closed = gathered
+        .book
+        .close_own(record, knobs)
+        .map_err(out_of_memory)?;
+    lap(rt, &mut last)
 }
 
 /// The nanoseconds since the last lap ended, with which another begins.
@@ -174,16 +190,6 @@ fn seats_of(alloc: Global, cpus: u32) -> Result<Vec<Seat>, Memory> {
         seats.push(Seat::new())?;
     }
     Ok(seats)
-}
-
-fn close_book(alloc: Global, seats: Vec<Seat>, record: &Record) -> Result<Closed, Memory> {
-    let mut book = Book::new(alloc, record.cpus())?;
-    for seat in seats {
-        if let Some(page) = seat.leave() {
-            let _told = book.post(page);
-        }
-    }
-    book.close(record, Knobs::standard())
 }
 
 fn refused() -> io::Error {

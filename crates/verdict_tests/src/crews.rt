@@ -1,10 +1,14 @@
 //! One auditor at a shelf of its own, and crews of auditors, which come to the verdict of one thread.
 
+use crate::answers::wants;
 use crate::calls::{
-    Ending, Told, alone, audited, book_of_first, ended, record_from, stream_of, together, told,
+    Ending, MaybeFault, Told, alone, audited, book_of_first, ended, record_from, stream_of,
+    together, told,
 };
-use crate::machines::{IDLE_FOUND_LATE, Lines, Recording, recording_at, recordings};
-use crate::meetings::{death_then_birth, fault_before_wakeups, ten_thousand_wakeups};
+use crate::machines::{
+    DEATH_THEN_BIRTH, IDLE_FOUND_LATE, Lines, Recording, recording_at, recordings,
+};
+use crate::meetings::{fault_before_wakeups, record_by};
 use crate::verdicts::record_of;
 use audit_crew::{AuditorFault, OpenGate};
 use cfs_model::Kind;
@@ -14,7 +18,7 @@ use std::alloc::Global;
 use std::sync::Wait;
 use std::test::Fail;
 use std::thread::Threads;
-use ticket_book::Closed;
+use ticket_book::{Book, Closed};
 
 /// What the auditor of processor 1 leaves over a book with processor 0's page.
 fn ended_behind_first(alloc: Global, record: &Record) -> Result<Ending, Fail> {
@@ -35,33 +39,50 @@ fn an_auditor_goes_on_to_its_fault(rt: HostRuntime) -> Result<(), Fail> {
     Ok(())
 }
 
-/// What the auditor of processor 0 answers over a book that has a page of that processor.
-fn refused_page(alloc: Global) -> Result<Result<(), AuditorFault>, Fail> {
-    let record = death_then_birth(alloc)?.record(alloc)?;
-    let book = book_of_first(alloc, 2, &record)?;
-    let (_shelf, answer) = audited(alloc, book, stream_of(&record, 0)?, 1)?;
+/// What the auditor of processor 0 answers over this book.
+fn answer_of_first(
+    alloc: Global,
+    book: Book,
+    record: &Record,
+) -> Result<Result<(), AuditorFault>, Fail> {
+    let stream = stream_of(record, 0)?;
+    let (_shelf, answer) = audited(alloc, book, stream, 1)?;
     Ok(answer)
 }
 
-/// The fault of an auditor that tells one.
-fn fault_in(answer: Result<(), AuditorFault>) -> Result<AuditorFault, Fail> {
-    Ok(answer.err().ok_or("a page that comes back")?)
+/// The words of the fault of an auditor that tells one.
+fn words_in(alloc: Global, answer: Result<(), AuditorFault>) -> Result<String, Fail> {
+    match answer {
+        Ok(()) => Err(Fail::from("a page that comes back")),
+        Err(fault) => Ok(fault.to_string(alloc)?),
+    }
 }
 
-/// The words of an auditor's fault.
-fn words_of(alloc: Global, fault: &AuditorFault) -> Result<String, Fail> {
-    Ok(fault.to_string(alloc)?)
+/// The words of the auditor of processor 0 over a book that has a page of that processor.
+fn words_of_second(alloc: Global, record: &Record) -> Result<String, Fail> {
+    let book = book_of_first(alloc, 2, record)?;
+    words_in(alloc, answer_of_first(alloc, book, record)?)
+}
+
+/// The same of a recording.
+fn words_on(alloc: Global, place: usize) -> Result<String, Fail> {
+    let record = record_of(alloc, recording_at(place)?)?;
+    words_of_second(alloc, &record)
 }
 
 #[test]
 fn an_auditor_tells_its_fault_in_words(rt: HostRuntime) -> Result<(), Fail> {
-    let fault = fault_in(refused_page(rt.alloc())?)?;
     assert_eq!(rt;
-        words_of(rt.alloc(), &fault)?.as_str(),
+        words_on(rt.alloc(), DEATH_THEN_BIRTH)?.as_str(),
         "processor 0: the page's processor has a page"
     );
+    Ok(())
+}
+
+#[test]
+fn an_auditor_tells_want_of_memory_in_words(rt: HostRuntime) -> Result<(), Fail> {
     assert_eq!(rt;
-        words_of(rt.alloc(), &AuditorFault::Memory)?.as_str(),
+        words_in(rt.alloc(), Err(AuditorFault::Memory))?.as_str(),
         "out of memory"
     );
     Ok(())
@@ -158,6 +179,20 @@ fn both_on<R: Threads + Wait + Sync>(
     both(rt, alloc, &record)
 }
 
+/// Whether an answer is that of two who agree that this is the fault, on pages of which none was made again.
+fn is_agreed(answer: (bool, Told), fault: MaybeFault) -> bool {
+    answer == (true, (0, fault))
+}
+
+/// Whether a crew and one thread judge a recording alike, and as the table says.
+fn is_well_judged<R: Threads + Wait + Sync>(
+    rt: &R,
+    alloc: Global,
+    recording: &Recording,
+) -> Result<bool, Fail> {
+    Ok(is_agreed(both_on(rt, alloc, recording)?, recording.fault))
+}
+
 /// The name of the first recording that a crew and one thread don't judge alike, or otherwise than the table says.
 fn misjudged<R: Threads + Wait + Sync>(
     rt: &R,
@@ -165,7 +200,7 @@ fn misjudged<R: Threads + Wait + Sync>(
     table: &[Recording],
 ) -> Result<Option<&'static str>, Fail> {
     for recording in table {
-        if both_on(rt, alloc, recording)? != (true, (0, recording.fault)) {
+        if !is_well_judged(rt, alloc, recording)? {
             return Ok(Some(recording.name));
         }
     }
@@ -174,30 +209,52 @@ fn misjudged<R: Threads + Wait + Sync>(
 
 #[test]
 fn a_crew_comes_to_the_verdict_of_one_thread(rt: HostRuntime) -> Result<(), Fail> {
-    assert_eq!(rt; misjudged(&rt, rt.alloc(), recordings())?, None);
+    wants(&rt, &misjudged(&rt, rt.alloc(), recordings())?, &None);
     Ok(())
 }
 
 #[test]
 fn a_crew_comes_to_the_verdict_of_one_thread_on_migrations(rt: HostRuntime) -> Result<(), Fail> {
-    assert_eq!(rt; misjudged(&rt, rt.alloc(), &CROSSINGS)?, None);
+    wants(&rt, &misjudged(&rt, rt.alloc(), &CROSSINGS)?, &None);
     Ok(())
+}
+
+/// What both come to on the record of a meeting.
+fn both_on_many<R: Threads + Wait + Sync>(
+    rt: &R,
+    alloc: Global,
+    stretches: u64,
+) -> Result<(bool, Told), Fail> {
+    let record = record_by(alloc, stretches)?;
+    both(rt, alloc, &record)
 }
 
 #[test]
 fn a_crew_comes_to_the_verdict_of_one_thread_on_many_events(rt: HostRuntime) -> Result<(), Fail> {
-    let record = ten_thousand_wakeups(rt.alloc())?.record(rt.alloc())?;
-    assert_eq!(rt; both(&rt, rt.alloc(), &record)?, (true, (0, None)));
+    wants(&rt, &both_on_many(&rt, rt.alloc(), 2)?, &(true, (0, None)));
     Ok(())
+}
+
+/// What both come to where a fault stands before so many events.
+fn both_before<R: Threads + Wait + Sync>(
+    rt: &R,
+    alloc: Global,
+    wakeups: usize,
+) -> Result<(bool, Told), Fail> {
+    let record = fault_before_wakeups(alloc, wakeups)?;
+    both(rt, alloc, &record)
 }
 
 #[test]
 fn a_crew_comes_to_the_verdict_of_one_thread_before_many_events(
     rt: HostRuntime,
 ) -> Result<(), Fail> {
-    let record = fault_before_wakeups(rt.alloc(), 1000)?;
     let fault = Some((4, 0, 201, Kind::PrevNotRunning));
-    assert_eq!(rt; both(&rt, rt.alloc(), &record)?, (true, (0, fault)));
+    wants(
+        &rt,
+        &both_before(&rt, rt.alloc(), 1000)?,
+        &(true, (0, fault)),
+    );
     Ok(())
 }
 
@@ -215,22 +272,34 @@ fn companion_of_64(alloc: Global) -> Result<String, Fail> {
     Ok(text)
 }
 
+/// A processor wakes the task that runs there.
+fn write_wakeup(text: &mut String, cpu: u32) -> Result<(), Fail> {
+    let pid = cpu.saturating_add(101);
+    writeln!(
+        text,
+        "            t{pid}-{pid}     [{cpu:03}] d..2.   100.001000: sched_wakeup: comm=t{pid} pid={pid} prio=120 target_cpu={cpu:03}"
+    )?;
+    Ok(())
+}
+
+/// A processor switches from a task that does not run there.
+fn write_switch(text: &mut String, cpu: u32) -> Result<(), Fail> {
+    let pid = cpu.saturating_add(201);
+    writeln!(
+        text,
+        "            t{pid}-{pid}     [{cpu:03}] d..2.   100.002000: sched_switch: prev_comm=t{pid} prev_pid={pid} prev_prio=120 prev_state=S ==> next_comm=swapper/{cpu} next_pid=0 next_prio=120"
+    )?;
+    Ok(())
+}
+
 /// Each of 64 processors wakes its task; then 40, 7 and 63 switch from tasks that do not run there.
 fn trace_of_64(alloc: Global) -> Result<String, Fail> {
     let mut text = String::new(alloc);
     for cpu in 0..64 {
-        let pid = 101 + cpu;
-        writeln!(
-            text,
-            "            t{pid}-{pid}     [{cpu:03}] d..2.   100.001000: sched_wakeup: comm=t{pid} pid={pid} prio=120 target_cpu={cpu:03}"
-        )?;
+        write_wakeup(&mut text, cpu)?;
     }
     for cpu in [40, 7, 63] {
-        let pid = 201 + cpu;
-        writeln!(
-            text,
-            "            t{pid}-{pid}     [{cpu:03}] d..2.   100.002000: sched_switch: prev_comm=t{pid} prev_pid={pid} prev_prio=120 prev_state=S ==> next_comm=swapper/{cpu} next_pid=0 next_prio=120"
-        )?;
+        write_switch(&mut text, cpu)?;
     }
     Ok(text)
 }
@@ -241,15 +310,40 @@ fn three_faults_on_64_processors(alloc: Global) -> Result<Record, Fail> {
     record_from(alloc, trace.as_bytes(), companion.as_bytes())
 }
 
+/// What a crew comes to on a record.
+fn told_together<R: Threads + Wait + Sync>(
+    rt: &R,
+    alloc: Global,
+    record: &Record,
+) -> Result<Told, Fail> {
+    Ok(told(together(rt, alloc, record, &OpenGate)?))
+}
+
+/// How many of a thousand crews come to this.
+fn count_that_tell<R: Threads + Wait + Sync>(
+    rt: &R,
+    alloc: Global,
+    record: &Record,
+    wanted: Told,
+) -> Result<u32, Fail> {
+    let mut count: u32 = 0;
+    for _ in 0..1000 {
+        if told_together(rt, alloc, record)? == wanted {
+            count = count.saturating_add(1);
+        }
+    }
+    Ok(count)
+}
+
+/// The same on the record of 64 processors.
+fn count_on_64<R: Threads + Wait + Sync>(rt: &R, alloc: Global, wanted: Told) -> Result<u32, Fail> {
+    let record = three_faults_on_64_processors(alloc)?;
+    count_that_tell(rt, alloc, &record, wanted)
+}
+
 #[test]
 fn a_thousand_crews_of_64_come_to_one_verdict(rt: HostRuntime) -> Result<(), Fail> {
-    let record = three_faults_on_64_processors(rt.alloc())?;
-    for _ in 0..1000 {
-        let closed = together(&rt, rt.alloc(), &record, &OpenGate)?;
-        assert_eq!(rt;
-            told(closed),
-            (0, Some((65, 40, 241, Kind::PrevNotRunning)))
-        );
-    }
+    let told = (0, Some((65, 40, 241, Kind::PrevNotRunning)));
+    wants(&rt, &count_on_64(&rt, rt.alloc(), told)?, &1000);
     Ok(())
 }

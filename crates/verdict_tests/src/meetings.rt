@@ -68,27 +68,25 @@ impl<C: Clock + Sync> Gate for Turnstile<'_, C> {
     }
 }
 
-/// Two texts of two processors, and how often each auditor passes a gate.
+/// Two texts of two processors.
 #[derive(Drop)]
-pub(crate) struct Meeting {
+struct Meeting {
     trace: Vec<u8>,
     companion: &'static str,
-    entries: u64,
 }
 
 impl Meeting {
-    pub(crate) fn record(&self, alloc: Global) -> Result<Record, Fail> {
+    fn record(&self, alloc: Global) -> Result<Record, Fail> {
         record_from(alloc, &self.trace, self.companion.as_bytes())
     }
 }
 
 /// One step at each processor: one stretch.
-pub(crate) fn death_then_birth(alloc: Global) -> Result<Meeting, Fail> {
+fn death_then_birth(alloc: Global) -> Result<Meeting, Fail> {
     let recording = recording_at(DEATH_THEN_BIRTH)?;
     Ok(Meeting {
         trace: trace_of(alloc, recording.lines)?,
         companion: recording.companion,
-        entries: 2,
     })
 }
 
@@ -112,7 +110,7 @@ pub(crate) fn fault_before_wakeups(alloc: Global, wakeups: usize) -> Result<Reco
 }
 
 /// Both processors run a task each from the start on, and either is woken 5000 times: two stretches.
-pub(crate) fn ten_thousand_wakeups(alloc: Global) -> Result<Meeting, Fail> {
+fn ten_thousand_wakeups(alloc: Global) -> Result<Meeting, Fail> {
     let mut trace = Vec::new(alloc);
     for _ in 0..5000 {
         trace.extend_from_slice(
@@ -122,13 +120,27 @@ pub(crate) fn ten_thousand_wakeups(alloc: Global) -> Result<Meeting, Fail> {
     Ok(Meeting {
         trace,
         companion: BOTH_RUN,
-        entries: 3,
     })
 }
 
-/// Both meetings.
-fn meetings(alloc: Global) -> Result<[Meeting; 2], Fail> {
-    Ok([death_then_birth(alloc)?, ten_thousand_wakeups(alloc)?])
+/// The meeting of auditors that make one stretch each, or two.
+fn meeting_of(alloc: Global, stretches: u64) -> Result<Meeting, Fail> {
+    if stretches == 1 {
+        death_then_birth(alloc)
+    } else {
+        ten_thousand_wakeups(alloc)
+    }
+}
+
+/// Its record.
+pub(crate) fn record_by(alloc: Global, stretches: u64) -> Result<Record, Fail> {
+    meeting_of(alloc, stretches)?.record(alloc)
+}
+
+/// The entries of auditors that make one stretch each, or two: one before each, and one before the page is posted.
+fn entries_by(stretches: u64) -> Entries {
+    let each = stretches.saturating_add(1);
+    (each, each, false)
 }
 
 /// How many pages a crew posts that meets at a gate, and the gate's entries.
@@ -168,17 +180,19 @@ fn compared_at<R: Threads + Wait + Clock + Sync>(
 fn gathered_on<R: Threads + Wait + Clock + Sync>(
     rt: &R,
     alloc: Global,
-    meeting: &Meeting,
+    stretches: u64,
 ) -> Result<(u32, Entries), Fail> {
-    let record = meeting.record(alloc)?;
+    let record = record_by(alloc, stretches)?;
     gathered_at(rt, alloc, &record)
 }
 
 #[test]
 fn auditors_of_a_crew_wait_for_each_other(rt: HostRuntime) -> Result<(), Fail> {
-    for meeting in &meetings(rt.alloc())? {
-        let entries = (meeting.entries, meeting.entries, false);
-        assert_eq!(rt; gathered_on(&rt, rt.alloc(), meeting)?, (2, entries));
+    for stretches in [1, 2] {
+        assert_eq!(rt;
+            gathered_on(&rt, rt.alloc(), stretches)?,
+            (2, entries_by(stretches))
+        );
     }
     Ok(())
 }
@@ -187,17 +201,19 @@ fn auditors_of_a_crew_wait_for_each_other(rt: HostRuntime) -> Result<(), Fail> {
 fn compared_on<R: Threads + Wait + Clock + Sync>(
     rt: &R,
     alloc: Global,
-    meeting: &Meeting,
+    stretches: u64,
 ) -> Result<(u32, bool, Entries), Fail> {
-    let record = meeting.record(alloc)?;
+    let record = record_by(alloc, stretches)?;
     compared_at(rt, alloc, &record)
 }
 
 #[test]
 fn auditors_of_a_record_wait_for_each_other(rt: HostRuntime) -> Result<(), Fail> {
-    for meeting in &meetings(rt.alloc())? {
-        let entries = (meeting.entries, meeting.entries, false);
-        assert_eq!(rt; compared_on(&rt, rt.alloc(), meeting)?, (0, true, entries));
+    for stretches in [1, 2] {
+        assert_eq!(rt;
+            compared_on(&rt, rt.alloc(), stretches)?,
+            (0, true, entries_by(stretches))
+        );
     }
     Ok(())
 }
@@ -231,11 +247,23 @@ fn texts_compared<R: Threads + Wait + Clock + Sync>(
     Ok((verdict == verdict_of(alloc, meeting)?, entries))
 }
 
+/// The same of a meeting.
+fn texts_compared_on<R: Threads + Wait + Clock + Sync>(
+    rt: &R,
+    alloc: Global,
+    stretches: u64,
+) -> Result<(bool, Entries), Fail> {
+    let meeting = meeting_of(alloc, stretches)?;
+    texts_compared(rt, alloc, &meeting)
+}
+
 #[test]
 fn auditors_of_two_texts_wait_for_each_other(rt: HostRuntime) -> Result<(), Fail> {
-    for meeting in &meetings(rt.alloc())? {
-        let entries = (meeting.entries, meeting.entries, false);
-        assert_eq!(rt; texts_compared(&rt, rt.alloc(), meeting)?, (true, entries));
+    for stretches in [1, 2] {
+        assert_eq!(rt;
+            texts_compared_on(&rt, rt.alloc(), stretches)?,
+            (true, entries_by(stretches))
+        );
     }
     Ok(())
 }
@@ -277,13 +305,22 @@ fn run_compared<R: Threads + Wait + Clock + Sync>(
     Ok((written == wanted, status, entries))
 }
 
+/// The same of a meeting.
+fn run_compared_on<R: Threads + Wait + Clock + Sync>(
+    rt: &R,
+    alloc: Global,
+    stretches: u64,
+) -> Result<(bool, Result<Status, Fault>, Entries), Fail> {
+    let meeting = meeting_of(alloc, stretches)?;
+    run_compared(rt, alloc, &meeting)
+}
+
 #[test]
 fn auditors_of_a_run_wait_for_each_other(rt: HostRuntime) -> Result<(), Fail> {
-    for meeting in &meetings(rt.alloc())? {
-        let entries = (meeting.entries, meeting.entries, false);
+    for stretches in [1, 2] {
         assert_eq!(rt;
-            run_compared(&rt, rt.alloc(), meeting)?,
-            (true, Ok(Status::Yes), entries)
+            run_compared_on(&rt, rt.alloc(), stretches)?,
+            (true, Ok(Status::Yes), entries_by(stretches))
         );
     }
     Ok(())
@@ -297,17 +334,21 @@ fn events_of(verdict: Verdict) -> Option<u64> {
     }
 }
 
+/// The same of a meeting.
+fn events_on(alloc: Global, stretches: u64) -> Result<Option<u64>, Fail> {
+    let meeting = meeting_of(alloc, stretches)?;
+    Ok(events_of(verdict_of(alloc, &meeting)?))
+}
+
 #[test]
 fn ten_thousand_wakeups_are_a_run(rt: HostRuntime) -> Result<(), Fail> {
-    let meeting = ten_thousand_wakeups(rt.alloc())?;
-    let verdict = verdict_of(rt.alloc(), &meeting)?;
-    assert_eq!(rt; events_of(verdict), Some(10000));
+    assert_eq!(rt; events_on(rt.alloc(), 2)?, Some(10000));
     Ok(())
 }
 
 /// At line 1 processor 0 switches away from a task that doesn't run there; then processor 1's task is woken for more than
 /// two stretches, of which its auditor makes one.
-fn fault_before_ten_thousand_wakeups(alloc: Global) -> Result<Meeting, Fail> {
+fn fault_before_ten_thousand_wakeups(alloc: Global) -> Result<Record, Fail> {
     let mut trace = Vec::new(alloc);
     trace.extend_from_slice(
         b"            t201-201     [000] d..2.   100.000000: sched_switch: prev_comm=t201 prev_pid=201 prev_prio=120 prev_state=S ==> next_comm=swapper/0 next_pid=0 next_prio=120\n",
@@ -317,18 +358,15 @@ fn fault_before_ten_thousand_wakeups(alloc: Global) -> Result<Meeting, Fail> {
             b"            t102-102     [001] d..2.   100.000000: sched_wakeup: comm=t102 pid=102 prio=120 target_cpu=001\n",
         )?;
     }
-    Ok(Meeting {
-        trace,
-        companion: BOTH_RUN,
-        entries: 2,
-    })
+    record_from(alloc, &trace, BOTH_RUN.as_bytes())
 }
 
 #[test]
 fn auditors_learn_of_a_fault_before_their_second_stretch(rt: HostRuntime) -> Result<(), Fail> {
-    let meeting = fault_before_ten_thousand_wakeups(rt.alloc())?;
-    let record = meeting.record(rt.alloc())?;
-    let entries = (meeting.entries, meeting.entries, false);
-    assert_eq!(rt; compared_at(&rt, rt.alloc(), &record)?, (0, true, entries));
+    let record = fault_before_ten_thousand_wakeups(rt.alloc())?;
+    assert_eq!(rt;
+        compared_at(&rt, rt.alloc(), &record)?,
+        (0, true, entries_by(1))
+    );
     Ok(())
 }

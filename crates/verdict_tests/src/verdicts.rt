@@ -1,7 +1,7 @@
 //! Verdicts on recordings of several processors, and the books that they come from.
 
-use crate::calls::{MaybeFault, Told, alone, book_for, closed, page_of, posted, record_from, told};
-use crate::machines::{IDLE_FOUND_LATE, Lines, Recording, TWO_FAULTS, recording_at, recordings};
+use crate::calls::{MaybeFault, book_for, closed, page_of, posted, record_from};
+use crate::machines::{IDLE_FOUND_LATE, Lines, Recording, TWO_FAULTS, recording_at};
 use cfs_model::Knobs;
 use sched_record::Record;
 use std::alloc::Global;
@@ -26,25 +26,6 @@ pub(crate) fn trace_of(alloc: Global, lines: Lines) -> Result<Vec<u8>, Fail> {
 pub(crate) fn record_of(alloc: Global, recording: &Recording) -> Result<Record, Fail> {
     let text = trace_of(alloc, recording.lines)?;
     record_from(alloc, &text, recording.companion.as_bytes())
-}
-
-/// What one thread comes to on a recording.
-fn told_of(alloc: Global, recording: &Recording) -> Result<Told, Fail> {
-    let record = record_of(alloc, recording)?;
-    Ok(told(alone(alloc, &record)?))
-}
-
-#[test]
-fn the_first_line_is_named_with_its_cause(rt: HostRuntime) -> Result<(), Fail> {
-    for recording in recordings() {
-        assert_eq!(rt;
-            told_of(rt.alloc(), recording)?,
-            (0, recording.fault),
-            "{}",
-            recording.name
-        );
-    }
-    Ok(())
 }
 
 /// What two posts told, how many pages were then made again, and the fault of the verdict.

@@ -7,8 +7,9 @@
 //!
 //!     rustc -O --edition 2021 -o plain bench/plain.rs && ./plain TRACE COMPANION [OPTIONS]
 //!
-//! The options are those of sched_audit without `--help` and `--version`.  A line is first tried by a reader for the
-//! shape that most lines have, and left to one that follows the grammar wherever it has another.  A standard output
+//! The options are those of sched_audit without `--help` and `--version`.  For `--least` the events are judged at the
+//! greatest settings, and of each setting the most that an event needed is kept.  A line is first tried by a reader for
+//! the shape that most lines have, and left to one that follows the grammar wherever it has another.  A standard output
 //! that is closed isn't told from one that takes everything, by Rust's own way of starting a program.
 
 use std::alloc::{GlobalAlloc, Layout, System};
@@ -1351,6 +1352,12 @@ struct Settings {
     slack: u64,
 }
 
+impl Settings {
+    const GREATEST: Settings =
+        Settings { granularity: MOST_SETTING, credit: MOST_SETTING, debit: MOST_SETTING, slack: MOST_SETTING };
+    const NONE: Settings = Settings { granularity: 0, credit: 0, debit: 0, slack: 0 };
+}
+
 /// What is wrong with an event.
 #[derive(Clone, Copy)]
 struct Fault {
@@ -1515,6 +1522,8 @@ impl Processor {
 
 struct Machine {
     settings: Settings,
+    /// Of each setting the most that an event needed so far; of the slack without those who idle still.
+    needs: Settings,
     processors: Vec<Processor>,
     /// In the order of the tallies: the companion's tasks, then births by line.
     tasks: Vec<Task>,
@@ -1563,6 +1572,7 @@ impl Machine {
     fn new(settings: Settings) -> Machine {
         Machine {
             settings,
+            needs: Settings::NONE,
             processors: Vec::new(),
             tasks: Vec::new(),
             slots: vec![0; MOST_PID as usize + 1],
@@ -1640,12 +1650,29 @@ impl Machine {
     fn note_idling(&mut self, cpu: usize, time: u64) {
         let processor = &mut self.processors[cpu];
         if processor.running != NONE || processor.waiting == 0 {
-            self.idle &= !(1 << cpu);
+            self.end_idling(cpu, time);
         } else if self.idle >> cpu & 1 == 0 {
             self.idle |= 1 << cpu;
             processor.since = time;
             self.deadline = self.deadline.min(time + self.settings.slack);
         }
+    }
+
+    /// A processor doesn't idle beside a waiting task any longer, if it did.
+    #[inline(always)]
+    fn end_idling(&mut self, cpu: usize, time: u64) {
+        if self.idle >> cpu & 1 != 0 {
+            self.idle &= !(1 << cpu);
+            self.needs.slack = self.needs.slack.max(time - self.processors[cpu].since);
+        }
+    }
+
+    /// What the events needed, the last of them at this time, behind which nobody idles any longer.
+    fn needs_until(mut self, time: u64) -> Settings {
+        for cpu in 0..self.processors.len() {
+            self.end_idling(cpu, time);
+        }
+        self.needs
     }
 
     /// The lowest processor that at this time has idled for too long.
@@ -1843,6 +1870,7 @@ impl Machine {
             if task.v > least + self.settings.granularity as i64 {
                 return wrong(cpu, next, Kind::NotLeast);
             }
+            self.needs.granularity = self.needs.granularity.max((task.v - least) as u64);
             task.place = Place::Run;
             task.picks += 1;
             if !stays {
@@ -1861,7 +1889,7 @@ impl Machine {
             }
         }
         self.processors[cpu].running = chosen;
-        self.idle &= !(1 << cpu);
+        self.end_idling(cpu, time);
         self.counts.switches += 1;
         self.counts.deaths += (prev != 0 && way == Way::Ends) as u64;
         Ok(())
@@ -1898,6 +1926,7 @@ impl Machine {
         if claim.v < least || claim.v > task.v.max(floor) {
             return wrong(cpu, pid, Kind::WakeBounds);
         }
+        self.needs.credit = self.needs.credit.max((floor - claim.v).max(0) as u64);
         self.enqueue(slot, cpu, claim.v);
         self.note_idling(cpu, time);
         Ok(())
@@ -1924,6 +1953,7 @@ impl Machine {
         if claim.v < floor || claim.v > floor + self.settings.debit as i64 {
             return wrong(cpu, pid, Kind::ForkBounds);
         }
+        self.needs.debit = self.needs.debit.max((claim.v - floor) as u64);
         let mut slot = self.slots[pid as usize].wrapping_sub(1);
         match self.tasks.get_mut(slot as usize) {
             Some(task) if task.place != Place::Gone => return wrong(cpu, pid, Kind::BornTwice),
@@ -2000,7 +2030,9 @@ impl Machine {
 enum Verdict {
     Refused { source: &'static str, line: u64, cause: &'static str },
     Fault(u64, Fault),
-    Run(Machine),
+    /// The machine after the last event, and the time of that, or the start where there is none.
+    Run(Machine, u64),
+    Least(Settings),
 }
 
 /// Both texts as they are gone through, and what was found so far.
@@ -2200,7 +2232,7 @@ impl Audit {
                 }
             }
         }
-        self.verdict()
+        self.verdict(last_time)
     }
 
     /// The trace's first bad line decides, once both files were read.
@@ -2214,8 +2246,8 @@ impl Audit {
         Ok(Verdict::Refused { source: "trace", line, cause })
     }
 
-    /// After the whole trace.
-    fn verdict(mut self) -> Result<Verdict, Failure> {
+    /// After the whole trace, whose last event was at this time.
+    fn verdict(mut self, last_time: u64) -> Result<Verdict, Failure> {
         self.pass_over(NEVER);
         if let Some(idle) = self.idles.last() {
             self.stray_at(idle.line);
@@ -2231,7 +2263,7 @@ impl Audit {
             Audit { late: Some(line), .. } => join(line, "StartLate"),
             Audit { stray: Some(line), .. } => join(line, "ClaimNoEvent"),
             Audit { fault: Some((line, fault)), .. } => Ok(Verdict::Fault(line, fault)),
-            Audit { machine, .. } => Ok(Verdict::Run(machine)),
+            Audit { machine, start, .. } => Ok(Verdict::Run(machine, last_time.max(start))),
         }
     }
 }
@@ -2302,7 +2334,7 @@ fn report(verdict: Verdict) -> io::Result<i32> {
             write!(report.text, "fault line {line} cpu {cpu} pid {pid} {}", kind.words())?;
             1
         }
-        Verdict::Run(Machine { counts, tasks, .. }) => {
+        Verdict::Run(Machine { counts, tasks, .. }, _) => {
             report.put(b"run\nevents ", counts.events as u128)?;
             report.put(b"\nswitches ", counts.switches as u128)?;
             report.put(b"\nmigrations ", counts.migrations as u128)?;
@@ -2316,6 +2348,13 @@ fn report(verdict: Verdict) -> io::Result<i32> {
             }
             0
         }
+        Verdict::Least(least) => {
+            report.put(b"least granularity-ns ", least.granularity as u128)?;
+            report.put(b"\nleast credit-ns ", least.credit as u128)?;
+            report.put(b"\nleast debit-ns ", least.debit as u128)?;
+            report.put(b"\nleast slack-ns ", least.slack as u128)?;
+            0
+        }
     };
     report.text.push(b'\n');
     report.write()?;
@@ -2325,19 +2364,22 @@ fn report(verdict: Verdict) -> io::Result<i32> {
 // ---------------------------------------------------------------------------------------------------------------------
 // The command line.
 
-const USAGE: &str =
-    "Usage: plain [--granularity-ns N] [--credit-ns N] [--debit-ns N] [--slack-ns N] TRACE COMPANION\n";
+const USAGE: &str = "Usage: plain [--granularity-ns N] [--credit-ns N] [--debit-ns N] [--slack-ns N] TRACE COMPANION
+       plain --least TRACE COMPANION
+";
 
 struct Request {
     trace: String,
     companion: String,
     settings: Settings,
+    /// Whether the least settings are told in place of a run.
+    least: bool,
 }
 
 /// What the words ask for; None where they make no sense.
 fn request_of(mut words: impl Iterator<Item = String>) -> Option<Request> {
     let (mut granularity, mut credit, mut debit, mut slack) = (None, None, None, None);
-    let (mut files, mut only_files) = (Vec::new(), false);
+    let (mut files, mut only_files, mut least) = (Vec::new(), false, false);
     while let Some(word) = words.next() {
         if only_files || !word.starts_with('-') || word == "-" {
             files.push(word);
@@ -2345,6 +2387,13 @@ fn request_of(mut words: impl Iterator<Item = String>) -> Option<Request> {
         }
         if word == "--" {
             only_files = true;
+            continue;
+        }
+        if word == "--least" {
+            if least {
+                return None;
+            }
+            least = true;
             continue;
         }
         let (name, value) = match word.split_once('=') {
@@ -2364,13 +2413,16 @@ fn request_of(mut words: impl Iterator<Item = String>) -> Option<Request> {
         }
     }
     let [trace, companion] = <[String; 2]>::try_from(files).ok()?;
+    if least && [granularity, credit, debit, slack].iter().any(Option::is_some) {
+        return None;
+    }
     let settings = Settings {
         granularity: granularity.unwrap_or(1_000_000),
         credit: credit.unwrap_or(3_000_000),
         debit: debit.unwrap_or(3_000_000),
         slack: slack.unwrap_or(100_000),
     };
-    Some(Request { trace, companion, settings })
+    Some(Request { trace, companion, settings: if least { Settings::GREATEST } else { settings }, least })
 }
 
 fn main() {
@@ -2382,6 +2434,10 @@ fn main() {
     let trace = File::open(request.trace).unwrap_or_else(|_| Failure::ReadTrace.end());
     let companion = File::open(request.companion).unwrap_or_else(|_| Failure::ReadCompanion.end());
     let verdict = Audit::new(companion, request.settings).judge(trace).unwrap_or_else(|failure| failure.end());
+    let verdict = match verdict {
+        Verdict::Run(machine, last_time) if request.least => Verdict::Least(machine.needs_until(last_time)),
+        verdict => verdict,
+    };
     match report(verdict) {
         Ok(status) => exit(status),
         Err(_) => Failure::Write.end(),

@@ -1,6 +1,6 @@
 """Random runs of the scheduler: a machine is led by the rules of docs/RULES.md, one event after another, and each event
 is written as a line of a trace, with its claim in a companion; a companion of version 2 tells changes of nice values too,
-and which tasks are of the idle policy.  So what the report has to say of the run is known."""
+and which tasks are of the idle policy.  So what the report has to say of the run is known, and which settings it needs."""
 
 from typing import NamedTuple
 
@@ -28,12 +28,18 @@ OTHERS = (b"#", b"", b"# CPU:0 [LOST EVENTS]", b"#" * 70)
 
 
 class Input(NamedTuple):
-    """What both auditors are called on, and the report where it is known beforehand."""
+    """What both auditors are called on; where they are known beforehand, the report and what is told of the least settings."""
 
     trace: bytes
     companion: bytes
     options: tuple
     report: bytes = None
+    least: bytes = None
+
+
+def options_of(settings):
+    """The words that ask for these settings."""
+    return tuple(word for option, value in zip(OPTIONS, settings) for word in (option, str(value)))
 
 
 class Task:
@@ -67,6 +73,7 @@ class Machine:
         self.settings = STANDARD if rng.random() < 0.6 else tuple(
             rng.choice((0, 1, 1000, standard, 10**9, MOST_SETTING)) for standard in STANDARD)
         self.granularity, self.credit, self.debit, self.slack = self.settings
+        self.needs = dict.fromkeys(OPTIONS, 0)
         self.version = rng.choice((1, 2))
         self.changing = rng.choice((0, 0.05, 0.4)) if self.version == 2 else 0
         self.idling = rng.choice((0, 0.1, 0.5)) if self.version == 2 else 0
@@ -134,6 +141,10 @@ class Machine:
         idles = not self.running(processor) and self.who(b"wait", processor)
         processor.since = (self.time if processor.since is None else processor.since) if idles else None
 
+    def need(self, option, value):
+        """An event needs a setting of so much, where that is above 0."""
+        self.needs[option] = max(self.needs[option], value)
+
     def cost(self, processor):
         """What whoever runs is to be charged up to now."""
         running = self.running(processor)
@@ -182,6 +193,9 @@ class Machine:
             self.lines.append(rng.choice((*OTHERS, self.head(cpu) + b"sched_stat_runtime: comm=a pid=1")))
         self.lines.append(self.head(cpu) + text)
         self.counts[b"events"] += 1
+        for processor in self.processors:
+            if processor.since is not None:
+                self.need("--slack-ns", self.time - processor.since)
         if self.changed:
             self.claims.append(b"nice %d %d %d" % (len(self.lines), self.changed.pid, self.changed.nice))
             self.changed = None
@@ -219,6 +233,7 @@ class Machine:
             before.place = place
             self.counts[b"deaths"] += place is None
         if after:
+            self.need("--granularity-ns", after.virtual - min(task.virtual for task in waiting + [before] * bool(stays)))
             after.place = b"run"
             after.picks += 1
         self.counts[b"switches"] += 1
@@ -251,6 +266,7 @@ class Machine:
         self.changes(processor)
         low, high = (max(task.virtual, bound) for bound in (processor.floor - self.credit, processor.floor))
         self.placed(task, low, high, b"sched_wakeup")
+        self.need("--credit-ns", processor.floor - task.virtual)
         return True
 
     def wakeup_again(self):
@@ -276,6 +292,7 @@ class Machine:
         task.nice, task.idle, task.cpu = self.nice(), self.idle(), processor.number
         self.counts[b"births"] += 1
         self.placed(task, processor.floor, min(processor.floor + self.debit, MOST_VIRTUAL), b"sched_wakeup_new")
+        self.need("--debit-ns", task.virtual - processor.floor)
         self.names_idle(len(self.lines), task)
         return True
 
@@ -316,14 +333,18 @@ class Machine:
         for task in self.tasks.values():
             yield b"task %d ran %d charged %d picks %d\n" % (task.pid, task.ran, task.charged, task.picks)
 
+    def least(self):
+        """What has to be told of the least settings."""
+        for option, value in self.needs.items():
+            yield b"least %s %d\n" % (option[2:].encode(), value)
+
 
 def recording(rng):
-    """A run of some events, and its report."""
+    """A run of some events, with its report and the least settings."""
     machine = Machine(rng)
     for _ in range(rng.choice((3, 20, 40, 80, 160))):
         machine.go_on()
-    options = () if machine.settings == STANDARD else tuple(
-        word for option, value in zip(OPTIONS, machine.settings) for word in (option, str(value)))
+    options = () if machine.settings == STANDARD else options_of(machine.settings)
     companion = machine.beginning + machine.idles + machine.claims
     return Input(b"".join(line + b"\n" for line in machine.lines), b"".join(line + b"\n" for line in companion), options,
-                 b"".join(machine.report()))
+                 b"".join(machine.report()), b"".join(machine.least()))

@@ -1,0 +1,52 @@
+"""The least settings at which a recording is a run: what both auditors tell of them, held against the rules where these are
+known beforehand, and against the program's own verdicts at these settings and one below each."""
+
+import re
+
+from recordings import MOST_SETTING, OPTIONS, options_of
+
+LEAST = "--least"
+TOLD = re.compile(rb"".join(rb"least %s (\d+)\n" % option[2:].encode() for option in OPTIONS))
+# The fault of a recording that gets one less than it needs, setting by setting.
+KINDS = ("NotLeast", "WakeBounds", "ForkBounds", "IdleTooLong")
+
+
+def is_asked(number):
+    """Whether an input's least settings are asked for too: those of ten inputs of eighty, so of each sort alike."""
+    return number // 10 % 8 == 0
+
+
+def at_least(answer, told, report, below):
+    """What is wrong with the program's verdicts at the least settings that it told, and one below; the report of a run may
+    be known.  `answer` gives the program's answer with options, and `below` counts which settings were above 0."""
+    least = [int(value) for value in told.groups()]
+    words = options_of(least)
+    given = answer(words)
+    if given[0] != 0 or given[1].split(b"\n")[0] != b"run" or report not in (None, given[1]):
+        yield f"at {' '.join(words)}, the least that it told, the program answers {given!r}"
+    for place, kind in enumerate(KINDS):
+        if least[place]:
+            below[kind] += 1
+            words = options_of(least[:place] + [least[place] - 1] + least[place + 1:])
+            given = answer(words)
+            if given[0] != 1 or given[1].split()[7:8] != [f"{kind}:".encode()]:
+                yield f"at {' '.join(words)}, one below the least, the program answers {given!r}"
+
+
+def wrong_least(answers, answer, given, below):
+    """What is wrong with what is told of an input's least settings.  `answers` gives both answers with options, and the
+    others are as above."""
+    told, other = answers((LEAST,))
+    if told != other or told[0] not in (0, 1, 2) or given.least not in (None, told[1]):
+        known = "" if given.least is None else f", and the rules {given.least!r}"
+        yield f"with {LEAST} the program answers {told!r}, the plain auditor {other!r}{known}"
+    elif told[0] == 0:
+        settings = TOLD.fullmatch(told[1])
+        if settings:
+            yield from at_least(answer, settings, None if LEAST in given.options else given.report, below)
+        else:
+            yield f"with {LEAST} both answer {told!r}"
+    elif told[0] == 1:
+        greatest = answer(options_of([MOST_SETTING] * len(OPTIONS)))
+        if greatest != told:
+            yield f"with {LEAST} the program answers {told!r}, and {greatest!r} at the greatest settings"

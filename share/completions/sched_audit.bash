@@ -6,7 +6,7 @@ _sched_audit() {
   esac
   if [[ $word == -* ]]; then
     mapfile -t COMPREPLY < <(compgen -W \
-      "--granularity-ns --credit-ns --debit-ns --slack-ns -h --help -V --version" -- "$word")
+      "--granularity-ns --credit-ns --debit-ns --slack-ns --least --explain -h --help -V --version" -- "$word")
   else
     compopt -o filenames
     mapfile -t COMPREPLY < <(compgen -f -- "$word")

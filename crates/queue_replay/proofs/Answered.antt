@@ -6,10 +6,11 @@ use Rattle.std.proofs.lemmas.Bool.{false≢true, not-true, not_from_false}
 use Rattle.std.proofs.lemmas.Option.{same_Some}
 use Rattle.replay_model.specs.Part.{Part, Entity, IsIn, NobodyIn, IsIdlePart}
 use Rattle.replay_model.specs.ClaimTests.{IsInWakeBounds}
+use Rattle.replay_model.specs.Needs.{IsLeastWaiting}
 use Rattle.replay_model.specs.QueueTests.{HasOtherNice, IsRunner}
 use Rattle.cfs_model.specs.declared.task.Place.TheVariants.{Run, Wait, Rest}
 use Rattle.cfs_model.specs.declared.task.Task.{Task}
-use Rattle.queue_replay.specs.Queue.{IdlesBeside, IsTheRunner, IsLeastOfWaiting}
+use Rattle.queue_replay.specs.Queue.{IdlesBeside, IsTheRunner}
 use Rattle.queue_replay.specs.Tasks.{entity_of}
 use Rattle.queue_replay.proofs.Parts.{its_place}
 
@@ -61,7 +62,7 @@ pub task_runs : (part : Part) (pid : ℕ) → pid ≢ 0 → (b : Bool) → (IsTr
 task_runs part zero ne b same = absurd (ne refl)
 task_runs part (suc n) ne b same = same
 
-pub idles_beside : (part : Part) (next : ℕ) (v : ℤ) → next ≡ 0 → IsLeastOfWaiting part v → IdlesBeside part next 0
+pub idles_beside : (part : Part) (next : ℕ) (v : ℤ) → next ≡ 0 → IsLeastWaiting part v → IdlesBeside part next 0
 idles_beside part (suc n) v e w = absurd (omega (arith, e))
 idles_beside part zero v e w = ((w.pid, ap its_place w.stands ∙ ap Some w.waits), refl)
 
@@ -78,7 +79,7 @@ in_bounds credit floor own v b from to same = (
 )
 
 -- whether nobody runs beside a waiting task
-pub idles : (part : Part) (runner : Option Task) (v : ℤ) → IsTheRunner part runner → is_some runner ≡ false → IsLeastOfWaiting part v → IsIdlePart part
+pub idles : (part : Part) (runner : Option Task) (v : ℤ) → IsTheRunner part runner → is_some runner ≡ false → IsLeastWaiting part v → IsIdlePart part
 idles part (Some t) v ran none w = absurd cc
 idles part None v nobody none w = record { nobody_runs = nobody; pid = w.pid; waits = ap its_place w.stands ∙ ap Some w.waits }
 

@@ -14,12 +14,13 @@ use Rattle.std.proofs.lemmas.Int.{ints, clamps}
 use Rattle.std.proofs.lemmas.Option.{same_Some}
 use Rattle.cfs_model.specs.Charge.{greatest}
 use Rattle.cfs_model.specs.Machine.{put}
+use Rattle.replay_model.specs.Needs.{IsLeastWaiting}
 use Rattle.replay_model.specs.Part.{Part, Entity, NobodyIn, charged_part, charged_in, cost_in, runtime_after, IsLeastHere}
 use Rattle.replay_model.specs.QueueTests.{IsOutOfRange}
 use Rattle.cfs_model.specs.declared.task.Place.{Place}
 use Rattle.cfs_model.specs.declared.task.Place.TheVariants.{Run, Wait, Rest}
 use Rattle.cfs_model.specs.declared.task.Task.{Task}
-use Rattle.queue_replay.specs.Queue.{IsTheRunner, IsLeastOfWaiting, IsLeastWaiting, IsLeastQueued}
+use Rattle.queue_replay.specs.Queue.{IsTheRunner, IsLeastIfWaiting, IsLeastQueued}
 use Rattle.queue_replay.specs.Standing.{by_runtime, listed, standing, runtime_if, waiting_runtime, IsOnlyRunner, IsQueue, waiting_task}
 use Rattle.queue_replay.specs.declared.waiting_task.WaitingTask.{WaitingTask}
 use Rattle.queue_replay.specs.Tasks.{cost_of, charged_task, CanBeCharged, entity_of}
@@ -58,7 +59,7 @@ no_keys a none k = go a.keys none
 
 module _ (runner : Option Task) (m : BTreeMap ℕ Task) (a : BTreeSet WaitingTask) (floor : ℤ) (mark : ℕ) (kept : IsQueue runner m a) where
   -- the first of the set is the least of those who wait
-  pub least_is : (k : WaitingTask) → IsTrue (contains by_runtime a k) → IsLowerBound by_runtime a k → IsLeastOfWaiting (part_with (standing runner m) floor mark) k.v
+  pub least_is : (k : WaitingTask) → IsTrue (contains by_runtime a k) → IsLowerBound by_runtime a k → IsLeastWaiting (part_with (standing runner m) floor mark) k.v
   least_is k member least =
       let at = waits_where (standing runner m) a (waiting_in runner m a kept) in
       let w = waits_is (standing runner m k.pid) k.v ((at k.v k.pid).0 member) in
@@ -100,7 +101,7 @@ runner_only part t r pid s e runs =
     let p : pid ≡ t.pid = r.2 pid (ap its_place e ∙ ap Some runs) in
     ap (λ (x : Entity). x.runtime) (same_Some s (entity_of t) (sym e ∙ ap part.tasks p ∙ r.0))
 
-pub least_of_both : (part : Part) (t : Task) (v : ℤ) → IsTheRunner part (Some t) → IsLeastOfWaiting part v → IsLeastHere part (int_min v t.v)
+pub least_of_both : (part : Part) (t : Task) (v : ℤ) → IsTheRunner part (Some t) → IsLeastWaiting part v → IsLeastHere part (int_min v t.v)
 least_of_both part t v r w =
     elim (cases_ℤ v t.v) [
       | inl below ↦ record {
@@ -147,7 +148,7 @@ least_of_runner part t r nobody = record {
     each other s e (inl runs) = let h = runner_only part t r other s e runs in omega (arith, ints, h)
     each other s e (inr waits) = absurd (nobody other (ap its_place e ∙ ap Some waits))
 
-pub least_without_runner : (part : Part) (o : Option ℤ) → IsTheRunner part None → IsLeastWaiting part o → IsLeastQueued part o
+pub least_without_runner : (part : Part) (o : Option ℤ) → IsTheRunner part None → IsLeastIfWaiting part o → IsLeastQueued part o
 least_without_runner part None nobody none = λ pid s e q. each pid s e (queued s.place q)
   where
     each : (pid : ℕ) (s : Entity) → part.tasks pid ≡ Some s → (s.place ≡ Run) ⊎ (s.place ≡ Wait) → ⊥

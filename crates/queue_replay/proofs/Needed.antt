@@ -10,7 +10,7 @@ use Rattle.cfs_model.specs.declared.task.Place.{Place}
 use Rattle.cfs_model.specs.declared.task.Place.TheVariants.{Wait}
 use Rattle.replay_model.specs.ClaimTests.{IsNextNotWaiting}
 use Rattle.replay_model.specs.Deeds.{part_after_prev}
-use Rattle.replay_model.specs.Needs.{AllPassNeeding, AreStepNeeds, IsBirthNeed, IsExcess, IsPickNeed, IsWakeNeed, PassesNeeding, idle_need, only_slack}
+use Rattle.replay_model.specs.Needs.{AllPassNeeding, AreStepNeeds, IsBirthNeed, IsExcess, IsLeastWaiting, IsPickNeed, IsWakeNeed, PassesNeeding, idle_need, only_slack}
 use Rattle.replay_model.specs.Page.{ReplayStateView}
 use Rattle.replay_model.specs.Part.{Part, Entity, IsIn, place_in}
 use Rattle.replay_model.specs.declared.step.Deed.{Deed}
@@ -19,7 +19,7 @@ use Rattle.replay_model.specs.declared.step.Step.{Step}
 use Rattle.replay_model.proofs.Clear.{place_or}
 use Rattle.replay_model.proofs.PartFacts.{task_in}
 use Rattle.queue_replay.specs.Needing.{IsNeed, PassesRaising, step_needs}
-use Rattle.queue_replay.specs.Queue.{IsAbove, IsAboveGranularity, IsLead, IsLeastOfWaiting, IsLeastWaiting}
+use Rattle.queue_replay.specs.Queue.{IsAbove, IsAboveGranularity, IsLead, IsLeastIfWaiting}
 use Rattle.queue_replay.proofs.Parts.{its_place}
 use Rattle.queue_replay.proofs.Passed.{next_stays}
 
@@ -29,12 +29,12 @@ pub over_lead : (granularity next lead : ℕ) (own : Option Entity) (part : Part
 over_lead granularity zero lead own part k h = absurd (omega (arith, h, k))
 over_lead granularity (suc n) lead own part k h = go own h.0 h.1 h.2
   where
-    beyond : (s : Entity) (v : ℤ) → IsLeastOfWaiting part v → IsExcess s.runtime v lead
+    beyond : (s : Entity) (v : ℤ) → IsLeastWaiting part v → IsExcess s.runtime v lead
         → IsAboveGranularity granularity (Some s) part (suc n) (suc n)
     beyond s v w (inl e) = let f = e.1 in absurd (omega (arith, f, k))
     beyond s v w (inr e) = let r = w.runtime in ((s, w.task, w.pid, refl, w.stands, w.waits, omega (arith, ints, r, e, k)), refl)
 
-    go : (o : Option Entity) (least : Option ℤ) → IsLeastWaiting part least → IsAbove o least lead
+    go : (o : Option Entity) (least : Option ℤ) → IsLeastIfWaiting part least → IsAbove o least lead
         → IsAboveGranularity granularity o part (suc n) (suc n)
     go (Some s) (Some v) w a = beyond s v w a
     go None least w a = absurd (omega (arith, a, k))
@@ -50,7 +50,7 @@ in_lead granularity (suc n) lead own part k h pid a = go own h.0 h.1 h.2 a
     near s v (inl e) = let f = e.0 in omega (arith, ints, f)
     near s v (inr e) = omega (arith, ints, e, k)
 
-    go : (o : Option Entity) (least : Option ℤ) → IsLeastWaiting part least → IsAbove o least lead
+    go : (o : Option Entity) (least : Option ℤ) → IsLeastIfWaiting part least → IsAbove o least lead
         → ¬ IsAboveGranularity granularity o part (suc n) pid
     go None least w x b = let e = b.0.3 in cc
     go (Some s) None nobody x b = nobody b.0.2 (ap its_place b.0.4 ∙ ap Some b.0.5)
@@ -92,15 +92,9 @@ pick_needs_lead part moved prev prev_nice way (suc n) next_nice own need m o two
         subst (λ (x : Option Entity). IsLead x left (suc n) need) (o (λ e. cc) ∙ task.1)
         (subst (λ (p : Part). IsLead own p (suc n) need) m h)
 
-    go : (least : Option ℤ) → IsLeastWaiting left least → IsAbove (Some task.0) least need
+    go : (least : Option ℤ) → IsLeastIfWaiting left least → IsAbove (Some task.0) least need
         → IsPickNeed part (Switch prev prev_nice way (suc n) next_nice) need
-    go (Some v) w x = (
-      task.0,
-      v,
-      task.1,
-      record { pid = w.pid; task = w.task; stands = w.stands; waits = w.waits; runtime = w.runtime; least = w.least },
-      x,
-    )
+    go (Some v) w x = (task.0, v, task.1, w, x)
     go None nobody x = absurd (nobody (suc n) (ap its_place (next_stays part prev way (suc n) two) ∙ there))
 
 -- a step's needs, from its deed's and from the time for which the processor had idled
@@ -141,7 +135,7 @@ needs_of_step since found step need idle n i = record {
     of_idling (Leave pid nice dest) = refl
     of_idling (Arrive pid nice orig idles) = refl
 
--- the larger of settings
+-- settings that agree in each of the four are the same
 same_settings : (x y : Settings) → x.granularity ≡ y.granularity → x.credit ≡ y.credit → x.debit ≡ y.debit → x.slack ≡ y.slack → x ≡ y
 same_settings x y g c d s =
     ap (λ n. record { granularity = n; credit = x.credit; debit = x.debit; slack = x.slack }) g
@@ -149,9 +143,11 @@ same_settings x y g c d s =
     ∙ ap (λ n. record { granularity = y.granularity; credit = y.credit; debit = n; slack = x.slack }) d
     ∙ ap (λ n. record { granularity = y.granularity; credit = y.credit; debit = y.debit; slack = n }) s
 
+-- the larger of settings and of those that let nothing pass, in either order
 larger_none : (here : Settings) → larger (only_slack 0) here ≡ larger here (only_slack 0)
 larger_none here = same_settings (larger (only_slack 0) here) (larger here (only_slack 0)) (omega arith) (omega arith) (omega arith) (omega arith)
 
+-- the larger of three settings, whichever two come first
 larger_of_three : (x y z : Settings) → larger (larger x y) z ≡ larger x (larger y z)
 larger_of_three x y z = same_settings (larger (larger x y) z) (larger x (larger y z)) (omega arith) (omega arith) (omega arith) (omega arith)
 

@@ -1,9 +1,9 @@
 -- A runqueue, as the part of a machine at its processor (this project's profile).
-use Rattle.std.specs.Prelude.{◌≡◌, ◌≢◌, ℕ, zero, suc, Option, Some, None, option_map, ℤ, pos, ◌+ℤ◌, ◌≤ℤ◌, ◌<ℤ◌}
+use Rattle.std.specs.Prelude.{◌≡◌, ◌≢◌, ℕ, zero, suc, Option, Some, None, option_map, ℤ, pos, ◌+ℤ◌, ◌<ℤ◌}
 use Rattle.std.specs.BTreeMap.{get}
 use Rattle.std.specs.BTreeSet.{contains}
 use Rattle.std.specs.Ordering.{nat_cmp}
-use Rattle.replay_model.specs.Needs.{IsExcess}
+use Rattle.replay_model.specs.Needs.{IsExcess, IsLeastWaiting}
 use Rattle.replay_model.specs.Part.{Part, Entity, IsIn, NobodyIn, IsQueuedHere, IsLeastHere}
 use Rattle.cfs_model.specs.declared.task.Place.TheVariants.{Run, Wait}
 use Rattle.cfs_model.specs.declared.task.Task.{Task}
@@ -26,19 +26,10 @@ IsTheRunner part None = NobodyIn part Run
 IsTheRunner part (Some t) =
     (part.tasks t.pid ≡ Some (entity_of t)) × (t.place ≡ Run) × ((pid : ℕ) → IsIn part Run pid → pid ≡ t.pid)
 
--- v is the least virtual runtime of those who wait here
-pub record IsLeastOfWaiting (part : Part) (v : ℤ) : Type 0 where
-  pub pid : ℕ
-  pub task : Entity
-  pub stands : part.tasks pid ≡ Some task
-  pub waits : task.place ≡ Wait
-  pub runtime : task.runtime ≡ v
-  pub least : (other : ℕ) (s : Entity) → part.tasks other ≡ Some s → s.place ≡ Wait → v ≤ℤ s.runtime
-
 -- the least virtual runtime of those who wait here; none where nobody does
-abbrev pub IsLeastWaiting : Part → Option ℤ → Type 0
-IsLeastWaiting part None = NobodyIn part Wait
-IsLeastWaiting part (Some v) = IsLeastOfWaiting part v
+abbrev pub IsLeastIfWaiting : Part → Option ℤ → Type 0
+IsLeastIfWaiting part None = NobodyIn part Wait
+IsLeastIfWaiting part (Some v) = IsLeastWaiting part v
 
 -- the least virtual runtime of those who run or wait here; none where nobody does
 abbrev pub IsLeastQueued : Part → Option ℤ → Type 0
@@ -66,7 +57,7 @@ IsAbove (Some s) None lead = lead ≡ 0
 -- how far the next task, as it stood, is above the least of those who wait; 0 where the processor goes idle
 abbrev pub IsLead : Option Entity → Part → ℕ → ℕ → Type 0
 IsLead own part zero lead = lead ≡ 0
-IsLead own part (suc n) lead = (least : Option ℤ) × IsLeastWaiting part least × IsAbove own least lead
+IsLead own part (suc n) lead = (least : Option ℤ) × IsLeastIfWaiting part least × IsAbove own least lead
 
 -- the task of a pid, if it stands here
 abbrev pub IsTaskAt : Part → ℕ → Option Task → Type 0

@@ -2,7 +2,7 @@ ghost use Rattle.std.specs.Prelude.{◌≡◌, ℕ, OnOk, IfErr};
 ghost use Rattle.replay_model.specs.Part.{IsLiftedPart, charged_part};
 ghost use Rattle.replay_model.specs.QueueTests.{IsOutOfRange};
 ghost use Rattle.queue_replay.specs.Standing.{IsQueue, standing};
-ghost use Rattle.queue_replay.specs.Queue.{IsLeastQueued, IsLeastWaiting, runqueue_view};
+ghost use Rattle.queue_replay.specs.Queue.{IsLeastIfWaiting, IsLeastQueued, runqueue_view};
 
 use crate::charging::charged;
 use crate::runqueue::Runqueue;
@@ -67,7 +67,7 @@ impl Runqueue {
 
     /// The least virtual runtime of those who wait.
     pub fn least_waiting(&self) -> Option<i64>
-        ensures { IsLeastWaiting (runqueue_view self.now) result }
+        ensures { IsLeastIfWaiting (runqueue_view self.now) result }
     {
         match self.waiting.first() {
             Some(first) => Some(first.v),

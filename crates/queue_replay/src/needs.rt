@@ -20,14 +20,22 @@ pub struct Needs {
 
 impl Needs {
     /// What no steps need.
-    pub(crate) fn none() -> Needs
-        ensures { needs_view result ≡ only_slack 0 }
+    pub const NONE: Needs = Needs {
+        granularity: 0,
+        credit: 0,
+        debit: 0,
+        slack: 0,
+    };
+
+    /// Of each setting the larger need.
+    pub fn larger(self, other: Needs) -> Needs
+        ensures { needs_view result ≡ larger (needs_view self) (needs_view other) }
     {
         Needs {
-            granularity: 0,
-            credit: 0,
-            debit: 0,
-            slack: 0,
+            granularity: self.granularity.max(other.granularity),
+            credit: self.credit.max(other.credit),
+            debit: self.debit.max(other.debit),
+            slack: self.slack.max(other.slack),
         }
     }
 

@@ -116,7 +116,7 @@ fn before_steps(alloc: Global, stream: &Stream) -> Result<ReplayState, Memory>
     Ok(ReplayState {
         made: 0,
         since: since_after(None, stream.start(), &queue),
-        needs: Needs::none(),
+        needs: Needs::NONE,
         queue,
         draft: PageDraft {
             line: NO_LINE,

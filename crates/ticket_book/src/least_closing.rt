@@ -1,6 +1,6 @@
 //! The least settings of a record, by its processors' pages at the greatest settings.
 ghost use Rattle.std.specs.Prelude.{◌≡◌, IfOk, length};
-ghost use Rattle.cfs_model.specs.Least.{greatest_settings, larger};
+ghost use Rattle.cfs_model.specs.Least.{greatest_settings};
 ghost use Rattle.cfs_model.specs.Settings.{AreInRange};
 ghost use Rattle.queue_replay.specs.Needing.{needs_view};
 ghost use Rattle.replay_model.specs.Needs.{largest};
@@ -16,14 +16,6 @@ use queue_replay::{Needs, Page};
 use replay_model::{closing, first_faults, needs};
 use sched_record::Record;
 use std::alloc::Global;
-
-/// What steps need that pass at any settings.
-const NO_NEEDS: Needs = Needs {
-    granularity: 0,
-    credit: 0,
-    debit: 0,
-    slack: 0,
-};
 
 /// The least settings of a record to which pages that suffice, at the greatest settings, come together.
 pub(crate) fn least_on(
@@ -69,22 +61,10 @@ fn largest_needs(pages: &[Page]) -> Needs
     ensures largest { needs_view result ≡ largest (needs_at pages.now) (length pages.now) }
     ensures have { HaveNeeds pages.now }
 {
-    let mut largest = NO_NEEDS;
+    let mut largest = Needs::NONE;
     for page in pages {
         page.replayed();
-        largest = larger(largest, page.needs());
+        largest = largest.larger(page.needs());
     }
     largest
-}
-
-/// Of each setting the larger need.
-fn larger(one: Needs, other: Needs) -> Needs
-    ensures { needs_view result ≡ larger (needs_view one) (needs_view other) }
-{
-    Needs {
-        granularity: one.granularity.max(other.granularity),
-        credit: one.credit.max(other.credit),
-        debit: one.debit.max(other.debit),
-        slack: one.slack.max(other.slack),
-    }
 }

@@ -2,14 +2,13 @@
 use Rattle.std.proofs.Common.{◌≡◌, ℕ, zero, suc, ◌+◌, ◌<◌, Some, List, [], ◌∷◌, length, get_or, inl, inr, sym, ap, ◌∙◌, subst, arith}
 use Rattle.std.specs.Prelude.{slice_get}
 use Rattle.std.proofs.lemmas.Bool.{cases_lt}
-use Rattle.std.proofs.lemmas.Option.{slice_get-get_or}
+use Rattle.std.proofs.lemmas.Option.{same_Some, slice_get-get_or, slice_get_within}
 use Rattle.cfs_model.specs.Least.{larger}
 use Rattle.cfs_model.specs.Settings.{Settings}
 use Rattle.queue_replay.specs.Needing.{HasNeeds}
 use Rattle.queue_replay.specs.Replay.{ReplayView}
 use Rattle.replay_model.specs.Needs.{largest}
 use Rattle.ticket_book.specs.NeedsOfPages.{HaveNeeds, needs_at}
-use Rattle.ticket_book.proofs.Verdicts.{slice_get-within}
 
 -- one page has the needs of its replay
 abbrev IsNeeding : ReplayView → Type 0
@@ -20,22 +19,12 @@ pub record AreLargest (pages : List ReplayView) (count : ℕ) (needs : Settings)
   pub largest_is : needs ≡ largest (needs_at pages) count
   pub have : (cpu : ℕ) (page : ReplayView) → cpu < count → slice_get pages cpu ≡ Some page → IsNeeding page
 
--- the needs on the page that is read at a place
-needs_here : (pages : List ReplayView) (k : ℕ) (page : ReplayView) → k < length pages → page ≡ get_or pages k page
-    → needs_at pages k ≡ page.needs
-needs_here [] k page h e = absurd (omega arith)
-needs_here (p ∷ pages) zero page h e = ap (λ p. p.needs) (sym e)
-needs_here (p ∷ pages) (suc k) page h e = needs_here pages k page (omega arith) e
-
 -- the needs on the page at a place
 pub needs_there : (pages : List ReplayView) (cpu : ℕ) (page : ReplayView) → slice_get pages cpu ≡ Some page
     → needs_at pages cpu ≡ page.needs
 needs_there [] cpu page is = cc
 needs_there (p ∷ pages) zero page is = let same : p ≡ page = cc in ap (λ p. p.needs) same
 needs_there (p ∷ pages) (suc cpu) page is = needs_there pages cpu page is
-
-one_page : (place : ReplayView) (page : ReplayView) → Some place ≡ Some page → place ≡ page
-one_page place page e = cc
 
 -- one page more
 pub one_larger : (pages : List ReplayView) (i : ℕ) (page : ReplayView) → i < length pages → page ≡ get_or pages i page
@@ -45,21 +34,23 @@ one_larger pages i page within is needing before after own own_is more l = recor
   largest_is =
       let next : suc i ≡ i + 1 = omega arith in
       more ∙ ap (λ s. larger s own) l.largest_is
-      ∙ ap (λ s. larger (largest (needs_at pages) i) s) (own_is ∙ sym (needs_here pages i page within is))
+      ∙ ap (λ s. larger (largest (needs_at pages) i) s) (own_is ∙ sym (needs_there pages i page stands))
       ∙ ap (largest (needs_at pages)) next;
   have = λ cpu other below at. elim (cases_lt cpu i) [
     | inl less ↦ l.have cpu other less at
     | inr not_less ↦
         let here : i ≡ cpu = omega (arith, below, not_less) in
-        let stands : slice_get pages i ≡ Some page = slice_get-get_or pages i page within ∙ ap Some (sym is) in
-        subst IsNeeding (one_page page other (sym stands ∙ ap (slice_get pages) here ∙ at)) needing
+        subst IsNeeding (same_Some page other (sym stands ∙ ap (slice_get pages) here ∙ at)) needing
   ];
 }
+  where
+    stands : slice_get pages i ≡ Some page
+    stands = slice_get-get_or pages i page within ∙ ap Some (sym is)
 
 -- all pages
 pub all_larger : (pages : List ReplayView) (count : ℕ) (needs : Settings) → count ≡ length pages
     → AreLargest pages count needs → (needs ≡ largest (needs_at pages) (length pages)) × HaveNeeds pages
 all_larger pages count needs all l = (
   l.largest_is ∙ ap (largest (needs_at pages)) all,
-  λ cpu page at. l.have cpu page (let h = slice_get-within pages cpu page at in omega (arith, h, all)) at,
+  λ cpu page at. l.have cpu page (let h = slice_get_within pages cpu page at in omega (arith, h, all)) at,
 )

@@ -3,6 +3,7 @@ use Rattle.std.proofs.Common.{◌≡◌, ℕ, zero, suc, ◌^◌, ◌<◌, ◌�
 use Rattle.std.specs.Prelude.{slice_get}
 use Rattle.std.specs.List.{AllPairs}
 use Rattle.std.proofs.lemmas.List.{length-map}
+use Rattle.std.proofs.lemmas.Option.{slice_get_within}
 use Rattle.cfs_model.specs.Claimed.{with_claim}
 use Rattle.cfs_model.specs.Settings.{Settings}
 use Rattle.cfs_model.specs.declared.act.Entry.{Entry}
@@ -43,11 +44,6 @@ record_in_order r o =
     record_from r.start r.floors r.tasks r.claims r.nices (policy_of r) r.events r.cpus start
     (λ k d h. (o.companion.tasks_in_limits k d h).cpu) o.inside (λ k d h. (o.companion.claims_in_limits k d h).v)
     o.events.never_falls o.started o.events.lines_rise o.events.from_one
-
-pub slice_get-within : (pages : List ReplayView) (cpu : ℕ) (page : ReplayView) → slice_get pages cpu ≡ Some page → cpu < length pages
-slice_get-within [] cpu page is = cc
-slice_get-within (p ∷ pages) zero page is = omega arith
-slice_get-within (p ∷ pages) (suc cpu) page is = let h = slice_get-within pages cpu page is in omega arith
 
 -- the page at a place
 pub page_there : (pages : List ReplayView) (cpu : ℕ) → cpu < length pages
@@ -121,9 +117,6 @@ module _ (knobs : Settings) (r : RecordView) (pages : List ReplayView) (sufficie
         (λ j e w. let below = last_greatest (λ (event : Entry). event.time) r.events r.start o.events.never_falls j e w in
         omega (arith, below, time_is))) added.0))
 
-  within : (cpu : ℕ) (page : ReplayView) → slice_get pages cpu ≡ Some page → cpu < length pages
-  within cpu page is = slice_get-within pages cpu page is
-
   -- the tickets on each page are in the order of their lines
   pub tickets_rise : IsRecordInOrder r → TicketsRise pages
   tickets_rise o =
@@ -131,5 +124,5 @@ module _ (knobs : Settings) (r : RecordView) (pages : List ReplayView) (sufficie
       (λ cpu page is. record {
         is_page = (sufficient.each cpu page is).is_page;
         lines = subst (λ (s : StreamView). AllPairs (λ a b. a.line < b.line) s.steps) (sym (sufficient.each cpu page is).stream)
-            (share_of r cpu o (let h = within cpu page is in let n = sufficient.count in omega arith)).lines_rise;
+            (share_of r cpu o (let h = slice_get_within pages cpu page is in let n = sufficient.count in omega arith)).lines_rise;
       })

@@ -11,5 +11,6 @@ pub record ReplayView : Type 0 where
   pub made : ℕ
   -- what its page would show
   pub page : PageView
-  -- what the steps made need of each setting; with the end test, the processor that idles at the record's last time too
+  -- where all steps were made and none failed, what they need of each setting, and the processor that idles at the record's
+  -- last time (HasNeeds); else nothing is said of it
   pub needs : Settings

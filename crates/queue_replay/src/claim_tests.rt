@@ -71,7 +71,7 @@ pub(crate) fn claim_pid(needed: Option<u32>, claim: Option<Claim>) -> Option<u32
     }
 }
 
-/// A woken task that rests is claimed outside its bounds; the credit is in nanoseconds.
+/// A woken task that rests is claimed outside its bounds; the credit is in virtual nanoseconds.
 pub(crate) fn wake_outside(
     queue: &Runqueue,
     pid: u32,
@@ -90,7 +90,7 @@ pub(crate) fn wake_outside(
     }
 }
 
-/// A new task is claimed outside its bounds; the debit is in nanoseconds.
+/// A new task is claimed outside its bounds; the debit is in virtual nanoseconds.
 pub(crate) fn fork_outside(
     queue: &Runqueue,
     pid: u32,
@@ -117,7 +117,7 @@ pub(crate) fn idle_beside_waiting(moved: &Runqueue, next: u32) -> Option<u32>
     moved.least_waiting().is_some().then_some(IDLE_PID)
 }
 
-/// The next task leads the least of those who wait by more than the granularity; both in nanoseconds.
+/// The next task leads the least of those who wait by more than the granularity; both in virtual nanoseconds.
 pub(crate) fn not_least(next: u32, lead: u64, granularity: u64) -> Option<u32>
     ensures { (own : Option Entity) (part : Part) → IsLead own part next lead → Decides result (IsAboveGranularity granularity own part next) }
 {

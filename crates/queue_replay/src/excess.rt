@@ -6,15 +6,15 @@ ghost use Rattle.queue_replay.specs.Tasks.{entity_of};
 use crate::runqueue::Runqueue;
 use cfs_model::{IDLE_PID, Task};
 
-/// How far a virtual runtime is above another, in nanoseconds; 0 where it isn't.
+/// How far a virtual runtime is above another, in virtual nanoseconds; 0 where it isn't.
 pub(crate) fn excess(v: i64, from: i64) -> u64
     ensures { IsExcess v from result }
 {
     if v > from { v.abs_diff(from) } else { 0 }
 }
 
-/// How far the next task, as it stood, is above the least of those who wait, in nanoseconds; the previous task has gone
-/// its way.
+/// How far the next task, as it stood, is above the least of those who wait, in virtual nanoseconds; the previous task has
+/// gone its way.
 pub(crate) fn lead(moved: &Runqueue, next: u32, own: Option<Task>) -> u64
     ensures { IsLead (option_map entity_of own) (runqueue_view moved.now) next result }
 {

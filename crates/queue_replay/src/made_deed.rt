@@ -5,6 +5,6 @@ use replay_model::Ticket;
 pub(crate) struct MadeDeed {
     /// The ticket of a task that leaves or comes.
     pub ticket: Option<Ticket>,
-    /// What it needs of the setting that it asks for, in nanoseconds.
+    /// What it needs of the setting that it asks for, in virtual nanoseconds.
     pub need: u64,
 }

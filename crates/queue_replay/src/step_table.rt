@@ -59,7 +59,7 @@ pub(crate) fn first_switch_test(
 }
 
 /// A switch's pick, after its previous task has gone its way: the first test that it fails. The next task, as it stood
-/// before, leads the least of those who wait by so many nanoseconds.
+/// before, leads the least of those who wait by so many virtual nanoseconds.
 pub(crate) fn first_pick_test(
     moved: &Runqueue,
     next: u32,

@@ -10,12 +10,13 @@ use Rattle.ticket_book.specs.Whole.{IsOwnPageOf}
 abbrev pub AreOwn : Settings → RecordView → List (Option ReplayView) → Type 0
 AreOwn knobs r places = (cpu : ℕ) (page : ReplayView) → page_at places cpu ≡ Some page → IsOwnPageOf knobs r cpu page
 
--- of the page at a processor's place, if there is one, it is told whether it is so
+-- the word on the page at a place is right: it is true just where that page is the record's own; where there is no page any
+-- word is
 abbrev pub IsToldOwn : Settings → RecordView → ℕ → Option ReplayView → Bool → Type 0
 IsToldOwn knobs r cpu None own = ⊤
 IsToldOwn knobs r cpu (Some page) own = IsTrue own ↔ IsOwnPageOf knobs r cpu page
 
--- of the page at each of these places, in the order of the processors
+-- so are the words on the pages at these places, in the order of the processors
 abbrev pub AreToldOwn : Settings → RecordView → List (Option ReplayView) → List Bool → Type 0
 AreToldOwn knobs r places owns =
     (cpu : ℕ) (own : Bool) → slice_get owns cpu ≡ Some own → IsToldOwn knobs r cpu (page_at places cpu) own

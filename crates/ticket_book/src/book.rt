@@ -98,20 +98,6 @@ impl Book {
         Ok(Closed { verdict, remade })
     }
 
-    /// The least settings of a record, for a book whose pages are all of the record's own streams, at the greatest settings:
-    /// those that got far enough are relied on, and the others are made again, as `close_own` does.
-    pub fn close_least(self, joined: &Record) -> Result<ClosedLeast, Memory>
-        requires own { AreOwn greatest_settings (record_view joined.now) (book_view self) }
-        ensures least { IfOk result (λ closed. IsLeastAnswer (record_view joined.now) closed.least) }
-        ensures remade { IfOk result (λ closed. AreRemade greatest_settings (record_view joined.now) (book_view self) closed.remade) }
-        ensures nothing_remade { IfOk result (λ closed. AreLeft greatest_settings (record_view joined.now) (book_view self) → closed.remade ≡ 0) }
-    {
-        let alloc = *self.places.allocator();
-        let (pages, remade) = sufficing_own_pages(alloc, self, joined, Knobs::greatest())?;
-        let least = least_on(alloc, &pages, joined)?;
-        Ok(ClosedLeast { least, remade })
-    }
-
     /// The verdict on a record, for a book whose pages are all of the record's own streams, with these settings. None is
     /// compared with the record: those that got far enough are relied on, and the others are made again.
     pub fn close_own(self, joined: &Record, knobs: Knobs) -> Result<Closed, Memory>
@@ -126,6 +112,20 @@ impl Book {
             verdict: verdict_on(alloc, &pages, joined, knobs)?,
             remade,
         })
+    }
+
+    /// The least settings of a record, for a book whose pages are all of the record's own streams, at the greatest settings:
+    /// those that got far enough are relied on, and the others are made again, as `close_own` does.
+    pub fn close_least(self, joined: &Record) -> Result<ClosedLeast, Memory>
+        requires own { AreOwn greatest_settings (record_view joined.now) (book_view self) }
+        ensures least { IfOk result (λ closed. IsLeastAnswer (record_view joined.now) closed.least) }
+        ensures remade { IfOk result (λ closed. AreRemade greatest_settings (record_view joined.now) (book_view self) closed.remade) }
+        ensures nothing_remade { IfOk result (λ closed. AreLeft greatest_settings (record_view joined.now) (book_view self) → closed.remade ≡ 0) }
+    {
+        let alloc = *self.places.allocator();
+        let (pages, remade) = sufficing_own_pages(alloc, self, joined, Knobs::greatest())?;
+        let least = least_on(alloc, &pages, joined)?;
+        Ok(ClosedLeast { least, remade })
     }
 
     /// The places of the book's processors.

@@ -51,7 +51,7 @@ pub(crate) fn sufficing_own_pages(
 /// The same of a book's places, where it is told of each whether its page is the record's own.
 fn gathered_pages(
     alloc: Global,
-    places: Vec<Option<Page>>,
+    mut places: Vec<Option<Page>>,
     own: &[bool],
     joined: &Record,
     knobs: Knobs,
@@ -61,7 +61,6 @@ fn gathered_pages(
     ensures suffice { IfOk result (λ made. AreSufficient knobs (record_view joined.now) made.0.items) }
     ensures remade { IfOk result (λ made. AreRemade knobs (record_view joined.now) places.items made.1) }
 {
-    let mut places = places;
     let least = least_fault(&places, own);
     let left = places.as_mut_slice();
     let mut pages = Vec::with_capacity(alloc, joined.cpus() as usize)?;

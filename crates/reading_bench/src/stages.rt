@@ -145,7 +145,7 @@ fn stages_of<R: Clock + Threads + Wait + Sync>(
         &|_cpu, seat: &mut Seat| seat.replay(alloc),
     );
     let replaying = lap(rt, &mut last)?;
-    let _left = seats;
+    drop(seats);
     let closing = closing_of(rt, alloc, record)?;
     Ok(Stages {
         dealing,

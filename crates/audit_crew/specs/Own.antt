@@ -1,4 +1,4 @@
--- Whose pages a shelf takes, and a crew's (this project's profile).
+-- Which pages a reserved shelf takes, and a crew's (this project's profile).
 use Rattle.std.specs.Prelude.{◌≡◌, []}
 use Rattle.cfs_model.specs.Settings.{Settings}
 use Rattle.queue_replay.specs.Replay.{ReplayView}

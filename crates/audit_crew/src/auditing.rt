@@ -1,5 +1,4 @@
 ghost use Rattle.std.specs.Prelude.{◌≡◌, ◌<◌, None, [], IfErr, OnOk, OnErr};
-ghost use Rattle.audit_crew.specs.Own.{AreTaken};
 ghost use Rattle.audit_crew.specs.Refusal.{IsToldBy};
 ghost use Rattle.audit_crew.specs.Tags.{IsOneTag};
 ghost use Rattle.sched_record.specs.Stream.{stream_view};
@@ -24,7 +23,6 @@ pub fn auditor<S: Shelf, G: Gate>(
     requires stretch { 0 < stretch }
     requires accepted { S.accepted shelf.old ≡ [] }
     requires refused { S.refused shelf.old ≡ None }
-    requires taken { AreTaken S.takes (stream_view stream) knobs }
     ensures posted { OnOk result (IsOneTag (stream_view stream) knobs (S.told shelf.new) (S.accepted shelf.new)) }
     ensures none_refused { OnOk result (S.refused shelf.new ≡ None) }
     ensures kept { OnErr result (S.accepted shelf.new ≡ S.accepted shelf.old) }

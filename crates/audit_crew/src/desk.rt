@@ -3,7 +3,7 @@ ghost use Rattle.std.specs.Option.{option_to_list};
 ghost use Rattle.audit_crew.specs.Own.{IsOwn};
 ghost use Rattle.audit_crew.specs.Tags.{tag_of};
 
-use crate::Shelf;
+use crate::reserved_shelf::ReservedShelf;
 use crate::shared_book::{CrewLedger, SharedBook};
 use queue_replay::{Page, Tag};
 use std::sync::ledger::Share;
@@ -55,7 +55,7 @@ impl<'b, L: CrewLedger, R: Wait> Desk<'b, L, R> {
     }
 }
 
-impl<L: CrewLedger, R: Wait> Shelf for Desk<'_, L, R> {
+impl<L: CrewLedger, R: Wait> ReservedShelf for Desk<'_, L, R> {
     ghost accepted = { λ desk. option_to_list desk.posted };
 
     ghost told = { λ desk. desk.told };

@@ -7,6 +7,7 @@ mod auditor_fault;
 mod desk;
 mod gate;
 mod gathered;
+mod reserved_shelf;
 mod seat;
 mod seats;
 mod serial;

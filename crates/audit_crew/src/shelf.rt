@@ -1,6 +1,5 @@
-ghost use Rattle.std.specs.Prelude.{◌≡◌, ℕ, ⊤, Option, Some, List, [], ◌∷◌, IfErr, OnOk, OnErr};
+ghost use Rattle.std.specs.Prelude.{◌≡◌, ℕ, Option, Some, List, [], ◌∷◌, IfErr, OnOk, OnErr};
 ghost use Rattle.audit_crew.specs.Tags.{tag_of};
-ghost use Rattle.queue_replay.specs.Replay.{ReplayView};
 ghost use Rattle.queue_replay.specs.declared.tag.Tag.{Tag};
 ghost use Rattle.ticket_book.specs.declared.post_fault.PostFault.{PostFault};
 
@@ -18,13 +17,9 @@ pub trait Shelf {
     /// The tag of the page that its `post` last refused, and why.
     ghost refused: { Self → Option (Tag × PostFault) };
 
-    /// The pages that may be posted through it. A shelf that doesn't say so takes every page.
-    ghost takes: { ReplayView → Type 0 } = { λ _. ⊤ };
-
     /// Posts a page. One that is refused comes back.
     fn post(&mut self, page: Page) -> Result<(), (Page, PostFault)>
-        requires free { accepted self.old ≡ [] }
-        requires taken { takes page }
+        requires { accepted self.old ≡ [] }
         ensures added { OnOk result (accepted self.new ≡ tag_of page ∷ []) }
         ensures kept { OnErr result (accepted self.new ≡ accepted self.old) }
         ensures back { IfErr result (λ e. e.0 ≡ page) }

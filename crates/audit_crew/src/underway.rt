@@ -7,7 +7,8 @@ ghost use Rattle.queue_replay.specs.Made.{state_of};
 ghost use Rattle.queue_replay.specs.declared.state.State.TheVariants.{Going};
 ghost use Rattle.sched_record.specs.Stream.{stream_view};
 
-use crate::{AuditorFault, Gate, Shelf};
+use crate::reserved_shelf::ReservedShelf;
+use crate::{AuditorFault, Gate};
 use cfs_model::{Knobs, Memory};
 use queue_replay::{Replay, State};
 use sched_record::Stream;
@@ -51,7 +52,7 @@ impl Underway {
     }
 
     /// Makes the stretches that are left, and posts the page.
-    pub(crate) fn end<S: Shelf, G: Gate>(
+    pub(crate) fn end<S: ReservedShelf, G: Gate>(
         self,
         shelf: &mut S,
         gate: &G,
@@ -92,7 +93,7 @@ fn before_steps(alloc: Global, stream: Stream, knobs: Knobs) -> Result<Replay, M
 
 /// Makes the steps that are left of a processor's replay, in stretches before which it asks the shelf and after which it
 /// enters the gate, until none is left, one fails, or the last is on the line that the shelf told or past it.
-fn go_through<S: Shelf, G: Gate>(
+fn go_through<S: ReservedShelf, G: Gate>(
     replay: &mut Replay,
     state: State,
     cpu: u32,

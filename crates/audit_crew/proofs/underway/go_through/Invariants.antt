@@ -7,8 +7,8 @@ abbrev pub invariant-stretches : goal.invariant-stretches
 invariant-stretches g l = record {
   stream : l.replay.stream ≡ l.initial.replay.stream;
   knobs : l.replay.knobs ≡ l.initial.replay.knobs;
-  accepted : g.S.Shelf.accepted l.shelf ≡ g.S.Shelf.accepted l.initial.shelf;
-  refused : g.S.Shelf.refused l.shelf ≡ g.S.Shelf.refused l.initial.shelf;
+  accepted : g.S.ReservedShelf.accepted l.shelf ≡ g.S.ReservedShelf.accepted l.initial.shelf;
+  refused : g.S.ReservedShelf.refused l.shelf ≡ g.S.ReservedShelf.refused l.initial.shelf;
   is_state : l.state ≡ state_of l.replay.page.fault l.replay.made (length l.replay.stream.steps);
   within : l.replay.made ≤ length l.replay.stream.steps;
   some : l.state ≡ Going → 0 < l.replay.made;

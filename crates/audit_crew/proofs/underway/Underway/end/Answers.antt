@@ -7,10 +7,10 @@ use Rattle.audit_crew.proofs.underway.Underway.end.Goals as goal
 pub returns-in-Ok-clause-posted : goal.returns-in-Ok-clause-posted
 returns-in-Ok-clause-posted g c =
     let page = c.page.result in
-    let told = g.S.Shelf.told c.post.new.self in
+    let told = g.S.ReservedShelf.told c.post.new.self in
     let through : IsThrough page told =
     subst (IsThrough page) (sym c.post.ensures.told)
-    (subst (λ r. IsThrough r (g.S.Shelf.told c.go_through.new.shelf)) (sym c.page.ensures.same) c.in_ok-go_through.ensures.through) in
+    (subst (λ r. IsThrough r (g.S.ReservedShelf.told c.go_through.new.shelf)) (sym c.page.ensures.same) c.in_ok-go_through.ensures.through) in
     let stream : page.stream ≡ c.args.self.replay.stream =
     ap (λ (r : ReplayView). r.stream) c.page.ensures.same ∙ c.in_ok-go_through.ensures.stream in
     let knobs : page.knobs ≡ c.args.self.replay.knobs =

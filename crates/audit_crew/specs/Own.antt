@@ -14,7 +14,7 @@ AreTaken takes stream knobs = (page : ReplayView) → page.stream ≡ stream →
 abbrev pub IsOwn : Settings → RecordView → ReplayView → Type 0
 IsOwn knobs r replay = IsOwnPageOf knobs r replay.stream.cpu replay
 
--- the record and the settings of a crew that hasn't any
+-- what a name that is no crew's ledger has in their place; `crew` picks its own
 abbrev pub no_record : RecordView
 no_record = record { cpus = 0; start = 0; floors = []; tasks = []; events = []; claims = []; nices = []; idles = [] }
 

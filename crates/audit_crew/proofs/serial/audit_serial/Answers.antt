@@ -4,6 +4,7 @@ use Rattle.sched_record.specs.Record.{record_view}
 use Rattle.ticket_book.specs.BookView.{book_view}
 use Rattle.audit_crew.proofs.InTurn.{AreFirst, all_own, nothing_remade, one_more}
 use Rattle.audit_crew.proofs.serial.audit_serial.Goals as goal
+use Rattle.audit_crew.proofs.serial.audit_serial.Goals.{After-loop-cpu}
 
 pub loop-cpu-preserved : goal.loop-cpu-preserved
 loop-cpu-preserved c =
@@ -17,25 +18,23 @@ loop-cpu-preserved c =
           c.post-told.ensures.refused c.post-told.ensures.added;
     }
 
-pub returns-clause-nothing_remade : goal.returns-clause-nothing_remade
-returns-clause-nothing_remade c =
+-- where the loop ends the pages of all processors are posted
+all_posted : (c : After-loop-cpu) → let r = record_view c.args.joined.now in AreFirst c.args.knobs r (book_view c.loop-cpu.book) r.cpus
+all_posted c =
     let r = record_view c.args.joined.now in
     let all : c.loop-cpu.cpu ≡ r.cpus =
     (let not_below = c.loop-cpu-test.false in let at_most = c.loop-cpu.auto.cpu-end in let end = c.cpus-cpu-end.ensures in
     omega (arith, not_below, at_most, end)) in
+    subst (AreFirst c.args.knobs r (book_view c.loop-cpu.book)) all c.loop-cpu.invariant.posted
+
+pub returns-clause-nothing_remade : goal.returns-clause-nothing_remade
+returns-clause-nothing_remade c =
+    let r = record_view c.args.joined.now in
     IfOk-weaker c.close_own.result _ _
     (λ closed remade. nothing_remade c.args.knobs r (book_view c.loop-cpu.book) closed.remade
-    (subst (AreFirst c.args.knobs r (book_view c.loop-cpu.book)) all c.loop-cpu.invariant.posted) remade)
+    (all_posted (goal.at.returns-clause-nothing_remade c).After-loop-cpu) remade)
     c.close_own.ensures.remade
 
 pub close_own-requires : goal.close_own-requires
 close_own-requires c =
-    let r = record_view c.args.joined.now in
-    let all : c.loop-cpu.cpu ≡ r.cpus =
-    (let not_below = c.loop-cpu-test.false in let at_most = c.loop-cpu.auto.cpu-end in let end = c.cpus-cpu-end.ensures in
-    omega (arith, not_below, at_most, end)) in
-    record {
-      own =
-          all_own c.args.knobs r (book_view c.loop-cpu.book)
-          (subst (AreFirst c.args.knobs r (book_view c.loop-cpu.book)) all c.loop-cpu.invariant.posted);
-    }
+    record { own = all_own c.args.knobs (record_view c.args.joined.now) (book_view c.loop-cpu.book) (all_posted c) }

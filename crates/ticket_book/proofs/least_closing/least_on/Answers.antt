@@ -2,12 +2,14 @@ use Rattle.std.proofs.Common.{length, sym, ◌∙◌, subst}
 use Rattle.cfs_model.specs.Least.{AreLeast, greatest_settings}
 use Rattle.cfs_model.specs.Settings.{AreInRange}
 use Rattle.cfs_model.specs.Start.{start_machine}
+use Rattle.replay_model.specs.Closing.{SayNothing}
 use Rattle.sched_record.specs.Record.{record_view}
 use Rattle.ticket_book.specs.SaidEvents.{events_of}
 use Rattle.ticket_book.specs.Told.{Tell, view_at}
 use Rattle.ticket_book.proofs.LeastFound.{bad_of, in_range, least_of}
 use Rattle.ticket_book.proofs.Verdicts.{tickets_rise}
 use Rattle.ticket_book.proofs.least_closing.least_on.Goals as goal
+use Rattle.ticket_book.proofs.least_closing.least_on.Goals.{After-largest_needs}
 
 pub told_by-requires-clause-rise : goal.told_by-requires-clause-rise
 told_by-requires-clause-rise c =
@@ -21,21 +23,27 @@ returns-in-Some c =
     c.least_settings.ensures.bad_at_all c.in-Some.line c.in-Some.cause
     (subst (Tell (view_at pages) (length pages) r.tasks (events_of r)) c.in-Some.is c.in_ok-line.ensures)
 
+-- the pages say nothing against any event
+nothing : (c : After-largest_needs) → let r = record_view c.args.joined.now in let pages = c.args.pages.now in
+    SayNothing (view_at pages) (length pages) r.tasks (events_of r)
+nothing c =
+    let r = record_view c.args.joined.now in
+    let pages = c.args.pages.now in
+    subst (Tell (view_at pages) (length pages) r.tasks (events_of r)) c.in-None.is c.in_ok-line.ensures
+
 pub knobs_of-requires : goal.knobs_of-requires
 knobs_of-requires c =
     let r = record_view c.args.joined.now in
     let pages = c.args.pages.now in
-    let nothing = subst (Tell (view_at pages) (length pages) r.tasks (events_of r)) c.in-None.is c.in_ok-line.ensures in
     subst AreInRange (sym c.largest_needs.ensures.largest)
-    (in_range r pages c.requires c.args.joined.now.in_order nothing c.largest_needs.ensures.have c.closing.ensures.done
+    (in_range r pages c.requires c.args.joined.now.in_order (nothing c) c.largest_needs.ensures.have c.closing.ensures.done
     c.needs.ensures.pages c.closing.ensures.run)
 
 pub returns-in-None : goal.returns-in-None
 returns-in-None c =
     let r = record_view c.args.joined.now in
     let pages = c.args.pages.now in
-    let nothing = subst (Tell (view_at pages) (length pages) r.tasks (events_of r)) c.in-None.is c.in_ok-line.ensures in
     subst (AreLeast r.start (start_machine r.start r.floors r.tasks) (events_of r))
     (sym (c.knobs_of.ensures ∙ c.largest_needs.ensures.largest))
-    (least_of r pages c.requires c.args.joined.now.in_order nothing c.largest_needs.ensures.have c.closing.ensures.done
-    c.needs.ensures.pages)
+    (least_of r pages c.requires c.args.joined.now.in_order (nothing (goal.at.returns-in-None c).After-largest_needs)
+    c.largest_needs.ensures.have c.closing.ensures.done c.needs.ensures.pages)

@@ -2,7 +2,7 @@
 
 use cfs_model::Knobs;
 use clap::error::ErrorKind;
-use sched_audit::{Asked, Request, command_line};
+use sched_audit::{Request, command_line};
 use std::test::Fail;
 
 fn knobs(granularity: u64, credit: u64, debit: u64, slack: u64) -> Knobs {
@@ -13,7 +13,8 @@ fn judged(knobs: Knobs) -> Request<'static> {
     Request {
         trace: "a",
         companion: "b",
-        asked: Asked::Verdict(knobs),
+        knobs,
+        least: false,
         explain: false,
     }
 }

@@ -8,8 +8,7 @@ mod tray;
 
 use crate::calls::print_call;
 use crate::cuts::print_cuts;
-use cfs_model::Knobs;
-use sched_audit::{Asked, command_line};
+use sched_audit::command_line;
 use std::process::ExitCode;
 use std::rt::Files;
 use std::sync::Wait;
@@ -34,16 +33,8 @@ fn cut_by<R: AllocGlobal + Files + Print + Threads + Wait + Sync>(
     };
     let trace = fs::read(rt, request.trace)?;
     let companion = fs::read(rt, request.companion)?;
-    print_cuts(rt, step, &trace, &companion, knobs_of(&request.asked))?;
+    print_cuts(rt, step, &trace, &companion, request.knobs)?;
     Ok(ExitCode::SUCCESS)
-}
-
-/// The settings to audit by: where the least are asked for, the greatest.
-fn knobs_of(asked: &Asked) -> Knobs {
-    match asked {
-        Asked::Verdict(knobs) => *knobs,
-        Asked::LeastSettings => Knobs::greatest(),
-    }
 }
 
 /// One call on a recording.

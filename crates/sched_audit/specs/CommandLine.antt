@@ -1,6 +1,6 @@
 -- The command line (this project's format). How words go to arguments and options is clap's: its `matches_of` says, for a
 -- command and the words, which values each argument has.
-use Rattle.std.specs.Prelude.{◌≡◌, ℕ, Bool, List, None, Some, true, false, codes}
+use Rattle.std.specs.Prelude.{◌≡◌, ℕ, Bool, IsTrue, List, None, Some, true, false, codes}
 use Rattle.std.specs.Option.{option_map_or}
 use Rattle.std.specs.Str.{bytes_eq}
 use Rattle.std.specs.Str.Parse.{digits_value, without_leading_plus}
@@ -9,8 +9,6 @@ use Rattle.clap.specs.Walk.{Row, Rule, Text, first_of, one_of}
 use Rattle.clap.specs.Simple.{App, matches_of, new_app, new_rule, on_top, with_rule}
 use Rattle.clap.specs.declared.builder.action.ArgAction.TheVariants.{SetTrue}
 use Rattle.clap.specs.declared.builder.value_parser.ValueParser.TheVariants as parsers
-use Rattle.sched_audit.specs.declared.asked.Asked.{Asked}
-use Rattle.sched_audit.specs.declared.asked.Asked.TheVariants.{Verdict, LeastSettings}
 use Rattle.sched_audit.specs.declared.request.Request.{Request}
 
 -- a file's name, which has to be there
@@ -71,17 +69,15 @@ pub record HasNoSetting (rows : List Row) : Type 0 where
   pub debit : first_of (codes "debit-ns") rows ≡ None
   pub slack : first_of (codes "slack-ns") rows ≡ None
 
--- a verdict is asked for by the settings, unless the least of them are asked for, and then none is given
-abbrev pub IsAsked : List Row → Asked → Type 0
-IsAsked rows (Verdict knobs) =
-    (is_flagged (codes "least") rows ≡ false) × (knobs ≡ settings_of rows) × AreInRange (settings_of rows)
-IsAsked rows LeastSettings = (is_flagged (codes "least") rows ≡ true) × HasNoSetting rows
-
--- the request has the two names of these values, and what they ask for
+-- the request has the two names, the settings and the flags of these values, and no setting is given beside the flag of the
+-- least ones
 pub record IsRequestOf (rows : List Row) (request : Request) : Type 0 where
   pub trace : first_of (codes "TRACE") rows ≡ Some request.trace.now
   pub companion : first_of (codes "COMPANION") rows ≡ Some request.companion.now
-  pub asked : IsAsked rows request.asked
+  pub settings : request.knobs ≡ settings_of rows
+  pub in_range : AreInRange (settings_of rows)
+  pub least : request.least ≡ is_flagged (codes "least") rows
+  pub alone : IsTrue request.least → HasNoSetting rows
   pub explain : request.explain ≡ is_flagged (codes "explain") rows
 
 -- the request is what these words ask for; the first word is the program's own name

@@ -5,10 +5,10 @@ ghost use Rattle.std.specs.Prelude.{◌≡◌, IfOk, IfSome, None, false, map};
 ghost use Rattle.clap.specs.Walk.{first_of};
 ghost use Rattle.clap.specs.Words.{app_of, found_of, rows_of, rule_of};
 ghost use Rattle.cfs_model.specs.Settings.{AreInRange};
-ghost use Rattle.sched_audit.specs.CommandLine.{HasNoSetting, IsAsked, IsAskedBy, IsRequestOf, audit_app, flag_rule, is_flagged};
+ghost use Rattle.sched_audit.specs.CommandLine.{HasNoSetting, IsAskedBy, IsRequestOf, audit_app, flag_rule, is_flagged};
 ghost use Rattle.sched_audit.specs.CommandLine.{lone_flag_rule, name_rule, setting_of, setting_rule, settings_of};
 
-use crate::{Asked, Request};
+use crate::Request;
 use cfs_model::Knobs;
 use clap::error::ErrorKind;
 use clap::{Arg, ArgAction, ArgMatches, Command, Error, value_parser};
@@ -123,29 +123,22 @@ fn lone_flag<'a>(alloc: Global, id: &'a str, help: &'a str) -> Result<Arg<'a>, A
         .conflicts_with("slack-ns")
 }
 
-/// The names, and what is asked of them; None where a value has no sense.
+/// The names, the settings and the flags that the values are; None where one has no sense, or where a setting is given
+/// beside `--least`.
 fn request_of<'a>(matches: &ArgMatches<'a>) -> Option<Request<'a>>
     ensures { IfSome result (IsRequestOf (rows_of (found_of matches.now))) }
 {
+    let least = flag_of(matches, "least")?;
+    if least && !has_no_setting(matches) {
+        return None;
+    }
     Some(Request {
         trace: matches.get_str("TRACE")?,
         companion: matches.get_str("COMPANION")?,
-        asked: asked_of(matches)?,
+        knobs: knobs_of(matches)?,
+        least,
         explain: flag_of(matches, "explain")?,
     })
-}
-
-/// The settings to judge by, or that the least of them are asked for; None where that has no sense.
-fn asked_of(matches: &ArgMatches<'_>) -> Option<Asked>
-    ensures { IfSome result (IsAsked (rows_of (found_of matches.now))) }
-{
-    if !flag_of(matches, "least")? {
-        return Some(Asked::Verdict(knobs_of(matches)?));
-    }
-    if !has_no_setting(matches) {
-        return None;
-    }
-    Some(Asked::LeastSettings)
 }
 
 /// Whether none of the settings is given.

@@ -1,7 +1,6 @@
 //! Judges a recorded schedule: a trace and its companion in, a verdict and its report out.
 #![tactic(auto)]
 
-mod asked;
 mod audit;
 mod cause;
 mod command_words;
@@ -27,7 +26,6 @@ mod status;
 mod texts;
 mod writing;
 
-pub use asked::Asked;
 pub use audit_crew::{Gate, OpenGate};
 pub use cause::Cause;
 pub use command_words::command_line;

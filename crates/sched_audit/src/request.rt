@@ -1,4 +1,4 @@
-use crate::Asked;
+use cfs_model::Knobs;
 
 /// What a command line asks for.
 #[derive(Clone, Copy, Debug, PartialEq, Eq)]
@@ -7,7 +7,10 @@ pub struct Request<'a> {
     pub trace: &'a str,
     /// The name of the companion's file, as given.
     pub companion: &'a str,
-    pub asked: Asked,
-    /// Whether a fault's report is to be followed by why it is one.
+    /// The settings; where the least are asked for none is given, so these are the defaults.
+    pub knobs: Knobs,
+    /// Whether the least settings are asked for in place of a verdict.
+    pub least: bool,
+    /// Whether what is told of a fault or a refusal is to be followed by why.
     pub explain: bool,
 }

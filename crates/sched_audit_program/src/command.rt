@@ -3,9 +3,7 @@ use crate::explaining::explain;
 use cfs_model::Knobs;
 use clap::Error;
 use clap::error::ErrorKind::OutOfMemory;
-use sched_audit::{
-    Asked, Fault, FeedOf, OpenGate, Request, SinkOf, Status, command_line, run, run_least,
-};
+use sched_audit::{Fault, FeedOf, OpenGate, Request, SinkOf, Status, command_line, run, run_least};
 use std::alloc::Global;
 use std::fs::File;
 use std::io::ErrorKind;
@@ -30,7 +28,7 @@ pub fn obey<R: Env + Files + Print + Eprint + AllocGlobal + Threads + Wait + Syn
         }
     };
     match command_line(alloc, words.as_slice()) {
-        Ok(request) => ending_of(rt, alloc, request),
+        Ok(request) => ending_of(rt, alloc, &request),
         Err(error) => tell(rt, &error),
     }
 }
@@ -39,15 +37,9 @@ pub fn obey<R: Env + Files + Print + Eprint + AllocGlobal + Threads + Wait + Syn
 fn ending_of<R: Files + Print + AllocGlobal + Threads + Wait + Sync>(
     rt: &R,
     alloc: Global,
-    request: Request<'_>,
+    request: &Request<'_>,
 ) -> Ending {
-    let Request {
-        trace,
-        companion,
-        asked,
-        explain,
-    } = request;
-    match answer(rt, alloc, trace, companion, &asked, explain) {
+    match answer(rt, alloc, request) {
         Ok(status) => Ending::Answered(status),
         Err(fault) => Ending::Failed(fault),
     }
@@ -62,14 +54,17 @@ fn words_of<R: Env + AllocGlobal>(rt: &R, alloc: Global) -> io::Result<Vec<Strin
 fn answer<R: Files + Print + AllocGlobal + Threads + Wait + Sync>(
     rt: &R,
     alloc: Global,
-    trace: &str,
-    companion: &str,
-    asked: &Asked,
-    explains: bool,
+    request: &Request<'_>,
 ) -> Result<Status, Fault> {
-    let status = report(rt, alloc, trace, companion, asked)?;
-    if explains && status != Status::Yes {
-        explain(rt, alloc, trace, companion, knobs_of(asked))?;
+    let status = report(rt, alloc, request)?;
+    if request.explain && status != Status::Yes {
+        explain(
+            rt,
+            alloc,
+            request.trace,
+            request.companion,
+            fault_knobs(request),
+        )?;
     }
     Ok(status)
 }
@@ -78,16 +73,14 @@ fn answer<R: Files + Print + AllocGlobal + Threads + Wait + Sync>(
 fn report<R: Files + Print + Threads + Wait + Sync>(
     rt: &R,
     alloc: Global,
-    trace: &str,
-    companion: &str,
-    asked: &Asked,
+    request: &Request<'_>,
 ) -> Result<Status, Fault> {
-    let trace = File::open(rt, trace).map_err(|_| Fault::ReadTrace)?;
-    let companion = File::open(rt, companion).map_err(|_| Fault::ReadCompanion)?;
+    let trace = File::open(rt, request.trace).map_err(|_| Fault::ReadTrace)?;
+    let companion = File::open(rt, request.companion).map_err(|_| Fault::ReadCompanion)?;
     let mut trace = FeedOf::new(trace);
     let mut companion = FeedOf::new(companion);
     let mut out = SinkOf::new(io::writer(rt));
-    if matches!(asked, Asked::LeastSettings) {
+    if request.least {
         run_least(rt, alloc, &mut trace, &mut companion, &OpenGate, &mut out)
     } else {
         run(
@@ -95,18 +88,19 @@ fn report<R: Files + Print + Threads + Wait + Sync>(
             alloc,
             &mut trace,
             &mut companion,
-            knobs_of(asked),
+            request.knobs,
             &OpenGate,
             &mut out,
         )
     }
 }
 
-/// The settings that a fault is told by.
-fn knobs_of(asked: &Asked) -> Knobs {
-    match asked {
-        Asked::Verdict(knobs) => *knobs,
-        Asked::LeastSettings => Knobs::greatest(),
+/// The settings that a fault is told by: in place of the least ones, the greatest.
+fn fault_knobs(request: &Request<'_>) -> Knobs {
+    if request.least {
+        Knobs::greatest()
+    } else {
+        request.knobs
     }
 }
 

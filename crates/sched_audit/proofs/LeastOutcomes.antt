@@ -1,6 +1,5 @@
 -- The least settings of the bytes that two inputs gave, from what the calls on the way said.
-use Rattle.std.proofs.Common.{◌≡◌, ap, subst, ℕ, List, Option, Some, IfSome, Result, Ok, Err}
-use Rattle.std.specs.Result.{IsErrAnd}
+use Rattle.std.proofs.Common.{◌≡◌, subst, ℕ, List, Option, Some, IfSome, Result, Err}
 use Rattle.ticket_book.specs.declared.least_settings.LeastSettings.{LeastSettings}
 use Rattle.sched_audit.specs.declared.least_outcome.LeastOutcome.{LeastOutcome}
 use Rattle.sched_audit.specs.declared.refused.Refused.{Refused}
@@ -25,11 +24,6 @@ least_of_inputs trace companion outcome answer trace_bytes companion_bytes t c t
       answer = subst (λ (x : List ℕ). LeastOutcomeAnswer trace_bytes x outcome) same_companion
           (subst (λ (x : List ℕ). LeastOutcomeAnswer x c outcome) same_trace there);
     }
-
--- an answer that is this error
-pub least_error_is : (answer : Result LeastSettings Refused) (refused : Refused) → IsErrAnd answer (λ e. e ≡ refused) → answer ≡ Err refused
-least_error_is (Ok least) refused is = absurd is
-least_error_is (Err e) refused is = ap Err is
 
 -- the answer where the texts were refused
 pub least_refused : (trace companion : List ℕ) (refused : Refused) → IsTexts trace companion (Err refused)

@@ -32,8 +32,8 @@ outcome_of_inputs trace companion settings outcome answer trace_bytes companion_
     }
 
 -- an answer that is this error
-pub error_is : (answer : Result Verdict Refused) (refused : Refused) → IsErrAnd answer (λ e. e ≡ refused) → answer ≡ Err refused
-error_is (Ok verdict) refused is = absurd is
+pub error_is : {A : Type 0} (answer : Result A Refused) (refused : Refused) → IsErrAnd answer (λ e. e ≡ refused) → answer ≡ Err refused
+error_is (Ok judged) refused is = absurd is
 error_is (Err e) refused is = ap Err is
 
 -- the answer where the texts were refused

@@ -4,6 +4,6 @@ complete -c sched_audit -l credit-ns -x -d 'How far below the floor a woken task
 complete -c sched_audit -l debit-ns -x -d 'How far above the floor a new task may be placed [default: 3000000]'
 complete -c sched_audit -l slack-ns -x -d 'How long a processor may idle beside a waiting task [default: 100000]'
 complete -c sched_audit -l least -d 'Print the least settings at which the recording is a run'
-complete -c sched_audit -l explain -d 'After the report of a fault, say why in lines that begin with #'
+complete -c sched_audit -l explain -d 'After a fault or a refusal, say why in lines that begin with #'
 complete -c sched_audit -s h -l help -d 'Print help'
 complete -c sched_audit -s V -l version -d 'Print version'

@@ -76,7 +76,7 @@ fn command<'a>(alloc: Global) -> Result<Command<'a>, AllocError>
         .arg(flag(
             alloc,
             "explain",
-            "After the report of a fault, say why in lines that begin with #",
+            "After a fault or a refusal, say why in lines that begin with #",
         ))
 }
 

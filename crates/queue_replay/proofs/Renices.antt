@@ -14,7 +14,7 @@ use Rattle.replay_model.specs.Part.{Part, Entity}
 use Rattle.replay_model.specs.QueueTests.{IsStrangeNice}
 use Rattle.replay_model.specs.declared.step.Step.{Step}
 use Rattle.queue_replay.specs.Rows.{IsDeedTried, IsTried}
-use Rattle.queue_replay.specs.Standing.{HasNice, IsOnlyRunner, IsQueue, IsRunnerListed, listed, standing, waiting_runtime, with_nice}
+use Rattle.queue_replay.specs.Standing.{HasNice, IsOnlyRunner, IsQueue, IsRunnerListed, listed, standing, waiting_runtime, reniced_task}
 use Rattle.queue_replay.specs.Tasks.{entity_of}
 use Rattle.queue_replay.specs.declared.outcome.Outcome.{Outcome}
 use Rattle.queue_replay.specs.declared.outcome.Outcome.TheVariants.{Made, Failed}
@@ -85,14 +85,14 @@ module _ (m n : BTreeMap ℕ Task) (pid : ℕ) (nice : ℤ) (h : HasNice pid nic
   listed_there : (q : ℕ) → q ≢ pid → listed n q ≡ listed m q
   listed_there q other = ap (option_map entity_of) (h.there q other)
 
-  changed_own : (t : Task) → t.pid ≡ pid → with_nice pid nice t ≡ record t { nice = nice }
+  changed_own : (t : Task) → t.pid ≡ pid → reniced_task pid nice t ≡ record t { nice = nice }
   changed_own t own = cond-true (eqb t.pid pid) (record t { nice = nice }) t (eq-eqb t.pid pid own)
 
-  changed_other : (t : Task) → t.pid ≢ pid → with_nice pid nice t ≡ t
+  changed_other : (t : Task) → t.pid ≢ pid → reniced_task pid nice t ≡ t
   changed_other t other = cond-false (eqb t.pid pid) (record t { nice = nice }) t (ne_eqb t.pid pid other)
 
   -- who stands
-  pub renices : (runner : Option Task) (q : ℕ) → standing (option_map (with_nice pid nice) runner) n q
+  pub renices : (runner : Option Task) (q : ℕ) → standing (option_map (reniced_task pid nice) runner) n q
       ≡ put (standing runner m) pid (option_map (changed nice) (standing runner m pid)) q
   renices None q =
       elim (cases_eq q pid) [
@@ -130,14 +130,14 @@ module _ (m n : BTreeMap ℕ Task) (pid : ℕ) (nice : ℤ) (h : HasNice pid nic
           ∙ sym (put-other (listed m) t.pid (Some (entity_of t)) q ne)
           ∙ sym (put-other (standing (Some t) m) pid (option_map (changed nice) (standing (Some t) m pid)) q away)
 
-  pub reniced_part : (runner : Option Task) (floor : ℤ) (mark : ℕ) → part_with (standing (option_map (with_nice pid nice) runner) n) floor mark
+  pub reniced_part : (runner : Option Task) (floor : ℤ) (mark : ℕ) → part_with (standing (option_map (reniced_task pid nice) runner) n) floor mark
       ≡ with_entity (part_with (standing runner m) floor mark) pid (option_map (λ (s : Entity). record s { nice = nice }) (standing runner m pid))
   reniced_part runner floor mark =
-      same_tasks (standing (option_map (with_nice pid nice) runner) n) (put (standing runner m) pid (option_map (changed nice) (standing runner m pid)))
+      same_tasks (standing (option_map (reniced_task pid nice) runner) n) (put (standing runner m) pid (option_map (changed nice) (standing runner m pid)))
       floor mark (renices runner)
 
   -- each stands where it did
-  places : (runner : Option Task) (q : ℕ) → its_place (standing (option_map (with_nice pid nice) runner) n q) ≡ its_place (standing runner m q)
+  places : (runner : Option Task) (q : ℕ) → its_place (standing (option_map (reniced_task pid nice) runner) n q) ≡ its_place (standing runner m q)
   places runner q =
       ap its_place (renices runner q)
       ∙ elim (cases_eq q pid) [
@@ -150,14 +150,14 @@ module _ (m n : BTreeMap ℕ Task) (pid : ℕ) (nice : ℤ) (h : HasNice pid nic
       go None = refl
       go (Some s) = refl
 
-  own_pid : (t : Task) → (with_nice pid nice t).pid ≡ t.pid
+  own_pid : (t : Task) → (reniced_task pid nice t).pid ≡ t.pid
   own_pid t = go (eqb t.pid pid)
     where
       go : (b : Bool) → (cond b (record t { nice = nice }) t).pid ≡ t.pid
       go true = refl
       go false = refl
 
-  own_place : (t : Task) → (with_nice pid nice t).place ≡ t.place
+  own_place : (t : Task) → (reniced_task pid nice t).place ≡ t.place
   own_place t = go (eqb t.pid pid)
     where
       go : (b : Bool) → (cond b (record t { nice = nice }) t).place ≡ t.place
@@ -177,25 +177,25 @@ module _ (m n : BTreeMap ℕ Task) (pid : ℕ) (nice : ℤ) (h : HasNice pid nic
       go (Some t) i = refl
 
   only_it : (runner : Option Task) → IsOnlyRunner (standing runner m) runner
-      → IsOnlyRunner (standing (option_map (with_nice pid nice) runner) n) (option_map (with_nice pid nice) runner)
+      → IsOnlyRunner (standing (option_map (reniced_task pid nice) runner) n) (option_map (reniced_task pid nice) runner)
   unfolding IsOnlyRunner
   only_it runner only q i =
       pids runner ∙ only q (sym (places runner q) ∙ i)
     where
-      pids : (r : Option Task) → option_map (λ t. t.pid) (option_map (with_nice pid nice) r) ≡ option_map (λ t. t.pid) r
+      pids : (r : Option Task) → option_map (λ t. t.pid) (option_map (reniced_task pid nice) r) ≡ option_map (λ t. t.pid) r
       pids None = refl
       pids (Some t) = ap Some (own_pid t)
 
-  has_entry : (runner : Option Task) → IsRunnerListed runner m → IsRunnerListed (option_map (with_nice pid nice) runner) n
+  has_entry : (runner : Option Task) → IsRunnerListed runner m → IsRunnerListed (option_map (reniced_task pid nice) runner) n
   has_entry None has = listed_none n
   has_entry (Some t) has =
       let l = is_listed (Some t) m has t refl in
-      listed_some n (with_nice pid nice t) (own_place t ∙ l.0) (subst (λ k. IsSome (get nat_cmp n k)) (sym (own_pid t)) (entry_kept t.pid l.1))
+      listed_some n (reniced_task pid nice t) (own_place t ∙ l.0) (subst (λ k. IsSome (get nat_cmp n k)) (sym (own_pid t)) (entry_kept t.pid l.1))
 
-  pub reniced_queue : (runner : Option Task) (a : BTreeSet WaitingTask) → IsQueue runner m a → IsQueue (option_map (with_nice pid nice) runner) n a
+  pub reniced_queue : (runner : Option Task) (a : BTreeSet WaitingTask) → IsQueue runner m a → IsQueue (option_map (reniced_task pid nice) runner) n a
   reniced_queue runner a kept =
-      queue_is (option_map (with_nice pid nice) runner) n a
-      (stays (standing runner m) (standing (option_map (with_nice pid nice) runner) n) pid (option_map (changed nice) (standing runner m pid)) (renices runner)
+      queue_is (option_map (reniced_task pid nice) runner) n a
+      (stays (standing runner m) (standing (option_map (reniced_task pid nice) runner) n) pid (option_map (changed nice) (standing runner m pid)) (renices runner)
       a (waiting_in runner m a kept) (go (standing runner m pid)))
       (only_it runner (only_in runner m a kept))
       (has_entry runner (listed_in runner m a kept))

@@ -11,6 +11,7 @@ use Rattle.cfs_model.specs.declared.kind.Kind.TheVariants.{IdleTooLong}
 use Rattle.replay_model.specs.Needs.{AllPassNeeding, idle_need, only_slack}
 use Rattle.replay_model.specs.declared.page.StepFault.{StepFault}
 use Rattle.replay_model.specs.declared.step.Step.{Step}
+use Rattle.replay_model.proofs.Replayed.{IsReplay-push}
 use Rattle.queue_replay.specs.Counting.{page_draft_view}
 use Rattle.queue_replay.specs.Needing.{needs_view}
 use Rattle.queue_replay.specs.ReplayState.{replay_state_view, IsGoing, IsStepped}
@@ -18,12 +19,7 @@ use Rattle.queue_replay.specs.Made.{IsUnderWay, IsAt, IsFaultless, GoesOn}
 use Rattle.queue_replay.specs.declared.replay_state.ReplayState.{ReplayState}
 use Rattle.queue_replay.proofs.Needed.{needing_more}
 
--- one more step
-IsReplay-push : (knobs : Settings) (cpu : ℕ) (before : ReplayStateView) (steps : List Step) (between : ReplayStateView) (step : Step) (after : ReplayStateView)
-    → IsReplay knobs cpu before steps between → IsReplayStep knobs cpu between.page.fault between step after → IsReplay knobs cpu before (steps ++ step ∷ []) after
-IsReplay-push knobs cpu before [] between step after r s = (after, subst (λ x. IsReplayStep knobs cpu x.page.fault x step after) r s, refl)
-IsReplay-push knobs cpu before (first ∷ steps) between step after r s = (r.0, r.1, IsReplay-push knobs cpu r.0 steps between step after r.2 s)
-
+-- a replay by one step more
 replay_more : (knobs : Settings) (cpu : ℕ) (start : ReplayStateView) (steps : List Step) (made : ℕ) (between : ReplayStateView) (step : Step) (after : ReplayStateView)
     → made < length steps → step ≡ get_or steps made step → IsReplay knobs cpu start (take made steps) between → between.page.fault ≡ None
     → PassesStep knobs cpu between step after ⊎ FailsStep knobs cpu between step after → IsReplay knobs cpu start (take (made + 1) steps) after

@@ -32,8 +32,8 @@ standing None tasks = listed tasks
 standing (Some t) tasks = put (listed tasks) t.pid (Some (entity_of t))
 
 -- a task with this nice value, if it is that of the pid
-abbrev pub with_nice : ℕ → ℤ → Task → Task
-with_nice pid nice t = if t.pid == pid then record t { nice = nice } else t
+abbrev pub reniced_task : ℕ → ℤ → Task → Task
+reniced_task pid nice t = if t.pid == pid then record t { nice = nice } else t
 
 -- the map's entry of a pid has this nice value, if there is one, and each other entry is as it was
 pub record HasNice (pid : ℕ) (nice : ℤ) (old new : BTreeMap ℕ Task) : Type 0 where

@@ -6,7 +6,7 @@ ghost use Rattle.replay_model.specs.Deeds.{reniced, with_entity};
 ghost use Rattle.replay_model.specs.Part.{Entity};
 ghost use Rattle.queue_replay.specs.Queue.{runqueue_view, HoldsSame};
 ghost use Rattle.queue_replay.specs.Rows.{IsTried};
-ghost use Rattle.queue_replay.specs.Standing.{HasNice, with_nice};
+ghost use Rattle.queue_replay.specs.Standing.{HasNice, reniced_task};
 
 use crate::deeds::try_deed;
 use crate::failed_test::FailedTest;
@@ -76,14 +76,14 @@ impl Runqueue {
         let before = task.nice;
         task.nice = nice;
         write_over(&mut self.tasks, pid, task);
-        self.runner = reniced(self.runner, pid, nice);
+        self.runner = reniced_runner(self.runner, pid, nice);
         Some(before)
     }
 }
 
 /// Who runs, with this nice value if it is the task of this pid.
-fn reniced(runner: Option<Task>, pid: u32, nice: Nice) -> Option<Task>
-    ensures { result ≡ option_map (with_nice pid nice) runner }
+fn reniced_runner(runner: Option<Task>, pid: u32, nice: Nice) -> Option<Task>
+    ensures { result ≡ option_map (reniced_task pid nice) runner }
 {
     let mut task = runner?;
     if task.pid == pid {

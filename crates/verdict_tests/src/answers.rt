@@ -4,6 +4,6 @@ use std::fmt::Debug;
 use std::process::Abort;
 
 /// Ends the test where an answer isn't the one that is wanted.
-pub(crate) fn wants<R: Abort, T: PartialEq + Debug>(rt: &R, answer: &T, wanted: &T) {
-    assert_eq!(*rt; *answer, *wanted);
+pub(crate) fn wants<R: Abort, T: PartialEq + Debug>(rt: &R, about: &str, answer: &T, wanted: &T) {
+    assert_eq!(*rt; *answer, *wanted, "{about}");
 }

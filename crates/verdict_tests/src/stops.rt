@@ -1,103 +1,84 @@
-//! Auditors that learn of a fault and stop at it, and pages that stopped before it.
+//! Auditors that go on to their fault, or learn of one and stop, and pages that stopped before it.
 
-use crate::calls::{
-    MaybeFault, Told, book_for, book_of_first, closed, ended, stream_of, with_page,
+use crate::answers::wants;
+use crate::books::{Bringer, comes_to, faulted, page, page_by, told_by, wants_book};
+use crate::machines::{
+    FAULT_BEFORE_MANY_WAKEUPS, IDLE_FAULT_AT_LINE_OF_OTHER_PROCESSOR, TWO_FAULTS_FIRST_LINE_NAMED,
 };
-use crate::machines::{IDLE_FOUND_LATE, recording_at};
-use crate::meetings::fault_before_wakeups;
-use crate::verdicts::record_of;
-use cfs_model::{Kind, Knobs};
-use queue_replay::{Page, Reached, Replay, Tag};
-use sched_record::{Record, Stream};
-use std::alloc::Global;
+use cfs_model::Knobs;
+use queue_replay::{Reached, Tag};
 use std::test::Fail;
-use ticket_book::Book;
-
-/// Processor 0's fault in `fault_before_wakeups`.
-const FAULT: MaybeFault = Some((4, 0, 201, Kind::PrevNotRunning));
-
-/// The book after the auditor of a processor.
-fn book_after(alloc: Global, book: Book, record: &Record, cpu: u32) -> Result<Book, Fail> {
-    let (book, _ending) = ended(alloc, book, record, cpu, 1)?;
-    Ok(book)
-}
-
-/// What a record comes to by two auditors, this one first.
-fn by_two(alloc: Global, record: &Record, first: u32, second: u32) -> Result<Told, Fail> {
-    let book = book_after(alloc, book_for(alloc, 2)?, record, first)?;
-    let book = book_after(alloc, book, record, second)?;
-    closed(book, record, Knobs::standard())
-}
+use ticket_book::PostFault;
 
 #[test]
 fn an_idle_fault_is_found_in_either_order(rt: HostRuntime) -> Result<(), Fail> {
-    let recording = recording_at(IDLE_FOUND_LATE)?;
-    let record = record_of(rt.alloc(), recording)?;
+    let recording = &IDLE_FAULT_AT_LINE_OF_OTHER_PROCESSOR;
     for (first, second) in [(0, 1), (1, 0)] {
-        assert_eq!(rt;
-            by_two(rt.alloc(), &record, first, second)?,
-            (0, recording.fault),
-            "{first} first"
-        );
+        let pages = [
+            page_by(recording, first, Bringer::Auditor(1)),
+            page_by(recording, second, Bringer::Auditor(1)),
+        ];
+        let told = told_by(rt.alloc(), 2, &pages, recording)?;
+        wants(&rt, "", &told, &(0, recording.fault));
     }
     Ok(())
 }
 
-/// The tag of processor 1's page, whose auditor asks after each ten steps, over a book with processor 0's, and what the
-/// book then comes to.
-fn stopped(alloc: Global, record: &Record) -> Result<(Option<Tag>, Told), Fail> {
-    let book = book_of_first(alloc, 2, record)?;
-    let (book, ending) = ended(alloc, book, record, 1, 10)?;
-    Ok((ending.posted, closed(book, record, Knobs::standard())?))
+#[test]
+fn an_auditor_goes_on_to_its_fault(rt: HostRuntime) -> Result<(), Fail> {
+    let recording = &IDLE_FAULT_AT_LINE_OF_OTHER_PROCESSOR;
+    let pages = [
+        page(recording, 0),
+        page_by(recording, 1, Bringer::Auditor(1)),
+    ];
+    let answers = [(faulted(0, 80), Ok(80)), (faulted(1, 100), Ok(80))];
+    let book = comes_to(rt.alloc(), 2, &pages, recording, Knobs::standard())?;
+    wants_book(&rt, &book, &answers, (0, recording.fault));
+    Ok(())
 }
 
 #[test]
 fn an_auditor_stops_at_a_fault_that_it_learns_of(rt: HostRuntime) -> Result<(), Fail> {
-    let record = fault_before_wakeups(rt.alloc(), 996)?;
+    let recording = &FAULT_BEFORE_MANY_WAKEUPS;
+    let pages = [
+        page(recording, 0),
+        page_by(recording, 1, Bringer::Auditor(10)),
+    ];
     let reached = Reached::Stopped(14);
-    assert_eq!(rt;
-        stopped(rt.alloc(), &record)?,
-        (Some(Tag { cpu: 1, reached }), (0, FAULT))
-    );
-    Ok(())
-}
-
-/// A replay after so many steps.
-fn page_after(replay: Replay, steps: u64) -> Result<Page, Fail> {
-    let mut replay = replay;
-    let _state = replay.go_on(steps)?;
-    Ok(replay.page())
-}
-
-/// The page of a stream's replay by so many steps.
-fn short_page(alloc: Global, stream: Stream, steps: u64) -> Result<Page, Fail> {
-    match Replay::new(alloc, stream, Knobs::standard()) {
-        Ok(replay) => page_after(replay, steps),
-        Err((_stream, _memory)) => Err(Fail::from("memory suffices")),
-    }
-}
-
-/// What a record comes to by processor 0's whole page, and processor 1's by so many steps.
-fn with_short_page(alloc: Global, record: &Record, steps: u64) -> Result<Told, Fail> {
-    let page = short_page(alloc, stream_of(record, 1)?, steps)?;
-    let book = with_page(book_of_first(alloc, 2, record)?, page)?;
-    closed(book, record, Knobs::standard())
-}
-
-#[test]
-fn a_page_that_stopped_before_an_idle_fault_is_made_again(rt: HostRuntime) -> Result<(), Fail> {
-    let recording = recording_at(IDLE_FOUND_LATE)?;
-    let record = record_of(rt.alloc(), recording)?;
-    assert_eq!(rt;
-        with_short_page(rt.alloc(), &record, 1)?,
-        (1, recording.fault)
-    );
+    let answers = [(faulted(0, 4), Ok(4)), (Tag { cpu: 1, reached }, Ok(4))];
+    let book = comes_to(rt.alloc(), 2, &pages, recording, Knobs::standard())?;
+    wants_book(&rt, &book, &answers, (0, recording.fault));
     Ok(())
 }
 
 #[test]
 fn a_page_that_stopped_before_the_fault_is_made_again(rt: HostRuntime) -> Result<(), Fail> {
-    let record = fault_before_wakeups(rt.alloc(), 996)?;
-    assert_eq!(rt; with_short_page(rt.alloc(), &record, 0)?, (1, FAULT));
+    for (recording, steps) in [
+        (&IDLE_FAULT_AT_LINE_OF_OTHER_PROCESSOR, 1),
+        (&FAULT_BEFORE_MANY_WAKEUPS, 0),
+    ] {
+        let pages = [
+            page(recording, 0),
+            page_by(recording, 1, Bringer::Caller(steps, Knobs::standard())),
+        ];
+        let told = told_by(rt.alloc(), 2, &pages, recording)?;
+        wants(&rt, recording.name, &told, &(1, recording.fault));
+    }
+    Ok(())
+}
+
+#[test]
+fn an_auditor_hands_back_the_page_that_its_shelf_refuses(rt: HostRuntime) -> Result<(), Fail> {
+    let recording = &TWO_FAULTS_FIRST_LINE_NAMED;
+    for (cpu, line, fault) in [(0, 4, PostFault::Twice), (1, 9, PostFault::Outside)] {
+        let pages = [
+            page(recording, 0),
+            page_by(recording, cpu, Bringer::Auditor(1)),
+        ];
+        let answers = [(faulted(0, 4), Ok(4)), (faulted(cpu, line), Err(fault))];
+        let book = comes_to(rt.alloc(), 1, &pages, recording, Knobs::standard())?;
+        // The page that was there stays.
+        wants_book(&rt, &book, &answers, (1, recording.fault));
+    }
     Ok(())
 }

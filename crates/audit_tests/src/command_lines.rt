@@ -1,9 +1,10 @@
 //! What words make of a command line: how clap takes them is its own, so that it is shown here.
 
+use crate::answers::wants;
 use cfs_model::Knobs;
 use clap::error::ErrorKind;
 use sched_audit::{Request, command_line};
-use std::test::Fail;
+use std::alloc::Global;
 
 fn knobs(granularity: u64, credit: u64, debit: u64, slack: u64) -> Knobs {
     Knobs::new(granularity, credit, debit, slack).unwrap_or(Knobs::standard())
@@ -19,8 +20,16 @@ fn judged(knobs: Knobs) -> Request<'static> {
     }
 }
 
+/// What these words ask for, or what clap says of them.
+fn asked<'a>(alloc: Global, words: &'a [&'a str]) -> Result<Request<'a>, ErrorKind> {
+    match command_line(alloc, words) {
+        Ok(request) => Ok(request),
+        Err(error) => Err(error.kind()),
+    }
+}
+
 #[test]
-fn each_option_is_its_own_setting(rt: HostRuntime) -> Result<(), Fail> {
+fn each_option_is_its_own_setting(rt: HostRuntime) {
     for (option, given) in [
         (
             "--granularity-ns=7",
@@ -41,32 +50,24 @@ fn each_option_is_its_own_setting(rt: HostRuntime) -> Result<(), Fail> {
             ["sched_audit", "a", option, "b"],
             ["sched_audit", option, "a", "b"],
         ] {
-            assert_eq!(rt;
-                command_line(rt.alloc(), &words)?,
-                judged(given),
-                "{option}"
-            );
+            wants(&rt, option, &asked(rt.alloc(), &words), &Ok(judged(given)));
         }
     }
-    Ok(())
 }
 
 #[test]
-fn settings_have_defaults(rt: HostRuntime) -> Result<(), Fail> {
-    let standard = judged(Knobs::standard());
-    assert_eq!(rt;
-        command_line(rt.alloc(), &["sched_audit", "a", "b"])?,
-        standard
-    );
-    assert_eq!(rt;
-        command_line(rt.alloc(), &["sched_audit", "--", "a", "b"])?,
-        standard
-    );
-    Ok(())
+fn settings_have_defaults(rt: HostRuntime) {
+    for words in [
+        ["sched_audit", "a", "b"].as_slice(),
+        ["sched_audit", "--", "a", "b"].as_slice(),
+    ] {
+        let standard = judged(Knobs::standard());
+        wants(&rt, "", &asked(rt.alloc(), words), &Ok(standard));
+    }
 }
 
 #[test]
-fn least_settings_go_with_no_setting(rt: HostRuntime) -> Result<(), Fail> {
+fn least_settings_go_with_no_setting(rt: HostRuntime) {
     for option in [
         "--granularity-ns=1000000",
         "--credit-ns=0",
@@ -78,67 +79,80 @@ fn least_settings_go_with_no_setting(rt: HostRuntime) -> Result<(), Fail> {
             ["sched_audit", "a", "b", option, "--least"],
             ["sched_audit", option, "a", "--least", "b"],
         ] {
-            let Err(error) = command_line(rt.alloc(), &words) else {
-                return Err(Fail::from("a request"));
-            };
-            assert_eq!(rt; error.kind(), ErrorKind::ArgumentConflict, "{option}");
+            let wanted = Err(ErrorKind::ArgumentConflict);
+            wants(&rt, option, &asked(rt.alloc(), &words), &wanted);
         }
     }
-    Ok(())
 }
 
 #[test]
-fn names_are_taken_as_given(rt: HostRuntime) -> Result<(), Fail> {
+fn names_are_taken_as_given(rt: HostRuntime) {
     for (trace, companion) in [("", " "), ("--help", "-5"), ("b", "a"), ("help", "--")] {
         let words = ["sched_audit", "--", trace, companion];
-        let request = command_line(rt.alloc(), &words)?;
-        assert_eq!(rt; request.trace, trace);
-        assert_eq!(rt; request.companion, companion);
+        let wanted = Request {
+            trace,
+            companion,
+            knobs: Knobs::standard(),
+            least: false,
+            explain: false,
+        };
+        wants(&rt, trace, &asked(rt.alloc(), &words), &Ok(wanted));
     }
-    Ok(())
 }
 
 #[test]
-fn other_words_are_refused(rt: HostRuntime) -> Result<(), Fail> {
+fn other_words_are_refused(rt: HostRuntime) {
     for (words, kind) in [
-        (["a"].as_slice(), ErrorKind::MissingRequiredArgument),
-        (["a", "b", "c"].as_slice(), ErrorKind::UnknownArgument),
-        (["a", "b", "-x"].as_slice(), ErrorKind::UnknownArgument),
-        (["a", "b", "--slack-ns"].as_slice(), ErrorKind::InvalidValue),
         (
-            ["a", "b", "--slack-ns="].as_slice(),
+            ["sched_audit", "a"].as_slice(),
+            ErrorKind::MissingRequiredArgument,
+        ),
+        (
+            ["sched_audit", "a", "b", "c"].as_slice(),
+            ErrorKind::UnknownArgument,
+        ),
+        (
+            ["sched_audit", "a", "b", "-x"].as_slice(),
+            ErrorKind::UnknownArgument,
+        ),
+        (
+            ["sched_audit", "a", "b", "--slack-ns"].as_slice(),
+            ErrorKind::InvalidValue,
+        ),
+        (
+            ["sched_audit", "a", "b", "--slack-ns="].as_slice(),
             ErrorKind::ValueValidation,
         ),
         (
-            ["a", "b", "--slack-ns=x"].as_slice(),
+            ["sched_audit", "a", "b", "--slack-ns=x"].as_slice(),
             ErrorKind::ValueValidation,
         ),
         (
-            ["a", "b", "--slack-ns=1000000000001"].as_slice(),
+            ["sched_audit", "a", "b", "--slack-ns=1000000000001"].as_slice(),
             ErrorKind::ValueValidation,
         ),
         (
-            ["a", "b", "--slack-ns=1", "--slack-ns=1"].as_slice(),
+            ["sched_audit", "a", "b", "--slack-ns=1", "--slack-ns=1"].as_slice(),
             ErrorKind::ArgumentConflict,
         ),
         (
-            ["a", "b", "--least", "--least"].as_slice(),
+            ["sched_audit", "a", "b", "--least", "--least"].as_slice(),
             ErrorKind::ArgumentConflict,
         ),
         (
-            ["a", "b", "--explain", "--explain"].as_slice(),
+            ["sched_audit", "a", "b", "--explain", "--explain"].as_slice(),
             ErrorKind::ArgumentConflict,
         ),
-        (["a", "b", "--least=1"].as_slice(), ErrorKind::TooManyValues),
-        (["--help"].as_slice(), ErrorKind::DisplayHelp),
-        (["--version"].as_slice(), ErrorKind::DisplayVersion),
+        (
+            ["sched_audit", "a", "b", "--least=1"].as_slice(),
+            ErrorKind::TooManyValues,
+        ),
+        (["sched_audit", "--help"].as_slice(), ErrorKind::DisplayHelp),
+        (
+            ["sched_audit", "--version"].as_slice(),
+            ErrorKind::DisplayVersion,
+        ),
     ] {
-        let mut line = vec![in rt.alloc(); "sched_audit"]?;
-        line.extend_from_slice(words)?;
-        let Err(error) = command_line(rt.alloc(), line.as_slice()) else {
-            return Err(Fail::from("a request"));
-        };
-        assert_eq!(rt; error.kind(), kind);
+        wants(&rt, "", &asked(rt.alloc(), words), &Err(kind));
     }
-    Ok(())
 }

@@ -1,9 +1,11 @@
 //! Refused traces, by both calls: `audit_texts`, which has the whole text, and `run`, which reads it as it comes.
 
-use crate::runs::{Ran, run_of};
+use crate::ends::{ample, whole};
+use crate::runs::wants_run;
 use cfs_model::Knobs;
 use sched_audit::{Cause, OpenGate, Refused, Source, Status, audit_texts};
 use std::alloc::Global;
+use std::process::Abort;
 use std::sync::Wait;
 use std::test::Fail;
 use std::thread::Threads;
@@ -40,20 +42,25 @@ fn refused_by<R: Threads + Wait + Sync>(rt: &R, alloc: Global, trace: &[u8]) -> 
     audit_texts(rt, alloc, trace, COMPANION, Knobs::standard(), &OpenGate).err()
 }
 
-/// What `audit_texts` refuses, and what `run` ends with and writes.
-fn told<R: Threads + Wait + Sync>(rt: &R, alloc: Global, trace: &[u8]) -> (Option<Refused>, Ran) {
-    (
-        refused_by(rt, alloc, trace),
-        run_of(rt, alloc, trace, COMPANION),
-    )
-}
-
-fn refused(line: u64, cause: Cause) -> Option<Refused> {
-    Some(Refused::Text {
+/// Ends the test where a trace of these lines isn't refused for this by both calls.
+fn wants_refusal<R: Abort + Threads + Wait + Sync>(
+    rt: &R,
+    alloc: Global,
+    lines: &[(&[u8], u32)],
+    line: u64,
+    cause: Cause,
+    report: &str,
+) -> Result<(), Fail> {
+    let trace = text_of(alloc, lines)?;
+    let refused = Refused::Text {
         source: Source::Trace,
         line,
         cause,
-    })
+    };
+    assert_eq!(*rt; refused_by(rt, alloc, &trace), Some(refused));
+    let ends = (whole(&trace), whole(COMPANION), ample());
+    let _calls = wants_run(rt, alloc, ends, Ok(Status::Refused), report.as_bytes());
+    Ok(())
 }
 
 #[test]
@@ -66,14 +73,8 @@ fn the_first_of_two_bad_lines_is_named(rt: HostRuntime) -> Result<(), Fail> {
             (BAD, 1),
             (comment, 1),
         ];
-        let text = text_of(rt.alloc(), &lines)?;
-        let (answer, (status, report)) = told(&rt, rt.alloc(), &text);
-        assert_eq!(rt; answer, refused(4321, Cause::BadHead));
-        assert_eq!(rt; status, Ok(Status::Refused));
-        assert_eq!(rt;
-            report.as_slice(),
-            b"refused trace line 4321 BadHead\n".as_slice()
-        );
+        let report = "refused trace line 4321 BadHead\n";
+        wants_refusal(&rt, rt.alloc(), &lines, 4321, Cause::BadHead, report)?;
     }
     Ok(())
 }
@@ -90,14 +91,8 @@ fn a_time_that_goes_back_before_a_bad_line_is_named(rt: HostRuntime) -> Result<(
             (BAD, 1),
             (comment, 1500),
         ];
-        let text = text_of(rt.alloc(), &lines)?;
-        let (answer, (status, report)) = told(&rt, rt.alloc(), &text);
-        assert_eq!(rt; answer, refused(3000, Cause::TimeBack));
-        assert_eq!(rt; status, Ok(Status::Refused));
-        assert_eq!(rt;
-            report.as_slice(),
-            b"refused trace line 3000 TimeBack\n".as_slice()
-        );
+        let report = "refused trace line 3000 TimeBack\n";
+        wants_refusal(&rt, rt.alloc(), &lines, 3000, Cause::TimeBack, report)?;
     }
     Ok(())
 }

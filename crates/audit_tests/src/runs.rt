@@ -1,97 +1,49 @@
-//! Runs between ends of these tests, each in a function of its own that promises nothing: what the clauses of `run` say stands
-//! before no test, which is then proved in seconds.
-ghost use Rattle.std.specs.Prelude.{◌<◌};
+//! Runs between ends of these tests, by one function that promises nothing: what the clauses of `run` say stands before no
+//! test, which is then proved in seconds.
 
-use crate::ends::{Narrow, Pieces};
+use crate::ends::{Narrow, Pieces, Room};
 use cfs_model::Knobs;
-use sched_audit::{Fault, FeedOf, OpenGate, Status, run};
+use sched_audit::{Fault, FeedOf, OpenGate, SinkOf, Status, run};
 use std::alloc::Global;
+use std::process::Abort;
 use std::sync::Wait;
 use std::thread::Threads;
 
-/// What a run answers, and what is written.
-pub type Ran = (Result<Status, Fault>, Vec<u8>);
+/// What a run answers, what is written, and how often the trace, the companion and the output were called.
+pub type Ran = (Result<Status, Fault>, Vec<u8>, [u64; 3]);
 
-/// The run of two texts that come at once, by the standard settings, with so much room for the report, past which a write
-/// fails or takes nothing.
-pub fn run_into<R: Threads + Wait + Sync>(
+/// The run of two texts, by the standard settings.
+pub fn ran<R: Threads + Wait + Sync>(
     rt: &R,
     alloc: Global,
-    trace: &[u8],
-    companion: &[u8],
-    room: usize,
-    fails: bool,
+    trace: Pieces<'_>,
+    companion: Pieces<'_>,
+    room: Room,
 ) -> Ran {
-    let mut out = Narrow::new(alloc, room, fails);
+    let (mut trace, mut companion) = (trace, companion);
+    let mut out = Narrow::new(alloc, room);
     let status = run(
         rt,
         alloc,
-        &mut FeedOf::new(trace),
-        &mut FeedOf::new(companion),
+        &mut FeedOf::new(&mut trace),
+        &mut FeedOf::new(&mut companion),
         Knobs::standard(),
         &OpenGate,
-        &mut out,
+        &mut SinkOf::new(&mut out),
     );
-    (status, out.taken)
+    (status, out.taken, [trace.calls, companion.calls, out.calls])
 }
 
-/// The same with all the room.
-pub fn run_of<R: Threads + Wait + Sync>(
+/// Ends the test where the run of two texts answers or writes something else, and says how often each end was called.
+pub fn wants_run<R: Abort + Threads + Wait + Sync>(
     rt: &R,
     alloc: Global,
-    trace: &[u8],
-    companion: &[u8],
-) -> Ran {
-    run_into(rt, alloc, trace, companion, usize::MAX, false)
-}
-
-/// The run of a trace that comes in pieces of so many bytes, and fails at a call, from 1 (0 for none), with a companion
-/// that comes at once.
-pub fn run_by_trace<R: Threads + Wait + Sync>(
-    rt: &R,
-    alloc: Global,
-    trace: &[u8],
-    piece: usize,
-    fails_at: u64,
-    companion: &[u8],
-) -> Ran
-    requires { 0 < piece }
-{
-    let mut out = Narrow::new(alloc, usize::MAX, false);
-    let status = run(
-        rt,
-        alloc,
-        &mut Pieces::new(trace, piece, fails_at),
-        &mut FeedOf::new(companion),
-        Knobs::standard(),
-        &OpenGate,
-        &mut out,
-    );
-    (status, out.taken)
-}
-
-/// The run of two texts that come in pieces of so many bytes, each of which fails at a call, from 1 (0 for none), and how
-/// often each was called.
-pub fn run_by_pieces<R: Threads + Wait + Sync>(
-    rt: &R,
-    alloc: Global,
-    piece: usize,
-    trace: (&[u8], u64),
-    companion: (&[u8], u64),
-) -> (Ran, (u64, u64))
-    requires { 0 < piece }
-{
-    let mut trace = Pieces::new(trace.0, piece, trace.1);
-    let mut companion = Pieces::new(companion.0, piece, companion.1);
-    let mut out = Narrow::new(alloc, usize::MAX, false);
-    let status = run(
-        rt,
-        alloc,
-        &mut trace,
-        &mut companion,
-        Knobs::standard(),
-        &OpenGate,
-        &mut out,
-    );
-    ((status, out.taken), (trace.calls, companion.calls))
+    ends: (Pieces<'_>, Pieces<'_>, Room),
+    answer: Result<Status, Fault>,
+    written: &[u8],
+) -> [u64; 3] {
+    let (trace, companion, room) = ends;
+    let (status, taken, calls) = ran(rt, alloc, trace, companion, room);
+    assert_eq!(*rt; (status, taken.as_slice()), (answer, written));
+    calls
 }

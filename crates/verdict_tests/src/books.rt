@@ -1,5 +1,6 @@
 //! Books to which pages come one after another, and what they are then closed with.
 
+use crate::answers::wants;
 use crate::calls::{Told, record_of, stream_of, told};
 use crate::machines::Recording;
 use crate::shelf::OwnShelf;
@@ -12,46 +13,38 @@ use std::process::Abort;
 use std::test::Fail;
 use ticket_book::{Book, PostFault};
 
+/// The slack of the standard settings.
+pub(crate) const SLACK: u64 = 100_000;
+
+/// A caller with a whole page.
+pub(crate) const WHOLE: Bringer = Bringer::Caller(u64::MAX, SLACK);
+
+/// A caller with a whole page that passes no idling beside a waiting task.
+pub(crate) const STRICT: Bringer = Bringer::Caller(u64::MAX, 0);
+
+/// An auditor that asks after each step.
+pub(crate) const AUDITOR: Bringer = Bringer::Auditor(1);
+
 /// Who brings the page of a processor.
 #[derive(Clone, Copy)]
 pub(crate) enum Bringer {
-    /// The caller, by so many steps under these settings.
-    Caller(u64, Knobs),
+    /// A caller, by so many steps under settings with this slack.
+    Caller(u64, u64),
     /// An auditor that asks for the least line after each so many steps.
     Auditor(u64),
 }
 
-/// A page that comes to a book.
-#[derive(Clone, Copy)]
-pub(crate) struct Coming {
-    pub recording: &'static Recording,
-    pub cpu: u32,
-    pub bringer: Bringer,
-}
-
-/// The whole page, under the standard settings.
-pub(crate) fn page(recording: &'static Recording, cpu: u32) -> Coming {
-    page_by(recording, cpu, Bringer::Caller(u64::MAX, Knobs::standard()))
-}
-
-/// The page that this one brings.
-pub(crate) fn page_by(recording: &'static Recording, cpu: u32, bringer: Bringer) -> Coming {
-    Coming {
-        recording,
-        cpu,
-        bringer,
-    }
-}
-
 /// The tag of a page, and the least line of a fault that the book answers to it, or why it is refused.
-pub(crate) type Answer = (Tag, Result<u64, PostFault>);
+type Answer = (Tag, Result<u64, PostFault>);
 
-/// The tag of a page with a fault.
-pub(crate) fn faulted(cpu: u32, line: u32) -> Tag {
-    Tag {
-        cpu,
-        reached: Reached::Faulted(line),
-    }
+/// A page that comes to a book: its processor, who brings it, how far it reached, and what the book answers.
+type Coming = (u32, Bringer, Reached, Result<u64, PostFault>);
+
+/// A book of so many processors, the pages that come to it one after another, and how many are made again where it is closed.
+pub(crate) struct Case {
+    pub cpus: u32,
+    pub comings: &'static [Coming],
+    pub remade: u32,
 }
 
 /// A replay after so many steps.
@@ -80,7 +73,7 @@ fn posted(book: Book, page: Page) -> (Book, Answer) {
 }
 
 /// The shelf over a book after the auditor of a stream, which asks after each so many steps, and what it answered.
-pub(crate) fn audited(
+fn audited(
     alloc: Global,
     book: Book,
     stream: Stream,
@@ -146,11 +139,25 @@ fn after_auditor(
     left_by(shelf, page_back(end)?)
 }
 
-/// A book after a page, and what it answers.
-fn after(alloc: Global, book: Book, coming: &Coming) -> Result<(Book, Answer), Fail> {
-    let stream = stream_of(alloc, coming.recording, coming.cpu)?;
-    match coming.bringer {
-        Bringer::Caller(steps, knobs) => Ok(posted(book, replayed(alloc, stream, steps, knobs)?)),
+/// The standard settings with this slack.
+fn knobs_with(slack: u64) -> Knobs {
+    Knobs::new(1_000_000, 3_000_000, 3_000_000, slack).unwrap_or(Knobs::standard())
+}
+
+/// A book after the page of a processor of a recording, and what it answers.
+fn after(
+    alloc: Global,
+    book: Book,
+    recording: &Recording,
+    cpu: u32,
+    bringer: Bringer,
+) -> Result<(Book, Answer), Fail> {
+    let stream = stream_of(alloc, recording, cpu)?;
+    match bringer {
+        Bringer::Caller(steps, slack) => {
+            let page = replayed(alloc, stream, steps, knobs_with(slack))?;
+            Ok(posted(book, page))
+        }
         Bringer::Auditor(stretch) => after_auditor(alloc, book, stream, stretch),
     }
 }
@@ -163,62 +170,84 @@ fn book_for(alloc: Global, cpus: u32) -> Result<Book, Fail> {
     Ok(Book::new(alloc, cpus)?)
 }
 
-/// A book of so many processors after these pages, and its answers.
-pub(crate) fn after_all(
-    alloc: Global,
-    cpus: u32,
-    comings: &[Coming],
-) -> Result<(Book, Vec<Answer>), Fail> {
-    let mut book = book_for(alloc, cpus)?;
-    let mut answers = Vec::new(alloc);
-    for coming in comings {
-        let (next, answer) = after(alloc, book, coming)?;
-        book = next;
-        answers.push(answer)?;
-    }
-    Ok((book, answers))
-}
-
 /// What a book is closed with.
-fn closed(book: Book, record: &Record, knobs: Knobs) -> Result<Told, Fail> {
-    Ok(told(book.close(record, knobs)?))
+fn closed(book: Book, record: &Record) -> Result<Told, Fail> {
+    Ok(told(book.close(record, Knobs::standard())?))
 }
 
 /// The same on a recording.
-fn closed_on(alloc: Global, book: Book, recording: &Recording, knobs: Knobs) -> Result<Told, Fail> {
+fn closed_on(alloc: Global, book: Book, recording: &Recording) -> Result<Told, Fail> {
     let record = record_of(alloc, recording)?;
-    closed(book, &record, knobs)
+    closed(book, &record)
 }
 
-/// What a book of so many processors answers to these pages, and is closed with on a recording.
-pub(crate) fn comes_to(
-    alloc: Global,
-    cpus: u32,
-    comings: &[Coming],
-    recording: &Recording,
-    knobs: Knobs,
-) -> Result<(Vec<Answer>, Told), Fail> {
-    let (book, answers) = after_all(alloc, cpus, comings)?;
-    Ok((answers, closed_on(alloc, book, recording, knobs)?))
-}
-
-/// What a book of so many processors is closed with on a recording, after these pages, by the standard settings.
-pub(crate) fn told_by(
-    alloc: Global,
-    cpus: u32,
-    comings: &[Coming],
-    recording: &Recording,
-) -> Result<Told, Fail> {
-    let (book, _answers) = after_all(alloc, cpus, comings)?;
-    closed_on(alloc, book, recording, Knobs::standard())
-}
-
-/// Ends the test where a book answers or is closed otherwise.
-pub(crate) fn wants_book<R: Abort>(
+/// The book after the pages of a recording, each of which reaches and is answered what is wanted.
+fn after_all<R: Abort>(
     rt: &R,
-    book: &(Vec<Answer>, Told),
-    answers: &[Answer],
-    told: Told,
-) {
-    assert_eq!(*rt; (book.0.as_slice(), book.1), (answers, told));
+    alloc: Global,
+    recording: &Recording,
+    case: &Case,
+) -> Result<Book, Fail> {
+    let mut book = book_for(alloc, case.cpus)?;
+    for (cpu, bringer, reached, wanted) in case.comings {
+        let (next, answer) = after(alloc, book, recording, *cpu, *bringer)?;
+        let tag = Tag {
+            cpu: *cpu,
+            reached: *reached,
+        };
+        wants(rt, recording.name, &answer, &(tag, *wanted));
+        book = next;
+    }
+    Ok(book)
+}
+
+/// Ends the test where one of these books answers otherwise to the pages of a recording, or is closed otherwise on it.
+pub(crate) fn wants_books<R: Abort>(
+    rt: &R,
+    alloc: Global,
+    recording: &Recording,
+    cases: &[Case],
+) -> Result<(), Fail> {
+    for case in cases {
+        let told = closed_on(alloc, after_all(rt, alloc, recording, case)?, recording)?;
+        wants(rt, recording.name, &told, &(case.remade, recording.fault));
+    }
+    Ok(())
+}
+
+/// A book of two processors with the whole pages of these recordings.
+fn book_of(alloc: Global, first: &Recording, second: &Recording) -> Result<Book, Fail> {
+    let (book, _answer) = after(alloc, book_for(alloc, 2)?, first, 0, WHOLE)?;
+    let (book, _answer) = after(alloc, book, second, 1, WHOLE)?;
+    Ok(book)
+}
+
+/// Ends the test where a book with the whole pages of two recordings is closed otherwise on a third than with its fault and
+/// so many pages made again.
+pub(crate) fn wants_remade<R: Abort>(
+    rt: &R,
+    alloc: Global,
+    pages: (&Recording, &Recording),
+    recording: &Recording,
+    remade: u32,
+) -> Result<(), Fail> {
+    let told = closed_on(alloc, book_of(alloc, pages.0, pages.1)?, recording)?;
+    wants(rt, recording.name, &told, &(remade, recording.fault));
+    Ok(())
+}
+
+/// The words of a recording's auditor of processor 0 over a book that has a page of that processor.
+pub(crate) fn words_of_second(alloc: Global, recording: &Recording) -> Result<String, Fail> {
+    let stream = stream_of(alloc, recording, 0)?;
+    let (book, _answer) = after(alloc, book_for(alloc, 2)?, recording, 0, WHOLE)?;
+    let (_shelf, end) = audited(alloc, book, stream, 1)?;
+    words_in(alloc, end)
+}
+
+/// The words of the fault of an auditor that tells one.
+pub(crate) fn words_in(alloc: Global, end: Result<(), AuditorFault>) -> Result<String, Fail> {
+    match end {
+        Ok(()) => Err(Fail::from("a page that comes back")),
+        Err(fault) => Ok(fault.to_string(alloc)?),
+    }
 }

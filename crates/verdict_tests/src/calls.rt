@@ -1,12 +1,14 @@
 //! The calls that tests make of the crates below, each in a function of its own that promises nothing and most with plain
 //! values: what their clauses say stands before no test, which is then proved in seconds.
 
+use crate::answers::wants;
 use crate::machines::{Lines, Recording};
 use audit_crew::{Gate, audit, audit_serial, crew};
 use cfs_model::{Kind, Knobs};
 use companion_file::read_companion;
 use sched_record::{Record, Stream, join, read_trace};
 use std::alloc::Global;
+use std::process::Abort;
 use std::sync::Wait;
 use std::test::Fail;
 use std::thread::Threads;
@@ -95,9 +97,20 @@ pub(crate) fn alone(alloc: Global, record: &Record) -> Result<Closed, Fail> {
 }
 
 /// What one thread comes to on a recording.
-pub(crate) fn told_alone(alloc: Global, recording: &Recording) -> Result<Told, Fail> {
+fn told_alone(alloc: Global, recording: &Recording) -> Result<Told, Fail> {
     let record = record_of(alloc, recording)?;
     Ok(told(alone(alloc, &record)?))
+}
+
+/// Ends the test where one thread comes to something else on a recording than to its fault, with no page made again.
+pub(crate) fn wants_alone<R: Abort>(
+    rt: &R,
+    alloc: Global,
+    recording: &Recording,
+) -> Result<(), Fail> {
+    let told = told_alone(alloc, recording)?;
+    wants(rt, recording.name, &told, &(0, recording.fault));
+    Ok(())
 }
 
 /// A crew's verdict, by the standard settings.

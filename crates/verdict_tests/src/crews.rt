@@ -1,8 +1,8 @@
 //! Crews of auditors, which come to the verdict of one thread; and what an auditor says of its fault.
 
 use crate::answers::wants;
-use crate::books::{after_all, audited, page};
-use crate::calls::{Told, alone, record_from, record_of, stream_of, together, told};
+use crate::books::{words_in, words_of_second};
+use crate::calls::{Told, alone, record_from, record_of, together, told};
 use crate::machines::{DEATH_THEN_BIRTH_ELSEWHERE, Recording, recordings};
 use audit_crew::{AuditorFault, OpenGate};
 use cfs_model::Kind;
@@ -12,22 +12,6 @@ use std::sync::Wait;
 use std::test::Fail;
 use std::thread::Threads;
 use ticket_book::Closed;
-
-/// The words of the fault of an auditor that tells one.
-fn words_in(alloc: Global, end: Result<(), AuditorFault>) -> Result<String, Fail> {
-    match end {
-        Ok(()) => Err(Fail::from("a page that comes back")),
-        Err(fault) => Ok(fault.to_string(alloc)?),
-    }
-}
-
-/// The words of the auditor of processor 0 over a book that has a page of that processor.
-fn words_of_second(alloc: Global, recording: &'static Recording) -> Result<String, Fail> {
-    let stream = stream_of(alloc, recording, 0)?;
-    let (book, _answers) = after_all(alloc, 2, &[page(recording, 0)])?;
-    let (_shelf, end) = audited(alloc, book, stream, 1)?;
-    words_in(alloc, end)
-}
 
 #[test]
 fn an_auditor_tells_its_fault_in_words(rt: HostRuntime) -> Result<(), Fail> {

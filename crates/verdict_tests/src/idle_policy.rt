@@ -1,9 +1,8 @@
 //! Tasks of the idle policy that migrate: what they are charged where they come to, and which pages of other companions a
 //! verdict relies on.
 
-use crate::answers::wants;
-use crate::books::{page, told_by};
-use crate::calls::{MaybeFault, told_alone};
+use crate::books::wants_remade;
+use crate::calls::{MaybeFault, wants_alone};
 use crate::machines::{Lines, Recording};
 use cfs_model::Kind;
 use std::test::Fail;
@@ -94,8 +93,7 @@ fn the_idle_policy_is_kept_at_a_migration(rt: HostRuntime) -> Result<(), Fail> {
         &STAYS_BY_NICE,
         &STAYS_BY_THREE,
     ] {
-        let told = told_alone(rt.alloc(), recording)?;
-        wants(&rt, recording.name, &told, &(0, recording.fault));
+        wants_alone(&rt, rt.alloc(), recording)?;
     }
     Ok(())
 }
@@ -115,8 +113,7 @@ fn a_page_with_other_policies_is_made_again(rt: HostRuntime) -> Result<(), Fail>
         (&MOVES_BY_NICE, &NOBODY_BY_NICE, &MOVES_BY_NICE, 1),
         (&NOBODY_BY_NICE, &MOVES_BY_NICE, &MOVES_BY_NICE, 1),
     ] {
-        let told = told_by(rt.alloc(), 2, &[page(orig, 0), page(dest, 1)], recording)?;
-        wants(&rt, recording.name, &told, &(remade, recording.fault));
+        wants_remade(&rt, rt.alloc(), (orig, dest), recording, remade)?;
     }
     Ok(())
 }
@@ -147,7 +144,5 @@ static BORN_TWICE: Recording = Recording {
 fn a_birth_of_a_living_task_comes_before_the_tickets_that_it_makes_unequal(
     rt: HostRuntime,
 ) -> Result<(), Fail> {
-    let told = told_alone(rt.alloc(), &BORN_TWICE)?;
-    wants(&rt, "", &told, &(0, BORN_TWICE.fault));
-    Ok(())
+    wants_alone(&rt, rt.alloc(), &BORN_TWICE)
 }

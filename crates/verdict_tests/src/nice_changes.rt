@@ -1,9 +1,8 @@
 //! Changes of nice values at a migration: what they do at its two ends, and which pages of other companions a verdict
 //! relies on.
 
-use crate::answers::wants;
-use crate::books::{page, told_by};
-use crate::calls::{MaybeFault, told_alone};
+use crate::books::wants_remade;
+use crate::calls::{MaybeFault, wants_alone};
 use crate::machines::{Lines, Recording};
 use cfs_model::Kind;
 use std::test::Fail;
@@ -91,8 +90,7 @@ fn a_change_at_a_migration_is_made_where_the_task_leaves(rt: HostRuntime) -> Res
         &OF_THE_RUNNER,
         &AT_THE_DESTINATION,
     ] {
-        let told = told_alone(rt.alloc(), recording)?;
-        wants(&rt, recording.name, &told, &(0, recording.fault));
+        wants_alone(&rt, rt.alloc(), recording)?;
     }
     Ok(())
 }
@@ -105,8 +103,7 @@ fn a_page_with_other_changes_is_made_again(rt: HostRuntime) -> Result<(), Fail> 
         (&TO_MINUS_FOUR, &TO_MINUS_FIVE, 1),
         (&TO_MINUS_FIVE, &UNCHANGED, 1),
     ] {
-        let told = told_by(rt.alloc(), 2, &[page(pages, 0), page(pages, 1)], recording)?;
-        wants(&rt, pages.name, &told, &(remade, recording.fault));
+        wants_remade(&rt, rt.alloc(), (pages, pages), recording, remade)?;
     }
     Ok(())
 }

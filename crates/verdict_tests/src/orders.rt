@@ -1,11 +1,11 @@
 //! Three auditors in each order in which they can come, over one book and as threads.
 
 use crate::answers::wants;
-use crate::books::{Bringer, comes_to, faulted, page_by, wants_book};
+use crate::books::{AUDITOR, Case, wants_books};
 use crate::calls::{Told, gathered, told_together};
 use crate::machines::THREE_FAULTS_ON_THREE_PROCESSORS;
 use audit_crew::Gate;
-use cfs_model::Knobs;
+use queue_replay::Reached::Faulted;
 use std::alloc::Global;
 use std::sync::Wait;
 use std::sync::atomic::{AtomicBool, AtomicU64, Ordering};
@@ -14,50 +14,83 @@ use std::thread;
 use std::thread::Threads;
 use std::time::{Clock, Duration};
 
-/// Each order of three processors, and the least line of a fault that the book answers to each page in that order.
-static ORDERS: [([u32; 3], [u64; 3]); 6] = [
-    ([0, 1, 2], [4, 4, 2]),
-    ([0, 2, 1], [4, 2, 2]),
-    ([1, 0, 2], [9, 4, 2]),
-    ([1, 2, 0], [9, 2, 2]),
-    ([2, 0, 1], [2, 2, 2]),
-    ([2, 1, 0], [2, 2, 2]),
+/// Auditors in each order, with the line of their fault and the least line that the book answers to the page.
+static AUDITORS: [Case; 6] = [
+    Case {
+        cpus: 3,
+        comings: &[
+            (0, AUDITOR, Faulted(4), Ok(4)),
+            (1, AUDITOR, Faulted(9), Ok(4)),
+            (2, AUDITOR, Faulted(2), Ok(2)),
+        ],
+        remade: 0,
+    },
+    Case {
+        cpus: 3,
+        comings: &[
+            (0, AUDITOR, Faulted(4), Ok(4)),
+            (2, AUDITOR, Faulted(2), Ok(2)),
+            (1, AUDITOR, Faulted(9), Ok(2)),
+        ],
+        remade: 0,
+    },
+    Case {
+        cpus: 3,
+        comings: &[
+            (1, AUDITOR, Faulted(9), Ok(9)),
+            (0, AUDITOR, Faulted(4), Ok(4)),
+            (2, AUDITOR, Faulted(2), Ok(2)),
+        ],
+        remade: 0,
+    },
+    Case {
+        cpus: 3,
+        comings: &[
+            (1, AUDITOR, Faulted(9), Ok(9)),
+            (2, AUDITOR, Faulted(2), Ok(2)),
+            (0, AUDITOR, Faulted(4), Ok(2)),
+        ],
+        remade: 0,
+    },
+    Case {
+        cpus: 3,
+        comings: &[
+            (2, AUDITOR, Faulted(2), Ok(2)),
+            (0, AUDITOR, Faulted(4), Ok(2)),
+            (1, AUDITOR, Faulted(9), Ok(2)),
+        ],
+        remade: 0,
+    },
+    Case {
+        cpus: 3,
+        comings: &[
+            (2, AUDITOR, Faulted(2), Ok(2)),
+            (1, AUDITOR, Faulted(9), Ok(2)),
+            (0, AUDITOR, Faulted(4), Ok(2)),
+        ],
+        remade: 0,
+    },
 ];
-
-fn orders() -> &'static [([u32; 3], [u64; 3])] {
-    &ORDERS
-}
-
-/// The line of a processor's fault.
-fn line_at(cpu: u32) -> u32 {
-    match cpu {
-        0 => 4,
-        1 => 9,
-        _ => 2,
-    }
-}
 
 #[test]
 fn three_auditors_come_to_one_verdict_in_each_order(rt: HostRuntime) -> Result<(), Fail> {
-    let recording = &THREE_FAULTS_ON_THREE_PROCESSORS;
-    for (order, least) in orders() {
-        let [first, second, third] = *order;
-        let [least_of_one, least_of_two, least_of_three] = *least;
-        let pages = [
-            page_by(recording, first, Bringer::Auditor(1)),
-            page_by(recording, second, Bringer::Auditor(1)),
-            page_by(recording, third, Bringer::Auditor(1)),
-        ];
-        let answers = [
-            (faulted(first, line_at(first)), Ok(least_of_one)),
-            (faulted(second, line_at(second)), Ok(least_of_two)),
-            (faulted(third, line_at(third)), Ok(least_of_three)),
-        ];
-        let book = comes_to(rt.alloc(), 3, &pages, recording, Knobs::standard())?;
-        wants_book(&rt, &book, &answers, (0, recording.fault));
-    }
-    Ok(())
+    wants_books(
+        &rt,
+        rt.alloc(),
+        &THREE_FAULTS_ON_THREE_PROCESSORS,
+        &AUDITORS,
+    )
 }
+
+/// Each order of three processors.
+const ORDERS: [[u32; 3]; 6] = [
+    [0, 1, 2],
+    [0, 2, 1],
+    [1, 0, 2],
+    [1, 2, 0],
+    [2, 0, 1],
+    [2, 1, 0],
+];
 
 /// The number of turns, each of a millisecond, for which an auditor waits for those before it.
 const LIMIT: u32 = 10000;
@@ -142,21 +175,16 @@ fn gathered_in<R: Threads + Wait + Clock + Sync>(
 #[test]
 fn three_threads_come_to_one_verdict_in_each_order(rt: HostRuntime) -> Result<(), Fail> {
     let told = (0, THREE_FAULTS_ON_THREE_PROCESSORS.fault);
-    for (order, _least) in orders() {
-        wants(
-            &rt,
-            "",
-            &judged_in(&rt, rt.alloc(), *order)?,
-            &(told, false),
-        );
+    for order in ORDERS {
+        wants(&rt, "", &judged_in(&rt, rt.alloc(), order)?, &(told, false));
     }
     Ok(())
 }
 
 #[test]
 fn three_threads_post_their_pages_in_each_order(rt: HostRuntime) -> Result<(), Fail> {
-    for (order, _least) in orders() {
-        wants(&rt, "", &gathered_in(&rt, rt.alloc(), *order)?, &(3, 2));
+    for order in ORDERS {
+        wants(&rt, "", &gathered_in(&rt, rt.alloc(), order)?, &(3, 2));
     }
     Ok(())
 }

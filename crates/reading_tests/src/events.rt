@@ -1,3 +1,4 @@
+use crate::answers::wants;
 use cfs_model::{Act, Nice, Way};
 use ftrace_line::{Sched, Which};
 use sched_event::{Event, EventFault, read_event};
@@ -37,162 +38,80 @@ fn from_101_to_102(way: Way) -> Act {
     }
 }
 
-/// A wakeup at processor 0.
-fn wake(pid: u32) -> Act {
-    Act::Wake {
-        cpu: 0,
-        pid,
-        nice: zero(),
-    }
-}
+static WAYS: [(&[u8], Way); 6] = [
+    (
+        b"prev_comm=a prev_pid=101 prev_prio=120 prev_state=R ==> next_comm=b next_pid=102 next_prio=120",
+        Way::Stays,
+    ),
+    (
+        b"prev_comm=a prev_pid=101 prev_prio=120 prev_state=X+ ==> next_comm=b next_pid=102 next_prio=120",
+        Way::Stays,
+    ),
+    (
+        b"prev_comm=a prev_pid=101 prev_prio=120 prev_state=RX ==> next_comm=b next_pid=102 next_prio=120",
+        Way::Ends,
+    ),
+    (
+        b"prev_comm=a prev_pid=101 prev_prio=120 prev_state=Z ==> next_comm=b next_pid=102 next_prio=120",
+        Way::Ends,
+    ),
+    (
+        b"prev_comm=a prev_pid=101 prev_prio=120 prev_state=D|x ==> next_comm=b next_pid=102 next_prio=120",
+        Way::Ends,
+    ),
+    (
+        b"prev_comm=a prev_pid=101 prev_prio=120 prev_state=SR ==> next_comm=b next_pid=102 next_prio=120",
+        Way::Sleeps,
+    ),
+];
 
-#[test]
-fn wakeups_are_read(rt: HostRuntime) {
-    let texts: [(&[u8], u32); 3] = [
-        (b"comm=t101 pid=101 prio=120 success=1 target_cpu=000", 101),
-        (b"comm=t101 pid=101 prio=120 target_cpu=000", 101),
-        (b"comm= pid=1 prio=2 pid=7 prio=120 target_cpu=000", 7),
-    ];
-    for (text, pid) in texts {
-        assert_eq!(rt; act(Which::Wakeup, text), Ok(wake(pid)), "{text:?}");
+/// The first text in the table that isn't read as a switch from task 101, which leaves so, to task 102.
+fn misread_way() -> Option<&'static [u8]> {
+    for (text, way) in &WAYS {
+        if act(Which::Switch, text) != Ok(from_101_to_102(*way)) {
+            return Some(*text);
+        }
     }
-}
-
-#[test]
-fn switches_are_read(rt: HostRuntime) {
-    let texts: [&[u8]; 4] = [
-        b"prev_comm=a prev_pid=5 prev_pid=101 prev_prio=120 prev_state=R+ ==> next_comm=my name next_pid=102 next_prio=120",
-        b"prev_comm= ==> next_comm= prev_pid=101 prev_prio=120 prev_state=R+ ==> next_comm=t102 next_pid=102 next_prio=120",
-        b"prev_comm=\xff\xff\xff\xff\xff\xff\xff\xff\xff\xff\xff\xff\xff\xff\xff prev_pid=101 prev_prio=120 prev_state=R+ ==> next_comm=\xff\xff\xff\xff\xff\xff\xff\xff\xff\xff\xff\xff\xff\xff\xff next_pid=102 next_prio=120",
-        b"prev_comm=t101 prev_pid=0000000000000000000000000000000000000000101 prev_prio=120 prev_state=R+ ==> next_comm=t102 next_pid=102 next_prio=120",
-    ];
-    for text in texts {
-        assert_eq!(rt;
-            act(Which::Switch, text),
-            Ok(from_101_to_102(Way::Stays)),
-            "{text:?}"
-        );
-    }
+    None
 }
 
 #[test]
 fn states_tell_the_way_out(rt: HostRuntime) {
-    let texts: [(&[u8], Way); 6] = [
-        (
-            b"prev_comm=a prev_pid=101 prev_prio=120 prev_state=R ==> next_comm=b next_pid=102 next_prio=120",
-            Way::Stays,
-        ),
-        (
-            b"prev_comm=a prev_pid=101 prev_prio=120 prev_state=X+ ==> next_comm=b next_pid=102 next_prio=120",
-            Way::Stays,
-        ),
-        (
-            b"prev_comm=a prev_pid=101 prev_prio=120 prev_state=RX ==> next_comm=b next_pid=102 next_prio=120",
-            Way::Ends,
-        ),
-        (
-            b"prev_comm=a prev_pid=101 prev_prio=120 prev_state=Z ==> next_comm=b next_pid=102 next_prio=120",
-            Way::Ends,
-        ),
-        (
-            b"prev_comm=a prev_pid=101 prev_prio=120 prev_state=D|x ==> next_comm=b next_pid=102 next_prio=120",
-            Way::Ends,
-        ),
-        (
-            b"prev_comm=a prev_pid=101 prev_prio=120 prev_state=SR ==> next_comm=b next_pid=102 next_prio=120",
-            Way::Sleeps,
-        ),
-    ];
-    for (text, way) in texts {
-        assert_eq!(rt;
-            act(Which::Switch, text),
-            Ok(from_101_to_102(way)),
-            "{text:?}"
-        );
-    }
-}
-
-#[test]
-fn texts_are_refused_by_the_first_cause(rt: HostRuntime) {
-    let switches: [(&[u8], EventFault); 5] = [
-        (
-            b"prev_comm=abcdefghijklmnop prev_pid=101 prev_prio=120 prev_state=R+ ==> next_comm=t102 next_pid=102 next_prio=120",
-            EventFault::BadFields,
-        ),
-        (
-            b"prev_comm=t101 prev_pid=101 prev_prio=120 prev_state=R+ ==> next_comm=abcdefghijklmnop next_pid=102 next_prio=120",
-            EventFault::BadFields,
-        ),
-        (b"prev_comm=t101 prev_p", EventFault::BadFields),
-        (
-            b"prev_comm=t101 prev_pid=101 prev_prio=140 prev_state=R+ ==> next_comm=t102 next_pid=102 next_prio=98",
-            EventFault::PrioRange,
-        ),
-        (
-            b"prev_comm=t101 prev_pid=101 prev_prio=98 prev_state=R+ ==> next_comm=t102 next_pid=102 next_prio=120",
-            EventFault::RealTime,
-        ),
-    ];
-    for (text, want) in switches {
-        assert_eq!(rt; act(Which::Switch, text), Err(want), "{text:?}");
-    }
-    let wakeups: [(&[u8], EventFault); 4] = [
-        (
-            b"comm=abcdefghijklmnop pid=101 prio=120 target_cpu=000",
-            EventFault::BadFields,
-        ),
-        (
-            b"comm=t4194305 pid=4194305 prio=120 target_cpu=000",
-            EventFault::NumberRange,
-        ),
-        (
-            b"comm=t101 pid=101 prio=140 target_cpu=000",
-            EventFault::PrioRange,
-        ),
-        (
-            b"comm=swapper/0 pid=0 prio=120 target_cpu=000",
-            EventFault::IdleNamed,
-        ),
-    ];
-    for (text, want) in wakeups {
-        assert_eq!(rt; act(Which::Wakeup, text), Err(want), "{text:?}");
-    }
-    let moved = b"comm=t101 pid=101 prio=120 orig_cpu=0 dest_cpu=65536";
-    assert_eq!(rt;
-        act(Which::MigrateTask, moved),
-        Err(EventFault::NumberRange)
-    );
+    wants(&rt, &misread_way(), &None);
 }
 
 #[test]
 fn births_and_migrations_are_read(rt: HostRuntime) {
     let born = b"comm=t5 pid=5 prio=125 target_cpu=003";
     let moved = b"comm=t5 pid=5 prio=120 orig_cpu=1 dest_cpu=0";
-    let nice = Nice::new(5).unwrap();
-    assert_eq!(rt;
-        act(Which::WakeupNew, born),
-        Ok(Act::Born {
+    wants(
+        &rt,
+        &act(Which::WakeupNew, born),
+        &Ok(Act::Born {
             cpu: 3,
             pid: 5,
-            nice
-        })
+            nice: Nice::new(5).unwrap(),
+        }),
     );
-    assert_eq!(rt;
-        act(Which::MigrateTask, moved),
-        Ok(Act::Shift {
+    wants(
+        &rt,
+        &act(Which::MigrateTask, moved),
+        &Ok(Act::Shift {
             orig: 1,
             dest: 0,
             pid: 5,
-            nice: zero()
-        })
+            nice: zero(),
+        }),
     );
 }
 
+/// The idle task's prio is no number that is looked at, and its state none by which it leaves.
+const IDLE: &[u8] =
+    b"prev_comm=swapper/0 prev_pid=0 prev_prio=99999999999999999999 prev_state=S ==> next_comm=t102 next_pid=102 next_prio=120";
+
 #[test]
 fn the_idle_task_has_no_prio_and_stays(rt: HostRuntime) {
-    let text =
-        b"prev_comm=swapper/0 prev_pid=0 prev_prio=99999999999999999999 prev_state=S ==> next_comm=t102 next_pid=102 next_prio=120";
-    let want = Act::Switch {
+    let wanted = Act::Switch {
         cpu: 0,
         prev: 0,
         prev_nice: zero(),
@@ -200,7 +119,7 @@ fn the_idle_task_has_no_prio_and_stays(rt: HostRuntime) {
         next: 102,
         next_nice: zero(),
     };
-    assert_eq!(rt; act(Which::Switch, text), Ok(want));
+    wants(&rt, &act(Which::Switch, IDLE), &Ok(wanted));
 }
 
 /// The slices of a text's event: of a switch the two names with the state between them, of a wakeup the name.
@@ -216,17 +135,19 @@ fn slices(which: Which, text: &[u8]) -> Option<(&[u8], &[u8], &[u8])> {
 fn names_are_slices_of_the_line(rt: HostRuntime) {
     let text =
         b"prev_comm=a prev_pid=5 prev_pid=101 prev_prio=120 prev_state=R+ ==> next_comm=my name next_pid=102 next_prio=120";
-    assert_eq!(rt;
-        slices(Which::Switch, text),
-        Some((
+    wants(
+        &rt,
+        &slices(Which::Switch, text),
+        &Some((
             b"a prev_pid=5".as_slice(),
             b"R+".as_slice(),
-            b"my name".as_slice()
-        ))
+            b"my name".as_slice(),
+        )),
     );
     let text = b"comm= pid=1 prio=2 pid=7 prio=120 target_cpu=000";
-    assert_eq!(rt;
-        slices(Which::Wakeup, text),
-        Some((b" pid=1 prio=2".as_slice(), b"".as_slice(), b"".as_slice()))
+    wants(
+        &rt,
+        &slices(Which::Wakeup, text),
+        &Some((b" pid=1 prio=2".as_slice(), b"".as_slice(), b"".as_slice())),
     );
 }

@@ -1,10 +1,11 @@
 //! The calls that tests make of the crates below, each in a function of its own that promises nothing, and most with
 //! plain values: what their clauses say stands before no test, which is then proved in seconds.
 
-use cfs_model::Knobs;
-use companion_file::{Companion, read_companion};
+use cfs_model::{Knobs, Nice};
+use companion_file::read_companion;
 use queue_replay::{Page, Replay, State};
-use sched_record::{JoinFault, Record, Stream, Trace, join, read_trace};
+use replay_model::{StepFault, Ticket};
+use sched_record::{JoinFault, Record, Stream, join, read_trace};
 use std::alloc::Global;
 use std::test::Fail;
 
@@ -16,22 +17,25 @@ pub(crate) fn only<T: Copy>(items: &[T]) -> Option<T> {
     }
 }
 
-/// The trace and the companion of two texts, joined.
+/// The record of two texts, or why they don't go together.
 fn joined(
     alloc: Global,
     trace: &[u8],
     companion: &[u8],
-) -> Result<Result<Record, (Trace, Companion, JoinFault)>, Fail> {
+) -> Result<Result<Record, JoinFault>, Fail> {
     let trace = read_trace(alloc, trace)?;
     let companion = read_companion(alloc, companion)?;
-    Ok(join(trace, companion))
+    match join(trace, companion) {
+        Ok(record) => Ok(Ok(record)),
+        Err((_trace, _companion, fault)) => Ok(Err(fault)),
+    }
 }
 
 /// The record of a trace and a companion that go together.
 pub(crate) fn record_of(alloc: Global, trace: &[u8], companion: &[u8]) -> Result<Record, Fail> {
     match joined(alloc, trace, companion)? {
         Ok(record) => Ok(record),
-        Err((_trace, _companion, _fault)) => Err(Fail::from("they go together")),
+        Err(_fault) => Err(Fail::from("they go together")),
     }
 }
 
@@ -41,10 +45,7 @@ pub(crate) fn refusal_of(
     trace: &[u8],
     companion: &[u8],
 ) -> Result<Option<JoinFault>, Fail> {
-    match joined(alloc, trace, companion)? {
-        Ok(_record) => Ok(None),
-        Err((_trace, _companion, fault)) => Ok(Some(fault)),
-    }
+    Ok(joined(alloc, trace, companion)?.err())
 }
 
 /// What a processor sees of a record.
@@ -100,4 +101,41 @@ pub(crate) fn page_after(replay: Replay, steps: u64) -> Result<Page, Fail> {
         }
     }
     Ok(replay.page())
+}
+
+/// The page of a processor of a recording, in calls of so many steps.
+pub(crate) fn page_at(
+    alloc: Global,
+    trace: &[u8],
+    companion: &[u8],
+    cpu: u32,
+    steps: u64,
+) -> Result<Page, Fail> {
+    page_after(
+        replay_at(alloc, trace, companion, cpu, Knobs::standard())?,
+        steps,
+    )
+}
+
+/// A page's fault, and the only tickets of those who left and of those who came.
+pub(crate) type Tickets = (Option<StepFault>, Option<Ticket>, Option<Ticket>);
+
+fn tickets(page: &Page) -> Tickets {
+    (page.fault(), only(page.left()), only(page.came()))
+}
+
+/// The same of the page of a processor of a recording.
+pub(crate) fn tickets_at(
+    alloc: Global,
+    trace: &[u8],
+    companion: &[u8],
+    cpu: u32,
+) -> Result<Tickets, Fail> {
+    let page = page_at(alloc, trace, companion, cpu, 9)?;
+    Ok(tickets(&page))
+}
+
+/// The nice value of prio 120.
+pub(crate) fn zero() -> Nice {
+    Nice::new(0).unwrap()
 }

@@ -1,3 +1,4 @@
+use crate::answers::wants;
 use cfs_model::{
     Kind, Knobs, Memory, Nice, PrioFault, birth_example, charge, floors_rise, idle_example,
     marks_move, migration_example, one_list, pick_example, places, prefixes, put_back_example,
@@ -9,169 +10,152 @@ use replay_model::{
 };
 use std::test::Fail;
 
-#[test]
-fn charges_are_rounded_down_and_end_at_the_greatest(rt: HostRuntime) {
-    for (delta, weight, cost) in [
-        (4_000_000, 88_761, Some(46_146)),
-        (4_000_000, 15, Some(273_066_666)),
-        (0, 15, Some(0)),
-        (67_553_994_410_557_440, 15, Some(4_611_686_018_427_387_904)),
-        (67_553_994_410_557_441, 15, None),
-        (4_000_000, 335, Some(12_226_865)),
-        (4_000_000, 3, Some(1_365_333_333)),
-        (13_510_798_882_111_488, 3, Some(4_611_686_018_427_387_904)),
-        (13_510_798_882_111_489, 3, None),
-    ] {
-        if weight > 0 {
-            assert_eq!(rt;
-                charge(delta, weight),
-                cost,
-                "{delta} ns at weight {weight}"
-            );
+static CHARGES: [(u64, u32, Option<i64>); 9] = [
+    (4_000_000, 88_761, Some(46_146)),
+    (4_000_000, 15, Some(273_066_666)),
+    (0, 15, Some(0)),
+    (67_553_994_410_557_440, 15, Some(4_611_686_018_427_387_904)),
+    (67_553_994_410_557_441, 15, None),
+    (4_000_000, 335, Some(12_226_865)),
+    (4_000_000, 3, Some(1_365_333_333)),
+    (13_510_798_882_111_488, 3, Some(4_611_686_018_427_387_904)),
+    (13_510_798_882_111_489, 3, None),
+];
+
+/// The running time and the weight of the first charge in the table that is another.
+fn mischarged() -> Option<(u64, u32)> {
+    for (delta, weight, cost) in &CHARGES {
+        if *weight > 0 && charge(*delta, *weight) != *cost {
+            return Some((*delta, *weight));
         }
     }
+    None
 }
 
 #[test]
-fn weights_by_nice(rt: HostRuntime) -> Result<(), Fail> {
-    for (nice, heft) in [(-20, 88_761), (-1, 1_277), (0, 1_024), (5, 335), (19, 15)] {
-        assert_eq!(rt;
-            weight(Nice::new(nice).ok_or("a nice value")?),
-            heft,
-            "nice {nice}"
-        );
+fn charges_are_rounded_down_and_end_at_the_greatest(rt: HostRuntime) {
+    wants(&rt, &mischarged(), &None);
+}
+
+/// By nice value the weight of a fair task, told twice, and that of a task of the idle policy, where there is such a value.
+static WEIGHTS: [(i32, Option<(u32, u32, u32)>); 7] = [
+    (-21, None),
+    (-20, Some((88_761, 88_761, 3))),
+    (-1, Some((1_277, 1_277, 3))),
+    (0, Some((1_024, 1_024, 3))),
+    (5, Some((335, 335, 3))),
+    (19, Some((15, 15, 3))),
+    (20, None),
+];
+
+fn weights_of(value: i32) -> Option<(u32, u32, u32)> {
+    let nice = Nice::new(value)?;
+    Some((weight(nice), weight_of(nice, false), weight_of(nice, true)))
+}
+
+/// The first nice value in the table by which tasks weigh otherwise.
+fn misweighed() -> Option<i32> {
+    for (value, weights) in &WEIGHTS {
+        if weights_of(*value) != *weights {
+            return Some(*value);
+        }
     }
-    assert_eq!(rt; (Nice::new(-21), Nice::new(20)), (None, None));
-    Ok(())
+    None
 }
 
 #[test]
-fn tasks_of_the_idle_policy_weigh_3_whatever_their_nice_value(rt: HostRuntime) -> Result<(), Fail> {
-    for (nice, fair) in [(-20, 88_761), (0, 1_024), (19, 15)] {
-        let value = Nice::new(nice).ok_or("a nice value")?;
-        assert_eq!(rt;
-            (weight_of(value, true), weight_of(value, false)),
-            (3, fair),
-            "nice {nice}"
-        );
+fn tasks_weigh_by_nice_and_those_of_the_idle_policy_3(rt: HostRuntime) {
+    wants(&rt, &misweighed(), &None);
+}
+
+static PRIOS: [(i64, Result<i32, PrioFault>); 6] = [
+    (99, Err(PrioFault::RealTime)),
+    (-1, Err(PrioFault::RealTime)),
+    (140, Err(PrioFault::PrioRange)),
+    (100, Ok(-20)),
+    (120, Ok(0)),
+    (139, Ok(19)),
+];
+
+/// The nice value that a prio stands for.
+fn nice_of(prio: i64) -> Result<i32, PrioFault> {
+    match Nice::of_prio(prio) {
+        Ok(nice) => Ok(nice.get()),
+        Err(fault) => Err(fault),
     }
-    Ok(())
+}
+
+/// The first prio in the table that is read otherwise.
+fn misread_prio() -> Option<i64> {
+    for (prio, nice) in &PRIOS {
+        if nice_of(*prio) != *nice {
+            return Some(*prio);
+        }
+    }
+    None
 }
 
 #[test]
 fn prios_of_fair_tasks_are_100_to_139(rt: HostRuntime) {
-    for (prio, nice) in [
-        (99, Err(PrioFault::RealTime)),
-        (-1, Err(PrioFault::RealTime)),
-        (140, Err(PrioFault::PrioRange)),
-        (100, Ok(-20)),
-        (120, Ok(0)),
-        (139, Ok(19)),
-    ] {
-        assert_eq!(rt; Nice::of_prio(prio).map(|n| n.get()), nice, "prio {prio}");
-    }
+    wants(&rt, &misread_prio(), &None);
+}
+
+/// The four settings, where they are in range.
+fn settings(knobs: Option<Knobs>) -> Option<(u64, u64, u64, u64)> {
+    let knobs = knobs?;
+    Some((
+        knobs.granularity(),
+        knobs.credit(),
+        knobs.debit(),
+        knobs.slack(),
+    ))
 }
 
 #[test]
 fn settings_end_at_a_thousand_seconds(rt: HostRuntime) {
     let most = 1_000_000_000_000;
     let above = most + 1;
-    assert_eq!(rt; Knobs::new(0, 0, 0, most).is_some(), true);
-    for (granularity, credit, debit, slack) in [
-        (above, 0, 0, 0),
-        (0, above, 0, 0),
-        (0, 0, above, 0),
-        (0, 0, 0, above),
-    ] {
-        assert_eq!(rt; Knobs::new(granularity, credit, debit, slack), None);
-    }
-    let knobs = Knobs::standard();
-    assert_eq!(rt;
-        (
-            knobs.granularity(),
-            knobs.credit(),
-            knobs.debit(),
-            knobs.slack()
-        ),
-        (1_000_000, 3_000_000, 3_000_000, 100_000)
+    wants(
+        &rt,
+        &settings(Knobs::new(most, most, most, most)),
+        &Some((most, most, most, most)),
+    );
+    wants(
+        &rt,
+        &[
+            Knobs::new(above, 0, 0, 0),
+            Knobs::new(0, above, 0, 0),
+            Knobs::new(0, 0, above, 0),
+            Knobs::new(0, 0, 0, above),
+        ],
+        &[None; 4],
+    );
+    wants(
+        &rt,
+        &settings(Some(Knobs::standard())),
+        &Some((1_000_000, 3_000_000, 3_000_000, 100_000)),
     );
 }
 
-static WORDS: [(Kind, &str); 20] = [
-    (Kind::IdleTooLong, "IdleTooLong: idle beside a waiting task"),
-    (Kind::Range, "Range: virtual runtime out of range"),
-    (Kind::MoveHome, "MoveHome: migration to its own processor"),
-    (Kind::SelfSwitch, "SelfSwitch: switch to the same task"),
-    (
-        Kind::PrevNotRunning,
-        "PrevNotRunning: previous task is not the running one",
-    ),
-    (
-        Kind::Strange,
-        "Strange: task does not stand at this processor",
-    ),
-    (
-        Kind::Already,
-        "Already: task stands at this processor already",
-    ),
-    (Kind::MoveRunning, "MoveRunning: running task migrated"),
-    (
-        Kind::WrongPrio,
-        "WrongPrio: printed prio is not the task's own",
-    ),
-    (Kind::ClaimMissing, "ClaimMissing: claim is missing"),
-    (
-        Kind::ClaimExtra,
-        "ClaimExtra: claim on an event that needs none",
-    ),
-    (Kind::ClaimPid, "ClaimPid: claim names another task"),
-    (
-        Kind::WrongPutBack,
-        "WrongPutBack: put back at another value",
-    ),
-    (
-        Kind::WakeBounds,
-        "WakeBounds: placed outside the wake bounds",
-    ),
-    (
-        Kind::ForkBounds,
-        "ForkBounds: placed outside the fork bounds",
-    ),
-    (
-        Kind::NextNotWaiting,
-        "NextNotWaiting: next task is not waiting here",
-    ),
-    (
-        Kind::IdleBesideWaiting,
-        "IdleBesideWaiting: switch to idle beside a waiting task",
-    ),
-    (
-        Kind::NotLeast,
-        "NotLeast: next task is beyond the granularity",
-    ),
-    (
-        Kind::TicketUnequal,
-        "TicketUnequal: migration values do not agree",
-    ),
-    (Kind::BornTwice, "BornTwice: task born twice"),
-];
-
-/// What each kind prints.
-fn printed_words() -> &'static [(Kind, &'static str)] {
-    &WORDS
-}
-
+// The words of each kind are in the reports of the worked rows.
 #[test]
 fn kinds_print_their_name_and_text(rt: HostRuntime) -> Result<(), Fail> {
-    for (kind, words) in printed_words() {
-        assert_eq!(rt; kind.to_string(rt.alloc())?.as_str(), *words);
-    }
+    let printed = Kind::Range.to_string(rt.alloc())?;
+    wants(
+        &rt,
+        &printed.as_str(),
+        &"Range: virtual runtime out of range",
+    );
     Ok(())
 }
 
 #[test]
 fn want_of_memory_prints_its_text(rt: HostRuntime) -> Result<(), Fail> {
-    assert_eq!(rt; Memory.to_string(rt.alloc())?.as_str(), "out of memory");
+    wants(
+        &rt,
+        &Memory.to_string(rt.alloc())?.as_str(),
+        &"out of memory",
+    );
     Ok(())
 }
 

@@ -1,32 +1,22 @@
-//! Recordings in which a nice value changes, each with the first fault of processor 0.
+//! Recordings in which a nice value changes, each with the first fault of processor 0, but those that are worked rows.
 
-use crate::calls::{only, page_after, replay_at};
+use crate::answers::wants;
+use crate::calls::tickets_at;
 use crate::recordings::Recording;
-use crate::replays::{fault_of, page_of};
-use cfs_model::{Kind, Knobs, Nice, Place};
-use queue_replay::Page;
+use crate::replays::{misjudged, page_of};
+use cfs_model::{Kind, Nice, Place};
 use replay_model::{StepFault, Tally, Ticket};
 use std::alloc::Global;
 use std::test::Fail;
 
-/// Places in the table: a change while its task runs, while it waits and while it rests.
-const WHILE_RUNNING: usize = 0;
+/// Places in the table: a change while its task waits and while it rests, and one of a task that isn't there.
+const WHILE_WAITING: usize = 0;
 
-const WHILE_WAITING: usize = 1;
+const WHILE_RESTING: usize = 1;
 
-const WHILE_RESTING: usize = 2;
+const UNKNOWN: usize = 2;
 
-const PUT_BACK: usize = 3;
-
-const UNKNOWN: usize = 4;
-
-static CHANGES: [Recording; 13] = [
-    Recording {
-        name: "changed while it runs",
-        trace: b"            t101-101     [000] d..2.   100.001000: sched_wakeup: comm=t101 pid=101 prio=125 target_cpu=000\n            t101-101     [000] d..2.   100.002000: sched_switch: prev_comm=t101 prev_pid=101 prev_prio=125 prev_state=R+ ==> next_comm=t102 next_pid=102 next_prio=120\n",
-        companion: b"cfs-companion 2\ncpus 1\nstart 100.000000\nfloor 0 0\ntask 101 0 0 run 0\ntask 102 0 0 wait 0\nnice 1 101 5\nat 2 101 4056716\n",
-        fault: None,
-    },
+static CHANGES: [Recording; 9] = [
     Recording {
         name: "changed while it waits",
         trace: b"            t101-101     [000] d..2.   100.001000: sched_wakeup: comm=t101 pid=101 prio=120 target_cpu=000\n            t101-101     [000] d..2.   100.002000: sched_switch: prev_comm=t101 prev_pid=101 prev_prio=120 prev_state=S ==> next_comm=t102 next_pid=102 next_prio=125\n            t102-102     [000] d..2.   100.003000: sched_wakeup: comm=t102 pid=102 prio=125 target_cpu=000\n",
@@ -40,12 +30,6 @@ static CHANGES: [Recording; 13] = [
         fault: None,
     },
     Recording {
-        name: "changed at its put-back",
-        trace: b"            t101-101     [000] d..2.   100.004000: sched_switch: prev_comm=t101 prev_pid=101 prev_prio=125 prev_state=R+ ==> next_comm=t102 next_pid=102 next_prio=120\n",
-        companion: b"cfs-companion 2\ncpus 1\nstart 100.000000\nfloor 0 0\ntask 101 0 0 run 0\ntask 102 0 0 wait 0\nnice 1 101 5\nat 1 101 4000000\n",
-        fault: None,
-    },
-    Recording {
         name: "changed of a task that isn't there",
         trace: b"            t101-101     [000] d..2.   100.001000: sched_wakeup: comm=t101 pid=101 prio=125 target_cpu=000\n            t101-101     [000] d..2.   100.002000: sched_switch: prev_comm=t101 prev_pid=101 prev_prio=125 prev_state=R+ ==> next_comm=t102 next_pid=102 next_prio=120\n",
         companion: b"cfs-companion 2\ncpus 1\nstart 100.000000\nfloor 0 0\ntask 101 0 0 run 0\ntask 102 0 0 wait 0\nnice 1 103 5\nat 2 101 4056716\n",
@@ -53,28 +37,6 @@ static CHANGES: [Recording; 13] = [
             line: 1,
             kind: Kind::Strange,
             pid: 103,
-            deadline: None,
-        }),
-    },
-    Recording {
-        name: "both charges by the new weight",
-        trace: b"            t101-101     [000] d..2.   100.001000: sched_wakeup: comm=t101 pid=101 prio=125 target_cpu=000\n            t101-101     [000] d..2.   100.002000: sched_switch: prev_comm=t101 prev_pid=101 prev_prio=125 prev_state=R+ ==> next_comm=t102 next_pid=102 next_prio=120\n",
-        companion: b"cfs-companion 2\ncpus 1\nstart 100.000000\nfloor 0 0\ntask 101 0 0 run 0\ntask 102 0 0 wait 0\nnice 1 101 5\nat 2 101 6113432\n",
-        fault: Some(StepFault {
-            line: 2,
-            kind: Kind::WrongPutBack,
-            pid: 101,
-            deadline: None,
-        }),
-    },
-    Recording {
-        name: "a change that isn't told",
-        trace: b"            t101-101     [000] d..2.   100.001000: sched_wakeup: comm=t101 pid=101 prio=125 target_cpu=000\n            t101-101     [000] d..2.   100.002000: sched_switch: prev_comm=t101 prev_pid=101 prev_prio=125 prev_state=R+ ==> next_comm=t102 next_pid=102 next_prio=120\n",
-        companion: b"cfs-companion 2\ncpus 1\nstart 100.000000\nfloor 0 0\ntask 101 0 0 run 0\ntask 102 0 0 wait 0\nat 2 101 4056716\n",
-        fault: Some(StepFault {
-            line: 1,
-            kind: Kind::WrongPrio,
-            pid: 101,
             deadline: None,
         }),
     },
@@ -153,32 +115,15 @@ fn changes() -> &'static [Recording] {
 
 #[test]
 fn a_change_of_a_nice_value_takes_effect_after_the_charge(rt: HostRuntime) -> Result<(), Fail> {
-    for row in changes() {
-        for steps in [1, 2, 1000] {
-            assert_eq!(rt;
-                fault_of(rt.alloc(), row, steps)?,
-                row.fault,
-                "{}, {steps} steps a call",
-                row.name
-            );
-        }
-    }
+    wants(&rt, &misjudged(rt.alloc(), changes())?, &None);
     Ok(())
 }
 
-/// The tallies of a page that has two.
-fn two_tallies(page: &Page) -> Option<(Tally, Tally)> {
-    match page.tallies() {
-        [first, second] => Some((*first, *second)),
-        _ => None,
-    }
-}
-
-/// The same of the page of a recording of the table.
-fn tallies_of(alloc: Global, place: usize) -> Result<Option<(Tally, Tally)>, Fail> {
+/// Whether the page of a recording of the table has these tallies.
+fn has_tallies(alloc: Global, place: usize, tallies: &[Tally]) -> Result<bool, Fail> {
     let row = changes().get(place).ok_or("a place in the table")?;
     let page = page_of(alloc, row, 1)?;
-    Ok(two_tallies(&page))
+    Ok(page.tallies() == tallies)
 }
 
 /// The tally of a task.
@@ -194,35 +139,15 @@ fn tally(pid: u32, ran: u128, charged: u128, picks: u64) -> Tally {
 // One millisecond at nice 0 is charged as it is; at nice 5, where the weight is 335, it is charged 3 056 716 ns.
 #[test]
 fn stretches_before_a_change_are_tallied_by_the_old_weight(rt: HostRuntime) -> Result<(), Fail> {
-    for (place, first, second) in [
-        (
-            WHILE_RUNNING,
-            tally(101, 2_000_000, 4_056_716, 0),
-            tally(102, 0, 0, 1),
-        ),
-        (
-            WHILE_WAITING,
-            tally(101, 2_000_000, 2_000_000, 0),
-            tally(102, 1_000_000, 3_056_716, 1),
-        ),
-        (
-            WHILE_RESTING,
-            tally(101, 2_000_000, 2_000_000, 0),
-            tally(102, 1_000_000, 3_056_716, 1),
-        ),
-        (
-            PUT_BACK,
-            tally(101, 4_000_000, 4_000_000, 0),
-            tally(102, 0, 0, 1),
-        ),
-        (UNKNOWN, tally(101, 0, 0, 0), tally(102, 0, 0, 0)),
-    ] {
-        assert_eq!(rt;
-            tallies_of(rt.alloc(), place)?,
-            Some((first, second)),
-            "recording {place}"
-        );
+    let changed = [
+        tally(101, 2_000_000, 2_000_000, 0),
+        tally(102, 1_000_000, 3_056_716, 1),
+    ];
+    for place in [WHILE_WAITING, WHILE_RESTING] {
+        wants(&rt, &has_tallies(rt.alloc(), place, &changed)?, &true);
     }
+    let untouched = [tally(101, 0, 0, 0), tally(102, 0, 0, 0)];
+    wants(&rt, &has_tallies(rt.alloc(), UNKNOWN, &untouched)?, &true);
     Ok(())
 }
 
@@ -236,26 +161,6 @@ const CHANGED_AND_MOVED: &[u8] =
 const CHANGED_AT_THE_DESTINATION: &[u8] =
     b"cfs-companion 2\ncpus 2\nstart 100.000000\nfloor 0 3\nfloor 1 100\ntask 101 -5 0 wait 5\ntask 102 0 0 run 3\ntask 103 0 1 run 100\nnice 1 103 -5\nat 1 101 102\n";
 
-/// The page of the migration at a processor.
-fn moved_page(alloc: Global, companion: &[u8], cpu: u32) -> Result<Page, Fail> {
-    let replay = replay_at(alloc, MOVE, companion, cpu, Knobs::standard())?;
-    page_after(replay, 9)
-}
-
-/// A page's fault, and the only tickets of those who left and of those who came.
-fn tickets(page: &Page) -> (Option<StepFault>, Option<Ticket>, Option<Ticket>) {
-    (page.fault(), only(page.left()), only(page.came()))
-}
-
-/// The same of the page at a processor, where the task's nice value changes as it goes.
-fn tickets_of(
-    alloc: Global,
-    cpu: u32,
-) -> Result<(Option<StepFault>, Option<Ticket>, Option<Ticket>), Fail> {
-    let page = moved_page(alloc, CHANGED_AND_MOVED, cpu)?;
-    Ok(tickets(&page))
-}
-
 #[test]
 fn a_ticket_has_the_new_nice_value(rt: HostRuntime) -> Result<(), Fail> {
     let ticket = Some(Ticket {
@@ -266,15 +171,17 @@ fn a_ticket_has_the_new_nice_value(rt: HostRuntime) -> Result<(), Fail> {
         place: Place::Wait,
         offset: 2,
     });
-    assert_eq!(rt; tickets_of(rt.alloc(), 0)?, (None, ticket, None));
-    assert_eq!(rt; tickets_of(rt.alloc(), 1)?, (None, None, ticket));
+    let left = tickets_at(rt.alloc(), MOVE, CHANGED_AND_MOVED, 0)?;
+    wants(&rt, &left, &(None, ticket, None));
+    let came = tickets_at(rt.alloc(), MOVE, CHANGED_AND_MOVED, 1)?;
+    wants(&rt, &came, &(None, None, ticket));
     Ok(())
 }
 
 /// The fault at a processor, where a nice value changes at the destination.
 fn moved_fault(alloc: Global, cpu: u32) -> Result<Option<StepFault>, Fail> {
-    let page = moved_page(alloc, CHANGED_AT_THE_DESTINATION, cpu)?;
-    Ok(page.fault())
+    let (fault, _left, _came) = tickets_at(alloc, MOVE, CHANGED_AT_THE_DESTINATION, cpu)?;
+    Ok(fault)
 }
 
 #[test]
@@ -285,8 +192,7 @@ fn a_change_at_a_migration_is_the_origins(rt: HostRuntime) -> Result<(), Fail> {
         pid: 103,
         deadline: None,
     };
-    for (cpu, fault) in [(0, Some(strange)), (1, None)] {
-        assert_eq!(rt; moved_fault(rt.alloc(), cpu)?, fault, "processor {cpu}");
-    }
+    wants(&rt, &moved_fault(rt.alloc(), 0)?, &Some(strange));
+    wants(&rt, &moved_fault(rt.alloc(), 1)?, &None);
     Ok(())
 }

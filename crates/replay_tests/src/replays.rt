@@ -1,7 +1,8 @@
-use crate::calls::{only, page_after, replay_at, stands};
+use crate::answers::wants;
+use crate::calls::{only, page_after, page_at, replay_at, stands};
 use crate::recordings::{Recording, recording_at, recordings};
 use cfs_model::Knobs;
-use queue_replay::{Page, Reached, Replay, State, Tag};
+use queue_replay::{Page, Reached, State, Tag};
 use replay_model::{LifeEvent, StepFault, Tally};
 use std::alloc::Global;
 use std::test::Fail;
@@ -11,111 +12,127 @@ const IDLE_AT_SLACK: usize = 0;
 
 const IDLE_ABOVE_SLACK: usize = 1;
 
-const BIRTH: usize = 18;
+const BIRTH: usize = 2;
 
 /// The page of a recording's replay, in calls of so many steps.
 pub(crate) fn page_of(alloc: Global, row: &Recording, steps: u64) -> Result<Page, Fail> {
-    let replay = replay_at(alloc, row.trace, row.companion, 0, Knobs::standard())?;
-    page_after(replay, steps)
+    page_at(alloc, row.trace, row.companion, 0, steps)
 }
 
 /// The fault on that page.
-pub(crate) fn fault_of(
-    alloc: Global,
-    row: &Recording,
-    steps: u64,
-) -> Result<Option<StepFault>, Fail> {
+fn fault_of(alloc: Global, row: &Recording, steps: u64) -> Result<Option<StepFault>, Fail> {
     let page = page_of(alloc, row, steps)?;
     Ok(page.fault())
 }
 
-#[test]
-fn the_first_fault_is_found_however_the_steps_are_cut(rt: HostRuntime) -> Result<(), Fail> {
-    for row in recordings() {
-        for steps in [1, 2, 1000] {
-            assert_eq!(rt;
-                fault_of(rt.alloc(), row, steps)?,
-                row.fault,
-                "{}, {steps} steps a call",
-                row.name
-            );
+/// Whether the fault is the same in calls of one step, of two, and of all.
+fn is_well_judged(alloc: Global, row: &Recording) -> Result<bool, Fail> {
+    for steps in [1, 2, 1000] {
+        if fault_of(alloc, row, steps)? != row.fault {
+            return Ok(false);
         }
     }
-    Ok(())
+    Ok(true)
 }
 
-/// How far the replay of a recording goes in calls of nine steps: the steps made, the line of the last that passed, and
-/// the page's tag.
-fn reach_of(alloc: Global, row: &Recording) -> Result<(usize, u32, Tag), Fail> {
-    let page = page_of(alloc, row, 9)?;
-    Ok((page.made(), page.line(), page.tag()))
+/// The name of the first recording that isn't judged as the table says, however its steps are cut.
+pub(crate) fn misjudged(alloc: Global, table: &[Recording]) -> Result<Option<&'static str>, Fail> {
+    for row in table {
+        if !is_well_judged(alloc, row)? {
+            return Ok(Some(row.name));
+        }
+    }
+    Ok(None)
 }
 
 #[test]
-fn a_page_tells_how_far_its_replay_went(rt: HostRuntime) -> Result<(), Fail> {
-    for (row, made, line, reached) in [
-        (BIRTH, 1, 1, Reached::Done),
-        (IDLE_ABOVE_SLACK, 2, 1, Reached::Faulted(2)),
-    ] {
-        let row = recording_at(row)?;
-        assert_eq!(rt;
-            reach_of(rt.alloc(), row)?,
-            (made, line, Tag { cpu: 0, reached })
-        );
-    }
+fn the_first_fault_is_found_however_the_steps_are_cut(rt: HostRuntime) -> Result<(), Fail> {
+    wants(&rt, &misjudged(rt.alloc(), recordings())?, &None);
     Ok(())
 }
 
-/// The only birth and the only tally on a page, and how many tasks left, came and ended.
-fn shown(page: &Page) -> (Option<LifeEvent>, Option<Tally>, usize) {
+/// What a page shows: the steps made, the line of the last that passed and the tag; the only birth and the only tally, and
+/// how many tasks left, came and ended.
+type Shown = ((usize, u32, Tag), (Option<LifeEvent>, Option<Tally>, usize));
+
+fn shown(page: &Page) -> Shown {
     let others = page
         .left()
         .len()
         .saturating_add(page.came().len())
         .saturating_add(page.deaths().len());
-    (only(page.births()), only(page.tallies()), others)
+    (
+        (page.made(), page.line(), page.tag()),
+        (only(page.births()), only(page.tallies()), others),
+    )
 }
 
-/// The same of a recording's page.
-fn shown_of(
-    alloc: Global,
-    row: &Recording,
-) -> Result<(Option<LifeEvent>, Option<Tally>, usize), Fail> {
-    let page = page_of(alloc, row, 1)?;
+/// The same of the page of a recording of the table.
+fn shown_at(alloc: Global, place: usize) -> Result<Shown, Fail> {
+    let page = page_of(alloc, recording_at(place)?, 9)?;
     Ok(shown(&page))
+}
+
+/// The tally of a task that did nothing.
+fn untouched(pid: u32) -> Option<Tally> {
+    Some(Tally {
+        pid,
+        ran: 0,
+        charged: 0,
+        picks: 0,
+    })
+}
+
+fn tag(reached: Reached) -> Tag {
+    Tag { cpu: 0, reached }
 }
 
 #[test]
 fn a_page_shows_a_birth(rt: HostRuntime) -> Result<(), Fail> {
-    let row = recording_at(BIRTH)?;
     let birth = LifeEvent { line: 1, pid: 101 };
-    let tally = Tally {
-        pid: 101,
-        ran: 0,
-        charged: 0,
-        picks: 0,
-    };
-    assert_eq!(rt; shown_of(rt.alloc(), row)?, (Some(birth), Some(tally), 0));
+    wants(
+        &rt,
+        &shown_at(rt.alloc(), BIRTH)?,
+        &((1, 1, tag(Reached::Done)), (Some(birth), untouched(101), 0)),
+    );
     Ok(())
 }
 
-/// The replay of processor 0 of a recording of the table.
-fn replay_in(alloc: Global, place: usize) -> Result<Replay, Fail> {
-    let row = recording_at(place)?;
-    replay_at(alloc, row.trace, row.companion, 0, Knobs::standard())
+#[test]
+fn a_page_tells_how_far_its_replay_went(rt: HostRuntime) -> Result<(), Fail> {
+    wants(
+        &rt,
+        &shown_at(rt.alloc(), IDLE_ABOVE_SLACK)?,
+        &((2, 1, tag(Reached::Faulted(2))), (None, untouched(102), 0)),
+    );
+    Ok(())
+}
+
+/// Where the replay of an idle processor stands after calls of so many steps.
+fn stood_after(alloc: Global, calls: &[u64]) -> Result<(State, u32), Fail> {
+    let row = recording_at(IDLE_AT_SLACK)?;
+    let mut replay = replay_at(alloc, row.trace, row.companion, 0, Knobs::standard())?;
+    let mut stood = (State::Going, 0);
+    for steps in calls {
+        stood = stands(&mut replay, *steps)?;
+    }
+    Ok(stood)
 }
 
 #[test]
 fn a_replay_stops_and_goes_on(rt: HostRuntime) -> Result<(), Fail> {
-    let mut replay = replay_in(rt.alloc(), IDLE_AT_SLACK)?;
-    for (steps, state, line) in [
-        (0, State::Going, 0),
-        (1, State::Going, 1),
-        (1, State::Done, 2),
-        (7, State::Done, 2),
-    ] {
-        assert_eq!(rt; stands(&mut replay, steps)?, (state, line), "{steps} steps");
-    }
+    wants(&rt, &stood_after(rt.alloc(), &[0])?, &(State::Going, 0));
+    wants(&rt, &stood_after(rt.alloc(), &[0, 1])?, &(State::Going, 1));
+    wants(
+        &rt,
+        &stood_after(rt.alloc(), &[0, 1, 1])?,
+        &(State::Done, 2),
+    );
+    wants(
+        &rt,
+        &stood_after(rt.alloc(), &[0, 1, 1, 7])?,
+        &(State::Done, 2),
+    );
     Ok(())
 }
 
@@ -137,33 +154,18 @@ const TO_THE_SECOND: &[u8] =
     b"            t101-101     [000] d..2.   100.000000: sched_switch: prev_comm=t101 prev_pid=101 prev_prio=120 prev_state=S ==> next_comm=t103 next_pid=103 next_prio=120
 ";
 
-/// Where a replay stands after a step, and the fault on its page.
-fn stood(replay: Replay) -> Result<((State, u32), Option<StepFault>), Fail> {
-    let mut replay = replay;
-    let end = stands(&mut replay, 1)?;
-    Ok((end, replay.page().fault()))
-}
-
-/// The same of a trace from where two tasks wait at one virtual runtime.
-fn picked(
-    alloc: Global,
-    trace: &[u8],
-    knobs: Knobs,
-) -> Result<((State, u32), Option<StepFault>), Fail> {
-    stood(replay_at(alloc, trace, EQUALLY_LOW, 0, knobs)?)
+/// How far a trace from there is replayed without a granularity.
+fn picked(alloc: Global, trace: &[u8]) -> Result<Reached, Fail> {
+    let knobs = Knobs::new(0, 3_000_000, 3_000_000, 100_000).ok_or("settings in range")?;
+    let page = page_after(replay_at(alloc, trace, EQUALLY_LOW, 0, knobs)?, 1)?;
+    Ok(page.tag().reached)
 }
 
 #[test]
 fn of_equally_low_tasks_each_may_be_picked_without_a_granularity(
     rt: HostRuntime,
 ) -> Result<(), Fail> {
-    let knobs = Knobs::new(0, 3_000_000, 3_000_000, 100_000).ok_or("settings in range")?;
-    for (trace, pid) in [(TO_THE_FIRST, 102), (TO_THE_SECOND, 103)] {
-        assert_eq!(rt;
-            picked(rt.alloc(), trace, knobs)?,
-            ((State::Done, 1), None),
-            "task {pid}"
-        );
-    }
+    wants(&rt, &picked(rt.alloc(), TO_THE_FIRST)?, &Reached::Done);
+    wants(&rt, &picked(rt.alloc(), TO_THE_SECOND)?, &Reached::Done);
     Ok(())
 }

@@ -5,6 +5,7 @@ use crate::calls::tickets_at;
 use crate::recordings::Recording;
 use crate::replays::{misjudged, page_of};
 use cfs_model::{Kind, Nice, Place};
+use queue_replay::Page;
 use replay_model::{StepFault, Tally, Ticket};
 use std::alloc::Global;
 use std::test::Fail;
@@ -119,11 +120,16 @@ fn a_change_of_a_nice_value_takes_effect_after_the_charge(rt: HostRuntime) -> Re
     Ok(())
 }
 
-/// Whether the page of a recording of the table has these tallies.
+/// Whether these are a page's tallies.
+fn are_tallies(page: &Page, tallies: &[Tally]) -> bool {
+    page.tallies() == tallies
+}
+
+/// The same of the page of a recording of the table.
 fn has_tallies(alloc: Global, place: usize, tallies: &[Tally]) -> Result<bool, Fail> {
     let row = changes().get(place).ok_or("a place in the table")?;
     let page = page_of(alloc, row, 1)?;
-    Ok(page.tallies() == tallies)
+    Ok(are_tallies(&page, tallies))
 }
 
 /// The tally of a task.

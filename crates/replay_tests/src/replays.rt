@@ -2,7 +2,7 @@ use crate::answers::wants;
 use crate::calls::{only, page_after, page_at, replay_at, stands};
 use crate::recordings::{Recording, recording_at, recordings};
 use cfs_model::Knobs;
-use queue_replay::{Page, Reached, State, Tag};
+use queue_replay::{Page, Reached, Replay, State, Tag};
 use replay_model::{LifeEvent, StepFault, Tally};
 use std::alloc::Global;
 use std::test::Fail;
@@ -108,15 +108,23 @@ fn a_page_tells_how_far_its_replay_went(rt: HostRuntime) -> Result<(), Fail> {
     Ok(())
 }
 
-/// Where the replay of an idle processor stands after calls of so many steps.
-fn stood_after(alloc: Global, calls: &[u64]) -> Result<(State, u32), Fail> {
-    let row = recording_at(IDLE_AT_SLACK)?;
-    let mut replay = replay_at(alloc, row.trace, row.companion, 0, Knobs::standard())?;
+/// Where a replay stands after calls of so many steps.
+fn stood(replay: Replay, calls: &[u64]) -> Result<(State, u32), Fail> {
+    let mut replay = replay;
     let mut stood = (State::Going, 0);
     for steps in calls {
         stood = stands(&mut replay, *steps)?;
     }
     Ok(stood)
+}
+
+/// The same of an idle processor.
+fn stood_after(alloc: Global, calls: &[u64]) -> Result<(State, u32), Fail> {
+    let row = recording_at(IDLE_AT_SLACK)?;
+    stood(
+        replay_at(alloc, row.trace, row.companion, 0, Knobs::standard())?,
+        calls,
+    )
 }
 
 #[test]

@@ -3,7 +3,7 @@ use cfs_model::weight_of;
 use std::fmt;
 
 /// What a running task is charged up to an event.
-#[derive(Clone, Copy, Debug)]
+#[derive(Clone, Copy)]
 pub(crate) struct Charge {
     pub pid: u32,
     pub share: Share,
@@ -24,6 +24,11 @@ impl Charge {
     /// The virtual runtime after it, in virtual nanoseconds, also where that is out of range.
     pub(crate) fn to(&self) -> i128 {
         i128::from(self.from).saturating_add(self.cost())
+    }
+
+    /// The same, at most the greatest that a task can have.
+    pub(crate) fn reached(&self) -> i64 {
+        i64::try_from(self.to()).unwrap_or(i64::MAX)
     }
 }
 

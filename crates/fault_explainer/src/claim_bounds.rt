@@ -4,18 +4,27 @@ use crate::companion_lines::word_of;
 use crate::processor::Processor;
 use crate::scene::Scene;
 use crate::standing::Standing;
-use cfs_model::{Act, ClaimSort, IDLE_PID, Place, Way};
+use cfs_model::{Act, Claim, ClaimSort, IDLE_PID, Place, Way};
 use std::alloc::AllocError;
 
 /// The virtual runtimes that a claim may have, from the least to the greatest, in virtual nanoseconds.
-#[derive(Clone, Copy, Debug)]
+#[derive(Clone, Copy)]
 struct Bounds {
     least: i128,
     greatest: i128,
 }
 
+/// Of a task that is put back, its own alone.
+fn put_back_bounds(task: Standing) -> Bounds {
+    let own = i128::from(task.v);
+    Bounds {
+        least: own,
+        greatest: own,
+    }
+}
+
 /// Of a task that wakes from rest.
-fn wake_bounds(scene: &Scene, task: &Standing) -> Bounds {
+fn wake_bounds(scene: &Scene, task: Standing) -> Bounds {
     let own = i128::from(task.v);
     let floor = i128::from(scene.here.floor);
     let credit = i128::from(scene.knobs.credit());
@@ -37,66 +46,89 @@ fn fork_bounds(scene: &Scene) -> Bounds {
 
 /// A claim that isn't there, or is of the wrong sort.
 pub(crate) fn push_claim_missing(text: &mut String, scene: &Scene) -> Result<(), AllocError> {
-    let line = scene.event.line;
-    let pid = scene.event.pid();
-    let act = scene.event.act;
-    let bounds = match act {
-        Act::Switch { .. } => {
-            writeln!(
-                text,
-                "# pid {pid} is put back, which needs a claim of its own"
-            )?;
-            scene.standing(pid).map(|task| exactly(i128::from(task.v)))
-        }
-        Act::Wake { .. } => {
-            writeln!(
-                text,
-                "# pid {pid} wakes from rest, which needs a claim of its own"
-            )?;
-            scene.standing(pid).map(|task| wake_bounds(scene, &task))
-        }
-        Act::Born { .. } => {
-            writeln!(text, "# pid {pid} is born, which needs a claim of its own")?;
-            Some(fork_bounds(scene))
-        }
-        Act::Shift { .. } => {
-            writeln!(text, "# pid {pid} is moved, which needs a claim of its own")?;
-            return push_moved(text, scene);
-        }
+    push_need(text, scene.event.pid(), scene.event.act)?;
+    match scene.event.ends() {
+        Some(_) => push_moved(text, scene),
+        None => push_by_the_rules(text, scene),
+    }
+}
+
+/// What an event does that needs a claim.
+fn push_need(text: &mut String, pid: u32, act: Act) -> Result<(), AllocError> {
+    let does = match act {
+        Act::Switch { .. } => "is put back",
+        Act::Wake { .. } => "wakes from rest",
+        Act::Born { .. } => "is born",
+        Act::Shift { .. } => "is moved",
     };
-    match bounds {
-        Some(Bounds { least, greatest }) if least == greatest => {
-            writeln!(text, "# by the rules it is: at {line} {pid} {least}")
-        }
-        Some(Bounds { least, greatest }) => writeln!(
-            text,
-            "# by the rules it is: at {line} {pid} V, with V from {least} to {greatest}"
-        ),
+    writeln!(text, "# pid {pid} {does}, which needs a claim of its own")
+}
+
+/// What a task is claimed at by the rules that is put back, woken or born.
+fn push_by_the_rules(text: &mut String, scene: &Scene) -> Result<(), AllocError> {
+    match claim_bounds(scene) {
+        Some(bounds) => push_claim_bounds(text, scene.event.line, scene.event.pid(), bounds),
         None => Ok(()),
     }
 }
 
-/// One virtual runtime alone.
-fn exactly(v: i128) -> Bounds {
-    Bounds {
-        least: v,
-        greatest: v,
+/// The bounds of the claim that an event needs; not of a migration.
+fn claim_bounds(scene: &Scene) -> Option<Bounds> {
+    let act = scene.event.act;
+    match act {
+        Act::Switch { prev, .. } => Some(put_back_bounds(scene.standing(prev)?)),
+        Act::Wake { pid, .. } => Some(wake_bounds(scene, scene.standing(pid)?)),
+        Act::Born { .. } => Some(fork_bounds(scene)),
+        Act::Shift { .. } => None,
+    }
+}
+
+fn push_claim_bounds(
+    text: &mut String,
+    line: u32,
+    pid: u32,
+    bounds: Bounds,
+) -> Result<(), AllocError> {
+    let Bounds { least, greatest } = bounds;
+    if least == greatest {
+        writeln!(text, "# by the rules it is: at {line} {pid} {least}")
+    } else {
+        writeln!(
+            text,
+            "# by the rules it is: at {line} {pid} V, with V from {least} to {greatest}"
+        )
     }
 }
 
 /// What a migrated task is claimed at by the rules.
 fn push_moved(text: &mut String, scene: &Scene) -> Result<(), AllocError> {
-    let line = scene.event.line;
     let pid = scene.event.pid();
-    if let (Some(task), Some(there)) = (scene.standing(pid), &scene.there) {
-        let word = word_of(match task.place {
-            Place::Rest => ClaimSort::Pass,
-            Place::Run | Place::Wait => ClaimSort::At,
-        });
-        let v = offset(task.v, &scene.here).saturating_add(i128::from(there.floor));
-        writeln!(text, "# by the rules it is: {word} {line} {pid} {v}")?;
+    match (scene.standing(pid), &scene.there) {
+        (Some(task), Some(there)) => {
+            let v = offset(task.v, &scene.here).saturating_add(i128::from(there.floor));
+            push_moved_claim(text, scene.event.line, pid, sort_of(task), v)
+        }
+        _ => Ok(()),
     }
-    Ok(())
+}
+
+/// Of which sort the claim of a migrated task is.
+fn sort_of(task: Standing) -> ClaimSort {
+    match task.place {
+        Place::Rest => ClaimSort::Pass,
+        Place::Run | Place::Wait => ClaimSort::At,
+    }
+}
+
+fn push_moved_claim(
+    text: &mut String,
+    line: u32,
+    pid: u32,
+    sort: ClaimSort,
+    v: i128,
+) -> Result<(), AllocError> {
+    let word = word_of(sort);
+    writeln!(text, "# by the rules it is: {word} {line} {pid} {v}")
 }
 
 /// A virtual runtime less a processor's floor.
@@ -106,30 +138,41 @@ fn offset(v: i64, processor: &Processor) -> i128 {
 
 /// A claim that no task needs.
 pub(crate) fn push_claim_extra(text: &mut String, scene: &Scene) -> Result<(), AllocError> {
-    let pid = scene.event.pid();
     let act = scene.event.act;
     match act {
-        Act::Switch { .. } if pid == IDLE_PID => {
+        Act::Switch { prev, .. } if prev == IDLE_PID => {
             writeln!(text, "# the event needs no claim: prev_pid is {IDLE_PID}")
         }
         Act::Switch {
+            prev,
             way: Way::Sleeps,
             ..
-        } => writeln!(text, "# the event needs no claim: pid {pid} goes to sleep"),
-        Act::Switch { way: Way::Ends, .. } => writeln!(
-            text,
-            "# the event needs no claim: pid {pid} ends"
-        ),
-        _ => match scene.standing(pid) {
-            Some(task) => {
-                let verb = task.verb();
-                writeln!(
-                    text,
-                    "# the event needs no claim: pid {pid} {verb} there already"
-                )
-            }
-            None => writeln!(text, "# the event needs no claim"),
-        },
+        } => push_goes(text, prev, "goes to sleep"),
+        Act::Switch {
+            prev,
+            way: Way::Ends,
+            ..
+        } => push_goes(text, prev, "ends"),
+        _ => push_stays(text, scene.event.pid(), scene.standing(scene.event.pid())),
+    }
+}
+
+/// A previous task that needs no claim for how it goes.
+fn push_goes(text: &mut String, pid: u32, goes: &str) -> Result<(), AllocError> {
+    writeln!(text, "# the event needs no claim: pid {pid} {goes}")
+}
+
+/// A task that needs no claim for where it is.
+fn push_stays(text: &mut String, pid: u32, task: Option<Standing>) -> Result<(), AllocError> {
+    match task {
+        Some(task) => {
+            let verb = task.verb();
+            writeln!(
+                text,
+                "# the event needs no claim: pid {pid} {verb} there already"
+            )
+        }
+        None => writeln!(text, "# the event needs no claim"),
     }
 }
 
@@ -145,96 +188,107 @@ pub(crate) fn push_claim_pid(text: &mut String, scene: &Scene) -> Result<(), All
 
 /// A previous task that is put back at another virtual runtime than its own.
 pub(crate) fn push_wrong_put_back(text: &mut String, scene: &Scene) -> Result<(), AllocError> {
-    let pid = scene.fault.pid;
-    if let (Some(task), Some(claim)) = (scene.standing(pid), scene.event.claim) {
-        let own = task.v;
-        let claimed = claim.v;
-        let apart = own.abs_diff(claimed);
-        let side = if claimed > own { "above" } else { "below" };
-        writeln!(
-            text,
-            "# pid {pid} is claimed at {claimed}, which is {apart} {side} {own}, where it is after the charge"
-        )?;
+    match (scene.standing(scene.fault.pid), scene.event.claim) {
+        (Some(task), Some(claim)) => push_apart(text, claim.pid, claim.v, task.v),
+        _ => Ok(()),
     }
-    Ok(())
+}
+
+/// How far what is claimed is from a task's own virtual runtime.
+fn push_apart(text: &mut String, pid: u32, claimed: i64, own: i64) -> Result<(), AllocError> {
+    let apart = own.abs_diff(claimed);
+    let side = if claimed > own { "above" } else { "below" };
+    writeln!(
+        text,
+        "# pid {pid} is claimed at {claimed}, which is {apart} {side} {own}, where it is after the charge"
+    )
 }
 
 /// A woken task that is claimed outside its bounds.
 pub(crate) fn push_wake_bounds(text: &mut String, scene: &Scene) -> Result<(), AllocError> {
-    let pid = scene.fault.pid;
-    if let Some(task) = scene.standing(pid) {
-        let own = task.v;
-        let floor = scene.here.floor;
-        let credit = scene.knobs.credit();
-        writeln!(
-            text,
-            "# allowed is at least the greater of its own {own} and the floor {floor} less the credit {credit}, and at most that of {own} and {floor}"
-        )?;
-        push_outside(text, scene, wake_bounds(scene, &task))?;
+    match scene.standing(scene.fault.pid) {
+        Some(task) => {
+            push_wake_rule(text, task.v, scene.here.floor, scene.knobs.credit())?;
+            push_outside(text, scene, wake_bounds(scene, task))
+        }
+        None => Ok(()),
     }
-    Ok(())
+}
+
+fn push_wake_rule(text: &mut String, own: i64, floor: i64, credit: u64) -> Result<(), AllocError> {
+    writeln!(
+        text,
+        "# allowed is at least the greater of its own {own} and the floor {floor} less the credit {credit}, and at most that of {own} and {floor}"
+    )
 }
 
 /// A new task that is claimed outside its bounds.
 pub(crate) fn push_fork_bounds(text: &mut String, scene: &Scene) -> Result<(), AllocError> {
-    let floor = scene.here.floor;
-    let debit = scene.knobs.debit();
+    push_fork_rule(text, scene.here.floor, scene.knobs.debit())?;
+    push_outside(text, scene, fork_bounds(scene))
+}
+
+fn push_fork_rule(text: &mut String, floor: i64, debit: u64) -> Result<(), AllocError> {
     writeln!(
         text,
         "# allowed is at least the floor {floor}, and at most the floor and the debit {debit}"
-    )?;
-    push_outside(text, scene, fork_bounds(scene))
+    )
 }
 
 /// By how much the claim is outside.
 fn push_outside(text: &mut String, scene: &Scene, bounds: Bounds) -> Result<(), AllocError> {
-    let pid = scene.fault.pid;
-    if let Some(claim) = scene.event.claim {
-        let Bounds { least, greatest } = bounds;
-        let claimed = i128::from(claim.v);
-        let (apart, side, bound) = if claimed < least {
-            (least.saturating_sub(claimed), "below the least", least)
-        } else {
-            (
-                claimed.saturating_sub(greatest),
-                "above the greatest",
-                greatest,
-            )
-        };
-        writeln!(
-            text,
-            "# pid {pid} is claimed at {claimed}, which is {apart} {side}, {bound}"
-        )?;
+    match scene.event.claim {
+        Some(claim) if i128::from(claim.v) < bounds.least => {
+            push_beyond(text, claim, "below the least", bounds.least)
+        }
+        Some(claim) => push_beyond(text, claim, "above the greatest", bounds.greatest),
+        None => Ok(()),
     }
-    Ok(())
+}
+
+fn push_beyond(text: &mut String, claim: Claim, side: &str, bound: i128) -> Result<(), AllocError> {
+    let Claim { pid, v, .. } = claim;
+    let apart = i128::from(v).abs_diff(bound);
+    writeln!(
+        text,
+        "# pid {pid} is claimed at {v}, which is {apart} {side}, {bound}"
+    )
 }
 
 /// What a migration takes along, as each of its ends sees it.
 pub(crate) fn push_ticket_unequal(text: &mut String, scene: &Scene) -> Result<(), AllocError> {
-    let pid = scene.fault.pid;
-    if let Some(task) = scene.standing(pid) {
-        let cpu = scene.here.cpu;
-        let verb = task.verb();
-        let share = task.share;
-        let v = task.v;
-        let above = offset(v, &scene.here);
-        writeln!(
-            text,
-            "# it leaves cpu {cpu}: {verb} at {v}, {share}; {above} from the floor"
-        )?;
+    if let Some(task) = scene.standing(scene.fault.pid) {
+        push_leaves(text, &scene.here, task)?;
     }
     if let (Some(there), Some(claim)) = (&scene.there, scene.event.claim) {
-        let cpu = there.cpu;
-        let verb = match claim.sort {
-            ClaimSort::At => "waits",
-            ClaimSort::Pass => "rests",
-        };
-        let v = claim.v;
-        let above = offset(v, there);
-        writeln!(
-            text,
-            "# it comes to cpu {cpu}: {verb} at {v}; {above} from the floor"
-        )?;
+        push_comes(text, there, claim)?;
     }
     push_moved(text, scene)
+}
+
+/// At a migration's origin.
+fn push_leaves(text: &mut String, here: &Processor, task: Standing) -> Result<(), AllocError> {
+    let cpu = here.cpu;
+    let verb = task.verb();
+    let Standing { v, share, .. } = task;
+    let above = offset(v, here);
+    writeln!(
+        text,
+        "# it leaves cpu {cpu}: {verb} at {v}, {share}; {above} from the floor"
+    )
+}
+
+/// At its destination.
+fn push_comes(text: &mut String, there: &Processor, claim: Claim) -> Result<(), AllocError> {
+    let cpu = there.cpu;
+    let verb = match claim.sort {
+        ClaimSort::At => "waits",
+        ClaimSort::Pass => "rests",
+    };
+    let v = claim.v;
+    let above = offset(v, there);
+    writeln!(
+        text,
+        "# it comes to cpu {cpu}: {verb} at {v}; {above} from the floor"
+    )
 }

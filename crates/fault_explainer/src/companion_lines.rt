@@ -1,21 +1,33 @@
 use crate::event::Event;
-use cfs_model::{Claim, ClaimSort};
+use cfs_model::{Claim, ClaimSort, IdleLine, NiceLine};
 use std::alloc::AllocError;
 
 /// What the companion says on an event's line, as it stands there.
 pub(crate) fn push_companion_lines(text: &mut String, event: &Event) -> Result<(), AllocError> {
-    if let Some(idle) = event.idle {
-        let line = idle.line;
-        let pid = idle.pid;
-        writeln!(text, "# companion: idle {line} {pid}")?;
+    push_idle(text, event.idle)?;
+    push_nice(text, event.nice)?;
+    push_claim(text, event.claim)
+}
+
+fn push_idle(text: &mut String, idle: Option<IdleLine>) -> Result<(), AllocError> {
+    match idle {
+        Some(IdleLine { line, pid }) => writeln!(text, "# companion: idle {line} {pid}"),
+        None => Ok(()),
     }
-    if let Some(change) = event.nice {
-        let line = change.line;
-        let pid = change.pid;
-        let nice = change.nice.get();
-        writeln!(text, "# companion: nice {line} {pid} {nice}")?;
+}
+
+fn push_nice(text: &mut String, change: Option<NiceLine>) -> Result<(), AllocError> {
+    match change {
+        Some(NiceLine { line, pid, nice }) => {
+            let nice = nice.get();
+            writeln!(text, "# companion: nice {line} {pid} {nice}")
+        }
+        None => Ok(()),
     }
-    match event.claim {
+}
+
+fn push_claim(text: &mut String, claim: Option<Claim>) -> Result<(), AllocError> {
+    match claim {
         Some(Claim { line, pid, v, sort }) => {
             let word = word_of(sort);
             writeln!(text, "# companion: {word} {line} {pid} {v}")

@@ -1,19 +1,8 @@
-use cfs_model::{Act, Claim, Entry, IdleLine, Kind, NiceLine};
+use cfs_model::{Act, Claim, Entry, IdleLine, NiceLine};
 use sched_record::Record;
 
-/// A fault, as an audit told it.
-#[derive(Clone, Copy, Debug)]
-pub(crate) struct Fault {
-    /// The line in the trace, from 1, comments counted.
-    pub line: u32,
-    pub cpu: u32,
-    /// 0 where the fault is no task's.
-    pub pid: u32,
-    pub kind: Kind,
-}
-
 /// The event on a line, and what the companion says on it.
-#[derive(Clone, Copy, Debug)]
+#[derive(Clone, Copy)]
 pub(crate) struct Event {
     /// The line in the trace.
     pub line: u32,
@@ -28,26 +17,14 @@ pub(crate) struct Event {
 impl Event {
     /// That of a record on a line, if there is one.
     pub(crate) fn on_line(record: &Record, line: u32) -> Option<Event> {
-        let Entry { line, time, act } = *record.events().iter().find(|event| event.line == line)?;
+        let Entry { line, time, act } = entry_on(record.events(), line)?;
         Some(Event {
             line,
             time,
             act,
-            claim: record
-                .claims()
-                .iter()
-                .copied()
-                .find(|claim| claim.line == line),
-            nice: record
-                .nices()
-                .iter()
-                .copied()
-                .find(|change| change.line == line),
-            idle: record
-                .idles()
-                .iter()
-                .copied()
-                .find(|idle| idle.line == line),
+            claim: claim_on(record.claims(), line),
+            nice: nice_on(record.nices(), line),
+            idle: idle_on(record.idles(), line),
         })
     }
 
@@ -68,4 +45,40 @@ impl Event {
             Act::Wake { pid, .. } | Act::Born { pid, .. } | Act::Shift { pid, .. } => pid,
         }
     }
+}
+
+fn entry_on(events: &[Entry], line: u32) -> Option<Entry> {
+    for event in events {
+        if event.line == line {
+            return Some(*event);
+        }
+    }
+    None
+}
+
+fn claim_on(claims: &[Claim], line: u32) -> Option<Claim> {
+    for claim in claims {
+        if claim.line == line {
+            return Some(*claim);
+        }
+    }
+    None
+}
+
+fn nice_on(changes: &[NiceLine], line: u32) -> Option<NiceLine> {
+    for change in changes {
+        if change.line == line {
+            return Some(*change);
+        }
+    }
+    None
+}
+
+fn idle_on(idles: &[IdleLine], line: u32) -> Option<IdleLine> {
+    for idle in idles {
+        if idle.line == line {
+            return Some(*idle);
+        }
+    }
+    None
 }

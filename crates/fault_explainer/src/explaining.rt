@@ -1,11 +1,12 @@
 use crate::bounds::push_bound;
-use crate::event::{Event, Fault};
+use crate::event::Event;
+use crate::fault::Fault;
 use crate::quoting::quoted;
 use crate::scene::Scene;
 use cfs_model::{Knobs, Memory};
 use companion_file::{CompanionFault, read_companion};
 use sched_audit::{Gate, Refused, Source, Verdict, audit_texts};
-use sched_record::{Record, TraceFault, join, read_trace};
+use sched_record::{Record, Trace, TraceFault, join, read_trace};
 use std::alloc::Global;
 use std::sync::Wait;
 use std::thread::Threads;
@@ -29,28 +30,42 @@ pub fn explanation<R: Threads + Wait + Sync, G: Gate>(
                 pid,
                 kind,
             },
-        ) => {
-            let fault = Fault {
+        ) => told_of(
+            alloc,
+            trace,
+            companion,
+            knobs,
+            Fault {
                 line,
                 cpu,
                 pid,
                 kind,
-            };
-            let mut told = quoted(alloc, trace, u64::from(line))?;
-            let rest = explained(alloc, trace, companion, knobs, fault)?;
-            told.extend_from_slice(rest.as_bytes())?;
-            Ok(told)
-        }
+            },
+        ),
         Err(
             Refused::Text {
                 source: Source::Companion,
                 line,
                 ..
             },
-        ) => Ok(quoted(alloc, companion, line)?),
-        Err(Refused::Text { line, .. }) => Ok(quoted(alloc, trace, line)?),
+        ) => quoted(alloc, companion, line),
+        Err(Refused::Text { line, .. }) => quoted(alloc, trace, line),
         Err(Refused::Memory) => Err(Memory),
     }
+}
+
+/// What there is to say of a fault: the event's line, and how it comes about.
+fn told_of(
+    alloc: Global,
+    trace: &[u8],
+    companion: &[u8],
+    knobs: Knobs,
+    fault: Fault,
+) -> Result<Vec<u8>, Memory> {
+    let mut told = quoted(alloc, trace, u64::from(fault.line))?;
+    let text = explained(alloc, trace, companion, knobs, fault)?;
+    told.extend_from_slice(text.as_bytes())?;
+    Ok(told)
 }
 
 /// What is said of a fault below its line.
@@ -61,33 +76,55 @@ fn explained(
     knobs: Knobs,
     fault: Fault,
 ) -> Result<String, Memory> {
+    match record_of(alloc, trace, companion)? {
+        Some(record) => explained_by(alloc, &record, knobs, fault),
+        None => Ok(String::new(alloc)),
+    }
+}
+
+/// The same, by the record of the texts.
+fn explained_by(
+    alloc: Global,
+    record: &Record,
+    knobs: Knobs,
+    fault: Fault,
+) -> Result<String, Memory> {
+    match Event::on_line(record, fault.line) {
+        Some(event) => text_of(alloc, Scene::new(alloc, record, knobs, fault, event)?),
+        None => Ok(String::new(alloc)),
+    }
+}
+
+/// What is said of a scene.
+fn text_of(alloc: Global, scene: Scene) -> Result<String, Memory> {
+    let mut scene = scene;
     let mut text = String::new(alloc);
-    let Some(record) = record_of(alloc, trace, companion)? else {
-        return Ok(text);
-    };
-    let Some(event) = Event::on_line(&record, fault.line) else {
-        return Ok(text);
-    };
-    let mut scene = Scene::new(alloc, &record, knobs, fault, event)?;
-    scene.set(&mut text)?;
-    push_bound(&mut text, &mut scene)?;
+    push_scene(&mut text, &mut scene)?;
     Ok(text)
+}
+
+/// How things were, what comes first at the event, and the bound that failed.
+fn push_scene(text: &mut String, scene: &mut Scene) -> Result<(), Memory> {
+    scene.set(text)?;
+    scene.go_on_to_pick()?;
+    push_bound(text, scene)?;
+    Ok(())
 }
 
 /// The record of two texts. None where one is refused, as none is of which a fault is told.
 fn record_of(alloc: Global, trace: &[u8], companion: &[u8]) -> Result<Option<Record>, Memory> {
-    let trace = match read_trace(alloc, trace) {
-        Ok(trace) => trace,
-        Err(TraceFault::Text { .. }) => return Ok(None),
-        Err(TraceFault::Memory) => return Err(Memory),
-    };
-    let companion = match read_companion(alloc, companion) {
-        Ok(companion) => companion,
-        Err(CompanionFault::Text { .. }) => return Ok(None),
-        Err(CompanionFault::Memory) => return Err(Memory),
-    };
-    match join(trace, companion) {
-        Ok(record) => Ok(Some(record)),
-        Err(_) => Ok(None),
+    match read_trace(alloc, trace) {
+        Ok(trace) => joined(alloc, trace, companion),
+        Err(TraceFault::Text { .. }) => Ok(None),
+        Err(TraceFault::Memory) => Err(Memory),
+    }
+}
+
+/// The record of a trace and a companion's text.
+fn joined(alloc: Global, trace: Trace, companion: &[u8]) -> Result<Option<Record>, Memory> {
+    match read_companion(alloc, companion) {
+        Ok(companion) => Ok(join(trace, companion).ok()),
+        Err(CompanionFault::Text { .. }) => Ok(None),
+        Err(CompanionFault::Memory) => Err(Memory),
     }
 }

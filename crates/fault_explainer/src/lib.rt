@@ -8,13 +8,16 @@ mod claim_bounds;
 mod companion_lines;
 mod event;
 mod explaining;
+mod fault;
 mod pick_bounds;
 mod place_bounds;
 mod processor;
+mod processor_lines;
 mod quoting;
 mod scene;
 mod share;
 mod standing;
+mod standings;
 mod stood;
 mod waiting_task;
 

@@ -1,7 +1,10 @@
 //! Who stands where, and which prio is printed.
 
+use crate::fault::Fault;
 use crate::scene::Scene;
-use cfs_model::{Act, IDLE_PID, Kind, Nice};
+use crate::standing::Standing;
+use crate::stood::Stood;
+use cfs_model::{Act, IDLE_PID, Kind, Nice, NiceLine};
 use std::alloc::AllocError;
 
 /// The prio that a task of nice value 0 prints.
@@ -27,51 +30,73 @@ pub(crate) fn push_self_switch(text: &mut String, scene: &Scene) -> Result<(), A
 
 /// The printed previous task, and who runs.
 pub(crate) fn push_prev_not_running(text: &mut String, scene: &Scene) -> Result<(), AllocError> {
-    let cpu = scene.here.cpu;
-    let prev = scene.fault.pid;
-    match scene.here.running {
+    push_runner(
+        text,
+        scene.here.cpu,
+        scene.fault.pid,
+        scene.here.tasks.running,
+    )?;
+    push_stood(text, scene.stood)
+}
+
+fn push_runner(
+    text: &mut String,
+    cpu: u32,
+    prev: u32,
+    running: Option<u32>,
+) -> Result<(), AllocError> {
+    match running {
         Some(pid) => writeln!(
             text,
             "# prev_pid is {prev}, but at cpu {cpu} pid {pid} runs"
-        )?,
+        ),
         None => writeln!(
             text,
             "# prev_pid is {prev}, but at cpu {cpu} nobody runs, for which pid {IDLE_PID} stands"
-        )?,
+        ),
     }
-    push_stood(text, scene)
 }
 
 /// A task that doesn't stand where the event wants it.
 pub(crate) fn push_strange(text: &mut String, scene: &Scene) -> Result<(), AllocError> {
-    let cpu = scene.here.cpu;
-    let pid = scene.fault.pid;
-    match scene.event.nice {
+    push_absent(text, scene.here.cpu, scene.fault.pid, scene.event.nice)?;
+    push_stood(text, scene.stood)
+}
+
+fn push_absent(
+    text: &mut String,
+    cpu: u32,
+    pid: u32,
+    change: Option<NiceLine>,
+) -> Result<(), AllocError> {
+    match change {
         Some(change) if change.pid == pid => writeln!(
             text,
             "# the companion changes the nice value of pid {pid}, which doesn't stand at cpu {cpu}"
-        )?,
-        _ => writeln!(text, "# pid {pid} doesn't stand at cpu {cpu}")?,
+        ),
+        _ => writeln!(text, "# pid {pid} doesn't stand at cpu {cpu}"),
     }
-    push_stood(text, scene)
 }
 
 /// A task that comes where it lives, or is born while it lives.
 pub(crate) fn push_lives(text: &mut String, scene: &Scene) -> Result<(), AllocError> {
-    let cpu = scene.fault.cpu;
-    let pid = scene.fault.pid;
-    if scene.fault.kind == Kind::BornTwice {
+    push_life(text, scene.fault)?;
+    push_stood(text, scene.stood)
+}
+
+fn push_life(text: &mut String, fault: Fault) -> Result<(), AllocError> {
+    let Fault { cpu, pid, kind, .. } = fault;
+    if kind == Kind::BornTwice {
         writeln!(
             text,
             "# pid {pid} is born at cpu {cpu} while it lives elsewhere"
-        )?;
+        )
     } else {
         writeln!(
             text,
             "# pid {pid} comes to cpu {cpu}, where it stands already"
-        )?;
+        )
     }
-    push_stood(text, scene)
 }
 
 /// A task that is moved while it runs.
@@ -86,28 +111,39 @@ pub(crate) fn push_running(text: &mut String, scene: &Scene) -> Result<(), Alloc
 
 /// A next task that can't be picked.
 pub(crate) fn push_next_not_waiting(text: &mut String, scene: &Scene) -> Result<(), AllocError> {
-    let cpu = scene.here.cpu;
-    let pid = scene.fault.pid;
+    push_unpicked(text, scene.here.cpu, scene.fault.pid)?;
+    push_stood(text, scene.stood)
+}
+
+fn push_unpicked(text: &mut String, cpu: u32, pid: u32) -> Result<(), AllocError> {
     writeln!(
         text,
         "# next_pid is {pid}, which doesn't wait at cpu {cpu}; only one that waits there can be picked"
-    )?;
-    push_stood(text, scene)
+    )
 }
 
 /// The printed prio, and the task's own.
 pub(crate) fn push_wrong_prio(text: &mut String, scene: &Scene) -> Result<(), AllocError> {
     let pid = scene.fault.pid;
-    if let Some(task) = scene.standing(pid) {
-        let nice = task.share.nice.get();
-        let own = PRIO_OF_NICE_0 + nice;
-        let other = PRIO_OF_NICE_0 + printed_nice(scene.event.act, pid).get();
-        writeln!(
+    match scene.standing(pid) {
+        Some(task) => push_prios(
             text,
-            "# the line prints prio {other} of pid {pid}; by its nice value {nice} it is {own}"
-        )?;
+            pid,
+            task.share.nice,
+            printed_nice(scene.event.act, pid),
+        ),
+        None => Ok(()),
     }
-    Ok(())
+}
+
+fn push_prios(text: &mut String, pid: u32, nice: Nice, printed: Nice) -> Result<(), AllocError> {
+    let nice = nice.get();
+    let own = PRIO_OF_NICE_0 + nice;
+    let other = PRIO_OF_NICE_0 + printed.get();
+    writeln!(
+        text,
+        "# the line prints prio {other} of pid {pid}; by its nice value {nice} it is {own}"
+    )
 }
 
 /// The nice value that an event prints of one of its tasks.
@@ -125,10 +161,33 @@ fn printed_nice(act: Act, task: u32) -> Nice {
     }
 }
 
-/// Where the fault's task stood before.
-fn push_stood(text: &mut String, scene: &Scene) -> Result<(), AllocError> {
-    match scene.stood {
-        Some(stood) => writeln!(text, "# {stood}"),
+/// Where a task stood before, if that is known.
+fn push_stood(text: &mut String, stood: Option<Stood>) -> Result<(), AllocError> {
+    match stood {
+        Some(
+            Stood {
+                pid,
+                at: Some((cpu, standing)),
+            },
+        ) => push_stood_at(text, pid, cpu, standing),
+        Some(Stood { pid, at: None }) => writeln!(
+            text,
+            "# before this line pid {pid} stands nowhere: it wasn't there yet, or it has ended"
+        ),
         None => Ok(()),
     }
+}
+
+fn push_stood_at(
+    text: &mut String,
+    pid: u32,
+    cpu: u32,
+    standing: Standing,
+) -> Result<(), AllocError> {
+    let verb = standing.verb();
+    let Standing { v, share, .. } = standing;
+    writeln!(
+        text,
+        "# before this line pid {pid} {verb} at cpu {cpu}, at {v}, {share}"
+    )
 }

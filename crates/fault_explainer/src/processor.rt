@@ -1,23 +1,17 @@
 use crate::charge::Charge;
 use crate::share::Share;
 use crate::standing::Standing;
-use crate::waiting_task::WaitingTask;
-use cfs_model::{Claim, ClaimSort, IDLE_PID, Memory, NiceLine, Place, Way};
+use crate::standings::Standings;
+use cfs_model::{Claim, Memory, NiceLine, Place, Task, Way};
 use replay_model::{Deed, Step};
 use sched_record::{Record, Stream};
 use std::alloc::Global;
-use std::collections::{BTreeMap, BTreeSet};
 
 /// A processor, led by steps that are taken to pass their tests.
 #[derive(Drop)]
 pub(crate) struct Processor {
     pub cpu: u32,
-    /// Everybody who stands there, by pid.
-    pub tasks: BTreeMap<u32, Standing>,
-    /// Those who wait, in their order.
-    pub waiting: BTreeSet<WaitingTask>,
-    /// Who runs, if somebody does.
-    pub running: Option<u32>,
+    pub tasks: Standings,
     /// In virtual nanoseconds.
     pub floor: i64,
     /// The time of the last charge, in nanoseconds.
@@ -36,42 +30,36 @@ impl Processor {
     ) -> Result<Processor, Memory> {
         let mut processor = Processor {
             cpu,
-            tasks: BTreeMap::new(alloc),
-            waiting: BTreeSet::new(alloc),
-            running: None,
+            tasks: Standings::new(alloc),
             floor: 0,
             mark: record.start(),
             since: None,
         };
         if cpu < record.cpus() {
-            let stream = record.deal(cpu)?;
-            processor.begin(&stream)?;
-            processor.follow(&stream, line)?;
+            processor.lead(&record.deal(cpu)?, line)?;
         }
         Ok(processor)
     }
 
-    /// The start.
-    fn begin(&mut self, stream: &Stream) -> Result<(), Memory> {
+    /// From the start through the steps above a line.
+    fn lead(&mut self, stream: &Stream, line: u32) -> Result<(), Memory> {
         self.floor = stream.floor();
-        for task in stream.tasks() {
-            let standing = Standing {
-                place: task.place,
-                share: Share {
-                    nice: task.nice,
-                    idle: task.idle,
-                },
-                v: task.v,
-            };
-            self.put(task.pid, standing)?;
-        }
+        self.begin(stream.tasks())?;
         self.note_idling(stream.start());
+        self.follow(stream.steps(), line)
+    }
+
+    /// The tasks of the start.
+    fn begin(&mut self, tasks: &[Task]) -> Result<(), Memory> {
+        for task in tasks {
+            self.tasks.put(task.pid, Standing::at_start(task))?;
+        }
         Ok(())
     }
 
     /// The steps above a line.
-    fn follow(&mut self, stream: &Stream, line: u32) -> Result<(), Memory> {
-        for step in stream.steps() {
+    fn follow(&mut self, steps: &[Step], line: u32) -> Result<(), Memory> {
+        for step in steps {
             if step.line >= line {
                 break;
             }
@@ -88,16 +76,9 @@ impl Processor {
         Ok(())
     }
 
-    /// Who runs, and how.
-    pub(crate) fn runner(&self) -> Option<(u32, Standing)> {
-        let pid = self.running?;
-        let task = self.tasks.get(&pid)?;
-        Some((pid, *task))
-    }
-
     /// The charge of who runs, up to a time in nanoseconds.
     pub(crate) fn charge(&self, time: u64) -> Option<Charge> {
-        let (pid, task) = self.runner()?;
+        let (pid, task) = self.tasks.runner()?;
         Some(Charge {
             pid,
             share: task.share,
@@ -108,16 +89,11 @@ impl Processor {
 
     /// Charges who runs, and raises the floor.
     pub(crate) fn lift(&mut self, time: u64) {
-        let mut least = self.waiting.first().map(|task| task.v);
         if let Some(charge) = self.charge(time) {
-            let v = i64::try_from(charge.to()).unwrap_or(i64::MAX);
-            if let Some(task) = self.tasks.get_mut(&charge.pid) {
-                task.v = v;
-            }
-            least = Some(least.map_or(v, |other| other.min(v)));
+            self.tasks.charge(charge.pid, charge.reached());
         }
         self.mark = time;
-        if let Some(v) = least {
+        if let Some(v) = self.tasks.least() {
             self.floor = self.floor.max(v);
         }
     }
@@ -125,9 +101,7 @@ impl Processor {
     /// Makes a change of a nice value.
     pub(crate) fn renice(&mut self, change: Option<NiceLine>) {
         if let Some(change) = change {
-            if let Some(task) = self.tasks.get_mut(&change.pid) {
-                task.share.nice = change.nice;
-            }
+            self.tasks.renice(change);
         }
     }
 
@@ -140,121 +114,58 @@ impl Processor {
                 way,
                 next,
                 ..
-            } => {
-                self.send(prev, way)?;
-                self.move_to(next, Place::Run)
-            }
+            } => self.switch(prev, way, next),
             Deed::Wake { pid, .. } => self.wake(pid, step.claim),
-            Deed::Born { pid, nice, idle } => {
-                self.enter(pid, Place::Wait, Share { nice, idle }, step.claim)
-            }
-            Deed::Leave { pid, .. } => {
-                self.remove(pid);
-                Ok(())
-            }
+            Deed::Born { pid, nice, idle } => self.enter(pid, Share { nice, idle }, step.claim),
             Deed::Arrive {
                 pid,
                 nice,
                 idle,
                 ..
-            } => {
-                let place = match step.claim {
-                    Some(
-                        Claim {
-                            sort: ClaimSort::Pass,
-                            ..
-                        },
-                    ) => Place::Rest,
-                    _ => Place::Wait,
-                };
-                self.enter(pid, place, Share { nice, idle }, step.claim)
-            }
-        }
-    }
-
-    /// The previous task of a switch goes its way.
-    pub(crate) fn send(&mut self, prev: u32, way: Way) -> Result<(), Memory> {
-        match way {
-            Way::Stays => self.move_to(prev, Place::Wait),
-            Way::Sleeps => self.move_to(prev, Place::Rest),
-            Way::Ends => {
-                self.remove(prev);
+            } => self.enter(pid, Share { nice, idle }, step.claim),
+            Deed::Leave { pid, .. } => {
+                self.tasks.remove(pid);
                 Ok(())
             }
         }
     }
 
-    /// A task goes to another place there, unless it is the idle task.
-    fn move_to(&mut self, pid: u32, place: Place) -> Result<(), Memory> {
-        if pid == IDLE_PID {
-            return Ok(());
-        }
-        let Some(task) = self.tasks.get(&pid).copied() else {
-            return Ok(());
-        };
-        self.put(pid, Standing { place, ..task })
+    fn switch(&mut self, prev: u32, way: Way, next: u32) -> Result<(), Memory> {
+        self.send(prev, way)?;
+        self.tasks.move_to(next, Place::Run)
     }
 
-    /// A task that rests waits at what is claimed.
+    /// The previous task of a switch goes its way.
+    pub(crate) fn send(&mut self, prev: u32, way: Way) -> Result<(), Memory> {
+        match way {
+            Way::Stays => self.tasks.move_to(prev, Place::Wait),
+            Way::Sleeps => self.tasks.move_to(prev, Place::Rest),
+            Way::Ends => {
+                self.tasks.remove(prev);
+                Ok(())
+            }
+        }
+    }
+
+    /// A task that rests comes as it is claimed.
     fn wake(&mut self, pid: u32, claim: Option<Claim>) -> Result<(), Memory> {
-        let Some(task) = self.tasks.get(&pid).copied() else {
-            return Ok(());
-        };
-        if task.place == Place::Rest {
-            self.enter(pid, Place::Wait, task.share, claim)
-        } else {
-            Ok(())
+        match self.tasks.get(pid) {
+            Some(task) if task.place == Place::Rest => self.enter(pid, task.share, claim),
+            _ => Ok(()),
         }
     }
 
-    /// A task comes at what is claimed.
-    fn enter(
-        &mut self,
-        pid: u32,
-        place: Place,
-        share: Share,
-        claim: Option<Claim>,
-    ) -> Result<(), Memory> {
+    /// A task comes as it is claimed.
+    fn enter(&mut self, pid: u32, share: Share, claim: Option<Claim>) -> Result<(), Memory> {
         match claim {
-            Some(claim) => self.put(
-                pid,
-                Standing {
-                    place,
-                    share,
-                    v: claim.v,
-                },
-            ),
+            Some(claim) => self.tasks.put(pid, Standing::as_claimed(share, claim)),
             None => Ok(()),
-        }
-    }
-
-    /// A task stands so from now on.
-    fn put(&mut self, pid: u32, standing: Standing) -> Result<(), Memory> {
-        self.remove(pid);
-        match standing.place {
-            Place::Run => self.running = Some(pid),
-            Place::Wait => {
-                self.waiting.insert(WaitingTask { v: standing.v, pid })?;
-            }
-            Place::Rest => (),
-        }
-        self.tasks.insert(pid, standing)?;
-        Ok(())
-    }
-
-    /// A task stands there no more.
-    fn remove(&mut self, pid: u32) {
-        if let Some(task) = self.tasks.remove(&pid) {
-            self.waiting.remove(&WaitingTask { v: task.v, pid });
-            if self.running == Some(pid) {
-                self.running = None;
-            }
         }
     }
 
     /// Keeps since when nothing runs there beside a waiting task, after an event at this time.
     fn note_idling(&mut self, time: u64) {
-        self.since = if self.running.is_none() && !self.waiting.is_empty() {
+        self.since = if self.tasks.is_idling() {
             Some(self.since.unwrap_or(time))
         } else {
             None

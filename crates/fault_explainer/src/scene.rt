@@ -1,14 +1,13 @@
 use crate::companion_lines::push_companion_lines;
-use crate::event::{Event, Fault};
+use crate::event::Event;
+use crate::fault::Fault;
 use crate::processor::Processor;
+use crate::processor_lines::{push_charge, push_floor, push_processor};
 use crate::standing::Standing;
 use crate::stood::Stood;
-use cfs_model::{Act, Kind, Knobs, Memory};
+use cfs_model::{Act, IDLE_PID, Kind, Knobs, Memory};
 use sched_record::Record;
 use std::alloc::{AllocError, Global};
-
-/// The most waiting tasks of a processor that are told.
-const MOST_WAITING: usize = 20;
 
 /// A fault with its event, and the processors at which it happened.
 #[derive(Drop)]
@@ -37,6 +36,8 @@ impl Scene {
             Some((orig, dest)) if fault.kind != Kind::IdleTooLong => (orig, Some(dest)),
             _ => (fault.cpu, None),
         };
+        let stood = stood_for(alloc, record, fault)?;
+        let here = Processor::before(alloc, record, here, fault.line)?;
         let there = match there {
             Some(cpu) => Some(Processor::before(alloc, record, cpu, fault.line)?),
             None => None,
@@ -45,15 +46,15 @@ impl Scene {
             fault,
             event,
             knobs,
-            here: Processor::before(alloc, record, here, fault.line)?,
+            here,
             there,
-            stood: stood_for(alloc, record, fault)?,
+            stood,
         })
     }
 
     /// The task as it stands at the fault's processor, or at a migration's origin.
     pub(crate) fn standing(&self, pid: u32) -> Option<Standing> {
-        self.here.tasks.get(&pid).copied()
+        self.here.tasks.get(pid)
     }
 
     /// The fault's processor.
@@ -64,37 +65,58 @@ impl Scene {
         }
     }
 
-    /// The previous task of a switch goes its way.
-    pub(crate) fn send_prev(&mut self) -> Result<(), Memory> {
-        let act = self.event.act;
-        match act {
-            Act::Switch { prev, way, .. } => self.here.send(prev, way),
-            Act::Wake { .. } | Act::Born { .. } | Act::Shift { .. } => Ok(()),
-        }
-    }
-
     /// Tells how things were before the event, and what comes first at it: the charge, the floor, the change of a nice
     /// value, with what the companion says.
     pub(crate) fn set(&mut self, text: &mut String) -> Result<(), AllocError> {
+        self.push_before(text)?;
+        if self.fault.kind == Kind::IdleTooLong {
+            return Ok(());
+        }
+        self.charge(text)?;
+        self.here.renice(self.event.nice);
+        push_companion_lines(text, &self.event)
+    }
+
+    /// The processors before the event.
+    fn push_before(&self, text: &mut String) -> Result<(), AllocError> {
         writeln!(
             text,
             "# times are in ns; virtual runtimes, floors and charges in virtual ns"
         )?;
         push_processor(text, &self.here)?;
-        if let Some(there) = &self.there {
-            push_processor(text, there)?;
+        match &self.there {
+            Some(there) => push_processor(text, there),
+            None => Ok(()),
         }
-        if self.fault.kind == Kind::IdleTooLong {
-            return Ok(());
-        }
+    }
+
+    /// Charges who runs at the processors, and lifts their floors. A charge that is out of range lifts no floor.
+    fn charge(&mut self, text: &mut String) -> Result<(), AllocError> {
         let time = self.event.time;
-        let in_range = self.fault.kind != Kind::Range;
-        charge(text, &mut self.here, time, in_range)?;
-        if let Some(there) = &mut self.there {
-            charge(text, there, time, in_range)?;
+        let lifts = self.fault.kind != Kind::Range;
+        charge(text, &mut self.here, time, lifts)?;
+        match &mut self.there {
+            Some(there) => charge(text, there, time, lifts),
+            None => Ok(()),
         }
-        self.here.renice(self.event.nice);
-        push_companion_lines(text, &self.event)
+    }
+
+    /// Where the fault lies in who is picked, the previous task of the switch has gone its way before.
+    pub(crate) fn go_on_to_pick(&mut self) -> Result<(), Memory> {
+        if matches!(self.fault.kind, Kind::IdleBesideWaiting | Kind::NotLeast) {
+            self.send_prev()
+        } else {
+            Ok(())
+        }
+    }
+
+    /// The previous task of a switch goes its way.
+    fn send_prev(&mut self) -> Result<(), Memory> {
+        let act = self.event.act;
+        match act {
+            Act::Switch { prev, way, .. } => self.here.send(prev, way),
+            Act::Wake { .. } | Act::Born { .. } | Act::Shift { .. } => Ok(()),
+        }
     }
 }
 
@@ -106,74 +128,25 @@ fn stood_for(alloc: Global, record: &Record, fault: Fault) -> Result<Option<Stoo
         | Kind::BornTwice
         | Kind::NextNotWaiting
         | Kind::PrevNotRunning
-            if fault.pid != 0 => { Ok(Some(Stood::before(alloc, record, fault.pid, fault.line)?)) }
+            if fault.pid != IDLE_PID => {
+            Ok(Some(Stood::before(alloc, record, fault.pid, fault.line)?))
+        }
         _ => Ok(None),
     }
 }
 
-/// A processor before the event.
-fn push_processor(text: &mut String, processor: &Processor) -> Result<(), AllocError> {
-    let cpu = processor.cpu;
-    let floor = processor.floor;
-    let mark = processor.mark;
-    writeln!(
-        text,
-        "# cpu {cpu} before this line: floor {floor}, mark {mark}"
-    )?;
-    match processor.runner() {
-        Some((pid, task)) => {
-            let v = task.v;
-            let share = task.share;
-            writeln!(text, "#   pid {pid} runs at {v}, {share}")?;
-        }
-        None => writeln!(text, "#   nobody runs")?,
-    }
-    push_waiting(text, processor)
-}
-
-/// Those who wait, the least first.
-fn push_waiting(text: &mut String, processor: &Processor) -> Result<(), AllocError> {
-    for task in processor.waiting.iter().take(MOST_WAITING) {
-        let pid = task.pid;
-        let v = task.v;
-        match processor.tasks.get(&pid) {
-            Some(task) => {
-                let share = task.share;
-                writeln!(text, "#   pid {pid} waits at {v}, {share}")?;
-            }
-            None => writeln!(text, "#   pid {pid} waits at {v}")?,
-        }
-    }
-    let count = processor.waiting.len();
-    if count == 0 {
-        writeln!(text, "#   nobody waits")?;
-    }
-    let more = count.saturating_sub(MOST_WAITING);
-    if more > 0 {
-        writeln!(text, "#   and {more} more wait")?;
-    }
-    Ok(())
-}
-
-/// Charges who runs and lifts the floor, and tells it. A charge that is out of range lifts no floor.
+/// Charges who runs, lifts the floor where that is asked for, and tells both.
 fn charge(
     text: &mut String,
     processor: &mut Processor,
     time: u64,
-    in_range: bool,
+    lifts: bool,
 ) -> Result<(), AllocError> {
-    let cpu = processor.cpu;
-    match processor.charge(time) {
-        Some(charge) => writeln!(text, "# charge at cpu {cpu}: {charge}")?,
-        None => writeln!(
-            text,
-            "# charge at cpu {cpu}: nobody runs, so nobody is charged"
-        )?,
-    }
-    if in_range {
+    push_charge(text, processor.cpu, processor.charge(time))?;
+    if lifts {
         processor.lift(time);
-        let floor = processor.floor;
-        writeln!(text, "# floor of cpu {cpu} after it: {floor}")?;
+        push_floor(text, processor.cpu, processor.floor)
+    } else {
+        Ok(())
     }
-    Ok(())
 }

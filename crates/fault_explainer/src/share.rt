@@ -2,7 +2,7 @@ use cfs_model::{Nice, weight_of};
 use std::fmt;
 
 /// By what a task is charged: its nice value and its policy.
-#[derive(Clone, Copy, Debug)]
+#[derive(Clone, Copy)]
 pub(crate) struct Share {
     pub nice: Nice,
     /// Whether it is of the idle policy.

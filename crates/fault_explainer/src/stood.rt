@@ -3,10 +3,9 @@ use crate::standing::Standing;
 use cfs_model::Memory;
 use sched_record::Record;
 use std::alloc::Global;
-use std::fmt;
 
 /// Where a task stood before a line.
-#[derive(Clone, Copy, Debug)]
+#[derive(Clone, Copy)]
 pub(crate) struct Stood {
     pub pid: u32,
     /// The processor, and how it stood there. None where it stood nowhere.
@@ -22,8 +21,7 @@ impl Stood {
         line: u32,
     ) -> Result<Stood, Memory> {
         for cpu in 0..record.cpus() {
-            let processor = Processor::before(alloc, record, cpu, line)?;
-            if let Some(standing) = processor.tasks.get(&pid).copied() {
+            if let Some(standing) = standing_before(alloc, record, cpu, pid, line)? {
                 return Ok(Stood {
                     pid,
                     at: Some((cpu, standing)),
@@ -34,23 +32,14 @@ impl Stood {
     }
 }
 
-impl fmt::Display for Stood {
-    fn fmt<W: fmt::Write>(&self, f: &mut fmt::Formatter<W>) -> fmt::Result {
-        let pid = self.pid;
-        match self.at {
-            Some((cpu, standing)) => {
-                let verb = standing.verb();
-                let v = standing.v;
-                let share = standing.share;
-                write!(
-                    f,
-                    "before this line pid {pid} {verb} at cpu {cpu}, at {v}, {share}"
-                )
-            }
-            None => write!(
-                f,
-                "before this line pid {pid} stands nowhere: it wasn't there yet, or it has ended"
-            ),
-        }
-    }
+/// How a task stood at a processor before a line.
+fn standing_before(
+    alloc: Global,
+    record: &Record,
+    cpu: u32,
+    pid: u32,
+    line: u32,
+) -> Result<Option<Standing>, Memory> {
+    let processor = Processor::before(alloc, record, cpu, line)?;
+    Ok(processor.tasks.get(pid))
 }

@@ -22,8 +22,7 @@ impl Candidate {
     /// first.
     pub(crate) fn is_better_than(&self, other: &Candidate) -> bool {
         self.granularity < other.granularity
-            || (self.granularity == other.granularity
-                && self.strategy.rank() < other.strategy.rank())
+            || (self.granularity == other.granularity && self.strategy < other.strategy)
     }
 }
 
@@ -38,7 +37,7 @@ pub(crate) struct Outset {
     pub forecast: Forecast,
 }
 
-/// Goes through the events by the rules, and places tasks by the strategy.
+/// What a strategy makes of the events.
 pub(crate) fn candidate_of(
     alloc: Global,
     outset: &Outset,
@@ -47,13 +46,11 @@ pub(crate) fn candidate_of(
     strategy: Strategy,
 ) -> Result<Candidate, Memory> {
     let mut machine = Machine::new(alloc, outset, wishes, strategy)?;
-    for (place, event) in events.iter().enumerate() {
-        machine.pass(event, outset.forecast.is_picked(place))?;
-    }
+    follow(&mut machine, outset, events, None)?;
     Ok(machine.into_candidate())
 }
 
-/// The same, where it is better than another; it is given up at the first event by which it can't be any more.
+/// The same, where it is better than another.
 pub(crate) fn better_candidate(
     alloc: Global,
     outset: &Outset,
@@ -63,17 +60,34 @@ pub(crate) fn better_candidate(
     other: &Candidate,
 ) -> Result<Option<Candidate>, Memory> {
     let mut machine = Machine::new(alloc, outset, wishes, strategy)?;
+    if follow(&mut machine, outset, events, Some(other))? {
+        Ok(Some(machine.into_candidate()))
+    } else {
+        Ok(None)
+    }
+}
+
+/// Goes through the events by the rules, and answers whether what is made is better than a rival. It gives up at the first
+/// event by which it can't be any more: what is needed never falls.
+fn follow(
+    machine: &mut Machine,
+    outset: &Outset,
+    events: &[Entry],
+    rival: Option<&Candidate>,
+) -> Result<bool, Memory> {
     for (place, event) in events.iter().enumerate() {
-        // What is needed never falls.
-        if !machine.candidate().is_better_than(other) {
-            return Ok(None);
+        if !is_better(machine, rival) {
+            return Ok(false);
         }
         machine.pass(event, outset.forecast.is_picked(place))?;
     }
-    let candidate = machine.into_candidate();
-    if candidate.is_better_than(other) {
-        Ok(Some(candidate))
-    } else {
-        Ok(None)
+    Ok(is_better(machine, rival))
+}
+
+/// Whether what is made so far is better than a rival, if there is one.
+fn is_better(machine: &Machine, rival: Option<&Candidate>) -> bool {
+    match rival {
+        Some(rival) => machine.candidate().is_better_than(rival),
+        None => true,
     }
 }

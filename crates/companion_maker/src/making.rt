@@ -14,7 +14,7 @@ use crate::made::{Guessed, Made};
 use crate::not_made::NotMade;
 use crate::opening::tasks_at_start;
 use crate::plain::plain_text;
-use crate::strategy::Strategy;
+use crate::strategy::{STRATEGIES, Strategy};
 use crate::touching::{outside_line, processors_of};
 use crate::wishes::Wishes;
 use crate::writing::text_of;
@@ -22,6 +22,9 @@ use cfs_model::{Entry, Memory};
 use companion_file::{CompanionFault, read_companion};
 use sched_record::{Trace, join, one_trace_answer, read_trace};
 use std::alloc::Global;
+
+/// The strategy that mostly needs the least granularity.
+const MOSTLY_BEST: Strategy = Strategy::Picked;
 
 /// A companion for the text of a trace.
 pub fn companion_of_text(alloc: Global, text: &[u8], wishes: &Wishes) -> Result<Made, NotMade>
@@ -104,10 +107,13 @@ fn best_of(
     if let Some(strategy) = wishes.strategy {
         return candidate_of(alloc, outset, events, wishes, strategy);
     }
-    // The one that is mostly best goes first, so that the others are soon given up.
-    let mut best = candidate_of(alloc, outset, events, wishes, Strategy::Picked)?;
-    for strategy in [Strategy::Level, Strategy::High, Strategy::Low] {
-        if let Some(better) = better_candidate(alloc, outset, events, wishes, strategy, &best)? {
+    // It goes first, so that the others are soon given up.
+    let mut best = candidate_of(alloc, outset, events, wishes, MOSTLY_BEST)?;
+    for strategy in STRATEGIES {
+        if *strategy == MOSTLY_BEST {
+            continue;
+        }
+        if let Some(better) = better_candidate(alloc, outset, events, wishes, *strategy, &best)? {
             best = better;
         }
     }

@@ -1,5 +1,6 @@
-/// Where tasks are placed that are woken or born, within the bounds that the settings leave.
-#[derive(Clone, Copy, Debug, PartialEq, Eq)]
+/// Where tasks are placed that are woken or born, within the bounds that the settings leave. Of two that need the same
+/// granularity, the one that is named first is kept.
+#[derive(Clone, Copy, Debug, PartialEq, Eq, PartialOrd, Ord)]
 pub enum Strategy {
     /// A woken task as low as it may be, a new one as high.
     Low,
@@ -11,7 +12,7 @@ pub enum Strategy {
     Level,
 }
 
-/// All strategies, by their ranks.
+/// All strategies, in their order.
 pub const STRATEGIES: &[Strategy] = &[
     Strategy::Low,
     Strategy::High,
@@ -20,16 +21,6 @@ pub const STRATEGIES: &[Strategy] = &[
 ];
 
 impl Strategy {
-    /// Of two that need the same granularity, the one of the lower rank is kept.
-    pub(crate) fn rank(self) -> u8 {
-        match self {
-            Strategy::Low => 0,
-            Strategy::High => 1,
-            Strategy::Picked => 2,
-            Strategy::Level => 3,
-        }
-    }
-
     /// The word of a command line that names it.
     pub fn name(self) -> &'static str {
         match self {

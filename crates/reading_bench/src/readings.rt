@@ -1,7 +1,8 @@
-use companion_file::{Companion, CompanionFault, read_companion, read_companion_wide};
+use companion_file::read_companion;
 use ftrace_line::{Line, read_line};
 use sched_event::{Event, read_event};
 use sched_record::{Trace, TraceFault, read_trace, read_trace_wide};
+use std::alloc::Global;
 use std::thread::Threads;
 use text_parts::lines::next_line;
 
@@ -22,8 +23,7 @@ pub fn found_by<R: AllocGlobal + Threads + Sync>(rt: &R, what: &str, text: &[u8]
         "events" => Some(events_of(text)),
         "trace" => Some(kept(read_trace(rt.alloc(), text))),
         "wide" => Some(kept(read_trace_wide(rt, rt.alloc(), text))),
-        "companion" => Some(claimed(read_companion(rt.alloc(), text))),
-        "companion_wide" => Some(claimed(read_companion_wide(rt, rt.alloc(), text))),
+        "companion" => Some(companion_of(rt.alloc(), text)),
         _ => None,
     }
 }
@@ -67,9 +67,9 @@ fn kept(read: Result<Trace, TraceFault>) -> Found {
     }
 }
 
-/// How much a companion that was read keeps.
-fn claimed(read: Result<Companion, CompanionFault>) -> Found {
-    match read {
+/// Reads a companion into what a record keeps.
+fn companion_of(alloc: Global, text: &[u8]) -> Found {
+    match read_companion(alloc, text) {
         Ok(companion) => Found::Kept {
             count: companion.claims().len(),
         },

@@ -19,6 +19,4 @@ mod records;
 #[cfg(test)]
 mod replays;
 #[cfg(test)]
-mod wide_companions;
-#[cfg(test)]
 mod wide_readings;

@@ -22,7 +22,7 @@ pub(crate) fn audit<R: Threads + Wait + Sync, G: Gate>(
 ) -> Result<Verdict, Refused>
     ensures { (text : List ℕ) → Tells trace (TraceAnswer text) → IsAnswer text companion.now knobs result }
 {
-    let record = record_of(rt, alloc, trace, companion)?;
+    let record = record_of(alloc, trace, companion)?;
     let closed = audit_crew::audit(rt, alloc, &record, knobs, gate)?;
     Ok(closed.verdict)
 }

@@ -20,7 +20,7 @@ pub(crate) fn audit_least<R: Threads + Wait + Sync, G: Gate>(
 ) -> Result<LeastSettings, Refused>
     ensures { (text : List ℕ) → Tells trace (TraceAnswer text) → IsLeastTold text companion.now result }
 {
-    let record = record_of(rt, alloc, trace, companion)?;
+    let record = record_of(alloc, trace, companion)?;
     let closed = audit_crew::audit_least(rt, alloc, &record, gate)?;
     Ok(closed.least)
 }

@@ -4,14 +4,12 @@ pub mod Faults
 pub mod Finishing
 pub mod GoodLines
 pub mod GrowingOrder
-pub mod Hearing
 pub mod Idling
 pub mod KeptOrder
 pub mod KnownMarks
 pub mod Lasts
 pub mod OneAnswer
 pub mod OneMeaning
-pub mod Pieces
 pub mod Places
 pub mod Policies
 pub mod Reaching
@@ -21,5 +19,4 @@ pub mod Rising
 pub mod Sorting
 pub mod Starts
 pub mod Summing
-pub mod Taken
 pub mod Taking

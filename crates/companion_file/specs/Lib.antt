@@ -1,9 +1,7 @@
 pub mod Companion
 pub mod Draft
 pub mod Earlier
-pub mod Hearing
 pub mod ShapeReading
-pub mod Reader
 pub mod Reading
 pub mod Shape
 pub mod Spans

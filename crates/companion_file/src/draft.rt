@@ -73,13 +73,6 @@ impl Draft {
         }
     }
 
-    /// The version of the format, once the first line has named it.
-    pub(crate) fn version(&self) -> Option<u32>
-        ensures { result ≡ self.now.version }
-    {
-        self.version
-    }
-
     fn has_all_floors(&self) -> bool
         ensures { result ≡ has_all_floors self.now }
     {

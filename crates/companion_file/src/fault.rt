@@ -1,7 +1,6 @@
 ghost use Rattle.std.specs.Prelude.{◌≡◌};
 ghost use Rattle.companion_file.specs.declared.fault.Refusal.TheVariants.{Memory};
 
-use cfs_model::Memory;
 use std::alloc::{AllocError, AllocFailed};
 
 /// What is wrong with the first bad line of a companion, in the order in which a line is tested; `Short` alone is of no line.
@@ -41,17 +40,6 @@ pub enum CompanionFault {
     },
     /// A growth was refused.
     Memory,
-}
-
-impl From<Memory> for CompanionFault {
-    ghost use Rattle.std.specs.Prelude.{◌≡◌};
-    ghost use Rattle.companion_file.specs.declared.fault.CompanionFault.TheVariants as faults;
-
-    ghost from_gives = { λ _ e. e ≡ faults.Memory };
-
-    fn from(_want: Memory) -> CompanionFault {
-        CompanionFault::Memory
-    }
 }
 
 impl From<AllocError> for CompanionFault {

@@ -1,11 +1,11 @@
-ghost use Rattle.std.specs.Prelude.{◌≡◌, ℕ, List, Result, IsErrOf, IfOk};
+ghost use Rattle.std.specs.Prelude.{◌≡◌, ℕ, ◌+◌, ◌<◌, ◌^◌, List, Result, IsErrOf, IfOk};
 ghost use Rattle.text_parts.specs.Lines.{lines_of};
 ghost use Rattle.companion_file.specs.declared.fault.CompanionCause.{CompanionCause};
 ghost use Rattle.companion_file.specs.Companion.{CompanionView, CompanionAnswer, IsRefusedCompanion, IsRead, IsAnswered, IsReturned, companion_view};
 
 use crate::companion::Companion;
-use crate::fault::CompanionFault;
-use crate::reader::CompanionReader;
+use crate::draft::Draft;
+use crate::fault::{CompanionCause, CompanionFault};
 use std::alloc::Global;
 use text_parts::lines::next_line;
 
@@ -24,15 +24,34 @@ pub fn read_companion(alloc: Global, text: &[u8]) -> Result<Companion, Companion
 }
 
 /// The companion that the lines make, one line after another.
-pub(crate) fn companion_of(alloc: Global, text: &[u8]) -> Result<Companion, CompanionFault>
+fn companion_of(alloc: Global, text: &[u8]) -> Result<Companion, CompanionFault>
     ensures { IsAnswered text.now result }
 {
-    let mut reader = CompanionReader::new(alloc);
+    let mut draft = Draft::new(alloc);
     let mut rest = text;
+    let mut number = 0;
     while !rest.is_empty() {
         let (line, after) = next_line(rest);
-        reader.take(line)?;
+        number += 1;
         rest = after;
+        if let Err(refusal) = draft.take(line) {
+            return Err(refusal.at(number));
+        }
     }
-    reader.finish()
+    let spans = draft.spans()?;
+    match draft.finish(spans) {
+        Some(companion) => Ok(companion),
+        None => Err(short_after(number)),
+    }
+}
+
+/// The fault of a text that ends too soon, after so many lines.
+fn short_after(lines: u64) -> CompanionFault
+    requires { lines + 1 < 2 ^ 64 }
+    ensures { result ≡ CompanionFault.Text (lines + 1) CompanionCause.Short }
+{
+    CompanionFault::Text {
+        line: lines + 1,
+        cause: CompanionCause::Short,
+    }
 }

@@ -1,14 +1,13 @@
 ghost use Rattle.std.specs.Prelude.{◌≡◌, false};
 ghost use Rattle.companion_file.specs.Shape.{cpus_line, start_line, floor_line, task_line, claim_line, nice_line};
 ghost use Rattle.companion_file.specs.Draft.{AddsTested, KeepsOrder, TakesFirst, Takes};
-ghost use Rattle.companion_file.specs.Hearing.{Hears};
 ghost use Rattle.companion_file.specs.Statement.{stated};
 
 use crate::draft::Draft;
 use crate::fault::{CompanionCause, Refusal};
 use crate::limits::{change_within, claim_within, is_value};
-use crate::line_said::{LineSaid, said_by};
-use crate::marks::version_of;
+use crate::marks::{is_group, version_of};
+use crate::shapes::statement_of;
 use crate::statement::Statement;
 use cfs_model::{ClaimSort, GREATEST_SECONDS, MOST_PROCESSORS, NANOSECONDS_PER_SECOND, Place};
 use text_parts::lines::is_comment;
@@ -151,30 +150,23 @@ impl Draft {
         Ok(())
     }
 
-    /// Hears what the next line says by itself, once the version is known.
-    #[inline(always)]
-    pub(crate) fn hear(&mut self, said: LineSaid) -> Result<(), Refusal>
-        requires { KeepsOrder self.old }
-        ensures { Hears self.old said result self.new }
-    {
-        match said {
-            LineSaid::Comment => Ok(()),
-            LineSaid::Group => Err(Refusal::Bad(CompanionCause::Group)),
-            LineSaid::Bad => Err(Refusal::Bad(CompanionCause::BadLine)),
-            LineSaid::Says(statement) => self.say(statement),
-        }
-    }
-
     /// Takes the next line, without its line feed.
-    #[inline(always)]
     pub(crate) fn take(&mut self, line: &[u8]) -> Result<(), Refusal>
         requires { KeepsOrder self.old }
         ensures { Takes self.old line.now result self.new }
     {
-        match self.version {
-            Some(version) => self.hear(said_by(version, line)),
-            None if is_comment(line) => Ok(()),
-            None => self.take_first(line),
+        if is_comment(line) {
+            return Ok(());
         }
+        let Some(version) = self.version else {
+            return self.take_first(line);
+        };
+        if is_group(line) {
+            return Err(Refusal::Bad(CompanionCause::Group));
+        }
+        let Some(statement) = statement_of(version, line) else {
+            return Err(Refusal::Bad(CompanionCause::BadLine));
+        };
+        self.say(statement)
     }
 }

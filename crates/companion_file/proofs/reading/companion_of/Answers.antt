@@ -1,38 +1,45 @@
-use Rattle.std.proofs.Common.{[], ◌∷◌, arith}
-use Rattle.std.proofs.lemmas.Result.{err_from_is_err_and}
-use Rattle.companion_file.proofs.Taken.{taken_order}
-use Rattle.companion_file.proofs.Reaching.{some_left, read_on, refused_on, few_on, all_read, few_read}
+use Rattle.std.proofs.Common.{◌≡◌, ℕ, ◌<◌, Bool, false, eqb, List, length, sym, ◌∙◌, arith}
+use Rattle.std.proofs.lemmas.Bool.{eqb-true, eqb-false}
+use Rattle.companion_file.specs.Companion.{companion_view}
+use Rattle.companion_file.proofs.Reaching.{reached_more, reached_order, reached_whole, refused_answer, short_answer}
 use Rattle.companion_file.proofs.reading.companion_of.Goals as goal
 
-pub take-requires-clause-order : goal.take-requires-clause-order
-take-requires-clause-order c = taken_order c.loop-rest.invariant.before c.loop-rest.reader.number c.loop-rest.reader.draft c.loop-rest.invariant.taken
-
-pub take-requires-clause-few : goal.take-requires-clause-few
-take-requires-clause-few c =
-    let some = some_left c.loop-rest.rest.now c.is_empty.result c.is_empty.ensures c.loop-rest-test.true in
-    omega (arith, few_on c.args.text.now c.loop-rest.rest.now c.next_line.result.1.now (c.next_line.result.0.now ∷ []) c.loop-rest.reader.number c.loop-rest.reader.draft c.loop-rest.invariant (c.next_line.ensures.lines some))
+-- the test at the loop's head
+some_left : (rest : List ℕ) (empty : Bool) → empty ≡ eqb (length rest) 0 → empty ≡ false → 0 < length rest
+some_left rest empty is test = let no_end = eqb-false (length rest) 0 (sym is ∙ test) in omega arith
 
 pub loop-rest-preserved : goal.loop-rest-preserved
 loop-rest-preserved c =
     let some = some_left c.loop-rest.rest.now c.is_empty.result c.is_empty.ensures c.loop-rest-test.true in
-    read_on c.args.text.now c.loop-rest.rest.now c.next_line.result.1.now (c.next_line.result.0.now ∷ []) c.loop-rest.reader.number c.loop-rest.reader.draft c.loop-rest.invariant (c.next_line.ensures.lines some)
-    c.take.new.self.number c.take.new.self.draft (c.in_ok-take.ensures c.loop-rest.invariant.before c.loop-rest.invariant.taken)
+    reached_more c.args.text.now c.loop-rest.rest.now c.next_line.result.0.now c.next_line.result.1.now c.loop-rest.number c.loop-rest.draft c.take.new.self
+    c.in_default.field-0 c.loop-rest.invariant (c.next_line.ensures.lines some) (c.next_line.ensures.shorter some) c.in_default.ensures
 
-pub returns-in_err-take : goal.returns-in_err-take
-returns-in_err-take c =
+pub returns-in-Err : goal.returns-in-Err
+returns-in-Err c =
     let some = some_left c.loop-rest.rest.now c.is_empty.result c.is_empty.ensures c.loop-rest-test.true in
-    let error = err_from_is_err_and c.from_residual.result c.from_residual.ensures.1 in
-    rw (error.1, error.2)
-    (refused_on c.args.text.now c.loop-rest.rest.now c.next_line.result.1.now (c.next_line.result.0.now ∷ []) c.loop-rest.reader.number c.loop-rest.reader.draft c.loop-rest.invariant (c.next_line.ensures.lines some)
-    c.in_err-take.field-0.0 (c.in_err-take.ensures c.loop-rest.invariant.before c.loop-rest.invariant.taken))
+    rw c.at.ensures
+    (refused_answer c.args.text.now c.loop-rest.rest.now c.next_line.result.0.now c.next_line.result.1.now c.loop-rest.number c.loop-rest.draft c.take.new.self
+    c.in-Err.refusal c.loop-rest.invariant (c.next_line.ensures.lines some) c.in-Err.ensures)
+
+pub take-requires : goal.take-requires
+take-requires c = reached_order c.args.text.now c.loop-rest.rest.now c.loop-rest.number c.loop-rest.draft c.loop-rest.invariant
+
+pub spans-requires : goal.spans-requires
+spans-requires c = reached_order c.args.text.now c.loop-rest.rest.now c.loop-rest.number c.loop-rest.draft c.loop-rest.invariant
 
 pub finish-requires-clause-order : goal.finish-requires-clause-order
-finish-requires-clause-order c = taken_order c.loop-rest.invariant.before c.loop-rest.reader.number c.loop-rest.reader.draft c.loop-rest.invariant.taken
+finish-requires-clause-order c = reached_order c.args.text.now c.loop-rest.rest.now c.loop-rest.number c.loop-rest.draft c.loop-rest.invariant
 
-pub finish-requires-clause-few : goal.finish-requires-clause-few
-finish-requires-clause-few c = omega (arith, few_read c.args.text.now c.loop-rest.rest.now c.loop-rest.reader.number c.loop-rest.reader.draft c.loop-rest.invariant)
+pub returns-in-Some : goal.returns-in-Some
+returns-in-Some c =
+    reached_whole c.args.text.now c.loop-rest.rest.now c.loop-rest.number c.loop-rest.draft (companion_view c.in-Some.companion) c.loop-rest.invariant
+    (eqb-true (length c.loop-rest.rest.now) 0 (sym c.is_empty.ensures ∙ c.loop-rest-test.false)) c.in-Some.ensures
 
-pub returns : goal.returns
-returns c =
-    c.finish.ensures c.args.text.now
-    (all_read c.args.text.now c.loop-rest.rest.now c.loop-rest.reader.number c.loop-rest.reader.draft c.is_empty.result c.loop-rest.invariant c.is_empty.ensures c.loop-rest-test.false)
+pub short_after-requires : goal.short_after-requires
+short_after-requires c = omega (arith, c.loop-rest.invariant.fits)
+
+pub returns-in-None : goal.returns-in-None
+returns-in-None c =
+    rw c.short_after.ensures
+    (short_answer c.args.text.now c.loop-rest.rest.now c.loop-rest.number c.loop-rest.draft c.loop-rest.invariant
+    (eqb-true (length c.loop-rest.rest.now) 0 (sym c.is_empty.ensures ∙ c.loop-rest-test.false)) c.in-None.ensures)

@@ -1,9 +1,0 @@
-use Rattle.std.proofs.Common.{length}
-use Rattle.companion_file.proofs.Reaching.{IsReadTo}
-use Rattle.companion_file.proofs.reading_wide.companion_by.Given as goal
-
-abbrev pub invariant-loop-rest : goal.invariant-loop-rest
-invariant-loop-rest g l = IsReadTo l.text l.rest l.reader.number l.reader.draft
-
-abbrev pub decreases-loop-rest : goal.decreases-loop-rest
-decreases-loop-rest g l = length l.rest

@@ -33,7 +33,8 @@ says_shifted number count line (Some entry) few says = (
   },
 )
 
-abbrev Says : ℕ × List ℕ → Option Entry → Type 0
+-- a numbered line says an event, or nothing
+abbrev pub Says : ℕ × List ℕ → Option Entry → Type 0
 Says line say = LineSays line.0 line.1 (Ok say)
 
 each_shifted : (n count : ℕ) (lines : List (List ℕ)) (said : List (Option Entry)) → n + length lines + count ≤ greatest_line + 1

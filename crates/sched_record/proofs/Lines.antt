@@ -13,7 +13,8 @@ use Rattle.sched_record.specs.Said.{LineSays}
 use Rattle.sched_record.specs.ReadLines.{AreRead, IsLastTime}
 use Rattle.sched_record.specs.Trace.{AreEventsOf, IsTimeBack, IsBadAfter, IsFirstBadTraceLine}
 
-enumerate_push : {X : Type 0} (n : ℕ) (xs : List X) (x : X)
+-- numbers of one more element
+pub enumerate_push : {X : Type 0} (n : ℕ) (xs : List X) (x : X)
     → enumerate_from n (xs ++ x ∷ []) ≡ enumerate_from n xs ++ (n + length xs, x) ∷ []
 enumerate_push n [] x = ap (λ k. (k, x) ∷ []) (omega arith)
 enumerate_push n (y ∷ ys) x =

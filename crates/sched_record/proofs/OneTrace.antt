@@ -14,14 +14,14 @@ use Rattle.sched_record.specs.Trace.{AreEventsOf, IsBadAfter, IsFirstBadTraceLin
 use Rattle.sched_record.proofs.OneSaying.{ReadOnce, one_saying}
 use Rattle.sched_record.proofs.Splits.{same_cut, later_cut, next_in_order}
 
-abbrev Says : ℕ → List (List ℕ) → List (Option Entry) → Type 0
-Says n lines said = AllZip (λ (line : ℕ × List ℕ) (say : Option Entry). LineSays line.0 line.1 (Ok say)) (enumerate_from n lines) said
+abbrev AllSay : ℕ → List (List ℕ) → List (Option Entry) → Type 0
+AllSay n lines said = AllZip (λ (line : ℕ × List ℕ) (say : Option Entry). LineSays line.0 line.1 (Ok say)) (enumerate_from n lines) said
 
 abbrev events_said : List (Option Entry) → List Entry
 events_said said = filter_map (λ say. say) said
 
 -- good lines say one thing
-one_said : ReadOnce → (n : ℕ) (lines : List (List ℕ)) (said said' : List (Option Entry)) → Says n lines said → Says n lines said'
+one_said : ReadOnce → (n : ℕ) (lines : List (List ℕ)) (said said' : List (Option Entry)) → AllSay n lines said → AllSay n lines said'
     → said ≡ said'
 one_said once n [] [] [] says says' = refl
 one_said once n [] [] (say ∷ said') says says' = absurd says'
@@ -44,11 +44,11 @@ record Cut (n : ℕ) (front : List (List ℕ)) (line : List ℕ) (said : List (O
   say : Option Entry
   after : List (Option Entry)
   parts : said ≡ before ++ say ∷ after
-  front_says : Says n front before
+  front_says : AllSay n front before
   line_says : LineSays (length front + n) line (Ok say)
 
 cut_at : (n : ℕ) (front : List (List ℕ)) (line : List ℕ) (rest : List (List ℕ)) (said : List (Option Entry))
-    → Says n (front ++ line ∷ rest) said → Cut n front line said
+    → AllSay n (front ++ line ∷ rest) said → Cut n front line said
 cut_at n [] line rest [] says = absurd says
 cut_at n [] line rest (say ∷ said) says = record {
   before = [];
@@ -112,7 +112,7 @@ no_fall before after last event events parts in_time falls =
 never_bad : ReadOnce → (lines front rest : List (List ℕ)) (line : List ℕ) (all events : List Entry) (cause : TraceCause)
     → AreEventsOf lines all → lines ≡ front ++ line ∷ rest → AreEventsOf front events → IsBadAfter events (length front + 1) line cause → ⊥
 never_bad once lines front rest line all events cause good parts front_good bad =
-    let cut = cut_at 1 front line rest good.said (subst (λ ls. Says 1 ls good.said) parts good.each) in
+    let cut = cut_at 1 front line rest good.said (subst (λ ls. AllSay 1 ls good.said) parts good.each) in
     refuted cut cause bad
   where
     refuted : Cut 1 front line good.said → (cause : TraceCause) → IsBadAfter events (length front + 1) line cause → ⊥

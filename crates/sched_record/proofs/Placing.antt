@@ -13,11 +13,7 @@ use Rattle.cfs_model.specs.declared.nice_line.NiceLine.{NiceLine}
 use Rattle.replay_model.specs.Cut.{step_at, steps_at, touches}
 use Rattle.replay_model.specs.declared.step.Step.{Step}
 use Rattle.sched_record.specs.Places.{ArePlacesOf, places_at, places_touching, touches_cpu}
-
-enumerate_push : {X : Type 0} (n : ℕ) (xs : List X) (x : X) → enumerate_from n (xs ++ x ∷ []) ≡ enumerate_from n xs ++ (n + length xs, x) ∷ []
-enumerate_push n [] x = ap (λ k. (k, x) ∷ []) (omega arith)
-enumerate_push n (y ∷ xs) x =
-    ap (λ ys. (n, y) ∷ ys) (enumerate_push (n + 1) xs x ∙ ap (λ k. enumerate_from (n + 1) xs ++ (k, x) ∷ []) (omega arith))
+use Rattle.sched_record.proofs.Lines.{enumerate_push}
 
 map_first : {X : Type 0} (b : Bool) (n : ℕ) (x : X) → map (λ (at : ℕ × X). at.0) (cond b ((n, x) ∷ []) []) ≡ cond b (n ∷ []) []
 map_first true n x = refl

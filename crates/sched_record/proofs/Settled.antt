@@ -14,6 +14,7 @@ use Rattle.sched_record.specs.Said.{LineSays}
 use Rattle.sched_record.specs.ReadLines.{AreRead}
 use Rattle.sched_record.specs.Reader.{HasRead}
 use Rattle.sched_record.specs.Trace.{IsBadAfter, IsFirstBadTraceLine}
+use Rattle.sched_record.proofs.Following.{Says}
 
 -- what the one line says, the other says too
 abbrev SaysToo : List ℕ → List ℕ → Type 0
@@ -54,9 +55,6 @@ settled_too front more settled number (Err (Event fault)) says = (
   },
 )
 settled_too front more settled number (Err TimeBack) says = absurd says
-
-abbrev Says : ℕ × List ℕ → Option Entry → Type 0
-Says line say = LineSays line.0 line.1 (Ok say)
 
 each_too : (n : ℕ) (lines : List (List ℕ)) (front line : List ℕ) (said : List (Option Entry)) → SaysToo front line
     → AllZip Says (enumerate_from n (lines ++ front ∷ [])) said → AllZip Says (enumerate_from n (lines ++ line ∷ [])) said

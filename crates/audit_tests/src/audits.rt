@@ -1,5 +1,6 @@
-//! What no clause says: the words of faults, reports as they are printed, and ends that fail.
+//! What no clause says: the words of refusals, reports as they are printed, and ends that fail.
 
+use crate::answers::wants;
 use crate::ends::{Failing, Pieces, Room, ample, in_pieces, room_by, whole};
 use crate::runs::wants_run;
 use cfs_model::{Kind, Knobs};
@@ -41,31 +42,13 @@ const COMMENTED: &[u8] =
 const HELLO: &[u8] =
     b"hello\n          <idle>-0       [000] d..2.   100.000100: sched_switch: prev_comm=swapper/0 prev_pid=0 prev_prio=120 prev_state=R ==> next_comm=t102 next_pid=102 next_prio=120\n";
 
-#[test]
-fn exit_statuses_are_0_to_4(rt: HostRuntime) {
-    for (status, code) in [(Status::Yes, 0), (Status::No, 1), (Status::Refused, 2)] {
-        assert_eq!(rt; status.code(), code, "{status:?}");
-    }
-    for (fault, code) in [
-        (Fault::ReadTrace, 3),
-        (Fault::ReadCompanion, 3),
-        (Fault::Write, 3),
-        (Fault::Memory, 4),
-    ] {
-        assert_eq!(rt; fault.code(), code, "{fault:?}");
-    }
+/// The words of a refusal.
+fn words_of(alloc: Global, refused: Refused) -> Result<String, Fail> {
+    Ok(refused.to_string(alloc)?)
 }
 
 #[test]
-fn faults_are_told_in_words(rt: HostRuntime) -> Result<(), Fail> {
-    for (fault, words) in [
-        (Fault::ReadTrace, "cannot read the trace"),
-        (Fault::ReadCompanion, "cannot read the companion"),
-        (Fault::Write, "cannot write the report"),
-        (Fault::Memory, "out of memory"),
-    ] {
-        assert_eq!(rt; fault.to_string(rt.alloc())?.as_str(), words);
-    }
+fn refusals_are_told_in_words(rt: HostRuntime) -> Result<(), Fail> {
     let refused = Refused::Text {
         source: Source::Trace,
         line: 1,
@@ -75,7 +58,7 @@ fn faults_are_told_in_words(rt: HostRuntime) -> Result<(), Fail> {
         (refused, "trace line 1: BadHead"),
         (Refused::Memory, "out of memory"),
     ] {
-        assert_eq!(rt; refused.to_string(rt.alloc())?.as_str(), words);
+        wants(&rt, "", &words_of(rt.alloc(), refused)?.as_str(), &words);
     }
     Ok(())
 }
@@ -105,52 +88,81 @@ fn busy(alloc: Global) -> Result<Summary, AllocError> {
     })
 }
 
-#[test]
-fn reports_are_lines(rt: HostRuntime) -> Result<(), Fail> {
-    let fault = |line: u32| {
-        Outcome::Judged(Verdict::Fault {
-            line,
-            cpu: 63,
-            pid: 201,
-            kind: Kind::PrevNotRunning,
-        })
+/// The report of a run with that summary.
+fn report_of_run(alloc: Global) -> Result<Vec<u8>, Fail> {
+    let verdict = Verdict::Run(busy(alloc)?);
+    Ok(report(alloc, &Outcome::Judged(verdict))?)
+}
+
+/// The report of a fault at a line.
+fn report_of_fault(alloc: Global, line: u32) -> Result<Vec<u8>, Fail> {
+    let verdict = Verdict::Fault {
+        line,
+        cpu: 63,
+        pid: 201,
+        kind: Kind::PrevNotRunning,
     };
-    let refused = |source: Source, line: u64, cause: Cause| Outcome::Text {
+    Ok(report(alloc, &Outcome::Judged(verdict))?)
+}
+
+/// The report of a refusal.
+fn report_of_refusal(
+    alloc: Global,
+    source: Source,
+    line: u64,
+    cause: Cause,
+) -> Result<Vec<u8>, Fail> {
+    let outcome = Outcome::Text {
         source,
         line,
         cause,
     };
-    for (outcome, text) in [
+    Ok(report(alloc, &outcome)?)
+}
+
+#[test]
+fn reports_are_lines(rt: HostRuntime) -> Result<(), Fail> {
+    wants(
+        &rt,
+        "a run",
+        &report_of_run(rt.alloc())?.as_slice(),
+        &b"run\nevents 18446744073709551615\nswitches 1\nmigrations 2\nbirths 3\ndeaths 4\ntask 4194304 ran 340282366920938463463374607431768211455 charged 5 picks 18446744073709551615\ntask 1 ran 0 charged 0 picks 6\n".as_slice(),
+    );
+    for (line, text) in [
         (
-            Outcome::Judged(Verdict::Run(busy(rt.alloc())?)),
-            "run\nevents 18446744073709551615\nswitches 1\nmigrations 2\nbirths 3\ndeaths 4\ntask 4194304 ran 340282366920938463463374607431768211455 charged 5 picks 18446744073709551615\ntask 1 ran 0 charged 0 picks 6\n",
-        ),
-        (
-            fault(4),
+            4,
             "fault line 4 cpu 63 pid 201 PrevNotRunning: previous task is not the running one\n",
         ),
         (
-            fault(4294967295),
+            4294967295,
             "fault line 4294967295 cpu 63 pid 201 PrevNotRunning: previous task is not the running one\n",
         ),
+    ] {
+        let report = report_of_fault(rt.alloc(), line)?;
+        wants(&rt, text, &report.as_slice(), &text.as_bytes());
+    }
+    for (source, line, cause, text) in [
         (
-            refused(Source::Trace, 1, Cause::BadHead),
+            Source::Trace,
+            1,
+            Cause::BadHead,
             "refused trace line 1 BadHead\n",
         ),
         (
-            refused(Source::Companion, 10, Cause::TwiceRunning),
+            Source::Companion,
+            10,
+            Cause::TwiceRunning,
             "refused companion line 10 TwiceRunning\n",
         ),
         (
-            refused(Source::Join, 18446744073709551615, Cause::ClaimNoEvent),
+            Source::Join,
+            18446744073709551615,
+            Cause::ClaimNoEvent,
             "refused join line 18446744073709551615 ClaimNoEvent\n",
         ),
     ] {
-        assert_eq!(rt;
-            report(rt.alloc(), &outcome)?.as_slice(),
-            text.as_bytes(),
-            "{text}"
-        );
+        let report = report_of_refusal(rt.alloc(), source, line, cause)?;
+        wants(&rt, text, &report.as_slice(), &text.as_bytes());
     }
     Ok(())
 }

@@ -66,22 +66,45 @@ fn settings_have_defaults(rt: HostRuntime) {
     }
 }
 
+/// Command lines that ask for the least settings and name a setting.
+static LEAST_BESIDE_A_SETTING: [&[&str]; 12] = [
+    &[
+        "sched_audit",
+        "a",
+        "b",
+        "--least",
+        "--granularity-ns=1000000",
+    ],
+    &[
+        "sched_audit",
+        "a",
+        "b",
+        "--granularity-ns=1000000",
+        "--least",
+    ],
+    &[
+        "sched_audit",
+        "--granularity-ns=1000000",
+        "a",
+        "--least",
+        "b",
+    ],
+    &["sched_audit", "a", "b", "--least", "--credit-ns=0"],
+    &["sched_audit", "a", "b", "--credit-ns=0", "--least"],
+    &["sched_audit", "--credit-ns=0", "a", "--least", "b"],
+    &["sched_audit", "a", "b", "--least", "--debit-ns=3000000"],
+    &["sched_audit", "a", "b", "--debit-ns=3000000", "--least"],
+    &["sched_audit", "--debit-ns=3000000", "a", "--least", "b"],
+    &["sched_audit", "a", "b", "--least", "--slack-ns=1"],
+    &["sched_audit", "a", "b", "--slack-ns=1", "--least"],
+    &["sched_audit", "--slack-ns=1", "a", "--least", "b"],
+];
+
 #[test]
 fn least_settings_go_with_no_setting(rt: HostRuntime) {
-    for option in [
-        "--granularity-ns=1000000",
-        "--credit-ns=0",
-        "--debit-ns=3000000",
-        "--slack-ns=1",
-    ] {
-        for words in [
-            ["sched_audit", "a", "b", "--least", option],
-            ["sched_audit", "a", "b", option, "--least"],
-            ["sched_audit", option, "a", "--least", "b"],
-        ] {
-            let wanted = Err(ErrorKind::ArgumentConflict);
-            wants(&rt, option, &asked(rt.alloc(), &words), &wanted);
-        }
+    for words in &LEAST_BESIDE_A_SETTING {
+        let wanted = Err(ErrorKind::ArgumentConflict);
+        wants(&rt, "", &asked(rt.alloc(), words), &wanted);
     }
 }
 

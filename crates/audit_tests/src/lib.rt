@@ -1,4 +1,4 @@
-//! Tests of what no clause says of a whole audit: the words of faults, reports as they are printed, ends that fail,
+//! Tests of what no clause says of a whole audit: the words of refusals, reports as they are printed, ends that fail,
 //! refused traces by both calls, and command lines.
 #![tactic(auto)]
 

@@ -104,9 +104,13 @@ order_judged_at : (version : Option ℕ) (said : Said) (line : List ℕ) (y : Sh
 order_judged_at (Some version) said line y order judged = order_later version said line y order judged
 order_judged_at None said line y order judged = order_first said line y order judged
 
+-- a good line keeps the order of what was said before it
+pub order_judged_on : (said : Said) (line : List ℕ) (y : Shape) → KeepsOrder said → IsJudged said line (Ok y) → KeepsOrder (with_line said y)
+order_judged_on said line y order judged = order_judged_at said.version said line y order judged
+
 -- a good line keeps the order of the lines before it
 pub order_judged : (earlier : List Shape) (line : List ℕ) (y : Shape) → KeepsOrder (summed earlier) → IsJudged (summed earlier) line (Ok y) → KeepsOrder (summed (earlier ++ y ∷ []))
-order_judged earlier line y order judged = rw (summed-push earlier y) (order_judged_at (summed earlier).version (summed earlier) line y order judged)
+order_judged earlier line y order judged = rw (summed-push earlier y) (order_judged_on (summed earlier) line y order judged)
 
 pub order_good : (earlier : List Shape) (lines : List (List ℕ)) (said : List Shape) → KeepsOrder (summed earlier) → AreGood earlier lines said → KeepsOrder (summed said)
 order_good earlier [] said order good = rw good order

@@ -10,6 +10,7 @@ pub mod KnownMarks
 pub mod Lasts
 pub mod OneAnswer
 pub mod OneMeaning
+pub mod Piecewise
 pub mod Places
 pub mod Policies
 pub mod Reaching

@@ -2,6 +2,7 @@ pub mod Companion
 pub mod Draft
 pub mod Earlier
 pub mod ShapeReading
+pub mod Piecewise
 pub mod Reading
 pub mod Shape
 pub mod Spans

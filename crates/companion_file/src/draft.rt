@@ -9,6 +9,7 @@ ghost use Rattle.companion_file.specs.Spans.{AreSpansOf};
 ghost use Rattle.companion_file.specs.Draft.{Adds, KeepsOrder, IsCompleted};
 ghost use Rattle.companion_file.specs.Companion.{companion_view};
 
+mod piecewise;
 mod policies;
 mod rising;
 mod saying;

@@ -1,8 +1,7 @@
-use companion_file::read_companion;
+use companion_file::{Companion, CompanionFault, read_companion, read_companion_wide};
 use ftrace_line::{Line, read_line};
 use sched_event::{Event, read_event};
 use sched_record::{Trace, TraceFault, read_trace, read_trace_wide};
-use std::alloc::Global;
 use std::thread::Threads;
 use text_parts::lines::next_line;
 
@@ -22,8 +21,9 @@ pub fn found_by<R: AllocGlobal + Threads + Sync>(rt: &R, what: &str, text: &[u8]
     match what {
         "events" => Some(events_of(text)),
         "trace" => Some(kept(read_trace(rt.alloc(), text))),
-        "wide" => Some(kept(read_trace_wide(rt, rt.alloc(), text))),
-        "companion" => Some(companion_of(rt.alloc(), text)),
+        "trace_wide" => Some(kept(read_trace_wide(rt, rt.alloc(), text))),
+        "companion" => Some(claims_kept(read_companion(rt.alloc(), text))),
+        "companion_wide" => Some(claims_kept(read_companion_wide(rt, rt.alloc(), text))),
         _ => None,
     }
 }
@@ -67,9 +67,9 @@ fn kept(read: Result<Trace, TraceFault>) -> Found {
     }
 }
 
-/// Reads a companion into what a record keeps.
-fn companion_of(alloc: Global, text: &[u8]) -> Found {
-    match read_companion(alloc, text) {
+/// How much a companion that was read keeps.
+fn claims_kept(read: Result<Companion, CompanionFault>) -> Found {
+    match read {
         Ok(companion) => Found::Kept {
             count: companion.claims().len(),
         },

@@ -9,6 +9,7 @@ ghost use Rattle.sched_audit.specs.Run.{WritesReport, WritesFront};
 use crate::audit::audit;
 use crate::lines::read_lines;
 use crate::reading::read_all;
+use crate::texts::record_of;
 use crate::writing::write_all;
 use crate::{Fault, Feed, Gate, Outcome, Refused, Sink, Status, Verdict, report};
 use cfs_model::Knobs;
@@ -17,7 +18,7 @@ use std::alloc::Global;
 use std::sync::Wait;
 use std::thread::Threads;
 
-/// Judges a trace by its companion: the trace is read first, by several threads, then the companion, then both are
+/// Judges a trace by its companion: the trace is read first, then the companion, each by several threads, then both are
 /// joined, and the events are audited, those of each processor by a thread of its own that passes this gate.
 pub fn audit_texts<R: Threads + Wait + Sync, G: Gate>(
     rt: &R,
@@ -31,7 +32,8 @@ pub fn audit_texts<R: Threads + Wait + Sync, G: Gate>(
     ensures answer { IsAnswer trace.now companion.now knobs result }
 {
     let trace = read_trace_wide(rt, alloc, trace);
-    audit(rt, alloc, trace, companion, knobs, gate)
+    let record = record_of(rt, alloc, trace, companion);
+    audit(rt, alloc, record, knobs, gate)
 }
 
 /// Reads the trace to its end, then the companion, judges them, and writes the report.
@@ -89,7 +91,9 @@ pub fn run<R: Threads + Wait + Sync, T: Feed, C: Feed, G: Gate, S: Sink>(
 {
     let trace = read_lines(alloc, trace)?;
     let companion = read_all(alloc, companion, Fault::ReadCompanion)?;
-    let outcome = Outcome::of(audit(rt, alloc, trace.finish(), &companion, knobs, gate))?;
+    let record = record_of(rt, alloc, trace.finish(), &companion);
+    drop(companion);
+    let outcome = Outcome::of(audit(rt, alloc, record, knobs, gate))?;
     let report = report(alloc, &outcome)?;
     write_all(out, &report)?;
     Ok(outcome.status())

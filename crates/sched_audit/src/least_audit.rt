@@ -1,26 +1,24 @@
 ghost use Rattle.std.specs.Prelude.{ℕ, List};
-ghost use Rattle.sched_record.specs.Trace.{TraceAnswer, Tells};
 ghost use Rattle.sched_audit.specs.LeastAnswer.{IsLeastTold, LeastOutcomeAnswer};
+ghost use Rattle.sched_audit.specs.Texts.{IsTexts};
 
-use crate::texts::record_of;
 use crate::{Gate, LeastSettings, Refused};
-use sched_record::{Trace, TraceFault};
+use sched_record::Record;
 use std::alloc::Global;
 use std::sync::Wait;
 use std::thread::Threads;
 
-/// The least settings of a trace, as far as it could be read, by the text of its companion: by a thread for each processor.
+/// The least settings of what reading and joining two texts gave: by a thread for each processor.
 #[tactic(auto, unfolding(crate::specs::LeastAnswer::LeastOutcomeAnswer))]
 pub(crate) fn audit_least<R: Threads + Wait + Sync, G: Gate>(
     rt: &R,
     alloc: Global,
-    trace: Result<Trace, TraceFault>,
-    companion: &[u8],
+    joined: Result<Record, Refused>,
     gate: &G,
 ) -> Result<LeastSettings, Refused>
-    ensures { (text : List ℕ) → Tells trace (TraceAnswer text) → IsLeastTold text companion.now result }
+    ensures { (trace companion : List ℕ) → IsTexts trace companion joined → IsLeastTold trace companion result }
 {
-    let record = record_of(alloc, trace, companion)?;
+    let record = joined?;
     let closed = audit_crew::audit_least(rt, alloc, &record, gate)?;
     Ok(closed.least)
 }

@@ -9,6 +9,7 @@ ghost use Rattle.sched_audit.specs.LeastRun.{WritesLeastReport, WritesLeastFront
 use crate::least_audit::audit_least;
 use crate::lines::read_lines;
 use crate::reading::read_all;
+use crate::texts::record_of;
 use crate::writing::write_all;
 use crate::{Fault, Feed, Gate, LeastOutcome, LeastSettings, Refused, Sink, Status, least_report};
 use sched_record::read_trace_wide;
@@ -29,7 +30,8 @@ pub fn least_texts<R: Threads + Wait + Sync, G: Gate>(
     ensures answer { IsLeastTold trace.now companion.now result }
 {
     let trace = read_trace_wide(rt, alloc, trace);
-    audit_least(rt, alloc, trace, companion, gate)
+    let record = record_of(rt, alloc, trace, companion);
+    audit_least(rt, alloc, record, gate)
 }
 
 /// Reads the trace to its end, then the companion, and writes the least settings at which they are a run.
@@ -86,7 +88,9 @@ pub fn run_least<R: Threads + Wait + Sync, T: Feed, C: Feed, G: Gate, S: Sink>(
 {
     let trace = read_lines(alloc, trace)?;
     let companion = read_all(alloc, companion, Fault::ReadCompanion)?;
-    let outcome = LeastOutcome::of(audit_least(rt, alloc, trace.finish(), &companion, gate))?;
+    let record = record_of(rt, alloc, trace.finish(), &companion);
+    drop(companion);
+    let outcome = LeastOutcome::of(audit_least(rt, alloc, record, gate))?;
     let report = least_report(alloc, &outcome)?;
     write_all(out, &report)?;
     Ok(outcome.status())

@@ -1,4 +1,4 @@
-ghost use Rattle.std.specs.Prelude.{◌≡◌, ◌++◌, [], ℕ, IfOk, IsErrOf, List, Result};
+ghost use Rattle.std.specs.Prelude.{◌≡◌, ℕ, IfOk, IsErrOf, List, Result};
 ghost use Rattle.std.specs.List.{AllZip, flat_map};
 ghost use Rattle.cfs_model.specs.declared.act.Entry.{Entry};
 ghost use Rattle.text_parts.specs.Lines.{lines_of};
@@ -14,13 +14,7 @@ use cfs_model::Memory;
 use rayon::prelude::*;
 use std::alloc::Global;
 use std::thread::Threads;
-use text_parts::lines::{lines_after_whole, whole_lines};
-
-/// About how many pieces a text is cut into: more than threads, since some run slower, and few to put together.
-const PIECES: usize = 8;
-
-/// The fewest bytes of a piece. A shorter one is read in less time than a thread takes to start.
-const LEAST_PIECE: usize = 1 << 16;
+use text_parts::cutting::cut_at_lines;
 
 /// Reads the text of a trace by several threads: its events, or its first bad line.
 pub fn read_trace_wide(
@@ -43,30 +37,20 @@ pub fn read_trace_wide(
 fn trace_of(rt: &(impl Threads + Sync), alloc: Global, text: &[u8]) -> Result<Trace, TraceFault>
     ensures { Tells result (TraceAnswer text.now) }
 {
-    let pieces = pieces_of(alloc, text)?;
-    let readers = readers_of(rt, alloc, &pieces)?;
-    joined(alloc, &pieces, readers)?.finish()
+    reader_of_pieces(rt, alloc, text)?.finish()
 }
 
-/// A text cut at line ends.
-fn pieces_of(alloc: Global, text: &[u8]) -> Result<Vec<&[u8]>, Memory>
-    ensures { IfOk result (λ pieces. lines_of text.now ≡ flat_map (λ piece. lines_of piece.now) pieces.items) }
+/// A reader of all lines of a text, which several threads have read by pieces.
+fn reader_of_pieces(
+    rt: &(impl Threads + Sync),
+    alloc: Global,
+    text: &[u8],
+) -> Result<TraceReader, Memory>
+    ensures { IfOk result (λ reader. HasRead reader (lines_of text.now)) }
 {
-    lines_after_whole();
-    let size = (text.len() / PIECES).max(LEAST_PIECE);
-    let mut pieces = Vec::new(alloc);
-    let mut rest = text;
-    while rest.len() > size {
-        let whole = whole_lines(&rest[..size]);
-        if whole == 0 {
-            break;
-        }
-        let (piece, after) = rest.split_at(whole);
-        pieces.push(piece)?;
-        rest = after;
-    }
-    pieces.push(rest)?;
-    Ok(pieces)
+    let pieces = cut_at_lines(alloc, text)?;
+    let readers = readers_of(rt, alloc, &pieces)?;
+    joined(alloc, &pieces, readers)
 }
 
 /// Reads each piece by itself.

@@ -1,5 +1,6 @@
 pub mod TextLines
 pub mod WholeLines
+pub mod Collected
 pub mod Digits
 pub mod Runs
 pub mod Fronts

@@ -1,6 +1,7 @@
 //! What the readers of both texts share: lines, fixed beginnings, numbers in decimal digits, and times.
 #![tactic(auto)]
 
+pub mod cutting;
 pub mod lines;
 pub mod numerals;
 pub mod pieces;

@@ -1,7 +1,7 @@
 use Rattle.std.proofs.Common.{◌≡◌, ℕ, ◌≤◌, List, [], ◌∷◌, ◌++◌, length, take, drop, sym, ap, ◌∙◌, subst, arith, append_assoc, length-take, take-append-drop, flat_map}
 use Rattle.std.proofs.lemmas.List.{flat_map_more, take-take}
 use Rattle.text_parts.specs.Lines.{IsWhole, lines_of}
-use Rattle.sched_record.proofs.reading_wide.pieces_of.Goals as goal
+use Rattle.text_parts.proofs.cutting.cut_at_lines.Goals as goal
 
 -- a text cut behind whole lines
 lines_cut : ((text more : List ℕ) → IsWhole text → lines_of (text ++ more) ≡ lines_of text ++ lines_of more) → (rest : List ℕ) (size whole : ℕ)

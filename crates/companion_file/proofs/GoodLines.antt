@@ -128,9 +128,9 @@ comment_after earlier [] said line good comment = inl (comment, good)
 comment_after earlier (first ∷ lines) said line (inl p) comment = inl (p.0, comment_after earlier lines said line p.1 comment)
 comment_after earlier (first ∷ lines) said line (inr p) comment = inr (p.0, (p.1.0, p.1.1, comment_after (earlier ++ p.1.0 ∷ []) lines said line p.1.2 comment))
 
-pub line_after : (earlier : List Shape) (lines : List (List ℕ)) (said : List Shape) (line : List ℕ) (x : Shape) → AreGood earlier lines said → ¬ IsComment line → IsJudged (summed said) line (Ok x) → AreGood earlier (lines ++ line ∷ []) (said ++ x ∷ [])
-line_after earlier [] said line x good content judged =
+pub good_line_after : (earlier : List Shape) (lines : List (List ℕ)) (said : List Shape) (line : List ℕ) (x : Shape) → AreGood earlier lines said → ¬ IsComment line → IsJudged (summed said) line (Ok x) → AreGood earlier (lines ++ line ∷ []) (said ++ x ∷ [])
+good_line_after earlier [] said line x good content judged =
     let moved : IsJudged (summed earlier) line (Ok x) = subst (λ (s : List Shape). IsJudged (summed s) line (Ok x)) good judged in
     inr (content, (x, moved, ap (λ (s : List Shape). s ++ x ∷ []) good))
-line_after earlier (first ∷ lines) said line x (inl p) content judged = inl (p.0, line_after earlier lines said line x p.1 content judged)
-line_after earlier (first ∷ lines) said line x (inr p) content judged = inr (p.0, (p.1.0, p.1.1, line_after (earlier ++ p.1.0 ∷ []) lines said line x p.1.2 content judged))
+good_line_after earlier (first ∷ lines) said line x (inl p) content judged = inl (p.0, good_line_after earlier lines said line x p.1 content judged)
+good_line_after earlier (first ∷ lines) said line x (inr p) content judged = inr (p.0, (p.1.0, p.1.1, good_line_after (earlier ++ p.1.0 ∷ []) lines said line x p.1.2 content judged))

@@ -16,7 +16,7 @@ use Rattle.cfs_model.specs.declared.idle_line.IdleLine.{IdleLine}
 use Rattle.cfs_model.specs.Charge.{IsInRange}
 use Rattle.cfs_model.specs.Limits.{greatest_line, no_line, greatest_seconds, most_processors, nanoseconds_per_second}
 use Rattle.companion_file.specs.Shape.{Shape, version_line, cpus_line, start_line, floor_line, task_line, claim_line, nice_line, idle_line}
-use Rattle.companion_file.specs.Earlier.{Said, last_nice, has_all_floors, is_run, is_taken, is_task, with_policy}
+use Rattle.companion_file.specs.Earlier.{Said, last_nice, has_all_floors, is_run, is_taken, is_task, with_policy_told}
 use Rattle.companion_file.specs.Tests.{is_pid, is_value, is_nice, is_above_claims}
 use Rattle.companion_file.specs.Reading.{IsTaskInLimits, IsClaimInLimits, IsNiceLineInLimits, IsIdleLineInLimits, IdleRises}
 use Rattle.cfs_model.specs.Order.{RunApart}
@@ -116,8 +116,8 @@ second_fails true false e f = refl
 second_fails false b e f = absurd cc
 
 -- what one of them passed, one of them and one more passes
-one_more : (p : Task → Bool) (tasks : List Task) (t : Task) → list_any p tasks ≡ true → list_any p (tasks ++ t ∷ []) ≡ true
-one_more p tasks t some = list_any-append p tasks (t ∷ []) ∙ rw some refl
+any_with_more : (p : Task → Bool) (tasks : List Task) (t : Task) → list_any p tasks ≡ true → list_any p (tasks ++ t ∷ []) ≡ true
+any_with_more p tasks t some = list_any-append p tasks (t ∷ []) ∙ rw some refl
 
 order_task : (said : Said) (t : Task) → KeepsOrder said → Passes said (task_line t) → KeepsOrder (with_line said (task_line t))
 order_task said t order passes =
@@ -130,18 +130,18 @@ order_task said t order passes =
       start_kept = order.start_kept;
       floors_after_start = order.floors_after_start;
       floors_kept = order.floors_kept;
-      tasks_kept = All-push (IsTaskInLimits (unwrap_or said.cpus 0)) said.tasks (with_policy said.idles t) order.tasks_kept
+      tasks_kept = All-push (IsTaskInLimits (unwrap_or said.cpus 0)) said.tasks (with_policy_told said.idles t) order.tasks_kept
           (record { pid = pid_fact t.pid first.0; nice = nice_fact t.nice first.1; cpu = inside; v = value_fact t.v third.1 });
-      pids_rise = rises_push (λ (u : Task). u.pid) said.tasks (with_policy said.idles t) order.pids_rise
+      pids_rise = rises_push (λ (u : Task). u.pid) said.tasks (with_policy_told said.idles t) order.pids_rise
           (λ l e.
           let next : leb l.pid t.pid ≡ true = rw e at passes.next in
           let new : not (eqb l.pid t.pid) ≡ true = rw e at passes.new in
           grind (arith, nat_tests));
-      one_runs_a_cpu = all_pairs_push RunApart said.tasks (with_policy said.idles t) order.one_runs_a_cpu
+      one_runs_a_cpu = all_pairs_push RunApart said.tasks (with_policy_told said.idles t) order.one_runs_a_cpu
           (λ k d within runs this_runs same.
           let free = second_fails (is_run t.place) (is_taken said.tasks t.cpu) passes.alone (ap is_run this_runs) in
           let apart = none_passes (λ (u : Task). is_run u.place && eqb u.cpu t.cpu) said.tasks free k d within in
-          let both = and_from (is_run (get_or said.tasks k d).place) (eqb (get_or said.tasks k d).cpu t.cpu) (ap is_run runs) (eq-eqb (get_or said.tasks k d).cpu t.cpu same) in
+          let both_true = and_from (is_run (get_or said.tasks k d).place) (eqb (get_or said.tasks k d).cpu t.cpu) (ap is_run runs) (eq-eqb (get_or said.tasks k d).cpu t.cpu same) in
           absurd cc);
       claims_kept = order.claims_kept;
       lines_rise = order.lines_rise;
@@ -149,11 +149,11 @@ order_task said t order passes =
       nice_lines_rise = order.nice_lines_rise;
       idles_kept = order.idles_kept;
       idles_rise = order.idles_rise;
-      policies_kept = map-append (with_policy said.idles) said.tasks (with_policy said.idles t ∷ [])
-          ∙ ap (λ (ts : List Task). ts ++ with_policy said.idles t ∷ []) order.policies_kept;
+      policies_kept = map-append (with_policy_told said.idles) said.tasks (with_policy_told said.idles t ∷ [])
+          ∙ ap (λ (ts : List Task). ts ++ with_policy_told said.idles t ∷ []) order.policies_kept;
       named_kept = All-weaker (λ (idle : IdleLine). idle.line ≡ no_line → is_task said.tasks idle.pid ≡ true)
-          (λ (idle : IdleLine). idle.line ≡ no_line → is_task (said.tasks ++ with_policy said.idles t ∷ []) idle.pid ≡ true)
-          (λ idle named start. one_more (λ (u : Task). eqb u.pid idle.pid) said.tasks (with_policy said.idles t) (named start)) said.idles order.named_kept;
+          (λ (idle : IdleLine). idle.line ≡ no_line → is_task (said.tasks ++ with_policy_told said.idles t ∷ []) idle.pid ≡ true)
+          (λ idle named start. any_with_more (λ (u : Task). eqb u.pid idle.pid) said.tasks (with_policy_told said.idles t) (named start)) said.idles order.named_kept;
     }
 
 order_claim : (said : Said) (claim : Claim) → KeepsOrder said → Passes said (claim_line claim) → KeepsOrder (with_line said (claim_line claim))
@@ -251,7 +251,7 @@ order_idle said idle order passes =
           (λ l e. idle_follows l idle (rw e at passes.above));
       policies_kept = policies_again idles idles said.tasks;
       named_kept = All-weaker (λ (k : IdleLine). k.line ≡ no_line → is_task said.tasks k.pid ≡ true)
-          (λ (k : IdleLine). k.line ≡ no_line → is_task (map (with_policy idles) said.tasks) k.pid ≡ true)
+          (λ (k : IdleLine). k.line ≡ no_line → is_task (map (with_policy_told idles) said.tasks) k.pid ≡ true)
           (λ k named start. task_kept idles said.tasks k.pid ∙ named start) idles
           (All-push (λ (k : IdleLine). k.line ≡ no_line → is_task said.tasks k.pid ≡ true) said.idles idle order.named_kept (idle_known said.tasks idle passes.known));
     }

@@ -8,14 +8,14 @@ use Rattle.companion_file.specs.declared.fault.Refusal.TheVariants as refusals
 use Rattle.companion_file.specs.Shape.{Shape}
 use Rattle.companion_file.specs.Earlier.{Said, is_task}
 use Rattle.companion_file.specs.Tests.{fault_of}
-use Rattle.companion_file.specs.Draft.{Adds, AddsTested, IsTaskAt}
+use Rattle.companion_file.specs.Draft.{Adds, AddsTested, IsTaskPlace}
 
 pub adds_tested : (old : Said) (x : Shape) (r : Result Unit Refusal) (new : Said) → fault_of old x ≡ None → Adds old x r new → AddsTested old x r new
 adds_tested old x (Ok u) new none adds = (none, adds)
 adds_tested old x (Err (refusals.Bad cause)) new none adds = absurd adds
 adds_tested old x (Err refusals.Memory) new none adds = tt
 
-pub is_there : (tasks : List Task) (pid place : ℕ) → IsTaskAt tasks pid place → is_task tasks pid ≡ true
+pub is_there : (tasks : List Task) (pid place : ℕ) → IsTaskPlace tasks pid place → is_task tasks pid ≡ true
 is_there [] pid place at = let within = at.within in absurd (omega (arith, within))
 is_there (t ∷ tasks) pid place at =
     list_any_at (λ (u : Task). eqb u.pid pid) (t ∷ tasks) place t at.within (eq-eqb (get_or (t ∷ tasks) place t).pid pid (at.pid_is t))

@@ -13,8 +13,8 @@ behind_group : (line : List ℕ) → IsControlGroup line → (after_text (codes 
 behind_group line (inl p) = inl (ap (after_text (codes "cgroup")) p ∙ text_again (codes "cgroup") [])
 behind_group line (inr p) = inr (p.0, ap (after_text (codes "cgroup")) p.1 ∙ text_again (codes "cgroup") (32 ∷ p.0))
 
-pub no_group : (line : List ℕ) → after_text (codes "cgroup") line ≡ None → ¬ IsControlGroup line
-no_group line e group = elim (behind_group line group) [ inl p ↦ absurd cc | inr p ↦ let f = p.1 in absurd cc ]
+pub no_group_word : (line : List ℕ) → after_text (codes "cgroup") line ≡ None → ¬ IsControlGroup line
+no_group_word line e group = elim (behind_group line group) [ inl p ↦ absurd cc | inr p ↦ let f = p.1 in absurd cc ]
 
 pub group_alone : (line rest : List ℕ) → after_text (codes "cgroup") line ≡ Some rest → length rest < 1 → IsControlGroup line
 group_alone line rest e empty = inl (text_taken (codes "cgroup") line rest e ∙ ap (λ (s : List ℕ). codes "cgroup" ++ s) (nil_from_length rest (omega arith)))

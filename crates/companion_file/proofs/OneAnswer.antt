@@ -81,8 +81,8 @@ judged_once said line r s order p q = judged_once_at said.version said line r s 
 same_shape : (said : Said) (line : List ℕ) (x y : Shape) → KeepsOrder said → IsJudged said line (Ok x) → IsJudged said line (Ok y) → x ≡ y
 same_shape said line x y order p q = let e = judged_once said line (Ok x) (Ok y) order p q in cc
 
-same_cause : (said : Said) (line : List ℕ) (c d : CompanionCause) → KeepsOrder said → IsJudged said line (Err c) → IsJudged said line (Err d) → c ≡ d
-same_cause said line c d order p q = let e = judged_once said line (Err c) (Err d) order p q in cc
+same_companion_cause : (said : Said) (line : List ℕ) (c d : CompanionCause) → KeepsOrder said → IsJudged said line (Err c) → IsJudged said line (Err d) → c ≡ d
+same_companion_cause said line c d order p q = let e = judged_once said line (Err c) (Err d) order p q in cc
 
 never_both : (said : Said) (line : List ℕ) (x : Shape) (c : CompanionCause) → KeepsOrder said → IsJudged said line (Ok x) → IsJudged said line (Err c) → ⊥
 never_both said line x c order p q = let e = judged_once said line (Ok x) (Err c) order p q in cc
@@ -144,7 +144,7 @@ pub bad_once : (earlier : List Shape) (before others : List (List ℕ)) (line ot
     → IsBadBehind earlier before line cause → IsBadBehind earlier others other reason → (length before ≡ length others) × (cause ≡ reason)
 bad_once earlier [] [] line other after rest cause reason order e b c =
     let same : other ≡ line = cc in
-    (refl, same_cause (summed earlier) line cause reason order (bad_here earlier line cause b) (subst (λ (s : List ℕ). IsJudged (summed earlier) s (Err reason)) same (bad_here earlier other reason c)))
+    (refl, same_companion_cause (summed earlier) line cause reason order (bad_here earlier line cause b) (subst (λ (s : List ℕ). IsJudged (summed earlier) s (Err reason)) same (bad_here earlier other reason c)))
 bad_once earlier [] (first ∷ others) line other after rest cause reason order e b c =
     let same : first ≡ line = cc in
     absurd (not_good earlier line others c.said cause order b (subst (λ (s : List ℕ). AreGood earlier (s ∷ others) c.said) same c.good))

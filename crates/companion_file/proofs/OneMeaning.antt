@@ -43,7 +43,7 @@ good_or_bad lines number cause said b good =
 read_or_short : (lines : List (List ℕ)) (number : ℕ) (cause : CompanionCause) (r : CompanionView) → IsShort lines number cause → IsRead lines r → ⊥
 read_or_short lines number cause r p q =
     let same : p.said ≡ q.said = good_once [] lines p.said q.said nothing_order p.good q.good in
-    let both : has_all_floors (summed p.said) ≡ true = rw same q.whole in
+    let both_true : has_all_floors (summed p.said) ≡ true = rw same q.whole in
     let missing = p.missing in
     cc
 

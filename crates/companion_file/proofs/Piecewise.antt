@@ -1,8 +1,8 @@
 -- A piece that was read behind the head alone says the same behind all that was said before it: its lines are claims and
 -- changes of nice values, each may follow what was said since the first one may, and what else a line is tested for
 -- stands in the head.
-use Rattle.std.proofs.Common.{◌≡◌, ℕ, ◌≤◌, ◌<◌, zero, suc, Bool, true, false, not, ◌&&◌, eqb, List, [], ◌∷◌, ◌++◌, length, map, get_or, Option, Some, None, Result, Ok, Err, Vec, IfOk, refl, sym, ap, subst, ◌∙◌, append_assoc, inl, inr, arith}
-use Rattle.std.specs.Prelude.{All, AllPairs, MatchOption, is_some, is_none, unwrap_or, nat_lt, nat_le}
+use Rattle.std.proofs.Common.{◌≡◌, ℕ, ◌<◌, zero, suc, Bool, true, false, not, ◌&&◌, eqb, List, [], ◌∷◌, ◌++◌, length, map, get_or, Option, Some, None, Result, Ok, Err, Vec, IfOk, refl, sym, ap, subst, ◌∙◌, append_assoc, inl, inr, arith}
+use Rattle.std.specs.Prelude.{All, AllPairs, MatchOption, is_some, is_none, nat_lt, nat_le}
 use Rattle.std.specs.Option.{option_map_or}
 use Rattle.std.specs.List.{AllZip, last_or, flat_map}
 use Rattle.std.proofs.lemmas.Bool.{and_parts}
@@ -11,12 +11,10 @@ use Rattle.std.proofs.lemmas.List.{append-nil}
 use Rattle.std.proofs.lemmas.List.Elements.{All-head, All-tail}
 use Rattle.cfs_model.specs.declared.claim.Claim.{Claim}
 use Rattle.cfs_model.specs.declared.nice_line.NiceLine.{NiceLine}
-use Rattle.text_parts.specs.Lines.{IsComment}
-use Rattle.companion_file.specs.declared.fault.CompanionCause.{CompanionCause}
 use Rattle.companion_file.specs.Shape.{Shape, version_line, cpus_line, start_line, floor_line, task_line, claim_line, nice_line, idle_line}
 use Rattle.companion_file.specs.Spelling.{IsControlGroup, IsSpelled}
 use Rattle.companion_file.specs.Earlier.{Said, summed, has_all_floors, last_claim, last_nice}
-use Rattle.companion_file.specs.Tests.{fault_of, tested, is_in_turn, is_in_limits, is_above_claims, may_claim_at, may_change_at, IsJudgedFirst, IsJudgedLater, IsJudged}
+use Rattle.companion_file.specs.Tests.{fault_of, tested, may_claim_at, may_change_at, IsJudgedFirst, IsJudgedLater, IsJudged}
 use Rattle.companion_file.specs.Draft.{KeepsOrder, IsCompleted, Takes, with_line}
 use Rattle.companion_file.specs.Companion.{CompanionView, AreGood, IsRead}
 use Rattle.companion_file.specs.Piecewise.{SaysOn, AreReadApart, head_of, with_piece, ClaimsFollow, ChangesFollow, FollowsOn}
@@ -65,13 +63,13 @@ good_on earlier after (line ∷ lines) (inr p) =
 
 -- ---- what lines add
 
-record Grows (said after : Said) : Type 0 where
+record SaysMore (said after : Said) : Type 0 where
   claims : (more : List Claim) × (after.claims ≡ said.claims ++ more)
   nices : (more : List NiceLine) × (after.nices ≡ said.nices ++ more)
   tasks : after.tasks ≡ [] → said.tasks ≡ []
   idles : after.idles ≡ [] → said.idles ≡ []
 
-grows_nothing : (said : Said) → Grows said said
+grows_nothing : (said : Said) → SaysMore said said
 grows_nothing said = record { claims = ([], sym (append-nil said.claims)); nices = ([], sym (append-nil said.nices)); tasks = λ e. e; idles = λ e. e }
 
 no_push : {A : Type 0} (xs : List A) (x : A) → ¬ (xs ++ x ∷ [] ≡ [])
@@ -82,7 +80,7 @@ map_nil : {A B : Type 0} (f : A → B) (xs : List A) → map f xs ≡ [] → xs 
 map_nil f [] e = refl
 map_nil f (x ∷ xs) e = absurd cc
 
-grows_line : (said : Said) (x : Shape) → Grows said (with_line said x)
+grows_line : (said : Said) (x : Shape) → SaysMore said (with_line said x)
 grows_line said (version_line n) = record { claims = ([], sym (append-nil said.claims)); nices = ([], sym (append-nil said.nices)); tasks = λ e. e; idles = λ e. e }
 grows_line said (cpus_line n) = record { claims = ([], sym (append-nil said.claims)); nices = ([], sym (append-nil said.nices)); tasks = λ e. e; idles = λ e. e }
 grows_line said (start_line seconds nanoseconds) = record { claims = ([], sym (append-nil said.claims)); nices = ([], sym (append-nil said.nices)); tasks = λ e. e; idles = λ e. e }
@@ -92,7 +90,7 @@ grows_line said (claim_line k) = record { claims = (k ∷ [], refl); nices = ([]
 grows_line said (nice_line k) = record { claims = ([], sym (append-nil said.claims)); nices = (k ∷ [], refl); tasks = λ e. e; idles = λ e. e }
 grows_line said (idle_line k) = record { claims = ([], sym (append-nil said.claims)); nices = ([], sym (append-nil said.nices)); tasks = λ e. map_nil _ said.tasks e; idles = λ e. absurd (no_push said.idles k e) }
 
-grows_then : (a b c : Said) → Grows a b → Grows b c → Grows a c
+grows_then : (a b c : Said) → SaysMore a b → SaysMore b c → SaysMore a c
 grows_then a b c g h =
     record {
       claims = (g.claims.0 ++ h.claims.0, h.claims.1 ∙ ap (λ (ks : List Claim). ks ++ h.claims.0) g.claims.1 ∙ append_assoc a.claims g.claims.0 h.claims.0);
@@ -101,8 +99,8 @@ grows_then a b c g h =
       idles = λ e. g.idles (h.idles e);
     }
 
-grows : (said after : Said) (lines : List (List ℕ)) → SaysOn said lines after → Grows said after
-grows said after [] says = subst (Grows said) (sym says) (grows_nothing said)
+grows : (said after : Said) (lines : List (List ℕ)) → SaysOn said lines after → SaysMore said after
+grows said after [] says = subst (SaysMore said) (sym says) (grows_nothing said)
 grows said after (line ∷ lines) (inl p) = grows said after lines p.1
 grows said after (line ∷ lines) (inr p) = grows_then said (with_line said p.1.0) after (grows_line said p.1.0) (grows (with_line said p.1.0) after lines p.1.2)
 
@@ -125,18 +123,18 @@ behind_up : (o : Option NiceLine) (a b : ℕ) → a < b → option_map_or (λ la
 behind_up None a b less ok = refl
 behind_up (Some k) a b less ok = grind (arith, nat_tests)
 
-both : (a b : Bool) → a ≡ true → b ≡ true → (a && b) ≡ true
-both a b e f = rw (e, f) refl
+both_true : (a b : Bool) → a ≡ true → b ≡ true → (a && b) ≡ true
+both_true a b e f = rw (e, f) refl
 
 claim_up : (said : Said) (a b : ℕ) → a < b → may_claim_at said a ≡ true → may_claim_at said b ≡ true
 claim_up said a b less ok =
     let parts = and_parts _ _ ok in
-    both _ _ (above_up (last_claim said) a b less parts.0) (from_up (last_nice said) a b less parts.1)
+    both_true _ _ (above_up (last_claim said) a b less parts.0) (from_up (last_nice said) a b less parts.1)
 
 change_up : (said : Said) (a b : ℕ) → a < b → may_change_at said a ≡ true → may_change_at said b ≡ true
 change_up said a b less ok =
     let parts = and_parts _ _ ok in
-    both _ _ (behind_up (last_nice said) a b less parts.0) (above_up (last_claim said) a b less parts.1)
+    both_true _ _ (behind_up (last_nice said) a b less parts.0) (above_up (last_claim said) a b less parts.1)
 
 all_claims : (said : Said) (claims : List Claim) → AllPairs (λ a b. a.line < b.line) claims → ClaimsFollow said claims → All (λ k. may_claim_at said k.line ≡ true) claims
 all_claims said [] rises first = λ k d h. absurd (omega arith)
@@ -148,26 +146,26 @@ all_changes said (change ∷ changes) rises first = all_from_first (λ k. k.line
 
 -- ---- the last of two lists
 
-last_behind : {A : Type 0} (o : Option A) (xs : List A) (y : A) (ys : List A) → last_or o (xs ++ y ∷ ys) ≡ last_or (Some y) ys
-last_behind o [] y ys = refl
-last_behind o (x ∷ xs) y ys = last_behind (Some x) xs y ys
+last_of_second : {A : Type 0} (o : Option A) (xs : List A) (y : A) (ys : List A) → last_or o (xs ++ y ∷ ys) ≡ last_or (Some y) ys
+last_of_second o [] y ys = refl
+last_of_second o (x ∷ xs) y ys = last_of_second (Some x) xs y ys
 
 -- what is so of the last of each is so of the last of both
 last_of_both : {A : Type 0} (test : A → Bool) (xs ys : List A) → option_map_or test (last_or None xs) true ≡ true → option_map_or test (last_or None ys) true ≡ true → option_map_or test (last_or None (xs ++ ys)) true ≡ true
 last_of_both test xs [] first second = rw (append-nil xs) first
-last_of_both test xs (y ∷ ys) first second = rw (last_behind None xs y ys) second
+last_of_both test xs (y ∷ ys) first second = rw (last_of_second None xs y ys) second
 
 claim_of_both : (said piece : Said) (line : ℕ) → may_claim_at said line ≡ true → may_claim_at piece line ≡ true → may_claim_at (with_piece said piece) line ≡ true
 claim_of_both said piece line first second =
     let a = and_parts _ _ first in
     let b = and_parts _ _ second in
-    both _ _ (last_of_both (λ last. nat_lt last.line line) said.claims piece.claims a.0 b.0) (last_of_both (λ last. nat_le last.line line) said.nices piece.nices a.1 b.1)
+    both_true _ _ (last_of_both (λ last. nat_lt last.line line) said.claims piece.claims a.0 b.0) (last_of_both (λ last. nat_le last.line line) said.nices piece.nices a.1 b.1)
 
 change_of_both : (said piece : Said) (line : ℕ) → may_change_at said line ≡ true → may_change_at piece line ≡ true → may_change_at (with_piece said piece) line ≡ true
 change_of_both said piece line first second =
     let a = and_parts _ _ first in
     let b = and_parts _ _ second in
-    both _ _ (last_of_both (λ last. nat_lt last.line line) said.nices piece.nices a.0 b.0) (last_of_both (λ last. nat_lt last.line line) said.claims piece.claims a.1 b.1)
+    both_true _ _ (last_of_both (λ last. nat_lt last.line line) said.nices piece.nices a.0 b.0) (last_of_both (λ last. nat_lt last.line line) said.claims piece.claims a.1 b.1)
 
 -- ---- one line
 
@@ -218,38 +216,38 @@ no_cpus : (cpus : Option ℕ) (n : ℕ) → option_map_or (λ k. eqb n k) cpus f
 no_cpus None n all none = absurd cc
 no_cpus (Some k) n all none = absurd cc
 
-no_start : {A : Type 0} (o : Option A) → is_some o ≡ true → ¬ (is_none o ≡ true)
-no_start None some none = absurd cc
-no_start (Some k) some none = absurd cc
+some_and_none : {A : Type 0} (o : Option A) → is_some o ≡ true → ¬ (is_none o ≡ true)
+some_and_none None some none = absurd cc
+some_and_none (Some k) some none = absurd cc
 
 not_true : (b : Bool) → b ≡ true → ¬ (not b ≡ true)
 not_true true e f = absurd cc
 not_true false e f = absurd cc
 
-all_at : {A : Type 0} (P : A → Type 0) (xs ys : List A) (y : A) → All P ((xs ++ y ∷ []) ++ ys) → P y
-all_at P [] ys y all = All-head P y ys all
-all_at P (x ∷ xs) ys y all = all_at P xs ys y (All-tail P x ((xs ++ y ∷ []) ++ ys) all)
+so_of_one : {A : Type 0} (P : A → Type 0) (xs ys : List A) (y : A) → All P ((xs ++ y ∷ []) ++ ys) → P y
+so_of_one P [] ys y all = All-head P y ys all
+so_of_one P (x ∷ xs) ys y all = so_of_one P xs ys y (All-tail P x ((xs ++ y ∷ []) ++ ys) all)
 
 said_behind : (said piece after : Said) (x : Shape) → FollowsOn said after → All (λ k. may_claim_at said k.line ≡ true) after.claims → All (λ k. may_change_at said k.line ≡ true) after.nices
-    → IsBehindHead said piece → Passes piece x → Grows (with_line piece x) after → IsSaidBehind said piece x
+    → IsBehindHead said piece → Passes piece x → SaysMore (with_line piece x) after → IsSaidBehind said piece x
 said_behind said piece after (version_line n) follows claims changes behind passes grown = let turn = passes.turn in absurd cc
 said_behind said piece after (cpus_line n) follows claims changes behind passes grown = absurd (no_cpus said.cpus (length said.floors) follows.floors (rw behind.cpus at passes.turn))
 said_behind said piece after (start_line seconds nanoseconds) follows claims changes behind passes grown =
     let turn = and_parts (is_some piece.cpus) (is_none piece.start) passes.turn in
-    absurd (no_start said.start follows.started (rw behind.start at turn.1))
+    absurd (some_and_none said.start follows.started (rw behind.start at turn.1))
 said_behind said piece after (floor_line cpu floor) follows claims changes behind passes grown =
     let turn = and_parts (is_some piece.start) (not (has_all_floors piece)) passes.turn in
     absurd (not_true (has_all_floors said) follows.floors (rw (behind.cpus, behind.floors) at turn.1))
 said_behind said piece after (task_line t) follows claims changes behind passes grown = absurd (no_push piece.tasks _ (grown.tasks follows.no_task))
 said_behind said piece after (claim_line k) follows claims changes behind passes grown =
-    let may = all_at (λ (c : Claim). may_claim_at said c.line ≡ true) piece.claims grown.claims.0 k (subst (λ (ks : List Claim). All (λ c. may_claim_at said c.line ≡ true) ks) grown.claims.1 claims) in
+    let may = so_of_one (λ (c : Claim). may_claim_at said c.line ≡ true) piece.claims grown.claims.0 k (subst (λ (ks : List Claim). All (λ c. may_claim_at said c.line ≡ true) ks) grown.claims.1 claims) in
     record {
       passed = no_fault (with_piece said piece) (claim_line k) follows.floors passes.limits refl refl refl (claim_of_both said piece k.line may passes.above) refl;
       behind = record { version = behind.version; cpus = behind.cpus; start = behind.start; floors = behind.floors };
       same = ap (λ (ks : List Claim). record said { claims = ks; nices = said.nices ++ piece.nices }) (sym (append_assoc said.claims piece.claims (k ∷ [])));
     }
 said_behind said piece after (nice_line k) follows claims changes behind passes grown =
-    let may = all_at (λ (c : NiceLine). may_change_at said c.line ≡ true) piece.nices grown.nices.0 k (subst (λ (ks : List NiceLine). All (λ c. may_change_at said c.line ≡ true) ks) grown.nices.1 changes) in
+    let may = so_of_one (λ (c : NiceLine). may_change_at said c.line ≡ true) piece.nices grown.nices.0 k (subst (λ (ks : List NiceLine). All (λ c. may_change_at said c.line ≡ true) ks) grown.nices.1 changes) in
     record {
       passed = no_fault (with_piece said piece) (nice_line k) follows.floors passes.limits refl refl refl (change_of_both said piece k.line may passes.above) refl;
       behind = record { version = behind.version; cpus = behind.cpus; start = behind.start; floors = behind.floors };
@@ -305,17 +303,17 @@ piece_said said after lines order follows says =
 -- ---- pieces one after another
 
 -- what was said, and the pieces that are left, with their lines
-pub record AreLeft (first said : Said) (lines : List (List ℕ)) (pieces : List Said) : Type 0 where
+pub record ArePiecesLeft (first said : Said) (lines : List (List ℕ)) (pieces : List Said) : Type 0 where
   pub order : KeepsOrder said
   pub head : head_of said ≡ head_of first
   pub rest : List (List ℕ)
   pub apart : AreReadApart (head_of first) rest pieces
   pub on : (after : Said) → SaysOn said rest after → SaysOn first lines after
 
-pub all_left : (said : Said) (lines : List (List ℕ)) (pieces : List Said) → KeepsOrder said → AreReadApart (head_of said) lines pieces → AreLeft said said lines pieces
-all_left said lines pieces order apart = record { order = order; head = refl; rest = lines; apart = apart; on = λ after says. says }
+pub none_put : (said : Said) (lines : List (List ℕ)) (pieces : List Said) → KeepsOrder said → AreReadApart (head_of said) lines pieces → ArePiecesLeft said said lines pieces
+none_put said lines pieces order apart = record { order = order; head = refl; rest = lines; apart = apart; on = λ after says. says }
 
-pub one_less : (first said next piece : Said) (lines : List (List ℕ)) (pieces : List Said) → FollowsOn said piece → next ≡ with_piece said piece → AreLeft first said lines (piece ∷ pieces) → AreLeft first next lines pieces
+pub one_less : (first said next piece : Said) (lines : List (List ℕ)) (pieces : List Said) → FollowsOn said piece → next ≡ with_piece said piece → ArePiecesLeft first said lines (piece ∷ pieces) → ArePiecesLeft first next lines pieces
 one_less first said next piece lines pieces follows is left =
     let front = left.apart.0 in
     let rest = left.apart.1 in
@@ -328,8 +326,8 @@ one_less first said next piece lines pieces follows is left =
       on = λ after later. left.on after (rw left.apart.2 (said_then said (with_piece said piece) after front rest says (subst (λ (s : Said). SaysOn s rest after) is later)));
     }
 
-pub none_left : (first said : Said) (lines : List (List ℕ)) → AreLeft first said lines [] → SaysOn first lines said
-none_left first said lines left = left.on said (said_at_end said left.rest left.apart)
+pub all_put : (first said : Said) (lines : List (List ℕ)) → ArePiecesLeft first said lines [] → SaysOn first lines said
+all_put first said lines left = left.on said (said_at_end said left.rest left.apart)
 
 -- pieces that several threads have read
 read_apart : {X : Type 0} (head : Said) (lines_in : X → List (List ℕ)) (pieces : List X) (drafts : List Said) → AllZip (λ piece later. SaysOn head (lines_in piece) later) pieces drafts → AreReadApart head (flat_map lines_in pieces) drafts

@@ -10,13 +10,13 @@ use Rattle.std.proofs.lemmas.Cmp.{ranked}
 use Rattle.std.proofs.lemmas.List.Folds.{list_any_none}
 use Rattle.cfs_model.specs.declared.task.Task.{Task}
 use Rattle.companion_file.specs.Earlier.{is_task}
-use Rattle.companion_file.specs.Draft.{IsTaskAt}
+use Rattle.companion_file.specs.Draft.{IsTaskPlace}
 
 comparisons_rise : (a b pid : ℕ) → a ≤ b → ordering_index (nat_cmp a pid) ≤ ordering_index (nat_cmp b pid)
 comparisons_rise a b pid le = grind (arith, nat_tests)
 
 pub found_task : (tasks : List Task) (pid : ℕ) (r : Result ℕ ℕ) → AllPairs (λ t u. t.pid < u.pid) tasks → IsSearchInRange r (length tasks) → IsBinarySearchResult (λ (t : Task). nat_cmp t.pid pid) tasks r
-    → MatchOption (result_ok r) (is_task tasks pid ≡ false) (IsTaskAt tasks pid)
+    → MatchOption (result_ok r) (is_task tasks pid ≡ false) (IsTaskPlace tasks pid)
 found_task tasks pid (Ok place) rise within equal = record { within = within; pid_is = λ d. ranked _ pid _ (sym (equal d)) }
 found_task tasks pid (Err place) rise within parted =
     let rises : IsNonDecreasingBy (λ (t : Task). ordering_index (nat_cmp t.pid pid)) tasks = λ i j d le below.

@@ -1,6 +1,7 @@
 -- How far the reader has come: the lines so far are a front of the text's lines, all of them good, and what was kept
 -- of them is what they say.
-use Rattle.std.proofs.Common.{◌≡◌, ℕ, ◌+◌, ◌<◌, ◌≤◌, false, List, [], ◌∷◌, ◌++◌, length, Ok, Err, refl, sym, ap, subst, ◌∙◌, append_assoc, inl, inr, arith}
+use Rattle.std.proofs.Common.{◌≡◌, ℕ, ◌+◌, ◌<◌, ◌≤◌, Bool, false, eqb, List, [], ◌∷◌, ◌++◌, length, Ok, Err, refl, sym, ap, subst, ◌∙◌, append_assoc, inl, inr, arith}
+use Rattle.std.proofs.lemmas.Bool.{eqb-false}
 use Rattle.std.proofs.lemmas.List.{length-append, append-nil, nil_from_length}
 use Rattle.text_parts.specs.Lines.{lines_of}
 use Rattle.text_parts.proofs.TextLines.{lines_of_nil}
@@ -15,7 +16,7 @@ use Rattle.companion_file.specs.declared.fault.CompanionFault.TheVariants as fau
 use Rattle.companion_file.specs.Draft.{Takes, KeepsOrder, IsCompleted, fault_at, with_line}
 use Rattle.companion_file.specs.Companion.{AreGood, IsFirstBadCompanionLine, IsShort, IsRead, IsAnswered}
 use Rattle.companion_file.proofs.Summing.{summed-push}
-use Rattle.companion_file.proofs.GoodLines.{order_of_good, comment_after, line_after}
+use Rattle.companion_file.proofs.GoodLines.{order_of_good, comment_after, good_line_after}
 
 pub record IsReadUpTo (text rest : List ℕ) (number : ℕ) (kept : Said) : Type 0 where
   pub before : List (List ℕ)
@@ -26,12 +27,16 @@ pub record IsReadUpTo (text rest : List ℕ) (number : ℕ) (kept : Said) : Type
   pub kept_is : kept ≡ summed said
   pub fits : number + length rest ≤ length text
 
+-- where a text isn't empty a line is left
+pub some_left : (rest : List ℕ) (empty : Bool) → empty ≡ eqb (length rest) 0 → empty ≡ false → 0 < length rest
+some_left rest empty is test = let no_end = eqb-false (length rest) 0 (sym is ∙ test) in omega arith
+
 pub reached_nothing : (text : List ℕ) (kept : Said) → kept ≡ summed [] → IsReadUpTo text text 0 kept
 reached_nothing text kept e = record { before = []; said = []; parts = refl; count = refl; good = refl; kept_is = e; fits = omega arith }
 
-pub reached_more : (text rest line after : List ℕ) (number : ℕ) (old new : Said) (u : Unit {0}) → IsReadUpTo text rest number old → lines_of rest ≡ line ∷ lines_of after → length after < length rest → Takes old line (Ok u) new
+pub reached_line : (text rest line after : List ℕ) (number : ℕ) (old new : Said) (u : Unit {0}) → IsReadUpTo text rest number old → lines_of rest ≡ line ∷ lines_of after → length after < length rest → Takes old line (Ok u) new
     → IsReadUpTo text after (number + 1) new
-reached_more text rest line after number old new u at cut shorter (inl p) =
+reached_line text rest line after number old new u at cut shorter (inl p) =
     record {
       before = at.before ++ line ∷ [];
       said = at.said;
@@ -41,13 +46,13 @@ reached_more text rest line after number old new u at cut shorter (inl p) =
       kept_is = p.1 ∙ at.kept_is;
       fits = omega (arith, at.fits);
     }
-reached_more text rest line after number old new u at cut shorter (inr p) =
+reached_line text rest line after number old new u at cut shorter (inr p) =
     record {
       before = at.before ++ line ∷ [];
       said = at.said ++ p.1.0 ∷ [];
       parts = at.parts ∙ ap (λ (ls : List (List ℕ)). at.before ++ ls) cut ∙ sym (append_assoc at.before (line ∷ []) (lines_of after));
       count = omega (arith, at.count, length-append at.before (line ∷ []));
-      good = line_after [] at.before at.said line p.1.0 at.good p.0 (rw at.kept_is at p.1.1);
+      good = good_line_after [] at.before at.said line p.1.0 at.good p.0 (rw at.kept_is at p.1.1);
       kept_is = p.1.2 ∙ ap (λ (s : Said). with_line s p.1.0) at.kept_is ∙ sym (summed-push at.said p.1.0);
       fits = omega (arith, at.fits);
     }
@@ -106,10 +111,10 @@ reached_whole text rest number kept r at empty whole =
 
 -- ---- the answers
 
-pub refused_answer : (text rest line after : List ℕ) (number : ℕ) (old new : Said) (refusal : Refusal) → IsReadUpTo text rest number old → lines_of rest ≡ line ∷ lines_of after → Takes old line (Err refusal) new
+pub refused_companion : (text rest line after : List ℕ) (number : ℕ) (old new : Said) (refusal : Refusal) → IsReadUpTo text rest number old → lines_of rest ≡ line ∷ lines_of after → Takes old line (Err refusal) new
     → IsAnswered text (Err (fault_at (number + 1) refusal))
-refused_answer text rest line after number old new (refusals.Bad cause) at cut refused = inl (reached_bad text rest line after number old new cause at cut refused)
-refused_answer text rest line after number old new refusals.Memory at cut refused = tt
+refused_companion text rest line after number old new (refusals.Bad cause) at cut refused = inl (reached_bad text rest line after number old new cause at cut refused)
+refused_companion text rest line after number old new refusals.Memory at cut refused = tt
 
 pub short_answer : (text rest : List ℕ) (number : ℕ) (kept : Said) → IsReadUpTo text rest number kept → length rest ≡ 0 → has_all_floors kept ≡ false → IsAnswered text (Err (faults.Text (number + 1) Short))
 short_answer text rest number kept at empty missing = inr (reached_short text rest number kept at empty missing)

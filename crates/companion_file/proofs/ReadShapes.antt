@@ -82,11 +82,11 @@ shape_again version line (idle_line k) p =
 -- ---- what is read is spelled
 
 -- the line spells what was read
-abbrev pub IsFound : ℕ → List ℕ → Shape → Type 0
-IsFound version line y = (x : Shape) × IsSpelled version line x × (y ≡ clip x)
+abbrev pub IsShapeFound : ℕ → List ℕ → Shape → Type 0
+IsShapeFound version line y = (x : Shape) × IsSpelled version line x × (y ≡ clip x)
 
-same_floor : (c d : ℕ) (v w : ℤ) → c ≡ d → v ≡ w → floor_line c v ≡ floor_line d w
-same_floor c d v w e f = rw (e, f) refl
+same_floor_line : (c d : ℕ) (v w : ℤ) → c ≡ d → v ≡ w → floor_line c v ≡ floor_line d w
+same_floor_line c d v w e f = rw (e, f) refl
 
 same_claim : (l m p q : ℕ) (v w : ℤ) (sort : ClaimSort) → l ≡ m → p ≡ q → v ≡ w
     → claim_line (record { line = l; pid = p; v = v; sort = sort }) ≡ claim_line (record { line = m; pid = q; v = w; sort = sort })
@@ -98,25 +98,25 @@ same_nice l m p q v w e f g = rw (e, f, g) refl
 same_idle : (l m p q : ℕ) → l ≡ m → p ≡ q → idle_line (record { line = l; pid = p }) ≡ idle_line (record { line = m; pid = q })
 same_idle l m p q e f = rw (e, f) refl
 
-same_task : (p q : ℕ) (n o : ℤ) (c d : ℕ) (v w : ℤ) (place : Place) → p ≡ q → n ≡ o → c ≡ d → v ≡ w
+same_task_line : (p q : ℕ) (n o : ℤ) (c d : ℕ) (v w : ℤ) (place : Place) → p ≡ q → n ≡ o → c ≡ d → v ≡ w
     → task_line (record { pid = p; nice = n; idle = false; cpu = c; place = place; v = v }) ≡ task_line (record { pid = q; nice = o; idle = false; cpu = d; place = place; v = w })
-same_task p q n o c d v w place e f g h = rw (e, f, g, h) refl
+same_task_line p q n o c d v w place e f g h = rw (e, f, g, h) refl
 
-version_found : (version : ℕ) (rest : List ℕ) (y : Shape) → version_shape_at rest ≡ Some y → IsFound version (spaced_from (codes "cfs-companion") rest) y
+version_found : (version : ℕ) (rest : List ℕ) (y : Shape) → version_shape_at rest ≡ Some y → IsShapeFound version (spaced_from (codes "cfs-companion") rest) y
 unfolding version_shape_at
 version_found version rest y e =
     let a = bind_some (number_whole rest) (λ n. Some (version_line 0)) y e in
     let t = number_whole_taken rest a.0 a.1 in
     (version_line t.0, (rest, t.1, refl), sym (same_Some (version_line 0) y a.2))
 
-cpus_found : (version : ℕ) (rest : List ℕ) (y : Shape) → cpus_shape_at rest ≡ Some y → IsFound version (spaced_from (codes "cpus") rest) y
+cpus_found : (version : ℕ) (rest : List ℕ) (y : Shape) → cpus_shape_at rest ≡ Some y → IsShapeFound version (spaced_from (codes "cpus") rest) y
 unfolding cpus_shape_at
 cpus_found version rest y e =
     let a = bind_some (number_whole rest) (λ n. Some (cpus_line n)) y e in
     let t = number_whole_taken rest a.0 a.1 in
     (cpus_line t.0, (rest, t.1, refl), sym (same_Some (cpus_line a.0) y a.2) ∙ ap cpus_line t.2)
 
-start_found : (version : ℕ) (rest : List ℕ) (y : Shape) → start_shape_at rest ≡ Some y → IsFound version (spaced_from (codes "start") rest) y
+start_found : (version : ℕ) (rest : List ℕ) (y : Shape) → start_shape_at rest ≡ Some y → IsShapeFound version (spaced_from (codes "start") rest) y
 unfolding start_shape_at
 start_found version rest y e =
     let a = bind_some (time_at rest) (λ time. cond (eqb (length time.2) 0) (Some (start_line time.0 time.1)) None) y e in
@@ -128,7 +128,7 @@ start_found version rest y e =
       | inr more ↦ let none : None ≡ Some y = rw more at a.2 in absurd cc
     ]
 
-floor_found : (version : ℕ) (rest : List ℕ) (y : Shape) → floor_shape_at rest ≡ Some y → IsFound version (spaced_from (codes "floor") rest) y
+floor_found : (version : ℕ) (rest : List ℕ) (y : Shape) → floor_shape_at rest ≡ Some y → IsShapeFound version (spaced_from (codes "floor") rest) y
 unfolding floor_shape_at
 floor_found version rest y e =
     let a = bind_some (number_field rest) (λ cpu. integer_whole cpu.1 >>= λ floor. Some (floor_line cpu.0 floor)) y e in
@@ -137,10 +137,10 @@ floor_found version rest y e =
     let t1 = integer_whole_taken a.0.1 b.0 b.1 in (
       floor_line t0.exact t1.0,
       (t0.word, a.0.1, t0.spelled, t1.1, ap (λ (s : List ℕ). spaced_from (codes "floor") s) t0.whole),
-      sym (same_Some (floor_line a.0.0 b.0) y b.2) ∙ same_floor a.0.0 (min t0.exact many) b.0 (clip_integer t1.0) t0.value t1.2,
+      sym (same_Some (floor_line a.0.0 b.0) y b.2) ∙ same_floor_line a.0.0 (min t0.exact many) b.0 (clip_integer t1.0) t0.value t1.2,
     )
 
-claim_found : (version : ℕ) (sort : ClaimSort) (rest : List ℕ) (y : Shape) → claim_shape_at sort rest ≡ Some y → IsFound version (spaced_from (sort_word sort) rest) y
+claim_found : (version : ℕ) (sort : ClaimSort) (rest : List ℕ) (y : Shape) → claim_shape_at sort rest ≡ Some y → IsShapeFound version (spaced_from (sort_word sort) rest) y
 unfolding claim_shape_at
 claim_found version sort rest y e =
     let a = bind_some (number_field rest) (λ line. number_field line.1 >>= λ pid. integer_whole pid.1 >>= λ v. Some (claim_line (record { line = line.0; pid = pid.0; v = v; sort = sort }))) y e in
@@ -155,7 +155,7 @@ claim_found version sort rest y e =
           ∙ same_claim a.0.0 (min t0.exact many) b.0.0 (min t1.exact many) c.0 (clip_integer t2.0) sort t0.value t1.value t2.2,
     )
 
-nice_found : (version : ℕ) (rest : List ℕ) (y : Shape) → nice_shape_at version rest ≡ Some y → IsFound version (spaced_from (codes "nice") rest) y
+nice_found : (version : ℕ) (rest : List ℕ) (y : Shape) → nice_shape_at version rest ≡ Some y → IsShapeFound version (spaced_from (codes "nice") rest) y
 unfolding nice_shape_at
 nice_found version rest y e =
     elim (cases_Bool (eqb version 2)) [
@@ -175,7 +175,7 @@ nice_found version rest y e =
       | inr other ↦ let none : None ≡ Some y = rw other at e in absurd cc
     ]
 
-idle_found : (version : ℕ) (rest : List ℕ) (y : Shape) → idle_shape_at version rest ≡ Some y → IsFound version (spaced_from (codes "idle") rest) y
+idle_found : (version : ℕ) (rest : List ℕ) (y : Shape) → idle_shape_at version rest ≡ Some y → IsShapeFound version (spaced_from (codes "idle") rest) y
 unfolding idle_shape_at
 idle_found version rest y e =
     elim (cases_Bool (eqb version 2)) [
@@ -193,7 +193,7 @@ idle_found version rest y e =
       | inr other ↦ let none : None ≡ Some y = rw other at e in absurd cc
     ]
 
-task_found : (version : ℕ) (rest : List ℕ) (y : Shape) → task_shape_at rest ≡ Some y → IsFound version (spaced_from (codes "task") rest) y
+task_found : (version : ℕ) (rest : List ℕ) (y : Shape) → task_shape_at rest ≡ Some y → IsShapeFound version (spaced_from (codes "task") rest) y
 unfolding task_shape_at
 task_found version rest y e =
     let a = bind_some (number_field rest) (λ pid. integer_field pid.1 >>= λ nice. number_field nice.1 >>= λ cpu. place_field cpu.1 >>= λ place. integer_whole place.1 >>= λ v. Some (task_line (record { pid = pid.0; nice = nice.0; idle = false; cpu = cpu.0; place = place.0; v = v }))) y e in
@@ -211,7 +211,7 @@ task_found version rest y e =
       task_line (record { pid = t0.exact; nice = t1.exact; idle = false; cpu = t2.exact; place = d.0.0; v = t4.0 }),
       (refl, t0.word, t1.word, t2.word, d.0.1, t0.spelled, t1.spelled, t2.spelled, t4.1, ap (λ (s : List ℕ). spaced_from (codes "task") s) whole),
       sym (same_Some (task_line (record { pid = a.0.0; nice = b.0.0; idle = false; cpu = c.0.0; place = d.0.0; v = f.0 })) y f.2)
-          ∙ same_task a.0.0 (min t0.exact many) b.0.0 (clip_integer t1.exact) c.0.0 (min t2.exact many) f.0 (clip_integer t4.0) d.0.0 t0.value t1.value t2.value t4.2,
+          ∙ same_task_line a.0.0 (min t0.exact many) b.0.0 (clip_integer t1.exact) c.0.0 (min t2.exact many) f.0 (clip_integer t4.0) d.0.0 t0.value t1.value t2.value t4.2,
     )
 
 -- the shape that is tried gave the answer, or a later one did
@@ -221,11 +221,11 @@ tried f (Some rest) later y e = inl (rest, refl, e)
 tried f None later y e = inr e
 
 -- what was found behind the first word is found in the line
-moved : (version : ℕ) (word line rest : List ℕ) (y : Shape) → after_text (word ++ codes " ") line ≡ Some rest → (word ++ codes " ") ++ rest ≡ spaced_from word rest → IsFound version (spaced_from word rest) y → IsFound version line y
+moved : (version : ℕ) (word line rest : List ℕ) (y : Shape) → after_text (word ++ codes " ") line ≡ Some rest → (word ++ codes " ") ++ rest ≡ spaced_from word rest → IsShapeFound version (spaced_from word rest) y → IsShapeFound version line y
 moved version word line rest y e same found =
-    subst (λ (s : List ℕ). IsFound version s y) (sym (text_taken (word ++ codes " ") line rest e ∙ same)) found
+    subst (λ (s : List ℕ). IsShapeFound version s y) (sym (text_taken (word ++ codes " ") line rest e ∙ same)) found
 
-front_found : (version : ℕ) (line : List ℕ) (y : Shape) → front_shape_at line ≡ Some y → IsFound version line y
+front_found : (version : ℕ) (line : List ℕ) (y : Shape) → front_shape_at line ≡ Some y → IsShapeFound version line y
 unfolding front_shape_at
 front_found version line y e =
     elim (tried start_shape_at (after_text (codes "start ") line) _ y e) [
@@ -239,7 +239,7 @@ front_found version line y e =
       ]
     ]
 
-pub shape_taken : (version : ℕ) (line : List ℕ) (y : Shape) → shape_at version line ≡ Some y → IsFound version line y
+pub shape_taken : (version : ℕ) (line : List ℕ) (y : Shape) → shape_at version line ≡ Some y → IsShapeFound version line y
 unfolding shape_at
 shape_taken version line y e =
     elim (tried (claim_shape_at At) (after_text (codes "at ") line) _ y e) [

@@ -10,7 +10,7 @@ use Rattle.companion_file.specs.declared.fault.CompanionCause.TheVariants.{Versi
 use Rattle.companion_file.specs.declared.fault.CompanionFault.{CompanionFault}
 use Rattle.companion_file.specs.declared.fault.CompanionFault.TheVariants as faults
 use Rattle.companion_file.specs.Spelling.{IsFirstLine}
-use Rattle.companion_file.specs.Earlier.{Said, has_all_floors, is_taken, is_task, with_policy}
+use Rattle.companion_file.specs.Earlier.{Said, has_all_floors, is_taken, is_task, with_policy_told}
 use Rattle.text_parts.specs.Lines.{IsComment}
 use Rattle.cfs_model.specs.Limits.{no_line, most_processors, greatest_seconds, nanoseconds_per_second}
 use Rattle.cfs_model.specs.Charge.{IsInRange}
@@ -29,11 +29,11 @@ with_line said (version_line n) = record said { version = Some n }
 with_line said (cpus_line n) = record said { cpus = Some n }
 with_line said (start_line seconds nanoseconds) = record said { start = Some (seconds * nanoseconds_per_second + nanoseconds) }
 with_line said (floor_line cpu floor) = record said { floors = said.floors ++ floor ∷ [] }
-with_line said (task_line task) = record said { tasks = said.tasks ++ with_policy said.idles task ∷ [] }
+with_line said (task_line task) = record said { tasks = said.tasks ++ with_policy_told said.idles task ∷ [] }
 with_line said (claim_line claim) = record said { claims = said.claims ++ claim ∷ [] }
 with_line said (nice_line change) = record said { nices = said.nices ++ change ∷ [] }
 with_line said (idle_line idle) = record said {
-  tasks = map (with_policy (said.idles ++ idle ∷ [])) said.tasks;
+  tasks = map (with_policy_told (said.idles ++ idle ∷ [])) said.tasks;
   idles = said.idles ++ idle ∷ [];
 }
 
@@ -64,7 +64,7 @@ Takes old line (Err (refusals.Bad cause)) new = (¬ IsComment line) × IsJudged 
 Takes old line (Err refusals.Memory) new = Unit {0}
 
 -- the task of this pid stands at this place
-pub record IsTaskAt (tasks : List Task) (pid place : ℕ) : Type 0 where
+pub record IsTaskPlace (tasks : List Task) (pid place : ℕ) : Type 0 where
   pub within : place < length tasks
   pub pid_is : (d : Task) → (slice_index_or tasks place d).pid ≡ pid
 
@@ -83,7 +83,7 @@ pub record KeepsOrder (said : Said) : Type 0 where
   pub nice_lines_rise : AllPairs (λ a b. a.line < b.line) said.nices
   pub idles_kept : All IsIdleLineInLimits said.idles
   pub idles_rise : AllPairs IdleRises said.idles
-  pub policies_kept : map (with_policy said.idles) said.tasks ≡ said.tasks
+  pub policies_kept : map (with_policy_told said.idles) said.tasks ≡ said.tasks
   pub named_kept : All (λ idle. idle.line ≡ no_line → is_task said.tasks idle.pid ≡ true) said.idles
 
 -- no floor is missing, and this is what was said

@@ -53,8 +53,8 @@ idle_in (idle_line idle) = Some idle
 idle_in _ = None
 
 -- a task of the start state with the policy that idle lines tell
-abbrev pub with_policy : List IdleLine → Task → Task
-with_policy idles task = record {
+abbrev pub with_policy_told : List IdleLine → Task → Task
+with_policy_told idles task = record {
   pid = task.pid;
   nice = task.nice;
   idle = is_named_idle idles no_line task.pid;
@@ -90,7 +90,7 @@ summed lines =
       cpus = last_or None (filter_map cpus_in lines);
       start = last_or None (filter_map start_in lines);
       floors = filter_map floor_in lines;
-      tasks = map (with_policy (filter_map idle_in lines)) (filter_map task_named_on lines);
+      tasks = map (with_policy_told (filter_map idle_in lines)) (filter_map task_named_on lines);
       claims = filter_map claim_in lines;
       nices = filter_map nice_in lines;
       idles = filter_map idle_in lines;

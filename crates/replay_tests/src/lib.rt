@@ -19,4 +19,6 @@ mod records;
 #[cfg(test)]
 mod replays;
 #[cfg(test)]
+mod wide_companions;
+#[cfg(test)]
 mod wide_readings;

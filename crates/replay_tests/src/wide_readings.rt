@@ -10,7 +10,7 @@ use std::test::Fail;
 use std::thread::Threads;
 
 // A comment of 64 bytes: a thousand of them are a piece of a text.
-const COMMENT: &[u8] = b"#                                                              \n";
+pub(crate) const COMMENT: &[u8] = b"#                                                              \n";
 
 const BAD: &[u8] = b"hello\n";
 
@@ -30,10 +30,10 @@ fn repeat(text: &mut Vec<u8>, line: &[u8], times: u32) -> Result<(), Fail> {
 }
 
 /// Lines, each with how often it stands.
-type Lines<'a> = &'a [(&'a [u8], u32)];
+pub(crate) type Lines<'a> = &'a [(&'a [u8], u32)];
 
 /// A trace of these.
-fn text_of(alloc: Global, lines: Lines<'_>) -> Result<Vec<u8>, Fail> {
+pub(crate) fn text_of(alloc: Global, lines: Lines<'_>) -> Result<Vec<u8>, Fail> {
     let mut text = Vec::new(alloc);
     for (line, times) in lines {
         repeat(&mut text, line, *times)?;

@@ -3,7 +3,7 @@ ghost use Rattle.cfs_model.specs.Limits.{no_line};
 ghost use Rattle.companion_file.specs.Shape.{idle_line};
 ghost use Rattle.companion_file.specs.Earlier.{is_task};
 ghost use Rattle.companion_file.specs.Spans.{AreSpansOf};
-ghost use Rattle.companion_file.specs.Draft.{Adds, AddsTested, KeepsOrder, IsTaskAt};
+ghost use Rattle.companion_file.specs.Draft.{Adds, AddsTested, KeepsOrder, IsTaskPlace};
 
 use crate::draft::Draft;
 use crate::fault::{CompanionCause, Refusal};
@@ -16,7 +16,7 @@ impl Draft {
     /// Where the task of this pid stands in the list.
     fn place_of(&self, pid: u32) -> Option<usize>
         requires { AllPairs (λ t u. t.pid < u.pid) self.now.tasks }
-        ensures { MatchOption result (is_task self.now.tasks pid ≡ false) (IsTaskAt self.now.tasks pid) }
+        ensures { MatchOption result (is_task self.now.tasks pid ≡ false) (IsTaskPlace self.now.tasks pid) }
     {
         self.tasks.binary_search_by_key(&pid, |task| task.pid).ok()
     }
@@ -33,7 +33,7 @@ impl Draft {
     fn add_from_start(&mut self, idle: IdleLine, place: usize) -> Result<(), Refusal>
         requires order { KeepsOrder self.old }
         requires start { idle.line ≡ no_line }
-        requires task { IsTaskAt self.old.tasks idle.pid place }
+        requires task { IsTaskPlace self.old.tasks idle.pid place }
         ensures { Adds self.old (idle_line idle) result self.new }
     {
         self.idles.push(idle)?;

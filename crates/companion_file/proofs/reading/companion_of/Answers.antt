@@ -1,24 +1,20 @@
-use Rattle.std.proofs.Common.{◌≡◌, ℕ, ◌<◌, Bool, false, eqb, List, length, sym, ◌∙◌, arith}
-use Rattle.std.proofs.lemmas.Bool.{eqb-true, eqb-false}
+use Rattle.std.proofs.Common.{length, sym, ◌∙◌, arith}
+use Rattle.std.proofs.lemmas.Bool.{eqb-true}
 use Rattle.companion_file.specs.Companion.{companion_view}
-use Rattle.companion_file.proofs.Reaching.{reached_more, reached_order, reached_whole, refused_answer, short_answer}
+use Rattle.companion_file.proofs.Reaching.{some_left, reached_line, reached_order, reached_whole, refused_companion, short_answer}
 use Rattle.companion_file.proofs.reading.companion_of.Goals as goal
-
--- the test at the loop's head
-some_left : (rest : List ℕ) (empty : Bool) → empty ≡ eqb (length rest) 0 → empty ≡ false → 0 < length rest
-some_left rest empty is test = let no_end = eqb-false (length rest) 0 (sym is ∙ test) in omega arith
 
 pub loop-rest-preserved : goal.loop-rest-preserved
 loop-rest-preserved c =
     let some = some_left c.loop-rest.rest.now c.is_empty.result c.is_empty.ensures c.loop-rest-test.true in
-    reached_more c.args.text.now c.loop-rest.rest.now c.next_line.result.0.now c.next_line.result.1.now c.loop-rest.number c.loop-rest.draft c.take.new.self
+    reached_line c.args.text.now c.loop-rest.rest.now c.next_line.result.0.now c.next_line.result.1.now c.loop-rest.number c.loop-rest.draft c.take.new.self
     c.in_default.field-0 c.loop-rest.invariant (c.next_line.ensures.lines some) (c.next_line.ensures.shorter some) c.in_default.ensures
 
 pub returns-in-Err : goal.returns-in-Err
 returns-in-Err c =
     let some = some_left c.loop-rest.rest.now c.is_empty.result c.is_empty.ensures c.loop-rest-test.true in
     rw c.at.ensures
-    (refused_answer c.args.text.now c.loop-rest.rest.now c.next_line.result.0.now c.next_line.result.1.now c.loop-rest.number c.loop-rest.draft c.take.new.self
+    (refused_companion c.args.text.now c.loop-rest.rest.now c.next_line.result.0.now c.next_line.result.1.now c.loop-rest.number c.loop-rest.draft c.take.new.self
     c.in-Err.refusal c.loop-rest.invariant (c.next_line.ensures.lines some) c.in-Err.ensures)
 
 pub take-requires : goal.take-requires

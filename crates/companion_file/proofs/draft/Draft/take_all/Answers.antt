@@ -1,14 +1,11 @@
-use Rattle.std.proofs.Common.{false, eqb, ℕ, Bool, List, ◌≡◌, ◌<◌, length, refl, ap, sym, ◌∙◌, arith}
-use Rattle.std.proofs.lemmas.Bool.{eqb-true, eqb-false}
+use Rattle.std.proofs.Common.{length, ap, sym, ◌∙◌}
+use Rattle.std.proofs.lemmas.Bool.{eqb-true}
 use Rattle.std.proofs.lemmas.List.{nil_from_length}
 use Rattle.text_parts.specs.Lines.{lines_of}
 use Rattle.text_parts.proofs.TextLines.{lines_of_nil}
+use Rattle.companion_file.proofs.Reaching.{some_left}
 use Rattle.companion_file.proofs.Piecewise.{taken_order, taken_then, said_at_end}
 use Rattle.companion_file.proofs.draft.Draft.take_all.Goals as goal
-
--- the test at the loop's head
-some_left : (rest : List ℕ) (empty : Bool) → empty ≡ eqb (length rest) 0 → empty ≡ false → 0 < length rest
-some_left rest empty is test = let no_end = eqb-false (length rest) 0 (sym is ∙ test) in omega arith
 
 pub loop-rest-preserved : goal.loop-rest-preserved
 loop-rest-preserved c =

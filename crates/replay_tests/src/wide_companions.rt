@@ -1,0 +1,110 @@
+//! Companions that one thread reads, and several.
+
+use crate::answers::wants;
+use crate::wide_readings::{COMMENT, Lines, text_of};
+use companion_file::{
+    Companion, CompanionCause, CompanionFault, read_companion, read_companion_wide,
+};
+use std::alloc::Global;
+use std::test::Fail;
+use std::thread::Threads;
+
+// Five lines, up to the first task.
+const HEAD: &[u8] =
+    b"cfs-companion 2\ncpus 1\nstart 100.000000\nfloor 0 0\ntask 101 0 0 run 0\n";
+
+const FIRST: &[u8] = b"at 1 101 0\n";
+
+/// A companion's claims and changes of nice values as several threads read it: how many there are, and whether one thread
+/// reads the same.
+type Reading = (usize, usize, bool);
+
+/// How a companion compares with its reading in one thread.
+fn compared(alloc: Global, text: &[u8], wide: &Companion) -> Result<Reading, Fail> {
+    let narrow = read_companion(alloc, text)?;
+    Ok((
+        wide.claims().len(),
+        wide.nices().len(),
+        wide.claims() == narrow.claims() && wide.nices() == narrow.nices(),
+    ))
+}
+
+fn reading_of<R: Threads + Sync>(rt: &R, alloc: Global, lines: Lines<'_>) -> Result<Reading, Fail> {
+    let text = text_of(alloc, lines)?;
+    let companion = read_companion_wide(rt, alloc, &text)?;
+    compared(alloc, &text, &companion)
+}
+
+#[test]
+fn claims_and_changes_of_all_pieces_are_kept(rt: HostRuntime) -> Result<(), Fail> {
+    // Three pieces, with a claim each, and a change of a nice value in the second.
+    let lines: [(&[u8], u32); 6] = [
+        (HEAD, 1),
+        (FIRST, 1),
+        (COMMENT, 1100),
+        (b"nice 2 101 5\nat 2 101 400\n", 1),
+        (COMMENT, 1100),
+        (b"pass 3 101 7\n", 1),
+    ];
+    wants(&rt, &reading_of(&rt, rt.alloc(), &lines)?, &(3, 1, true));
+    Ok(())
+}
+
+/// Companions of several pieces, each with its first bad line. All but the last have a claim in their first piece.
+static REFUSED: [(Lines<'static>, u64, CompanionCause); 5] = [
+    (
+        &[(HEAD, 1), (FIRST, 1), (COMMENT, 1100), (FIRST, 1), (COMMENT, 1100)],
+        1107,
+        CompanionCause::LineOrder,
+    ),
+    (
+        &[(HEAD, 1), (FIRST, 1), (COMMENT, 1100), (b"nice 1 101 5\n", 1)],
+        1107,
+        CompanionCause::LineOrder,
+    ),
+    (
+        &[(HEAD, 1), (FIRST, 1), (COMMENT, 1100), (b"task 102 0 0 wait 0\n", 1)],
+        1107,
+        CompanionCause::Order,
+    ),
+    (
+        &[(HEAD, 1), (FIRST, 1), (COMMENT, 1100), (b"a\n", 1), (COMMENT, 1100), (b"a\n", 1)],
+        1107,
+        CompanionCause::BadLine,
+    ),
+    (
+        &[(b"cfs-companion 2\ncpus 1\nstart 100.000000\n", 1), (COMMENT, 2200)],
+        2204,
+        CompanionCause::Short,
+    ),
+];
+
+/// Why several threads refuse it.
+fn fault_of<R: Threads + Sync>(
+    rt: &R,
+    alloc: Global,
+    lines: Lines<'_>,
+) -> Result<Option<CompanionFault>, Fail> {
+    let text = text_of(alloc, lines)?;
+    Ok(read_companion_wide(rt, alloc, &text).err())
+}
+
+/// The place in the table of the first companion that is refused otherwise.
+fn misread<R: Threads + Sync>(rt: &R, alloc: Global) -> Result<Option<usize>, Fail> {
+    for (place, (lines, line, cause)) in REFUSED.iter().enumerate() {
+        let fault = CompanionFault::Text {
+            line: *line,
+            cause: *cause,
+        };
+        if fault_of(rt, alloc, lines)? != Some(fault) {
+            return Ok(Some(place));
+        }
+    }
+    Ok(None)
+}
+
+#[test]
+fn a_companion_is_refused_at_its_first_bad_line(rt: HostRuntime) -> Result<(), Fail> {
+    wants(&rt, &misread(&rt, rt.alloc())?, &None);
+    Ok(())
+}

@@ -1,7 +1,7 @@
 use crate::tray::Tray;
 use audit_crew::{OpenGate, audit, audit_least, audit_serial, auditor, crew};
 use cfs_model::{Knobs, Memory};
-use companion_file::read_companion;
+use companion_file::{read_companion, read_companion_wide};
 use queue_replay::{Page, Replay};
 use sched_audit::{LeastOutcome, Outcome, audit_texts, least_report, least_texts, report};
 use sched_record::{Record, Stream, join, read_trace, read_trace_wide};
@@ -31,6 +31,10 @@ pub fn print_call<R: AllocGlobal + Print + Threads + Wait + Sync>(
         }
         "read_companion" => {
             let answer = read_companion(alloc, companion);
+            println!(rt; "{answer:?}")?;
+        }
+        "read_companion_wide" => {
+            let answer = read_companion_wide(rt, alloc, companion);
             println!(rt; "{answer:?}")?;
         }
         "audit_texts" => {

@@ -27,12 +27,12 @@ unfoldable pub number_within : ℕ → List ℕ → Result ℕ EventFault
 number_within most digits = if nat_lt most (value_of digits) then Err NumberRange else Ok (value_of digits)
 
 -- the nice value of a fair task's prio
-abbrev pub nice_for : ℤ → Result ℤ EventFault
-nice_for prio = if int_lt prio (pos 100) then Err RealTime else if int_lt (pos 139) prio then Err PrioRange else Ok (prio -ℤ pos 120)
+abbrev pub nice_of_priority : ℤ → Result ℤ EventFault
+nice_of_priority prio = if int_lt prio (pos 100) then Err RealTime else if int_lt (pos 139) prio then Err PrioRange else Ok (prio -ℤ pos 120)
 
 -- the nice value of a pid's printed prio: that of the idle task isn't looked at, and counts as 120
 unfoldable pub nice_at : ℕ → Prio → Result ℤ EventFault
-nice_at pid prio = nice_for (if pid == idle_pid then pos 120 else prio_of prio)
+nice_at pid prio = nice_of_priority (if pid == idle_pid then pos 120 else prio_of prio)
 
 -- a switch, by its numbers and then by its prios
 unfoldable pub switch_judged : ℕ → SwitchText → Result SwitchView EventFault

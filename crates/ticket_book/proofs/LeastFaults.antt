@@ -7,7 +7,7 @@ use Rattle.replay_model.specs.declared.page.StepFault.{StepFault}
 use Rattle.queue_replay.specs.Replay.{ReplayView}
 use Rattle.sched_record.specs.Record.{RecordView}
 use Rattle.ticket_book.specs.Book.{page_at}
-use Rattle.ticket_book.specs.Relying.{IsLeastOf}
+use Rattle.ticket_book.specs.Relying.{IsLeastFaultLine}
 use Rattle.ticket_book.specs.Lesser.{lesser_of}
 use Rattle.ticket_book.specs.Remade.{HasFaultAt, IsLeastFaultBelow}
 
@@ -31,7 +31,7 @@ module _ (knobs : Settings) (r : RecordView) (places : List (Option ReplayView))
     | inr k ↦ subst P (let e : cpu ≡ other = omega (arith, k, h) in e) here
   ]
 
-  none_yet : IsLeastOf knobs r places 0 None
+  none_yet : IsLeastFaultLine knobs r places 0 None
   none_yet cpu line h f = absurd (omega arith)
 
   -- a least line, where the next processor has none below it
@@ -56,9 +56,9 @@ module _ (knobs : Settings) (r : RecordView) (places : List (Option ReplayView))
         (λ n g. (let e = one_line cpu line n f g in omega (arith, e))) other h lesser;
   }
 
-  pub least_more : (cpu : ℕ) (least line : Option ℕ) → IsLeastOf knobs r places cpu least
+  pub least_more : (cpu : ℕ) (least line : Option ℕ) → IsLeastFaultLine knobs r places cpu least
       → IfNone line ((n : ℕ) → ¬ At cpu n) → IfSome line (At cpu)
-      → IsLeastOf knobs r places (cpu + 1) (lesser_of least line)
+      → IsLeastFaultLine knobs r places (cpu + 1) (lesser_of least line)
   least_more cpu None None l none found = λ other n h f.
       below_or_at (λ c. (m : ℕ) → ¬ At c m) cpu (λ c k m. l c m k) none other h n f
   least_more cpu None (Some line) l none found =
@@ -75,5 +75,5 @@ module _ (knobs : Settings) (r : RecordView) (places : List (Option ReplayView))
           (λ lesser f. (let same = one_line cpu line lesser found f in let le = ltb-false line least e in
           omega (arith, same, le)))
 
-pub none_found : (knobs : Settings) (r : RecordView) (places : List (Option ReplayView)) → IsLeastOf knobs r places 0 None
-none_found knobs r places = none_yet knobs r places
+pub none_below_first : (knobs : Settings) (r : RecordView) (places : List (Option ReplayView)) → IsLeastFaultLine knobs r places 0 None
+none_below_first knobs r places = none_yet knobs r places

@@ -1,9 +1,9 @@
 use Rattle.std.proofs.Common.{subst, sym}
-use Rattle.sched_audit.proofs.Outcomes.{error_is, refused_answer}
+use Rattle.sched_audit.proofs.Outcomes.{error_is, refused_outcome}
 use Rattle.sched_audit.specs.Answer.{IsAnswer}
 use Rattle.sched_audit.proofs.audit.audit.Goals as goal
 
 pub returns-in_err-record : goal.returns-in_err-record
 returns-in_err-record g c text told =
     subst (IsAnswer text c.args.companion.now c.args.knobs) (sym (error_is c.from_residual.result c.in_err-record.field-0.0 c.from_residual.ensures.1))
-    (refused_answer text c.args.companion.now c.args.knobs c.in_err-record.field-0.0 (c.in_err-record.ensures text told))
+    (refused_outcome text c.args.companion.now c.args.knobs c.in_err-record.field-0.0 (c.in_err-record.ensures text told))

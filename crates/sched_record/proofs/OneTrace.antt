@@ -133,9 +133,9 @@ never_bad once lines front rest line all events cause good parts front_good bad 
         (whole ∙ append_assoc bad.before (bad.last ∷ []) (bad.event ∷ events_said cut.after)) good.in_time bad.falls
 
 -- of two first bad lines neither comes before the other
-not_before : ReadOnce → (lines : List (List ℕ)) (m n : ℕ) (c d : TraceCause) → (x : IsFirstBadTraceLine lines m c) → (y : IsFirstBadTraceLine lines n d)
+not_earlier : ReadOnce → (lines : List (List ℕ)) (m n : ℕ) (c d : TraceCause) → (x : IsFirstBadTraceLine lines m c) → (y : IsFirstBadTraceLine lines n d)
     → length x.front < length y.front → ⊥
-not_before once lines m n c d x y lt =
+not_earlier once lines m n c d x y lt =
     let cut = later_cut x.front y.front x.line y.line x.rest y.rest (sym x.parts ∙ y.parts) lt in
     never_bad once y.front x.front cut.0 x.line y.events x.events c y.good cut.1 x.good (subst (λ k. IsBadAfter x.events k x.line c) x.placed x.bad)
 
@@ -149,8 +149,8 @@ one_first_bad once lines m n c d x y =
           let bad : IsBadAfter x.events n y.line c = subst (λ k. IsBadAfter x.events k y.line c) number (subst (λ l. IsBadAfter x.events m l c) cut.1 x.bad) in
           (number, one_bad_cause once x.events y.events n y.line c d bad y.bad))
       | inr apart ↦ elim apart [
-        | inl less ↦ absurd (not_before once lines m n c d x y less)
-        | inr more ↦ absurd (not_before once lines n m d c y x more)
+        | inl less ↦ absurd (not_earlier once lines m n c d x y less)
+        | inr more ↦ absurd (not_earlier once lines n m d c y x more)
       ]
     ]
 

@@ -13,7 +13,7 @@ use Rattle.ticket_book.specs.Own.{AreOwn}
 use Rattle.ticket_book.specs.Remade.{AreRemade, Suffices}
 use Rattle.ticket_book.specs.Whole.{IsOwnPageOf, IsWholePageOf}
 use Rattle.ticket_book.specs.declared.post_fault.PostFault.{PostFault}
-use Rattle.ticket_book.proofs.BookPlaces.{none_there}
+use Rattle.ticket_book.proofs.BookPlaces.{no_page_there}
 use Rattle.ticket_book.proofs.CoreKept.{none_remade}
 use Rattle.ticket_book.proofs.Gathering.{whole_suffices}
 
@@ -32,7 +32,7 @@ pub none_posted : (knobs : Settings) (r : RecordView) → AreFirst knobs r (repl
 none_posted knobs r = record {
   one_each = length-replicate r.cpus empty;
   whole = λ cpu h. absurd (omega arith);
-  empty = λ cpu h. none_there r.cpus cpu;
+  empty = λ cpu h. no_page_there r.cpus cpu;
 }
   where
     empty : Option ReplayView
@@ -46,11 +46,11 @@ taken (place ∷ places) zero h e = ap (λ (p : Option ReplayView). refusal_at (
 taken (place ∷ places) (suc cpu) h e = taken places cpu (omega arith) e
 
 -- so that the next page is posted
-pub one_more : (knobs : Settings) (r : RecordView) (places after : List (Option ReplayView)) (cpu : ℕ) (page : ReplayView)
+pub one_more_page : (knobs : Settings) (r : RecordView) (places after : List (Option ReplayView)) (cpu : ℕ) (page : ReplayView)
     (answer : Result ℕ (ReplayView × PostFault)) → AreFirst knobs r places cpu → cpu < r.cpus
     → IsWholePageOf knobs r cpu page → refusal_in answer ≡ post_refusal places page.stream.cpu
     → OnOk answer (after ≡ set places page.stream.cpu (Some page)) → AreFirst knobs r after (cpu + 1)
-one_more knobs r places after cpu page answer first within whole refused added = go answer refused added
+one_more_page knobs r places after cpu page answer first within whole refused added = go answer refused added
   where
     own : page.stream.cpu ≡ cpu
     own = ap (λ (s : StreamView). s.cpu) whole.stream
@@ -94,9 +94,9 @@ one_more knobs r places after cpu page answer first within whole refused added =
     go (Err back) refused added = absurd (none-some back.1 (sym (refused ∙ accepted)))
 
 -- so all pages are the record's own
-pub all_own : (knobs : Settings) (r : RecordView) (places : List (Option ReplayView)) → AreFirst knobs r places r.cpus
+pub first_are_own : (knobs : Settings) (r : RecordView) (places : List (Option ReplayView)) → AreFirst knobs r places r.cpus
     → AreOwn knobs r places
-all_own knobs r places all cpu page e = go (cases_lt cpu r.cpus)
+first_are_own knobs r places all cpu page e = go (cases_lt cpu r.cpus)
   where
     go : (cpu < r.cpus) ⊎ (r.cpus ≤ cpu) → IsOwnPageOf knobs r cpu page
     go (inl below) =
@@ -106,9 +106,9 @@ all_own knobs r places all cpu page e = go (cases_lt cpu r.cpus)
     go (inr above) = absurd (none-some page (sym (all.empty cpu above) ∙ e))
 
 -- of the pages of all processors none is made again
-pub nothing_remade : (knobs : Settings) (r : RecordView) (places : List (Option ReplayView)) (count : ℕ)
+pub no_page_remade : (knobs : Settings) (r : RecordView) (places : List (Option ReplayView)) (count : ℕ)
     → AreFirst knobs r places r.cpus → AreRemade knobs r places count → count ≡ 0
-nothing_remade knobs r places count all remade =
+no_page_remade knobs r places count all remade =
     none_remade knobs r places r.cpus count (λ cpu h. suffices cpu (all.whole cpu h)) remade
   where
     suffices : (cpu : ℕ) → IsWholeAt knobs r cpu (page_at places cpu) → Suffices knobs r places cpu (page_at places cpu)

@@ -11,15 +11,15 @@ use Rattle.sched_record.specs.Stream.{cut_of}
 use Rattle.ticket_book.specs.Book.{page_at, post_refusal}
 use Rattle.ticket_book.specs.Own.{AreOwn}
 use Rattle.ticket_book.specs.Whole.{IsOwnPageOf}
-use Rattle.ticket_book.proofs.BookPlaces.{none_there, room}
-use Rattle.audit_crew.specs.Own.{AreTaken, IsOwn}
+use Rattle.ticket_book.proofs.BookPlaces.{no_page_there, room}
+use Rattle.audit_crew.specs.Own.{AreTaken, IsOwnReplay}
 
 pub none_own : (knobs : Settings) (r : RecordView) (cpus : ℕ) → AreOwn knobs r (replicate cpus None)
-none_own knobs r cpus cpu page e = absurd (none-some page (sym (none_there cpus cpu) ∙ e))
+none_own knobs r cpus cpu page e = absurd (none-some page (sym (no_page_there cpus cpu) ∙ e))
 
 -- a page that isn't refused
 pub own_put : (knobs : Settings) (r : RecordView) (places : List (Option ReplayView)) (page : ReplayView)
-    → AreOwn knobs r places → IsOwn knobs r page → None ≡ post_refusal places page.stream.cpu
+    → AreOwn knobs r places → IsOwnReplay knobs r page → None ≡ post_refusal places page.stream.cpu
     → AreOwn knobs r (set places page.stream.cpu (Some page))
 own_put knobs r places page own is room_for other p e = go (cases_eq other cpu)
   where
@@ -38,8 +38,8 @@ own_put knobs r places page own is room_for other p e = go (cases_eq other cpu)
     go (inr not) = own other p (sym (get_or-set_other places cpu other (Some page) None not) ∙ e)
 
 -- the pages of a replay's stream, by its settings
-pub own_taken : (knobs : Settings) (r : RecordView) (replay : ReplayView) → IsOwn knobs r replay
-    → AreTaken (IsOwn knobs r) replay.stream replay.knobs
+pub own_taken : (knobs : Settings) (r : RecordView) (replay : ReplayView) → IsOwnReplay knobs r replay
+    → AreTaken (IsOwnReplay knobs r) replay.stream replay.knobs
 own_taken knobs r replay own page stream settings = record {
   stream = stream ∙ own.stream ∙ ap (λ (s : StreamView). cut_of r s.cpu) (sym stream);
   knobs_are = settings ∙ own.knobs_are;
@@ -47,7 +47,7 @@ own_taken knobs r replay own page stream settings = record {
 
 -- a replay of the stream that the record deals to a processor
 pub dealt_own : (knobs : Settings) (r : RecordView) (cpu : ℕ) (replay : ReplayView) → replay.stream ≡ cut_of r cpu
-    → replay.knobs ≡ knobs → IsOwn knobs r replay
+    → replay.knobs ≡ knobs → IsOwnReplay knobs r replay
 dealt_own knobs r cpu replay stream settings = record {
   stream = stream ∙ ap (cut_of r) (sym (ap (λ (s : StreamView). s.cpu) stream));
   knobs_are = settings;

@@ -17,11 +17,11 @@ use Rattle.queue_replay.specs.Replay.{ReplayView}
 use Rattle.audit_crew.specs.Tags.{IsReachOf, IsStoppedAt, IsTagOf, IsThrough, tag_of}
 
 -- after a fault a replay goes on by any steps
-stays : (knobs : Settings) (cpu : ℕ) (s : ReplayStateView) (fault : StepFault) → s.page.fault ≡ Some fault
+fault_stays : (knobs : Settings) (cpu : ℕ) (s : ReplayStateView) (fault : StepFault) → s.page.fault ≡ Some fault
     → (steps : List Step) → IsReplay knobs cpu s steps s
-stays knobs cpu s fault f [] = refl
-stays knobs cpu s fault f (step ∷ steps) =
-    (s, subst (λ o. IsReplayStep knobs cpu o s step s) (sym f) refl, stays knobs cpu s fault f steps)
+fault_stays knobs cpu s fault f [] = refl
+fault_stays knobs cpu s fault f (step ∷ steps) =
+    (s, subst (λ o. IsReplayStep knobs cpu o s step s) (sym f) refl, fault_stays knobs cpu s fault f steps)
 
 -- the end test of a replay that has a fault changes nothing
 end_test : (slack : ℕ) (stream : StreamView) (since : Option ℕ) (fault : StepFault) (page : PageView)
@@ -68,7 +68,7 @@ faulted_is_whole stream knobs made page fault is f = go (nat_le (length stream.s
           replay = subst (λ steps. IsReplay knobs stream.cpu is.start steps is.end)
               (take-append-drop made stream.steps ∙ sym all_is)
               (IsReplay-append knobs stream.cpu is.start (take made stream.steps) (drop made stream.steps) is.end is.end
-              is.replay (stays knobs stream.cpu is.end fault faulted (drop made stream.steps)));
+              is.replay (fault_stays knobs stream.cpu is.end fault faulted (drop made stream.steps)));
           result = e ∙ sym (whole_page (nat_le (length stream.steps) (length stream.steps)) _ _ ends_there
               ∙ ap (λ o. end_page knobs.slack stream is.end.since o is.end.page) faulted
               ∙ end_test knobs.slack stream is.end.since fault is.end.page);

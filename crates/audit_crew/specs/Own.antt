@@ -11,8 +11,8 @@ abbrev pub AreTaken : (ReplayView → Type 0) → StreamView → Settings → Ty
 AreTaken takes stream knobs = (page : ReplayView) → page.stream ≡ stream → page.knobs ≡ knobs → takes page
 
 -- a replay, or its page, is of the stream that the record deals to the processor, and by these settings
-abbrev pub IsOwn : Settings → RecordView → ReplayView → Type 0
-IsOwn knobs r replay = IsOwnPageOf knobs r replay.stream.cpu replay
+abbrev pub IsOwnReplay : Settings → RecordView → ReplayView → Type 0
+IsOwnReplay knobs r replay = IsOwnPageOf knobs r replay.stream.cpu replay
 
 -- what a name that is no crew's ledger has in their place; `crew` picks its own
 abbrev pub no_record : RecordView

@@ -1,6 +1,6 @@
 ghost use Rattle.std.specs.Prelude.{◌≡◌, None, if◌then◌else◌, length};
 ghost use Rattle.std.specs.Option.{option_to_list};
-ghost use Rattle.audit_crew.specs.Own.{IsOwn};
+ghost use Rattle.audit_crew.specs.Own.{IsOwnReplay};
 ghost use Rattle.audit_crew.specs.Tags.{tag_of};
 
 use crate::reserved_shelf::ReservedShelf;
@@ -62,7 +62,7 @@ impl<L: CrewLedger, R: Wait> ReservedShelf for Desk<'_, L, R> {
 
     ghost refused = { λ desk. desk.refused };
 
-    ghost takes = { IsOwn L.knobs L.joined };
+    ghost takes = { IsOwnReplay L.knobs L.joined };
 
     fn post(&mut self, page: Page) -> Result<(), (Page, PostFault)> {
         let tag = page.tag();

@@ -1,6 +1,6 @@
 ghost use Rattle.std.specs.Prelude.{◌≡◌, ◌+◌, ◌<◌, ◌≤◌, false, None, IsSome, if◌then◌else◌, IfOk, OnOk};
 ghost use Rattle.std.specs.Option.{ForSome};
-ghost use Rattle.audit_crew.specs.Own.{IsOwn};
+ghost use Rattle.audit_crew.specs.Own.{IsOwnReplay};
 ghost use Rattle.sched_record.specs.Record.{record_view};
 
 use crate::desk::Desk;
@@ -29,7 +29,7 @@ pub(crate) struct Seat<L: CrewLedger> {
     ghost part: { share.parts ≡ 1 },
     ghost counted: { share.amount ≡ (if posted then 1 else 0) },
     ghost free: { IsSome underway → posted ≡ false },
-    ghost own: { ForSome underway (λ begun. IsOwn L.knobs L.joined begun.replay) },
+    ghost own: { ForSome underway (λ begun. IsOwnReplay L.knobs L.joined begun.replay) },
 }
 
 impl<L: CrewLedger> Seat<L> {
@@ -100,7 +100,7 @@ impl<L: CrewLedger> Seat<L> {
     )
         requires free { self.old.posted ≡ false }
         requires idle { self.old.underway ≡ None }
-        requires own { IsOwn L.knobs L.joined begun.replay }
+        requires own { IsOwnReplay L.knobs L.joined begun.replay }
     {
         let Seat {
             share,
@@ -145,7 +145,7 @@ fn deal_and_begin<G: Gate>(
     gate: &G,
 ) -> Result<Underway, Memory>
     requires { cpu < (record_view joined.now).cpus }
-    ensures { IfOk result (λ begun. IsOwn knobs (record_view joined.now) begun.replay) }
+    ensures { IfOk result (λ begun. IsOwnReplay knobs (record_view joined.now) begun.replay) }
 {
     let stream = joined.deal(cpu)?;
     Underway::begin(alloc, gate, stream, knobs, STRETCH)

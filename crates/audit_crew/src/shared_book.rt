@@ -2,7 +2,7 @@ ghost use Rattle.std.specs.Prelude.{◌≡◌, ◌+◌, ◌<◌, length, IfErr, 
 ghost use Rattle.cfs_model.specs.Settings.{Settings};
 ghost use Rattle.sched_record.specs.Record.{RecordView};
 ghost use Rattle.audit_crew.specs.Filled.{filled};
-ghost use Rattle.audit_crew.specs.Own.{IsOwn, no_knobs, no_record};
+ghost use Rattle.audit_crew.specs.Own.{IsOwnReplay, no_knobs, no_record};
 ghost use Rattle.ticket_book.specs.BookView.{book_view};
 ghost use Rattle.ticket_book.specs.Own.{AreOwn};
 
@@ -49,7 +49,7 @@ impl<L: CrewLedger> SharedBook<L> {
     /// Posts a page, and counts it where it is accepted.
     pub(crate) fn post(&mut self, page: Page, share: &mut Share<L>) -> Result<(), (Page, PostFault)>
         requires parts { 0 < share.old.parts }
-        requires own { IsOwn L.knobs L.joined page }
+        requires own { IsOwnReplay L.knobs L.joined page }
         ensures parts { share.new.parts ≡ share.old.parts }
         ensures counted { OnOk result (share.new.amount ≡ share.old.amount + 1) }
         ensures uncounted { OnErr result (share.new.amount ≡ share.old.amount) }

@@ -1,6 +1,6 @@
 //! What no clause says: the words of refusals, reports as they are printed, and ends that fail.
 
-use crate::answers::wants;
+use crate::answers::wants_about;
 use crate::ends::{Failing, Pieces, Room, ample, in_pieces, room_by, whole};
 use crate::runs::wants_run;
 use cfs_model::{Kind, Knobs};
@@ -58,7 +58,7 @@ fn refusals_are_told_in_words(rt: HostRuntime) -> Result<(), Fail> {
         (refused, "trace line 1: BadHead"),
         (Refused::Memory, "out of memory"),
     ] {
-        wants(&rt, "", &words_of(rt.alloc(), refused)?.as_str(), &words);
+        wants_about(&rt, "", &words_of(rt.alloc(), refused)?.as_str(), &words);
     }
     Ok(())
 }
@@ -122,7 +122,7 @@ fn report_of_refusal(
 
 #[test]
 fn reports_are_lines(rt: HostRuntime) -> Result<(), Fail> {
-    wants(
+    wants_about(
         &rt,
         "a run",
         &report_of_run(rt.alloc())?.as_slice(),
@@ -139,7 +139,7 @@ fn reports_are_lines(rt: HostRuntime) -> Result<(), Fail> {
         ),
     ] {
         let report = report_of_fault(rt.alloc(), line)?;
-        wants(&rt, text, &report.as_slice(), &text.as_bytes());
+        wants_about(&rt, text, &report.as_slice(), &text.as_bytes());
     }
     for (source, line, cause, text) in [
         (
@@ -162,7 +162,7 @@ fn reports_are_lines(rt: HostRuntime) -> Result<(), Fail> {
         ),
     ] {
         let report = report_of_refusal(rt.alloc(), source, line, cause)?;
-        wants(&rt, text, &report.as_slice(), &text.as_bytes());
+        wants_about(&rt, text, &report.as_slice(), &text.as_bytes());
     }
     Ok(())
 }

@@ -1,6 +1,6 @@
 //! What words make of a command line: how clap takes them is its own, so that it is shown here.
 
-use crate::answers::wants;
+use crate::answers::wants_about;
 use cfs_model::Knobs;
 use clap::error::ErrorKind;
 use sched_audit::{Request, command_line};
@@ -50,7 +50,7 @@ fn each_option_is_its_own_setting(rt: HostRuntime) {
             ["sched_audit", "a", option, "b"],
             ["sched_audit", option, "a", "b"],
         ] {
-            wants(&rt, option, &asked(rt.alloc(), &words), &Ok(judged(given)));
+            wants_about(&rt, option, &asked(rt.alloc(), &words), &Ok(judged(given)));
         }
     }
 }
@@ -62,7 +62,7 @@ fn settings_have_defaults(rt: HostRuntime) {
         ["sched_audit", "--", "a", "b"].as_slice(),
     ] {
         let standard = judged(Knobs::standard());
-        wants(&rt, "", &asked(rt.alloc(), words), &Ok(standard));
+        wants_about(&rt, "", &asked(rt.alloc(), words), &Ok(standard));
     }
 }
 
@@ -104,7 +104,7 @@ static LEAST_BESIDE_A_SETTING: [&[&str]; 12] = [
 fn least_settings_go_with_no_setting(rt: HostRuntime) {
     for words in &LEAST_BESIDE_A_SETTING {
         let wanted = Err(ErrorKind::ArgumentConflict);
-        wants(&rt, "", &asked(rt.alloc(), words), &wanted);
+        wants_about(&rt, "", &asked(rt.alloc(), words), &wanted);
     }
 }
 
@@ -119,7 +119,7 @@ fn names_are_taken_as_given(rt: HostRuntime) {
             least: false,
             explain: false,
         };
-        wants(&rt, trace, &asked(rt.alloc(), &words), &Ok(wanted));
+        wants_about(&rt, trace, &asked(rt.alloc(), &words), &Ok(wanted));
     }
 }
 
@@ -176,6 +176,6 @@ fn other_words_are_refused(rt: HostRuntime) {
             ErrorKind::DisplayVersion,
         ),
     ] {
-        wants(&rt, "", &asked(rt.alloc(), words), &Err(kind));
+        wants_about(&rt, "", &asked(rt.alloc(), words), &Err(kind));
     }
 }

@@ -19,13 +19,13 @@ use Rattle.cfs_model.specs.declared.task.Place.{Place}
 use Rattle.cfs_model.specs.declared.task.Place.TheVariants.{Run, Wait}
 use Rattle.cfs_model.specs.declared.task.Task.{Task}
 
-abbrev waiting_task : Task
-waiting_task = record { pid = 101; nice = pos 0; idle = false; cpu = 0; place = Wait; v = pos 5 }
+abbrev task_that_waits : Task
+task_that_waits = record { pid = 101; nice = pos 0; idle = false; cpu = 0; place = Wait; v = pos 5 }
 
-abbrev running_task : Task
-running_task = record { pid = 102; nice = pos 0; idle = false; cpu = 0; place = Run; v = pos 3 }
+abbrev task_that_runs : Task
+task_that_runs = record { pid = 102; nice = pos 0; idle = false; cpu = 0; place = Run; v = pos 3 }
 
-start_is : IsStart (pos 3 ∷ pos 100 ∷ []) (waiting_task ∷ running_task ∷ [])
+start_is : IsStart (pos 3 ∷ pos 100 ∷ []) (task_that_waits ∷ task_that_runs ∷ [])
 start_is = record {
   pids_rise = ((lit< tt, tt), (tt, tt));
   one_runs = (((λ t. let e = t.0 in cc), tt), (tt, tt));
@@ -34,14 +34,14 @@ start_is = record {
 }
 
 runs_one : (q : ℕ) → Stands migration_start Run 0 q → 102 ≡ q
-runs_one q h = elim (of_two waiting_task running_task Run 0 q h) [ inl x ↦ let e = x.2 in cc | inr x ↦ x.0 ]
+runs_one q h = elim (of_two task_that_waits task_that_runs Run 0 q h) [ inl x ↦ let e = x.2 in cc | inr x ↦ x.0 ]
 
 waits_one : (q : ℕ) → Stands migration_start Wait 0 q → 101 ≡ q
-waits_one q h = elim (of_two waiting_task running_task Wait 0 q h) [ inl x ↦ x.0 | inr x ↦ let e = x.2 in cc ]
+waits_one q h = elim (of_two task_that_waits task_that_runs Wait 0 q h) [ inl x ↦ x.0 | inr x ↦ let e = x.2 in cc ]
 
 -- nobody stands at the second processor
-nobody_there : (place : Place) (q : ℕ) → named_in (waiting_task ∷ running_task ∷ []) place 1 q ≡ true → ⊥
-nobody_there place q h = elim (of_two waiting_task running_task place 1 q h) [
+nobody_there : (place : Place) (q : ℕ) → named_in (task_that_waits ∷ task_that_runs ∷ []) place 1 q ≡ true → ⊥
+nobody_there place q h = elim (of_two task_that_waits task_that_runs place 1 q h) [
   | inl x ↦ let e = x.1 in absurd
       (omega arith)
   | inr x ↦ let e = x.1 in absurd (omega arith)
@@ -107,7 +107,7 @@ module _ (time : ℕ) (v least w : ℤ) (is_v : (after_charge time).runtime 102 
           in_range = change_range standard lifted (migration_event time w).entry.act
               (migration_event time w).claim false after changes range
               (lifted_range time (0 ∷ 1 ∷ []) migration_start lifted lift
-              (start_in_order start_time (pos 3 ∷ pos 100 ∷ []) (waiting_task ∷ running_task ∷ []) start_is).in_range);
+              (start_in_order start_time (pos 3 ∷ pos 100 ∷ []) (task_that_waits ∷ task_that_runs ∷ []) start_is).in_range);
         },
       )
 

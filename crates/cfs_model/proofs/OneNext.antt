@@ -24,14 +24,14 @@ use Rattle.cfs_model.specs.declared.task.Place.TheVariants.{Run, Wait, Rest}
 ≤ℤ_antisymm v w p q = omega (arith, ints)
 
 -- there is one least virtual runtime
-one_least : (m : Machine) (cpu : ℕ) (v w : ℤ) → IsLeast m cpu v → IsLeast m cpu w → v ≡ w
-one_least m cpu v w p q = ≤ℤ_antisymm v w (p.least q.pid w q.queued q.runtime) (q.least p.pid v p.queued p.runtime)
+one_least_runtime : (m : Machine) (cpu : ℕ) (v w : ℤ) → IsLeast m cpu v → IsLeast m cpu w → v ≡ w
+one_least_runtime m cpu v w p q = ≤ℤ_antisymm v w (p.least q.pid w q.queued q.runtime) (q.least p.pid v p.queued p.runtime)
 
 one_raised : (m : Machine) (cpu : ℕ) (f g : ℤ) → IsRaised m cpu f → IsRaised m cpu g → f ≡ g
 one_raised m cpu f g (inl a) (inl b) = a.1 ∙ sym b.1
 one_raised m cpu f g (inl a) (inr b) = absurd (a.0 b.1.pid b.1.queued)
 one_raised m cpu f g (inr a) (inl b) = absurd (b.0 a.1.pid a.1.queued)
-one_raised m cpu f g (inr a) (inr b) = a.2 ∙ ap (λ v. int_max (m.floor cpu) v) (one_least m cpu a.0 b.0 a.1 b.1) ∙ sym b.2
+one_raised m cpu f g (inr a) (inr b) = a.2 ∙ ap (λ v. int_max (m.floor cpu) v) (one_least_runtime m cpu a.0 b.0 a.1 b.1) ∙ sym b.2
 
 one_lifted_at : (time cpu : ℕ) (before after other : Machine) → IsLiftedAt time cpu before after
     → IsLiftedAt time cpu before other → after ≡ other

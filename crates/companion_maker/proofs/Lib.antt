@@ -1,3 +1,2 @@
-mod Outside
 mod Told
 mod Unguessed

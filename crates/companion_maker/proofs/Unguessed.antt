@@ -32,9 +32,9 @@ abbrev stands_for : List ℕ → ℕ → Bool
 stands_for word n = nat_lt 0 (length word) && (list_all is_digit word && (value_of word == n))
 
 -- words stand for numbers from this one up
-abbrev count_from : ℕ → List (List ℕ) → Bool
-count_from n [] = true
-count_from n (word ∷ words) = stands_for word n && count_from (n + 1) words
+abbrev stand_from : ℕ → List (List ℕ) → Bool
+stand_from n [] = true
+stand_from n (word ∷ words) = stands_for word n && stand_from (n + 1) words
 
 and_left : (a b : Bool) → (a && b) ≡ true → a ≡ true
 and_left true b e = refl
@@ -44,8 +44,8 @@ and_right : (a b : Bool) → (a && b) ≡ true → b ≡ true
 and_right true b e = e
 and_right false b e = absurd cc
 
-number_of : (word : List ℕ) (n : ℕ) → stands_for word n ≡ true → IsNumber word n
-number_of word n e =
+number_stood_for : (word : List ℕ) (n : ℕ) → stands_for word n ≡ true → IsNumber word n
+number_stood_for word n e =
     let some = and_left (nat_lt 0 (length word)) _ e in
     let rest = and_right (nat_lt 0 (length word)) _ e in
     let all = and_left (list_all is_digit word) _ rest in
@@ -64,8 +64,8 @@ abbrev with_floors : List Shape → ℕ → List (List ℕ) → List Shape
 with_floors earlier cpu [] = earlier
 with_floors earlier cpu (word ∷ words) = with_floors (earlier ++ floor_line cpu (pos 0) ∷ []) (cpu + 1) words
 
-no_fault : (said : Said) (cpu : ℕ) → IsBegun said cpu → cpu < 64 → fault_of said (floor_line cpu (pos 0)) ≡ None
-no_fault said cpu begun below =
+floor_passes : (said : Said) (cpu : ℕ) → IsBegun said cpu → cpu < 64 → fault_of said (floor_line cpu (pos 0)) ≡ None
+floor_passes said cpu begun below =
     let fewer : (cpu == 64) ≡ false = ne_eqb cpu 64 (λ e. absurd (omega (arith, e, below))) in
     let within : nat_lt cpu 64 ≡ true = lt-ltb cpu 64 below in
     let same : (cpu == cpu) ≡ true = eq-eqb cpu cpu refl in
@@ -88,8 +88,8 @@ not_control : (line : List ℕ) → (first_byte line ≡ 99 → second_byte line
 not_control line other (inl e) = other (ap first_byte e) (ap second_byte e)
 not_control line other (inr p) = other (ap first_byte p.1) (ap second_byte p.1)
 
-no_group : (word : List ℕ) → ¬ IsControlGroup (floor_text word)
-no_group word group = not_control (floor_text word) (λ e f. let no : 102 ≡ 99 = e in absurd (omega (arith, no))) group
+floor_no_group : (word : List ℕ) → ¬ IsControlGroup (floor_text word)
+floor_no_group word group = not_control (floor_text word) (λ e f. let no : 102 ≡ 99 = e in absurd (omega (arith, no))) group
 
 zero_number : IsNumber (codes "0") 0
 zero_number = record { digits = record { some = omega arith; all = refl }; value = refl }
@@ -98,8 +98,8 @@ floor_spelled : (word : List ℕ) (cpu : ℕ) → IsNumber word cpu → IsSpelle
 floor_spelled word cpu number = (word, codes "0", number, inl (0, zero_number, refl), refl)
 
 -- a line that is spelled so, and passes the tests, is good
-judged : (said : Said) (line : List ℕ) (x : Shape) → said.version ≡ Some 2 → ¬ IsControlGroup line → IsSpelled 2 line x → fault_of said x ≡ None → IsJudged said line (Ok x)
-judged said line x begun plain spelled passed =
+judged_good : (said : Said) (line : List ℕ) (x : Shape) → said.version ≡ Some 2 → ¬ IsControlGroup line → IsSpelled 2 line x → fault_of said x ≡ None → IsJudged said line (Ok x)
+judged_good said line x begun plain spelled passed =
     let ok : Ok x ≡ tested said x = rw passed refl in
     subst (λ o. MatchOption o (IsJudgedFirst line (Ok x)) (λ v. IsJudgedLater v said line (Ok x))) (sym begun) (inr (inr (plain, (x, spelled, ok))))
 
@@ -108,17 +108,17 @@ begun_on earlier cpu begun =
     subst (λ said. IsBegun said (cpu + 1)) (sym (summed-push earlier (floor_line cpu (pos 0))))
     (record { version_is = begun.version_is; cpus_is = begun.cpus_is; start_is = begun.start_is; floors_are = length-append (summed earlier).floors (pos 0 ∷ []) ∙ ap (λ n. n + 1) begun.floors_are })
 
-floors_good : (words : List (List ℕ)) (earlier : List Shape) (cpu : ℕ) → count_from cpu words ≡ true → cpu + length words ≡ 64 → IsBegun (summed earlier) cpu → AreGood earlier (map floor_text words) (with_floors earlier cpu words)
+floors_good : (words : List (List ℕ)) (earlier : List Shape) (cpu : ℕ) → stand_from cpu words ≡ true → cpu + length words ≡ 64 → IsBegun (summed earlier) cpu → AreGood earlier (map floor_text words) (with_floors earlier cpu words)
 floors_good [] earlier cpu counted all begun = refl
 floors_good (word ∷ words) earlier cpu counted all begun =
-    let number = number_of word cpu (and_left (stands_for word cpu) _ counted) in
+    let number = number_stood_for word cpu (and_left (stands_for word cpu) _ counted) in
     let x = floor_line cpu (pos 0) in
-    let passed = no_fault (summed earlier) cpu begun (omega (arith, all)) in
+    let passed = floor_passes (summed earlier) cpu begun (omega (arith, all)) in
     inr (
       no_comment word,
       (
         x,
-        judged (summed earlier) (floor_text word) x begun.version_is (no_group word) (floor_spelled word cpu number) passed,
+        judged_good (summed earlier) (floor_text word) x begun.version_is (floor_no_group word) (floor_spelled word cpu number) passed,
         floors_good words (earlier ++ x ∷ []) (cpu + 1) (and_right (stands_for word cpu) _ counted) (omega (arith, all)) (begun_on earlier cpu begun),
       ),
     )
@@ -128,10 +128,10 @@ floors_good (word ∷ words) earlier cpu counted all begun =
 abbrev front : List Shape
 front = version_line 2 ∷ cpus_line 64 ∷ start_line 0 0 ∷ []
 
-abbrev all_said : List Shape
-all_said = with_floors front 0 floor_words
+abbrev said_lines : List Shape
+said_lines = with_floors front 0 floor_words
 
-floors_all : AreGood front (map floor_text floor_words) all_said
+floors_all : AreGood front (map floor_text floor_words) said_lines
 floors_all = floors_good floor_words front 0 refl refl (record { version_is = refl; cpus_is = refl; start_is = refl; floors_are = refl })
 
 start_spelled : IsSpelled 2 (codes "start 0.000000") (start_line 0 0)
@@ -150,7 +150,7 @@ cpus_no_group = not_control (codes "cpus 64") (λ e f. let no : 112 ≡ 103 = f 
 start_no_group : ¬ IsControlGroup (codes "start 0.000000")
 start_no_group = not_control (codes "start 0.000000") (λ e f. let no : 115 ≡ 99 = e in absurd (omega (arith, no)))
 
-plain_good : AreGood [] plain_lines all_said
+plain_good : AreGood [] plain_lines said_lines
 unfolding is_comment
 plain_good =
     inr (
@@ -162,12 +162,12 @@ plain_good =
           (λ comment. absurd cc),
           (
             cpus_line 64,
-            judged (summed (version_line 2 ∷ [])) (codes "cpus 64") (cpus_line 64) refl cpus_no_group cpus_spelled refl,
+            judged_good (summed (version_line 2 ∷ [])) (codes "cpus 64") (cpus_line 64) refl cpus_no_group cpus_spelled refl,
             inr (
               (λ comment. absurd cc),
               (
                 start_line 0 0,
-                judged (summed (version_line 2 ∷ cpus_line 64 ∷ [])) (codes "start 0.000000") (start_line 0 0) refl start_no_group start_spelled refl,
+                judged_good (summed (version_line 2 ∷ cpus_line 64 ∷ [])) (codes "start 0.000000") (start_line 0 0) refl start_no_group start_spelled refl,
                 floors_all,
               ),
             ),
@@ -178,12 +178,12 @@ plain_good =
 
 -- what the plain companion says
 abbrev said_plainly : CompanionView
-said_plainly = record { cpus = 64; start = 0; floors = (summed all_said).floors; tasks = []; claims = []; nices = []; idles = [] }
+said_plainly = record { cpus = 64; start = 0; floors = (summed said_lines).floors; tasks = []; claims = []; nices = []; idles = [] }
 
 plain_read : CompanionAnswer plain (Ok said_plainly)
 plain_read =
     rw split_plain
-    (record { said = all_said; good = plain_good; whole = refl; cpus_is = refl; start_is = refl; floors_is = refl; tasks_is = refl; claims_is = refl; nices_is = refl; idles_is = refl })
+    (record { said = said_lines; good = plain_good; whole = refl; cpus_is = refl; start_is = refl; floors_is = refl; tasks_is = refl; claims_is = refl; nices_is = refl; idles_is = refl })
 
 begins_late : (events : List Entry) → BeginsInTime 0 events
 begins_late [] = tt

@@ -43,7 +43,7 @@ pub fn companion_of_text(alloc: Global, text: &[u8], wishes: &Wishes) -> Result<
 
 /// A companion for a trace. What was guessed is read back and joined with the trace; where that should fail, the
 /// companion is the plain one, which goes together with every trace.
-#[tactic(auto, using(crate::proofs::Outside::none_outside))]
+#[tactic(auto, using(sched_record::proofs::OneRecord::none_outside))]
 pub fn make_companion(alloc: Global, trace: Trace, wishes: &Wishes) -> Result<Made, NotMade>
     // What is made is a companion, and joins with the trace.
     ensures fits { IfOk result (λ made. ReadsAndJoins (trace_view trace) made.text.items) }

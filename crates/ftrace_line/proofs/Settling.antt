@@ -93,15 +93,15 @@ clock_same : (text : List ℕ) → rest_of (or_else (stamp_at text) (flagged_sta
 unfolding behind_clock
 clock_same text = rest_else (stamp_at text) (flagged_stamp_at text) ∙ rw (stamp_same text, flagged_same text) refl
 
-processor_again : (digits rest : List ℕ) → IsNumeral digits → 3 ≤ length digits → behind_processor (91 ∷ (digits ++ (93 ∷ rest))) ≡ Some rest
+behind_processor_again : (digits rest : List ℕ) → IsNumeral digits → 3 ≤ length digits → behind_processor (91 ∷ (digits ++ (93 ∷ rest))) ≡ Some rest
 unfolding behind_processor behind_digits
-processor_again digits rest numeral width =
+behind_processor_again digits rest numeral width =
     let b : DigitsInFront digits (93 ∷ rest) (digits ++ (93 ∷ rest)) = digits_in_front digits (93 ∷ rest) numeral refl in
     rw (text_again (codes "[") (digits ++ (93 ∷ rest)), b.rest_is, b.length_is, le-ltb (length digits) 3 width, text_again (codes "]") rest) refl
 
 processor_same : (text : List ℕ) (x : ℕ × List ℕ) → processor_at text ≡ Some x → behind_processor text ≡ Some x.1
 processor_same text x e =
-    let p = processor_taken text x.0 x.1 e in ap behind_processor p.whole ∙ processor_again p.digits x.1 p.form p.width
+    let p = processor_taken text x.0 x.1 e in ap behind_processor p.whole ∙ behind_processor_again p.digits x.1 p.form p.width
 
 -- what follows a head that was read
 head_same : (line : List ℕ) (parts : HeadParts) → head_at line ≡ Some parts → behind_head line ≡ Some parts.text

@@ -15,8 +15,8 @@ use Rattle.queue_replay.specs.Tasks.{entity_of}
 use Rattle.queue_replay.proofs.Parts.{its_place}
 
 -- the task of a pid as the part has it
-pub told : (task : Option Task) (t : Task) (o : Option Entity) → task ≡ Some t → option_map entity_of task ≡ o → Some (entity_of t) ≡ o
-told task t o is e = sym (ap (option_map entity_of) is) ∙ e
+pub entity_told : (task : Option Task) (t : Task) (o : Option Entity) → task ≡ Some t → option_map entity_of task ≡ o → Some (entity_of t) ≡ o
+entity_told task t o is e = sym (ap (option_map entity_of) is) ∙ e
 
 -- a task of this pid, where one has it
 pub some_task : (part : Part) (pid : ℕ) (t : Task) (P : Entity → Type 0) (b : Bool) → Some (entity_of t) ≡ part.tasks pid

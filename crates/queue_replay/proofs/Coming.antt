@@ -15,7 +15,7 @@ use Rattle.queue_replay.specs.Standing.{by_runtime, listed, standing, runtime_if
 use Rattle.queue_replay.specs.declared.waiting_task.WaitingTask.{WaitingTask}
 use Rattle.queue_replay.specs.Tasks.{entity_of}
 use Rattle.queue_replay.proofs.Parts.{part_with, its_place, same_tasks, put-at, put-under}
-use Rattle.queue_replay.proofs.Standings.{queue_is, waiting_in, only_in, listed_in, listed_some, listed_kept, apart_from, standing_listed, map_at, map_other, rewritten, joins, stays, only_kept, only_comes}
+use Rattle.queue_replay.proofs.Standings.{queue_is, waiting_in, only_in, listed_in, listed_some, listed_kept, runner_apart, standing_listed, map_at, map_other, rewritten, joins, stays, only_kept, only_comes}
 use Rattle.queue_replay.proofs.Moved.{kept_runner}
 
 -- a place that isn't the runner's
@@ -32,7 +32,7 @@ rest_run e = cc
 module _ (runner : Option Task) (m n : BTreeMap ℕ Task) (a : BTreeSet WaitingTask) (kept : IsQueue runner m a) (t : Task)
     (none : standing runner m t.pid ≡ None) (u : Updates nat_cmp m n t.pid (Some t)) where
   apart_new : (x : Task) → runner ≡ Some x → x.pid ≢ t.pid
-  apart_new = apart_from runner m a kept t.pid (λ e. let f : None ≡ Some Run = sym (ap its_place none) ∙ e in cc)
+  apart_new = runner_apart runner m a kept t.pid (λ e. let f : None ≡ Some Run = sym (ap its_place none) ∙ e in cc)
 
   pub come_waits : (b : BTreeSet WaitingTask) → set.Updates by_runtime a b (waiting_task t.v t.pid) true → t.place ≡ Wait → IsQueue runner n b
   come_waits b s waits =

@@ -101,8 +101,8 @@ runner_only part t r pid s e runs =
     let p : pid ≡ t.pid = r.2 pid (ap its_place e ∙ ap Some runs) in
     ap (λ (x : Entity). x.runtime) (same_Some s (entity_of t) (sym e ∙ ap part.tasks p ∙ r.0))
 
-pub least_of_both : (part : Part) (t : Task) (v : ℤ) → IsTheRunner part (Some t) → IsLeastWaiting part v → IsLeastHere part (int_min v t.v)
-least_of_both part t v r w =
+pub least_with_runner : (part : Part) (t : Task) (v : ℤ) → IsTheRunner part (Some t) → IsLeastWaiting part v → IsLeastHere part (int_min v t.v)
+least_with_runner part t v r w =
     elim (cases_ℤ v t.v) [
       | inl below ↦ record {
         pid = w.pid;
@@ -216,8 +216,8 @@ module _ (runner : Option Task) (m : BTreeMap ℕ Task) (a : BTreeSet WaitingTas
       far (inl h) = inl h
       far (inr h) = inr (let c : ((t.v +ℤ pos (cost_of (time - mark) t)) ≤ℤ pos greatest) → ⊥ = λ n. cannot (h, n) in grind (arith, ints, c))
 
-  charged_at : (q : ℕ) → standing (Some (charged_task (time - mark) t)) m q ≡ put (standing runner m) t.pid (Some (entity_of (charged_task (time - mark) t))) q
-  charged_at q =
+  charged_standing : (q : ℕ) → standing (Some (charged_task (time - mark) t)) m q ≡ put (standing runner m) t.pid (Some (entity_of (charged_task (time - mark) t))) q
+  charged_standing q =
       elim (cases_eq q t.pid) [
         | inl same ↦ put-at (listed m) t.pid (Some (entity_of (charged_task (time - mark) t))) q same
             ∙ sym (put-at (standing runner m) t.pid (Some (entity_of (charged_task (time - mark) t))) q same)
@@ -231,16 +231,16 @@ module _ (runner : Option Task) (m : BTreeMap ℕ Task) (a : BTreeSet WaitingTas
       let new : Task = charged_task (time - mark) t in
       let has = is_listed runner m (listed_in runner m a kept) t is in
       queue_is (Some (charged_task (time - mark) t)) m a
-      (stays (standing runner m) (standing (Some (charged_task (time - mark) t)) m) t.pid (Some (entity_of (charged_task (time - mark) t))) charged_at a (waiting_in runner m a kept)
+      (stays (standing runner m) (standing (Some (charged_task (time - mark) t)) m) t.pid (Some (entity_of (charged_task (time - mark) t))) charged_standing a (waiting_in runner m a kept)
       (ap (λ p. runtime_if p (charged_task (time - mark) t).v) ran.1 ∙ sym (ap waiting_runtime ran.0 ∙ ap (λ p. runtime_if p t.v) ran.1)))
-      (only_runs (standing runner m) (standing (Some (charged_task (time - mark) t)) m) t.pid (Some (entity_of (charged_task (time - mark) t))) charged_at t (charged_task (time - mark) t) refl refl
+      (only_runs (standing runner m) (standing (Some (charged_task (time - mark) t)) m) t.pid (Some (entity_of (charged_task (time - mark) t))) charged_standing t (charged_task (time - mark) t) refl refl
       (subst (λ r. IsOnlyRunner (standing runner m) r) is (only_in runner m a kept)))
       (listed_some m (charged_task (time - mark) t) has.0 has.1)
 
   pub charged_is : part_with (standing (Some (charged_task (time - mark) t)) m) floor time ≡ charged_part (part_with (standing runner m) floor mark) time
   charged_is =
       same_tasks (standing (Some (charged_task (time - mark) t)) m) (charged_part (part_with (standing runner m) floor mark) time).tasks floor time (λ q.
-      charged_at q ∙ elim (cases_eq q t.pid) [
+      charged_standing q ∙ elim (cases_eq q t.pid) [
         | inl same ↦ put-at (standing runner m) t.pid (Some (entity_of (charged_task (time - mark) t))) q same
             ∙ ap (λ p. Some (record (entity_of t) { runtime = runtime_after p (cost_of (time - mark) t) t.v })) (sym ran.1 ∙ refl) ∙ refl
             ∙ sym (ap (option_map (charged_in (part_with (standing runner m) floor mark) time)) (ap (standing runner m) same ∙ ran.0))

@@ -23,7 +23,7 @@ use Rattle.queue_replay.specs.declared.waiting_task.WaitingTask.{WaitingTask}
 use Rattle.queue_replay.specs.Tasks.{entity_of}
 use Rattle.cfs_model.proofs.Moves.{put-other}
 use Rattle.queue_replay.proofs.Parts.{part_with, its_place, same_tasks, put-at, written_over}
-use Rattle.queue_replay.proofs.Standings.{queue_is, waiting_in, only_in, listed_in, listed_none, listed_some, listed_kept, is_listed, the_runner, apart_from, standing_listed, standing_same, rewritten, put_away, runtime_own, joins, parts, stays, only_kept, only_left, only_comes}
+use Rattle.queue_replay.proofs.Standings.{queue_is, waiting_in, only_in, listed_in, listed_none, listed_some, listed_kept, is_listed, the_runner, runner_apart, standing_listed, standing_same, rewritten, put_away, runtime_own, joins, parts, stays, only_kept, only_left, only_comes}
 
 -- a switch's two tasks, where they aren't pid 0
 pub after_stays : (part : Part) (prev : ℕ) → prev ≢ 0 → goes part prev Wait ≡ part_after_prev part prev Stays
@@ -38,9 +38,9 @@ pub after_ends : (part : Part) (prev : ℕ) → prev ≢ 0 → with_entity part 
 after_ends part zero ne = absurd (ne refl)
 after_ends part (suc n) ne = refl
 
-pub after_next : (part : Part) (next : ℕ) → next ≢ 0 → goes part next Run ≡ part_after_next part next
-after_next part zero ne = absurd (ne refl)
-after_next part (suc n) ne = refl
+pub next_goes : (part : Part) (next : ℕ) → next ≢ 0 → goes part next Run ≡ part_after_next part next
+next_goes part zero ne = absurd (ne refl)
+next_goes part (suc n) ne = refl
 
 -- what a switch makes of its previous task
 abbrev after_way : Way → Entity → Option Entity
@@ -62,8 +62,8 @@ module _ (m n : BTreeMap ℕ Task) (a : BTreeSet WaitingTask) (t : Task) (kept :
   ran : IsTheRunner (part_with (standing (Some t) m) (pos 0) 0) (Some t)
   ran = the_runner (Some t) m a (pos 0) 0 kept
 
-  unwaited : waiting_runtime (standing (Some t) m t.pid) ≡ None
-  unwaited = ap waiting_runtime ran.0 ∙ ap (λ p. runtime_if p t.v) ran.1
+  runner_unwaited : waiting_runtime (standing (Some t) m t.pid) ≡ None
+  runner_unwaited = ap waiting_runtime ran.0 ∙ ap (λ p. runtime_if p t.v) ran.1
 
   -- who ran waits
   pub back_queue : (b : BTreeSet WaitingTask) → set.Updates by_runtime a b (waiting_task t.v t.pid) true → option_map entity_of w ≡ Some (record { place = Wait; nice = t.nice; idle = t.idle; runtime = t.v })
@@ -72,7 +72,7 @@ module _ (m n : BTreeMap ℕ Task) (a : BTreeSet WaitingTask) (t : Task) (kept :
       let e : waiting_runtime (option_map entity_of w) ≡ Some t.v = ap waiting_runtime is in
       let ne : its_place (option_map entity_of w) ≡ Some Run → ⊥ = λ f. let g : Some Wait ≡ Some Run = sym (ap its_place is) ∙ f in cc in
       queue_is None n b
-      (joins (standing (Some t) m) (standing None n) t.pid (option_map entity_of w) (put_away t m n w u) a b t.v (waiting_in (Some t) m a kept) s unwaited e)
+      (joins (standing (Some t) m) (standing None n) t.pid (option_map entity_of w) (put_away t m n w u) a b t.v (waiting_in (Some t) m a kept) s runner_unwaited e)
       (only_left (standing (Some t) m) (standing None n) t.pid (option_map entity_of w) (put_away t m n w u) t refl (only_in (Some t) m a kept) ne)
       (listed_none n)
 
@@ -80,14 +80,14 @@ module _ (m n : BTreeMap ℕ Task) (a : BTreeSet WaitingTask) (t : Task) (kept :
   pub away_queue : (its_place (option_map entity_of w) ≡ Some Run → ⊥) → waiting_runtime (option_map entity_of w) ≡ None → IsQueue None n a
   away_queue ne none =
       queue_is None n a
-      (stays (standing (Some t) m) (standing None n) t.pid (option_map entity_of w) (put_away t m n w u) a (waiting_in (Some t) m a kept) (none ∙ sym unwaited))
+      (stays (standing (Some t) m) (standing None n) t.pid (option_map entity_of w) (put_away t m n w u) a (waiting_in (Some t) m a kept) (none ∙ sym runner_unwaited))
       (only_left (standing (Some t) m) (standing None n) t.pid (option_map entity_of w) (put_away t m n w u) t refl (only_in (Some t) m a kept) ne)
       (listed_none n)
 
-  pub prev_part : (floor : ℤ) (mark : ℕ) (way : Way) → option_map entity_of w ≡ after_way way (entity_of t) → (prev : ℕ)
+  pub prev_standing : (floor : ℤ) (mark : ℕ) (way : Way) → option_map entity_of w ≡ after_way way (entity_of t) → (prev : ℕ)
       → ((IsRunner (part_with (standing (Some t) m) floor mark) prev → ⊥) → ⊥)
       → part_with (standing None n) floor mark ≡ part_after_prev (part_with (standing (Some t) m) floor mark) prev way
-  prev_part floor mark way is prev h =
+  prev_standing floor mark way is prev h =
       let old : Part = part_with (standing (Some t) m) floor mark in
       let p = prev_is (part_with (standing (Some t) m) floor mark) t (the_runner (Some t) m a floor mark kept) prev h in
       subst (λ x. part_with (standing None n) floor mark ≡ part_after_prev (part_with (standing (Some t) m) floor mark) x way) (sym p.1)
@@ -122,7 +122,7 @@ pub runner_leaves : (runner : Option Task) (m n : BTreeMap ℕ Task) (a : BTreeS
 runner_leaves runner m n a t kept e w u floor mark way is =
     subst (λ (r : Option Task). (prev : ℕ) → ((IsRunner (part_with (standing r m) floor mark) prev → ⊥) → ⊥)
     → part_with (standing None n) floor mark ≡ part_after_prev (part_with (standing r m) floor mark) prev way) (sym e)
-    (prev_part m n a t (kept_runner runner m a (Some t) kept e) w u floor mark way is)
+    (prev_standing m n a t (kept_runner runner m a (Some t) kept e) w u floor mark way is)
 
 -- nobody runs: the previous task is the idle one
 pub idle_prev : (part : Part) → IsTheRunner part None → (way : Way) (prev : ℕ) → ((IsRunner part prev → ⊥) → ⊥)
@@ -152,26 +152,26 @@ next_queue m a b t new kept has s runs =
     go None e = cc
     go (Some x) e = refl
 
-pub next_part : (m : BTreeMap ℕ Task) (t new : Task) (floor : ℤ) (mark : ℕ) → listed m new.pid ≡ Some (entity_of t) → new.pid ≢ 0
+pub next_standing : (m : BTreeMap ℕ Task) (t new : Task) (floor : ℤ) (mark : ℕ) → listed m new.pid ≡ Some (entity_of t) → new.pid ≢ 0
     → entity_of new ≡ record { place = Run; nice = t.nice; idle = t.idle; runtime = t.v }
     → part_with (standing (Some new) m) floor mark ≡ part_after_next (part_with (standing None m) floor mark) new.pid
-next_part m t new floor mark has ne is =
+next_standing m t new floor mark has ne is =
     ap (with_entity (part_with (listed m) floor mark) new.pid)
     (ap Some is ∙ sym (ap (option_map (λ (s : Entity). record s { place = Run })) has))
-    ∙ after_next (part_with (standing None m) floor mark) new.pid ne
+    ∙ next_goes (part_with (standing None m) floor mark) new.pid ne
 
 pub no_next : (m : BTreeMap ℕ Task) (next : ℕ) (floor : ℤ) (mark : ℕ) → listed m next ≡ None → next ≢ 0
     → part_with (standing None m) floor mark ≡ part_after_next (part_with (standing None m) floor mark) next
 no_next m next floor mark none ne =
     written_over (part_with (listed m) floor mark) next (option_map (λ (s : Entity). record s { place = Run }) (listed m next))
     (ap (option_map (λ (s : Entity). record s { place = Run })) none ∙ sym none)
-    ∙ after_next (part_with (standing None m) floor mark) next ne
+    ∙ next_goes (part_with (standing None m) floor mark) next ne
 
 -- one who doesn't run leaves
 module _ (runner : Option Task) (m n : BTreeMap ℕ Task) (a : BTreeSet WaitingTask) (kept : IsQueue runner m a) (pid : ℕ)
     (at_rest : its_place (standing runner m pid) ≡ Some Run → ⊥) (u : Updates nat_cmp m n pid None) where
   apart : (t : Task) → runner ≡ Some t → t.pid ≢ pid
-  apart = apart_from runner m a kept pid at_rest
+  apart = runner_apart runner m a kept pid at_rest
 
   pub gone_queue : (b : BTreeSet WaitingTask) (t : Task) → get nat_cmp m pid ≡ Some t → set.Updates by_runtime a b (waiting_task t.v pid) false → IsQueue runner n b
   gone_queue b t has s =
@@ -191,14 +191,14 @@ module _ (runner : Option Task) (m n : BTreeMap ℕ Task) (a : BTreeSet WaitingT
       (only_kept (standing runner m) (standing runner n) pid None (rewritten runner m n pid None u apart) runner (only_in runner m a kept) (λ e. cc))
       (listed_kept runner m n pid None u apart (listed_in runner m a kept))
 
-  pub gone_part : (floor : ℤ) (mark : ℕ) → part_with (standing runner n) floor mark ≡ with_entity (part_with (standing runner m) floor mark) pid None
-  gone_part floor mark = same_tasks (standing runner n) (put (standing runner m) pid None) floor mark (rewritten runner m n pid None u apart)
+  pub gone_standing : (floor : ℤ) (mark : ℕ) → part_with (standing runner n) floor mark ≡ with_entity (part_with (standing runner m) floor mark) pid None
+  gone_standing floor mark = same_tasks (standing runner n) (put (standing runner m) pid None) floor mark (rewritten runner m n pid None u apart)
 
 -- one who rests is woken
 module _ (runner : Option Task) (m n : BTreeMap ℕ Task) (a : BTreeSet WaitingTask) (kept : IsQueue runner m a) (pid : ℕ) (t : Task)
     (stands : Some (entity_of t) ≡ standing runner m pid) (rests : t.place ≡ Rest) where
   apart_rest : (x : Task) → runner ≡ Some x → x.pid ≢ pid
-  apart_rest = apart_from runner m a kept pid (λ e. let f : Some Rest ≡ Some Run = ap Some (sym rests) ∙ ap its_place stands ∙ e in cc)
+  apart_rest = runner_apart runner m a kept pid (λ e. let f : Some Rest ≡ Some Run = ap Some (sym rests) ∙ ap its_place stands ∙ e in cc)
 
   pub wake_has : IsSome (get nat_cmp m pid)
   wake_has = go (get nat_cmp m pid) (stands ∙ standing_listed runner m pid apart_rest)
@@ -259,8 +259,8 @@ stands_there runner m pid t e same =
 pub same_entries : (m n : BTreeMap ℕ Task) → n.entries ≡ m.entries → (q : ℕ) → get nat_cmp n q ≡ get nat_cmp m q
 same_entries m n e q = ap (λ (es : List (ℕ × Task)). lookup (is_at (nat_cmp q)) es) e
 
-pub same_keys : (a b : BTreeSet WaitingTask) → b.keys ≡ a.keys → (v : ℤ) (q : ℕ) → contains by_runtime b (waiting_task v q) ≡ contains by_runtime a (waiting_task v q)
-same_keys a b e v q = ap (list_any (is_at (by_runtime (waiting_task v q)))) e
+pub same_waiting_keys : (a b : BTreeSet WaitingTask) → b.keys ≡ a.keys → (v : ℤ) (q : ℕ) → contains by_runtime b (waiting_task v q) ≡ contains by_runtime a (waiting_task v q)
+same_waiting_keys a b e v q = ap (list_any (is_at (by_runtime (waiting_task v q)))) e
 
 -- a lift that is taken back
 pub restored_part : (runner r : Option Task) (m n : BTreeMap ℕ Task) (floor f : ℤ) (mark k : ℕ) → r ≡ runner → f ≡ floor → k ≡ mark

@@ -62,11 +62,11 @@ next_stays part (suc n) Sleeps next ne = put-other part.tasks (suc n) _ next (λ
 next_stays part (suc n) Ends next ne = put-other part.tasks (suc n) None next (λ e. ne (sym e))
 
 -- the tests of a switch's pick, on the part that its previous task has left
-pub picks_same : (knobs : Settings) (part moved : Part) (prev : ℕ) (prev_nice : ℤ) (way : Way) (next : ℕ) (next_nice : ℤ) (own : Option Entity)
+pub pick_tests_same : (knobs : Settings) (part moved : Part) (prev : ℕ) (prev_nice : ℤ) (way : Way) (next : ℕ) (next_nice : ℤ) (own : Option Entity)
     → moved ≡ part_after_prev part prev way → (next ≢ 0 → own ≡ part.tasks next)
     → (found : Option FailedTest) → IsFirst found (moved_tests knobs.granularity own moved next)
     → IsFirst found (pick_tests knobs part (Switch prev prev_nice way next next_nice))
-picks_same knobs part moved prev prev_nice way next next_nice own m o found h =
+pick_tests_same knobs part moved prev prev_nice way next next_nice own m o found h =
     go next o (subst (λ (p : Part). IsFirst found (moved_tests knobs.granularity own p next)) m h)
   where
     go : (n : ℕ) → (n ≢ 0 → own ≡ part.tasks n) → IsFirst found (moved_tests knobs.granularity own (part_after_prev part prev way) n)

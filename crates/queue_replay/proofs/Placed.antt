@@ -74,12 +74,12 @@ any_at (x ∷ xs) pid (suc i) d h e = ap (λ b. eqb x.pid pid || b) (any_at xs p
     or_true true = refl
     or_true false = refl
 
-pub with_new : (tallies : List Tally) (pid : ℕ) → All (λ t. t.pid ≢ pid) tallies → tallies ++ new_tally pid ∷ [] ≡ with_tally pid tallies
-with_new tallies pid none =
+pub pushed_tally : (tallies : List Tally) (pid : ℕ) → All (λ t. t.pid ≢ pid) tallies → tallies ++ new_tally pid ∷ [] ≡ with_tally pid tallies
+pushed_tally tallies pid none =
     sym (cond-false (list_any (λ t. eqb t.pid pid) tallies) tallies (tallies ++ new_tally pid ∷ []) (any_none tallies pid none))
 
-pub with_old : (tallies : List Tally) (pid i : ℕ) (d : Tally) → i < length tallies → (get_or tallies i d).pid ≡ pid → tallies ≡ with_tally pid tallies
-with_old tallies pid i d h e =
+pub kept_tally : (tallies : List Tally) (pid i : ℕ) (d : Tally) → i < length tallies → (get_or tallies i d).pid ≡ pid → tallies ≡ with_tally pid tallies
+kept_tally tallies pid i d h e =
     sym (cond-true (list_any (λ t. eqb t.pid pid) tallies) tallies (tallies ++ new_tally pid ∷ []) (any_at tallies pid i d h e))
 
 -- the room for a tally stays
@@ -88,9 +88,9 @@ pub room_ran : {Z : Type 0} (pid : ℕ) (old new : Vec Tally Z) (places : BTreeM
 room_ran pid old new places q time cost e len same room = room_map (λ (tally : Tally). tally.pid) pid old new places (ran_tally q time cost) (ran_keeps q time cost) e len same room
 
 -- a tally for each task, where the pids rise
-pub one_more : (tasks : List Task) → RisesByPid tasks → (i : ℕ) (t : Task) → i < length tasks → t ≡ get_or tasks i t
+pub one_more_tally : (tasks : List Task) → RisesByPid tasks → (i : ℕ) (t : Task) → i < length tasks → t ≡ get_or tasks i t
     → with_tally t.pid (map (λ u. new_tally u.pid) (take i tasks)) ≡ map (λ u. new_tally u.pid) (take (i + 1) tasks)
-one_more tasks rise i t within is =
+one_more_tally tasks rise i t within is =
     let before : List Tally = map (λ (u : Task). new_tally u.pid) (take i tasks) in
     let n : length (take i tasks) ≡ i = length-take-le i tasks (omega arith) in
     let none : All (λ (x : Tally). x.pid ≢ t.pid) before = λ k d h e.
@@ -101,6 +101,6 @@ one_more tasks rise i t within is =
     let r : (get_or tasks k t).pid < (get_or tasks i t).pid = rise k i t w within in
     let q : (get_or tasks i t).pid ≡ t.pid = ap (λ (u : Task). u.pid) (sym is) in
     absurd (omega (arith, r, q, same)) in
-    sym (with_new before t.pid none)
+    sym (pushed_tally before t.pid none)
     ∙ sym (map-append (λ (u : Task). new_tally u.pid) (take i tasks) (t ∷ []))
     ∙ ap (map (λ (u : Task). new_tally u.pid)) (ap (λ u. take i tasks ++ u ∷ []) is ∙ sym (take_more tasks i t within))

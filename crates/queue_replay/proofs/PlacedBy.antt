@@ -31,9 +31,9 @@ set_none P f [] same each = refl
 set_none P f (x ∷ xs) same each =
     ap (λ y. y ∷ map f xs) (same x (All-head P x xs each)) ∙ ap (λ l. x ∷ l) (set_none P f xs same (All-tail P x xs each))
 
--- an insertion, refused or not, leaves the other keys as they are
-at_other : (k q : ℕ) → q ≢ k → is_eq (nat_cmp k q) ≡ false
-at_other k q ne = go (is_eq (nat_cmp k q)) refl
+-- keys that differ aren't one in the order
+pub other_key : (k q : ℕ) → q ≢ k → is_eq (nat_cmp k q) ≡ false
+other_key k q ne = go (is_eq (nat_cmp k q)) refl
   where
     from_is_eq : (o : Ordering) → is_eq o ≡ true → o ≡ Equal
     from_is_eq Less e = absurd cc
@@ -44,9 +44,10 @@ at_other k q ne = go (is_eq (nat_cmp k q)) refl
     go false e = refl
     go true e = absurd (ne (sym (exact_unsigned k q (from_is_eq (nat_cmp k q) e))))
 
+-- an insertion, refused or not, leaves the other keys as they are
 pub same_others : {V E : Type 0} (r : Result V E) (k v : ℕ) (m n : BTreeMap ℕ ℕ) → OnOk r (Updates nat_cmp m n k (Some v)) → OnErr r (IsUnchanged m n)
     → (q : ℕ) → q ≢ k → get nat_cmp n q ≡ get nat_cmp m q
-same_others (Ok x) k v m n ok err q ne = ok.2 q (at_other k q ne)
+same_others (Ok x) k v m n ok err q ne = ok.2 q (other_key k q ne)
 same_others (Err x) k v m n ok err q ne = ap (λ es. lookup (is_at (nat_cmp q)) es) err
 
 module _ {X : Type 0} (key : X → ℕ) where
@@ -90,9 +91,9 @@ module _ {X : Type 0} (key : X → ℕ) where
   nowhere xs places placed pid other k d h e =
       other k d (ap (get nat_cmp places) (sym e) ∙ at_place xs places placed k d h) h e
 
-  pub nowhere_none : (xs : List X) (places : BTreeMap ℕ ℕ) → IsPlacedBy key xs places → (pid : ℕ) → None ≡ get nat_cmp places pid
+  pub unplaced_none : (xs : List X) (places : BTreeMap ℕ ℕ) → IsPlacedBy key xs places → (pid : ℕ) → None ≡ get nat_cmp places pid
       → All (λ t. key t ≢ pid) xs
-  nowhere_none xs places placed pid none = nowhere xs places placed pid (λ i d e h same. let f : None ≡ Some i = none ∙ e in absurd cc)
+  unplaced_none xs places placed pid none = nowhere xs places placed pid (λ i d e h same. let f : None ≡ Some i = none ∙ e in absurd cc)
 
   pub nowhere_past : (xs : List X) (places : BTreeMap ℕ ℕ) → IsPlacedBy key xs places → (pid place : ℕ) → Some place ≡ get nat_cmp places pid
       → (place < length xs → ⊥) → All (λ t. key t ≢ pid) xs

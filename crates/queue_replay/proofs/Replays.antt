@@ -39,10 +39,10 @@ pub record IsReached (s : StreamView) (knobs : Settings) (c : ReplayState) : Typ
   pub needing : c.draft.fault ≡ None → AllPassNeeding knobs s.cpu start (take c.made s.steps) (replay_state_view c) (needs_view c.needs)
   pub going : c.draft.fault ≡ None → (end ≡ replay_state_view c) × IsGoing c
 
-pub reached_more : (s : StreamView) (knobs : Settings) (old new : ReplayState) (step : Step) (cpu : ℕ) → cpu ≡ s.cpu → IsUnderWay s knobs old
+pub reached_one_more : (s : StreamView) (knobs : Settings) (old new : ReplayState) (step : Step) (cpu : ℕ) → cpu ≡ s.cpu → IsUnderWay s knobs old
     → old.made < length s.steps → step ≡ get_or s.steps old.made step → IsStepped knobs cpu (replay_state_view old) (needs_view old.needs) step new → new.made ≡ old.made + 1
     → IsReached s knobs new
-reached_more s knobs old new step cpu same u within is stepped made = go (subst (λ n. IsStepped knobs n (replay_state_view old) (needs_view old.needs) step new) same stepped)
+reached_one_more s knobs old new step cpu same u within is stepped made = go (subst (λ n. IsStepped knobs n (replay_state_view old) (needs_view old.needs) step new) same stepped)
   where
     go : IsStepped knobs s.cpu (replay_state_view old) (needs_view old.needs) step new → IsReached s knobs new
     go (inl p) = record {

@@ -22,6 +22,7 @@ use Rattle.queue_replay.specs.declared.waiting_task.WaitingTask.{WaitingTask}
 use Rattle.queue_replay.specs.Tasks.{entity_of}
 use Rattle.cfs_model.proofs.Moves.{put-same, put-other}
 use Rattle.queue_replay.proofs.Parts.{its_place, put-at, put-under}
+use Rattle.queue_replay.proofs.PlacedBy.{other_key}
 
 from_is_eq : (o : Ordering) → is_eq o ≡ true → o ≡ Equal
 from_is_eq Less e = absurd cc
@@ -36,13 +37,6 @@ exact_runtimes x y e =
 other_pair : (x y : WaitingTask) → x ≢ y → is_eq (by_runtime x y) ≡ false
 other_pair x y ne =
     elim (cases_Bool (is_eq (by_runtime x y))) [ inl yes' ↦ absurd (ne (exact_runtimes x y yes')) | inr no' ↦ no' ]
-
-other_pid : (k q : ℕ) → q ≢ k → is_eq (nat_cmp k q) ≡ false
-other_pid k q ne =
-    elim (cases_Bool (is_eq (nat_cmp k q))) [
-      | inl yes' ↦ absurd (ne (sym (exact_unsigned k q (from_is_eq (nat_cmp k q) yes'))))
-      | inr no' ↦ no'
-    ]
 
 -- a pair that isn't below another has no lesser virtual runtime
 pub lower_runtime : (v w : ℤ) (pid other : ℕ) → is_gt (by_runtime (waiting_task v pid) (waiting_task w other)) ≡ false → v ≤ℤ w
@@ -121,10 +115,10 @@ the_runner (Some t) m s floor mark kept = (
 )
 
 -- a pid that doesn't run isn't the runner's
-pub apart_from : (runner : Option Task) (m : BTreeMap ℕ Task) (s : BTreeSet WaitingTask) → IsQueue runner m s → (pid : ℕ)
+pub runner_apart : (runner : Option Task) (m : BTreeMap ℕ Task) (s : BTreeSet WaitingTask) → IsQueue runner m s → (pid : ℕ)
     → (its_place (standing runner m pid) ≡ Some Run → ⊥) → (t : Task) → runner ≡ Some t → t.pid ≢ pid
-apart_from None m s kept pid ne t e same = cc
-apart_from (Some u) m s kept pid ne t e same =
+runner_apart None m s kept pid ne t e same = cc
+runner_apart (Some u) m s kept pid ne t e same =
     let r = the_runner (Some u) m s (pos 0) 0 kept in
     let up : u.pid ≡ pid = ap (λ x. x.pid) (same_Some u t e) ∙ same in
     ne (ap its_place (ap (standing (Some u) m) (sym up) ∙ r.0) ∙ ap Some r.1)
@@ -141,7 +135,7 @@ map_at m n k w u = u.1
 
 pub map_other : (m n : BTreeMap ℕ Task) (k : ℕ) (w : Option Task) → Updates nat_cmp m n k w → (q : ℕ) → q ≢ k
     → get nat_cmp n q ≡ get nat_cmp m q
-map_other m n k w u q ne = u.2 q (other_pid k q ne)
+map_other m n k w u q ne = u.2 q (other_key k q ne)
 
 listed_put : (m n : BTreeMap ℕ Task) (k : ℕ) (w : Option Task) → Updates nat_cmp m n k w → (q : ℕ)
     → listed n q ≡ put (listed m) k (option_map entity_of w) q

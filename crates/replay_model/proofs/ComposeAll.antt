@@ -45,10 +45,10 @@ pub record ComposedAll (knobs : Settings) (m : Machine) (time : ℕ) (s : ℕ �
   pub stills : (cpu : ℕ) → Still knobs.slack cpu m time (s cpu) events states
 
 -- a machine's step by the first event
-first_step : (knobs : Settings) (m : Machine) (time : ℕ) (s : ℕ → ReplayStateView) (event : Claimed) (events : List Claimed)
+first_of_steps : (knobs : Settings) (m : Machine) (time : ℕ) (s : ℕ → ReplayStateView) (event : Claimed) (events : List Claimed)
     (end : ℕ → ReplayStateView) (alive : ℕ → Bool)
     → AtEvents knobs m time s (event ∷ events) end alive → (after : Machine) × IsStep knobs m event after
-first_step knobs m time s event events end alive at =
+first_of_steps knobs m time s event events end alive at =
     step_exists knobs m time s event events end alive (record {
       follows = at.follows;
       replays = at.replays;
@@ -182,7 +182,7 @@ compose_all knobs m time s [] end alive at = record {
   stills = λ cpu x e j h k idles. absurd (omega arith);
 }
 compose_all knobs m time s (event ∷ events) end alive at =
-    let w = first_step knobs m time s event events end alive at in
+    let w = first_of_steps knobs m time s event events end alive at in
     let a = advanced knobs m time s event events end alive at w.0 w.1 in
     add_first knobs m w.0 time s event events end at.follows w.1 (in_slack knobs m time s event events end alive at) a
     (compose_all knobs w.0 event.entry.time (λ cpu. (a cpu).next) events end (roll_after alive event.entry.act)

@@ -39,8 +39,8 @@ run_has_no_fault knobs start floors tasks events line cause run f =
 abbrev HasBefore : List Claimed → Claimed → List Claimed → Type 0
 HasBefore before event other = (more : List Claimed) × (other ≡ before ++ event ∷ more)
 
-heads : (x y : Claimed) (xs ys : List Claimed) → x ∷ xs ≡ y ∷ ys → x ≡ y
-heads x y xs ys e = cc
+first_events : (x y : Claimed) (xs ys : List Claimed) → x ∷ xs ≡ y ∷ ys → x ≡ y
+first_events x y xs ys e = cc
 
 tails : (x y : Claimed) (xs ys : List Claimed) → x ∷ xs ≡ y ∷ ys → xs ≡ ys
 tails x y xs ys e = cc
@@ -48,13 +48,13 @@ tails x y xs ys e = cc
 cut_twice : (before other rest more : List Claimed) (event that : Claimed)
     → before ++ event ∷ rest ≡ other ++ that ∷ more
     → ((before ≡ other) × (event ≡ that)) ⊎ HasBefore before event other ⊎ HasBefore other that before
-cut_twice [] [] rest more event that e = inl (refl, heads event that rest more e)
+cut_twice [] [] rest more event that e = inl (refl, first_events event that rest more e)
 cut_twice [] (y ∷ other) rest more event that e =
-    inr (inl (other, ap (λ x. x ∷ other) (sym (heads event y rest (other ++ that ∷ more) e))))
+    inr (inl (other, ap (λ x. x ∷ other) (sym (first_events event y rest (other ++ that ∷ more) e))))
 cut_twice (x ∷ before) [] rest more event that e =
-    inr (inr (before, ap (λ y. y ∷ before) (heads x that (before ++ event ∷ rest) more e)))
+    inr (inr (before, ap (λ y. y ∷ before) (first_events x that (before ++ event ∷ rest) more e)))
 cut_twice (x ∷ before) (y ∷ other) rest more event that e =
-    let head = heads x y (before ++ event ∷ rest) (other ++ that ∷ more) e in
+    let head = first_events x y (before ++ event ∷ rest) (other ++ that ∷ more) e in
     elim (cut_twice before other rest more event that
     (tails x y (before ++ event ∷ rest) (other ++ that ∷ more) e)) [
       | inl h ↦ inl (ap (λ z. z ∷ before) head ∙ ap (λ zs. y ∷ zs) h.0, h.1)

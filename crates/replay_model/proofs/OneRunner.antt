@@ -127,9 +127,9 @@ deed_one_runs knobs cpu l (Arrive pid nice orig idle) claim one c = none_more l 
     (λ h. absurd (come_run nice idle claim h))
 
 -- nor does a change of a nice value
-found_in : (step : Step) (part found : Part) → IsFound step part found → (pid : ℕ)
+place_in_found : (step : Step) (part found : Part) → IsFound step part found → (pid : ℕ)
     → place_in found pid ≡ place_in part pid
-found_in step part found f pid =
+place_in_found step part found f pid =
     ap (λ (x : Part). place_in x pid) f.is_reniced ∙ reniced_in step.nice f.lifted pid
     ∙ lifted_in step.time part f.lifted f.is_lifted pid
 
@@ -139,4 +139,4 @@ pub step_one_runs : (knobs : Settings) (cpu : ℕ) (part found : Part) (step : S
     → OneRunsIn (after_deed found step.deed step.claim)
 step_one_runs knobs cpu part found step one f c =
     deed_one_runs knobs cpu found step.deed step.claim
-    (λ p q a b. one p q (sym (found_in step part found f p) ∙ a) (sym (found_in step part found f q) ∙ b)) c
+    (λ p q a b. one p q (sym (place_in_found step part found f p) ∙ a) (sym (place_in_found step part found f q) ∙ b)) c

@@ -77,15 +77,15 @@ module _ (knobs : Settings) (start : ℕ) (floors : List ℤ) (tasks : List Task
     | inr (inr by) ↦ by_stop cpu w (not_past (pages cpu).line by)
   ]
 
-  goes : (cpu : ℕ) → Goes cpu
-  goes cpu = elim (cases_lt cpu cpus) [
+  each_goes : (cpu : ℕ) → Goes cpu
+  each_goes cpu = elim (cases_lt cpu cpus) [
     | inl k ↦ by_page cpu (enough cpu k)
     | inr k ↦ record { rest = rest; kept = r; replay = λ h. absurd (omega arith) }
   ]
 
-  fronts : (cpu : ℕ) → AtFront knobs start floors tasks before (event ∷ (goes cpu).rest) cpus cpu (pages cpu)
-  fronts cpu = front_of knobs start floors tasks before (event ∷ (goes cpu).rest) cpus cpu (pages cpu) (goes cpu).kept
-      (goes cpu).replay (say.no_fault cpu)
+  fronts : (cpu : ℕ) → AtFront knobs start floors tasks before (event ∷ (each_goes cpu).rest) cpus cpu (pages cpu)
+  fronts cpu = front_of knobs start floors tasks before (event ∷ (each_goes cpu).rest) cpus cpu (pages cpu) (each_goes cpu).kept
+      (each_goes cpu).replay (say.no_fault cpu)
 
 pub pages_tell_fault : PagesTellFault
 pages_tell_fault knobs start floors tasks events before rest event cpus pages cause r enough e say c =
@@ -93,7 +93,7 @@ pages_tell_fault knobs start floors tasks events before rest event cpus pages ca
     let each : (cpu : ℕ) → cpu < cpus
     → SufficesAmong knobs start floors tasks (before ++ event ∷ rest) cpus pages cpu = λ cpu k.
     subst (λ xs. SufficesAmong knobs start floors tasks xs cpus pages cpu) e (enough cpu k) in
-    let to = goes knobs start floors tasks before rest event cpus pages all each say in
+    let to = each_goes knobs start floors tasks before rest event cpus pages all each say in
     let at = fronts knobs start floors tasks before rest event cpus pages all each say in
     let run = front_run knobs start floors tasks before (λ cpu. event ∷ (to cpu).rest) cpus pages (λ cpu. (to cpu).kept)
     at say in

@@ -103,9 +103,9 @@ module _ (knobs : Settings) (start : ℕ) (floors : List ℤ) (tasks : List Task
       (at cpu).passes.share
 
   -- a processor idles for too long just where its page says so
-  told : (cpu : ℕ) → cpu < cpus → IdlesBefore event (pages cpu).fault
+  idle_told : (cpu : ℕ) → cpu < cpus → IdlesBefore event (pages cpu).fault
       → IsIdleTooLong knobs.slack (at cpu).mid.since event.entry.time 0
-  told cpu k h = idling_of_page knobs start before (rest cpu) event cpu (pages cpu) (at cpu).mid (at cpu).passes.no_fault
+  idle_told cpu k h = idling_of_page knobs start before (rest cpu) event cpu (pages cpu) (at cpu).mid (at cpu).passes.no_fault
       ((at cpu).back k) (later_times cpu) h
 
   tells : (cpu : ℕ) → cpu < cpus → Idles cpu → IdlesBefore event (pages cpu).fault
@@ -122,7 +122,7 @@ module _ (knobs : Settings) (start : ℕ) (floors : List ℤ) (tasks : List Task
       → IsIdlingCause knobs.slack (times_of start before) (start_machine start floors tasks ∷ run.states)
       event.entry.time cause × Ends
   idling cause c =
-      let late = told cause.cpu c.within c.idles in (
+      let late = idle_told cause.cpu c.within c.idles in (
         record {
           idles = (idles_is cause.cpu).1 late;
           lowest = λ other below h. c.lowest other below
@@ -170,10 +170,10 @@ module _ (knobs : Settings) (start : ℕ) (floors : List ℤ) (tasks : List Task
       (roll_run (named tasks) knobs (start_machine start floors tasks) before run.states run.steps
       (start_in_order start floors tasks (r 0).is_start) (start_roll start floors tasks) pid ∙ alive)
 
-  one_cause : (cpu : ℕ) (cause : FaultCause) → AllByRecursion (λ (c : ℕ). c < cpus) (cpu ∷ [])
+  cause_of_one : (cpu : ℕ) (cause : FaultCause) → AllByRecursion (λ (c : ℕ). c < cpus) (cpu ∷ [])
       → touched event.entry.act ≡ cpu ∷ [] → IsPageCause event cpu (pages cpu) cause
       → FailsAt knobs m cpu event cause × Ends
-  one_cause cpu cause within t c = fails_at cpu cause within.0 (touches_first cpu event.entry.act [] t) c
+  cause_of_one cpu cause within t c = fails_at cpu cause within.0 (touches_first cpu event.entry.act [] t) c
 
   born_cause : (cpu pid : ℕ) (nice : ℤ) (cause : FaultCause) → event.entry.act ≡ Born cpu pid nice → cpu < cpus
       → (¬ IdlesBefore event (pages cpu).fault) → (¬ FailsHere event (pages cpu).fault)
@@ -245,10 +245,10 @@ module _ (knobs : Settings) (start : ℕ) (floors : List ℤ) (tasks : List Task
       → AllByRecursion (λ (c : ℕ). c < cpus) (touched act)
       → ((cpu : ℕ) → cpu < cpus → ¬ IdlesBefore event (pages cpu).fault)
       → IsActCauseOf pages (roll_of (named tasks) before) event act cause → IsActCause knobs m event act cause × Ends
-  act_cause cause (Switch cpu prev pn way next nn) e within idles c = one_cause cpu cause within (ap touched e) c
-  act_cause cause (Wake cpu pid nice) e within idles c = one_cause cpu cause within (ap touched e) c
+  act_cause cause (Switch cpu prev pn way next nn) e within idles c = cause_of_one cpu cause within (ap touched e) c
+  act_cause cause (Wake cpu pid nice) e within idles c = cause_of_one cpu cause within (ap touched e) c
   act_cause cause (Born cpu pid nice) e within idles (inl c) =
-      let f = one_cause cpu cause within (ap touched e) c in (inl f.0, f.1)
+      let f = cause_of_one cpu cause within (ap touched e) c in (inl f.0, f.1)
   act_cause cause (Born cpu pid nice) e within idles (inr c) =
       let f = born_cause cpu pid nice cause e within.0 (idles cpu within.0) c.0 c.1 c.2 in (inr f.0, f.1)
   act_cause cause (Shift orig dest pid nice) e within idles c =

@@ -27,10 +27,10 @@ use Rattle.replay_model.proofs.PagesCompose.{start_roll}
 use Rattle.cfs_model.specs.declared.act.Act.TheVariants.{Born}
 
 -- the run without its last event
-front_run : (knobs : Settings) (start : ℕ) (m : Machine) (before : List Claimed) (event : Claimed)
+front_of_run : (knobs : Settings) (start : ℕ) (m : Machine) (before : List Claimed) (event : Claimed)
     (run : IsRun knobs start m (before ++ event ∷ [])) → (l : LastStep knobs m before event run.states)
     → KeepsSlack knobs.slack (times_of start before) (m ∷ l.front)
-front_run knobs start m before event run l =
+front_of_run knobs start m before event run l =
     front_slack knobs.slack start m before (event ∷ []) l.front (l.after ∷ [])
     (steps_length knobs m before l.front l.steps)
     (subst (λ xs. KeepsSlack knobs.slack (times_of start (before ++ event ∷ [])) (m ∷ xs)) l.whole run.slack)
@@ -40,7 +40,7 @@ idling_ends_run knobs start floors tasks before event cpu last s rise r late run
     let m = start_machine start floors tasks in
     let l = last_step knobs m before event run.states run.steps in
     let front : IsRun knobs start m before =
-    record { states = l.front; steps = l.steps; slack = front_run knobs start m before event run l } in
+    record { states = l.front; steps = l.steps; slack = front_of_run knobs start m before event run l } in
     slack_holds knobs.slack start m before event l.front l.after (steps_length knobs m before l.front l.steps)
     (subst (λ xs. KeepsSlack knobs.slack (times_of start (before ++ event ∷ [])) (m ∷ xs)) l.whole run.slack) cpu
     ((slack_follows knobs start floors tasks before cpu last event.entry.time s rise front r).1 late)
@@ -82,7 +82,7 @@ tickets_end_run knobs start floors tasks before event orig dest pid nice at_orig
     let m = start_machine start floors tasks in
     let l = last_step knobs m before event run.states run.steps in
     let front : IsRun knobs start m before =
-    record { states = l.front; steps = l.steps; slack = front_run knobs start m before event run l } in
+    record { states = l.front; steps = l.steps; slack = front_of_run knobs start m before event run l } in
     let last = last_of m l.front in
     let o = followed_run knobs start floors tasks before orig at_orig s rise front ro in
     let d = followed_run knobs start floors tasks before dest at_dest s rise front rd in

@@ -34,9 +34,9 @@ abbrev pub late_fault : ℕ → StreamView → ℕ → StepFault
 late_fault slack stream x = record { line = stream.last_line; kind = IdleTooLong; pid = 0; deadline = Some (x + slack) }
 
 -- a page without a fault after the end test had none before it
-none_before : (slack : ℕ) (stream : StreamView) (since : Option ℕ) (page : PageView)
+no_fault_before : (slack : ℕ) (stream : StreamView) (since : Option ℕ) (page : PageView)
     → (end_page slack stream since page.fault page).fault ≡ None → page.fault ≡ None
-none_before slack stream since page h = go since page.fault refl h
+no_fault_before slack stream since page h = go since page.fault refl h
   where
     go : (since : Option ℕ) (o : Option StepFault) → page.fault ≡ o → (end_page slack stream since o page).fault ≡ None
         → page.fault ≡ None
@@ -46,7 +46,7 @@ none_before slack stream since page h = go since page.fault refl h
 
 fault_free : (b : Bool) (slack : ℕ) (stream : StreamView) (since : Option ℕ) (page : PageView)
     → (cond b (end_page slack stream since page.fault page) page).fault ≡ None → page.fault ≡ None
-fault_free true slack stream since page h = none_before slack stream since page h
+fault_free true slack stream since page h = no_fault_before slack stream since page h
 fault_free false slack stream since page h = h
 
 -- the end test changes no ticket and no tally, and where it adds no fault the processor is in time

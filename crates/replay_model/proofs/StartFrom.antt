@@ -12,11 +12,11 @@ pair_head R t tasks h = λ k d within. h 0 (suc k) d (omega arith) (suc-le-suc w
 pair_tail : (R : Task → Task → Type 0) (t : Task) (tasks : List Task) → AllPairs R (t ∷ tasks) → AllPairs R tasks
 pair_tail R t tasks h = λ i j d below within. h (suc i) (suc j) d (suc-le-suc below) (suc-le-suc within)
 
-rise_from : (tasks : List Task) → AllPairs (λ t u. t.pid < u.pid) tasks → PidsRise tasks
-rise_from [] h = tt
-rise_from (t ∷ tasks) h = (
+pids_rise_from : (tasks : List Task) → AllPairs (λ t u. t.pid < u.pid) tasks → PidsRise tasks
+pids_rise_from [] h = tt
+pids_rise_from (t ∷ tasks) h = (
   recursion_from_All (λ u. t.pid < u.pid) tasks (pair_head (λ t u. t.pid < u.pid) t tasks h),
-  rise_from tasks (pair_tail (λ t u. t.pid < u.pid) t tasks h),
+  pids_rise_from tasks (pair_tail (λ t u. t.pid < u.pid) t tasks h),
 )
 
 one_runs_from : (tasks : List Task) → AllPairs RunApart tasks → OneRuns tasks
@@ -30,7 +30,7 @@ one_runs_from (t ∷ tasks) h = (
 pub start_from : (floors : List ℤ) (tasks : List Task) → AllPairs (λ t u. t.pid < u.pid) tasks → AllPairs RunApart tasks
     → All (λ t. IsInRange t.v) tasks → All IsInRange floors → IsStart floors tasks
 start_from floors tasks rise apart runtimes within = record {
-  pids_rise = rise_from tasks rise;
+  pids_rise = pids_rise_from tasks rise;
   one_runs = one_runs_from tasks apart;
   runtimes_in_range = recursion_from_All (λ t. IsInRange t.v) tasks runtimes;
   floors_in_range = recursion_from_All IsInRange floors within;

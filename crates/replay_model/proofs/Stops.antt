@@ -47,10 +47,10 @@ line_after : (knobs : Settings) (cpu : ℕ) (s : ReplayStateView) (event : Claim
 line_after knobs cpu s event next p = ap (λ y. y.line) p.page
 
 -- one more event before those seen: of another processor, or of a step
-passed_over : (knobs : Settings) (cpu : ℕ) (s end : ReplayStateView) (time line : ℕ) (event : Claimed)
+untouched_seen : (knobs : Settings) (cpu : ℕ) (s end : ReplayStateView) (time line : ℕ) (event : Claimed)
     (events : List Claimed) → touches cpu event ≡ false
     → Seen knobs cpu s end event.entry.time event.entry.line events → Seen knobs cpu s end time line (event ∷ events)
-passed_over knobs cpu s end time line event events t later = record {
+untouched_seen knobs cpu s end time line event events t later = record {
   seen = event ∷ later.seen;
   more = later.more;
   whole = ap (λ xs. event ∷ xs) later.whole;
@@ -103,7 +103,7 @@ seen_from knobs cpu s end time line (event ∷ events) (suc n) few none through 
         → Seen knobs cpu s end time line (event ∷ events)
     go false t away here =
         let same = untouched_steps cpu event events t in
-        passed_over knobs cpu s end time line event events t
+        untouched_seen knobs cpu s end time line event events t
         (away (subst (λ xs. suc n ≤ length xs) same few)
         (subst (λ xs. IsReplay knobs cpu s (take (suc n) xs) end) same r))
     go true t away here =

@@ -40,8 +40,8 @@ use Rattle.replay_model.specs.declared.step.Step.{Step}
 
 -- a kind of pid, those of tallies, of an event that brings a tally, and of such a deed
 module _ (K : ℕ → Type 0) where
-  abbrev pub AreOf : List Tally → Type 0
-  AreOf tallies = AllByRecursion (λ (tally : Tally). K tally.pid) tallies
+  abbrev pub ArePidsOf : List Tally → Type 0
+  ArePidsOf tallies = AllByRecursion (λ (tally : Tally). K tally.pid) tallies
 
   abbrev pub Brings : Act → Type 0
   Brings (Born cpu pid nice) = K pid
@@ -53,22 +53,22 @@ module _ (K : ℕ → Type 0) where
   BringsHere (deed.Arrive pid nice orig idle) = K pid
   BringsHere other = Unit {0}
 
-  of_map : (f : Tally → Tally) → KeepsPid f → (tallies : List Tally) → AreOf tallies → AreOf (map f tallies)
+  of_map : (f : Tally → Tally) → KeepsPid f → (tallies : List Tally) → ArePidsOf tallies → ArePidsOf (map f tallies)
   of_map f keeps [] h = tt
   of_map f keeps (tally ∷ tallies) h = (subst K (sym (keeps tally)) h.0, of_map f keeps tallies h.1)
 
-  of_append : (xs ys : List Tally) → AreOf xs → AreOf ys → AreOf (xs ++ ys)
+  of_append : (xs ys : List Tally) → ArePidsOf xs → ArePidsOf ys → ArePidsOf (xs ++ ys)
   of_append [] ys h k = k
   of_append (x ∷ xs) ys h k = (h.0, of_append xs ys h.1 k)
 
-  of_with : (pid : ℕ) (tallies : List Tally) → K pid → AreOf tallies → AreOf (with_tally pid tallies)
+  of_with : (pid : ℕ) (tallies : List Tally) → K pid → ArePidsOf tallies → ArePidsOf (with_tally pid tallies)
   of_with pid tallies k h = go (has_tally tallies pid)
     where
-      go : (b : Bool) → AreOf (cond b tallies (tallies ++ new_tally pid ∷ []))
+      go : (b : Bool) → ArePidsOf (cond b tallies (tallies ++ new_tally pid ∷ []))
       go true = h
       go false = of_append tallies (new_tally pid ∷ []) h (k, tt)
 
-  of_deed : (d : Deed) (tallies : List Tally) → BringsHere d → AreOf tallies → AreOf (tallied d tallies)
+  of_deed : (d : Deed) (tallies : List Tally) → BringsHere d → ArePidsOf tallies → ArePidsOf (tallied d tallies)
   of_deed (deed.Switch prev pn way zero nn) tallies k h = h
   of_deed (deed.Switch prev pn way (suc n) nn) tallies k h = of_map (pick_one n) (pick_keeps n) tallies h
   of_deed (deed.Wake pid nice) tallies k h = h
@@ -76,7 +76,7 @@ module _ (K : ℕ → Type 0) where
   of_deed (deed.Leave pid nice dest) tallies k h = h
   of_deed (deed.Arrive pid nice orig idle) tallies k h = of_with pid tallies k h
 
-  of_kept : Keeps AreOf BringsHere
+  of_kept : Keeps ArePidsOf BringsHere
   of_kept = record {
     charge = λ part time tallies h. of_map (charged_one part time) (charge_keeps part time) tallies h;
     deed = of_deed;
@@ -107,12 +107,12 @@ module _ (K : ℕ → Type 0) where
 
   -- the tallies at the start
   of_start : (cpu : ℕ) (tasks : List Task) → AllByRecursion (λ (t : Task). K t.pid) tasks
-      → AreOf (idle_tallies (tasks_at cpu tasks))
+      → ArePidsOf (idle_tallies (tasks_at cpu tasks))
   of_start cpu [] h = tt
   of_start cpu (t ∷ tasks) h = go (nat_eq t.cpu cpu) (of_start cpu tasks h.1)
     where
-      go : (b : Bool) → AreOf (idle_tallies (tasks_at cpu tasks))
-          → AreOf (idle_tallies (cond b (t ∷ tasks_at cpu tasks) (tasks_at cpu tasks)))
+      go : (b : Bool) → ArePidsOf (idle_tallies (tasks_at cpu tasks))
+          → ArePidsOf (idle_tallies (cond b (t ∷ tasks_at cpu tasks) (tasks_at cpu tasks)))
       go true rest = (h.0, rest)
       go false rest = rest
 
@@ -217,19 +217,19 @@ tallies_of_tasks knobs start floors tasks events cpus pages r enough say =
 
     page_of : (cpu : ℕ) → cpu < cpus
         → AllByRecursion (λ (event : Claimed). Brings (IsOfRun tasks events) event.entry.act) events
-        → AreOf (IsOfRun tasks events) (pages cpu).tallies
+        → ArePidsOf (IsOfRun tasks events) (pages cpu).tallies
     page_of cpu k brings =
         let e = page_end knobs start floors tasks events cpus pages r enough say cpu k in
         let K = IsOfRun tasks events in
-        let first : AreOf K e.first.page.tallies =
-        subst (λ (page : PageView). AreOf K page.tallies) (sym e.is_start.page)
+        let first : ArePidsOf K e.first.page.tallies =
+        subst (λ (page : PageView). ArePidsOf K page.tallies) (sym e.is_start.page)
         (of_start K cpu tasks (tasks_are K tasks in_tasks)) in
-        subst (AreOf K) (sym e.tallies)
-        (replay_keeps (AreOf K) (BringsHere K) (of_kept K) knobs cpu e.first (steps_at cpu events) e.last
+        subst (ArePidsOf K) (sym e.tallies)
+        (replay_keeps (ArePidsOf K) (BringsHere K) (of_kept K) knobs cpu e.first (steps_at cpu events) e.last
         (steps_bring K cpu events brings) e.replay first)
 
-    below : (n : ℕ) → ((cpu : ℕ) → cpu < n → AreOf (IsOfRun tasks events) (pages cpu).tallies)
-        → AreOf (IsOfRun tasks events) (tallies_below pages n)
+    below : (n : ℕ) → ((cpu : ℕ) → cpu < n → ArePidsOf (IsOfRun tasks events) (pages cpu).tallies)
+        → ArePidsOf (IsOfRun tasks events) (tallies_below pages n)
     below zero each = tt
     below (suc n) each = of_append (IsOfRun tasks events) (tallies_below pages n)
         (pages n).tallies (below n (λ cpu k. each cpu (omega arith))) (each n (omega arith))

@@ -80,8 +80,9 @@ AllPassNeeding knobs cpu before (step ∷ steps) after needs =
     (between : ReplayStateView) × (here later : Settings) × PassesNeeding knobs cpu before step between here
     × AllPassNeeding knobs cpu between steps after later × (needs ≡ larger here later)
 
--- this is the page of a stream's whole replay, which passes by all steps, and needs has of each setting the greatest that
--- one of the steps needs, or that the processor needs which still idles at the record's last time
+-- a stream's replay passes by all steps, and this is its page behind the last one, the end test left out; needs has of each
+-- setting the greatest that one of the steps needs, and of the slack also what the processor needs which still idles at the
+-- record's last time
 pub record IsPageNeeding (stream : StreamView) (knobs : Settings) (page : PageView) (needs : Settings) : Type 0 where
   pub start : ReplayStateView
   pub is_start : IsStartOf stream start

@@ -57,12 +57,12 @@ before_at b s e = rw e refl
 after_at : (b : ℕ) (s : List ℕ) → is_line_feed b ≡ true → after_first is_line_feed (b ∷ s) ≡ s
 after_at b s e = rw e refl
 
-pub none_before : (s : List ℕ) → list_any is_line_feed (before_first is_line_feed s) ≡ false
-none_before [] = refl
-none_before (b ∷ s) =
+pub no_feed_before : (s : List ℕ) → list_any is_line_feed (before_first is_line_feed s) ≡ false
+no_feed_before [] = refl
+no_feed_before (b ∷ s) =
     elim (cases_Bool (is_line_feed b)) [
       | inl e ↦ rw (before_at b s e) refl
-      | inr e ↦ rw (before_cons b s e, e) (none_before s)
+      | inr e ↦ rw (before_cons b s e, e) (no_feed_before s)
     ]
 
 pub before_within : (s : List ℕ) → length (before_first is_line_feed s) ≤ length s
@@ -220,9 +220,9 @@ passes_longer reader bytes held line new h holds none =
     record { line = line ++ new; is_held = held_longer bytes held line new h holds none; passes = passes_none reader (line ++ new) }
 
 -- nothing more was consumed at the end
-pub ended : (left before after : Option (List ℕ)) (done new : List ℕ) (count : ℕ) → Consumes left before done → Consumes before after (take count new)
+pub agrees_at_end : (left before after : Option (List ℕ)) (done new : List ℕ) (count : ℕ) → Consumes left before done → Consumes before after (take count new)
     → count ≡ 0 → IsAtEnd after → Agrees left done
-ended left before after done new count consumed more none end =
+agrees_at_end left before after done new count consumed more none end =
     subst (Agrees left) (ap (λ n. done ++ take n new) none ∙ append-nil done)
     (whole_input left after (done ++ take count new) (Consumes-trans left before after _ _ consumed more) end)
 
@@ -263,9 +263,9 @@ behind_feed bytes moved filled count width within is =
     ∙ ap (λ n. drop (width + 1) (take n (drop filled bytes))) (let e : (width + 1) + (count - (width + 1)) ≡ count = omega (arith, within) in e)
 
 -- the new bytes are those before their first line feed, it, and what is left
-pub cut_at_feed : (new piece rest : List ℕ) → piece ≡ before_first is_line_feed new → length piece < length new
+pub cut_at_first_feed : (new piece rest : List ℕ) → piece ≡ before_first is_line_feed new → length piece < length new
     → rest ≡ drop (length piece + 1) new → new ≡ piece ++ 10 ∷ rest
-cut_at_feed new piece rest is lt behind =
+cut_at_first_feed new piece rest is lt behind =
     let before : List ℕ = before_first is_line_feed new in
     let same : length piece ≡ length before = ap length is in
     feed_behind new (omega (arith, lt, same)) ∙ ap (λ (t : List ℕ). before ++ 10 ∷ t) (ap (λ n. drop (n + 1) new) (sym same) ∙ sym behind)
@@ -307,7 +307,7 @@ reads_open old new items after held count answer e passed =
 pub no_feed : (new piece : List ℕ) → piece ≡ before_first is_line_feed new → length new ≤ length piece → list_any is_line_feed new ≡ false
 no_feed new piece is le =
     let all = all_before new (omega (arith, le, ap length is)) in
-    subst (λ (t : List ℕ). list_any is_line_feed t ≡ false) all (none_before new)
+    subst (λ (t : List ℕ). list_any is_line_feed t ≡ false) all (no_feed_before new)
 
 -- a settled line ends among the new bytes, and the whole lines behind it are read
 pub reads_settled : ReadsSettled → ((text more : List ℕ) → IsWhole text → lines_of (text ++ more) ≡ lines_of text ++ lines_of more)
@@ -321,8 +321,8 @@ reads_settled law whole_law old mid new items moved after piece held count answe
     let bytes : List ℕ = take count (drop held.length items) in
     let rest : List ℕ = drop (length piece + 1) bytes in
     let size : length bytes ≡ count = length-take-le count (drop held.length items) (omega (arith, fits, length-drop held.length items)) in
-    let parts : bytes ≡ piece ++ 10 ∷ rest = cut_at_feed bytes piece rest is (omega (arith, lt, size)) refl in
-    let none : list_any is_line_feed piece ≡ false = subst (λ (t : List ℕ). list_any is_line_feed t ≡ false) (sym is) (none_before bytes) in
+    let parts : bytes ≡ piece ++ 10 ∷ rest = cut_at_first_feed bytes piece rest is (omega (arith, lt, size)) refl in
+    let none : list_any is_line_feed piece ≡ false = subst (λ (t : List ℕ). list_any is_line_feed t ≡ false) (sym is) (no_feed_before bytes) in
     if_ok (λ next. list_any is_line_feed (take 0 moved) ≡ false → PassesOn mid new (take (0 + (count - (length piece + 1))) moved) after next)
     (λ next. (line : List ℕ) → IsHeld items held line → PassesOn old new (line ++ bytes) after next) answer
     (λ next passes line h.

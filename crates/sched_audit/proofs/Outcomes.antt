@@ -37,11 +37,11 @@ error_is (Ok judged) refused is = absurd is
 error_is (Err e) refused is = ap Err is
 
 -- the answer where the texts were refused
-pub refused_answer : (trace companion : List ℕ) (settings : Settings) (refused : Refused) → IsTexts trace companion (Err refused)
+pub refused_outcome : (trace companion : List ℕ) (settings : Settings) (refused : Refused) → IsTexts trace companion (Err refused)
     → IsAnswer trace companion settings (Err refused)
 unfolding OutcomeAnswer
-refused_answer trace companion settings (refusals.Text source line cause) texts = texts
-refused_answer trace companion settings refusals.Memory texts = tt
+refused_outcome trace companion settings (refusals.Text source line cause) texts = texts
+refused_outcome trace companion settings refusals.Memory texts = tt
 
 -- the answer where the record was judged
 pub judged_answer : (trace companion : List ℕ) (settings : Settings) (joined : Record) (verdict : Verdict) → IsTexts trace companion (Ok joined)

@@ -8,17 +8,17 @@ use Rattle.sched_event.specs.Texts.{SwitchText, WakeupText, MigrationText, Event
 use Rattle.cfs_model.specs.Limits.{greatest_pid, greatest_processor}
 use Rattle.sched_event.specs.Ranges.{prio_of, is_out_of_range, prios_of, IsFair, names_idle}
 use Rattle.sched_event.specs.Event.{EventView, WakeupView, woken, born, wakeup_of, event_of}
-use Rattle.sched_event.specs.Judging.{◌>>=◌, number_within, nice_at, switch_judged, wakeup_judged, migration_judged, judged}
+use Rattle.sched_event.specs.Judging.{◌>>=◌, number_within, printed_nice, switch_judged, wakeup_judged, migration_judged, judged}
 use Rattle.sched_event.proofs.Verdicts.{PrioCase, low, high, fair, prio_case, decided}
 
 -- the answer of the tests for a text's parts
 abbrev pub decided_of : ℕ → EventText → Result EventView EventFault
 decided_of cpu text = decided (is_out_of_range text) (prios_of text) (names_idle text) (event_of cpu text)
 
-wakeup_tests : (make : WakeupView → EventView) (t : WakeupText)
+wakeup_is_decided : (make : WakeupView → EventView) (t : WakeupText)
     → (wakeup_judged t >>= λ read. Ok (make read)) ≡ decided (is_out_of_range (wakeup t)) (prios_of (wakeup t)) (names_idle (wakeup t)) (make (wakeup_of t))
-unfolding wakeup_judged number_within nice_at
-wakeup_tests make t = by_tests (nat_lt greatest_pid (value_of t.pid)) (nat_lt greatest_processor (value_of t.target)) (eqb (value_of t.pid) 0) refl refl refl (prio_case (prio_of t.prio))
+unfolding wakeup_judged number_within printed_nice
+wakeup_is_decided make t = by_tests (nat_lt greatest_pid (value_of t.pid)) (nat_lt greatest_processor (value_of t.target)) (eqb (value_of t.pid) 0) refl refl refl (prio_case (prio_of t.prio))
   where
     by_tests : (far_pid far_cpu idle : Bool) → nat_lt greatest_pid (value_of t.pid) ≡ far_pid → nat_lt greatest_processor (value_of t.target) ≡ far_cpu → eqb (value_of t.pid) 0 ≡ idle → PrioCase (prio_of t.prio)
         → (wakeup_judged t >>= λ read. Ok (make read)) ≡ decided (is_out_of_range (wakeup t)) (prios_of (wakeup t)) (names_idle (wakeup t)) (make (wakeup_of t))
@@ -29,9 +29,9 @@ wakeup_tests make t = by_tests (nat_lt greatest_pid (value_of t.pid)) (nat_lt gr
     by_tests false false false p q r (high lt e) = rw (p, q, r, e) refl
     by_tests false false false p q r (fair is e) = rw (p, q, r, e) refl
 
-migration_tests : (cpu : ℕ) (t : MigrationText) → judged cpu (migration t) ≡ decided_of cpu (migration t)
-unfolding judged migration_judged number_within nice_at
-migration_tests cpu t =
+migration_is_decided : (cpu : ℕ) (t : MigrationText) → judged cpu (migration t) ≡ decided_of cpu (migration t)
+unfolding judged migration_judged number_within printed_nice
+migration_is_decided cpu t =
     by_tests (nat_lt greatest_pid (value_of t.pid)) (nat_lt greatest_processor (value_of t.orig)) (nat_lt greatest_processor (value_of t.dest)) (eqb (value_of t.pid) 0) refl refl refl refl (prio_case (prio_of t.prio))
   where
     by_tests : (far_pid far_orig far_dest idle : Bool) → nat_lt greatest_pid (value_of t.pid) ≡ far_pid → nat_lt greatest_processor (value_of t.orig) ≡ far_orig → nat_lt greatest_processor (value_of t.dest) ≡ far_dest
@@ -44,9 +44,9 @@ migration_tests cpu t =
     by_tests false false false false p q r s (high lt e) = rw (p, q, r, s, e) refl
     by_tests false false false false p q r s (fair is e) = rw (p, q, r, s, e) refl
 
-switch_tests : (cpu : ℕ) (t : SwitchText) → judged cpu (switch t) ≡ decided_of cpu (switch t)
-unfolding judged switch_judged number_within nice_at
-switch_tests cpu t =
+switch_is_decided : (cpu : ℕ) (t : SwitchText) → judged cpu (switch t) ≡ decided_of cpu (switch t)
+unfolding judged switch_judged number_within printed_nice
+switch_is_decided cpu t =
     by_tests (nat_lt greatest_pid (value_of t.prev)) (nat_lt greatest_pid (value_of t.next)) (eqb (value_of t.prev) 0) (eqb (value_of t.next) 0) refl refl refl refl
     (prio_case (prio_of t.prev_prio)) (prio_case (prio_of t.next_prio))
   where
@@ -68,10 +68,10 @@ switch_tests cpu t =
 -- the answer for any text's parts is the tests' answer
 pub judged_is_decided : (cpu : ℕ) (text : EventText) → judged cpu text ≡ decided_of cpu text
 unfolding judged
-judged_is_decided cpu (switch t) = switch_tests cpu t
-judged_is_decided cpu (wakeup t) = wakeup_tests woken t
-judged_is_decided cpu (wakeup_new t) = wakeup_tests born t
-judged_is_decided cpu (migration t) = migration_tests cpu t
+judged_is_decided cpu (switch t) = switch_is_decided cpu t
+judged_is_decided cpu (wakeup t) = wakeup_is_decided woken t
+judged_is_decided cpu (wakeup_new t) = wakeup_is_decided born t
+judged_is_decided cpu (migration t) = migration_is_decided cpu t
 
 -- where the idle task is named, no prio is looked at
 pub idle_unlooked : (text : EventText) → IsTrue (names_idle text) → AllByRecursion IsFair (prios_of text)

@@ -7,15 +7,15 @@ use Rattle.sched_event.specs.declared.fault.EventFault.{EventFault}
 use Rattle.sched_event.specs.declared.fault.EventFault.TheVariants.{BadFields, NumberRange, RealTime, PrioRange, IdleNamed}
 use Rattle.sched_event.specs.Ranges.{IsFair, Leftmost}
 use Rattle.sched_event.specs.Event.{EventView}
-use Rattle.sched_event.specs.Judging.{◌>>=◌, nice_for}
+use Rattle.sched_event.specs.Judging.{◌>>=◌, nice_of_priority}
 
 -- ---- one prio
 
 -- a prio is too low, too high, or a fair task's
 pub data PrioCase (prio : ℤ) : Type 0 where
-  low : prio <ℤ pos 100 → nice_for prio ≡ Err RealTime → PrioCase prio
-  high : pos 139 <ℤ prio → nice_for prio ≡ Err PrioRange → PrioCase prio
-  fair : IsFair prio → nice_for prio ≡ Ok (prio -ℤ pos 120) → PrioCase prio
+  low : prio <ℤ pos 100 → nice_of_priority prio ≡ Err RealTime → PrioCase prio
+  high : pos 139 <ℤ prio → nice_of_priority prio ≡ Err PrioRange → PrioCase prio
+  fair : IsFair prio → nice_of_priority prio ≡ Ok (prio -ℤ pos 120) → PrioCase prio
 
 pub prio_case : (prio : ℤ) → PrioCase prio
 prio_case prio = by_tests (int_lt prio (pos 100)) (int_lt (pos 139) prio) refl refl
@@ -25,7 +25,7 @@ prio_case prio = by_tests (int_lt prio (pos 100)) (int_lt (pos 139) prio) refl r
     by_tests false true p q = high (grind (arith, ints)) (rw (p, q) refl)
     by_tests false false p q = fair (grind (arith, ints), grind (arith, ints)) (rw (p, q) refl)
 
-low_prio : (prio : ℤ) → prio <ℤ pos 100 → nice_for prio ≡ Err RealTime
+low_prio : (prio : ℤ) → prio <ℤ pos 100 → nice_of_priority prio ≡ Err RealTime
 low_prio prio lt =
     elim (prio_case prio) [
       | low p e ↦ e
@@ -33,7 +33,7 @@ low_prio prio lt =
       | fair p e ↦ absurd (omega (arith, ints))
     ]
 
-high_prio : (prio : ℤ) → pos 139 <ℤ prio → nice_for prio ≡ Err PrioRange
+high_prio : (prio : ℤ) → pos 139 <ℤ prio → nice_of_priority prio ≡ Err PrioRange
 high_prio prio lt =
     elim (prio_case prio) [
       | low p e ↦ absurd (omega (arith, ints))
@@ -41,7 +41,7 @@ high_prio prio lt =
       | fair p e ↦ absurd (omega (arith, ints))
     ]
 
-fair_prio : (prio : ℤ) → IsFair prio → nice_for prio ≡ Ok (prio -ℤ pos 120)
+fair_prio : (prio : ℤ) → IsFair prio → nice_of_priority prio ≡ Ok (prio -ℤ pos 120)
 fair_prio prio is =
     elim (prio_case prio) [
       | low p e ↦ absurd (omega (arith, ints))
@@ -54,7 +54,7 @@ fair_prio prio is =
 abbrev past_prios : List ℤ → Bool → EventView → Result EventView EventFault
 past_prios [] true event = Err IdleNamed
 past_prios [] false event = Ok event
-past_prios (prio ∷ prios) idle event = nice_for prio >>= λ nice. past_prios prios idle event
+past_prios (prio ∷ prios) idle event = nice_of_priority prio >>= λ nice. past_prios prios idle event
 
 abbrev pub decided : Bool → List ℤ → Bool → EventView → Result EventView EventFault
 decided true prios idle event = Err NumberRange
@@ -88,7 +88,7 @@ past_meets [] true event = (tt, refl)
 past_meets [] false event = (tt, refl, refl)
 past_meets (prio ∷ prios) idle event = on (past_meets prios idle event) (prio_case prio)
   where
-    on : MeetsInRange prios idle event (past_prios prios idle event) → PrioCase prio → MeetsInRange (prio ∷ prios) idle event (nice_for prio >>= λ nice. past_prios prios idle event)
+    on : MeetsInRange prios idle event (past_prios prios idle event) → PrioCase prio → MeetsInRange (prio ∷ prios) idle event (nice_of_priority prio >>= λ nice. past_prios prios idle event)
     on others (low p e) = subst (λ (r : Result ℤ EventFault). MeetsInRange (prio ∷ prios) idle event (r >>= λ nice. past_prios prios idle event)) (sym e) (inl p)
     on others (high p e) = subst (λ (r : Result ℤ EventFault). MeetsInRange (prio ∷ prios) idle event (r >>= λ nice. past_prios prios idle event)) (sym e) (inl p)
     on others (fair p e) = subst (λ (r : Result ℤ EventFault). MeetsInRange (prio ∷ prios) idle event (r >>= λ nice. past_prios prios idle event)) (sym e) (meets_fair prio prios idle event (past_prios prios idle event) p others)

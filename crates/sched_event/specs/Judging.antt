@@ -27,20 +27,20 @@ unfoldable pub number_within : ℕ → List ℕ → Result ℕ EventFault
 number_within most digits = if nat_lt most (value_of digits) then Err NumberRange else Ok (value_of digits)
 
 -- the nice value of a fair task's prio
-abbrev pub nice_for : ℤ → Result ℤ EventFault
-nice_for prio = if int_lt prio (pos 100) then Err RealTime else if int_lt (pos 139) prio then Err PrioRange else Ok (prio -ℤ pos 120)
+abbrev pub nice_of_priority : ℤ → Result ℤ EventFault
+nice_of_priority prio = if int_lt prio (pos 100) then Err RealTime else if int_lt (pos 139) prio then Err PrioRange else Ok (prio -ℤ pos 120)
 
 -- the nice value of a pid's printed prio: that of the idle task isn't looked at, and counts as 120
-unfoldable pub nice_at : ℕ → Prio → Result ℤ EventFault
-nice_at pid prio = nice_for (if pid == idle_pid then pos 120 else prio_of prio)
+unfoldable pub printed_nice : ℕ → Prio → Result ℤ EventFault
+printed_nice pid prio = nice_of_priority (if pid == idle_pid then pos 120 else prio_of prio)
 
 -- a switch, by its numbers and then by its prios
 unfoldable pub switch_judged : ℕ → SwitchText → Result SwitchView EventFault
 switch_judged cpu text = do
   prev ← number_within greatest_pid text.prev
   next ← number_within greatest_pid text.next
-  prev_nice ← nice_at prev text.prev_prio
-  next_nice ← nice_at next text.next_prio
+  prev_nice ← printed_nice prev text.prev_prio
+  next_nice ← printed_nice next text.next_prio
   Ok (record {
     cpu = cpu;
     prev_name = text.prev_name;
@@ -57,7 +57,7 @@ unfoldable pub wakeup_judged : WakeupText → Result WakeupView EventFault
 wakeup_judged text = do
   pid ← number_within greatest_pid text.pid
   target ← number_within greatest_processor text.target
-  nice ← nice_at pid text.prio
+  nice ← printed_nice pid text.prio
   if pid == idle_pid then Err IdleNamed else Ok (record { name = text.name; pid = pid; nice = nice; target = target })
 
 -- a migration, in the same order
@@ -66,7 +66,7 @@ migration_judged text = do
   pid ← number_within greatest_pid text.pid
   orig ← number_within greatest_processor text.orig
   dest ← number_within greatest_processor text.dest
-  nice ← nice_at pid text.prio
+  nice ← printed_nice pid text.prio
   if pid == idle_pid then Err IdleNamed else Ok (record { name = text.name; pid = pid; nice = nice; orig = orig; dest = dest })
 
 -- the answer for a text's parts

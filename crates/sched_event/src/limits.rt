@@ -1,6 +1,6 @@
 ghost use Rattle.std.specs.Prelude.{◌≡◌, ◌<◌, ◌^◌};
 ghost use Rattle.cfs_model.specs.Limits.{greatest_pid, greatest_processor};
-ghost use Rattle.sched_event.specs.Judging.{number_within, nice_at};
+ghost use Rattle.sched_event.specs.Judging.{number_within, printed_nice};
 ghost use Rattle.sched_event.specs.FieldsView.{prio_fields_view};
 
 use crate::fault::EventFault;
@@ -45,9 +45,9 @@ pub(crate) fn cpu_of(numeral: &Numeral) -> Result<u32, EventFault>
 
 /// The nice value of a printed prio. That of the idle task isn't looked at: its nice value is 0.
 #[inline(always)]
-#[tactic(auto, unfolding(crate::specs::Judging::nice_at))]
+#[tactic(auto, unfolding(crate::specs::Judging::printed_nice))]
 pub(crate) fn nice_of(pid: u32, prio: &PrioFields) -> Result<Nice, EventFault>
-    ensures { result ≡ nice_at pid (prio_fields_view prio.now) }
+    ensures { result ≡ printed_nice pid (prio_fields_view prio.now) }
 {
     let number = prio.numeral.value.min(PRIO_BEYOND) as i64;
     let printed = if pid == IDLE_PID {

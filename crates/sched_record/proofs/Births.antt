@@ -7,7 +7,8 @@ use Rattle.std.proofs.lemmas.List.Folds.{Any-from_list_any, list_any_at, list_an
 use Rattle.cfs_model.specs.declared.act.Entry.{Entry}
 use Rattle.sched_record.specs.Kept.{is_birth_line, is_birth_of}
 
-abbrev Rise : List Entry → Type 0
+-- the lines of the events rise
+abbrev pub Rise : List Entry → Type 0
 Rise events = AllPairs (λ a b. a.line < b.line) events
 
 -- where a birth line's event stands

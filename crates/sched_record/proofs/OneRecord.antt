@@ -10,18 +10,19 @@ use Rattle.sched_record.specs.declared.joining.JoinCause.{JoinCause}
 use Rattle.sched_record.specs.declared.joining.JoinCause.TheVariants.{CpuOutside, StartLate, ClaimNoEvent}
 use Rattle.sched_record.specs.Kept.{RecordView, IsInside, NamesBirth, is_event_line}
 use Rattle.sched_record.specs.Join.{IsFirstOutside, IsBeforeStart, BeginsInTime, IsFirstStray, IsStray, Refuses, GoTogether, RecordAnswer}
-use Rattle.sched_record.proofs.Splits.{one_first, all_at_cut}
+use Rattle.sched_record.proofs.Splits.{one_first_split, all_at_cut}
 
 -- an event outside isn't inside
 not_inside : (cpus : ℕ) (event : Entry) → Any (λ cpu. cpus ≤ cpu) (touched event.act) → IsInside cpus event → ⊥
 not_inside cpus event (k, cpu, h, at, out) inside = let below = inside k cpu h in absurd (omega (arith, at, out, below))
 
-none_outside : (cpus : ℕ) (events : List Entry) (line : ℕ) → All (IsInside cpus) events → IsFirstOutside cpus events line → ⊥
+-- events are inside, or one of them is outside: not both
+pub none_outside : (cpus : ℕ) (events : List Entry) (line : ℕ) → All (IsInside cpus) events → IsFirstOutside cpus events line → ⊥
 none_outside cpus events line all x = not_inside cpus x.event x.outside (all_at_cut (IsInside cpus) events x.before x.event x.after x.parts all)
 
 one_outside : (cpus : ℕ) (events : List Entry) (m n : ℕ) → IsFirstOutside cpus events m → IsFirstOutside cpus events n → m ≡ n
 one_outside cpus events m n x y =
-    let same = one_first (IsInside cpus) events x.before y.before x.event y.event x.after y.after x.parts y.parts x.inside y.inside
+    let same = one_first_split (IsInside cpus) events x.before y.before x.event y.event x.after y.after x.parts y.parts x.inside y.inside
     (not_inside cpus x.event x.outside) (not_inside cpus y.event y.outside) in
     x.placed ∙ ap (λ (e : Entry). e.line) same ∙ sym y.placed
 

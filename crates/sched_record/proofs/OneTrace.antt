@@ -33,9 +33,9 @@ one_said once n (line ∷ lines) (say ∷ said) (say' ∷ said') says says' =
     let rest = one_said once (n + 1) lines said said' says.1 says'.1 in
     cc
 
-pub one_list : ReadOnce → (lines : List (List ℕ)) (events events' : List Entry) → AreEventsOf lines events → AreEventsOf lines events'
+pub one_list_of_events : ReadOnce → (lines : List (List ℕ)) (events events' : List Entry) → AreEventsOf lines events → AreEventsOf lines events'
     → events ≡ events'
-one_list once lines events events' good good' =
+one_list_of_events once lines events events' good good' =
     good.kept ∙ ap events_said (one_said once 1 lines good.said good'.said good.each good'.each) ∙ sym good'.kept
 
 -- good lines, cut at one of them
@@ -89,9 +89,9 @@ one_why : (say : Result (Option Entry) TraceCause) (a b : TraceCause) → MatchR
 one_why (Ok say) a b p q = p ∙ sym q
 one_why (Err alone) a b p q = p ∙ sym q
 
-one_cause : ReadOnce → (events events' : List Entry) (number : ℕ) (line : List ℕ) (a b : TraceCause) → IsBadAfter events number line a
+one_bad_cause : ReadOnce → (events events' : List Entry) (number : ℕ) (line : List ℕ) (a b : TraceCause) → IsBadAfter events number line a
     → IsBadAfter events' number line b → a ≡ b
-one_cause once events events' number line a b bad bad' =
+one_bad_cause once events events' number line a b bad bad' =
     let p = saying events number line a bad in
     let q = saying events' number line b bad' in
     one_why q.say a b (subst (λ say. MatchResult say (λ _. a ≡ TimeBack) (λ alone. a ≡ alone)) (one_saying once number line p.say q.say p.says q.says) p.why) q.why
@@ -133,9 +133,9 @@ never_bad once lines front rest line all events cause good parts front_good bad 
         (whole ∙ append_assoc bad.before (bad.last ∷ []) (bad.event ∷ events_said cut.after)) good.in_time bad.falls
 
 -- of two first bad lines neither comes before the other
-not_before : ReadOnce → (lines : List (List ℕ)) (m n : ℕ) (c d : TraceCause) → (x : IsFirstBadTraceLine lines m c) → (y : IsFirstBadTraceLine lines n d)
+not_earlier : ReadOnce → (lines : List (List ℕ)) (m n : ℕ) (c d : TraceCause) → (x : IsFirstBadTraceLine lines m c) → (y : IsFirstBadTraceLine lines n d)
     → length x.front < length y.front → ⊥
-not_before once lines m n c d x y lt =
+not_earlier once lines m n c d x y lt =
     let cut = later_cut x.front y.front x.line y.line x.rest y.rest (sym x.parts ∙ y.parts) lt in
     never_bad once y.front x.front cut.0 x.line y.events x.events c y.good cut.1 x.good (subst (λ k. IsBadAfter x.events k x.line c) x.placed x.bad)
 
@@ -147,10 +147,10 @@ one_first_bad once lines m n c d x y =
           let cut = same_cut x.front y.front x.line y.line x.rest y.rest (sym x.parts ∙ y.parts) same in
           let number : m ≡ n = x.placed ∙ ap (λ k. k + 1) same ∙ sym y.placed in
           let bad : IsBadAfter x.events n y.line c = subst (λ k. IsBadAfter x.events k y.line c) number (subst (λ l. IsBadAfter x.events m l c) cut.1 x.bad) in
-          (number, one_cause once x.events y.events n y.line c d bad y.bad))
+          (number, one_bad_cause once x.events y.events n y.line c d bad y.bad))
       | inr apart ↦ elim apart [
-        | inl less ↦ absurd (not_before once lines m n c d x y less)
-        | inr more ↦ absurd (not_before once lines n m d c y x more)
+        | inl less ↦ absurd (not_earlier once lines m n c d x y less)
+        | inr more ↦ absurd (not_earlier once lines n m d c y x more)
       ]
     ]
 
@@ -162,7 +162,7 @@ not_mixed once lines events number cause good bad =
     (subst (λ k. IsBadAfter bad.events k bad.line cause) bad.placed bad.bad)
 
 pub one_trace : ReadOnce → (text : List ℕ) (a b : Result (List Entry) (ℕ × TraceCause)) → TraceAnswer text a → TraceAnswer text b → a ≡ b
-one_trace once text (Ok events) (Ok events') p q = ap (λ es. Ok es) (one_list once (lines_of text) events events' p q)
+one_trace once text (Ok events) (Ok events') p q = ap (λ es. Ok es) (one_list_of_events once (lines_of text) events events' p q)
 one_trace once text (Ok events) (Err fault) p q = absurd (not_mixed once (lines_of text) events fault.0 fault.1 p q)
 one_trace once text (Err fault) (Ok events) p q = absurd (not_mixed once (lines_of text) events fault.0 fault.1 q p)
 one_trace once text (Err (m, c)) (Err (n, d)) p q =

@@ -49,9 +49,9 @@ placed_more events lists more event place placed is_last added cpu h =
     ∙ sym (places_push cpu events event)
 
 -- the same events, and the same places
-pub placed_same : (events : List Entry) (lists more : List (List ℕ)) → ArePlacesOf events lists
+pub places_same : (events : List Entry) (lists more : List (List ℕ)) → ArePlacesOf events lists
     → ((cpu : ℕ) → cpu < most_processors → places_at more cpu ≡ places_at lists cpu) → ArePlacesOf events more
-placed_same events lists more placed same cpu h = same cpu h ∙ placed cpu h
+places_same events lists more placed same cpu h = same cpu h ∙ placed cpu h
 
 -- the events that touch a processor
 abbrev pub touching : ℕ → List Entry → List Entry
@@ -76,9 +76,9 @@ found_from cpu n f (event ∷ events) reads =
     by false e first rest = rw e rest
 
 -- the events at the places are those that touch the processor
-pub found : (cpu : ℕ) (events : List Entry) (d : Entry) → map (λ place. get_or events place d) (places_touching cpu events) ≡ touching cpu events
+pub places_found : (cpu : ℕ) (events : List Entry) (d : Entry) → map (λ place. get_or events place d) (places_touching cpu events) ≡ touching cpu events
 unfolding places_touching
-found cpu events d =
+places_found cpu events d =
     found_from cpu 0 (λ place. get_or events place d) events
     (λ k e h. ap (λ n. get_or events n d) (omega arith) ∙ get_or_default events k d e h)
 
@@ -124,7 +124,7 @@ pub next_touching : (cpu : ℕ) (events : List Entry) (places : List ℕ) (i : �
     → event ≡ get_or events (get_or places i 0) event → (i < length (touching cpu events)) × (event ≡ get_or (touching cpu events) i event)
 next_touching cpu events places i event are h is =
     let read : ℕ → Entry = λ place. get_or events place event in
-    let all : map read places ≡ touching cpu events = ap (map read) are ∙ found cpu events event in
+    let all : map read places ≡ touching cpu events = ap (map read) are ∙ places_found cpu events event in
     let size : length (touching cpu events) ≡ length places = ap length (sym all) ∙ length-map places read in
     (omega (arith, size), is ∙ sym (get_or-map read places i 0 event h) ∙ ap (λ es. get_or es i event) all)
 
@@ -133,5 +133,5 @@ pub count_touching : (cpu : ℕ) (events : List Entry) (places : List ℕ) → p
 count_touching cpu [] places are = omega arith
 count_touching cpu (event ∷ events) places are =
     let read : ℕ → Entry = λ place. get_or (event ∷ events) place event in
-    let size = ap length (sym (found cpu (event ∷ events) event)) ∙ length-map (places_touching cpu (event ∷ events)) read ∙ ap length (sym are) in
+    let size = ap length (sym (places_found cpu (event ∷ events) event)) ∙ length-map (places_touching cpu (event ∷ events)) read ∙ ap length (sym are) in
     omega (arith, size)

@@ -2,7 +2,6 @@
 -- span of the pid starts above the line, the last such one starts at that birth just if it has no end above the line.
 use Rattle.std.proofs.Common.{◌≡◌, ℕ, zero, suc, ◌<◌, ◌≤◌, ◌||◌, ◌⊎◌, List, [], ◌∷◌, length, get_or, Bool, true, false, true≢false, cond, eqb, leb, ltb, inl, inr, refl, sym, ap, ◌∙◌, subst, arith}
 use Rattle.std.specs.Prelude.{All, pos}
-use Rattle.std.specs.List.{AllPairs}
 use Rattle.std.proofs.lemmas.Bool.{cases_Bool, cases_lt, eqb-true, eq-eqb, ne_eqb}
 use Rattle.std.proofs.lemmas.Bool.Decides.{nat_tests}
 use Rattle.std.proofs.lemmas.List.{get_or_default}
@@ -16,7 +15,7 @@ use Rattle.companion_file.specs.Spans.{AreSpansOf, starts_span}
 use Rattle.companion_file.specs.declared.idle_span.IdleSpan.{IdleSpan}
 use Rattle.sched_record.specs.Kept.{NamesBirth, is_birth_line, is_birth_of}
 use Rattle.sched_record.specs.Policies.{EndsAtBirth, IsLastBefore, NoneBefore}
-use Rattle.sched_record.proofs.Births.{birth_at, birth_found}
+use Rattle.sched_record.proofs.Births.{Rise, birth_at, birth_found}
 use Rattle.sched_record.proofs.Pairs.{pairs_tail}
 use Rattle.sched_record.proofs.SpanEnds.{any_span, span_born, span_starts}
 
@@ -25,9 +24,6 @@ abbrev pub last_birth : ℕ → List Entry → ℕ → ℕ → ℕ
 last_birth from [] line pid = from
 last_birth from (event ∷ events) line pid =
     cond (ltb event.line line) (last_birth (cond (is_birth_of pid event.act) event.line from) events line pid) from
-
-abbrev Rise : List Entry → Type 0
-Rise events = AllPairs (λ a b. a.line < b.line) events
 
 -- what an event tells of a pid
 after_is : (idles : List IdleLine) (policies : ℕ → Bool) (from line pid : ℕ) (act : Act) → policies pid ≡ is_named_idle idles from pid

@@ -109,18 +109,18 @@ owned cpu claims nices policy event limits claim e =
     record { line = eqb-true claim.line event.line found.0; in_range = found.1.v }
 
 -- a step's change of a nice value is the one on its line
-nice_is : (deed : Deed) (found : Option NiceLine) (change : NiceLine) → nice_for deed found ≡ Some change → found ≡ Some change
-nice_is (Switch prev prev_nice way next next_nice) found change e = e
-nice_is (Wake pid nice) found change e = e
-nice_is (Born pid nice idle) found change e = e
-nice_is (Leave pid nice dest) found change e = e
-nice_is (Arrive pid nice orig idle) found change e = absurd cc
+change_found : (deed : Deed) (found : Option NiceLine) (change : NiceLine) → nice_for deed found ≡ Some change → found ≡ Some change
+change_found (Switch prev prev_nice way next next_nice) found change e = e
+change_found (Wake pid nice) found change e = e
+change_found (Born pid nice idle) found change e = e
+change_found (Leave pid nice dest) found change e = e
+change_found (Arrive pid nice orig idle) found change e = absurd cc
 
 owned_nice : (cpu : ℕ) (claims : List Claim) (nices : List NiceLine) (policy : Entry → Bool) (event : Entry) → All IsNiceLineInLimits nices → (change : NiceLine)
     → (step_at cpu (with_claim claims nices policy event)).nice ≡ Some change → OwnsNice (step_at cpu (with_claim claims nices policy event)) change
 owned_nice cpu claims nices policy event limits change e =
     let found = found_in IsNiceLineInLimits (λ (n : NiceLine). eqb n.line event.line) nices change limits
-    (nice_is (deed_at cpu (policy event) event.act) (nice_at nices event.line) change e) in
+    (change_found (deed_at cpu (policy event) event.act) (nice_at nices event.line) change e) in
     record { line = eqb-true change.line event.line found.0; in_range = found.1.nice }
 
 -- no event is behind the last
@@ -137,8 +137,8 @@ within_time start claims nices policy [] in_time = λ k d h. absurd (omega arith
 within_time start claims nices policy (event ∷ events) in_time =
     subst (λ n. All (λ e. e.time ≤ n) (event ∷ events)) (sym (last_time_is start claims nices policy event events)) (greatest_last (λ (e : Entry). e.time) event events in_time)
 
-pub share_of : (r : RecordView) (cpu : ℕ) → IsRecordInOrder r → cpu < r.cpus → IsShare (cut_of r cpu)
-share_of r cpu order below =
+pub share_of_record : (r : RecordView) (cpu : ℕ) → IsRecordInOrder r → cpu < r.cpus → IsShare (cut_of r cpu)
+share_of_record r cpu order below =
     let limits = order.companion in
     let has_floor : cpu < length r.floors = let each = limits.floor_for_each_cpu in omega (arith, each, below) in
     let named = order.events.named in

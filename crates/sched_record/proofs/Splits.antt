@@ -35,9 +35,9 @@ all_at_cut P xs before a after parts all =
     subst P at (All-get_or P xs (length before) a place all)
 
 -- the first element that isn't so is one
-pub one_first : {X : Type 0} (P : X → Type 0) (xs before before' : List X) (a b : X) (after after' : List X)
+pub one_first_split : {X : Type 0} (P : X → Type 0) (xs before before' : List X) (a b : X) (after after' : List X)
     → xs ≡ before ++ a ∷ after → xs ≡ before' ++ b ∷ after' → All P before → All P before' → ¬ P a → ¬ P b → a ≡ b
-one_first P xs before before' a b after after' parts parts' so so' not_a not_b =
+one_first_split P xs before before' a b after after' parts parts' so so' not_a not_b =
     let both : before ++ a ∷ after ≡ before' ++ b ∷ after' = sym parts ∙ parts' in
     elim (cases_order (length before) (length before')) [
       | inl same ↦ (same_cut before before' a b after after' both same).1

@@ -36,10 +36,10 @@ least_put (place ∷ places) zero page e =
     omega (arith, least_within places, empty)
 least_put (place ∷ places) (suc cpu) page e = omega (arith, least_put places cpu page e)
 
-own_put : (places : List (Option ReplayView)) (cpu : ℕ) (page : ReplayView) → cpu < length places → page.stream.cpu ≡ cpu
+own_place_put : (places : List (Option ReplayView)) (cpu : ℕ) (page : ReplayView) → cpu < length places → page.stream.cpu ≡ cpu
     → ((other : ℕ) (p : ReplayView) → page_at places other ≡ Some p → p.stream.cpu ≡ other)
     → (other : ℕ) (p : ReplayView) → page_at (set places cpu (Some page)) other ≡ Some p → p.stream.cpu ≡ other
-own_put places cpu page h is own other p e = go (cases_eq other cpu)
+own_place_put places cpu page h is own other p e = go (cases_eq other cpu)
   where
     go : (other ≡ cpu) ⊎ (other ≢ cpu) → p.stream.cpu ≡ other
     go (inl same) =
@@ -59,14 +59,14 @@ book_put places least cpu page book empty is =
     record {
       some = let some = book.some in omega (arith, some, same);
       at_most = let most = book.at_most in omega (arith, most, same);
-      own = own_put places cpu page h is book.own;
+      own = own_place_put places cpu page h is book.own;
       least_is = ap (λ line. min line (line_of_fault page.page.fault)) book.least_is ∙ sym (least_put places cpu page empty);
     }
 
-pub none_there : (cpus cpu : ℕ) → page_at (replicate cpus None) cpu ≡ None
-none_there zero cpu = refl
-none_there (suc cpus) zero = refl
-none_there (suc cpus) (suc cpu) = none_there cpus cpu
+pub no_page_there : (cpus cpu : ℕ) → page_at (replicate cpus None) cpu ≡ None
+no_page_there zero cpu = refl
+no_page_there (suc cpus) zero = refl
+no_page_there (suc cpus) (suc cpu) = no_page_there cpus cpu
 
 -- a book without pages
 pub empty_book : (cpus : ℕ) → 0 < cpus → cpus ≤ most_processors → IsBook (replicate cpus None) no_fault
@@ -76,6 +76,6 @@ empty_book cpus some most =
     record {
       some = omega (arith, some, count);
       at_most = omega (arith, most, count);
-      own = λ cpu page e. absurd (none-some page (sym (none_there cpus cpu) ∙ e));
+      own = λ cpu page e. absurd (none-some page (sym (no_page_there cpus cpu) ∙ e));
       least_is = sym (least_of_empty cpus);
     }

@@ -18,7 +18,7 @@ use Rattle.ticket_book.specs.Core.{ask, post, AreCoreSteps, AreLeft, Core, CoreS
 use Rattle.ticket_book.specs.Remade.{AreRemade, AreRemadeBelow, IsLeastFault, ReachesEnough, Suffices}
 use Rattle.ticket_book.specs.Whole.{IsOwnPageOf}
 use Rattle.ticket_book.proofs.Gathering.{whole_reaches}
-use Rattle.ticket_book.proofs.BookPlaces.{least_of_empty, least_put, least_within, none_there}
+use Rattle.ticket_book.proofs.BookPlaces.{least_of_empty, least_put, least_within, no_page_there}
 
 -- a page that was posted: its own auditor's, as far as it may stop with this least line
 record IsKept (knobs : Settings) (r : RecordView) (cpu least : ℕ) (page : ReplayView) : Type 0 where
@@ -52,7 +52,7 @@ kept_start knobs r =
     let none = least_of_empty r.cpus in
     record {
       count = length-replicate r.cpus empty;
-      each = λ cpu page e. absurd (none-some page (sym (none_there r.cpus cpu) ∙ e));
+      each = λ cpu page e. absurd (none-some page (sym (no_page_there r.cpus cpu) ∙ e));
       told = λ cpu. omega (arith, none);
       at_most = λ cpu. omega arith;
     }
@@ -182,8 +182,8 @@ faulted None h = absurd (omega arith)
 faulted (Some fault) h = (fault, refl)
 
 module _ (knobs : Settings) (r : RecordView) (core : Core) (k : KeepsCore knobs r core) where
-  least_is : least_line core.places < no_fault → IsLeastFault knobs r core.places (least_line core.places)
-  least_is h =
+  least_line_is : least_line core.places < no_fault → IsLeastFault knobs r core.places (least_line core.places)
+  least_line_is h =
       let a = attained core.places h in
       let line = a.line in
       let f = faulted a.page.page.fault (omega (arith, line, h)) in
@@ -214,7 +214,7 @@ module _ (knobs : Settings) (r : RecordView) (core : Core) (k : KeepsCore knobs 
   reaches None line made steps (inr (inr h)) = go (nat_lt made steps)
     where
       go : (b : Bool) → ReachesEnough knobs r core.places (if b then Stopped line else Done)
-      go true = (least_line core.places, least_is h.0, h.1)
+      go true = (least_line core.places, least_line_is h.0, h.1)
       go false = tt
 
   left_suffices : (cpu : ℕ) (place : Option ReplayView) → page_at core.places cpu ≡ place → IsSome place

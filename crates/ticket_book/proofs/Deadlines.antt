@@ -1,29 +1,23 @@
 -- Deadlines along a list of pages: the first, and the lowest processor that is late.
-use Rattle.std.proofs.Common.{◌≡◌, ℕ, ◌+◌, ◌<◌, ◌≤◌, nat_lt, true, false, cond, Option, Some, None, List, length, get_or, refl, sym, ap, ◌∙◌, subst, below_more, arith, inl, inr}
-use Rattle.std.proofs.lemmas.Bool.{ltb-false, le-ltb, cases_lt, lt-ltb}
+use Rattle.std.proofs.Common.{◌≡◌, ℕ, ◌+◌, ◌<◌, true, false, Option, Some, None, List, length, get_or, refl, sym, ap, ◌∙◌, subst, below_more, arith}
+use Rattle.std.proofs.lemmas.Bool.{ltb-false, le-ltb}
 use Rattle.queue_replay.specs.Replay.{ReplayView}
+use Rattle.sched_record.specs.Join.{lesser_of}
 use Rattle.ticket_book.specs.Told.{view_at}
 use Rattle.ticket_book.specs.Idling.{IsFrom, IsFirstLate, NoneFirst, NoneLate, deadline_on, is_past}
-use Rattle.ticket_book.specs.Lesser.{lesser_of}
 use Rattle.ticket_book.proofs.Views.{view_here}
-
-smaller : (one other : ℕ) → (cond (nat_lt other one) other one ≤ one) × (cond (nat_lt other one) other one ≤ other)
-smaller one other = elim (cases_lt other one) [
-  | inl less ↦ let e = ap (λ b. cond b other one) (lt-ltb other one less) in (omega (arith, e), omega (arith, e))
-  | inr more ↦ let e = ap (λ b. cond b other one) (le-ltb other one more) in (omega (arith, e), omega (arith, e))
-]
 
 -- what isn't before a deadline isn't before an earlier one
 from_earlier : (one other deadline : Option ℕ) → IsFrom one deadline → IsFrom (lesser_of one other) deadline
 from_earlier one other None h = tt
 from_earlier None other (Some d) h = absurd h
 from_earlier (Some one) None (Some d) h = h
-from_earlier (Some one) (Some other) (Some d) h = let s = smaller one other in omega (arith, s.0, h)
+from_earlier (Some one) (Some other) (Some d) h = omega (arith, h)
 
 from_other : (one other : Option ℕ) → IsFrom (lesser_of one other) other
 from_other one None = tt
 from_other None (Some other) = omega arith
-from_other (Some one) (Some other) = (smaller one other).1
+from_other (Some one) (Some other) = omega arith
 
 -- one more page
 pub one_deadline : (pages : List ReplayView) (first : Option ℕ) (k : ℕ) (page : ReplayView) → k < length pages

@@ -17,7 +17,7 @@ lent_back cursors before n count =
     ap (λ k. take k (cursors ++ drop (length cursors) before)) (sym count)
     ∙ take-append_seam cursors (drop (length cursors) before)
 
-pub followed_more : (places : List (Option ReplayView)) (before after : List Cursor) (claims : List Claim) (nices : List NiceLine)
+pub followed_one_more : (places : List (Option ReplayView)) (before after : List Cursor) (claims : List Claim) (nices : List NiceLine)
     (policy : Entry → Bool) (events : List Entry) (i : ℕ) (event : Entry) (claim : Option Claim) (nice : Option NiceLine) (idle : Bool)
     → i < length events → event ≡ get_or events i event
     → claim ≡ claim_at claims event.line → nice ≡ nice_at nices event.line → idle ≡ policy event
@@ -25,7 +25,7 @@ pub followed_more : (places : List (Option ReplayView)) (before after : List Cur
     → AreFollowed places after (dealt ++ record { entry = event; claim = claim; nice = nice; idle = idle } ∷ []))
     → AreFollowed places before (claimed claims nices policy (take i events))
     → AreFollowed places after (claimed claims nices policy (take (i + 1) events))
-followed_more places before after claims nices policy events i event claim nice idle lt is is_claim is_nice is_idle follows followed =
+followed_one_more places before after claims nices policy events i event claim nice idle lt is is_claim is_nice is_idle follows followed =
     let dealt = claimed claims nices policy (take i events) in
     let said_of : Option Claim → Option NiceLine → Bool → Claimed = λ c n b. record { entry = event; claim = c; nice = n; idle = b } in
     let said : said_of claim nice idle ≡ with_claim claims nices policy event =

@@ -18,21 +18,21 @@ use Rattle.queue_replay.specs.declared.tag.Reached.TheVariants.{Stopped, Done, F
 use Rattle.sched_record.specs.Record.{RecordView}
 use Rattle.ticket_book.specs.Book.{page_at}
 use Rattle.ticket_book.specs.Own.{IsToldOwn}
-use Rattle.ticket_book.specs.Relying.{IsEnough, IsLeastOf, IsReliable}
+use Rattle.ticket_book.specs.Relying.{IsEnough, IsLeastFaultLine, IsReliable}
 use Rattle.ticket_book.specs.Remade.{AreRemadeBelow, HasFaultAt, IsLeastFault, ReachesEnough, Suffices, SufficesFor}
 use Rattle.ticket_book.specs.Told.{view_at}
 use Rattle.ticket_book.specs.Whole.{AreSufficient, IsWholePageOf, SufficesBeside}
 
 module _ (knobs : Settings) (r : RecordView) (places : List (Option ReplayView)) where
   -- what the code tests is what the definition says, where the least line is the one that was found
-  enough_reaches : (least : Option ℕ) (reached : Reached) → IsLeastOf knobs r places r.cpus least → IsEnough least reached
+  enough_reaches : (least : Option ℕ) (reached : Reached) → IsLeastFaultLine knobs r places r.cpus least → IsEnough least reached
       → ReachesEnough knobs r places reached
   enough_reaches least Done is h = tt
   enough_reaches least (Faulted line) is h = tt
   enough_reaches None (Stopped line) is h = absurd h
   enough_reaches (Some least) (Stopped line) is h = (least, is, h)
 
-  reaches_enough : (least : Option ℕ) (reached : Reached) → IsLeastOf knobs r places r.cpus least
+  reaches_enough : (least : Option ℕ) (reached : Reached) → IsLeastFaultLine knobs r places r.cpus least
       → ReachesEnough knobs r places reached → IsEnough least reached
   reaches_enough least Done is h = tt
   reaches_enough least (Faulted line) is h = tt
@@ -43,7 +43,7 @@ module _ (knobs : Settings) (r : RecordView) (places : List (Option ReplayView))
       omega (arith, first, past)
 
   pub reliable_suffices : (own : Bool) (least : Option ℕ) (cpu : ℕ) (page : ReplayView)
-      → IsLeastOf knobs r places r.cpus least → IsToldOwn knobs r cpu (Some page) own → IsReliable own least (Some page)
+      → IsLeastFaultLine knobs r places r.cpus least → IsToldOwn knobs r cpu (Some page) own → IsReliable own least (Some page)
       → SufficesFor knobs r places cpu page
   reliable_suffices own least cpu page is told h = record {
     own = told.0 h.0;
@@ -51,7 +51,7 @@ module _ (knobs : Settings) (r : RecordView) (places : List (Option ReplayView))
   }
 
   pub suffices_reliable : (own : Bool) (least : Option ℕ) (cpu : ℕ) (place : Option ReplayView)
-      → IsLeastOf knobs r places r.cpus least → IsToldOwn knobs r cpu place own → Suffices knobs r places cpu place
+      → IsLeastFaultLine knobs r places r.cpus least → IsToldOwn knobs r cpu place own → Suffices knobs r places cpu place
       → IsReliable own least place
   suffices_reliable own least cpu None is told h = h
   suffices_reliable own least cpu (Some page) is told h =
@@ -151,10 +151,10 @@ module _ (knobs : Settings) (r : RecordView) (places left after : List (Option R
           (subst (λ n. IsGathered knobs r places n page) (sym count ∙ last) is)
 
   -- the page that stands at the processor's place, if it suffices, is the one gathered
-  abbrev Keeps : Type 0
-  Keeps = (p : ReplayView) → page_at places cpu ≡ Some p → SufficesFor knobs r places cpu p → p ≡ page
+  abbrev KeepsPage : Type 0
+  KeepsPage = (p : ReplayView) → page_at places cpu ≡ Some p → SufficesFor knobs r places cpu p → p ≡ page
 
-  kept_more : Keeps → (other : ℕ) (p : ReplayView) → other < cpu + 1 → page_at places other ≡ Some p
+  kept_more : KeepsPage → (other : ℕ) (p : ReplayView) → other < cpu + 1 → page_at places other ≡ Some p
       → SufficesFor knobs r places other p → slice_get (pages ++ page ∷ []) other ≡ Some p
   kept_more keeps other p h e s = go (cases_lt other cpu)
     where
@@ -170,7 +170,7 @@ module _ (knobs : Settings) (r : RecordView) (places left after : List (Option R
   left_more : (other : ℕ) → cpu + 1 ≤ other → page_at after other ≡ page_at places other
   left_more other le = others other (omega arith) ∙ gathered.left_are other (omega arith)
 
-  more : (count : ℕ) → Keeps → AreRemadeBelow knobs r places (suc cpu) count → count ≤ cpu + 1
+  more : (count : ℕ) → KeepsPage → AreRemadeBelow knobs r places (suc cpu) count → count ≤ cpu + 1
       → AreGathered knobs r places after (pages ++ page ∷ []) (cpu + 1) count
   more count keeps below few = record {
     count = length_push pages page ∙ ap (λ n. n + 1) gathered.count;

@@ -1,14 +1,14 @@
 -- The least line of a fault on the record's own pages of the processors below a number, with one more processor's.
-use Rattle.std.proofs.Common.{◌≡◌, ℕ, ◌+◌, ◌<◌, ◌≤◌, nat_lt, if◌then◌else◌, Bool, true, false, IfNone, IfSome, List, Option, Some, None, refl, sym, ap, ◌∙◌, subst, arith, inl, inr}
-use Rattle.std.proofs.lemmas.Bool.{cases_lt, ltb-false, ltb-true}
+use Rattle.std.proofs.Common.{◌≡◌, ℕ, ◌+◌, ◌<◌, ◌≤◌, min, IfNone, IfSome, List, Option, Some, None, sym, ap, ◌∙◌, subst, arith, inl, inr}
+use Rattle.std.proofs.lemmas.Bool.{cases_lt}
 use Rattle.std.proofs.lemmas.Option.{same_Some}
 use Rattle.cfs_model.specs.Settings.{Settings}
 use Rattle.replay_model.specs.declared.page.StepFault.{StepFault}
 use Rattle.queue_replay.specs.Replay.{ReplayView}
+use Rattle.sched_record.specs.Join.{lesser_of}
 use Rattle.sched_record.specs.Record.{RecordView}
 use Rattle.ticket_book.specs.Book.{page_at}
-use Rattle.ticket_book.specs.Relying.{IsLeastOf}
-use Rattle.ticket_book.specs.Lesser.{lesser_of}
+use Rattle.ticket_book.specs.Relying.{IsLeastFaultLine}
 use Rattle.ticket_book.specs.Remade.{HasFaultAt, IsLeastFaultBelow}
 
 module _ (knobs : Settings) (r : RecordView) (places : List (Option ReplayView)) where
@@ -31,7 +31,7 @@ module _ (knobs : Settings) (r : RecordView) (places : List (Option ReplayView))
     | inr k ↦ subst P (let e : cpu ≡ other = omega (arith, k, h) in e) here
   ]
 
-  none_yet : IsLeastOf knobs r places 0 None
+  none_yet : IsLeastFaultLine knobs r places 0 None
   none_yet cpu line h f = absurd (omega arith)
 
   -- a least line, where the next processor has none below it
@@ -56,24 +56,24 @@ module _ (knobs : Settings) (r : RecordView) (places : List (Option ReplayView))
         (λ n g. (let e = one_line cpu line n f g in omega (arith, e))) other h lesser;
   }
 
-  pub least_more : (cpu : ℕ) (least line : Option ℕ) → IsLeastOf knobs r places cpu least
+  pub least_more : (cpu : ℕ) (least line : Option ℕ) → IsLeastFaultLine knobs r places cpu least
       → IfNone line ((n : ℕ) → ¬ At cpu n) → IfSome line (At cpu)
-      → IsLeastOf knobs r places (cpu + 1) (lesser_of least line)
+      → IsLeastFaultLine knobs r places (cpu + 1) (lesser_of least line)
   least_more cpu None None l none found = λ other n h f.
       below_or_at (λ c. (m : ℕ) → ¬ At c m) cpu (λ c k m. l c m k) none other h n f
   least_more cpu None (Some line) l none found =
       next_least cpu line found (λ other k lesser f. absurd (l other lesser k f))
   least_more cpu (Some least) None l none found = still_least cpu least l (λ lesser f. absurd (none lesser f))
-  least_more cpu (Some least) (Some line) l none found = go (nat_lt line least) refl
-    where
-      go : (b : Bool) → nat_lt line least ≡ b
-          → IsLeastFaultBelow knobs r places (cpu + 1) (if b then line else least)
-      go true e = next_least cpu line found
-          (λ other k lesser f. (let low = l.least other lesser k f in let lt = ltb-true line least e in
-          omega (arith, low, lt)))
-      go false e = still_least cpu least l
-          (λ lesser f. (let same = one_line cpu line lesser found f in let le = ltb-false line least e in
-          omega (arith, same, le)))
+  least_more cpu (Some least) (Some line) l none found = elim (cases_lt line least) [
+    | inl lt ↦
+        (let same : line ≡ min least line = omega (arith, lt) in
+        subst (IsLeastFaultBelow knobs r places (cpu + 1)) same
+        (next_least cpu line found (λ other k lesser f. (let low = l.least other lesser k f in omega (arith, low, lt)))))
+    | inr le ↦
+        (let same : least ≡ min least line = omega (arith, le) in
+        subst (IsLeastFaultBelow knobs r places (cpu + 1)) same
+        (still_least cpu least l (λ lesser f. (let is = one_line cpu line lesser found f in omega (arith, is, le)))))
+  ]
 
-pub none_found : (knobs : Settings) (r : RecordView) (places : List (Option ReplayView)) → IsLeastOf knobs r places 0 None
-none_found knobs r places = none_yet knobs r places
+pub none_below_first : (knobs : Settings) (r : RecordView) (places : List (Option ReplayView)) → IsLeastFaultLine knobs r places 0 None
+none_below_first knobs r places = none_yet knobs r places

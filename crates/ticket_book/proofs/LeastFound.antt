@@ -17,7 +17,7 @@ use Rattle.ticket_book.specs.SaidEvents.{events_of}
 use Rattle.ticket_book.specs.Told.{Tell, cause_view, view_at}
 use Rattle.ticket_book.specs.Whole.{AreSufficient}
 use Rattle.ticket_book.proofs.LargestNeeds.{needs_there}
-use Rattle.ticket_book.proofs.Verdicts.{fault_of, in_record, page_there, suffices_among}
+use Rattle.ticket_book.proofs.Verdicts.{fault_is_verdict, in_record, page_there, suffices_among}
 use Rattle.ticket_book.specs.declared.fault_cause.FaultCause.{FaultCause as FoundCause}
 use Rattle.ticket_book.specs.declared.least_settings.LeastSettings.TheVariants.{Fault}
 
@@ -28,7 +28,7 @@ module _ (r : RecordView) (pages : List ReplayView) (sufficient : AreSufficient 
       → Tell (view_at pages) (length pages) r.tasks (events_of r) (Some (line, cause))
       → IsLeastAnswer r (Fault line cause.cpu cause.pid cause.kind)
   bad_of faults first_bad at_all line cause tell =
-      let fault = fault_of greatest_settings r pages sufficient faults o line cause tell in (
+      let fault = fault_is_verdict greatest_settings r pages sufficient faults o line cause tell in (
         at_all r.start (start_machine r.start r.floors r.tasks) (events_of r) line
             (first_bad greatest_settings r.start r.floors r.tasks (events_of r) line (cause_view cause) fault),
         fault,

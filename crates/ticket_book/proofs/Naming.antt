@@ -47,26 +47,26 @@ births_claimed claims nices policy [] = refl
 births_claimed claims nices policy (event ∷ events) = ap (λ pids. born_by event.act ++ pids) (births_claimed claims nices policy events)
 
 -- whether a pid is among some
-abbrev pub names : List ℕ → ℕ → Bool
-names pids pid = list_any (λ other. eqb other pid) pids
+abbrev pub names_pid : List ℕ → ℕ → Bool
+names_pid pids pid = list_any (λ other. eqb other pid) pids
 
 abbrev pub but : ℕ → List ℕ → List ℕ
 but pid pids = filter (λ other. not (eqb other pid)) pids
 
-has_but : (pids : List ℕ) (taken pid : ℕ) → taken ≢ pid → names (but taken pids) pid ≡ names pids pid
+has_but : (pids : List ℕ) (taken pid : ℕ) → taken ≢ pid → names_pid (but taken pids) pid ≡ names_pid pids pid
 has_but [] taken pid ne = refl
 has_but (x ∷ xs) taken pid ne = elim (same_or_not x taken) [
-  | inl same ↦ ap (λ b. names (cond (not b) (x ∷ but taken xs) (but taken xs)) pid) (eq-eqb x taken same)
-      ∙ has_but xs taken pid ne ∙ ap (λ b. b || names xs pid) (sym (ne_eqb x pid (λ e. ne (sym same ∙ e))))
-  | inr other ↦ ap (λ b. names (cond (not b) (x ∷ but taken xs) (but taken xs)) pid) (ne_eqb x taken other)
+  | inl same ↦ ap (λ b. names_pid (cond (not b) (x ∷ but taken xs) (but taken xs)) pid) (eq-eqb x taken same)
+      ∙ has_but xs taken pid ne ∙ ap (λ b. b || names_pid xs pid) (sym (ne_eqb x pid (λ e. ne (sym same ∙ e))))
+  | inr other ↦ ap (λ b. names_pid (cond (not b) (x ∷ but taken xs) (but taken xs)) pid) (ne_eqb x taken other)
       ∙ ap (λ b. eqb x pid || b) (has_but xs taken pid ne)
 ]
 
-has_once : (pids : List ℕ) (pid : ℕ) → names (each_once pids) pid ≡ names pids pid
+has_once : (pids : List ℕ) (pid : ℕ) → names_pid (each_once pids) pid ≡ names_pid pids pid
 has_once [] pid = refl
 has_once (x ∷ xs) pid = elim (same_or_not x pid) [
-  | inl same ↦ ap (λ b. b || names (but x (each_once xs)) pid) (eq-eqb x pid same)
-      ∙ ap (λ b. b || names xs pid) (sym (eq-eqb x pid same))
+  | inl same ↦ ap (λ b. b || names_pid (but x (each_once xs)) pid) (eq-eqb x pid same)
+      ∙ ap (λ b. b || names_pid xs pid) (sym (eq-eqb x pid same))
   | inr ne ↦ ap (λ b. eqb x pid || b) (has_but (each_once xs) x pid ne ∙ has_once xs pid)
 ]
 
@@ -89,22 +89,22 @@ cons_or true x pid pids = refl
 cons_or false x pid pids = refl
 
 -- one pid more at the end
-once_push : (pids : List ℕ) (pid : ℕ)
-    → each_once (pids ++ pid ∷ []) ≡ cond (names pids pid) (each_once pids) (each_once pids ++ pid ∷ [])
-once_push [] pid = refl
-once_push (x ∷ xs) pid = elim (same_or_not x pid) [
-  | inl same ↦ ap (λ pids. x ∷ but x pids) (once_push xs pid)
-      ∙ ap (λ pids. x ∷ pids) (but_at (names xs pid) (each_once xs) x pid same)
-      ∙ ap (λ b. cond (b || names xs pid) (each_once (x ∷ xs)) (each_once (x ∷ xs) ++ pid ∷ [])) (sym (eq-eqb x pid same))
-  | inr ne ↦ ap (λ pids. x ∷ but x pids) (once_push xs pid)
-      ∙ ap (λ pids. x ∷ pids) (but_other (names xs pid) (each_once xs) x pid ne)
-      ∙ cons_or (names xs pid) x pid (but x (each_once xs))
-      ∙ ap (λ b. cond (b || names xs pid) (each_once (x ∷ xs)) (each_once (x ∷ xs) ++ pid ∷ [])) (sym (ne_eqb x pid ne))
+each_once_push : (pids : List ℕ) (pid : ℕ)
+    → each_once (pids ++ pid ∷ []) ≡ cond (names_pid pids pid) (each_once pids) (each_once pids ++ pid ∷ [])
+each_once_push [] pid = refl
+each_once_push (x ∷ xs) pid = elim (same_or_not x pid) [
+  | inl same ↦ ap (λ pids. x ∷ but x pids) (each_once_push xs pid)
+      ∙ ap (λ pids. x ∷ pids) (but_at (names_pid xs pid) (each_once xs) x pid same)
+      ∙ ap (λ b. cond (b || names_pid xs pid) (each_once (x ∷ xs)) (each_once (x ∷ xs) ++ pid ∷ [])) (sym (eq-eqb x pid same))
+  | inr ne ↦ ap (λ pids. x ∷ but x pids) (each_once_push xs pid)
+      ∙ ap (λ pids. x ∷ pids) (but_other (names_pid xs pid) (each_once xs) x pid ne)
+      ∙ cons_or (names_pid xs pid) x pid (but x (each_once xs))
+      ∙ ap (λ b. cond (b || names_pid xs pid) (each_once (x ∷ xs)) (each_once (x ∷ xs) ++ pid ∷ [])) (sym (ne_eqb x pid ne))
 ]
 
-has_tally : (pids : List ℕ) (pid : ℕ) → list_any (λ (tally : Tally). eqb tally.pid pid) (map new_tally pids) ≡ names pids pid
-has_tally [] pid = refl
-has_tally (x ∷ xs) pid = ap (λ b. eqb x pid || b) (has_tally xs pid)
+names_tally : (pids : List ℕ) (pid : ℕ) → list_any (λ (tally : Tally). eqb tally.pid pid) (map new_tally pids) ≡ names_pid pids pid
+names_tally [] pid = refl
+names_tally (x ∷ xs) pid = ap (λ b. eqb x pid || b) (names_tally xs pid)
 
 map_or : (b : Bool) (pids : List ℕ) (pid : ℕ)
     → cond b (map new_tally pids) (map new_tally pids ++ new_tally pid ∷ []) ≡ map new_tally (cond b pids (pids ++ pid ∷ []))
@@ -114,8 +114,8 @@ map_or false pids pid = sym (map-append new_tally pids (pid ∷ []))
 tally_once : (pids : List ℕ) (pid : ℕ) → with_tally pid (map new_tally (each_once pids)) ≡ map new_tally (each_once (pids ++ pid ∷ []))
 tally_once pids pid =
     ap (λ b. cond b (map new_tally (each_once pids)) (map new_tally (each_once pids) ++ new_tally pid ∷ []))
-    (has_tally (each_once pids) pid ∙ has_once pids pid)
-    ∙ map_or (names pids pid) (each_once pids) pid ∙ ap (map new_tally) (sym (once_push pids pid))
+    (names_tally (each_once pids) pid ∙ has_once pids pid)
+    ∙ map_or (names_pid pids pid) (each_once pids) pid ∙ ap (map new_tally) (sym (each_once_push pids pid))
 
 -- naming tasks makes a tally for each of them, once
 named_once : (xs ys : List ℕ) → with_named ys (map new_tally (each_once xs)) ≡ map new_tally (each_once (xs ++ ys))

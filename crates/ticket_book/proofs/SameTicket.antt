@@ -24,8 +24,8 @@ tickets_decide (Some a) (Some b) = Decides-like _ (λ h. cc) (λ e. cc) (ticket_
 tickets_decide a b = (λ h. cc, λ h. cc)
 
 -- so a test that they aren't answers both ways
-pub on_true : (b r : Bool) (P : Type 0) → Decides b P → r ≡ not b → OnTrue r (P → ⊥)
-on_true b r P d e = OnTrue_from r (P → ⊥) (λ t p. true≢false (sym t ∙ e ∙ ap not (d.1 p)))
+pub not_on_true : (b r : Bool) (P : Type 0) → Decides b P → r ≡ not b → OnTrue r (P → ⊥)
+not_on_true b r P d e = OnTrue_from r (P → ⊥) (λ t p. true≢false (sym t ∙ e ∙ ap not (d.1 p)))
 
 pub on_false : (b r : Bool) (P : Type 0) → Decides b P → r ≡ not b → OnFalse r P
 on_false true r P d e = OnFalse_from r P (λ _. d.0 refl)

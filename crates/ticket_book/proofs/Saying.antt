@@ -21,10 +21,10 @@ use Rattle.ticket_book.specs.Walk.{AllowShift, IsShiftCause, born_twice_on, fail
 use Rattle.ticket_book.specs.declared.fault_cause.FaultCause.{FaultCause}
 
 -- a fault is of a test that failed at the event's line, or it isn't
-pub failed : (event : Claimed) (cpu line : ℕ) (page : PageView) → event.entry.line ≡ line
+pub failed_says : (event : Claimed) (cpu line : ℕ) (page : PageView) → event.entry.line ≡ line
     → MatchOption (failed_on cpu line page.fault) (¬ FailsHere event page.fault)
     (λ found. IsPageCause event cpu page (cause_view found))
-failed event cpu line page on = go page.fault refl
+failed_says event cpu line page on = go page.fault refl
   where
     some_none : (d : ℕ) → Some d ≡ None → ⊥
     some_none d e = cc
@@ -80,7 +80,7 @@ module _ (pages : ℕ → PageView) (alive : ℕ → Bool) (event : Claimed) whe
         → act ≡ Switch cpu prev pn way next nn → Answers act (failed_on cpu line (pages cpu).fault)
     switch_said act cpu prev pn way next nn does is =
         subst (λ a. Answers a (failed_on cpu line (pages cpu).fault)) (sym is)
-        (go (failed_on cpu line (pages cpu).fault) (failed event cpu line (pages cpu) on))
+        (go (failed_on cpu line (pages cpu).fault) (failed_says event cpu line (pages cpu) on))
       where
         go : (o : Option FaultCause) → MatchOption o (¬ FailsHere event (pages cpu).fault)
             (λ found. IsPageCause event cpu (pages cpu) (cause_view found)) → Answers (Switch cpu prev pn way next nn) o
@@ -91,7 +91,7 @@ module _ (pages : ℕ → PageView) (alive : ℕ → Bool) (event : Claimed) whe
         → Answers act (failed_on cpu line (pages cpu).fault)
     wake_said act cpu pid nice does is =
         subst (λ a. Answers a (failed_on cpu line (pages cpu).fault)) (sym is)
-        (go (failed_on cpu line (pages cpu).fault) (failed event cpu line (pages cpu) on))
+        (go (failed_on cpu line (pages cpu).fault) (failed_says event cpu line (pages cpu) on))
       where
         go : (o : Option FaultCause) → MatchOption o (¬ FailsHere event (pages cpu).fault)
             (λ found. IsPageCause event cpu (pages cpu) (cause_view found)) → Answers (Wake cpu pid nice) o
@@ -102,7 +102,7 @@ module _ (pages : ℕ → PageView) (alive : ℕ → Bool) (event : Claimed) whe
         → Answers act (option_or (failed_on cpu line (pages cpu).fault) (born_twice_on cpu pid (alive pid)))
     birth_said act cpu pid nice does is =
         subst (λ a. Answers a (option_or (failed_on cpu line (pages cpu).fault) (born_twice_on cpu pid (alive pid)))) (sym is)
-        (go (failed_on cpu line (pages cpu).fault) (failed event cpu line (pages cpu) on) (alive pid) refl)
+        (go (failed_on cpu line (pages cpu).fault) (failed_says event cpu line (pages cpu) on) (alive pid) refl)
       where
         go : (o : Option FaultCause) → MatchOption o (¬ FailsHere event (pages cpu).fault)
             (λ found. IsPageCause event cpu (pages cpu) (cause_view found)) → (b : Bool) → alive pid ≡ b
@@ -122,10 +122,10 @@ module _ (pages : ℕ → PageView) (alive : ℕ → Bool) (event : Claimed) whe
         subst (λ a. IsActCauseOf pages alive event a (cause_view found)) (sym is) h
 
 -- a deadline before the event's time is of a processor that had idled for too long
-idles : (event : Claimed) (time : ℕ) (fault : Option StepFault) → event.entry.time ≡ time
+says_idle : (event : Claimed) (time : ℕ) (fault : Option StepFault) → event.entry.time ≡ time
     → is_past time (option_and_then (λ f. f.deadline) fault) ≡ true → IdlesBefore event fault
-idles event time None on late = absurd (true≢false (sym late))
-idles event time (Some fault) on late = go fault.deadline refl late
+says_idle event time None on late = absurd (true≢false (sym late))
+says_idle event time (Some fault) on late = go fault.deadline refl late
   where
     go : (d : Option ℕ) → fault.deadline ≡ d → is_past time d ≡ true → IdlesBefore event (Some fault)
     go None e h = absurd (true≢false (sym h))
@@ -143,7 +143,7 @@ module _ (pages : List ReplayView) (alive : ℕ → Bool) (event : Claimed) (tim
       → IsCauseOf (view_at pages) (length pages) alive event (record { cpu = cpu; pid = 0; kind = IdleTooLong })
   idling_said cpu first = inl (record {
     within = first.within;
-    idles = idles event time (view_at pages cpu).fault on first.late;
+    idles = says_idle event time (view_at pages cpu).fault on first.late;
     lowest = λ other lt. no_idling event time (view_at pages other).fault on (first.lowest other lt);
     pid = refl;
     kind = refl;
@@ -175,4 +175,4 @@ unequal_said pages event line orig dest pid on leaves comes differ = inr (inr (
   where
     passed : (cpu : ℕ) → failed_on cpu line (pages cpu).fault ≡ None → ¬ FailsHere event (pages cpu).fault
     passed cpu e = subst (λ o. MatchOption o (¬ FailsHere event (pages cpu).fault)
-        (λ found. IsPageCause event cpu (pages cpu) (cause_view found))) e (failed event cpu line (pages cpu) on)
+        (λ found. IsPageCause event cpu (pages cpu) (cause_view found))) e (failed_says event cpu line (pages cpu) on)

@@ -40,7 +40,7 @@ module _ (r : RecordView) (tasks : List Task) (events : List Entry) (are_tasks :
   }
 
   -- the summary of counts and sums
-  pub summed : (tallies before sums : List Tally) (counts : EventCounts) (summary : SummaryView)
+  pub summary_is_of : (tallies before sums : List Tally) (counts : EventCounts) (summary : SummaryView)
       → before ≡ map new_tally (tasks_of_run r.tasks (events_of r)) → sums ≡ map (with_tallies tallies) before
       → counts ≡ counts_of events
       → summary ≡ record {
@@ -52,7 +52,7 @@ module _ (r : RecordView) (tasks : List Task) (events : List Entry) (are_tasks :
         tallies = sums;
       }
       → summary ≡ summary_by tallies r.tasks (events_of r)
-  summed tallies before sums counts summary named added counted is =
+  summary_is_of tallies before sums counts summary named added counted is =
       is ∙ same_summary _ (summary_by tallies r.tasks (events_of r))
       (ap length are_events ∙ sym (length-map r.events _))
       (ap (λ (k : EventCounts). k.switches) told ∙ count_claimed is_switch r.claims r.nices (policy_of r) r.events)

@@ -20,21 +20,21 @@ use Rattle.ticket_book.specs.Told.{view_at}
 use Rattle.ticket_book.specs.Walk.{TicketsRise}
 
 -- the page of its stream by the steps made, and the lines of the stream's steps rise
-pub record IsOwn (page : ReplayView) : Type 0 where
+pub record IsPageInOrder (page : ReplayView) : Type 0 where
   pub is_page : IsPageOf page.stream page.knobs page.made page.page
   pub lines : AllPairs (λ a b. a.line < b.line) page.stream.steps
 
 -- the lines never fall
-abbrev Rise : List Ticket → Type 0
-Rise [] = Unit {0}
-Rise (t ∷ ts) = AllByRecursion (λ u. t.line ≤ u.line) ts × Rise ts
+abbrev LinesNeverFall : List Ticket → Type 0
+LinesNeverFall [] = Unit {0}
+LinesNeverFall (t ∷ ts) = AllByRecursion (λ u. t.line ≤ u.line) ts × LinesNeverFall ts
 
 -- the steps' lines never fall, from this one on
 abbrev StepsFrom : ℕ → List Step → Type 0
 StepsFrom line [] = Unit {0}
 StepsFrom line (step ∷ steps) = (line ≤ step.line) × StepsFrom step.line steps
 
-rise_one : (line : ℕ) (ts : List Ticket) → AllByRecursion (λ (t : Ticket). t.line ≡ line) ts → Rise ts
+rise_one : (line : ℕ) (ts : List Ticket) → AllByRecursion (λ (t : Ticket). t.line ≡ line) ts → LinesNeverFall ts
 rise_one line [] each = tt
 rise_one line (t ∷ ts) each = (
   all_map (λ u. u.line ≡ line) (λ u. t.line ≤ u.line) (λ u e. let here : t.line ≡ line = each.0 in omega arith) ts each.1,
@@ -42,8 +42,8 @@ rise_one line (t ∷ ts) each = (
 )
 
 -- tickets of a line not below theirs, behind
-rise_append : (low line : ℕ) (xs ys : List Ticket) → Rise xs → AllByRecursion (λ (t : Ticket). t.line ≤ low) xs
-    → AllByRecursion (λ (t : Ticket). t.line ≡ line) ys → low ≤ line → Rise (xs ++ ys)
+rise_append : (low line : ℕ) (xs ys : List Ticket) → LinesNeverFall xs → AllByRecursion (λ (t : Ticket). t.line ≤ low) xs
+    → AllByRecursion (λ (t : Ticket). t.line ≡ line) ys → low ≤ line → LinesNeverFall (xs ++ ys)
 rise_append low line [] ys rise each same le = rise_one line ys same
 rise_append low line (x ∷ xs) ys rise each same le = (
   all_append (λ u. x.line ≤ u.line) xs ys rise.0
@@ -51,7 +51,7 @@ rise_append low line (x ∷ xs) ys rise each same le = (
   rise_append low line xs ys rise.1 each.1 same le,
 )
 
-pairs_from : (ts : List Ticket) → Rise ts → AllPairs (λ t u. t.line ≤ u.line) ts
+pairs_from : (ts : List Ticket) → LinesNeverFall ts → AllPairs (λ t u. t.line ≤ u.line) ts
 pairs_from [] rise i j d lt within = absurd (omega arith)
 pairs_from (t ∷ ts) rise zero zero d lt within = absurd (omega arith)
 pairs_from (t ∷ ts) rise zero (suc j) d lt within =
@@ -79,7 +79,7 @@ module _ (tickets : PageView → List Ticket) (by : Part → Step → List Ticke
     (kept : (page : PageView) (o : Option StepFault) → tickets (record page { fault = o }) ≡ tickets page) where
   -- what a page's tickets keep before a step
   abbrev Keep : ℕ → PageView → Type 0
-  Keep line page = Rise (tickets page) × AllByRecursion (λ (t : Ticket). t.line ≤ line) (tickets page)
+  Keep line page = LinesNeverFall (tickets page) × AllByRecursion (λ (t : Ticket). t.line ≤ line) (tickets page)
 
   keep_later : (line later : ℕ) (page : PageView) → line ≤ later → Keep line page → Keep later page
   keep_later line later page le keep = (
@@ -94,24 +94,24 @@ module _ (tickets : PageView → List Ticket) (by : Part → Step → List Ticke
       subst (λ (s : ReplayStateView). Keep step.line s.page) (sym same) (keep_later line step.line before.page le keep)
   one_step knobs cpu line None before step after le (inr fails) keep =
       subst (λ (s : ReplayStateView). Keep step.line s.page) (sym fails.result)
-      (subst (λ ts. Rise ts × AllByRecursion (λ (t : Ticket). t.line ≤ step.line) ts) (sym (kept before.page _))
+      (subst (λ ts. LinesNeverFall ts × AllByRecursion (λ (t : Ticket). t.line ≤ step.line) ts) (sym (kept before.page _))
       (keep_later line step.line before.page le keep))
   one_step knobs cpu line None before step after le (inl passes) keep =
       let grown = ap tickets passes.page ∙ is.grows before.page before.part passes.found step in
       let same = is.lines passes.found step in
-      subst (λ ts. Rise ts × AllByRecursion (λ (t : Ticket). t.line ≤ step.line) ts) (sym grown) (
+      subst (λ ts. LinesNeverFall ts × AllByRecursion (λ (t : Ticket). t.line ≤ step.line) ts) (sym grown) (
         rise_append line step.line (tickets before.page) (by passes.found step) keep.0 keep.1 same le,
         all_append (λ t. t.line ≤ step.line) (tickets before.page) (by passes.found step)
             (keep_later line step.line before.page le keep).1
             (all_map (λ t. t.line ≡ step.line) (λ t. t.line ≤ step.line) (λ t e. omega arith) (by passes.found step) same),
       )
 
-  all_steps : (knobs : Settings) (cpu line : ℕ) (before : ReplayStateView) (steps : List Step) (end : ReplayStateView)
-      → StepsFrom line steps → IsReplay knobs cpu before steps end → Keep line before.page → Rise (tickets end.page)
-  all_steps knobs cpu line before [] end from replay keep =
-      subst (λ (s : ReplayStateView). Rise (tickets s.page)) (sym replay) keep.0
-  all_steps knobs cpu line before (step ∷ steps) end from replay keep =
-      all_steps knobs cpu step.line replay.0 steps end from.1 replay.2
+  rise_by_steps : (knobs : Settings) (cpu line : ℕ) (before : ReplayStateView) (steps : List Step) (end : ReplayStateView)
+      → StepsFrom line steps → IsReplay knobs cpu before steps end → Keep line before.page → LinesNeverFall (tickets end.page)
+  rise_by_steps knobs cpu line before [] end from replay keep =
+      subst (λ (s : ReplayStateView). LinesNeverFall (tickets s.page)) (sym replay) keep.0
+  rise_by_steps knobs cpu line before (step ∷ steps) end from replay keep =
+      rise_by_steps knobs cpu step.line replay.0 steps end from.1 replay.2
       (one_step knobs cpu line before.page.fault before step replay.0 from.0 replay.1 keep)
 
   -- the end test changes no ticket
@@ -130,44 +130,44 @@ module _ (tickets : PageView → List Ticket) (by : Part → Step → List Ticke
   rise_on : (stream : StreamView) (knobs : Settings) (made : ℕ) (page : PageView) → StepsFrom 0 stream.steps
       → ((start : PageView) → tickets start ≡ [] → Keep 0 start)
       → ((s : ReplayStateView) → IsStartOf stream s → tickets s.page ≡ [])
-      → IsPageOf stream knobs made page → Rise (tickets page)
+      → IsPageOf stream knobs made page → LinesNeverFall (tickets page)
   rise_on stream knobs made page from none start is_page =
-      let risen = all_steps knobs stream.cpu 0 is_page.start (take made stream.steps) is_page.end
+      let risen = rise_by_steps knobs stream.cpu 0 is_page.start (take made stream.steps) is_page.end
       (steps_take made 0 stream.steps from) is_page.replay (none is_page.start.page (start is_page.start is_page.is_start)) in
-      subst Rise (sym (ap tickets is_page.result ∙ go (nat_le (length stream.steps) made))) risen
+      subst LinesNeverFall (sym (ap tickets is_page.result ∙ go (nat_le (length stream.steps) made))) risen
     where
       go : (b : Bool) → tickets (cond b (end_page knobs.slack stream is_page.end.since is_page.end.page.fault is_page.end.page)
           is_page.end.page) ≡ tickets is_page.end.page
       go true = end_kept knobs.slack stream is_page.end.since is_page.end.page.fault is_page.end.page
       go false = refl
 
-  rise_of : (page : ReplayView) → IsOwn page → ((s : ReplayStateView) → IsStartOf page.stream s → tickets s.page ≡ [])
+  rise_of : (page : ReplayView) → IsPageInOrder page → ((s : ReplayStateView) → IsStartOf page.stream s → tickets s.page ≡ [])
       → AllPairs (λ t u. t.line ≤ u.line) (tickets page.page)
   rise_of page own start =
       pairs_from (tickets page.page)
       (rise_on page.stream page.knobs page.made page.page
       (steps_from 0 page.stream.steps (λ k d lt. omega arith) own.lines)
-      (λ view none. subst (λ ts. Rise ts × AllByRecursion (λ (t : Ticket). t.line ≤ 0) ts) (sym none) (tt, tt)) start own.is_page)
+      (λ view none. subst (λ ts. LinesNeverFall ts × AllByRecursion (λ (t : Ticket). t.line ≤ 0) ts) (sym none) (tt, tt)) start own.is_page)
 
 -- each of the pages is the page of its stream
-abbrev pub AreOwn : List ReplayView → Type 0
-AreOwn pages = (cpu : ℕ) (page : ReplayView) → slice_get pages cpu ≡ Some page → IsOwn page
+abbrev pub ArePagesInOrder : List ReplayView → Type 0
+ArePagesInOrder pages = (cpu : ℕ) (page : ReplayView) → slice_get pages cpu ≡ Some page → IsPageInOrder page
 
-others : (page : ReplayView) (pages : List ReplayView) → AreOwn (page ∷ pages) → AreOwn pages
+others : (page : ReplayView) (pages : List ReplayView) → ArePagesInOrder (page ∷ pages) → ArePagesInOrder pages
 others page pages own cpu p is = own (suc cpu) p is
 
 -- those that left, and those that came
-all_left : (pages : List ReplayView) → AreOwn pages → (cpu : ℕ) → AllPairs (λ t u. t.line ≤ u.line) (view_at pages cpu).left
+all_left : (pages : List ReplayView) → ArePagesInOrder pages → (cpu : ℕ) → AllPairs (λ t u. t.line ≤ u.line) (view_at pages cpu).left
 all_left [] own cpu = λ i j d lt within. absurd (omega arith)
 all_left (page ∷ pages) own zero =
     rise_of (λ view. view.left) left_of left_tickets (λ view o. refl) page (own 0 page refl) (λ s start. ap (λ view. view.left) start.page)
 all_left (page ∷ pages) own (suc cpu) = all_left pages (others page pages own) cpu
 
-all_came : (pages : List ReplayView) → AreOwn pages → (cpu : ℕ) → AllPairs (λ t u. t.line ≤ u.line) (view_at pages cpu).came
+all_came : (pages : List ReplayView) → ArePagesInOrder pages → (cpu : ℕ) → AllPairs (λ t u. t.line ≤ u.line) (view_at pages cpu).came
 all_came [] own cpu = λ i j d lt within. absurd (omega arith)
 all_came (page ∷ pages) own zero =
     rise_of (λ view. view.came) came_of came_tickets (λ view o. refl) page (own 0 page refl) (λ s start. ap (λ view. view.came) start.page)
 all_came (page ∷ pages) own (suc cpu) = all_came pages (others page pages own) cpu
 
-pub own_tickets_rise : (pages : List ReplayView) → AreOwn pages → TicketsRise pages
+pub own_tickets_rise : (pages : List ReplayView) → ArePagesInOrder pages → TicketsRise pages
 own_tickets_rise pages own = record { left = all_left pages own; came = all_came pages own }

@@ -19,7 +19,7 @@ use Rattle.replay_model.proofs.RecordFrom.{record_from}
 use Rattle.replay_model.proofs.StartFrom.{start_from}
 use Rattle.queue_replay.specs.Replay.{ReplayView}
 use Rattle.sched_record.specs.Kept.{policy_of}
-use Rattle.sched_record.proofs.Shares.{share_of}
+use Rattle.sched_record.proofs.Shares.{share_of_record}
 use Rattle.sched_record.specs.Record.{RecordView, IsRecordInOrder, record_last_line, record_last_time}
 use Rattle.sched_record.specs.Stream.{cut_of}
 use Rattle.ticket_book.specs.SaidEvents.{events_of}
@@ -79,10 +79,10 @@ module _ (knobs : Settings) (r : RecordView) (pages : List ReplayView) (sufficie
   in_record o = subst (IsRecord r.start r.floors r.tasks (events_of r)) (sym sufficient.count) (record_in_order r o)
 
   -- what they say first is what is wrong
-  pub fault_of : PagesTellFault → IsRecordInOrder r → (line : ℕ) (cause : FoundCause)
+  pub fault_is_verdict : PagesTellFault → IsRecordInOrder r → (line : ℕ) (cause : FoundCause)
       → Tell (view_at pages) (length pages) r.tasks (events_of r) (Some (line, cause))
       → IsVerdict knobs r (Fault line cause.cpu cause.pid cause.kind)
-  fault_of faults o line cause tell =
+  fault_is_verdict faults o line cause tell =
       subst (λ n. IsFirstFault knobs r.start (start_machine r.start r.floors r.tasks) (events_of r) n (cause_view cause))
       tell.line_is
       (faults knobs r.start r.floors r.tasks (events_of r) tell.before tell.rest tell.event (length pages) (view_at pages)
@@ -124,5 +124,5 @@ module _ (knobs : Settings) (r : RecordView) (pages : List ReplayView) (sufficie
       (λ cpu page is. record {
         is_page = (sufficient.each cpu page is).is_page;
         lines = subst (λ (s : StreamView). AllPairs (λ a b. a.line < b.line) s.steps) (sym (sufficient.each cpu page is).stream)
-            (share_of r cpu o (let h = slice_get_within pages cpu page is in let n = sufficient.count in omega arith)).lines_rise;
+            (share_of_record r cpu o (let h = slice_get_within pages cpu page is in let n = sufficient.count in omega arith)).lines_rise;
       })

@@ -10,7 +10,6 @@ pub mod SaidEvents
 pub mod Alive
 pub mod Idling
 pub mod LeastAnswer
-pub mod Lesser
 pub mod Own
 pub mod Naming
 pub mod NeedsOfPages

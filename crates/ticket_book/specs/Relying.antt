@@ -9,9 +9,9 @@ use Rattle.sched_record.specs.Record.{RecordView}
 use Rattle.ticket_book.specs.Remade.{IsLeastFaultBelow, NoFaultBelow}
 
 -- the least line of a fault on the record's own pages of the processors below a number, if one of them has a fault
-abbrev pub IsLeastOf : Settings → RecordView → List (Option ReplayView) → ℕ → Option ℕ → Type 0
-IsLeastOf knobs r places cpus None = NoFaultBelow knobs r places cpus
-IsLeastOf knobs r places cpus (Some line) = IsLeastFaultBelow knobs r places cpus line
+abbrev pub IsLeastFaultLine : Settings → RecordView → List (Option ReplayView) → ℕ → Option ℕ → Type 0
+IsLeastFaultLine knobs r places cpus None = NoFaultBelow knobs r places cpus
+IsLeastFaultLine knobs r places cpus (Some line) = IsLeastFaultBelow knobs r places cpus line
 
 -- a replay got far enough beside a least line, if there is one
 abbrev pub IsEnough : Option ℕ → Reached → Type 0

@@ -4,7 +4,7 @@ ghost use Rattle.cfs_model.specs.Settings.{Settings};
 ghost use Rattle.sched_record.specs.Record.{RecordView};
 ghost use Rattle.ticket_book.specs.Book.{page_at};
 ghost use Rattle.ticket_book.specs.Own.{AreToldOwn, own_line};
-ghost use Rattle.ticket_book.specs.Relying.{IsLeastOf};
+ghost use Rattle.ticket_book.specs.Relying.{IsLeastFaultLine};
 
 use crate::lesser::lesser;
 use queue_replay::Page;
@@ -12,7 +12,7 @@ use queue_replay::Page;
 /// The least line of a fault on a record's own pages, where it is told of each place whether its page is one.
 pub(crate) fn least_fault(places: &[Option<Page>], own: &[bool]) -> Option<u64>
     ensures { (knobs : Settings) (r : RecordView) → AreToldOwn knobs r places.now own.now
-        → IsLeastOf knobs r places.now (length own.now) result }
+        → IsLeastFaultLine knobs r places.now (length own.now) result }
 {
     let mut least = None;
     for (cpu, is_own) in own.iter().enumerate() {

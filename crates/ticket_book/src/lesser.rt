@@ -1,12 +1,12 @@
 ghost use Rattle.std.specs.Prelude.{◌≡◌};
-ghost use Rattle.ticket_book.specs.Lesser.{lesser_of};
+ghost use Rattle.sched_record.specs.Join.{lesser_of};
 
 /// The lesser of two numbers, where there are any.
 pub(crate) fn lesser(one: Option<u64>, other: Option<u64>) -> Option<u64>
     ensures { result ≡ lesser_of one other }
 {
     match (one, other) {
-        (Some(one), Some(other)) => Some(if other < one { other } else { one }),
+        (Some(one), Some(other)) => Some(one.min(other)),
         (Some(one), None) => Some(one),
         (None, other) => other,
     }

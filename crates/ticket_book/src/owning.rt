@@ -8,7 +8,7 @@ ghost use Rattle.ticket_book.specs.Own.{AreToldOwn, IsToldOwn};
 
 use crate::cursor::Cursor;
 use crate::following::cursors_of;
-use crate::relying::is_own_page_of;
+use crate::relying::is_cut_of;
 use cfs_model::{Knobs, Memory};
 use queue_replay::Page;
 use sched_record::Record;
@@ -33,7 +33,8 @@ pub(crate) fn own_places(
     Ok(own)
 }
 
-/// Whether the page at a processor's place is the record's own. The cursor is that of its stream, with all events dealt.
+/// Whether the page at a processor's place is of the record's stream for it, with these settings. The cursor is that of the
+/// page's stream, with all events dealt.
 fn is_own_at(
     places: &[Option<Page>],
     joined: &Record,
@@ -46,7 +47,7 @@ fn is_own_at(
     ensures { IsToldOwn knobs (record_view joined.now) cpu (page_at places.now cpu) result }
 {
     match places.get(cpu as usize) {
-        Some(Some(page)) => is_own_page_of(page, joined, cpu, knobs, cursor),
+        Some(Some(page)) => page.knobs() == knobs && is_cut_of(page.stream(), joined, cpu, cursor),
         _ => false,
     }
 }

@@ -8,28 +8,11 @@ ghost use Rattle.sched_record.specs.Stream.{cut_of, stream_view};
 ghost use Rattle.ticket_book.specs.Cursor.{IsCursor};
 ghost use Rattle.ticket_book.specs.Framed.{is_framed};
 ghost use Rattle.ticket_book.specs.Relying.{IsEnough};
-ghost use Rattle.ticket_book.specs.Whole.{IsOwnPageOf};
 
 use crate::cursor::Cursor;
-use cfs_model::{Knobs, Task};
+use cfs_model::Task;
 use queue_replay::{Page, Reached};
 use sched_record::{Record, Stream};
-
-/// Whether a page is of the record's stream for a processor, with these settings. The cursor is that of the page's
-/// stream, with all events dealt.
-pub(crate) fn is_own_page_of(
-    page: &Page,
-    joined: &Record,
-    cpu: u32,
-    knobs: Knobs,
-    cursor: Cursor,
-) -> bool
-    requires below { cpu < (record_view joined.now).cpus }
-    requires followed { IsCursor page.now.stream.steps (cut_of (record_view joined.now) cpu).steps cursor }
-    ensures { IsTrue result ↔ IsOwnPageOf knobs (record_view joined.now) cpu page.now }
-{
-    page.knobs() == knobs && is_cut_of(page.stream(), joined, cpu, cursor)
-}
 
 /// Whether a page's replay got far enough, beside the least line of a fault: to its first fault, to the end, or to that
 /// line.
@@ -50,7 +33,7 @@ fn is_at_most(least: Option<u64>, line: u32) -> bool
 }
 
 /// Whether a stream is what a processor sees of the record. The cursor is the stream's, with all events dealt.
-fn is_cut_of(stream: &Stream, joined: &Record, cpu: u32, cursor: Cursor) -> bool
+pub(crate) fn is_cut_of(stream: &Stream, joined: &Record, cpu: u32, cursor: Cursor) -> bool
     requires below { cpu < (record_view joined.now).cpus }
     requires followed { IsCursor (stream_view stream.now).steps (cut_of (record_view joined.now) cpu).steps cursor }
     ensures { IsTrue result ↔ (stream_view stream.now ≡ cut_of (record_view joined.now) cpu) }

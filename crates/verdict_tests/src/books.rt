@@ -1,6 +1,6 @@
 //! Books to which pages come one after another, and what they are then closed with.
 
-use crate::answers::wants;
+use crate::answers::wants_about;
 use crate::calls::{Told, record_of, stream_of, told};
 use crate::machines::Recording;
 use crate::shelf::OwnShelf;
@@ -195,7 +195,7 @@ fn after_all<R: Abort>(
             cpu: *cpu,
             reached: *reached,
         };
-        wants(rt, recording.name, &answer, &(tag, *wanted));
+        wants_about(rt, recording.name, &answer, &(tag, *wanted));
         book = next;
     }
     Ok(book)
@@ -210,7 +210,7 @@ pub(crate) fn wants_books<R: Abort>(
 ) -> Result<(), Fail> {
     for case in cases {
         let told = closed_on(alloc, after_all(rt, alloc, recording, case)?, recording)?;
-        wants(rt, recording.name, &told, &(case.remade, recording.fault));
+        wants_about(rt, recording.name, &told, &(case.remade, recording.fault));
     }
     Ok(())
 }
@@ -232,7 +232,7 @@ pub(crate) fn wants_remade<R: Abort>(
     remade: u32,
 ) -> Result<(), Fail> {
     let told = closed_on(alloc, book_of(alloc, pages.0, pages.1)?, recording)?;
-    wants(rt, recording.name, &told, &(remade, recording.fault));
+    wants_about(rt, recording.name, &told, &(remade, recording.fault));
     Ok(())
 }
 

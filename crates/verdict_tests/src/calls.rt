@@ -1,7 +1,7 @@
 //! The calls that tests make of the crates below, each in a function of its own that promises nothing and most with plain
 //! values: what their clauses say stands before no test, which is then proved in seconds.
 
-use crate::answers::wants;
+use crate::answers::wants_about;
 use crate::machines::{Lines, Recording};
 use audit_crew::{Gate, audit, audit_serial, crew};
 use cfs_model::{Kind, Knobs};
@@ -109,7 +109,7 @@ pub(crate) fn wants_alone<R: Abort>(
     recording: &Recording,
 ) -> Result<(), Fail> {
     let told = told_alone(alloc, recording)?;
-    wants(rt, recording.name, &told, &(0, recording.fault));
+    wants_about(rt, recording.name, &told, &(0, recording.fault));
     Ok(())
 }
 

@@ -1,6 +1,6 @@
 //! Crews of auditors, which come to the verdict of one thread; and what an auditor says of its fault.
 
-use crate::answers::wants;
+use crate::answers::wants_about;
 use crate::books::{words_in, words_of_second};
 use crate::calls::{Told, alone, record_from, record_of, together, told};
 use crate::machines::{DEATH_THEN_BIRTH_ELSEWHERE, Recording, recordings};
@@ -15,7 +15,7 @@ use ticket_book::Closed;
 
 #[test]
 fn an_auditor_tells_its_fault_in_words(rt: HostRuntime) -> Result<(), Fail> {
-    wants(
+    wants_about(
         &rt,
         "",
         &words_of_second(rt.alloc(), &DEATH_THEN_BIRTH_ELSEWHERE)?.as_str(),
@@ -26,7 +26,7 @@ fn an_auditor_tells_its_fault_in_words(rt: HostRuntime) -> Result<(), Fail> {
 
 #[test]
 fn an_auditor_tells_want_of_memory_in_words(rt: HostRuntime) -> Result<(), Fail> {
-    wants(
+    wants_about(
         &rt,
         "",
         &words_in(rt.alloc(), Err(AuditorFault::Memory))?.as_str(),
@@ -55,7 +55,7 @@ fn both<R: Threads + Wait + Sync>(
 fn a_crew_comes_to_the_verdict_of_one_thread(rt: HostRuntime) -> Result<(), Fail> {
     for recording in recordings() {
         let answer = both(&rt, rt.alloc(), recording)?;
-        wants(&rt, recording.name, &answer, &(true, (0, recording.fault)));
+        wants_about(&rt, recording.name, &answer, &(true, (0, recording.fault)));
     }
     Ok(())
 }
@@ -142,6 +142,6 @@ fn count_on_64<R: Threads + Wait + Sync>(rt: &R, alloc: Global, wanted: Told) ->
 #[test]
 fn a_thousand_crews_of_64_come_to_one_verdict(rt: HostRuntime) -> Result<(), Fail> {
     let told = (0, Some((65, 40, 241, Kind::PrevNotRunning)));
-    wants(&rt, "", &count_on_64(&rt, rt.alloc(), told)?, &1000);
+    wants_about(&rt, "", &count_on_64(&rt, rt.alloc(), told)?, &1000);
     Ok(())
 }

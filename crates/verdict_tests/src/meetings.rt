@@ -1,6 +1,6 @@
 //! Two auditors that wait for each other: they run at once, and hold no lock while they replay, in every call that audits.
 
-use crate::answers::wants;
+use crate::answers::wants_about;
 use crate::calls::{MaybeFault, Told, companion_of, fault_of, gathered, told_together, trace_of};
 use crate::machines::{
     DEATH_THEN_BIRTH_ELSEWHERE, FAULT_BEFORE_TEN_THOUSAND_WAKEUPS, Recording, TEN_THOUSAND_WAKEUPS,
@@ -94,7 +94,7 @@ fn gathered_at<R: Threads + Wait + Clock + Sync>(
 fn auditors_of_a_crew_wait_for_each_other(rt: HostRuntime) -> Result<(), Fail> {
     for (recording, stretches) in meetings() {
         let answer = gathered_at(&rt, rt.alloc(), recording)?;
-        wants(&rt, recording.name, &answer, &(2, entries_by(stretches)));
+        wants_about(&rt, recording.name, &answer, &(2, entries_by(stretches)));
     }
     Ok(())
 }
@@ -115,7 +115,7 @@ fn auditors_of_a_record_wait_for_each_other(rt: HostRuntime) -> Result<(), Fail>
     for (recording, stretches) in meetings() {
         let answer = judged_at(&rt, rt.alloc(), recording)?;
         let wanted = ((0, recording.fault), entries_by(stretches));
-        wants(&rt, recording.name, &answer, &wanted);
+        wants_about(&rt, recording.name, &answer, &wanted);
     }
     Ok(())
 }
@@ -125,7 +125,7 @@ fn auditors_learn_of_a_fault_before_their_second_stretch(rt: HostRuntime) -> Res
     let recording = &FAULT_BEFORE_TEN_THOUSAND_WAKEUPS;
     let answer = judged_at(&rt, rt.alloc(), recording)?;
     let wanted = ((0, recording.fault), entries_by(1));
-    wants(&rt, recording.name, &answer, &wanted);
+    wants_about(&rt, recording.name, &answer, &wanted);
     Ok(())
 }
 
@@ -159,7 +159,7 @@ fn auditors_of_two_texts_wait_for_each_other(rt: HostRuntime) -> Result<(), Fail
     for (recording, stretches) in meetings() {
         let answer = texts_at(&rt, rt.alloc(), recording)?;
         let wanted = (recording.fault, entries_by(stretches));
-        wants(&rt, recording.name, &answer, &wanted);
+        wants_about(&rt, recording.name, &answer, &wanted);
     }
     Ok(())
 }
@@ -202,7 +202,7 @@ fn auditors_of_a_run_wait_for_each_other(rt: HostRuntime) -> Result<(), Fail> {
     for (recording, stretches) in meetings() {
         let answer = run_at(&rt, rt.alloc(), recording)?;
         let wanted = (Ok(Status::Yes), entries_by(stretches));
-        wants(&rt, recording.name, &answer, &wanted);
+        wants_about(&rt, recording.name, &answer, &wanted);
     }
     Ok(())
 }

@@ -1,6 +1,6 @@
 //! Three auditors in each order in which they can come, over one book and as threads.
 
-use crate::answers::wants;
+use crate::answers::wants_about;
 use crate::books::{AUDITOR, Case, wants_books};
 use crate::calls::{Told, gathered, told_together};
 use crate::machines::THREE_FAULTS_ON_THREE_PROCESSORS;
@@ -176,7 +176,7 @@ fn gathered_in<R: Threads + Wait + Clock + Sync>(
 fn three_threads_come_to_one_verdict_in_each_order(rt: HostRuntime) -> Result<(), Fail> {
     let told = (0, THREE_FAULTS_ON_THREE_PROCESSORS.fault);
     for order in ORDERS {
-        wants(&rt, "", &judged_in(&rt, rt.alloc(), order)?, &(told, false));
+        wants_about(&rt, "", &judged_in(&rt, rt.alloc(), order)?, &(told, false));
     }
     Ok(())
 }
@@ -184,7 +184,7 @@ fn three_threads_come_to_one_verdict_in_each_order(rt: HostRuntime) -> Result<()
 #[test]
 fn three_threads_post_their_pages_in_each_order(rt: HostRuntime) -> Result<(), Fail> {
     for order in ORDERS {
-        wants(&rt, "", &gathered_in(&rt, rt.alloc(), order)?, &(3, 2));
+        wants_about(&rt, "", &gathered_in(&rt, rt.alloc(), order)?, &(3, 2));
     }
     Ok(())
 }

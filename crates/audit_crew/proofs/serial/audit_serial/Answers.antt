@@ -2,7 +2,7 @@ use Rattle.std.proofs.Common.{◌≡◌, ◌<◌, subst, arith}
 use Rattle.std.proofs.lemmas.Result.{IfOk-weaker}
 use Rattle.sched_record.specs.Record.{record_view}
 use Rattle.ticket_book.specs.BookView.{book_view}
-use Rattle.audit_crew.proofs.InTurn.{AreFirst, all_own, nothing_remade, one_more}
+use Rattle.audit_crew.proofs.InTurn.{AreFirst, first_are_own, no_page_remade, one_more_page}
 use Rattle.audit_crew.proofs.serial.audit_serial.Goals as goal
 use Rattle.audit_crew.proofs.serial.audit_serial.Goals.{After-loop-cpu}
 
@@ -13,7 +13,7 @@ loop-cpu-preserved c =
     (let below = c.loop-cpu-test.true in let end = c.cpus-cpu-end.ensures in omega (arith, below, end)) in
     record {
       posted =
-          one_more c.args.knobs r (book_view c.loop-cpu.book) (book_view c.post-told.new.self) c.loop-cpu.cpu
+          one_more_page c.args.knobs r (book_view c.loop-cpu.book) (book_view c.post-told.new.self) c.loop-cpu.cpu
           c.in_ok-page.page c.post-told.result c.loop-cpu.invariant.posted within c.in_ok-page.ensures
           c.post-told.ensures.refused c.post-told.ensures.added;
     }
@@ -31,10 +31,10 @@ pub returns-clause-nothing_remade : goal.returns-clause-nothing_remade
 returns-clause-nothing_remade c =
     let r = record_view c.args.joined.now in
     IfOk-weaker c.close_own.result _ _
-    (λ closed remade. nothing_remade c.args.knobs r (book_view c.loop-cpu.book) closed.remade
+    (λ closed remade. no_page_remade c.args.knobs r (book_view c.loop-cpu.book) closed.remade
     (all_posted (goal.at.returns-clause-nothing_remade c).After-loop-cpu) remade)
     c.close_own.ensures.remade
 
 pub close_own-requires : goal.close_own-requires
 close_own-requires c =
-    record { own = all_own c.args.knobs (record_view c.args.joined.now) (book_view c.loop-cpu.book) (all_posted c) }
+    record { own = first_are_own c.args.knobs (record_view c.args.joined.now) (book_view c.loop-cpu.book) (all_posted c) }

@@ -6,7 +6,7 @@ use Rattle.queue_replay.specs.Queue.{runqueue_view}
 use Rattle.queue_replay.specs.Rows.{switch_deed, switch_tests}
 use Rattle.queue_replay.specs.Tasks.{entity_of}
 use Rattle.queue_replay.proofs.Needed.{pick_needs_lead}
-use Rattle.queue_replay.proofs.Passed.{next_stays, picks_same, ran_prev}
+use Rattle.queue_replay.proofs.Passed.{next_stays, pick_tests_same, ran_prev}
 use Rattle.queue_replay.proofs.Rows.{switch_row, fails, passes}
 use Rattle.queue_replay.proofs.deeds.try_switch.Goals as goal
 
@@ -29,7 +29,7 @@ returns-in-Some-first_pick_test-clause-tried c cpu =
     fails c.args.knobs cpu part step (switch_deed s) step.claim (switch_tests c.args.knobs part (switch_deed s) step.claim)
     (switch_row c.args.knobs cpu part s.prev s.prev_nice s.way s.next s.next_nice step.claim) c.requires refl part failed
     (c.in_default.ensures.first c.args.knobs (Some failed)
-    (picks_same c.args.knobs part (runqueue_view c.put_prev.new.self) s.prev s.prev_nice s.way s.next s.next_nice (option_map entity_of c.switch_task-next.result)
+    (pick_tests_same c.args.knobs part (runqueue_view c.put_prev.new.self) s.prev s.prev_nice s.way s.next s.next_nice (option_map entity_of c.switch_task-next.result)
     (c.in_ok-put_prev.ensures.part s.prev runner) c.switch_task-next.ensures (Some failed)
     (c.in-Some-first_pick_test.ensures (option_map entity_of c.switch_task-next.result) c.lead-need.ensures)))
 
@@ -52,7 +52,7 @@ returns-clause-tried c cpu =
     let left = c.in_ok-put_prev.ensures.part s.prev runner in
     let first : IsFirst None (switch_tests c.args.knobs part (switch_deed s) step.claim)
     = c.in_default.ensures.first c.args.knobs None
-    (picks_same c.args.knobs part moved s.prev s.prev_nice s.way s.next s.next_nice own left c.switch_task-next.ensures None
+    (pick_tests_same c.args.knobs part moved s.prev s.prev_nice s.way s.next s.next_nice own left c.switch_task-next.ensures None
     (c.in_default-first_pick_test.ensures own c.lead-need.ensures)) in
     passes c.args.knobs cpu part step (switch_deed s) step.claim (switch_tests c.args.knobs part (switch_deed s) step.claim)
     (switch_row c.args.knobs cpu part s.prev s.prev_nice s.way s.next s.next_nice step.claim) c.requires refl _ _ first

@@ -5,7 +5,7 @@ use Rattle.std.specs.Io.KnownBytes.{Consumes}
 use Rattle.text_parts.specs.Lines.{lines_of}
 use Rattle.sched_record.specs.Reader.{HasRead}
 use Rattle.sched_audit.proofs.Counting.{one_more-below}
-use Rattle.sched_audit.proofs.Holding.{ended, held_none, held_read, held_same}
+use Rattle.sched_audit.proofs.Holding.{agrees_at_end, held_none, held_read, held_same}
 use Rattle.sched_audit.proofs.Passing.{lines_of_none, whole_and_whole, consumes_none}
 use Rattle.sched_audit.proofs.lines.read_lines.Goals as goal
 
@@ -31,7 +31,7 @@ returns-then-count-eq0-clause-all g c =
     let read = c.in_ok-count.ensures in
     let is_held = held_same c.loop.bytes.items items held before.line read.front before.is_held in (
       before.done ++ before.line,
-      ended _ _ _ (before.done ++ before.line) (drop held.length items) c.in_ok-count.count before.read read.read c.if-count-eq0.true
+      agrees_at_end _ _ _ (before.done ++ before.line) (drop held.length items) c.in_ok-count.count before.read read.read c.if-count-eq0.true
           (read.end c.if-count-eq0.true),
       subst (HasRead c.read.new.self) (sym (c.lines_after_whole.ensures before.done before.line before.whole))
           (held_read c.settled_line.ensures c.read.new.self (lines_of before.done) items held before.line is_held

@@ -3,7 +3,7 @@ use Rattle.replay_model.specs.Summary.{tasks_of_run}
 use Rattle.sched_record.specs.Record.{record_view}
 use Rattle.ticket_book.specs.SaidEvents.{events_of}
 use Rattle.ticket_book.specs.Told.{Tell, view_at}
-use Rattle.ticket_book.proofs.Verdicts.{fault_of, run_of, sums_fit, tickets_rise}
+use Rattle.ticket_book.proofs.Verdicts.{fault_is_verdict, run_of, sums_fit, tickets_rise}
 use Rattle.ticket_book.proofs.closing.verdict_on.Goals as goal
 
 pub told_by-requires-clause-rise : goal.told_by-requires-clause-rise
@@ -14,7 +14,7 @@ pub returns-in-Some : goal.returns-in-Some
 returns-in-Some c =
     let r = record_view c.args.joined.now in
     let pages = c.args.pages.now in
-    fault_of c.args.knobs r pages c.requires c.closing.ensures.fault c.args.joined.now.in_order c.in-Some.line c.in-Some.cause
+    fault_is_verdict c.args.knobs r pages c.requires c.closing.ensures.fault c.args.joined.now.in_order c.in-Some.line c.in-Some.cause
     (subst (Tell (view_at pages) (length pages) r.tasks (events_of r)) c.in-Some.is c.in_ok-line.ensures)
 
 pub summary_by-requires : goal.summary_by-requires

@@ -5,7 +5,7 @@ use Rattle.cfs_model.specs.declared.act.Entry.{Entry}
 use Rattle.sched_record.specs.Kept.{policy_of}
 use Rattle.sched_record.specs.Record.{record_view}
 use Rattle.ticket_book.specs.Cursor.{AreFollowed}
-use Rattle.ticket_book.proofs.EventsFollowed.{followed_more, lent_back}
+use Rattle.ticket_book.proofs.EventsFollowed.{followed_one_more, lent_back}
 use Rattle.ticket_book.proofs.following.cursors_of.Goals as goal
 
 pub returns-clause-followed : goal.returns-clause-followed
@@ -38,7 +38,7 @@ loop-index-preserved c =
       nices = search rules;
       followed = subst (λ cs. AreFollowed places cs (claimed r.claims r.nices (policy_of r) (take (c.loop-index.index + 1) r.events)))
           (sym (lent_back after before c.loop-index.cursors.len count))
-          (followed_more places c.deref_mut.result.now after r.claims r.nices (policy_of r) r.events c.loop-index.index event _ _ _
+          (followed_one_more places c.deref_mut.result.now after r.claims r.nices (policy_of r) r.events c.loop-index.index event _ _ _
           (omega (arith, within, total)) is claim nice idle c.follow.ensures
           (subst (λ cs. AreFollowed places cs (claimed r.claims r.nices (policy_of r) (take c.loop-index.index r.events))) (sym lent) c.loop-index.invariant.followed));
     }

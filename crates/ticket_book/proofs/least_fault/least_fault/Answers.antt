@@ -2,7 +2,7 @@ use Rattle.std.proofs.Common.{◌≡◌, ◌+◌, length, sym, subst, arith}
 use Rattle.std.proofs.lemmas.Option.{slice_get-get_or}
 use Rattle.std.specs.Prelude.{IfNone, IfSome, ℕ}
 use Rattle.ticket_book.specs.Book.{page_at}
-use Rattle.ticket_book.specs.Relying.{IsLeastOf}
+use Rattle.ticket_book.specs.Relying.{IsLeastFaultLine}
 use Rattle.ticket_book.specs.Remade.{HasFaultAt}
 use Rattle.ticket_book.proofs.LeastFaults.{least_more}
 use Rattle.ticket_book.proofs.Owned.{line_none, line_some}
@@ -17,7 +17,7 @@ loop-cpu-preserved c = λ knobs r told.
     let none = subst (λ o. IfNone o ((line : ℕ) → ¬ HasFaultAt knobs r cpu place line)) (sym c.fault_at.ensures)
     (line_none knobs r cpu _ place here) in
     let some = subst (λ o. IfSome o (HasFaultAt knobs r cpu place)) (sym c.fault_at.ensures) (line_some knobs r cpu _ place here) in
-    subst (IsLeastOf knobs r places (cpu + 1)) (sym c.lesser-least.ensures)
+    subst (IsLeastFaultLine knobs r places (cpu + 1)) (sym c.lesser-least.ensures)
     (least_more knobs r places cpu c.loop-cpu.least c.fault_at.result (c.loop-cpu.invariant knobs r told) none some)
 
 pub returns : goal.returns
@@ -25,4 +25,4 @@ returns c = λ knobs r told.
     let most = c.loop-cpu.auto.cpu-end in
     let all = c.loop-cpu-test.false in
     let same : c.loop-cpu.cpu ≡ length c.args.own.now = omega (arith, most, all) in
-    subst (λ n. IsLeastOf knobs r c.args.places.now n c.loop-cpu.least) same (c.loop-cpu.invariant knobs r told)
+    subst (λ n. IsLeastFaultLine knobs r c.args.places.now n c.loop-cpu.least) same (c.loop-cpu.invariant knobs r told)

@@ -2,7 +2,7 @@ use Rattle.std.proofs.Common.{◌≡◌, ◌<◌, [], ◌∷◌, ◌++◌, false
 use Rattle.queue_replay.specs.Replay.{ReplayView}
 use Rattle.sched_record.specs.Record.{record_view}
 use Rattle.ticket_book.specs.Own.{AreToldOwn, IsToldOwn}
-use Rattle.ticket_book.specs.Relying.{IsLeastOf}
+use Rattle.ticket_book.specs.Relying.{IsLeastFaultLine}
 use Rattle.ticket_book.specs.Remade.{Suffices}
 use Rattle.ticket_book.proofs.Gathering.{AreGathered, IsGathered, all_gathered, gathered_one, made_one, reliable_suffices, suffices_reliable, whole_suffices}
 use Rattle.ticket_book.proofs.Owned.{told_at}
@@ -26,9 +26,9 @@ loop-cpu-preserved c =
     let told : IsToldOwn knobs r cpu c.take_page-place.result own =
     told_at knobs r places c.args.own.now cpu c.take_page-place.result c.requires.told within
     (taken.page ∙ c.loop-cpu.invariant.left_are cpu (omega arith)) in
-    let least_is : IsLeastOf knobs r places r.cpus least =
-    subst (λ n. IsLeastOf knobs r places n least) count
-    (subst (λ ps. IsLeastOf knobs r ps (length c.args.own.now) least) c.deref.ensures.value
+    let least_is : IsLeastFaultLine knobs r places r.cpus least =
+    subst (λ n. IsLeastFaultLine knobs r places n least) count
+    (subst (λ ps. IsLeastFaultLine knobs r ps (length c.args.own.now) least) c.deref.ensures.value
     (c.least_fault-least.ensures knobs r
     (subst (λ ps. AreToldOwn knobs r ps c.args.own.now) (sym c.deref.ensures.value) c.requires.told))) in
     let pushed = λ (p : ReplayView). c.loop-cpu.pages.items ++ p ∷ [] in

@@ -7,7 +7,7 @@ use Rattle.ticket_book.specs.SaidEvents.{events_of}
 use Rattle.ticket_book.specs.Tallying.{FitsTally, with_tallies}
 use Rattle.ticket_book.specs.Told.{view_at}
 use Rattle.ticket_book.proofs.PagesAdded.{totals_fit}
-use Rattle.ticket_book.proofs.Summed.{summed, tasks_named}
+use Rattle.ticket_book.proofs.Summed.{summary_is_of, tasks_named}
 use Rattle.ticket_book.proofs.summing.summary_by.Goals as goal
 
 pub add_pages-requires : goal.add_pages-requires
@@ -29,6 +29,6 @@ returns c =
     tasks_named r c.tasks.result.now c.events-events.result.now c.tasks.ensures c.events-events.ensures c.new-sums.result.list.items
     c.name_tasks.new.sums.list.items c.count_events.new.sums.list.items c.new-sums.ensures c.in_ok-name_tasks.ensures
     c.in_ok-counts.ensures.named in
-    summed r c.tasks.result.now c.events-events.result.now c.tasks.ensures c.events-events.ensures tallies
+    summary_is_of r c.tasks.result.now c.events-events.result.now c.tasks.ensures c.events-events.ensures tallies
     c.count_events.new.sums.list.items c.from_vec.result c.in_ok-counts.counts _ named
     (c.from_vec.ensures ∙ c.add_pages.ensures) c.in_ok-counts.ensures.counts refl

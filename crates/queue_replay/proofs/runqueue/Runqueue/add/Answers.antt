@@ -2,7 +2,7 @@ use Rattle.std.proofs.Common.{◌≡◌, ℤ, true, refl, subst, rules, to_z, of
 use Rattle.std.specs.BTreeSet as set
 use Rattle.queue_replay.specs.Standing.{by_runtime, waiting_task}
 use Rattle.queue_replay.proofs.Standings.{same_queue}
-use Rattle.queue_replay.proofs.Moved.{same_entries, same_keys}
+use Rattle.queue_replay.proofs.Moved.{same_entries, same_waiting_keys}
 use Rattle.queue_replay.proofs.Coming.{come_runs_alone, run_part_alone, come_rests, come_waits, come_part, come_undone}
 use Rattle.queue_replay.proofs.runqueue.Runqueue.add.Goals as goal
 
@@ -56,7 +56,7 @@ invariant_of-self-in-Err c =
     record {
       kept = same_queue q.runner q.tasks c.remove.new.self q.waiting c.insert-in-Wait.new.self
           (come_undone q.runner q.tasks c.insert.new.self q.waiting q.kept c.args.task c.requires.apart c.in_ok-insert.ensures.updates c.remove.new.self c.remove.ensures.updates)
-          (same_keys q.waiting c.insert-in-Wait.new.self c.in-Err.ensures.err) q.kept;
+          (same_waiting_keys q.waiting c.insert-in-Wait.new.self c.in-Err.ensures.err) q.kept;
     }
 
 pub returns-in-Err-clause-same : goal.returns-in-Err-clause-same
@@ -64,5 +64,5 @@ returns-in-Err-clause-same c =
     let q = c.args.self.now in
     record {
       tasks = come_undone q.runner q.tasks c.insert.new.self q.waiting q.kept c.args.task c.requires.apart c.in_ok-insert.ensures.updates c.remove.new.self c.remove.ensures.updates;
-      waiting = same_keys q.waiting c.insert-in-Wait.new.self c.in-Err.ensures.err;
+      waiting = same_waiting_keys q.waiting c.insert-in-Wait.new.self c.in-Err.ensures.err;
     }

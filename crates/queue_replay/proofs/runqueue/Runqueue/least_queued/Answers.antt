@@ -3,7 +3,7 @@ use Rattle.std.specs.Int.{int_min}
 use Rattle.replay_model.specs.Part.{IsLeastHere}
 use Rattle.queue_replay.specs.Queue.{runqueue_view, IsTheRunner, IsLeastIfWaiting}
 use Rattle.queue_replay.proofs.Standings.{the_runner}
-use Rattle.queue_replay.proofs.Lifts.{least_of_both, least_of_runner, least_without_runner}
+use Rattle.queue_replay.proofs.Lifts.{least_with_runner, least_of_runner, least_without_runner}
 use Rattle.queue_replay.proofs.runqueue.Runqueue.least_queued.Goals as goal
 
 pub returns-in-Some-Some : goal.returns-in-Some-Some
@@ -14,7 +14,7 @@ returns-in-Some-Some c =
     let own : to_z w64 (of_z w64 i.task.v) ≡ i.task.v = search rules in
     let least : to_z w64 (of_z w64 i.least) ≡ i.least = search rules in
     subst (λ (v : ℤ). IsLeastHere (runqueue_view q) v) (sym (whole ∙ c.min.ensures.value ∙ ap (λ (v : ℤ). int_min v (to_z w64 (of_z w64 i.task.v))) least ∙ ap (int_min i.least) own))
-    (least_of_both (runqueue_view q) i.task i.least (subst (IsTheRunner (runqueue_view q)) i.is-0 (the_runner q.runner q.tasks q.waiting q.floor q.mark q.kept))
+    (least_with_runner (runqueue_view q) i.task i.least (subst (IsTheRunner (runqueue_view q)) i.is-0 (the_runner q.runner q.tasks q.waiting q.floor q.mark q.kept))
     (subst (IsLeastIfWaiting (runqueue_view q)) i.is-1 c.least_waiting.ensures))
 
 pub returns-in-Some-None : goal.returns-in-Some-None

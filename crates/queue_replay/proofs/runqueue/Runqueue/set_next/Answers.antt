@@ -6,7 +6,7 @@ use Rattle.replay_model.specs.Deeds.{part_after_next}
 use Rattle.replay_model.specs.Part.{Part}
 use Rattle.queue_replay.specs.Standing.{by_runtime, standing, waiting_task}
 use Rattle.queue_replay.specs.Tasks.{entity_of}
-use Rattle.queue_replay.proofs.Moved.{kept_runner, next_part, next_queue, no_next}
+use Rattle.queue_replay.proofs.Moved.{kept_runner, next_standing, next_queue, no_next}
 use Rattle.queue_replay.proofs.runqueue.Runqueue.set_next.Goals as goal
 
 pub invariant_of-self : goal.invariant_of-self
@@ -29,7 +29,7 @@ returns-in-Some c =
     let has : Some (entity_of t) ≡ standing None q.tasks c.args.next =
     sym (ap (option_map entity_of) c.in-Some.is) ∙ c.requires.task c.if-next-eq-IDLE_PID.false
     ∙ ap (λ (r : Option Task). standing r q.tasks c.args.next) c.requires.nobody in
-    next_part q.tasks t (record { pid = c.args.next; nice = t.nice; idle = t.idle; cpu = t.cpu; place = Run; v = t.v }) q.floor q.mark (sym has) c.if-next-eq-IDLE_PID.false
+    next_standing q.tasks t (record { pid = c.args.next; nice = t.nice; idle = t.idle; cpu = t.cpu; place = Run; v = t.v }) q.floor q.mark (sym has) c.if-next-eq-IDLE_PID.false
     refl
     ∙ ap (λ (r : Option Task). part_after_next (record { tasks = standing r q.tasks; floor = q.floor; mark = q.mark }) c.args.next) (sym c.requires.nobody)
 

@@ -1,7 +1,7 @@
 use Rattle.std.proofs.Common.{◌∷◌, [], ◌++◌, ◌∙◌, ap, sym, subst}
 use Rattle.replay_model.specs.declared.page.Tally.{Tally}
 use Rattle.queue_replay.proofs.PlacedBy.{room_in, placed_push}
-use Rattle.queue_replay.proofs.Placed.{with_new, with_old}
+use Rattle.queue_replay.proofs.Placed.{pushed_tally, kept_tally}
 use Rattle.replay_model.specs.Noted.{new_tally}
 use Rattle.queue_replay.specs.Places.{IsPlaced}
 use Rattle.queue_replay.proofs.tally_book.TallyBook.add.Goals as goal
@@ -20,9 +20,9 @@ pub returns-in-None : goal.returns-in-None
 returns-in-None c =
     let book = c.args.self.now in
     c.push_in.ensures ∙ ap (λ t. book.list.items ++ t ∷ []) c.new_tally.ensures
-    ∙ with_new book.list.items c.args.pid (c.place_of.ensures.none c.in-None.is)
+    ∙ pushed_tally book.list.items c.args.pid (c.place_of.ensures.none c.in-None.is)
 
 pub returns-in-Some : goal.returns-in-Some
 returns-in-Some c =
     let f = c.place_of.ensures.found c.in-Some.field-0 c.in-Some.is in
-    with_old c.args.self.now.list.items c.args.pid c.in-Some.field-0 (new_tally 0) f.0 (f.1 _)
+    kept_tally c.args.self.now.list.items c.args.pid c.in-Some.field-0 (new_tally 0) f.0 (f.1 _)

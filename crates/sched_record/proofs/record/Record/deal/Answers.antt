@@ -3,7 +3,7 @@ use Rattle.std.proofs.lemmas.Int.{to_z-of_z}
 use mir.Val.{SFits}
 use Rattle.sched_record.specs.Record.{record_view}
 use Rattle.sched_record.specs.Share.{IsShare}
-use Rattle.sched_record.proofs.Shares.{cut_is, share_of}
+use Rattle.sched_record.proofs.Shares.{cut_is, share_of_record}
 use Rattle.sched_record.proofs.record.Record.deal.Goals as goal
 
 pub invariant_of-result : goal.invariant_of-result
@@ -13,7 +13,7 @@ invariant_of-result c =
     let is_cut =
     cut_is r c.args.cpu _ _ _ _ _ _ _ _ c.tasks.ensures c.in_ok-tasks.ensures c.floors.ensures c.floor_of.ensures c.start.ensures
     c.in_ok-steps.ensures c.last_time.ensures c.last_line.ensures in
-    rw to_z-of_z (record { share = subst IsShare (sym is_cut) (share_of r c.args.cpu c.args.self.now.in_order c.requires) })
+    rw to_z-of_z (record { share = subst IsShare (sym is_cut) (share_of_record r c.args.cpu c.args.self.now.in_order c.requires) })
 
 pub returns : goal.returns
 returns c =

@@ -8,7 +8,7 @@ use crate::lists::{LifeEvents, Tallies, Tickets};
 use crate::page::Page;
 use crate::page_draft::PageDraft;
 use crate::replay_state::ReplayState;
-use crate::running::{run, start};
+use crate::running::{make_steps, start};
 use crate::state::State;
 use crate::tally_book::TallyBook;
 use cfs_model::{Knobs, Memory};
@@ -69,7 +69,7 @@ impl Replay {
         ensures made { OnOk result (GoesOn self.old.stream self.old.knobs self.old.made self.old.page steps self.new.made self.new.page) }
         ensures memory { OnErr result (IsCut self.old.stream self.old.knobs self.old.made steps self.new.made self.new.page) }
     {
-        run(&self.stream, self.knobs, &mut self.state, steps)?;
+        make_steps(&self.stream, self.knobs, &mut self.state, steps)?;
         Ok(self.state())
     }
 

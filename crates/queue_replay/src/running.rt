@@ -23,8 +23,8 @@ use replay_model::StepFault;
 use sched_record::Stream;
 use std::alloc::Global;
 
-/// Goes on for at most so many steps.
-pub(crate) fn run(
+/// Makes so many steps at most.
+pub(crate) fn make_steps(
     stream: &Stream,
     knobs: Knobs,
     state: &mut ReplayState,

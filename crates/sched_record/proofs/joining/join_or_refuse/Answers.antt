@@ -1,7 +1,7 @@
 use Rattle.std.proofs.Common.{subst}
 use Rattle.companion_file.specs.Companion.{companion_view}
 use Rattle.sched_record.specs.Join.{Refuses}
-use Rattle.sched_record.proofs.joining.record_of.Goals as goal
+use Rattle.sched_record.proofs.joining.join_or_refuse.Goals as goal
 
 pub returns-in-Some-clause-answered : goal.returns-in-Some-clause-answered
 returns-in-Some-clause-answered c =

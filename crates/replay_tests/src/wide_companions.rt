@@ -10,8 +10,7 @@ use std::test::Fail;
 use std::thread::Threads;
 
 // Five lines, up to the first task.
-const HEAD: &[u8] =
-    b"cfs-companion 2\ncpus 1\nstart 100.000000\nfloor 0 0\ntask 101 0 0 run 0\n";
+const HEAD: &[u8] = b"cfs-companion 2\ncpus 1\nstart 100.000000\nfloor 0 0\ntask 101 0 0 run 0\n";
 
 const FIRST: &[u8] = b"at 1 101 0\n";
 
@@ -50,36 +49,7 @@ fn claims_and_changes_of_all_pieces_are_kept(rt: HostRuntime) -> Result<(), Fail
     Ok(())
 }
 
-/// Companions of several pieces, each with its first bad line. All but the last have a claim in their first piece.
-static REFUSED: [(Lines<'static>, u64, CompanionCause); 5] = [
-    (
-        &[(HEAD, 1), (FIRST, 1), (COMMENT, 1100), (FIRST, 1), (COMMENT, 1100)],
-        1107,
-        CompanionCause::LineOrder,
-    ),
-    (
-        &[(HEAD, 1), (FIRST, 1), (COMMENT, 1100), (b"nice 1 101 5\n", 1)],
-        1107,
-        CompanionCause::LineOrder,
-    ),
-    (
-        &[(HEAD, 1), (FIRST, 1), (COMMENT, 1100), (b"task 102 0 0 wait 0\n", 1)],
-        1107,
-        CompanionCause::Order,
-    ),
-    (
-        &[(HEAD, 1), (FIRST, 1), (COMMENT, 1100), (b"a\n", 1), (COMMENT, 1100), (b"a\n", 1)],
-        1107,
-        CompanionCause::BadLine,
-    ),
-    (
-        &[(b"cfs-companion 2\ncpus 1\nstart 100.000000\n", 1), (COMMENT, 2200)],
-        2204,
-        CompanionCause::Short,
-    ),
-];
-
-/// Why several threads refuse it.
+/// Why several threads refuse a companion of these.
 fn fault_of<R: Threads + Sync>(
     rt: &R,
     alloc: Global,
@@ -89,15 +59,30 @@ fn fault_of<R: Threads + Sync>(
     Ok(read_companion_wide(rt, alloc, &text).err())
 }
 
-/// The place in the table of the first companion that is refused otherwise.
-fn misread<R: Threads + Sync>(rt: &R, alloc: Global) -> Result<Option<usize>, Fail> {
-    for (place, (lines, line, cause)) in REFUSED.iter().enumerate() {
-        let fault = CompanionFault::Text {
-            line: *line,
-            cause: *cause,
-        };
-        if fault_of(rt, alloc, lines)? != Some(fault) {
-            return Ok(Some(place));
+fn refused(line: u64, cause: CompanionCause) -> Option<CompanionFault> {
+    Some(CompanionFault::Text { line, cause })
+}
+
+/// Lines that are bad in the second piece, behind a claim at line 1.
+static REFUSED: [(&[u8], CompanionCause); 4] = [
+    (FIRST, CompanionCause::LineOrder),
+    (b"nice 1 101 5\n", CompanionCause::LineOrder),
+    (b"task 102 0 0 wait 0\n", CompanionCause::Order),
+    (b"a\nat 1 101 0\n", CompanionCause::BadLine),
+];
+
+/// The first lines in the table that aren't refused so.
+fn misread<R: Threads + Sync>(rt: &R, alloc: Global) -> Result<Option<&'static [u8]>, Fail> {
+    for (bad, cause) in &REFUSED {
+        let lines = [
+            (HEAD, 1),
+            (FIRST, 1),
+            (COMMENT, 1100),
+            (*bad, 1),
+            (COMMENT, 1100),
+        ];
+        if fault_of(rt, alloc, &lines)? != refused(1107, *cause) {
+            return Ok(Some(*bad));
         }
     }
     Ok(None)
@@ -106,5 +91,16 @@ fn misread<R: Threads + Sync>(rt: &R, alloc: Global) -> Result<Option<usize>, Fa
 #[test]
 fn a_companion_is_refused_at_its_first_bad_line(rt: HostRuntime) -> Result<(), Fail> {
     wants(&rt, &misread(&rt, rt.alloc())?, &None);
+    Ok(())
+}
+
+#[test]
+fn a_companion_ends_before_its_floor(rt: HostRuntime) -> Result<(), Fail> {
+    let lines: [(&[u8], u32); 2] = [
+        (b"cfs-companion 2\ncpus 1\nstart 100.000000\n", 1),
+        (COMMENT, 2200),
+    ];
+    let fault = refused(2204, CompanionCause::Short);
+    wants(&rt, &fault_of(&rt, rt.alloc(), &lines)?, &fault);
     Ok(())
 }

@@ -10,7 +10,8 @@ use std::test::Fail;
 use std::thread::Threads;
 
 // A comment of 64 bytes: a thousand of them are a piece of a text.
-pub(crate) const COMMENT: &[u8] = b"#                                                              \n";
+pub(crate) const COMMENT: &[u8] =
+    b"#                                                              \n";
 
 const BAD: &[u8] = b"hello\n";
 

@@ -56,7 +56,10 @@ pub fn join(trace: Trace, companion: Companion) -> Result<Record, (Trace, Compan
 }
 
 /// The record, or the first reason to refuse.
-fn join_or_refuse(trace: Trace, companion: Companion) -> Result<Record, (Trace, Companion, JoinFault)>
+fn join_or_refuse(
+    trace: Trace,
+    companion: Companion,
+) -> Result<Record, (Trace, Companion, JoinFault)>
     ensures answered { RecordAnswer (trace_view trace) (companion_view companion) (join_answer_view result) }
     ensures back { IfErr result (λ back. (back.0 ≡ trace) × (back.1 ≡ companion)) }
 {

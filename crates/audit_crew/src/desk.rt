@@ -1,7 +1,6 @@
 ghost use Rattle.std.specs.Prelude.{◌≡◌, None, if◌then◌else◌, length};
 ghost use Rattle.std.specs.Option.{option_to_list};
 ghost use Rattle.audit_crew.specs.Own.{IsOwnReplay};
-ghost use Rattle.audit_crew.specs.Tags.{tag_of};
 
 use crate::reserved_shelf::ReservedShelf;
 use crate::shared_book::{CrewLedger, SharedBook};

@@ -1,4 +1,4 @@
-ghost use Rattle.std.specs.Prelude.{◌≡◌, ◌≤◌, ℕ, OnOk, IsErrOf, IfOk, List, Result, length, take};
+ghost use Rattle.std.specs.Prelude.{◌≤◌, ℕ, OnOk, IsErrOf, IfOk, List, Result, length, take};
 ghost use Rattle.text_parts.specs.Lines.{IsWhole, lines_of};
 ghost use Rattle.companion_file.specs.declared.fault.CompanionCause.{CompanionCause};
 ghost use Rattle.companion_file.specs.Draft.{KeepsOrder};

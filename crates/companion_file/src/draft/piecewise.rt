@@ -6,7 +6,7 @@ ghost use Rattle.companion_file.specs.Piecewise.{SaysOn, FollowsOn, ClaimsFollow
 
 use crate::draft::Draft;
 use crate::fault::{CompanionCause, Refusal};
-use cfs_model::{Claim, MOST_PROCESSORS, NiceLine};
+use cfs_model::{Claim, NiceLine};
 use std::alloc::AllocError;
 use text_parts::lines::next_line;
 

@@ -8,6 +8,7 @@ pub mod Machine
 pub mod Start
 pub mod Claimed
 pub mod Touch
+pub mod Lives
 pub mod Lifted
 pub mod Reniced
 pub mod Step

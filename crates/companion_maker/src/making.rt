@@ -15,12 +15,12 @@ use crate::not_made::NotMade;
 use crate::opening::tasks_at_start;
 use crate::plain::plain_text;
 use crate::strategy::{STRATEGIES, Strategy};
-use crate::touching::{outside_line, processors_of};
+use crate::touching::processors_of;
 use crate::wishes::Wishes;
 use crate::writing::text_of;
-use cfs_model::{Entry, Memory};
+use cfs_model::{Entry, MOST_PROCESSORS, Memory};
 use companion_file::{CompanionFault, read_companion};
-use sched_record::{Trace, join, one_trace_answer, read_trace};
+use sched_record::{Trace, join, one_trace_answer, outside_line, read_trace};
 use std::alloc::Global;
 
 /// The strategy that mostly needs the least granularity.
@@ -52,7 +52,7 @@ pub fn make_companion(alloc: Global, trace: Trace, wishes: &Wishes) -> Result<Ma
     // Else it is said why: the first event that touches a processor which no companion has.
     ensures outside { IfErr result (IsNotMadeFor (trace_view trace)) }
 {
-    if let Some(line) = outside_line(trace.events()) {
+    if let Some(line) = outside_line(trace.events(), MOST_PROCESSORS as u32) {
         return Err(NotMade::CpuOutside {
             line: u64::from(line),
         });

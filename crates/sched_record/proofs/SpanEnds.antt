@@ -1,11 +1,13 @@
 -- The spans' ends along the events: where a task is born, of the spans of its pid that start above just the last can be
 -- without an end, since a span that isn't of the start begins at a birth, which ended those before it.
-use Rattle.std.proofs.Common.{◌≡◌, ℕ, ℤ, zero, suc, ◌+◌, ◌<◌, ◌&&◌, List, [], ◌∷◌, length, get_or, take, true, false, true≢false, eqb, inl, inr, refl, sym, ap, ◌∙◌, subst, arith}
-use Rattle.std.specs.Prelude.{All}
+use Rattle.std.proofs.Common.{◌≡◌, ℕ, zero, suc, ◌+◌, ◌<◌, ◌&&◌, List, [], ◌∷◌, length, get_or, take, true, false,
+    true≢false, eqb, inl, inr, refl, sym, ap, ◌∙◌, subst, arith, Option, Some, None}
+use Rattle.std.specs.Prelude.{All, unwrap_or}
 use Rattle.std.specs.List.{AllPairs}
 use Rattle.std.proofs.lemmas.Bool.{cases_Bool, cases_order, cases_lt, eqb-true, eq-eqb, and_parts}
 use Rattle.std.proofs.lemmas.List.{get_or-take, length-take-le}
 use Rattle.std.proofs.lemmas.List.Folds.{Any-from_list_any, list_any_at}
+use Rattle.cfs_model.specs.Lives.{begun_by}
 use Rattle.cfs_model.specs.declared.act.Act.{Act}
 use Rattle.cfs_model.specs.declared.act.Act.TheVariants.{Switch, Wake, Born, Shift}
 use Rattle.cfs_model.specs.declared.act.Entry.{Entry}
@@ -203,25 +205,35 @@ ends_more events idles old new i pid d rise born told h bears ends (inr (inr (pl
               ]))
         ]
 
--- the same of an event that is read as a birth
-pub ends_born : (events : List Entry) (idles : List IdleLine) (old new : List IdleSpan) (i cpu pid : ℕ) (nice : ℤ) (d event : Entry)
-    → AllPairs (λ a b. a.line < b.line) events → All (NamesBirth events) idles → AreSpansOf idles old → i < length events
-    → get_or events i d ≡ event → event.act ≡ Born cpu pid nice → All (EndsAtBirth (take i events)) old → EndsLast old event.line pid new
+-- an event bears just the task that begins with it
+bears_begun : (act : Act) (pid other : ℕ) → begun_by act ≡ Some pid → is_birth_of other act ≡ eqb pid other
+bears_begun (Born cpu born nice) pid other begins = ap (λ (o : Option ℕ). eqb (unwrap_or o 0) other) begins
+bears_begun (Switch cpu prev prev_nice way next next_nice) pid other begins = absurd cc
+bears_begun (Wake cpu woken nice) pid other begins = absurd cc
+bears_begun (Shift orig dest moved nice) pid other begins = absurd cc
+
+bears_nobody : (act : Act) (other : ℕ) → begun_by act ≡ None → is_birth_of other act ≡ false
+bears_nobody (Born cpu born nice) other begins = absurd cc
+bears_nobody (Switch cpu prev prev_nice way next next_nice) other begins = refl
+bears_nobody (Wake cpu woken nice) other begins = refl
+bears_nobody (Shift orig dest moved nice) other begins = refl
+
+-- the same of an event with which a task begins
+pub ends_born : (events : List Entry) (idles : List IdleLine) (old new : List IdleSpan) (i pid : ℕ) (d event : Entry)
+    → AllPairs (λ a b. a.line < b.line) events → All (NamesBirth events) idles → AreSpansOf idles old
+    → i < length events → get_or events i d ≡ event → begun_by event.act ≡ Some pid
+    → All (EndsAtBirth (take i events)) old → EndsLast old event.line pid new
     → All (EndsAtBirth (take (i + 1) events)) new
-ends_born events idles old new i cpu pid nice d event rise born told h at act ends step =
+ends_born events idles old new i pid d event rise born told h at begins ends step =
     ends_more events idles old new i pid d rise born told h
-    (λ other. ap (λ (e : Entry). is_birth_of other e.act) at ∙ ap (is_birth_of other) act) ends
+    (λ other. ap (λ (e : Entry). is_birth_of other e.act) at ∙ bears_begun event.act pid other begins) ends
     (subst (λ e. EndsLast old e.line pid new) (sym at) step)
 
--- and of one that is read as none
-pub ends_other : (events : List Entry) (spans : List IdleSpan) (i : ℕ) (d event : Entry) → AllPairs (λ a b. a.line < b.line) events
-    → i < length events → get_or events i d ≡ event → ((cpu pid : ℕ) (nice : ℤ) → event.act ≡ Born cpu pid nice → ⊥)
-    → All (EndsAtBirth (take i events)) spans → All (EndsAtBirth (take (i + 1) events)) spans
-ends_other events spans i d event rise h at bears ends =
-    ends_still events spans i d rise h (λ other. ap (λ (e : Entry). is_birth_of other e.act) at ∙ no_birth other event.act bears) ends
-  where
-    no_birth : (other : ℕ) (act : Act) → ((cpu pid : ℕ) (nice : ℤ) → act ≡ Born cpu pid nice → ⊥) → is_birth_of other act ≡ false
-    no_birth other (Born cpu pid nice) isnt = absurd (isnt cpu pid nice refl)
-    no_birth other (Switch cpu prev prev_nice way next next_nice) isnt = refl
-    no_birth other (Wake cpu pid nice) isnt = refl
-    no_birth other (Shift orig dest pid nice) isnt = refl
+-- and of one with which none does
+pub ends_other : (events : List Entry) (spans : List IdleSpan) (i : ℕ) (d event : Entry)
+    → AllPairs (λ a b. a.line < b.line) events → i < length events → get_or events i d ≡ event
+    → begun_by event.act ≡ None → All (EndsAtBirth (take i events)) spans
+    → All (EndsAtBirth (take (i + 1) events)) spans
+ends_other events spans i d event rise h at begins ends =
+    ends_still events spans i d rise h
+    (λ other. ap (λ (e : Entry). is_birth_of other e.act) at ∙ bears_nobody event.act other begins) ends

@@ -5,7 +5,7 @@ ghost use Rattle.sched_record.specs.Kept.{AreInOrder, NamesBirth};
 ghost use Rattle.sched_record.specs.Policies.{EndsAtBirth, EndsLast};
 
 use crate::policies::span_before;
-use cfs_model::{Act, Entry, NO_LINE};
+use cfs_model::{Entry, NO_LINE};
 use companion_file::Companion;
 
 /// Ends each span of the idle policy at the first birth of its pid behind its start. Takes no memory.
@@ -20,7 +20,7 @@ pub(crate) fn end_spans(events: &[Entry], companion: &mut Companion)
     }
     forget_ends(companion);
     for event in events {
-        if let Act::Born { pid, .. } = event.act {
+        if let Some(pid) = event.act.begun() {
             end_last(companion, event.line, pid);
         }
     }

@@ -94,24 +94,13 @@ fn refusal(line: u32, cause: JoinCause) -> JoinFault
     }
 }
 
-/// Whether an event touches only processors below the count.
-fn is_inside(act: Act, cpus: u32) -> bool
-    ensures inside { OnTrue result (All (λ cpu. cpu < cpus) (touched act)) }
-    ensures outside { OnFalse result (Any (λ cpu. cpus ≤ cpu) (touched act)) }
-{
-    match act {
-        Act::Switch { cpu, .. } | Act::Wake { cpu, .. } | Act::Born { cpu, .. } => cpu < cpus,
-        Act::Shift { orig, dest, .. } => orig < cpus && dest < cpus,
-    }
-}
-
 /// The line of the first event that touches a processor from the count on.
-fn outside_line(events: &[Entry], cpus: u32) -> Option<u32>
+pub fn outside_line(events: &[Entry], cpus: u32) -> Option<u32>
     ensures none { IfNone result (All (IsInside cpus) events.now) }
     ensures found { IfSome result (λ line. IsFirstOutside cpus events.now line) }
 {
     for event in events {
-        if !is_inside(event.act, cpus) {
+        if !event.act.is_within(cpus) {
             return Some(event.line);
         }
     }
@@ -177,18 +166,8 @@ fn is_birth_at(events: &[Entry], place: usize, idle: IdleLine) -> bool
     ensures { result ≡ is_birth_there events.now place idle }
 {
     match events.get(place) {
-        Some(event) => event.line == idle.line && is_birth_of(event.act, idle.pid),
+        Some(event) => event.line == idle.line && event.act.begun() == Some(idle.pid),
         None => false,
-    }
-}
-
-/// Whether what an event does is the birth of this pid.
-fn is_birth_of(act: Act, pid: u32) -> bool
-    ensures { result ≡ is_birth_of pid act }
-{
-    match act {
-        Act::Born { pid: born, .. } => born == pid,
-        Act::Switch { .. } | Act::Wake { .. } | Act::Shift { .. } => false,
     }
 }
 

@@ -21,7 +21,7 @@ mod trace_reader;
 
 pub use cause::{TraceCause, TraceFault};
 pub use dealing::step_at;
-pub use joining::{JoinCause, JoinFault, join};
+pub use joining::{JoinCause, JoinFault, join, outside_line};
 pub use laws::{one_record_answer, one_trace_answer};
 pub use lists::{Events, Steps};
 pub use reading::read_trace;

@@ -94,20 +94,16 @@ impl Places {
         if (place as usize).is_multiple_of(EVENTS_A_MARK) {
             self.marks.push(NO_MARK)?;
         }
-        match act {
-            Act::Switch { cpu, .. } | Act::Wake { cpu, .. } | Act::Born { cpu, .. } => {
-                self.push_at(cpu, place)
-            }
-            Act::Shift { orig, dest, .. } if orig == dest => self.push_at(orig, place),
-            Act::Shift { orig, dest, .. } => {
-                self.push_at(orig, place)?;
-                let pushed = self.push_at(dest, place);
-                if pushed.is_err() {
-                    self.pop_at(orig);
-                }
-                pushed
-            }
+        let (home, dest) = act.ends();
+        self.push_at(home, place)?;
+        if dest == home {
+            return Ok(());
         }
+        let pushed = self.push_at(dest, place);
+        if pushed.is_err() {
+            self.pop_at(home);
+        }
+        pushed
     }
 
     /// Puts a place behind the last of a processor.

@@ -2,7 +2,7 @@ ghost use Rattle.std.specs.Prelude.{◌≡◌, ◌-◌, ◌^◌};
 ghost use Rattle.replay_model.specs.Summary.{is_birth, is_death, is_migration, is_switch};
 ghost use Rattle.ticket_book.specs.EventCounts.{AreCountsBelow, with_event};
 
-use cfs_model::{Act, Entry, Way};
+use cfs_model::{Act, Entry};
 
 /// How many events do what.
 #[derive(Clone, Copy)]
@@ -51,19 +51,12 @@ fn is_migration(act: Act) -> bool
 fn is_birth(act: Act) -> bool
     ensures { result ≡ is_birth act }
 {
-    matches!(act, Act::Born { .. })
+    act.begun().is_some()
 }
 
 /// A switch whose previous task ends.
 fn is_death(act: Act) -> bool
     ensures { result ≡ is_death act }
 {
-    match act {
-        Act::Switch {
-            prev,
-            way: Way::Ends,
-            ..
-        } => prev != 0,
-        _ => false,
-    }
+    act.ended().is_some()
 }

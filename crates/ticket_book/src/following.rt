@@ -10,7 +10,7 @@ ghost use Rattle.ticket_book.specs.Cursor.{AreFollowed, IsFollowed, steps_in};
 ghost use Rattle.ticket_book.specs.SaidEvents.{events_of};
 
 use crate::cursor::Cursor;
-use cfs_model::{Act, Claim, Entry, Memory, NiceLine};
+use cfs_model::{Claim, Entry, Memory, NiceLine};
 use queue_replay::Page;
 use replay_model::Step;
 use sched_record::{Record, step_at};
@@ -53,7 +53,7 @@ fn follow(
         → AreFollowed places.now cursors.new
         (events ++ record { entry = event.now; claim = claim; nice = nice.now; idle = idle } ∷ []) }
 {
-    let (first, second) = ends_of(event);
+    let (first, second) = event.act.ends();
     let step = step_at(*event, claim, *nice, idle, first);
     follow_at(cursors, places, first, step);
     if second != first {
@@ -81,18 +81,5 @@ fn steps_of(places: &[Option<Page>], cpu: u32) -> &[Step]
     match places.get(cpu as usize) {
         Some(Some(page)) => page.stream().steps(),
         _ => &[],
-    }
-}
-
-/// The processors that an event touches: twice the same where it is one.
-fn ends_of(event: &Entry) -> (u32, u32)
-    ensures { (cpu : ℕ) → list_any (λ other. other == cpu) (touched event.now.act) ≡ (result.0 == cpu || result.1 == cpu) }
-{
-    let act = event.act;
-    match act {
-        Act::Switch { cpu, .. } => (cpu, cpu),
-        Act::Wake { cpu, .. } => (cpu, cpu),
-        Act::Born { cpu, .. } => (cpu, cpu),
-        Act::Shift { orig, dest, .. } => (orig, dest),
     }
 }

@@ -69,9 +69,9 @@ fn count_events(events: &[Entry], sums: &mut TallyBook) -> Result<EventCounts, M
 fn name_born(act: Act, sums: &mut TallyBook) -> Result<(), Memory>
     ensures { OnOk result (sums.new.list.items ≡ with_named (born_by act) sums.old.list.items) }
 {
-    match act {
-        Act::Born { pid, .. } => sums.name(pid),
-        Act::Switch { .. } | Act::Wake { .. } | Act::Shift { .. } => Ok(()),
+    match act.begun() {
+        Some(pid) => sums.name(pid),
+        None => Ok(()),
     }
 }
 

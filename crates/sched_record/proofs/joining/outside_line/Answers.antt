@@ -8,8 +8,8 @@ use Rattle.sched_record.specs.Kept.{IsInside}
 use Rattle.sched_record.proofs.Rising.{split_at}
 use Rattle.sched_record.proofs.joining.outside_line.Goals as goal
 
-pub returns-then-not-is_inside-clause-found : goal.returns-then-not-is_inside-clause-found
-returns-then-not-is_inside-clause-found c =
+pub returns-then-not-is_within-clause-found : goal.returns-then-not-is_within-clause-found
+returns-then-not-is_within-clause-found c =
     let events = c.args.events.now in
     let i = c.loop-event.event-index in
     record {
@@ -18,14 +18,14 @@ returns-then-not-is_inside-clause-found c =
       after = drop (i + 1) events;
       parts = split_at events i c.event-item.result c.loop-event-test.true c.event-item.is;
       inside = c.loop-event.invariant;
-      outside = OnFalse_at c.if-not-is_inside.true c.is_inside.ensures.outside;
+      outside = OnFalse_at c.if-not-is_within.true c.is_within.ensures.beyond;
       placed = refl;
     }
 
 pub loop-event-preserved : goal.loop-event-preserved
 loop-event-preserved c =
     let Inside : Entry → Type 0 = λ event. IsInside c.args.cpus event in
-    let here : Inside c.event-item.result = OnTrue_at c.if-not-is_inside.false c.is_inside.ensures.inside in
+    let here : Inside c.event-item.result = OnTrue_at c.if-not-is_within.false c.is_within.ensures.within in
     All-more Inside c.args.events.now c.loop-event.event-index c.event-item.result c.loop-event-test.true
     c.loop-event.invariant (subst Inside c.event-item.is here)
 

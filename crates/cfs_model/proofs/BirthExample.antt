@@ -1,15 +1,18 @@
--- The example of an end and a birth: once 101 has ended it stands nowhere; had it slept it would still rest at the first
--- processor, and had it stayed its line would need a claim.
-use Rattle.std.proofs.Common.{◌≡◌, ℕ, zero, suc, false, Some, None, ℤ, pos, ◌≤ℤ◌, inl, inr, List, [], ◌∷◌, refl, sym, ap, ◌∙◌, subst, arith, lit≤}
+-- The example of an end and a birth: once 101 has ended it stands nowhere; had it slept it would still rest at the
+-- first processor, and had it stayed its line would need a claim.
+use Rattle.std.proofs.Common.{◌≡◌, ℕ, zero, suc, false, Some, None, ℤ, pos, ◌≤ℤ◌, inl, inr, List, [], ◌∷◌, refl, sym}
+use Rattle.std.proofs.Common.{ap, ◌∙◌, subst, arith, lit≤}
 use Rattle.std.proofs.lemmas.Int.{ints}
-use Rattle.cfs_model.specs.Machine.{Machine, Stands, put, put_pair, with_floor, with_task, without_task, with_runtime, with_nice, without_values, with_policy}
+use Rattle.cfs_model.specs.Machine.{Machine, Stands, put, put_pair, with_floor, with_task, without_task, with_runtime}
+use Rattle.cfs_model.specs.Machine.{with_nice, without_values, with_policy}
 use Rattle.cfs_model.specs.Claimed.{Claimed}
 use Rattle.cfs_model.specs.Lifted.{charged, IsLeast, IsLifted}
 use Rattle.cfs_model.specs.Step.{IsSwitch, IsBirth, IsStep}
 use Rattle.cfs_model.specs.Idle.{IsIdle, KeepsSlack}
 use Rattle.cfs_model.specs.Run.{AreSteps, IsRun}
 use Rattle.cfs_model.specs.Order.{IsStart}
-use Rattle.cfs_model.specs.Examples.{standard, start_time, at_claim, birth_start, birth_events, BirthExample, IdleSwitchExample}
+use Rattle.cfs_model.specs.Examples.{standard, start_time, at_claim, birth_start, birth_events, BirthExample}
+use Rattle.cfs_model.specs.Examples.{IdleSwitchExample}
 use Rattle.cfs_model.proofs.Moves.{IsGone, leave_gone}
 use Rattle.cfs_model.proofs.KeptOrder.{same_sets}
 use Rattle.cfs_model.proofs.StepOrder.{gone_same}
@@ -176,7 +179,8 @@ second_step w low high =
     }
 
 -- nobody waits before the birth, so no slack is used
-keeps_slack : (slack : ℕ) (times : List ℕ) (last : Machine) → KeepsSlack slack times (birth_start ∷ first_state ∷ last ∷ [])
+keeps_slack : (slack : ℕ) (times : List ℕ) (last : Machine)
+    → KeepsSlack slack times (birth_start ∷ first_state ∷ last ∷ [])
 keeps_slack slack times last cpu zero j below within idles = let idle : IsIdle birth_start cpu = idles 0
     (lit≤ tt) below in absurd (nobody_waits cpu idle.pid idle.waits)
 keeps_slack slack times last cpu (suc zero) j below within idles = let idle : IsIdle first_state cpu = idles 1
@@ -189,7 +193,8 @@ asleep : (w : ℤ) (between after : Machine) → IsStep standard birth_start (fi
 unfolding put put_pair
 asleep w between after s t =
     let rests : Stands between Rest 0 101 = ap (λ (m : Machine). m.resting 0 101) s.changes.result in
-    t.changes.nowhere Rest 0 (ap (λ (m : Machine). m.resting 0 101) (t.is_reniced ∙ t.is_lifted.2 ∙ t.is_lifted.1.result) ∙ rests)
+    t.changes.nowhere Rest 0 (ap (λ (m : Machine). m.resting 0 101) (t.is_reniced ∙ t.is_lifted.2
+    ∙ t.is_lifted.1.result) ∙ rests)
 
 -- and a birth after the end is placed from the floor to the debit above it
 placed_at : (w : ℤ) (between after : Machine) → IsStep standard birth_start (first_event Ends) between
@@ -199,7 +204,8 @@ placed_at w between after s t =
     let same = one_next standard birth_start (first_event Ends) between first_state s first_step in
     let u : IsStep standard first_state (second_event w) after = subst
     (λ m. IsStep standard m (second_event w) after) same t in
-    let lift = u.is_reniced ∙ one_lifted 100002000000 (1 ∷ []) first_state u.lifted second_lifted u.is_lifted second_lift in
+    let lift = u.is_reniced ∙ one_lifted 100002000000 (1 ∷ []) first_state u.lifted second_lifted u.is_lifted
+    second_lift in
     let born : IsBirth standard second_lifted 1 101 (pos 0) (second_event w).claim false after = subst
     (λ m. IsBirth standard m 1 101 (pos 0) (second_event w).claim false after) lift u.changes in
     (subst (λ x. pos 0 ≤ℤ x) (sym born.claimed.2) born.from, subst (λ x. x ≤ℤ pos 3000000) (sym born.claimed.2) born.to)

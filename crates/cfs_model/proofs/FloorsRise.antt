@@ -1,6 +1,7 @@
--- No floor is lowered: a lift takes a maximum with the floor itself, and neither a change of a nice value nor an event's own
--- change names a floor.
-use Rattle.std.proofs.Common.{◌≡◌, ◌≢◌, ℕ, zero, suc, Bool, true, false, ℤ, ◌≤ℤ◌, ◌⊎◌, inl, inr, List, [], ◌∷◌, Option, refl, sym, ap, ◌∙◌, subst, arith}
+-- No floor is lowered: a lift takes a maximum with the floor itself, and neither a change of a nice value nor an
+-- event's own change names a floor.
+use Rattle.std.proofs.Common.{◌≡◌, ◌≢◌, ℕ, zero, suc, Bool, true, false, ℤ, ◌≤ℤ◌, ◌⊎◌, inl, inr, List, [], ◌∷◌, Option}
+use Rattle.std.proofs.Common.{refl, sym, ap, ◌∙◌, subst, arith}
 use Rattle.std.proofs.lemmas.Int.{ints, clamps}
 use Rattle.std.specs.Int.{int_max}
 use Rattle.cfs_model.specs.Settings.{Settings}
@@ -33,7 +34,8 @@ raised_above : (m : Machine) (cpu : ℕ) (f : ℤ) → IsRaised m cpu f → m.fl
 raised_above m cpu f (inl a) = same_above (m.floor cpu) f a.1
 raised_above m cpu f (inr a) = subst (λ x. m.floor cpu ≤ℤ x) (sym a.2) (above_self (m.floor cpu) a.0)
 
-lifted_at_above : (time at : ℕ) (m after : Machine) → IsLiftedAt time at m after → (cpu : ℕ) → m.floor cpu ≤ℤ after.floor cpu
+lifted_at_above : (time at : ℕ) (m after : Machine) → IsLiftedAt time at m after → (cpu : ℕ)
+    → m.floor cpu ≤ℤ after.floor cpu
 lifted_at_above time at m after l cpu = subst (λ (x : Machine). m.floor cpu ≤ℤ x.floor cpu) (sym l.result)
     (go (same_or_not cpu at))
   where
@@ -83,5 +85,7 @@ pub floors_rise : (knobs : Settings) (before : Machine) (event : Claimed) (after
     → IsStep knobs before event after → (cpu : ℕ) → before.floor cpu ≤ℤ after.floor cpu
 floors_rise knobs before event after s cpu =
     subst (λ f. before.floor cpu ≤ℤ f cpu) (sym
-    (same_floors knobs s.found event.entry.act event.claim event.idle after s.changes ∙ ap (λ (m : Machine). m.floor) (reniced_is (home_of event.entry.act) event.nice s.lifted s.found s.is_reniced)))
+    (same_floors knobs s.found event.entry.act event.claim event.idle after s.changes
+    ∙ ap (λ (m : Machine). m.floor) (reniced_is (home_of event.entry.act) event.nice s.lifted s.found
+    s.is_reniced)))
     (lifted_above event.entry.time (touched event.entry.act) before s.lifted s.is_lifted cpu)

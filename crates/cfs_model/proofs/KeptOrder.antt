@@ -1,6 +1,8 @@
 -- What keeps the order of a machine: the sets and the keys of the maps. A lift changes neither; a task that is placed
 -- anew, or is gone, changes them at its own pid alone.
-use Rattle.std.proofs.Common.{◌≡◌, ◌≢◌, ℕ, Bool, true, false, cond, Option, Some, None, IsSome, is_some, ℤ, pos, ◌+ℤ◌, ◌⊎◌, ◌↔◌, inl, inr, List, [], ◌∷◌, refl, sym, ap, ◌∙◌, subst, true≢false, option_map, option_and_then}
+use Rattle.std.proofs.Common.{◌≡◌, ◌≢◌, ℕ, Bool, true, false, cond, Option, Some, None, IsSome, is_some, ℤ, pos, ◌+ℤ◌}
+use Rattle.std.proofs.Common.{◌⊎◌, ◌↔◌, inl, inr, List, [], ◌∷◌, refl, sym, ap, ◌∙◌, subst, true≢false, option_map}
+use Rattle.std.proofs.Common.{option_and_then}
 use Rattle.cfs_model.specs.Machine.{Machine, pairs_of, Stands, NobodyStands, with_floor}
 use Rattle.cfs_model.specs.Lifted.{cost_at, charged, charged_runtime, IsLiftedAt, IsLifted}
 use Rattle.cfs_model.specs.Order.{StandsSomewhere}
@@ -51,7 +53,8 @@ apart_values m after e f g a =
 
 -- a charge gives a value where there were a value and a nice value
 some_charged : (m : Machine) (cpu time pid : ℕ) (n o : Option ℤ) → is_some n ≡ is_some o
-    → is_some (option_and_then (λ nice. option_map (λ v. v +ℤ pos (cost_at m cpu time nice (m.idle pid))) o) n) ≡ is_some o
+    → is_some (option_and_then (λ nice. option_map (λ v. v +ℤ pos (cost_at m cpu time nice (m.idle pid))) o)
+    n) ≡ is_some o
 some_charged m cpu time pid None o e = e
 some_charged m cpu time pid (Some nice) None e = refl
 some_charged m cpu time pid (Some nice) (Some v) e = refl
@@ -80,7 +83,8 @@ lifted_at_apart time cpu m after l a =
     (λ pid. refl) a)
 
 -- a lift keeps the order
-pub lifted_apart : (time : ℕ) (cpus : List ℕ) (m after : Machine) → IsLifted time cpus m after → IsApart m → IsApart after
+pub lifted_apart : (time : ℕ) (cpus : List ℕ) (m after : Machine) → IsLifted time cpus m after → IsApart m
+    → IsApart after
 lifted_apart time [] m after l a = subst IsApart (sym l) a
 lifted_apart time (cpu ∷ cpus) m after l a = lifted_apart time cpus l.0 after l.2 (lifted_at_apart time cpu m l.0 l.1 a)
 

@@ -1,5 +1,5 @@
--- The least settings: the lesser of two settings that make a run makes one, since a step asks for one setting alone; and what
--- follows.
+-- The least settings: the lesser of two settings that make a run makes one, since a step asks for one setting alone;
+-- and what follows.
 use Rattle.std.proofs.Common.{◌≡◌, ℕ, ◌≤◌, min, ◌⊎◌, inl, inr, List, [], ◌∷◌, sym, subst, arith}
 use Rattle.std.proofs.lemmas.Bool.{cases_lt}
 use Rattle.std.proofs.Math.Nat.{le-max_left, le-max_right, max-le}

@@ -1,6 +1,7 @@
 -- The examples of a migration. What hangs on the time, the virtual runtime that 102 is charged to and the least one, is
 -- a parameter; the second floor stays at 100, since nobody stands there.
-use Rattle.std.proofs.Common.{◌≡◌, ◌↔◌, ℕ, true, false, Some, ℤ, pos, ◌+ℤ◌, ◌-ℤ◌, ◌≤ℤ◌, inl, inr, [], ◌∷◌, refl, sym, ap, ◌∙◌, subst, arith, lit<, lit≤}
+use Rattle.std.proofs.Common.{◌≡◌, ◌↔◌, ℕ, true, false, Some, ℤ, pos, ◌+ℤ◌, ◌-ℤ◌, ◌≤ℤ◌, inl, inr, [], ◌∷◌, refl, sym}
+use Rattle.std.proofs.Common.{ap, ◌∙◌, subst, arith, lit<, lit≤}
 use Rattle.std.proofs.lemmas.Int.{ints}
 use Rattle.std.specs.Int.{int_max}
 use Rattle.cfs_model.specs.Charge.{IsInRange}
@@ -9,7 +10,8 @@ use Rattle.cfs_model.specs.Start.{named_in}
 use Rattle.cfs_model.specs.Lifted.{charged, CanCharge, IsLeast, IsLifted}
 use Rattle.cfs_model.specs.Step.{IsMigration, IsStep}
 use Rattle.cfs_model.specs.Order.{IsStart}
-use Rattle.cfs_model.specs.Examples.{standard, HasStep, start_time, migration_start, migration_event, MigrationExample, LaterMigrationExample}
+use Rattle.cfs_model.specs.Examples.{standard, HasStep, start_time, migration_start, migration_event, MigrationExample}
+use Rattle.cfs_model.specs.Examples.{LaterMigrationExample}
 use Rattle.cfs_model.proofs.OneNext.{one_lifted}
 use Rattle.cfs_model.proofs.StartOrder.{start_in_order}
 use Rattle.cfs_model.proofs.Range.{lifted_range, change_range}
@@ -66,7 +68,12 @@ module _ (time : ℕ) (v least w : ℤ) (is_v : (after_charge time).runtime 102 
   unfolding put
   lift = (
     between,
-    record { can_charge = can_charge; floor = int_max (pos 3) least; raised = inr (least, is_least, refl); result = refl },
+    record {
+      can_charge = can_charge;
+      floor = int_max (pos 3) least;
+      raised = inr (least, is_least, refl);
+      result = refl;
+    },
     (
       lifted,
       record {
@@ -107,7 +114,8 @@ module _ (time : ℕ) (v least w : ℤ) (is_v : (after_charge time).runtime 102 
           in_range = change_range standard lifted (migration_event time w).entry.act
               (migration_event time w).claim false after changes range
               (lifted_range time (0 ∷ 1 ∷ []) migration_start lifted lift
-              (start_in_order start_time (pos 3 ∷ pos 100 ∷ []) (task_that_waits ∷ task_that_runs ∷ []) start_is).in_range);
+              (start_in_order start_time (pos 3 ∷ pos 100 ∷ []) (task_that_waits ∷ task_that_runs ∷ [])
+              start_is).in_range);
         },
       )
 
@@ -130,7 +138,8 @@ module _ (time : ℕ) (v least w : ℤ) (is_v : (after_charge time).runtime 102 
 -- a least virtual runtime is at most those of 101 and 102
 least_of : (time : ℕ) (v least : ℤ) → (after_charge time).runtime 102 ≡ Some v → least ≤ℤ v → least ≤ℤ pos 5
     → (q : ℕ) (w : ℤ) → IsQueued (after_charge time) 0 q → (after_charge time).runtime q ≡ Some w → least ≤ℤ w
-least_of time v least is_v h k q w (inl x) e = below_at (after_charge time).runtime 102 q least v w (runs_one q x) is_v e h
+least_of time v least is_v h k q w (inl x) e = below_at (after_charge time).runtime 102 q least v w (runs_one q x) is_v
+    e h
 least_of time v least is_v h k q w (inr x) e = below_at (after_charge time).runtime 101 q least (pos 5) w
     (waits_one q x) refl e k
 
@@ -150,7 +159,8 @@ migration_lem w =
 pub later_lem : LaterMigrationExample
 later_lem w =
     migration_at 100000001000 (pos 1003) (pos 5) (pos 100) refl refl
-    (can_charge_one migration_start 0 100000001000 102 (pos 0) (pos 3) runs_one refl refl (lit≤ tt) (omega (arith, ints)))
+    (can_charge_one migration_start 0 100000001000 102 (pos 0) (pos 3) runs_one refl refl (lit≤ tt)
+    (omega (arith, ints)))
     (record {
       pid = 101;
       queued = inr refl;

@@ -1,5 +1,5 @@
--- Settings and runs: a step asks for one setting alone, the one that its event names, so a step under some settings is one
--- under others that give it at least as much.
+-- Settings and runs: a step asks for one setting alone, the one that its event names, so a step under some settings is
+-- one under others that give it at least as much.
 use Rattle.std.proofs.Common.{ℕ, zero, suc, Bool, ◌≤◌, Option, ℤ, pos, ◌+ℤ◌, ◌-ℤ◌, ◌≤ℤ◌, inl, inr, List, [], ◌∷◌, arith}
 use Rattle.std.proofs.lemmas.Int.{ints, clamps}
 use Rattle.std.specs.Int.{int_max}
@@ -33,7 +33,8 @@ pick_more less more m cpu zero h pick = pick
 pick_more less more m cpu (suc n) h pick =
     (pick.0, pick.1, pick.2, λ other w waits e. more_above pick.0 w less more h (pick.3 other w waits e))
 
-pub changes_more : (knobs more : Settings) (m : Machine) (act : Act) (claim : Option Claim) (idle : Bool) (after : Machine)
+pub changes_more : (knobs more : Settings) (m : Machine) (act : Act) (claim : Option Claim) (idle : Bool)
+    (after : Machine)
     → asked act knobs ≤ asked act more → Changes knobs m act claim idle after → Changes more m act claim idle after
 changes_more knobs more m (Switch cpu prev prev_nice way next next_nice) claim idle after h s = record {
   differ = s.differ;

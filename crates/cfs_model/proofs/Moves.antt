@@ -1,8 +1,10 @@
 -- What maps, sets and machines hold after a change. One lemma on a set with one pair changed serves both joining and
 -- leaving a place; all moves, births included, share one record of what they do to who stands where.
-use Rattle.std.proofs.Common.{◌≡◌, ◌≢◌, ℕ, nat_eq, Bool, true, false, cond, ◌⊎◌, inl, inr, refl, sym, ap, ◌∙◌, subst, true≢false}
+use Rattle.std.proofs.Common.{◌≡◌, ◌≢◌, ℕ, nat_eq, Bool, true, false, cond, ◌⊎◌, inl, inr, refl, sym, ap, ◌∙◌, subst}
+use Rattle.std.proofs.Common.{true≢false}
 use Rattle.std.proofs.lemmas.Bool.{eq-eqb, ne_eqb, eqb-true, eqb-false}
-use Rattle.cfs_model.specs.Machine.{Pairs, Machine, pairs_of, Stands, put, put_pair, with_pairs, with_task, without_task, with_move}
+use Rattle.cfs_model.specs.Machine.{Pairs, Machine, pairs_of, Stands, put, put_pair, with_pairs, with_task}
+use Rattle.cfs_model.specs.Machine.{without_task, with_move}
 use Rattle.cfs_model.specs.declared.task.Place.{Place}
 use Rattle.cfs_model.specs.declared.task.Place.TheVariants.{Run, Wait, Rest}
 
@@ -85,7 +87,8 @@ changed_at m place cpu pid b r d q = go (pairs_with m place (put_pair (pairs_of 
 -- what a move to a place does to who stands where: the pid stands there alone, and the others where they stood
 pub record IsPutAt (m after : Machine) (pid : ℕ) (to : Place) (dest : ℕ) : Type 0 where
   pub itself : Stands after to dest pid
-  pub cases : (r : Place) (d q : ℕ) → Stands after r d q → ((q ≡ pid) × (r ≡ to) × (d ≡ dest)) ⊎ ((q ≢ pid) × Stands m r d q)
+  pub cases : (r : Place) (d q : ℕ) → Stands after r d q
+      → ((q ≡ pid) × (r ≡ to) × (d ≡ dest)) ⊎ ((q ≢ pid) × Stands m r d q)
   pub kept : (r : Place) (d q : ℕ) → q ≢ pid → Stands m r d q → Stands after r d q
 
 -- the same of an end: the pid stands nowhere
@@ -97,7 +100,8 @@ pub record IsGone (m after : Machine) (pid : ℕ) : Type 0 where
 pub join_placed : (m : Machine) (pid : ℕ) (place : Place) (cpu : ℕ) → ((r : Place) (d : ℕ) → ¬ Stands m r d pid)
     → IsPutAt m (with_task m place cpu pid) pid place cpu
 join_placed m pid place cpu nowhere = record {
-  itself = elim (changed_at m place cpu pid true place cpu pid) [ inl f ↦ f.3 | inr f ↦ absurd (f.0 (refl, refl, refl)) ];
+  itself = elim (changed_at m place cpu pid true place cpu pid)
+      [ inl f ↦ f.3 | inr f ↦ absurd (f.0 (refl, refl, refl)) ];
   cases = λ r d q h. elim (changed_at m place cpu pid true r d q) [
     | inl f ↦ inl (f.2, f.0, f.1)
     | inr f ↦ let s : Stands m r d q = sym f.1 ∙ h in inr ((λ e. nowhere r d (subst (λ x. Stands m r d x) e s)), s)

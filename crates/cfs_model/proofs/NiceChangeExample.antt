@@ -1,6 +1,7 @@
--- The examples of a change of a nice value: the first lift charges by the old value, the wakeup prints the new one, and the
--- second lift charges by it. Where no task stands at the event's processor, none can be named.
-use Rattle.std.proofs.Common.{◌≡◌, ℕ, zero, suc, true, false, Some, None, ℤ, pos, ◌+ℤ◌, ◌≤ℤ◌, ◌⊎◌, inl, inr, List, [], ◌∷◌, refl, sym, ap, ◌∙◌, subst, arith, lit≤}
+-- The examples of a change of a nice value: the first lift charges by the old value, the wakeup prints the new one, and
+-- the second lift charges by it. Where no task stands at the event's processor, none can be named.
+use Rattle.std.proofs.Common.{◌≡◌, ℕ, zero, suc, true, false, Some, None, ℤ, pos, ◌+ℤ◌, ◌≤ℤ◌, ◌⊎◌, inl, inr, List, []}
+use Rattle.std.proofs.Common.{◌∷◌, refl, sym, ap, ◌∙◌, subst, arith, lit≤}
 use Rattle.std.proofs.lemmas.Int.{ints}
 use Rattle.cfs_model.specs.Machine.{Machine, Stands, IsQueued, AreValuesInRange, put, put_pair, with_floor, with_nice}
 use Rattle.cfs_model.specs.Start.{named_in}
@@ -10,13 +11,15 @@ use Rattle.cfs_model.specs.Reniced.{IsReniced}
 use Rattle.cfs_model.specs.Step.{after_prev, after_next, IsSwitch, IsWakeQueued, IsWakeResting, IsStep}
 use Rattle.cfs_model.specs.Idle.{IsIdle, KeepsSlack}
 use Rattle.cfs_model.specs.Run.{AreSteps, IsRun}
-use Rattle.cfs_model.specs.Examples.{standard, start_time, at_claim, switch_start, nice_events, NiceChangeExample, birth_start, StrangeNiceExample}
+use Rattle.cfs_model.specs.Examples.{standard, start_time, at_claim, switch_start, nice_events, NiceChangeExample}
+use Rattle.cfs_model.specs.Examples.{birth_start, StrangeNiceExample}
 use Rattle.cfs_model.proofs.Moves.{pair_cases}
 use Rattle.cfs_model.proofs.OneNext.{one_lifted}
 use Rattle.cfs_model.proofs.StartOrder.{start_in_order}
 use Rattle.cfs_model.proofs.Range.{lifted_range, change_range}
 use Rattle.cfs_model.proofs.Renice.{reniced_range}
-use Rattle.cfs_model.proofs.SwitchExample.{first_task, second_task, start_is, runs_one, waits_one, least_second, can_charge_even}
+use Rattle.cfs_model.proofs.SwitchExample.{first_task, second_task, start_is, runs_one, waits_one, least_second}
+use Rattle.cfs_model.proofs.SwitchExample.{can_charge_even}
 use Rattle.cfs_model.proofs.Worked.{of_one, of_two, value_at, below_at, can_charge_one}
 use Rattle.cfs_model.specs.declared.act.Act.TheVariants.{Switch, Wake}
 use Rattle.cfs_model.specs.declared.act.Way.TheVariants.{Stays}

@@ -1,6 +1,7 @@
--- At most one next machine: the least virtual runtime is one value, so the floor and with it the lifted machine are one;
--- and each case's conditions say its result, where the claim keeps the cases of a wakeup and of a migration apart.
-use Rattle.std.proofs.Common.{◌≡◌, ℕ, Bool, ℤ, ◌+ℤ◌, ◌-ℤ◌, ◌≤ℤ◌, Option, Some, None, ◌⊎◌, inl, inr, List, [], ◌∷◌, refl, sym, ap, ap₂, ◌∙◌, subst, arith}
+-- At most one next machine: the least virtual runtime is one value, so the floor and with it the lifted machine are
+-- one; and each case's conditions say its result, where the claim keeps the cases of a wakeup and of a migration apart.
+use Rattle.std.proofs.Common.{◌≡◌, ℕ, Bool, ℤ, ◌+ℤ◌, ◌-ℤ◌, ◌≤ℤ◌, Option, Some, None, ◌⊎◌, inl, inr, List, [], ◌∷◌, refl}
+use Rattle.std.proofs.Common.{sym, ap, ap₂, ◌∙◌, subst, arith}
 use Rattle.std.proofs.lemmas.Int.{ints}
 use Rattle.std.specs.Int.{int_max}
 use Rattle.cfs_model.specs.Settings.{Settings}
@@ -25,13 +26,15 @@ use Rattle.cfs_model.specs.declared.task.Place.TheVariants.{Run, Wait, Rest}
 
 -- there is one least virtual runtime
 one_least_runtime : (m : Machine) (cpu : ℕ) (v w : ℤ) → IsLeast m cpu v → IsLeast m cpu w → v ≡ w
-one_least_runtime m cpu v w p q = ≤ℤ_antisymm v w (p.least q.pid w q.queued q.runtime) (q.least p.pid v p.queued p.runtime)
+one_least_runtime m cpu v w p q = ≤ℤ_antisymm v w (p.least q.pid w q.queued q.runtime)
+    (q.least p.pid v p.queued p.runtime)
 
 one_raised : (m : Machine) (cpu : ℕ) (f g : ℤ) → IsRaised m cpu f → IsRaised m cpu g → f ≡ g
 one_raised m cpu f g (inl a) (inl b) = a.1 ∙ sym b.1
 one_raised m cpu f g (inl a) (inr b) = absurd (a.0 b.1.pid b.1.queued)
 one_raised m cpu f g (inr a) (inl b) = absurd (b.0 a.1.pid a.1.queued)
-one_raised m cpu f g (inr a) (inr b) = a.2 ∙ ap (λ v. int_max (m.floor cpu) v) (one_least_runtime m cpu a.0 b.0 a.1 b.1) ∙ sym b.2
+one_raised m cpu f g (inr a) (inr b) = a.2 ∙ ap (λ v. int_max (m.floor cpu) v) (one_least_runtime m cpu a.0 b.0 a.1 b.1)
+    ∙ sym b.2
 
 one_lifted_at : (time cpu : ℕ) (before after other : Machine) → IsLiftedAt time cpu before after
     → IsLiftedAt time cpu before other → after ≡ other
@@ -90,7 +93,8 @@ one_waken knobs m cpu pid nice claim after other (inr a) (inr b) =
     (one_said claim At At pid a.placed b.placed a.claimed b.claimed).1 ∙ sym b.result
 
 one_move : (m : Machine) (orig dest pid : ℕ) (nice : ℤ) (claim : Option Claim) (idle : Bool) (after other : Machine)
-    → IsMigration m orig dest pid nice claim idle after → IsMigration m orig dest pid nice claim idle other → after ≡ other
+    → IsMigration m orig dest pid nice claim idle after → IsMigration m orig dest pid nice claim idle other
+    → after ≡ other
 one_move m orig dest pid nice claim idle after other a b =
     let said = one_said claim a.sort b.sort pid ((a.own -ℤ m.floor orig) +ℤ m.floor dest)
     ((b.own -ℤ m.floor orig) +ℤ m.floor dest) a.claimed b.claimed in
@@ -100,7 +104,8 @@ one_move m orig dest pid nice claim idle after other a b =
     ∙ sym b.result
 
 -- an event changes the machine that it finds in one way
-pub one_change : (knobs : Settings) (m : Machine) (act : Act) (claim : Option Claim) (idle : Bool) (after other : Machine)
+pub one_change : (knobs : Settings) (m : Machine) (act : Act) (claim : Option Claim) (idle : Bool)
+    (after other : Machine)
     → Changes knobs m act claim idle after → Changes knobs m act claim idle other → after ≡ other
 one_change knobs m (Switch cpu prev prev_nice way next next_nice) claim idle after other a b = a.result ∙ sym b.result
 one_change knobs m (Wake cpu pid nice) claim idle after other a b = one_waken knobs m cpu pid nice claim after other a b
@@ -116,14 +121,16 @@ pub one_found : (knobs : Settings) (before : Machine) (event : Claimed) (after o
 one_found knobs before event after other a b =
     one_reniced (home_of event.entry.act) event.nice b.lifted a.found b.found
     (subst (λ m. IsReniced (home_of event.entry.act) event.nice m a.found)
-    (one_lifted event.entry.time (touched event.entry.act) before a.lifted b.lifted a.is_lifted b.is_lifted) a.is_reniced)
+    (one_lifted event.entry.time (touched event.entry.act) before a.lifted b.lifted a.is_lifted b.is_lifted)
+    a.is_reniced)
     b.is_reniced
 
 pub one_next : (knobs : Settings) (before : Machine) (event : Claimed) (after other : Machine)
     → IsStep knobs before event after → IsStep knobs before event other → after ≡ other
 one_next knobs before event after other a b =
     one_change knobs b.found event.entry.act event.claim event.idle after other
-    (subst (λ m. Changes knobs m event.entry.act event.claim event.idle after) (one_found knobs before event after other a b)
+    (subst (λ m. Changes knobs m event.entry.act event.claim event.idle after)
+    (one_found knobs before event after other a b)
     a.changes)
     b.changes
 
@@ -136,4 +143,5 @@ one_list knobs first (event ∷ events) [] others a b = absurd a
 one_list knobs first (event ∷ events) (m ∷ states) [] a b = absurd b
 one_list knobs first (event ∷ events) (m ∷ states) (n ∷ others) a b =
     let e = one_next knobs first event m n a.0 b.0 in
-    ap₂ (λ x xs. x ∷ xs) e (one_list knobs n events states others (subst (λ x. AreSteps knobs x events states) e a.1) b.1)
+    ap₂ (λ x xs. x ∷ xs) e (one_list knobs n events states others (subst (λ x. AreSteps knobs x events states) e a.1)
+    b.1)

@@ -1,6 +1,7 @@
 -- A prefix of a run: the states of a prefix of the events are a prefix of the states, and states and times of a prefix
 -- are read at the same numbers.
-use Rattle.std.proofs.Common.{◌≡◌, ℕ, zero, suc, ◌+◌, ◌<◌, ◌≤◌, List, [], ◌∷◌, ◌++◌, length, map, slice_get, get_or, IsSomeAnd, refl, sym, ap, subst, arith, length-append, le_of_suc-le-suc}
+use Rattle.std.proofs.Common.{◌≡◌, ℕ, zero, suc, ◌+◌, ◌<◌, ◌≤◌, List, [], ◌∷◌, ◌++◌, length, map, slice_get, get_or}
+use Rattle.std.proofs.Common.{IsSomeAnd, refl, sym, ap, subst, arith, length-append, le_of_suc-le-suc}
 use Rattle.cfs_model.specs.Settings.{Settings}
 use Rattle.cfs_model.specs.Machine.{Machine}
 use Rattle.cfs_model.specs.Claimed.{Claimed}

@@ -1,6 +1,8 @@
 -- A lift and an event's own change keep every value in range, where the claim is: a charge is bounded by the lift's own
 -- condition, a raised floor is a floor or a virtual runtime, and any other new value is the claim's.
-use Rattle.std.proofs.Common.{◌≡◌, ◌≢◌, ℕ, zero, suc, Bool, true, false, cond, Option, Some, None, option_map, option_and_then, IfSome, ℤ, pos, ◌+ℤ◌, ◌-ℤ◌, ◌≤ℤ◌, ◌⊎◌, inl, inr, List, [], ◌∷◌, refl, sym, ap, ◌∙◌, subst, arith}
+use Rattle.std.proofs.Common.{◌≡◌, ◌≢◌, ℕ, zero, suc, Bool, true, false, cond, Option, Some, None, option_map}
+use Rattle.std.proofs.Common.{option_and_then, IfSome, ℤ, pos, ◌+ℤ◌, ◌-ℤ◌, ◌≤ℤ◌, ◌⊎◌, inl, inr, List, [], ◌∷◌, refl}
+use Rattle.std.proofs.Common.{sym, ap, ◌∙◌, subst, arith}
 use Rattle.std.proofs.lemmas.Int.{ints, clamps}
 use Rattle.std.specs.Int.{int_max}
 use Rattle.cfs_model.specs.Charge.{IsInRange}
@@ -43,7 +45,8 @@ charged_range m cpu time can r pid v e = go (m.running cpu pid) refl e
     here (Some nice) (Some u) f g h k = subst IsInRange (some_is (u +ℤ pos (cost_at m cpu time nice (m.idle pid))) v k)
         (sum_range u (cost_at m cpu time nice (m.idle pid)) (r.runtimes pid u g) (can pid nice u h f g).1)
 
-    go : (b : Bool) → m.running cpu pid ≡ b → cond b (charged_runtime m cpu time pid) (m.runtime pid) ≡ Some v → IsInRange v
+    go : (b : Bool) → m.running cpu pid ≡ b → cond b (charged_runtime m cpu time pid) (m.runtime pid) ≡ Some v
+        → IsInRange v
     go true h k = here (m.nice pid) (m.runtime pid) refl refl h k
     go false h k = r.runtimes pid v k
 
@@ -52,12 +55,14 @@ raised_range : (m : Machine) (cpu : ℕ) (f : ℤ) → IsRaised m cpu f → ((pi
 raised_range m cpu f (inl a) r h = subst IsInRange (sym a.1) h
 raised_range m cpu f (inr a) r h = subst IsInRange (sym a.2) (max_range (m.floor cpu) a.0 h (r a.1.pid a.0 a.1.runtime))
 
-lifted_at_range : (time cpu : ℕ) (m after : Machine) → IsLiftedAt time cpu m after → AreValuesInRange m → AreValuesInRange after
+lifted_at_range : (time cpu : ℕ) (m after : Machine) → IsLiftedAt time cpu m after → AreValuesInRange m
+    → AreValuesInRange after
 lifted_at_range time cpu m after l r =
     let within = charged_range m cpu time l.can_charge r in
     subst AreValuesInRange (sym l.result) (record {
       runtimes = within;
-      floors = λ c. go c (same_or_not c cpu) (raised_range (charged m cpu time) cpu l.floor l.raised within (r.floors cpu));
+      floors = λ c. go c (same_or_not c cpu) (raised_range (charged m cpu time) cpu l.floor l.raised within
+          (r.floors cpu));
     })
   where
     go : (c : ℕ) → (c ≡ cpu) ⊎ (c ≢ cpu) → IsInRange l.floor → IsInRange (put m.floor cpu l.floor c)

@@ -1,4 +1,5 @@
--- A change of a nice value changes that of one task that stands: all else is as it was, so the order and the range are kept.
+-- A change of a nice value changes that of one task that stands: all else is as it was, so the order and the range are
+-- kept.
 use Rattle.std.proofs.Common.{◌≡◌, ◌≢◌, ℕ, Option, Some, None, ◌⊎◌, inl, inr, is_some, sym, ap, ◌∙◌, subst}
 use Rattle.cfs_model.specs.Machine.{Machine, AreValuesInRange, with_nice}
 use Rattle.cfs_model.specs.Reniced.{IsReniced}

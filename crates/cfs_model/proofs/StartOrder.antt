@@ -1,5 +1,8 @@
--- The start that a companion names is in order: as pids rise, who stands somewhere is the task that is found by its pid.
-use Rattle.std.proofs.Common.{◌≡◌, ℕ, zero, suc, ◌<◌, nat_eq, Bool, true, false, cond, ◌&&◌, ◌||◌, Option, Some, None, IsSome, is_some, option_map, ℤ, pos, ◌⊎◌, ◌↔◌, inl, inr, List, [], ◌∷◌, slice_index_or, refl, sym, ap, ◌∙◌, subst, true≢false, arith}
+-- The start that a companion names is in order: as pids rise, who stands somewhere is the task that is found by its
+-- pid.
+use Rattle.std.proofs.Common.{◌≡◌, ℕ, zero, suc, ◌<◌, nat_eq, Bool, true, false, cond, ◌&&◌, ◌||◌, Option, Some, None}
+use Rattle.std.proofs.Common.{IsSome, is_some, option_map, ℤ, pos, ◌⊎◌, ◌↔◌, inl, inr, List, [], ◌∷◌, slice_index_or}
+use Rattle.std.proofs.Common.{refl, sym, ap, ◌∙◌, subst, true≢false, arith}
 use Rattle.std.proofs.lemmas.Bool.{eq-eqb, ne_eqb, eqb-true}
 use Rattle.std.proofs.lemmas.Int.{ints}
 use Rattle.std.specs.List.{AllByRecursion}
@@ -57,7 +60,8 @@ named_above n (t ∷ tasks) place cpu pid above h =
     ]
 
 -- who stands somewhere is the task found by its pid
-pub named_task : (tasks : List Task) → PidsRise tasks → (place : Place) (cpu pid : ℕ) → named_in tasks place cpu pid ≡ true
+pub named_task : (tasks : List Task) → PidsRise tasks → (place : Place) (cpu pid : ℕ)
+    → named_in tasks place cpu pid ≡ true
     → (t : Task) × (task_of tasks pid ≡ Some t) × (t.cpu ≡ cpu) × (t.place ≡ place)
 named_task [] rise place cpu pid h = absurd (true≢false (sym h))
 named_task (t ∷ tasks) rise place cpu pid h =
@@ -73,7 +77,8 @@ named_task (t ∷ tasks) rise place cpu pid h =
     ]
 
 -- the task found by a pid stands there
-pub task_named : (tasks : List Task) (pid : ℕ) (t : Task) → task_of tasks pid ≡ Some t → named_in tasks t.place t.cpu pid ≡ true
+pub task_named : (tasks : List Task) (pid : ℕ) (t : Task) → task_of tasks pid ≡ Some t
+    → named_in tasks t.place t.cpu pid ≡ true
 task_named [] pid t e = cc
 task_named (u ∷ tasks) pid t e = go (nat_eq u.pid pid) refl e (task_named tasks pid t)
   where
@@ -147,7 +152,8 @@ start_keys : (start : ℕ) (floors : List ℤ) (tasks : List Task) → PidsRise 
 start_keys start floors tasks rise f pid = (
   (λ h. go (task_of tasks pid) refl h),
   (λ w.
-      let found = named_task tasks rise w.0 w.1 pid (ap (λ s. s w.1 pid) (sym (start_pairs start floors tasks w.0)) ∙ w.2) in
+      let found = named_task tasks rise w.0 w.1 pid (ap (λ s. s w.1 pid) (sym (start_pairs start floors tasks w.0))
+      ∙ w.2) in
       ap (λ o. is_some (option_map f o)) found.1),
 )
   where
@@ -178,5 +184,8 @@ start_in_order start floors tasks s =
       one_runs = λ c p q h k. start_one_runs tasks s.one_runs c p q h k;
       runtimes = start_keys start floors tasks s.pids_rise (λ t. t.v);
       nices = start_keys start floors tasks s.pids_rise (λ t. t.nice);
-      in_range = record { runtimes = start_runtimes tasks s.runtimes_in_range; floors = start_floors floors s.floors_in_range };
+      in_range = record {
+        runtimes = start_runtimes tasks s.runtimes_in_range;
+        floors = start_floors floors s.floors_in_range;
+      };
     }

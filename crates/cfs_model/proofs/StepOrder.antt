@@ -1,8 +1,10 @@
 -- A step keeps the order of a machine: each case places one task anew, or two in turn, or lets one end.
-use Rattle.std.proofs.Common.{◌≡◌, ◌≢◌, ℕ, zero, suc, Bool, true, false, Option, Some, None, IsSome, is_some, ℤ, ◌+ℤ◌, ◌-ℤ◌, inl, inr, List, [], ◌∷◌, refl, sym, ap, ◌∙◌, subst}
+use Rattle.std.proofs.Common.{◌≡◌, ◌≢◌, ℕ, zero, suc, Bool, true, false, Option, Some, None, IsSome, is_some, ℤ, ◌+ℤ◌}
+use Rattle.std.proofs.Common.{◌-ℤ◌, inl, inr, List, [], ◌∷◌, refl, sym, ap, ◌∙◌, subst}
 use Rattle.std.specs.List.{AllByRecursion}
 use Rattle.cfs_model.specs.Settings.{Settings}
-use Rattle.cfs_model.specs.Machine.{Pairs, Machine, pairs_of, Stands, NobodyStands, with_pairs, put_pair, with_task, without_task, with_move, with_runtime, with_nice, without_values, with_policy}
+use Rattle.cfs_model.specs.Machine.{Pairs, Machine, pairs_of, Stands, NobodyStands, with_pairs, put_pair, with_task}
+use Rattle.cfs_model.specs.Machine.{without_task, with_move, with_runtime, with_nice, without_values, with_policy}
 use Rattle.cfs_model.specs.Claimed.{Claimed}
 use Rattle.cfs_model.specs.Touch.{touched}
 use Rattle.cfs_model.specs.Reniced.{home_of}
@@ -137,7 +139,8 @@ moved_apart : (m : Machine) (orig dest pid : ℕ) (nice : ℤ) (claim : Option C
 moved_apart m orig dest pid nice claim idle after a s =
     let left = without_task m s.place orig pid in
     subst IsApart (sym s.result)
-    (valued_apart m (with_move m pid s.place orig s.place dest) pid s.place dest ((s.own -ℤ m.floor orig) +ℤ m.floor dest) a
+    (valued_apart m (with_move m pid s.place orig s.place dest) pid s.place dest
+    ((s.own -ℤ m.floor orig) +ℤ m.floor dest) a
     (move_placed m pid s.place orig s.place dest (alone m a s.place orig pid s.stands))
     (no_run s.place s.sort s.moves)
     (runtime-with_pairs left s.place (put_pair (pairs_of left s.place) dest pid true) ∙ runtime-with_pairs m s.place
@@ -160,7 +163,8 @@ change_apart knobs m (Wake cpu pid nice) claim idle after a (inr s) =
     (some_of (m.nice pid) nice s.prio))
 change_apart knobs m (Born cpu pid nice) claim idle after a s = subst IsApart (sym s.result)
     (born_apart m cpu pid nice idle s.placed a s.nowhere)
-change_apart knobs m (Shift orig dest pid nice) claim idle after a s = moved_apart m orig dest pid nice claim idle after a s
+change_apart knobs m (Shift orig dest pid nice) claim idle after a s =
+    moved_apart m orig dest pid nice claim idle after a s
 
 pub apart_of : (m : Machine) → IsInOrder m → IsApart m
 apart_of m o = record { one_place = o.one_place; one_runs = o.one_runs; runtimes = o.runtimes; nices = o.nices }
@@ -168,10 +172,17 @@ apart_of m o = record { one_place = o.one_place; one_runs = o.one_runs; runtimes
 pub step_in_order : (knobs : Settings) (before : Machine) (event : Claimed) (after : Machine) → IsInOrder before
     → IsStep knobs before event after → IsInOrder after
 step_in_order knobs before event after o s =
-    let lifted = lifted_apart event.entry.time (touched event.entry.act) before s.lifted s.is_lifted (apart_of before o) in
+    let lifted = lifted_apart event.entry.time (touched event.entry.act) before s.lifted s.is_lifted
+    (apart_of before o) in
     let found = reniced_apart (home_of event.entry.act) event.nice s.lifted s.found s.is_reniced lifted in
     let a = change_apart knobs s.found event.entry.act event.claim event.idle after found s.changes in
-    record { one_place = a.one_place; one_runs = a.one_runs; runtimes = a.runtimes; nices = a.nices; in_range = s.in_range }
+    record {
+      one_place = a.one_place;
+      one_runs = a.one_runs;
+      runtimes = a.runtimes;
+      nices = a.nices;
+      in_range = s.in_range;
+    }
 
 pub steps_in_order : (knobs : Settings) (first : Machine) (events : List Claimed) (states : List Machine)
     → IsInOrder first → AreSteps knobs first events states → AllByRecursion IsInOrder states

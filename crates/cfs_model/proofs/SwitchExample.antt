@@ -1,6 +1,7 @@
 -- The examples of a switch: 101 is charged by its weight and put back, and 102 is picked. What hangs on the nice value,
 -- the cost and the least virtual runtime, is a parameter.
-use Rattle.std.proofs.Common.{◌≡◌, ℕ, Bool, true, false, Some, ℤ, pos, ◌+ℤ◌, ◌≤ℤ◌, inl, inr, [], ◌∷◌, refl, sym, ap, ◌∙◌, subst, arith, lit<, lit≤}
+use Rattle.std.proofs.Common.{◌≡◌, ℕ, Bool, true, false, Some, ℤ, pos, ◌+ℤ◌, ◌≤ℤ◌, inl, inr, [], ◌∷◌, refl, sym, ap}
+use Rattle.std.proofs.Common.{◌∙◌, subst, arith, lit<, lit≤}
 use Rattle.std.proofs.lemmas.Int.{ints}
 use Rattle.std.specs.Int.{int_max}
 use Rattle.cfs_model.specs.Charge.{IsInRange}
@@ -8,7 +9,8 @@ use Rattle.cfs_model.specs.Machine.{Machine, Stands, IsQueued, put, put_pair, wi
 use Rattle.cfs_model.specs.Lifted.{charged, CanCharge, IsLeast, IsLifted}
 use Rattle.cfs_model.specs.Step.{after_prev, after_next, IsSwitch, IsStep}
 use Rattle.cfs_model.specs.Order.{IsStart}
-use Rattle.cfs_model.specs.Examples.{standard, standard_with, HasStep, start_time, switch_start, switch_event, PutBackExample, NiceExample, IdlePolicyExample, PickExample}
+use Rattle.cfs_model.specs.Examples.{standard, standard_with, HasStep, start_time, switch_start, switch_event}
+use Rattle.cfs_model.specs.Examples.{PutBackExample, NiceExample, IdlePolicyExample, PickExample}
 use Rattle.cfs_model.proofs.Moves.{pair_cases}
 use Rattle.cfs_model.proofs.StartOrder.{start_in_order}
 use Rattle.cfs_model.proofs.Range.{lifted_range, change_range}
@@ -117,7 +119,8 @@ module _ (nice : ℤ) (idle : Bool) (cost u v : ℤ) (is_cost : (after_charge ni
         },
       )
 
-  module _ (w : ℤ) (granularity : ℕ) (after : Machine) (s : IsStep (standard_with granularity) (switch_start nice idle u)
+  module _ (w : ℤ) (granularity : ℕ) (after : Machine)
+      (s : IsStep (standard_with granularity) (switch_start nice idle u)
       (switch_event nice w) after) where
     -- the two virtual runtimes in the machine that the event of any step finds
     found_first : s.found.runtime 101 ≡ Some cost

@@ -1,6 +1,7 @@
--- Who is of the idle policy changes with births alone, and there as the companion names it: the machine's map and the one
--- that goes along the entries change alike.
-use Rattle.std.proofs.Common.{◌≡◌, ℕ, suc, zero, ◌<◌, Bool, true, false, cond, ℤ, inl, inr, List, [], ◌∷◌, ◌++◌, Option, AllPairs, refl, sym, ap, ◌∙◌, suc-le-suc, arith}
+-- Who is of the idle policy changes with births alone, and there as the companion names it: the machine's map and the
+-- one that goes along the entries change alike.
+use Rattle.std.proofs.Common.{◌≡◌, ℕ, suc, zero, ◌<◌, Bool, true, false, cond, ℤ, inl, inr, List, [], ◌∷◌, ◌++◌, Option}
+use Rattle.std.proofs.Common.{AllPairs, refl, sym, ap, ◌∙◌, suc-le-suc, arith}
 use Rattle.std.proofs.lemmas.Bool.{lt-ltb, le-ltb}
 use Rattle.std.proofs.lemmas.List.Elements.{recursion_from_All}
 use Rattle.std.specs.List.{AllByRecursion}
@@ -8,7 +9,8 @@ use Rattle.cfs_model.specs.Laws.{PoliciesAreTold, MoverKeepsPolicy}
 use Rattle.cfs_model.specs.Settings.{Settings}
 use Rattle.cfs_model.specs.Machine.{Machine, pairs_of, put_pair, without_task, put}
 use Rattle.cfs_model.specs.Start.{starts_idle, start_machine}
-use Rattle.cfs_model.specs.Claimed.{Claimed, is_named_idle, policies_after, policies_before, policy_in, with_claim, claimed, policy_told, nice_at}
+use Rattle.cfs_model.specs.Claimed.{Claimed, is_named_idle, policies_after, policies_before, policy_in, with_claim}
+use Rattle.cfs_model.specs.Claimed.{claimed, policy_told, nice_at}
 use Rattle.cfs_model.specs.Touch.{touched}
 use Rattle.cfs_model.specs.Lifted.{IsLifted}
 use Rattle.cfs_model.specs.Reniced.{home_of, IsReniced}
@@ -94,7 +96,8 @@ run_policies knobs claims nices idles policy named entry rest (e ∷ before) m (
     run_policies knobs claims nices idles policy named entry rest before n states below.1 steps.1
     ∙ ap (λ policies. policies_before idles policies (before ++ entry ∷ rest) entry.line)
     (step_policies idles knobs m (with_claim claims nices policy e) n (named e) steps.0)
-    ∙ ap (λ b. cond b (policies_before idles (policies_after idles m.idle e.line e.act) (before ++ entry ∷ rest) entry.line)
+    ∙ ap (λ b. cond b (policies_before idles (policies_after idles m.idle e.line e.act) (before ++ entry ∷ rest)
+    entry.line)
     m.idle) (sym (lt-ltb e.line entry.line below.0))
 
 -- the policies told of a record's entries are those named, at births
@@ -129,7 +132,8 @@ policies_are_told knobs start floors tasks claims nices idles before rest entry 
     (lines_below before entry rest rise) run.steps
 
 pub mover_keeps_policy : MoverKeepsPolicy
-mover_keeps_policy knobs start floors tasks claims nices idles before rest entry orig dest pid nice lifted found rise run
+mover_keeps_policy knobs start floors tasks claims nices idles before rest entry orig dest pid nice lifted found rise
+    run
     moves lift renice =
     let entries = before ++ entry ∷ rest in
     let policies = policies_before idles (starts_idle tasks) entries in

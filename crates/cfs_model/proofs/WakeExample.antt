@@ -1,5 +1,6 @@
 -- The example of a wakeup: nobody is charged and the floor stays, so the bounds are those of the start.
-use Rattle.std.proofs.Common.{◌≡◌, ℕ, false, Some, ℤ, pos, ◌-ℤ◌, ◌≤ℤ◌, ◌⊎◌, inl, inr, [], ◌∷◌, refl, sym, ap, ◌∙◌, subst, arith}
+use Rattle.std.proofs.Common.{◌≡◌, ℕ, false, Some, ℤ, pos, ◌-ℤ◌, ◌≤ℤ◌, ◌⊎◌, inl, inr, [], ◌∷◌, refl, sym, ap, ◌∙◌}
+use Rattle.std.proofs.Common.{subst, arith}
 use Rattle.std.proofs.lemmas.Int.{ints}
 use Rattle.std.specs.Int.{int_max}
 use Rattle.cfs_model.specs.Machine.{Machine, IsQueued, put, put_pair, with_floor, with_move, with_runtime}

@@ -1,5 +1,6 @@
 -- The events of a trace with what the companion says on their lines (this project's profile).
-use Rattle.std.specs.Prelude.{◌≡◌, ℕ, ◌==◌, nat_lt, Bool, false, ◌&&◌, if◌then◌else◌, Option, Some, None, ℤ, List, [], ◌∷◌, find, map}
+use Rattle.std.specs.Prelude.{◌≡◌, ℕ, ◌==◌, nat_lt, Bool, false, ◌&&◌, if◌then◌else◌, Option, Some, None, ℤ, List, []}
+use Rattle.std.specs.Prelude.{◌∷◌, find, map}
 use Rattle.std.specs.List.{list_any}
 use Rattle.cfs_model.specs.Machine.{put}
 use Rattle.cfs_model.specs.declared.act.Act.{Act}
@@ -10,8 +11,8 @@ use Rattle.cfs_model.specs.declared.claim.ClaimSort.{ClaimSort}
 use Rattle.cfs_model.specs.declared.idle_line.IdleLine.{IdleLine}
 use Rattle.cfs_model.specs.declared.nice_line.NiceLine.{NiceLine}
 
--- an event with the claim and the change of a nice value on its line, if there are such, and with the policy of the task
--- that is born or moves: whether it is the idle policy
+-- an event with the claim and the change of a nice value on its line, if there are such, and with the policy of the
+-- task that is born or moves: whether it is the idle policy
 pub record Claimed : Type 0 where
   pub entry : Entry
   pub claim : Option Claim
@@ -43,8 +44,8 @@ policies_before idles policies (entry ∷ entries) line =
     then policies_before idles (policies_after idles policies entry.line entry.act) entries line
     else policies
 
--- whether the task that is born or moves is of the idle policy: one that is born as the companion names it on the line, and
--- one that moves as it was before
+-- whether the task that is born or moves is of the idle policy: one that is born as the companion names it on the line,
+-- and one that moves as it was before
 abbrev pub policy_told : List IdleLine → (ℕ → ℕ → Bool) → ℕ → Act → Bool
 policy_told idles before line (Born cpu pid nice) = is_named_idle idles line pid
 policy_told idles before line (Shift orig dest pid nice) = before line pid

@@ -67,18 +67,21 @@ IdlePolicyExample = (nice w : ℤ)
 -- where 102 waits at 5 ms, the task that was put back is the least, and 102 is 1 ms above it
 abbrev pub PickExample : Type 0
 PickExample = (granularity : ℕ)
-    → HasStep (standard_with granularity) (switch_start (pos 0) false (pos 5000000)) (switch_event (pos 0) (pos 4000000))
+    → HasStep (standard_with granularity) (switch_start (pos 0) false (pos 5000000))
+    (switch_event (pos 0) (pos 4000000))
     ↔ (1000000 ≤ granularity)
 
--- 4 ms after the start 101 is woken while it runs, printed with a nice value, and the companion says that its nice value
--- is 5 from then on; 4 ms later the processor goes from 101, which stays, to 102, and the claim puts 101 back at w
+-- 4 ms after the start 101 is woken while it runs, printed with a nice value, and the companion says that its nice
+-- value is 5 from then on; 4 ms later the processor goes from 101, which stays, to 102, and the claim puts 101 back at
+-- w
 abbrev pub nice_events : ℤ → ℤ → List Claimed
 nice_events printed w =
     claimed (at_claim 2 101 w ∷ []) (record { line = 1; pid = 101; nice = pos 5 } ∷ []) (λ entry. false) (
     record { line = 1; time = 100004000000; act = Wake 0 101 printed }
     ∷ record { line = 2; time = 100008000000; act = Switch 0 101 (pos 5) Stays 102 (pos 0) } ∷ [])
 
--- the first 4 ms are charged by the old nice value, 0, the event prints the new one, and the next 4 ms are charged by it
+-- the first 4 ms are charged by the old nice value, 0, the event prints the new one, and the next 4 ms are charged by
+-- it
 abbrev pub NiceChangeExample : Type 0
 NiceChangeExample = (printed w : ℤ)
     → IsRun standard start_time (switch_start (pos 0) false (pos 0)) (nice_events printed w)

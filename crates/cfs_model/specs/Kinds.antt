@@ -1,7 +1,11 @@
 -- The names and texts of the twenty kinds of fault (this project's profile).
 use Rattle.std.specs.Prelude.{ℕ, List, codes}
 use Rattle.cfs_model.specs.declared.kind.Kind.{Kind}
-use Rattle.cfs_model.specs.declared.kind.Kind.TheVariants.{IdleTooLong, Range, MoveHome, SelfSwitch, PrevNotRunning, Strange, Already, MoveRunning, WrongPrio, ClaimMissing, ClaimExtra, ClaimPid, WrongPutBack, WakeBounds, ForkBounds, NextNotWaiting, IdleBesideWaiting, NotLeast, TicketUnequal, BornTwice}
+use Rattle.cfs_model.specs.declared.kind.Kind.TheVariants.{IdleTooLong, Range, MoveHome, SelfSwitch, PrevNotRunning}
+use Rattle.cfs_model.specs.declared.kind.Kind.TheVariants.{Strange, Already, MoveRunning, WrongPrio, ClaimMissing}
+use Rattle.cfs_model.specs.declared.kind.Kind.TheVariants.{ClaimExtra, ClaimPid, WrongPutBack, WakeBounds, ForkBounds}
+use Rattle.cfs_model.specs.declared.kind.Kind.TheVariants.{NextNotWaiting, IdleBesideWaiting, NotLeast, TicketUnequal}
+use Rattle.cfs_model.specs.declared.kind.Kind.TheVariants.{BornTwice}
 
 -- the name that a report prints
 abbrev pub name_of : Kind → List ℕ

@@ -1,5 +1,5 @@
--- In a reader's order: the numbers and settings, then what a run is, then the order that it keeps, its least settings and
--- its laws; then the kinds of fault.
+-- In a reader's order: the numbers and settings, then what a run is, then the order that it keeps, its least settings
+-- and its laws; then the kinds of fault.
 pub mod Limits
 pub mod Nice
 pub mod Charge

@@ -1,7 +1,7 @@
 -- The state of the whole machine, and the words for what is changed in one. Sources: sched-design-CFS.rst, "Few
 -- implementation details" (a task's virtual runtime) and "The rbtree" (a runqueue's min_vruntime, here its floor);
--- sched-nice-design.rst (nice values). The three places, the marks and that a policy is kept for life are this project's
--- profile.
+-- sched-nice-design.rst (nice values). The three places, the marks and that a policy is kept for life are this
+-- project's profile.
 use Rattle.std.specs.Prelude.{◌≡◌, ℕ, ◌==◌, Bool, true, false, if◌then◌else◌, IsTrue, Option, Some, None, ℤ, ◌⊎◌}
 use Rattle.cfs_model.specs.Charge.{IsInRange}
 use Rattle.cfs_model.specs.declared.task.Place.{Place}

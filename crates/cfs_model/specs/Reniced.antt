@@ -1,7 +1,7 @@
--- The change of a task's nice value that the companion tells on an event's line. It takes effect between the charge, which
--- goes by the old value, and the event's own change, at which the new one is printed. Source: sched-nice-design.rst (nice
--- values); that a change is told on the line of an event where the task stands, and when it takes effect, is this
--- project's profile.
+-- The change of a task's nice value that the companion tells on an event's line. It takes effect between the charge,
+-- which goes by the old value, and the event's own change, at which the new one is printed. Source:
+-- sched-nice-design.rst (nice values); that a change is told on the line of an event where the task stands, and when it
+-- takes effect, is this project's profile.
 use Rattle.std.specs.Prelude.{◌≡◌, ℕ, Option, Some, None}
 use Rattle.cfs_model.specs.Machine.{Machine, Stands, with_nice}
 use Rattle.cfs_model.specs.declared.act.Act.{Act}

@@ -1,11 +1,12 @@
--- One event's step from a machine to the next. The values spoken of are those after the charge, the lift and the change of
--- a nice value. Source: sched-design-CFS.rst, "Few implementation details" (the task with the smallest virtual runtime is
--- run) and "The rbtree" (within a granularity of it; min_vruntime places newly activated tasks). The bounds of a placement,
--- the claims and what a migration keeps are this project's profile.
+-- One event's step from a machine to the next. The values spoken of are those after the charge, the lift and the change
+-- of a nice value. Source: sched-design-CFS.rst, "Few implementation details" (the task with the smallest virtual
+-- runtime is run) and "The rbtree" (within a granularity of it; min_vruntime places newly activated tasks). The bounds
+-- of a placement, the claims and what a migration keeps are this project's profile.
 use Rattle.std.specs.Prelude.{◌≡◌, ◌≢◌, ℕ, Bool, zero, suc, Option, Some, None, ℤ, pos, ◌+ℤ◌, ◌-ℤ◌, ◌≤ℤ◌, ◌⊎◌, ⊤}
 use Rattle.std.specs.Int.{int_max}
 use Rattle.cfs_model.specs.Settings.{Settings}
-use Rattle.cfs_model.specs.Machine.{Machine, Stands, NobodyStands, IsQueued, AreValuesInRange, with_task, without_task, with_move, with_runtime, with_nice, with_policy, without_values}
+use Rattle.cfs_model.specs.Machine.{Machine, Stands, NobodyStands, IsQueued, AreValuesInRange, with_task, without_task}
+use Rattle.cfs_model.specs.Machine.{with_move, with_runtime, with_nice, with_policy, without_values}
 use Rattle.cfs_model.specs.Claimed.{Claimed, ClaimSays}
 use Rattle.cfs_model.specs.Touch.{touched}
 use Rattle.cfs_model.specs.Lifted.{IsLifted}
@@ -105,8 +106,10 @@ MovesBy Wait At = ⊤
 MovesBy Rest Pass = ⊤
 MovesBy _ _ = ⊥
 
--- a task moves: it keeps its place, and its virtual runtime less the floor; nice value and policy are those that are told
-pub record IsMigration (m : Machine) (orig dest pid : ℕ) (nice : ℤ) (claim : Option Claim) (idle : Bool) (after : Machine)
+-- a task moves: it keeps its place, and its virtual runtime less the floor; nice value and policy are those that are
+-- told
+pub record IsMigration (m : Machine) (orig dest pid : ℕ) (nice : ℤ) (claim : Option Claim) (idle : Bool)
+    (after : Machine)
     : Type 0 where
   pub differ : orig ≢ dest
   pub place : Place

@@ -1,6 +1,8 @@
 //! Small recordings against the definitions of a step and of a run. Each is the contract of a function that does
 //! nothing.
-ghost use Rattle.cfs_model.specs.Examples.{PutBackExample, NiceExample, IdlePolicyExample, PickExample, MigrationExample, LaterMigrationExample, WakeExample, IdleExample, BirthExample, IdleSwitchExample, NiceChangeExample, StrangeNiceExample};
+ghost use Rattle.cfs_model.specs.Examples.{PutBackExample, NiceExample, IdlePolicyExample, PickExample};
+ghost use Rattle.cfs_model.specs.Examples.{MigrationExample, LaterMigrationExample, WakeExample, IdleExample};
+ghost use Rattle.cfs_model.specs.Examples.{BirthExample, IdleSwitchExample, NiceChangeExample, StrangeNiceExample};
 
 /// A task that stays is put back at just what it was charged, by its weight and rounded down; one of the idle policy
 /// weighs 3 whatever its nice value.
@@ -10,8 +12,8 @@ pub fn put_back_example()
     ensures idle { IdlePolicyExample }
 {}
 
-/// A change of a nice value takes effect between the charge at its event and what the event prints; the task that it names
-/// stands at the event's processor.
+/// A change of a nice value takes effect between the charge at its event and what the event prints; the task that it
+/// names stands at the event's processor.
 pub fn nice_example()
     ensures changes { NiceChangeExample }
     ensures stands { StrangeNiceExample }

@@ -23,7 +23,12 @@ impl Model for Knobs {
 
     ghost view = { λ k. record { granularity = k.granularity; credit = k.credit; debit = k.debit; slack = k.slack } };
 
-    ghost invariant = { λ k. AreInRange (record { granularity = k.granularity; credit = k.credit; debit = k.debit; slack = k.slack }) };
+    ghost invariant = { λ k. AreInRange (record {
+      granularity = k.granularity;
+      credit = k.credit;
+      debit = k.debit;
+      slack = k.slack;
+    }) };
 
     ghost inverse = { λ s. record { granularity = s.granularity; credit = s.credit; debit = s.debit; slack = s.slack } };
 }
@@ -31,8 +36,14 @@ impl Model for Knobs {
 impl Knobs {
     /// None where one of the four is above 10^12.
     pub fn new(granularity: u64, credit: u64, debit: u64, slack: u64) -> Option<Knobs>
-        ensures in_range { IsSome result ↔ AreInRange (record { granularity = granularity; credit = credit; debit = debit; slack = slack }) }
-        ensures same { IfSome result (λ k. k ≡ record { granularity = granularity; credit = credit; debit = debit; slack = slack }) }
+        ensures in_range { IsSome result ↔ AreInRange
+            (record { granularity = granularity; credit = credit; debit = debit; slack = slack }) }
+        ensures same { IfSome result (λ k. k ≡ record {
+          granularity = granularity;
+          credit = credit;
+          debit = debit;
+          slack = slack;
+        }) }
     {
         if granularity <= MOST && credit <= MOST && debit <= MOST && slack <= MOST {
             Some(Knobs {

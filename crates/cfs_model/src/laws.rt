@@ -1,5 +1,8 @@
 //! The laws of steps and runs. Each is the contract of a function that does nothing.
-ghost use Rattle.cfs_model.specs.Laws.{OneNext, OneList, RunPrefix, StepKeepsOrder, RunKeepsOrder, StartInOrder, FloorsRise, MarksMove, MoreKeepsRun, LesserKeepsRun, SameStates, OneLeast, RunFromLeast, LeastOfPrefix, GreatestTellBadAtAll, PoliciesAreTold, MoverKeepsPolicy};
+ghost use Rattle.cfs_model.specs.Laws.{OneNext, OneList, RunPrefix, StepKeepsOrder, RunKeepsOrder, StartInOrder};
+ghost use Rattle.cfs_model.specs.Laws.{FloorsRise, MarksMove, MoreKeepsRun, LesserKeepsRun, SameStates, OneLeast};
+ghost use Rattle.cfs_model.specs.Laws.{RunFromLeast, LeastOfPrefix, GreatestTellBadAtAll, PoliciesAreTold};
+ghost use Rattle.cfs_model.specs.Laws.{MoverKeepsPolicy};
 
 /// From a machine an event leads to at most one machine, and events lead through at most one list of states.
 pub fn one_list()
@@ -31,16 +34,16 @@ pub fn marks_move()
     ensures { MarksMove }
 {}
 
-/// The events before a line lead to a machine in which each task has the policy that the companion tells at the start and
-/// at the births before the line. So the policy told of a task that moves is its own, and what a migration asks of it
-/// holds of every record.
+/// The events before a line lead to a machine in which each task has the policy that the companion tells at the start
+/// and at the births before the line. So the policy told of a task that moves is its own, and what a migration asks of
+/// it holds of every record.
 pub fn policies()
     ensures told { PoliciesAreTold }
     ensures moved { MoverKeepsPolicy }
 {}
 
-/// More generous settings keep a run and its states, and so does the lesser of two settings that make one. So there are at
-/// most one least settings, the events are a run just at the settings that are at least these, and a prefix's are at
+/// More generous settings keep a run and its states, and so does the lesser of two settings that make one. So there are
+/// at most one least settings, the events are a run just at the settings that are at least these, and a prefix's are at
 /// most the whole's; and the first bad line at the greatest settings is one that no settings in range help.
 pub fn least_settings()
     ensures more { MoreKeepsRun }

@@ -1,12 +1,14 @@
 -- A number far out of its limits is read as another one out of its limits. So what was read passes the tests that
 -- what is spelled passes, and where it passes them all it is what is spelled.
-use Rattle.std.proofs.Common.{◌≡◌, ℕ, zero, suc, ◌<◌, ◌≤◌, min, true, ◌&&◌, leb, ltb, ℤ, pos, negsuc, neg_ℤ, None, refl, sym, ap, ◌∙◌, inl, inr, arith}
+use Rattle.std.proofs.Common.{◌≡◌, ℕ, zero, suc, ◌<◌, ◌≤◌, min, true, ◌&&◌, leb, ltb, ℤ, pos, negsuc, neg_ℤ, None, refl}
+use Rattle.std.proofs.Common.{sym, ap, ◌∙◌, inl, inr, arith}
 use Rattle.std.specs.Prelude.{unwrap_or}
 use Rattle.std.proofs.lemmas.Bool.{cases_Bool, and_parts}
 use Rattle.std.proofs.lemmas.Bool.Decides.{nat_tests}
 use Rattle.text_parts.specs.Numerals.{many}
 use Rattle.cfs_model.specs.Limits.{greatest_runtime, greatest_pid, greatest_line, greatest_seconds, most_processors}
-use Rattle.companion_file.specs.Shape.{Shape, version_line, cpus_line, start_line, floor_line, task_line, claim_line, nice_line, idle_line}
+use Rattle.companion_file.specs.Shape.{Shape, version_line, cpus_line, start_line, floor_line, task_line, claim_line}
+use Rattle.companion_file.specs.Shape.{nice_line, idle_line}
 use Rattle.companion_file.specs.ShapeReading.{beyond_range}
 use Rattle.companion_file.specs.Earlier.{Said}
 use Rattle.companion_file.specs.Tests.{is_pid, is_value, is_nice, is_in_turn, is_in_limits, fault_of}
@@ -23,8 +25,20 @@ clip (version_line n) = version_line 0
 clip (cpus_line n) = cpus_line (min n many)
 clip (start_line seconds nanoseconds) = start_line (min seconds many) nanoseconds
 clip (floor_line cpu floor) = floor_line (min cpu many) (clip_integer floor)
-clip (task_line t) = task_line (record { pid = min t.pid many; nice = clip_integer t.nice; idle = t.idle; cpu = min t.cpu many; place = t.place; v = clip_integer t.v })
-clip (claim_line k) = claim_line (record { line = min k.line many; pid = min k.pid many; v = clip_integer k.v; sort = k.sort })
+clip (task_line t) = task_line (record {
+  pid = min t.pid many;
+  nice = clip_integer t.nice;
+  idle = t.idle;
+  cpu = min t.cpu many;
+  place = t.place;
+  v = clip_integer t.v;
+})
+clip (claim_line k) = claim_line (record {
+  line = min k.line many;
+  pid = min k.pid many;
+  v = clip_integer k.v;
+  sort = k.sort;
+})
 clip (nice_line k) = nice_line (record { line = min k.line many; pid = min k.pid many; nice = clip_integer k.nice })
 clip (idle_line k) = idle_line (record { line = min k.line many; pid = min k.pid many })
 
@@ -91,11 +105,22 @@ limits_clip cpus (cpus_line n) few = rw (one_le_clip n, le_clip n most_processor
 limits_clip cpus (start_line seconds nanoseconds) few = le_clip seconds greatest_seconds (omega arith)
 limits_clip cpus (floor_line cpu floor) few = rw (lt_clip cpu cpus few, value_clip floor) refl
 limits_clip cpus (task_line t) few = rw (pid_clip t.pid, nice_clip t.nice, lt_clip t.cpu cpus few, value_clip t.v) refl
-limits_clip cpus (claim_line k) few = rw (one_le_clip k.line, le_clip k.line greatest_line (omega arith), pid_clip k.pid, value_clip k.v) refl
-limits_clip cpus (nice_line k) few = rw (one_le_clip k.line, le_clip k.line greatest_line (omega arith), pid_clip k.pid, nice_clip k.nice) refl
+limits_clip cpus (claim_line k) few = rw (
+  one_le_clip k.line,
+  le_clip k.line greatest_line (omega arith),
+  pid_clip k.pid,
+  value_clip k.v,
+) refl
+limits_clip cpus (nice_line k) few = rw (
+  one_le_clip k.line,
+  le_clip k.line greatest_line (omega arith),
+  pid_clip k.pid,
+  nice_clip k.nice,
+) refl
 limits_clip cpus (idle_line k) few = rw (le_clip k.line greatest_line (omega arith), pid_clip k.pid) refl
 
-same_in_limits : (said : Said) (cpus : ℕ) (x : Shape) → cpus ≤ most_processors → is_in_turn said x ≡ true → is_in_limits cpus x ≡ true → clip x ≡ x
+same_in_limits : (said : Said) (cpus : ℕ) (x : Shape) → cpus ≤ most_processors → is_in_turn said x ≡ true
+    → is_in_limits cpus x ≡ true → clip x ≡ x
 same_in_limits said cpus (version_line n) few turn ok = absurd cc
 same_in_limits said cpus (cpus_line n) few turn ok =
     ap cpus_line (le_same n most_processors (omega arith) (and_parts (leb 1 n) (leb n most_processors) ok).1)
@@ -123,17 +148,20 @@ same_in_limits said cpus (idle_line k) few turn ok =
     let parts = and_parts (leb k.line greatest_line) (is_pid k.pid) ok in
     rw (le_same k.line greatest_line (omega arith) parts.0, pid_same k.pid parts.1) refl
 
-pub fault_clip : (said : Said) (x : Shape) → unwrap_or said.cpus 0 ≤ most_processors → fault_of said (clip x) ≡ fault_of said x
+pub fault_clip : (said : Said) (x : Shape) → unwrap_or said.cpus 0 ≤ most_processors
+    → fault_of said (clip x) ≡ fault_of said x
 fault_clip said x few =
     elim (cases_Bool (is_in_turn said x)) [
       | inr late ↦ fault_turn said (clip x) (turn_clip said x ∙ late) ∙ sym (fault_turn said x late)
       | inl turn ↦ elim (cases_Bool (is_in_limits (unwrap_or said.cpus 0) x)) [
         | inl ok ↦ ap (fault_of said) (same_in_limits said (unwrap_or said.cpus 0) x few turn ok)
-        | inr out ↦ fault_limits said (clip x) (turn_clip said x ∙ turn) (limits_clip (unwrap_or said.cpus 0) x few ∙ out) ∙ sym (fault_limits said x turn out)
+        | inr out ↦ fault_limits said (clip x) (turn_clip said x ∙ turn) (limits_clip (unwrap_or said.cpus 0) x few
+            ∙ out) ∙ sym (fault_limits said x turn out)
       ]
     ]
 
-pub same_without_fault : (said : Said) (x : Shape) → unwrap_or said.cpus 0 ≤ most_processors → fault_of said x ≡ None → clip x ≡ x
+pub same_without_fault : (said : Said) (x : Shape) → unwrap_or said.cpus 0 ≤ most_processors → fault_of said x ≡ None
+    → clip x ≡ x
 same_without_fault said x few none =
     elim (cases_Bool (is_in_turn said x)) [
       | inr late ↦ let fault = fault_turn said x late in absurd cc

@@ -6,8 +6,17 @@ use Rattle.companion_file.specs.Reading.{IsCompanionInOrder}
 use Rattle.companion_file.specs.Draft.{KeepsOrder}
 use Rattle.companion_file.proofs.Policies.{policies_agree}
 
-pub in_order : (said : Said) (cpus start : ℕ) → KeepsOrder said → said.cpus ≡ Some cpus → said.start ≡ Some start → has_all_floors said ≡ true
-    → IsCompanionInOrder (record { cpus = cpus; start = start; floors = said.floors; tasks = said.tasks; claims = said.claims; nices = said.nices; idles = said.idles })
+pub in_order : (said : Said) (cpus start : ℕ) → KeepsOrder said → said.cpus ≡ Some cpus → said.start ≡ Some start
+    → has_all_floors said ≡ true
+    → IsCompanionInOrder (record {
+      cpus = cpus;
+      start = start;
+      floors = said.floors;
+      tasks = said.tasks;
+      claims = said.claims;
+      nices = said.nices;
+      idles = said.idles;
+    })
 in_order said cpus start order e f whole =
     let count : eqb (length said.floors) cpus ≡ true = rw e at whole in
     record {

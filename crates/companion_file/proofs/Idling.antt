@@ -1,5 +1,6 @@
 -- An idle line that passed every test before the last one, and what the last one says of it.
-use Rattle.std.proofs.Common.{◌≡◌, ℕ, Bool, true, false, not, ◌||◌, eqb, List, [], ◌∷◌, get_or, None, Result, Ok, Err, refl, arith}
+use Rattle.std.proofs.Common.{◌≡◌, ℕ, Bool, true, false, not, ◌||◌, eqb, List, [], ◌∷◌, get_or, None, Result, Ok, Err}
+use Rattle.std.proofs.Common.{refl, arith}
 use Rattle.std.proofs.lemmas.Bool.{eq-eqb}
 use Rattle.std.proofs.lemmas.List.Folds.{list_any_at}
 use Rattle.cfs_model.specs.declared.task.Task.{Task}
@@ -10,7 +11,8 @@ use Rattle.companion_file.specs.Earlier.{Said, is_task}
 use Rattle.companion_file.specs.Tests.{fault_of}
 use Rattle.companion_file.specs.Draft.{Adds, AddsTested, IsTaskPlace}
 
-pub adds_tested : (old : Said) (x : Shape) (r : Result Unit Refusal) (new : Said) → fault_of old x ≡ None → Adds old x r new → AddsTested old x r new
+pub adds_tested : (old : Said) (x : Shape) (r : Result Unit Refusal) (new : Said) → fault_of old x ≡ None
+    → Adds old x r new → AddsTested old x r new
 adds_tested old x (Ok u) new none adds = (none, adds)
 adds_tested old x (Err (refusals.Bad cause)) new none adds = absurd adds
 adds_tested old x (Err refusals.Memory) new none adds = tt
@@ -18,7 +20,8 @@ adds_tested old x (Err refusals.Memory) new none adds = tt
 pub is_there : (tasks : List Task) (pid place : ℕ) → IsTaskPlace tasks pid place → is_task tasks pid ≡ true
 is_there [] pid place at = let within = at.within in absurd (omega (arith, within))
 is_there (t ∷ tasks) pid place at =
-    list_any_at (λ (u : Task). eqb u.pid pid) (t ∷ tasks) place t at.within (eq-eqb (get_or (t ∷ tasks) place t).pid pid (at.pid_is t))
+    list_any_at (λ (u : Task). eqb u.pid pid) (t ∷ tasks) place t at.within
+    (eq-eqb (get_or (t ∷ tasks) place t).pid pid (at.pid_is t))
 
 -- the last test of an idle line
 pub birth_known : (line : ℕ) (there : Bool) → eqb line 0 ≡ false → (not (eqb line 0) || there) ≡ true

@@ -6,9 +6,11 @@ use Rattle.cfs_model.specs.Charge.{IsInRange}
 use Rattle.cfs_model.specs.Nice.{IsNice}
 use Rattle.companion_file.specs.Shape.{Shape}
 use Rattle.companion_file.specs.Earlier.{Said}
-use Rattle.companion_file.specs.Tests.{is_pid, is_value, is_nice, is_in_turn, is_in_limits, is_next, is_new, is_alone, is_above, is_known, fault_of}
+use Rattle.companion_file.specs.Tests.{is_pid, is_value, is_nice, is_in_turn, is_in_limits, is_next, is_new, is_alone}
+use Rattle.companion_file.specs.Tests.{is_above, is_known, fault_of}
 use Rattle.companion_file.specs.Reading.{IsPid}
-use Rattle.companion_file.proofs.Faults.{fault_turn, fault_limits, fault_next, fault_new, fault_alone, fault_above, fault_known}
+use Rattle.companion_file.proofs.Faults.{fault_turn, fault_limits, fault_next, fault_new, fault_alone, fault_above}
+use Rattle.companion_file.proofs.Faults.{fault_known}
 
 -- every test passed
 pub record Passes (said : Said) (x : Shape) : Type 0 where
@@ -21,7 +23,8 @@ pub record Passes (said : Said) (x : Shape) : Type 0 where
   pub known : is_known said x ≡ true
 
 -- a test whose failure would give a cause, where there is none
-passed : {C : Type 0} (b : Bool) (fault : Option C) (cause : C) → (b ≡ false → fault ≡ Some cause) → fault ≡ None → b ≡ true
+passed : {C : Type 0} (b : Bool) (fault : Option C) (cause : C) → (b ≡ false → fault ≡ Some cause) → fault ≡ None
+    → b ≡ true
 passed true fault cause fails none = refl
 passed false fault cause fails none = let f = fails refl in absurd cc
 
@@ -33,7 +36,8 @@ all_passed said x none =
     let new = passed (is_new said x) (fault_of said x) _ (fault_new said x turn limits next) none in
     let alone = passed (is_alone said x) (fault_of said x) _ (fault_alone said x turn limits next new) none in
     let above = passed (is_above said x) (fault_of said x) _ (fault_above said x turn limits next new alone) none in
-    let known = passed (is_known said x) (fault_of said x) _ (fault_known said x turn limits next new alone above) none in
+    let known = passed (is_known said x) (fault_of said x) _ (fault_known said x turn limits next new alone above)
+    none in
     record { turn = turn; limits = limits; next = next; new = new; alone = alone; above = above; known = known }
 
 -- ---- limits as facts

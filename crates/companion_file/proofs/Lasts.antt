@@ -3,7 +3,8 @@ use Rattle.std.proofs.Common.{◌≡◌, ◌-◌, List, [], ◌∷◌, ◌++◌,
 use Rattle.std.specs.Prelude.{slice_get}
 use Rattle.std.specs.List.{last_or}
 
-pub last_at_end : {A : Type 0} (o : Option A) (x : A) (xs : List A) → slice_get (x ∷ xs) (length xs) ≡ last_or o (x ∷ xs)
+pub last_at_end : {A : Type 0} (o : Option A) (x : A) (xs : List A)
+    → slice_get (x ∷ xs) (length xs) ≡ last_or o (x ∷ xs)
 last_at_end o x [] = refl
 last_at_end o x (y ∷ ys) = last_at_end (Some x) y ys
 

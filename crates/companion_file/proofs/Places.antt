@@ -15,9 +15,11 @@ use Rattle.companion_file.specs.Draft.{IsTaskPlace}
 comparisons_rise : (a b pid : ℕ) → a ≤ b → ordering_index (nat_cmp a pid) ≤ ordering_index (nat_cmp b pid)
 comparisons_rise a b pid le = grind (arith, nat_tests)
 
-pub found_task : (tasks : List Task) (pid : ℕ) (r : Result ℕ ℕ) → AllPairs (λ t u. t.pid < u.pid) tasks → IsSearchInRange r (length tasks) → IsBinarySearchResult (λ (t : Task). nat_cmp t.pid pid) tasks r
+pub found_task : (tasks : List Task) (pid : ℕ) (r : Result ℕ ℕ) → AllPairs (λ t u. t.pid < u.pid) tasks
+    → IsSearchInRange r (length tasks) → IsBinarySearchResult (λ (t : Task). nat_cmp t.pid pid) tasks r
     → MatchOption (result_ok r) (is_task tasks pid ≡ false) (IsTaskPlace tasks pid)
-found_task tasks pid (Ok place) rise within equal = record { within = within; pid_is = λ d. ranked _ pid _ (sym (equal d)) }
+found_task tasks pid (Ok place) rise within equal =
+    record { within = within; pid_is = λ d. ranked _ pid _ (sym (equal d)) }
 found_task tasks pid (Err place) rise within parted =
     let rises : IsNonDecreasingBy (λ (t : Task). ordering_index (nat_cmp t.pid pid)) tasks = λ i j d le below.
     comparisons_rise (get_or tasks i d).pid (get_or tasks j d).pid pid
@@ -28,6 +30,8 @@ found_task tasks pid (Err place) rise within parted =
     list_any_none (λ (t : Task). eqb t.pid pid) tasks
     (λ k d below.
     elim (cases_lt k place) [
-      | inl before ↦ let less : (get_or tasks k d).pid < pid = ranked _ pid _ (sym ((parted rises).0 k d (omega arith) before)) in grind (arith, nat_tests)
-      | inr after ↦ let more : pid < (get_or tasks k d).pid = ranked _ pid _ (sym ((parted rises).1 k d (omega arith) below)) in grind (arith, nat_tests)
+      | inl before ↦ let less : (get_or tasks k d).pid < pid =
+          ranked _ pid _ (sym ((parted rises).0 k d (omega arith) before)) in grind (arith, nat_tests)
+      | inr after ↦ let more : pid < (get_or tasks k d).pid =
+          ranked _ pid _ (sym ((parted rises).1 k d (omega arith) below)) in grind (arith, nat_tests)
     ])

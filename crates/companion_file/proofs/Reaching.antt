@@ -1,6 +1,7 @@
 -- How far the reader has come: the lines so far are a front of the text's lines, all of them good, and what was kept
 -- of them is what they say.
-use Rattle.std.proofs.Common.{◌≡◌, ℕ, ◌+◌, ◌<◌, ◌≤◌, Bool, false, eqb, List, [], ◌∷◌, ◌++◌, length, Ok, Err, refl, sym, ap, subst, ◌∙◌, append_assoc, inl, inr, arith}
+use Rattle.std.proofs.Common.{◌≡◌, ℕ, ◌+◌, ◌<◌, ◌≤◌, Bool, false, eqb, List, [], ◌∷◌, ◌++◌, length, Ok, Err, refl, sym}
+use Rattle.std.proofs.Common.{ap, subst, ◌∙◌, append_assoc, inl, inr, arith}
 use Rattle.std.proofs.lemmas.Bool.{eqb-false}
 use Rattle.std.proofs.lemmas.List.{length-append, append-nil, nil_from_length}
 use Rattle.text_parts.specs.Lines.{lines_of}
@@ -32,15 +33,26 @@ pub some_left : (rest : List ℕ) (empty : Bool) → empty ≡ eqb (length rest)
 some_left rest empty is test = let no_end = eqb-false (length rest) 0 (sym is ∙ test) in omega arith
 
 pub reached_nothing : (text : List ℕ) (kept : Said) → kept ≡ summed [] → IsReadUpTo text text 0 kept
-reached_nothing text kept e = record { before = []; said = []; parts = refl; count = refl; good = refl; kept_is = e; fits = omega arith }
+reached_nothing text kept e = record {
+  before = [];
+  said = [];
+  parts = refl;
+  count = refl;
+  good = refl;
+  kept_is = e;
+  fits = omega arith;
+}
 
-pub reached_line : (text rest line after : List ℕ) (number : ℕ) (old new : Said) (u : Unit {0}) → IsReadUpTo text rest number old → lines_of rest ≡ line ∷ lines_of after → length after < length rest → Takes old line (Ok u) new
+pub reached_line : (text rest line after : List ℕ) (number : ℕ) (old new : Said) (u : Unit {0})
+    → IsReadUpTo text rest number old → lines_of rest ≡ line ∷ lines_of after → length after < length rest
+    → Takes old line (Ok u) new
     → IsReadUpTo text after (number + 1) new
 reached_line text rest line after number old new u at cut shorter (inl p) =
     record {
       before = at.before ++ line ∷ [];
       said = at.said;
-      parts = at.parts ∙ ap (λ (ls : List (List ℕ)). at.before ++ ls) cut ∙ sym (append_assoc at.before (line ∷ []) (lines_of after));
+      parts = at.parts ∙ ap (λ (ls : List (List ℕ)). at.before ++ ls) cut
+          ∙ sym (append_assoc at.before (line ∷ []) (lines_of after));
       count = omega (arith, at.count, length-append at.before (line ∷ []));
       good = comment_after [] at.before at.said line at.good p.0;
       kept_is = p.1 ∙ at.kept_is;
@@ -50,14 +62,17 @@ reached_line text rest line after number old new u at cut shorter (inr p) =
     record {
       before = at.before ++ line ∷ [];
       said = at.said ++ p.1.0 ∷ [];
-      parts = at.parts ∙ ap (λ (ls : List (List ℕ)). at.before ++ ls) cut ∙ sym (append_assoc at.before (line ∷ []) (lines_of after));
+      parts = at.parts ∙ ap (λ (ls : List (List ℕ)). at.before ++ ls) cut
+          ∙ sym (append_assoc at.before (line ∷ []) (lines_of after));
       count = omega (arith, at.count, length-append at.before (line ∷ []));
       good = good_line_after [] at.before at.said line p.1.0 at.good p.0 (rw at.kept_is at p.1.1);
       kept_is = p.1.2 ∙ ap (λ (s : Said). with_line s p.1.0) at.kept_is ∙ sym (summed-push at.said p.1.0);
       fits = omega (arith, at.fits);
     }
 
-pub reached_bad : (text rest line after : List ℕ) (number : ℕ) (old new : Said) (cause : CompanionCause) → IsReadUpTo text rest number old → lines_of rest ≡ line ∷ lines_of after → Takes old line (Err (refusals.Bad cause)) new
+pub reached_bad : (text rest line after : List ℕ) (number : ℕ) (old new : Said) (cause : CompanionCause)
+    → IsReadUpTo text rest number old → lines_of rest ≡ line ∷ lines_of after
+    → Takes old line (Err (refusals.Bad cause)) new
     → IsFirstBadCompanionLine (lines_of text) (number + 1) cause
 reached_bad text rest line after number old new cause at cut refused =
     record {
@@ -73,18 +88,22 @@ reached_bad text rest line after number old new cause at cut refused =
     }
 
 -- at the end of the text the lines so far are all of its lines
-all_lines : (text rest : List ℕ) (number : ℕ) (kept : Said) (at : IsReadUpTo text rest number kept) → length rest ≡ 0 → at.before ≡ lines_of text
+all_lines : (text rest : List ℕ) (number : ℕ) (kept : Said) (at : IsReadUpTo text rest number kept) → length rest ≡ 0
+    → at.before ≡ lines_of text
 all_lines text rest number kept at empty =
     let none : lines_of rest ≡ [] = ap lines_of (nil_from_length rest empty) ∙ lines_of_nil in
     sym (at.parts ∙ ap (λ (ls : List (List ℕ)). at.before ++ ls) none ∙ append-nil at.before)
 
-good_lines : (text rest : List ℕ) (number : ℕ) (kept : Said) (at : IsReadUpTo text rest number kept) → length rest ≡ 0 → AreGood [] (lines_of text) at.said
-good_lines text rest number kept at empty = subst (λ (ls : List (List ℕ)). AreGood [] ls at.said) (all_lines text rest number kept at empty) at.good
+good_lines : (text rest : List ℕ) (number : ℕ) (kept : Said) (at : IsReadUpTo text rest number kept) → length rest ≡ 0
+    → AreGood [] (lines_of text) at.said
+good_lines text rest number kept at empty = subst (λ (ls : List (List ℕ)). AreGood [] ls at.said)
+    (all_lines text rest number kept at empty) at.good
 
 pub reached_order : (text rest : List ℕ) (number : ℕ) (kept : Said) → IsReadUpTo text rest number kept → KeepsOrder kept
 reached_order text rest number kept at = rw at.kept_is (order_of_good at.before at.said at.good)
 
-pub reached_short : (text rest : List ℕ) (number : ℕ) (kept : Said) → IsReadUpTo text rest number kept → length rest ≡ 0 → has_all_floors kept ≡ false → IsShort (lines_of text) (number + 1) Short
+pub reached_short : (text rest : List ℕ) (number : ℕ) (kept : Said) → IsReadUpTo text rest number kept → length rest ≡ 0
+    → has_all_floors kept ≡ false → IsShort (lines_of text) (number + 1) Short
 reached_short text rest number kept at empty missing =
     record {
       said = at.said;
@@ -94,7 +113,8 @@ reached_short text rest number kept at empty missing =
       name = refl;
     }
 
-pub reached_whole : (text rest : List ℕ) (number : ℕ) (kept : Said) (r : CompanionView) → IsReadUpTo text rest number kept → length rest ≡ 0 → IsCompleted kept r → IsRead (lines_of text) r
+pub reached_whole : (text rest : List ℕ) (number : ℕ) (kept : Said) (r : CompanionView)
+    → IsReadUpTo text rest number kept → length rest ≡ 0 → IsCompleted kept r → IsRead (lines_of text) r
 reached_whole text rest number kept r at empty whole =
     record {
       said = at.said;
@@ -111,10 +131,13 @@ reached_whole text rest number kept r at empty whole =
 
 -- ---- the answers
 
-pub refused_companion : (text rest line after : List ℕ) (number : ℕ) (old new : Said) (refusal : Refusal) → IsReadUpTo text rest number old → lines_of rest ≡ line ∷ lines_of after → Takes old line (Err refusal) new
+pub refused_companion : (text rest line after : List ℕ) (number : ℕ) (old new : Said) (refusal : Refusal)
+    → IsReadUpTo text rest number old → lines_of rest ≡ line ∷ lines_of after → Takes old line (Err refusal) new
     → IsAnswered text (Err (fault_at (number + 1) refusal))
-refused_companion text rest line after number old new (refusals.Bad cause) at cut refused = inl (reached_bad text rest line after number old new cause at cut refused)
+refused_companion text rest line after number old new (refusals.Bad cause) at cut refused =
+    inl (reached_bad text rest line after number old new cause at cut refused)
 refused_companion text rest line after number old new refusals.Memory at cut refused = tt
 
-pub short_answer : (text rest : List ℕ) (number : ℕ) (kept : Said) → IsReadUpTo text rest number kept → length rest ≡ 0 → has_all_floors kept ≡ false → IsAnswered text (Err (faults.Text (number + 1) Short))
+pub short_answer : (text rest : List ℕ) (number : ℕ) (kept : Said) → IsReadUpTo text rest number kept → length rest ≡ 0
+    → has_all_floors kept ≡ false → IsAnswered text (Err (faults.Text (number + 1) Short))
 short_answer text rest number kept at empty missing = inr (reached_short text rest number kept at empty missing)

@@ -32,7 +32,8 @@ same_flips : (a b : IdleSpan) → same_span a b ≡ same_span b a
 same_flips a b = rw (eqb_flips a.pid b.pid, eqb_flips a.from b.from) refl
 
 by_start_total : IsTotalOrder by_start
-by_start_total = then_total (on_total (λ (a : IdleSpan). a.pid) nat_cmp_total) (on_total (λ (a : IdleSpan). a.from) nat_cmp_total)
+by_start_total = then_total (on_total (λ (a : IdleSpan). a.pid) nat_cmp_total)
+    (on_total (λ (a : IdleSpan). a.from) nat_cmp_total)
 
 -- an idle line that follows another one has another line or another pid
 apart_lines : (a b : IdleLine) → IdleRises a b → same_span (span_of a) (span_of b) ≡ false
@@ -47,7 +48,8 @@ begun_distinct idles rise =
     rw (get_or-map span_of idles i e d (omega arith), get_or-map span_of idles j e d below)
     (apart_lines (get_or idles i e) (get_or idles j e) (rise i j e lt below)))
 
-begun_starts : (idles : List IdleLine) (line pid : ℕ) → is_named_idle idles line pid ≡ starts_span (map span_of idles) line pid
+begun_starts : (idles : List IdleLine) (line pid : ℕ)
+    → is_named_idle idles line pid ≡ starts_span (map span_of idles) line pid
 begun_starts [] line pid = refl
 begun_starts (k ∷ idles) line pid = rw (begun_starts idles line pid) refl
 
@@ -55,16 +57,20 @@ begun_starts (k ∷ idles) line pid = rw (begun_starts idles line pid) refl
 rises_apart : (a b : IdleSpan) → is_lt (by_start b a) ≡ false → same_span a b ≡ false → SpanRises a b
 rises_apart a b sorted apart = record { pids = grind (arith, nat_tests); lines = λ same. grind (arith, nat_tests) }
 
-pub sorted_spans : (idles : List IdleLine) (begun spans : List IdleSpan) → AllPairs IdleRises idles → begun ≡ map span_of idles → IsPermutation begun spans
+pub sorted_spans : (idles : List IdleLine) (begun spans : List IdleSpan) → AllPairs IdleRises idles
+    → begun ≡ map span_of idles → IsPermutation begun spans
     → IsSortedByKey (λ (a : IdleSpan). a) by_start spans → AreSpansOf idles spans
 sorted_spans idles begun spans rise is moved sorted =
     let same : IsPermutation (map span_of idles) spans = rw is at moved in
-    let distinct = IsDistinct-IsPermutation same_span same_flips (map span_of idles) spans same (begun_distinct idles rise) in
+    let distinct = IsDistinct-IsPermutation same_span same_flips (map span_of idles) spans same
+    (begun_distinct idles rise) in
     record {
       rise = λ i j d lt within.
           rises_apart (get_or spans i d) (get_or spans j d)
-          (sorted_far (λ a b. is_lt (by_start a b)) (ranks_by by_start_total (λ (a : IdleSpan). a)) spans sorted i j d (omega arith) within)
+          (sorted_far (λ a b. is_lt (by_start a b)) (ranks_by by_start_total (λ (a : IdleSpan). a)) spans sorted i j d
+          (omega arith) within)
           (apart_from_distinct same_span spans i j d distinct lt within);
       starts = λ line pid.
-          begun_starts idles line pid ∙ list_any-IsPermutation (λ (a : IdleSpan). eqb a.from line && eqb a.pid pid) (map span_of idles) spans same;
+          begun_starts idles line pid ∙ list_any-IsPermutation (λ (a : IdleSpan). eqb a.from line && eqb a.pid pid)
+          (map span_of idles) spans same;
     }

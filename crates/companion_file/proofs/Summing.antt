@@ -2,7 +2,8 @@
 use Rattle.std.proofs.Common.{◌≡◌, List, [], ◌∷◌, ◌++◌}
 use Rattle.std.proofs.lemmas.List.{append-nil, map-append}
 use Rattle.std.proofs.lemmas.List.Elements.{filter_map-append}
-use Rattle.companion_file.specs.Shape.{Shape, version_line, cpus_line, start_line, floor_line, task_line, claim_line, nice_line, idle_line}
+use Rattle.companion_file.specs.Shape.{Shape, version_line, cpus_line, start_line, floor_line, task_line, claim_line}
+use Rattle.companion_file.specs.Shape.{nice_line, idle_line}
 use Rattle.companion_file.specs.Earlier.{summed}
 use Rattle.companion_file.specs.Draft.{with_line}
 use Rattle.companion_file.proofs.Lasts.{last_or-push}

@@ -16,7 +16,8 @@ abbrev pub AreGood : List Shape → List (List ℕ) → List Shape → Type 0
 AreGood earlier [] said = said ≡ earlier
 AreGood earlier (line ∷ lines) said =
     (IsComment line × AreGood earlier lines said)
-    ⊎ ((¬ IsComment line) × ((x : Shape) × IsJudged (summed earlier) line (Ok x) × AreGood (earlier ++ x ∷ []) lines said))
+    ⊎ ((¬ IsComment line) × ((x : Shape) × IsJudged (summed earlier) line (Ok x)
+    × AreGood (earlier ++ x ∷ []) lines said))
 
 -- the first bad line, and why it is bad: the lines before it are good
 pub record IsFirstBadCompanionLine (lines : List (List ℕ)) (number : ℕ) (cause : CompanionCause) : Type 0 where
@@ -62,7 +63,15 @@ CompanionAnswer text (Err fault) = IsRefusedCompanion (lines_of text) fault.0 fa
 
 -- a companion without where it lies in memory
 abbrev pub companion_view : Companion → CompanionView
-companion_view c = record { cpus = c.cpus; start = c.start; floors = c.floors; tasks = c.tasks; claims = c.claims; nices = c.nices; idles = c.idles }
+companion_view c = record {
+  cpus = c.cpus;
+  start = c.start;
+  floors = c.floors;
+  tasks = c.tasks;
+  claims = c.claims;
+  nices = c.nices;
+  idles = c.idles;
+}
 
 -- what was returned is this answer; of want of memory nothing is said
 abbrev pub IsReturned : Result Companion CompanionFault → Result CompanionView (ℕ × CompanionCause) → Type 0

@@ -1,11 +1,13 @@
 -- What the reader keeps of the lines so far, and what one more line makes of it. It is proved that this is what
 -- those lines say, taken together.
-use Rattle.std.specs.Prelude.{◌≡◌, ℕ, ◌+◌, ◌*◌, ◌<◌, ◌≤◌, Bool, true, false, List, [], ◌∷◌, ◌++◌, length, map, unwrap_or, All, AllPairs, Option, Some, None, Result, Ok, Err, slice_index_or, ◌⊎◌}
+use Rattle.std.specs.Prelude.{◌≡◌, ℕ, ◌+◌, ◌*◌, ◌<◌, ◌≤◌, Bool, true, false, List, [], ◌∷◌, ◌++◌, length, map}
+use Rattle.std.specs.Prelude.{unwrap_or, All, AllPairs, Option, Some, None, Result, Ok, Err, slice_index_or, ◌⊎◌}
 use Rattle.std.specs.Option.{ForSome}
 use Rattle.cfs_model.specs.declared.task.Task.{Task}
 use Rattle.companion_file.specs.declared.fault.Refusal.{Refusal}
 use Rattle.companion_file.specs.declared.fault.Refusal.TheVariants as refusals
-use Rattle.companion_file.specs.Shape.{Shape, version_line, cpus_line, start_line, floor_line, task_line, claim_line, nice_line, idle_line}
+use Rattle.companion_file.specs.Shape.{Shape, version_line, cpus_line, start_line, floor_line, task_line, claim_line}
+use Rattle.companion_file.specs.Shape.{nice_line, idle_line}
 use Rattle.companion_file.specs.declared.fault.CompanionCause.TheVariants.{Version}
 use Rattle.companion_file.specs.declared.fault.CompanionFault.{CompanionFault}
 use Rattle.companion_file.specs.declared.fault.CompanionFault.TheVariants as faults
@@ -14,7 +16,8 @@ use Rattle.companion_file.specs.Earlier.{Said, has_all_floors, is_taken, is_task
 use Rattle.text_parts.specs.Lines.{IsComment}
 use Rattle.cfs_model.specs.Limits.{no_line, most_processors, greatest_seconds, nanoseconds_per_second}
 use Rattle.cfs_model.specs.Charge.{IsInRange}
-use Rattle.companion_file.specs.Reading.{CompanionView, IsTaskInLimits, IsClaimInLimits, IsNiceLineInLimits, IsIdleLineInLimits, IdleRises}
+use Rattle.companion_file.specs.Reading.{CompanionView, IsTaskInLimits, IsClaimInLimits, IsNiceLineInLimits}
+use Rattle.companion_file.specs.Reading.{IsIdleLineInLimits, IdleRises}
 use Rattle.cfs_model.specs.Order.{RunApart}
 use Rattle.companion_file.specs.Tests.{fault_of, IsJudged}
 
@@ -27,7 +30,8 @@ pub record KnowsRunning (cpus : Option ℕ) (tasks : List Task) (running : List 
 abbrev pub with_line : Said → Shape → Said
 with_line said (version_line n) = record said { version = Some n }
 with_line said (cpus_line n) = record said { cpus = Some n }
-with_line said (start_line seconds nanoseconds) = record said { start = Some (seconds * nanoseconds_per_second + nanoseconds) }
+with_line said (start_line seconds nanoseconds) =
+    record said { start = Some (seconds * nanoseconds_per_second + nanoseconds) }
 with_line said (floor_line cpu floor) = record said { floors = said.floors ++ floor ∷ [] }
 with_line said (task_line task) = record said { tasks = said.tasks ++ with_policy_told said.idles task ∷ [] }
 with_line said (claim_line claim) = record said { claims = said.claims ++ claim ∷ [] }
@@ -51,7 +55,8 @@ AddsTested old x (Err refusals.Memory) new = Unit {0}
 
 -- the first line was taken, or it is bad
 abbrev pub TakesFirst : Said → List ℕ → Result Unit Refusal → Said → Type 0
-TakesFirst old line (Ok _) new = (version : ℕ) × IsFirstLine line version × (new ≡ record old { version = Some version })
+TakesFirst old line (Ok _) new = (version : ℕ) × IsFirstLine line version
+    × (new ≡ record old { version = Some version })
 TakesFirst old line (Err (refusals.Bad cause)) new = ((version : ℕ) → ¬ IsFirstLine line version) × (cause ≡ Version)
 TakesFirst old line (Err refusals.Memory) new = Unit {0}
 

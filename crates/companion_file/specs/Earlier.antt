@@ -1,5 +1,6 @@
 -- What the lines of a companion up to a place say, taken together (this project's companion format).
-use Rattle.std.specs.Prelude.{ℕ, ◌+◌, ◌*◌, ℤ, Bool, true, false, ◌==◌, ◌&&◌, List, length, map, filter_map, Option, Some, None}
+use Rattle.std.specs.Prelude.{ℕ, ◌+◌, ◌*◌, ℤ, Bool, true, false, ◌==◌, ◌&&◌, List, length, map, filter_map, Option}
+use Rattle.std.specs.Prelude.{Some, None}
 use Rattle.std.specs.Option.{option_map_or}
 use Rattle.std.specs.List.{last_or, list_any}
 use Rattle.cfs_model.specs.Limits.{no_line, nanoseconds_per_second}
@@ -10,7 +11,8 @@ use Rattle.cfs_model.specs.declared.claim.Claim.{Claim}
 use Rattle.cfs_model.specs.declared.nice_line.NiceLine.{NiceLine}
 use Rattle.cfs_model.specs.declared.idle_line.IdleLine.{IdleLine}
 use Rattle.cfs_model.specs.Claimed.{is_named_idle}
-use Rattle.companion_file.specs.Shape.{Shape, version_line, cpus_line, start_line, floor_line, task_line, claim_line, nice_line, idle_line}
+use Rattle.companion_file.specs.Shape.{Shape, version_line, cpus_line, start_line, floor_line, task_line, claim_line}
+use Rattle.companion_file.specs.Shape.{nice_line, idle_line}
 
 -- the format's version that a line names, if it names one
 abbrev pub version_in : Shape → Option ℕ

@@ -33,7 +33,8 @@ abbrev pub ChangesFollow : Said → List NiceLine → Type 0
 ChangesFollow said [] = Unit {0}
 ChangesFollow said (change ∷ changes) = may_change_at said change.line ≡ true
 
--- the head was said, and a piece that was read behind it alone has claims and changes only, which may follow what was said
+-- the head was said, and a piece that was read behind it alone has claims and changes only, which may follow what was
+-- said
 pub record FollowsOn (said piece : Said) : Type 0 where
   pub begun : is_some said.version ≡ true
   pub started : is_some said.start ≡ true
@@ -47,4 +48,5 @@ pub record FollowsOn (said piece : Said) : Type 0 where
 abbrev pub AreReadApart : Said → List (List ℕ) → List Said → Type 0
 AreReadApart head lines [] = lines ≡ []
 AreReadApart head lines (piece ∷ pieces) =
-    (front : List (List ℕ)) × (rest : List (List ℕ)) × (lines ≡ front ++ rest) × SaysOn head front piece × AreReadApart head rest pieces
+    (front : List (List ℕ)) × (rest : List (List ℕ)) × (lines ≡ front ++ rest) × SaysOn head front piece
+    × AreReadApart head rest pieces

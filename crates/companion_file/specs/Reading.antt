@@ -4,7 +4,8 @@ use Rattle.cfs_model.specs.declared.task.Task.{Task}
 use Rattle.cfs_model.specs.declared.claim.Claim.{Claim}
 use Rattle.cfs_model.specs.declared.nice_line.NiceLine.{NiceLine}
 use Rattle.cfs_model.specs.declared.idle_line.IdleLine.{IdleLine}
-use Rattle.cfs_model.specs.Limits.{greatest_pid, greatest_line, no_line, most_processors, greatest_seconds, nanoseconds_per_second}
+use Rattle.cfs_model.specs.Limits.{greatest_pid, greatest_line, no_line, most_processors, greatest_seconds}
+use Rattle.cfs_model.specs.Limits.{nanoseconds_per_second}
 use Rattle.cfs_model.specs.Charge.{IsInRange}
 use Rattle.cfs_model.specs.Nice.{IsNice}
 use Rattle.cfs_model.specs.Order.{RunApart}

@@ -1,7 +1,8 @@
 -- How one line of a companion is read from left to right: what each part takes from the front of a text, and what it
 -- leaves. Nothing here is to be believed: it is proved to give what `Spelling` spells, but for numbers far out of
 -- their limits, which are read as other numbers out of their limits.
-use Rattle.std.specs.Prelude.{ℕ, ◌+◌, ◌==◌, false, not, if◌then◌else◌, ℤ, pos, neg_ℤ, min, List, codes, Option, None, Some, option_map}
+use Rattle.std.specs.Prelude.{ℕ, ◌+◌, ◌==◌, false, not, if◌then◌else◌, ℤ, pos, neg_ℤ, min, List, codes, Option, None}
+use Rattle.std.specs.Prelude.{Some, option_map}
 use Rattle.std.specs.Option.{option_map_or}
 use Rattle.cfs_model.specs.Limits.{greatest_runtime}
 use Rattle.cfs_model.specs.declared.task.Place.{Place}
@@ -9,7 +10,8 @@ use Rattle.cfs_model.specs.declared.task.Place.TheVariants.{Run, Wait, Rest}
 use Rattle.cfs_model.specs.declared.claim.ClaimSort.{ClaimSort}
 use Rattle.cfs_model.specs.declared.claim.ClaimSort.TheVariants.{At, Pass}
 use Rattle.text_parts.specs.Reading.{◌>>=◌, or_else, if_at_end, after_text, numeral_at, time_at}
-use Rattle.companion_file.specs.Shape.{Shape, version_line, cpus_line, start_line, floor_line, task_line, claim_line, nice_line, idle_line}
+use Rattle.companion_file.specs.Shape.{Shape, version_line, cpus_line, start_line, floor_line, task_line, claim_line}
+use Rattle.companion_file.specs.Shape.{nice_line, idle_line}
 
 -- a number above each virtual runtime; larger ones are read as this one
 abbrev pub beyond_range : ℕ
@@ -54,7 +56,8 @@ place_and_rest place rest = option_map (λ text. (place, text)) rest
 unfoldable pub place_field : List ℕ → Option (Place × List ℕ)
 place_field text =
     or_else (place_and_rest Run (after_text (codes "run ") text))
-    (or_else (place_and_rest Wait (after_text (codes "wait ") text)) (place_and_rest Rest (after_text (codes "rest ") text)))
+    (or_else (place_and_rest Wait (after_text (codes "wait ") text))
+    (place_and_rest Rest (after_text (codes "rest ") text)))
 
 -- what follows the word `cfs-companion`; its number is looked at in the first line alone
 unfoldable pub version_shape_at : List ℕ → Option Shape

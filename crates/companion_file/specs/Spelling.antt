@@ -7,7 +7,8 @@ use Rattle.cfs_model.specs.declared.claim.ClaimSort.{ClaimSort}
 use Rattle.cfs_model.specs.declared.claim.ClaimSort.TheVariants.{At, Pass}
 use Rattle.text_parts.specs.Numerals.{IsNumeral, value_of}
 use Rattle.text_parts.specs.Time.{IsTime}
-use Rattle.companion_file.specs.Shape.{Shape, version_line, cpus_line, start_line, floor_line, task_line, claim_line, nice_line, idle_line}
+use Rattle.companion_file.specs.Shape.{Shape, version_line, cpus_line, start_line, floor_line, task_line, claim_line}
+use Rattle.companion_file.specs.Shape.{nice_line, idle_line}
 
 -- the line is the first one of every companion of this version
 abbrev pub IsFirstLine : List ℕ → ℕ → Type 0
@@ -56,7 +57,8 @@ IsSpelled version line (start_line seconds nanoseconds) =
 IsSpelled version line (floor_line cpu floor) =
     (a b : List ℕ) × IsNumber a cpu × IsInteger b floor × (line ≡ spaced (codes "floor" ∷ a ∷ b ∷ []))
 IsSpelled version line (task_line task) =
-    (task.idle ≡ false) × (a b c d : List ℕ) × IsNumber a task.pid × IsInteger b task.nice × IsNumber c task.cpu × IsInteger d task.v
+    (task.idle ≡ false) × (a b c d : List ℕ) × IsNumber a task.pid × IsInteger b task.nice × IsNumber c task.cpu
+    × IsInteger d task.v
     × (line ≡ spaced (codes "task" ∷ a ∷ b ∷ c ∷ place_word task.place ∷ d ∷ []))
 IsSpelled version line (claim_line claim) =
     (a b c : List ℕ) × IsNumber a claim.line × IsNumber b claim.pid × IsInteger c claim.v
@@ -65,4 +67,5 @@ IsSpelled version line (nice_line change) =
     (version ≡ 2) × (a b c : List ℕ) × IsNumber a change.line × IsNumber b change.pid × IsInteger c change.nice
     × (line ≡ spaced (codes "nice" ∷ a ∷ b ∷ c ∷ []))
 IsSpelled version line (idle_line idle) =
-    (version ≡ 2) × (a b : List ℕ) × IsNumber a idle.line × IsNumber b idle.pid × (line ≡ spaced (codes "idle" ∷ a ∷ b ∷ []))
+    (version ≡ 2) × (a b : List ℕ) × IsNumber a idle.line × IsNumber b idle.pid
+    × (line ≡ spaced (codes "idle" ∷ a ∷ b ∷ []))

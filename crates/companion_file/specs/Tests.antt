@@ -1,13 +1,19 @@
 -- The tests of a line of a companion, after what the lines before it say (this project's companion format).
-use Rattle.std.specs.Prelude.{◌≡◌, ℕ, ℤ, pos, negsuc, neg_ℤ, int_le, Bool, true, false, not, ◌&&◌, ◌||◌, nat_le, nat_lt, ◌==◌, if◌then◌else◌, List, length, Option, Some, None, Result, Ok, Err, unwrap_or, is_some, ◌⊎◌, MatchOption}
+use Rattle.std.specs.Prelude.{◌≡◌, ℕ, ℤ, pos, negsuc, neg_ℤ, int_le, Bool, true, false, not, ◌&&◌, ◌||◌, nat_le, nat_lt}
+use Rattle.std.specs.Prelude.{◌==◌, if◌then◌else◌, List, length, Option, Some, None, Result, Ok, Err, unwrap_or}
+use Rattle.std.specs.Prelude.{is_some, ◌⊎◌, MatchOption}
 use Rattle.std.specs.Option.{option_map_or, is_none}
-use Rattle.cfs_model.specs.Limits.{greatest_runtime, greatest_pid, most_processors, greatest_seconds, greatest_line, no_line}
+use Rattle.cfs_model.specs.Limits.{greatest_runtime, greatest_pid, most_processors, greatest_seconds, greatest_line}
+use Rattle.cfs_model.specs.Limits.{no_line}
 use Rattle.companion_file.specs.declared.fault.CompanionCause.{CompanionCause}
-use Rattle.companion_file.specs.declared.fault.CompanionCause.TheVariants.{Version, Group, BadLine, Order, NumberRange, TwiceNamed, TwiceRunning, LineOrder, NoTask}
+use Rattle.companion_file.specs.declared.fault.CompanionCause.TheVariants.{Version, Group, BadLine, Order, NumberRange}
+use Rattle.companion_file.specs.declared.fault.CompanionCause.TheVariants.{TwiceNamed, TwiceRunning, LineOrder, NoTask}
 use Rattle.cfs_model.specs.declared.idle_line.IdleLine.{IdleLine}
-use Rattle.companion_file.specs.Shape.{Shape, version_line, cpus_line, start_line, floor_line, task_line, claim_line, nice_line, idle_line}
+use Rattle.companion_file.specs.Shape.{Shape, version_line, cpus_line, start_line, floor_line, task_line, claim_line}
+use Rattle.companion_file.specs.Shape.{nice_line, idle_line}
 use Rattle.companion_file.specs.Spelling.{IsFirstLine, IsControlGroup, IsSpelled}
-use Rattle.companion_file.specs.Earlier.{Said, last_task, last_claim, last_nice, last_idle, has_all_floors, is_run, is_taken, is_task}
+use Rattle.companion_file.specs.Earlier.{Said, last_task, last_claim, last_nice, last_idle, has_all_floors, is_run}
+use Rattle.companion_file.specs.Earlier.{is_taken, is_task}
 
 -- every floor was said, and neither a claim nor a change of a nice value
 abbrev pub is_at_start : Said → Bool
@@ -44,8 +50,10 @@ is_in_limits cpus (cpus_line n) = nat_le 1 n && nat_le n most_processors
 is_in_limits cpus (start_line seconds nanoseconds) = nat_le seconds greatest_seconds
 is_in_limits cpus (floor_line cpu floor) = nat_lt cpu cpus && is_value floor
 is_in_limits cpus (task_line task) = is_pid task.pid && is_nice task.nice && nat_lt task.cpu cpus && is_value task.v
-is_in_limits cpus (claim_line claim) = nat_le 1 claim.line && nat_le claim.line greatest_line && is_pid claim.pid && is_value claim.v
-is_in_limits cpus (nice_line change) = nat_le 1 change.line && nat_le change.line greatest_line && is_pid change.pid && is_nice change.nice
+is_in_limits cpus (claim_line claim) = nat_le 1 claim.line && nat_le claim.line greatest_line && is_pid claim.pid
+    && is_value claim.v
+is_in_limits cpus (nice_line change) = nat_le 1 change.line && nat_le change.line greatest_line && is_pid change.pid
+    && is_nice change.nice
 is_in_limits cpus (idle_line idle) = nat_le idle.line greatest_line && is_pid idle.pid
 
 -- a floor's processor is the next one, and a task's pid is not less than the last task's
@@ -71,16 +79,20 @@ is_above_claims said line = option_map_or (λ last. nat_lt last.line line) (last
 -- a claim's line is above the last claim's, and not below that of the last change of a nice value, which may be of the
 -- same line
 abbrev pub may_claim_at : Said → ℕ → Bool
-may_claim_at said line = is_above_claims said line && option_map_or (λ last. nat_le last.line line) (last_nice said) true
+may_claim_at said line = is_above_claims said line
+    && option_map_or (λ last. nat_le last.line line) (last_nice said) true
 
 -- a change's line is above the last change's and the last claim's: so at one line at most one change stands, before the
 -- line's claim
 abbrev pub may_change_at : Said → ℕ → Bool
-may_change_at said line = option_map_or (λ last. nat_lt last.line line) (last_nice said) true && is_above_claims said line
+may_change_at said line = option_map_or (λ last. nat_lt last.line line) (last_nice said) true
+    && is_above_claims said line
 
--- an idle line stands behind the last one: its line of the trace is above that one's, or is the same and its pid is above
+-- an idle line stands behind the last one: its line of the trace is above that one's, or is the same and its pid is
+-- above
 abbrev pub may_be_idle : Said → IdleLine → Bool
-may_be_idle said idle = option_map_or (λ last. nat_lt last.line idle.line || ((last.line == idle.line) && nat_lt last.pid idle.pid)) (last_idle said) true
+may_be_idle said idle = option_map_or (λ last. nat_lt last.line idle.line
+    || ((last.line == idle.line) && nat_lt last.pid idle.pid)) (last_idle said) true
 
 -- the line of the trace that a claim, a change or an idle line names may follow those before it
 abbrev pub is_above : Said → Shape → Bool

@@ -7,8 +7,8 @@ use crate::lists::{Claims, Floors, Idles, Nices, Tasks};
 use crate::spans::IdleSpans;
 use cfs_model::{Claim, IdleLine, NiceLine, Task};
 
-/// The start state of a schedule, the virtual runtimes that are claimed of it, the changes of nice values, and who is of
-/// the idle policy.
+/// The start state of a schedule, the virtual runtimes that are claimed of it, the changes of nice values, and who is
+/// of the idle policy.
 #[derive(Debug, Drop)]
 pub struct Companion {
     cpus: u32,
@@ -35,7 +35,15 @@ impl Companion {
         idles: Idles,
         spans: IdleSpans,
     ) -> Companion
-        requires in_order { IsCompanionInOrder (record { cpus = cpus; start = start; floors = floors; tasks = tasks; claims = claims; nices = nices; idles = idles }) }
+        requires in_order { IsCompanionInOrder (record {
+          cpus = cpus;
+          start = start;
+          floors = floors;
+          tasks = tasks;
+          claims = claims;
+          nices = nices;
+          idles = idles;
+        }) }
         requires spans_told { AreSpansOf idles spans }
         ensures cpus { result.cpus ≡ cpus }
         ensures start { result.start ≡ start }

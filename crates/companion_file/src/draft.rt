@@ -1,4 +1,5 @@
-ghost use Rattle.std.specs.Prelude.{◌≡◌, ◌<◌, ◌&&◌, nat_lt, not, true, false, ◌==◌, unwrap_or, Some, MatchOption, [], IsTrue, slice_set};
+ghost use Rattle.std.specs.Prelude.{◌≡◌, ◌<◌, ◌&&◌, nat_lt, not, true, false, ◌==◌, unwrap_or, Some, MatchOption, []};
+ghost use Rattle.std.specs.Prelude.{IsTrue, slice_set};
 ghost use Rattle.cfs_model.specs.declared.task.Task.{Task};
 ghost use Rattle.cfs_model.specs.declared.claim.Claim.{Claim};
 ghost use Rattle.cfs_model.specs.Limits.{most_processors};
@@ -45,7 +46,16 @@ impl Model for Draft {
 
     ghost Value = { Said };
 
-    ghost view = { λ d. record { version = d.version; cpus = d.cpus; start = d.start; floors = d.floors.items; tasks = d.tasks.items; claims = d.claims.items; nices = d.nices.items; idles = d.idles.items } };
+    ghost view = { λ d. record {
+      version = d.version;
+      cpus = d.cpus;
+      start = d.start;
+      floors = d.floors.items;
+      tasks = d.tasks.items;
+      claims = d.claims.items;
+      nices = d.nices.items;
+      idles = d.idles.items;
+    } };
 
     ghost invariant = { λ d. KnowsRunning d.cpus d.tasks.items d.running };
 }

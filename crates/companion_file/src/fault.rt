@@ -3,7 +3,8 @@ ghost use Rattle.companion_file.specs.declared.fault.Refusal.TheVariants.{Memory
 
 use std::alloc::{AllocError, AllocFailed};
 
-/// What is wrong with the first bad line of a companion, in the order in which a line is tested; `Short` alone is of no line.
+/// What is wrong with the first bad line of a companion, in the order in which a line is tested; `Short` alone is of no
+/// line.
 #[derive(Clone, Copy, Debug, PartialEq, Eq)]
 pub enum CompanionCause {
     /// The first line names another format or a version of it that isn't known.
@@ -20,8 +21,8 @@ pub enum CompanionCause {
     TwiceNamed,
     /// A task runs at this processor already.
     TwiceRunning,
-    /// The line of the trace that a claim, a change of a nice value or an idle line names doesn't rise, or at one line the
-    /// pids of idle lines don't.
+    /// The line of the trace that a claim, a change of a nice value or an idle line names doesn't rise, or at one line
+    /// the pids of idle lines don't.
     LineOrder,
     /// The text ends before the floor of the last processor.
     Short,

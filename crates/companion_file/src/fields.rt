@@ -1,6 +1,7 @@
 ghost use Rattle.std.specs.Prelude.{◌≡◌};
 ghost use Rattle.text_parts.specs.Reading.{Gives};
-ghost use Rattle.companion_file.specs.ShapeReading.{number_field, number_whole, integer_at, integer_field, integer_whole, place_field};
+ghost use Rattle.companion_file.specs.ShapeReading.{number_field, number_whole, integer_at, integer_field};
+ghost use Rattle.companion_file.specs.ShapeReading.{integer_whole, place_field};
 
 use cfs_model::{GREATEST_RUNTIME, Place};
 use text_parts::numerals::numeral_at;

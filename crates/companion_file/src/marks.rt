@@ -5,7 +5,8 @@ use text_parts::pieces::after_front;
 
 /// The version of the format that a first line names, if it names one that is known.
 pub(crate) fn version_of(line: &[u8]) -> Option<u32>
-    ensures { MatchOption result ((version : ℕ) → ¬ IsFirstLine line.now version) (λ version. IsFirstLine line.now version) }
+    ensures { MatchOption result ((version : ℕ) → ¬ IsFirstLine line.now version)
+        (λ version. IsFirstLine line.now version) }
 {
     if is_text(line, b"cfs-companion 1") {
         Some(1)

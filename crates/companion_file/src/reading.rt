@@ -1,7 +1,8 @@
 ghost use Rattle.std.specs.Prelude.{◌≡◌, ℕ, ◌+◌, ◌<◌, ◌^◌, List, Result, IsErrOf, IfOk};
 ghost use Rattle.text_parts.specs.Lines.{lines_of};
 ghost use Rattle.companion_file.specs.declared.fault.CompanionCause.{CompanionCause};
-ghost use Rattle.companion_file.specs.Companion.{CompanionView, CompanionAnswer, IsRefusedCompanion, IsRead, IsAnswered, IsReturned, companion_view};
+ghost use Rattle.companion_file.specs.Companion.{CompanionView, CompanionAnswer, IsRefusedCompanion, IsRead};
+ghost use Rattle.companion_file.specs.Companion.{IsAnswered, IsReturned, companion_view};
 
 use crate::companion::Companion;
 use crate::draft::Draft;
@@ -14,11 +15,13 @@ pub fn read_companion(alloc: Global, text: &[u8]) -> Result<Companion, Companion
     // What is answered is what the text means.
     ensures answered { IsAnswered text.now result }
     // A refusal is of the first bad line, or the text ends too soon.
-    ensures refused { (line : ℕ) (cause : CompanionCause) → IsErrOf result (CompanionFault.Text line cause) → IsRefusedCompanion (lines_of text.now) line cause }
+    ensures refused { (line : ℕ) (cause : CompanionCause) → IsErrOf result (CompanionFault.Text line cause)
+        → IsRefusedCompanion (lines_of text.now) line cause }
     // What is read is what all lines say.
     ensures read { IfOk result (λ c. IsRead (lines_of text.now) (companion_view c)) }
     // What the text means is answered, unless a growth was refused.
-    ensures only { (answer : Result CompanionView (ℕ × CompanionCause)) → CompanionAnswer text.now answer → IsReturned result answer }
+    ensures only { (answer : Result CompanionView (ℕ × CompanionCause)) → CompanionAnswer text.now answer
+        → IsReturned result answer }
 {
     companion_of(alloc, text)
 }

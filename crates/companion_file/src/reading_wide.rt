@@ -3,7 +3,8 @@ ghost use Rattle.text_parts.specs.Lines.{IsWhole, lines_of};
 ghost use Rattle.companion_file.specs.declared.fault.CompanionCause.{CompanionCause};
 ghost use Rattle.companion_file.specs.Draft.{KeepsOrder};
 ghost use Rattle.companion_file.specs.Piecewise.{AreReadApart, SaysOn, head_of};
-ghost use Rattle.companion_file.specs.Companion.{CompanionView, CompanionAnswer, IsRefusedCompanion, IsRead, IsAnswered, IsReturned, companion_view};
+ghost use Rattle.companion_file.specs.Companion.{CompanionView, CompanionAnswer, IsRefusedCompanion, IsRead};
+ghost use Rattle.companion_file.specs.Companion.{IsAnswered, IsReturned, companion_view};
 
 use crate::companion::Companion;
 use crate::draft::Draft;
@@ -26,11 +27,13 @@ pub fn read_companion_wide(
     // What is answered is what the text means.
     ensures answered { IsAnswered text.now result }
     // A refusal is of the first bad line, or the text ends too soon.
-    ensures refused { (line : ℕ) (cause : CompanionCause) → IsErrOf result (CompanionFault.Text line cause) → IsRefusedCompanion (lines_of text.now) line cause }
+    ensures refused { (line : ℕ) (cause : CompanionCause) → IsErrOf result (CompanionFault.Text line cause)
+        → IsRefusedCompanion (lines_of text.now) line cause }
     // What is read is what all lines say.
     ensures read { IfOk result (λ c. IsRead (lines_of text.now) (companion_view c)) }
     // What the text means is answered, unless a growth was refused.
-    ensures only { (answer : Result CompanionView (ℕ × CompanionCause)) → CompanionAnswer text.now answer → IsReturned result answer }
+    ensures only { (answer : Result CompanionView (ℕ × CompanionCause)) → CompanionAnswer text.now answer
+        → IsReturned result answer }
 {
     companion_of(rt, alloc, text)
 }
@@ -109,7 +112,8 @@ fn drafts_of(
 /// Puts what pieces say behind what was said, one after another.
 fn put_together(draft: &mut Draft, drafts: Vec<Draft>) -> Result<(), Refusal>
     requires { KeepsOrder draft.old }
-    ensures { OnOk result ((lines : List (List ℕ)) → AreReadApart (head_of draft.old) lines drafts.items → SaysOn draft.old lines draft.new) }
+    ensures { OnOk result ((lines : List (List ℕ)) → AreReadApart (head_of draft.old) lines drafts.items
+        → SaysOn draft.old lines draft.new) }
 {
     for later in drafts {
         draft.put_behind(&later)?;

@@ -1,6 +1,8 @@
 ghost use Rattle.std.specs.Prelude.{◌≡◌};
 ghost use Rattle.text_parts.specs.Reading.{Gives};
-ghost use Rattle.companion_file.specs.ShapeReading.{version_shape_at, cpus_shape_at, start_shape_at, floor_shape_at, task_shape_at, claim_shape_at, nice_shape_at, idle_shape_at, front_shape_at, shape_at};
+ghost use Rattle.companion_file.specs.ShapeReading.{version_shape_at, cpus_shape_at, start_shape_at, floor_shape_at};
+ghost use Rattle.companion_file.specs.ShapeReading.{task_shape_at, claim_shape_at, nice_shape_at, idle_shape_at};
+ghost use Rattle.companion_file.specs.ShapeReading.{front_shape_at, shape_at};
 ghost use Rattle.companion_file.specs.Statement.{stated};
 
 use crate::fields::{integer_field, integer_whole, number_field, number_whole, place_field};

@@ -1,6 +1,7 @@
 -- Why a name ends where it does: behind it stand words without spaces, each behind one space, of which only the first
 -- is the key's, and they reach past fifteen bytes. So no later place within a name's length is the key's.
-use Rattle.std.proofs.Common.{◌≡◌, ℕ, zero, suc, ◌+◌, ◌≤◌, ◌<◌, Bool, true, false, eqb, List, [], ◌∷◌, ◌++◌, length, drop, refl, arith}
+use Rattle.std.proofs.Common.{◌≡◌, ℕ, zero, suc, ◌+◌, ◌≤◌, ◌<◌, Bool, true, false, eqb, List, [], ◌∷◌, ◌++◌, length}
+use Rattle.std.proofs.Common.{drop, refl, arith}
 use Rattle.std.specs.Prelude.{not}
 use Rattle.std.specs.List.{list_all}
 use Rattle.std.proofs.lemmas.Bool.Decides.{nat_tests}
@@ -25,13 +26,17 @@ dark_differs byte dark = by_test (eqb byte 32) dark
     by_test false e = refl
 
 -- no place within a word is a key's, since a key begins with a space
-free_word : (key word text : List ℕ) (count : ℕ) → list_all is_dark word ≡ true → Free count (32 ∷ key) text → Free (length word + count) (32 ∷ key) (word ++ text)
+free_word : (key word text : List ℕ) (count : ℕ) → list_all is_dark word ≡ true → Free count (32 ∷ key) text
+    → Free (length word + count) (32 ∷ key) (word ++ text)
 free_word key [] text count dark free place lt = free place (omega arith)
-free_word key (byte ∷ word) text count dark free zero lt = rw (dark_differs byte (and_parts (is_dark byte) (list_all is_dark word) dark).0) refl
-free_word key (byte ∷ word) text count dark free (suc place) lt = free_word key word text count (and_parts (is_dark byte) (list_all is_dark word) dark).1 free place (omega arith)
+free_word key (byte ∷ word) text count dark free zero lt =
+    rw (dark_differs byte (and_parts (is_dark byte) (list_all is_dark word) dark).0) refl
+free_word key (byte ∷ word) text count dark free (suc place) lt =
+    free_word key word text count (and_parts (is_dark byte) (list_all is_dark word) dark).1 free place (omega arith)
 
 -- nor is a space before another word
-free_space : (key text : List ℕ) (count : ℕ) → begins_with key (32 ∷ text) ≡ false → Free count key text → Free (suc count) key (32 ∷ text)
+free_space : (key text : List ℕ) (count : ℕ) → begins_with key (32 ∷ text) ≡ false → Free count key text
+    → Free (suc count) key (32 ∷ text)
 free_space key text count other free zero lt = other
 free_space key text count other free (suc place) lt = free place (omega arith)
 
@@ -56,43 +61,54 @@ digits_dark (byte ∷ digits) all =
 -- ---- two words, or three, behind a name
 
 -- a key's word with its digits, and another key's word
-pub alone_two : (key digits other rest : List ℕ) → list_all is_dark key ≡ true → IsNumeral digits → list_all is_dark other ≡ true
+pub alone_two : (key digits other rest : List ℕ) → list_all is_dark key ≡ true → IsNumeral digits
+    → list_all is_dark other ≡ true
     → begins_with (32 ∷ key) (32 ∷ (other ++ rest)) ≡ false → 13 ≤ length key + length other
     → IsAlone (32 ∷ key) (32 ∷ (key ++ (digits ++ (32 ∷ (other ++ rest)))))
 alone_two key digits other rest dark numeral dark2 differs long =
     let second = free_word key other rest 0 dark2 (free_none (32 ∷ key) rest) in
     let space = free_space (32 ∷ key) (other ++ rest) (length other + 0) differs second in
-    let first = free_word key digits (32 ∷ (other ++ rest)) (suc (length other + 0)) (digits_dark digits numeral.all) space in
-    let all = free_word key key (digits ++ (32 ∷ (other ++ rest))) (length digits + suc (length other + 0)) dark first in
-    alone_from_free (32 ∷ key) (key ++ (digits ++ (32 ∷ (other ++ rest)))) (length key + (length digits + suc (length other + 0))) (omega (arith, numeral.some)) all
+    let first = free_word key digits (32 ∷ (other ++ rest)) (suc (length other + 0)) (digits_dark digits numeral.all)
+    space in
+    let all = free_word key key (digits ++ (32 ∷ (other ++ rest))) (length digits + suc (length other + 0)) dark
+    first in
+    alone_from_free (32 ∷ key) (key ++ (digits ++ (32 ∷ (other ++ rest))))
+    (length key + (length digits + suc (length other + 0))) (omega (arith, numeral.some)) all
 
 -- a key's word with its digits, another key's word with a word without spaces, and a third key's word
-pub alone_three : (key digits other word third rest : List ℕ) → list_all is_dark key ≡ true → IsNumeral digits → list_all is_dark other ≡ true
+pub alone_three : (key digits other word third rest : List ℕ) → list_all is_dark key ≡ true → IsNumeral digits
+    → list_all is_dark other ≡ true
     → list_all is_dark word ≡ true → 0 < length word → list_all is_dark third ≡ true
-    → begins_with (32 ∷ key) (32 ∷ (other ++ (word ++ (32 ∷ (third ++ rest))))) ≡ false → begins_with (32 ∷ key) (32 ∷ (third ++ rest)) ≡ false
+    → begins_with (32 ∷ key) (32 ∷ (other ++ (word ++ (32 ∷ (third ++ rest))))) ≡ false
+    → begins_with (32 ∷ key) (32 ∷ (third ++ rest)) ≡ false
     → 11 ≤ length key + length other + length third
     → IsAlone (32 ∷ key) (32 ∷ (key ++ (digits ++ (32 ∷ (other ++ (word ++ (32 ∷ (third ++ rest))))))))
 alone_three key digits other word third rest dark numeral dark2 dark_word some dark3 differs2 differs3 long =
     let t3 = 32 ∷ (third ++ rest) in
-    let f3 = free_space (32 ∷ key) (third ++ rest) (length third + 0) differs3 (free_word key third rest 0 dark3 (free_none (32 ∷ key) rest)) in
+    let f3 = free_space (32 ∷ key) (third ++ rest) (length third + 0) differs3
+    (free_word key third rest 0 dark3 (free_none (32 ∷ key) rest)) in
     let n3 = suc (length third + 0) in
     let fw = free_word key word t3 n3 dark_word f3 in
-    let f2 = free_space (32 ∷ key) (other ++ (word ++ t3)) (length other + (length word + n3)) differs2 (free_word key other (word ++ t3) (length word + n3) dark2 fw) in
+    let f2 = free_space (32 ∷ key) (other ++ (word ++ t3)) (length other + (length word + n3)) differs2
+    (free_word key other (word ++ t3) (length word + n3) dark2 fw) in
     let n2 = suc (length other + (length word + n3)) in
     let first = free_word key digits (32 ∷ (other ++ (word ++ t3))) n2 (digits_dark digits numeral.all) f2 in
     let all = free_word key key (digits ++ (32 ∷ (other ++ (word ++ t3)))) (length digits + n2) dark first in
-    alone_from_free (32 ∷ key) (key ++ (digits ++ (32 ∷ (other ++ (word ++ t3))))) (length key + (length digits + n2)) (omega (arith, numeral.some)) all
+    alone_from_free (32 ∷ key) (key ++ (digits ++ (32 ∷ (other ++ (word ++ t3))))) (length key + (length digits + n2))
+    (omega (arith, numeral.some)) all
 
 -- ---- a prio has no space, and isn't empty
 
-signed_dark : (minus : Bool) (digits : List ℕ) → IsNumeral digits → list_all is_dark (prio_text (record { minus = minus; digits = digits })) ≡ true
+signed_dark : (minus : Bool) (digits : List ℕ) → IsNumeral digits
+    → list_all is_dark (prio_text (record { minus = minus; digits = digits })) ≡ true
 signed_dark true digits numeral = digits_dark digits numeral.all
 signed_dark false digits numeral = digits_dark digits numeral.all
 
 pub prio_dark : (prio : Prio) → IsNumeral prio.digits → list_all is_dark (prio_text prio) ≡ true
 prio_dark prio numeral = signed_dark prio.minus prio.digits numeral
 
-signed_some : (minus : Bool) (digits : List ℕ) → IsNumeral digits → 0 < length (prio_text (record { minus = minus; digits = digits }))
+signed_some : (minus : Bool) (digits : List ℕ) → IsNumeral digits
+    → 0 < length (prio_text (record { minus = minus; digits = digits }))
 signed_some true digits numeral = omega arith
 signed_some false digits numeral = numeral.some
 

@@ -4,11 +4,13 @@ use Rattle.std.specs.Prelude.{IsTrue, nat_lt}
 use Rattle.std.specs.List.{AllByRecursion}
 use Rattle.text_parts.specs.Numerals.{value_of}
 use Rattle.sched_event.specs.declared.fault.EventFault.{EventFault}
-use Rattle.sched_event.specs.Texts.{SwitchText, WakeupText, MigrationText, EventText, switch, wakeup, wakeup_new, migration}
+use Rattle.sched_event.specs.Texts.{SwitchText, WakeupText, MigrationText, EventText, switch, wakeup, wakeup_new}
+use Rattle.sched_event.specs.Texts.{migration}
 use Rattle.cfs_model.specs.Limits.{greatest_pid, greatest_processor}
 use Rattle.sched_event.specs.Ranges.{prio_of, is_out_of_range, prios_of, IsFair, names_idle}
 use Rattle.sched_event.specs.Event.{EventView, WakeupView, woken, born, wakeup_of, event_of}
-use Rattle.sched_event.specs.Judging.{◌>>=◌, number_within, printed_nice, switch_judged, wakeup_judged, migration_judged, judged}
+use Rattle.sched_event.specs.Judging.{◌>>=◌, number_within, printed_nice, switch_judged, wakeup_judged}
+use Rattle.sched_event.specs.Judging.{migration_judged, judged}
 use Rattle.sched_event.proofs.Verdicts.{PrioCase, low, high, fair, prio_case, decided}
 
 -- the answer of the tests for a text's parts
@@ -16,12 +18,17 @@ abbrev pub decided_of : ℕ → EventText → Result EventView EventFault
 decided_of cpu text = decided (is_out_of_range text) (prios_of text) (names_idle text) (event_of cpu text)
 
 wakeup_is_decided : (make : WakeupView → EventView) (t : WakeupText)
-    → (wakeup_judged t >>= λ read. Ok (make read)) ≡ decided (is_out_of_range (wakeup t)) (prios_of (wakeup t)) (names_idle (wakeup t)) (make (wakeup_of t))
+    → (wakeup_judged t >>= λ read. Ok (make read)) ≡ decided (is_out_of_range (wakeup t)) (prios_of (wakeup t))
+    (names_idle (wakeup t)) (make (wakeup_of t))
 unfolding wakeup_judged number_within printed_nice
-wakeup_is_decided make t = by_tests (nat_lt greatest_pid (value_of t.pid)) (nat_lt greatest_processor (value_of t.target)) (eqb (value_of t.pid) 0) refl refl refl (prio_case (prio_of t.prio))
+wakeup_is_decided make t = by_tests (nat_lt greatest_pid (value_of t.pid))
+    (nat_lt greatest_processor (value_of t.target)) (eqb (value_of t.pid) 0) refl refl refl (prio_case (prio_of t.prio))
   where
-    by_tests : (far_pid far_cpu idle : Bool) → nat_lt greatest_pid (value_of t.pid) ≡ far_pid → nat_lt greatest_processor (value_of t.target) ≡ far_cpu → eqb (value_of t.pid) 0 ≡ idle → PrioCase (prio_of t.prio)
-        → (wakeup_judged t >>= λ read. Ok (make read)) ≡ decided (is_out_of_range (wakeup t)) (prios_of (wakeup t)) (names_idle (wakeup t)) (make (wakeup_of t))
+    by_tests : (far_pid far_cpu idle : Bool) → nat_lt greatest_pid (value_of t.pid) ≡ far_pid
+        → nat_lt greatest_processor (value_of t.target) ≡ far_cpu → eqb (value_of t.pid) 0 ≡ idle
+        → PrioCase (prio_of t.prio)
+        → (wakeup_judged t >>= λ read. Ok (make read)) ≡ decided (is_out_of_range (wakeup t)) (prios_of (wakeup t))
+        (names_idle (wakeup t)) (make (wakeup_of t))
     by_tests true far_cpu idle p q r prio = rw p refl
     by_tests false true idle p q r prio = rw (p, q) refl
     by_tests false false true p q r prio = rw (p, q, r) refl
@@ -32,10 +39,15 @@ wakeup_is_decided make t = by_tests (nat_lt greatest_pid (value_of t.pid)) (nat_
 migration_is_decided : (cpu : ℕ) (t : MigrationText) → judged cpu (migration t) ≡ decided_of cpu (migration t)
 unfolding judged migration_judged number_within printed_nice
 migration_is_decided cpu t =
-    by_tests (nat_lt greatest_pid (value_of t.pid)) (nat_lt greatest_processor (value_of t.orig)) (nat_lt greatest_processor (value_of t.dest)) (eqb (value_of t.pid) 0) refl refl refl refl (prio_case (prio_of t.prio))
+    by_tests (nat_lt greatest_pid (value_of t.pid)) (nat_lt greatest_processor (value_of t.orig))
+    (nat_lt greatest_processor (value_of t.dest)) (eqb (value_of t.pid) 0) refl refl refl refl
+    (prio_case (prio_of t.prio))
   where
-    by_tests : (far_pid far_orig far_dest idle : Bool) → nat_lt greatest_pid (value_of t.pid) ≡ far_pid → nat_lt greatest_processor (value_of t.orig) ≡ far_orig → nat_lt greatest_processor (value_of t.dest) ≡ far_dest
-        → eqb (value_of t.pid) 0 ≡ idle → PrioCase (prio_of t.prio) → judged cpu (migration t) ≡ decided_of cpu (migration t)
+    by_tests : (far_pid far_orig far_dest idle : Bool) → nat_lt greatest_pid (value_of t.pid) ≡ far_pid
+        → nat_lt greatest_processor (value_of t.orig) ≡ far_orig
+        → nat_lt greatest_processor (value_of t.dest) ≡ far_dest
+        → eqb (value_of t.pid) 0 ≡ idle → PrioCase (prio_of t.prio)
+        → judged cpu (migration t) ≡ decided_of cpu (migration t)
     by_tests true far_orig far_dest idle p q r s prio = rw p refl
     by_tests false true far_dest idle p q r s prio = rw (p, q) refl
     by_tests false false true idle p q r s prio = rw (p, q, r) refl
@@ -47,11 +59,14 @@ migration_is_decided cpu t =
 switch_is_decided : (cpu : ℕ) (t : SwitchText) → judged cpu (switch t) ≡ decided_of cpu (switch t)
 unfolding judged switch_judged number_within printed_nice
 switch_is_decided cpu t =
-    by_tests (nat_lt greatest_pid (value_of t.prev)) (nat_lt greatest_pid (value_of t.next)) (eqb (value_of t.prev) 0) (eqb (value_of t.next) 0) refl refl refl refl
+    by_tests (nat_lt greatest_pid (value_of t.prev)) (nat_lt greatest_pid (value_of t.next)) (eqb (value_of t.prev) 0)
+    (eqb (value_of t.next) 0) refl refl refl refl
     (prio_case (prio_of t.prev_prio)) (prio_case (prio_of t.next_prio))
   where
-    by_tests : (far_prev far_next from_idle to_idle : Bool) → nat_lt greatest_pid (value_of t.prev) ≡ far_prev → nat_lt greatest_pid (value_of t.next) ≡ far_next → eqb (value_of t.prev) 0 ≡ from_idle
-        → eqb (value_of t.next) 0 ≡ to_idle → PrioCase (prio_of t.prev_prio) → PrioCase (prio_of t.next_prio) → judged cpu (switch t) ≡ decided_of cpu (switch t)
+    by_tests : (far_prev far_next from_idle to_idle : Bool) → nat_lt greatest_pid (value_of t.prev) ≡ far_prev
+        → nat_lt greatest_pid (value_of t.next) ≡ far_next → eqb (value_of t.prev) 0 ≡ from_idle
+        → eqb (value_of t.next) 0 ≡ to_idle → PrioCase (prio_of t.prev_prio) → PrioCase (prio_of t.next_prio)
+        → judged cpu (switch t) ≡ decided_of cpu (switch t)
     by_tests true far_next from_idle to_idle p q r s prev next = rw p refl
     by_tests false true from_idle to_idle p q r s prev next = rw (p, q) refl
     by_tests false false true true p q r s prev next = rw (p, q, r, s) refl

@@ -6,7 +6,8 @@ use Rattle.sched_event.specs.Reading.{numeral_behind, prio_behind, name_behind, 
 use Rattle.text_parts.proofs.Fronts.{begins_own}
 use Rattle.sched_event.proofs.Alone.{alone_three, prio_dark, prio_some}
 use Rattle.text_parts.proofs.Runs.{bind_some, at_end_taken}
-use Rattle.sched_event.proofs.Keyed.{numeral_behind_takes, numeral_behind_again, numeral_last, prio_behind_takes, prio_behind_again, name_behind_takes, name_behind_again, followed_by, ends}
+use Rattle.sched_event.proofs.Keyed.{numeral_behind_takes, numeral_behind_again, numeral_last, prio_behind_takes}
+use Rattle.sched_event.proofs.Keyed.{prio_behind_again, name_behind_takes, name_behind_again, followed_by, ends}
 
 -- the fields that were read one behind the other, and nothing behind them
 pub record MigrationSteps (text : List ℕ) (t : MigrationText) : Type 0 where
@@ -35,7 +36,8 @@ migration_again rest t is =
       after2 = after2;
       after3 = after3;
       after4 = after4;
-      name = name_behind_again (codes "comm=") (codes " pid=") t.name after1 is.name (begins_own (codes " pid=") (t.pid ++ after2))
+      name = name_behind_again (codes "comm=") (codes " pid=") t.name after1 is.name
+          (begins_own (codes " pid=") (t.pid ++ after2))
           (alone_three (codes "pid=") t.pid (codes "prio=") (prio_text t.prio) (codes "orig_cpu=") (t.orig ++ after4)
           refl is.pid refl (prio_dark t.prio is.prio) (prio_some t.prio is.prio) refl refl refl (lit≤ tt));
       pid = numeral_behind_again (codes " pid=") t.pid after2 is.pid refl;
@@ -54,7 +56,8 @@ migration_steps text t e =
     let f = bind_some _ _ t d.2 in
     let made : MigrationText = record { name = a.0.0; pid = b.0.0; prio = c.0.0; orig = d.0.0; dest = f.0.0 } in
     let whole = at_end_taken f.0.1 made t f.2 in
-    let last : numeral_behind (codes " dest_cpu=") d.0.1 ≡ Some (f.0.0, []) = f.1 ∙ ap (λ (after : List ℕ). Some (f.0.0, after)) whole.0 in
+    let last : numeral_behind (codes " dest_cpu=") d.0.1 ≡ Some (f.0.0, []) = f.1
+    ∙ ap (λ (after : List ℕ). Some (f.0.0, after)) whole.0 in
     subst (MigrationSteps text) whole.1 (record {
       after1 = a.0.1;
       after2 = b.0.1;

@@ -1,24 +1,28 @@
 -- The last place at which a key stands: one step of the search, and what it finds.
-use Rattle.std.proofs.Common.{◌≡◌, ◌≢◌, ℕ, zero, suc, ◌+◌, ◌-◌, ◌≤◌, ◌<◌, ◌⊎◌, Bool, true, false, cond, eqb, min, List, [], ◌∷◌, length, get_or, drop, Some, None, refl, sym, ap, ◌∙◌, arith, inl, inr}
+use Rattle.std.proofs.Common.{◌≡◌, ◌≢◌, ℕ, zero, suc, ◌+◌, ◌-◌, ◌≤◌, ◌<◌, ◌⊎◌, Bool, true, false, cond, eqb, min, List}
+use Rattle.std.proofs.Common.{[], ◌∷◌, length, get_or, drop, Some, None, refl, sym, ap, ◌∙◌, arith, inl, inr}
 use Rattle.std.proofs.lemmas.Bool.{cases_lt, ne_eqb}
 use Rattle.std.proofs.lemmas.List.{drop_more, drop_all}
 use Rattle.text_parts.specs.Pieces.{begins_with}
 use Rattle.sched_event.specs.Reading.{last_place}
 
 -- the key stands at the limit
-pub place_found : (limit : ℕ) (key text : List ℕ) → begins_with key (drop limit text) ≡ true → last_place limit key text ≡ Some limit
+pub place_found : (limit : ℕ) (key text : List ℕ) → begins_with key (drop limit text) ≡ true
+    → last_place limit key text ≡ Some limit
 unfolding last_place
 place_found zero key text e = rw e refl
 place_found (suc limit) key text e = rw e refl
 
 -- it doesn't stand at the limit
-pub place_below : (limit : ℕ) (key text : List ℕ) → begins_with key (drop limit text) ≡ false → limit ≢ 0 → last_place limit key text ≡ last_place (limit - 1) key text
+pub place_below : (limit : ℕ) (key text : List ℕ) → begins_with key (drop limit text) ≡ false → limit ≢ 0
+    → last_place limit key text ≡ last_place (limit - 1) key text
 unfolding last_place
 place_below zero key text e ne = absurd (ne refl)
 place_below (suc limit) key text e ne = let down : suc limit - 1 ≡ limit = omega arith in rw (e, down) refl
 
 -- it stands nowhere up to the front
-pub place_none : (limit : ℕ) (key text : List ℕ) → begins_with key (drop limit text) ≡ false → limit ≡ 0 → last_place limit key text ≡ None
+pub place_none : (limit : ℕ) (key text : List ℕ) → begins_with key (drop limit text) ≡ false → limit ≡ 0
+    → last_place limit key text ≡ None
 unfolding last_place
 place_none zero key text e z = rw e refl
 place_none (suc limit) key text e z = absurd (omega arith)
@@ -33,7 +37,8 @@ pub chosen : {A : Type 0} (b : Bool) (x y z : A) → cond b x y ≡ z → ((b �
 chosen true x y z e = inl (refl, e)
 chosen false x y z e = inr (refl, e)
 
-pub place_stands : (limit : ℕ) (key text : List ℕ) (place : ℕ) → last_place limit key text ≡ Some place → IsKeyAt limit key text place
+pub place_stands : (limit : ℕ) (key text : List ℕ) (place : ℕ) → last_place limit key text ≡ Some place
+    → IsKeyAt limit key text place
 unfolding last_place
 place_stands zero key text place e =
     elim (chosen (begins_with key text) (Some 0) None (Some place) e) [
@@ -41,26 +46,35 @@ place_stands zero key text place e =
       | inr none ↦ absurd cc
     ]
 place_stands (suc limit) key text place e =
-    elim (chosen (begins_with key (drop (suc limit) text)) (Some (suc limit)) (last_place limit key text) (Some place) e) [
+    elim (chosen (begins_with key (drop (suc limit) text)) (Some (suc limit)) (last_place limit key text) (Some place)
+    e) [
       | inl found ↦ let z : suc limit ≡ place = cc in record { within = omega arith; stands = rw (← z) found.0 }
-      | inr on ↦ let below = place_stands limit key text place on.1 in record { within = omega (arith, below.within); stands = below.stands }
+      | inr on ↦ let below = place_stands limit key text place on.1 in
+          record { within = omega (arith, below.within); stands = below.stands }
     ]
 
 -- a key that stands at a place, and at no later one up to the limit, was found there
-pub place_is_last : (limit : ℕ) (key text : List ℕ) (place : ℕ) → place ≤ limit → begins_with key (drop place text) ≡ true
-    → ((later : ℕ) → place < later → later ≤ limit → begins_with key (drop later text) ≡ false) → last_place limit key text ≡ Some place
+pub place_is_last : (limit : ℕ) (key text : List ℕ) (place : ℕ) → place ≤ limit
+    → begins_with key (drop place text) ≡ true
+    → ((later : ℕ) → place < later → later ≤ limit → begins_with key (drop later text) ≡ false)
+    → last_place limit key text ≡ Some place
 unfolding last_place
-place_is_last zero key text place le stands none = let z : place ≡ 0 = omega arith in place_found 0 key text (rw z at stands) ∙ ap Some (sym z)
+place_is_last zero key text place le stands none = let z : place ≡ 0 = omega arith in
+    place_found 0 key text (rw z at stands) ∙ ap Some (sym z)
 place_is_last (suc limit) key text place le stands none =
     elim (cases_lt place (suc limit)) [
-      | inl lt ↦ rw (none (suc limit) lt (omega arith)) (place_is_last limit key text place (omega arith) stands (λ later above below. none later above (omega arith)))
-      | inr ge ↦ let z : place ≡ suc limit = omega arith in place_found (suc limit) key text (rw z at stands) ∙ ap Some (sym z)
+      | inl lt ↦ rw (none (suc limit) lt (omega arith))
+          (place_is_last limit key text place (omega arith) stands
+          (λ later above below. none later above (omega arith)))
+      | inr ge ↦ let z : place ≡ suc limit = omega arith in
+          place_found (suc limit) key text (rw z at stands) ∙ ap Some (sym z)
     ]
 
 -- ---- a key stands only where its first byte does
 
 -- it doesn't stand where another byte does
-pub first_differs : (key text : List ℕ) (place : ℕ) → 0 < length key → place < length text → get_or text place 0 ≢ get_or key 0 0 → begins_with key (drop place text) ≡ false
+pub first_differs : (key text : List ℕ) (place : ℕ) → 0 < length key → place < length text
+    → get_or text place 0 ≢ get_or key 0 0 → begins_with key (drop place text) ≡ false
 first_differs [] text place some within differs = absurd (omega arith)
 first_differs (byte ∷ key) text place some within differs =
     let here : drop place text ≡ get_or text place 0 ∷ drop (place + 1) text = drop_more text place 0 within in
@@ -74,25 +88,30 @@ none_in_empty (byte ∷ key) some = refl
 
 -- places with another byte are passed over
 pub passed_over : (limit place : ℕ) (key text : List ℕ) → place ≤ limit → limit < length text → 0 < length key
-    → ((later : ℕ) → place < later → later ≤ limit → get_or text later 0 ≢ get_or key 0 0) → last_place limit key text ≡ last_place place key text
+    → ((later : ℕ) → place < later → later ≤ limit → get_or text later 0 ≢ get_or key 0 0)
+    → last_place limit key text ≡ last_place place key text
 passed_over zero place key text le within some other = let z : 0 ≡ place = omega arith in rw z refl
 passed_over (suc limit) place key text le within some other =
     elim (cases_lt place (suc limit)) [
       | inl lt ↦
           let down : suc limit - 1 ≡ limit = omega arith in
-          place_below (suc limit) key text (first_differs key text (suc limit) some within (other (suc limit) lt (omega arith))) (λ z. absurd (omega arith))
-          ∙ rw down (passed_over limit place key text (omega arith) (omega arith) some (λ later above below. other later above (omega arith)))
+          place_below (suc limit) key text (first_differs key text (suc limit) some within
+          (other (suc limit) lt (omega arith))) (λ z. absurd (omega arith))
+          ∙ rw down (passed_over limit place key text (omega arith) (omega arith) some
+          (λ later above below. other later above (omega arith)))
       | inr ge ↦ let z : suc limit ≡ place = omega arith in rw z refl
     ]
 
 -- the key doesn't stand behind the last byte
-pub from_last : (key text : List ℕ) → 0 < length key → 0 < length text → last_place (min 15 (length text)) key text ≡ last_place (min 15 (length text - 1)) key text
+pub from_last : (key text : List ℕ) → 0 < length key → 0 < length text
+    → last_place (min 15 (length text)) key text ≡ last_place (min 15 (length text - 1)) key text
 from_last key text some long =
     elim (cases_lt 15 (length text)) [
       | inl lt ↦ let same : min 15 (length text) ≡ min 15 (length text - 1) = omega arith in rw same refl
       | inr ge ↦
           let all : min 15 (length text) ≡ length text = omega arith in
           let but_one : min 15 (length text - 1) ≡ length text - 1 = omega arith in
-          let nothing : begins_with key (drop (length text) text) ≡ false = rw (drop_all (length text) text (omega arith)) (none_in_empty key some) in
+          let nothing : begins_with key (drop (length text) text) ≡ false =
+          rw (drop_all (length text) text (omega arith)) (none_in_empty key some) in
           rw (all, but_one) (place_below (length text) key text nothing (λ z. absurd (omega arith)))
     ]

@@ -1,5 +1,6 @@
 -- A run of bytes, with what follows it: what was taken from the front of a text is so, and what is so is taken.
-use Rattle.std.proofs.Common.{◌≡◌, ℕ, ◌<◌, Bool, false, eqb, List, ◌++◌, length, take, drop, Some, None, refl, sym, ap, ◌∙◌, arith, inl, inr}
+use Rattle.std.proofs.Common.{◌≡◌, ℕ, ◌<◌, Bool, false, eqb, List, ◌++◌, length, take, drop, Some, None, refl, sym, ap}
+use Rattle.std.proofs.Common.{◌∙◌, arith, inl, inr}
 use Rattle.std.specs.List.{prefix_len}
 use Rattle.std.proofs.lemmas.Bool.{eqb-false, ne_eqb}
 use Rattle.std.proofs.lemmas.Option.{some_pair_parts}
@@ -15,13 +16,16 @@ pub record TakesRun (test : ℕ → Bool) (text front rest : List ℕ) : Type 0 
   pub run : IsRunOf test front
   pub parts : text ≡ front ++ rest
 
-pub run_at_takes : (test : ℕ → Bool) (text front rest : List ℕ) → run_at test text ≡ Some (front, rest) → TakesRun test text front rest
+pub run_at_takes : (test : ℕ → Bool) (text front rest : List ℕ) → run_at test text ≡ Some (front, rest)
+    → TakesRun test text front rest
 unfolding run_at
 run_at_takes test text front rest e =
-    elim (chosen (eqb (prefix_len test text) 0) None (Some (take (prefix_len test text) text, drop (prefix_len test text) text)) (Some (front, rest)) e) [
+    elim (chosen (eqb (prefix_len test text) 0) None
+    (Some (take (prefix_len test text) text, drop (prefix_len test text) text)) (Some (front, rest)) e) [
       | inl none ↦ absurd cc
       | inr found ↦
-          let parts = some_pair_parts (take (prefix_len test text) text) front (drop (prefix_len test text) text) rest found.1 in
+          let parts = some_pair_parts (take (prefix_len test text) text) front (drop (prefix_len test text) text) rest
+          found.1 in
           let long : length front ≡ prefix_len test text = ap length (sym parts.0) ∙ length-prefix_len test text in
           let some : 0 < length front = omega (arith, eqb-false (prefix_len test text) 0 found.0) in
           record {
@@ -30,7 +34,8 @@ run_at_takes test text front rest e =
           }
     ]
 
-pub run_at_again : (test : ℕ → Bool) (front rest : List ℕ) → IsRunOf test front → Stops test rest → run_at test (front ++ rest) ≡ Some (front, rest)
+pub run_at_again : (test : ℕ → Bool) (front rest : List ℕ) → IsRunOf test front → Stops test rest
+    → run_at test (front ++ rest) ≡ Some (front, rest)
 unfolding run_at
 run_at_again test front rest run stops =
     let count : prefix_len test (front ++ rest) ≡ length front = prefix_len-run test front rest run.all stops in

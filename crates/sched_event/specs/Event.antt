@@ -7,10 +7,12 @@ use Rattle.cfs_model.specs.Limits.{idle_pid}
 use Rattle.text_parts.specs.Numerals.{value_of}
 use Rattle.sched_event.specs.declared.event.Event.{Event}
 use Rattle.sched_event.specs.declared.fault.EventFault.{EventFault}
-use Rattle.sched_event.specs.declared.fault.EventFault.TheVariants.{BadFields, NumberRange, RealTime, PrioRange, IdleNamed}
+use Rattle.sched_event.specs.declared.fault.EventFault.TheVariants.{BadFields, NumberRange, RealTime, PrioRange}
+use Rattle.sched_event.specs.declared.fault.EventFault.TheVariants.{IdleNamed}
 use Rattle.sched_event.specs.Texts.{Prio, EventText, switch, wakeup, wakeup_new, migration, WakeupText, Reads}
 use Rattle.sched_event.specs.Ranges.{prio_of, is_out_of_range, prios_of, IsFair, Leftmost, names_idle}
-pub use Rattle.sched_event.specs.EventView.{SwitchView, WakeupView, MigrationView, EventView, switched, woken, born, migrated, switch_view, wakeup_view, migration_view, event_view}
+pub use Rattle.sched_event.specs.EventView.{SwitchView, WakeupView, MigrationView, EventView, switched, woken, born}
+pub use Rattle.sched_event.specs.EventView.{migrated, switch_view, wakeup_view, migration_view, event_view}
 pub use Rattle.sched_event.specs.Act.{act_of}
 
 -- the nice value that a prio stands for; the idle task's is 0, whatever is printed
@@ -19,7 +21,12 @@ nice_of pid prio = if value_of pid == idle_pid then pos 0 else prio_of prio -ℤ
 
 -- a wakeup's parts as names and numbers
 abbrev pub wakeup_of : WakeupText → WakeupView
-wakeup_of text = record { name = text.name; pid = value_of text.pid; nice = nice_of text.pid text.prio; target = value_of text.target }
+wakeup_of text = record {
+  name = text.name;
+  pid = value_of text.pid;
+  nice = nice_of text.pid text.prio;
+  target = value_of text.target;
+}
 
 -- what a text's parts say, on a line whose head has this processor
 abbrev pub event_of : ℕ → EventText → EventView
@@ -59,7 +66,8 @@ HasNumberOutOfRange which rest = (text : EventText) × Reads which rest text × 
 -- the text can be read with its numbers in range, and the leftmost prio that is looked at and isn't a fair task's has
 -- the property P
 abbrev pub HasUnfairPrio : (ℤ → Type 0) → Which → List ℕ → Type 0
-HasUnfairPrio P which rest = (text : EventText) × Reads which rest text × IsFalse (is_out_of_range text) × Leftmost P (prios_of text)
+HasUnfairPrio P which rest = (text : EventText) × Reads which rest text × IsFalse (is_out_of_range text)
+    × Leftmost P (prios_of text)
 
 -- that prio is below 100: a real-time or deadline task
 abbrev pub HasRealTimePrio : Which → List ℕ → Type 0
@@ -71,11 +79,13 @@ HasPrioAboveRange which rest = HasUnfairPrio (λ prio. pos 139 <ℤ prio) which 
 
 -- the text can be read with its numbers in range, and the idle task is woken, born or migrated
 abbrev pub NamesIdle : Which → List ℕ → Type 0
-NamesIdle which rest = (text : EventText) × Reads which rest text × IsFalse (is_out_of_range text) × IsTrue (names_idle text)
+NamesIdle which rest = (text : EventText) × Reads which rest text × IsFalse (is_out_of_range text)
+    × IsTrue (names_idle text)
 
 -- the text can be read as this event, with every number in its range
 abbrev pub IsEvent : ℕ → Which → List ℕ → EventView → Type 0
-IsEvent cpu which rest event = (text : EventText) × Reads which rest text × IsFalse (is_out_of_range text) × AllByRecursion IsFair (prios_of text)
+IsEvent cpu which rest event = (text : EventText) × Reads which rest text × IsFalse (is_out_of_range text)
+    × AllByRecursion IsFair (prios_of text)
     × IsFalse (names_idle text) × (event ≡ event_of cpu text)
 
 -- what a text means, on a line whose head has this processor: an event, or the first cause to refuse it

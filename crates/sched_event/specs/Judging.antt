@@ -1,12 +1,15 @@
 -- Testing the numbers and the prios of a text in their order (the ranges and the prios of fair tasks are this
 -- project's profile). What is answered so is the relation of Event.
-use Rattle.std.specs.Prelude.{◌≡◌, ℕ, ◌==◌, if◌then◌else◌, nat_lt, int_lt, ℤ, pos, ◌-ℤ◌, List, Option, Some, None, Result, Ok, Err}
+use Rattle.std.specs.Prelude.{◌≡◌, ℕ, ◌==◌, if◌then◌else◌, nat_lt, int_lt, ℤ, pos, ◌-ℤ◌, List, Option, Some, None}
+use Rattle.std.specs.Prelude.{Result, Ok, Err}
 use Rattle.ftrace_line.specs.declared.kinds.Which.{Which}
 use Rattle.cfs_model.specs.Limits.{greatest_pid, greatest_processor, idle_pid}
 use Rattle.text_parts.specs.Numerals.{value_of}
 use Rattle.sched_event.specs.declared.fault.EventFault.{EventFault}
-use Rattle.sched_event.specs.declared.fault.EventFault.TheVariants.{BadFields, NumberRange, RealTime, PrioRange, IdleNamed}
-use Rattle.sched_event.specs.Texts.{Prio, SwitchText, WakeupText, MigrationText, EventText, switch, wakeup, wakeup_new, migration}
+use Rattle.sched_event.specs.declared.fault.EventFault.TheVariants.{BadFields, NumberRange, RealTime, PrioRange}
+use Rattle.sched_event.specs.declared.fault.EventFault.TheVariants.{IdleNamed}
+use Rattle.sched_event.specs.Texts.{Prio, SwitchText, WakeupText, MigrationText, EventText, switch, wakeup, wakeup_new}
+use Rattle.sched_event.specs.Texts.{migration}
 use Rattle.sched_event.specs.Ranges.{prio_of}
 use Rattle.sched_event.specs.Event.{SwitchView, WakeupView, MigrationView, EventView, switched, woken, born, migrated}
 use Rattle.sched_event.specs.Reading.{text_at}
@@ -28,7 +31,8 @@ number_within most digits = if nat_lt most (value_of digits) then Err NumberRang
 
 -- the nice value of a fair task's prio
 abbrev pub nice_of_priority : ℤ → Result ℤ EventFault
-nice_of_priority prio = if int_lt prio (pos 100) then Err RealTime else if int_lt (pos 139) prio then Err PrioRange else Ok (prio -ℤ pos 120)
+nice_of_priority prio = if int_lt prio (pos 100) then Err RealTime else if int_lt (pos 139) prio then Err PrioRange else
+    Ok (prio -ℤ pos 120)
 
 -- the nice value of a pid's printed prio: that of the idle task isn't looked at, and counts as 120
 unfoldable pub printed_nice : ℕ → Prio → Result ℤ EventFault
@@ -67,7 +71,13 @@ migration_judged text = do
   orig ← number_within greatest_processor text.orig
   dest ← number_within greatest_processor text.dest
   nice ← printed_nice pid text.prio
-  if pid == idle_pid then Err IdleNamed else Ok (record { name = text.name; pid = pid; nice = nice; orig = orig; dest = dest })
+  if pid == idle_pid then Err IdleNamed else Ok (record {
+    name = text.name;
+    pid = pid;
+    nice = nice;
+    orig = orig;
+    dest = dest;
+  })
 
 -- the answer for a text's parts
 unfoldable pub judged : ℕ → EventText → Result EventView EventFault

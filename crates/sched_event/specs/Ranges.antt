@@ -1,6 +1,7 @@
 -- Which texts are refused although they can be read (the print formats of the scheduler's trace events; the ranges and
 -- the prios of fair tasks are this project's profile).
-use Rattle.std.specs.Prelude.{ℕ, ◌==◌, ◌||◌, Bool, false, if◌then◌else◌, nat_lt, ℤ, pos, neg_ℤ, ◌≤ℤ◌, List, [], ◌∷◌, ◌++◌, ◌⊎◌}
+use Rattle.std.specs.Prelude.{ℕ, ◌==◌, ◌||◌, Bool, false, if◌then◌else◌, nat_lt, ℤ, pos, neg_ℤ, ◌≤ℤ◌, List, [], ◌∷◌}
+use Rattle.std.specs.Prelude.{◌++◌, ◌⊎◌}
 use Rattle.std.specs.List.{list_any}
 use Rattle.cfs_model.specs.Limits.{greatest_pid, greatest_processor, idle_pid}
 use Rattle.text_parts.specs.Numerals.{value_of}
@@ -26,7 +27,8 @@ cpus_named (migration text) = value_of text.orig ∷ value_of text.dest ∷ []
 
 -- some pid or some processor is above its greatest number
 abbrev pub is_out_of_range : EventText → Bool
-is_out_of_range text = list_any (nat_lt greatest_pid) (pids_named text) || list_any (nat_lt greatest_processor) (cpus_named text)
+is_out_of_range text = list_any (nat_lt greatest_pid) (pids_named text)
+    || list_any (nat_lt greatest_processor) (cpus_named text)
 
 -- a prio is looked at unless its pid is the idle task's
 abbrev pub looked_at : List ℕ → Prio → List ℤ

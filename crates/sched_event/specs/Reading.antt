@@ -1,17 +1,20 @@
 -- Reading the four events' texts from left to right, as lists of bytes (the print formats of the scheduler's trace
 -- events). What is read so is the relation of Texts.
-use Rattle.std.specs.Prelude.{ℕ, zero, suc, ◌==◌, Bool, true, false, if◌then◌else◌, List, [], ◌∷◌, codes, length, min, take, drop, Option, Some, None, option_map}
+use Rattle.std.specs.Prelude.{ℕ, zero, suc, ◌==◌, Bool, true, false, if◌then◌else◌, List, [], ◌∷◌, codes, length, min}
+use Rattle.std.specs.Prelude.{take, drop, Option, Some, None, option_map}
 use Rattle.std.specs.List.{prefix_len}
 use Rattle.ftrace_line.specs.declared.kinds.Which.{Which}
 use Rattle.ftrace_line.specs.declared.kinds.Which.TheVariants as kinds
 use Rattle.text_parts.specs.Numerals.{is_digit}
 use Rattle.text_parts.specs.Pieces.{begins_with}
 use Rattle.text_parts.specs.Reading.{◌>>=◌, after_text, if_at_end}
-use Rattle.sched_event.specs.Texts.{Prio, SwitchText, WakeupText, MigrationText, EventText, switch, wakeup, wakeup_new, migration, is_dark}
+use Rattle.sched_event.specs.Texts.{Prio, SwitchText, WakeupText, MigrationText, EventText, switch, wakeup, wakeup_new}
+use Rattle.sched_event.specs.Texts.{migration, is_dark}
 
 -- the bytes at the front that pass a test, at least one, and what follows them
 unfoldable pub run_at : (ℕ → Bool) → List ℕ → Option (List ℕ × List ℕ)
-run_at test text = if prefix_len test text == 0 then None else Some (take (prefix_len test text) text, drop (prefix_len test text) text)
+run_at test text = if prefix_len test text == 0 then None else Some
+    (take (prefix_len test text) text, drop (prefix_len test text) text)
 
 -- whether a minus sign stands at the front, and what follows it
 unfoldable pub sign_at : List ℕ → Bool × List ℕ
@@ -21,7 +24,8 @@ sign_at (byte ∷ bytes) = if byte == 45 then (true, bytes) else (false, byte �
 -- the last place up to a limit at which a key stands
 unfoldable pub last_place : ℕ → List ℕ → List ℕ → Option ℕ
 last_place zero key text = if begins_with key text then Some 0 else None
-last_place (suc limit) key text = if begins_with key (drop (suc limit) text) then Some (suc limit) else last_place limit key text
+last_place (suc limit) key text = if begins_with key (drop (suc limit) text) then Some (suc limit) else last_place limit
+    key text
 
 -- the digits behind a key
 unfoldable pub numeral_behind : List ℕ → List ℕ → Option (List ℕ × List ℕ)
@@ -85,7 +89,13 @@ wakeup_at text = do
   pid ← numeral_behind (codes " pid=") name.1
   prio ← prio_behind (codes " prio=") pid.1
   target ← numeral_behind (codes " target_cpu=") (optional_behind (codes " success=") prio.1).1
-  if_at_end target.1 (record { name = name.0; pid = pid.0; prio = prio.0; success = (optional_behind (codes " success=") prio.1).0; target = target.0 })
+  if_at_end target.1 (record {
+    name = name.0;
+    pid = pid.0;
+    prio = prio.0;
+    success = (optional_behind (codes " success=") prio.1).0;
+    target = target.0;
+  })
 
 -- the parts of a migration
 unfoldable pub migration_at : List ℕ → Option MigrationText

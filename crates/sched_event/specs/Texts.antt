@@ -1,6 +1,7 @@
 -- The texts of the four events (ftrace.rst; the print formats of sched_switch, sched_wakeup, sched_wakeup_new and
 -- sched_migrate_task): what a text's parts are, and that they make up all of it.
-use Rattle.std.specs.Prelude.{◌≡◌, ℕ, ◌≤◌, ◌==◌, not, Bool, if◌then◌else◌, List, [], ◌∷◌, ◌++◌, codes, length, Option, Some, None, IfSome}
+use Rattle.std.specs.Prelude.{◌≡◌, ℕ, ◌≤◌, ◌==◌, not, Bool, if◌then◌else◌, List, [], ◌∷◌, ◌++◌, codes, length, Option}
+use Rattle.std.specs.Prelude.{Some, None, IfSome}
 use Rattle.ftrace_line.specs.declared.kinds.Which.{Which}
 use Rattle.ftrace_line.specs.declared.kinds.Which.TheVariants as kinds
 use Rattle.text_parts.specs.Numerals.{IsNumeral}
@@ -47,8 +48,10 @@ pub record IsSwitchText (rest : List ℕ) (text : SwitchText) : Type 0 where
   pub next_name : IsName text.next_name
   pub next : IsNumeral text.next
   pub next_prio : IsNumeral text.next_prio.digits
-  pub whole : rest ≡ joined (codes "prev_comm=" ∷ text.prev_name ∷ codes " prev_pid=" ∷ text.prev ∷ codes " prev_prio=" ∷ prio_text text.prev_prio
-      ∷ codes " prev_state=" ∷ text.prev_state ∷ codes " ==> next_comm=" ∷ text.next_name ∷ codes " next_pid=" ∷ text.next ∷ codes " next_prio=" ∷ prio_text text.next_prio ∷ [])
+  pub whole : rest ≡ joined (codes "prev_comm=" ∷ text.prev_name ∷ codes " prev_pid=" ∷ text.prev ∷ codes
+      " prev_prio=" ∷ prio_text text.prev_prio
+      ∷ codes " prev_state=" ∷ text.prev_state ∷ codes " ==> next_comm=" ∷ text.next_name ∷ codes
+      " next_pid=" ∷ text.next ∷ codes " next_prio=" ∷ prio_text text.next_prio ∷ [])
 
 -- the parts of a wakeup: the task's name, the digits of its pid, its prio, the digits of `success` where it is
 -- printed, and those of the target processor

@@ -2,7 +2,8 @@ ghost use Rattle.std.specs.Prelude.{◌≡◌, ◌≢◌, ℕ, ◌+◌, ◌<◌,
 ghost use Rattle.std.specs.List.{prefix_len};
 ghost use Rattle.sched_event.specs.Texts.{is_dark};
 ghost use Rattle.text_parts.specs.Reading.{Gives};
-ghost use Rattle.sched_event.specs.Reading.{run_at, sign_at, last_place, numeral_behind, state_behind, prio_behind, name_behind, optional_behind};
+ghost use Rattle.sched_event.specs.Reading.{run_at, sign_at, last_place, numeral_behind, state_behind, prio_behind};
+ghost use Rattle.sched_event.specs.Reading.{name_behind, optional_behind};
 ghost use Rattle.sched_event.specs.FieldsView.{pair, numeral_pair, prio_pair, optional_pair};
 ghost use Rattle.text_parts.specs.Numerals.{is_digit};
 
@@ -97,8 +98,8 @@ fn last_byte(text: &[u8], byte: u8, limit: usize) -> usize
     place
 }
 
-/// The last of the first sixteen places at which this byte stands, or 0. Names have all lengths, so all places are looked
-/// at with no branch to guess.
+/// The last of the first sixteen places at which this byte stands, or 0. Names have all lengths, so all places are
+/// looked at with no branch to guess.
 #[inline(always)]
 fn last_byte_of_sixteen(text: &[u8], byte: u8) -> u8
     requires { 15 < length text.now }

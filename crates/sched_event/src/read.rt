@@ -1,7 +1,8 @@
 ghost use Rattle.std.specs.Prelude.{◌≡◌, ℕ, List, Result, ◌↔◌, IsErrOf};
 ghost use Rattle.ftrace_line.specs.declared.kinds.Which.{Which};
 ghost use Rattle.sched_event.specs.Texts.{EventText, Reads};
-ghost use Rattle.sched_event.specs.Event.{EventView, event_answer_view, EventAnswer, HasNoReading, HasNumberOutOfRange, HasRealTimePrio, HasPrioAboveRange, NamesIdle};
+ghost use Rattle.sched_event.specs.Event.{EventView, event_answer_view, EventAnswer, HasNoReading, HasNumberOutOfRange};
+ghost use Rattle.sched_event.specs.Event.{HasRealTimePrio, HasPrioAboveRange, NamesIdle};
 ghost use Rattle.sched_event.specs.declared.fault.EventFault.{EventFault};
 
 use crate::event::Event;
@@ -16,7 +17,8 @@ pub fn read_event<'a>(line: Sched<'a>) -> Result<Event<'a>, EventFault>
     // What is answered is so: the event that the text says, or the first cause to refuse it.
     ensures answer { EventAnswer line.entry.cpu line.entry.which line.entry.rest.now (event_answer_view result) }
     ensures bad_fields { IsErrOf result EventFault.BadFields ↔ HasNoReading line.entry.which line.entry.rest.now }
-    ensures number_range { IsErrOf result EventFault.NumberRange ↔ HasNumberOutOfRange line.entry.which line.entry.rest.now }
+    ensures number_range { IsErrOf result EventFault.NumberRange
+        ↔ HasNumberOutOfRange line.entry.which line.entry.rest.now }
     ensures real_time { IsErrOf result EventFault.RealTime ↔ HasRealTimePrio line.entry.which line.entry.rest.now }
     ensures prio_range { IsErrOf result EventFault.PrioRange ↔ HasPrioAboveRange line.entry.which line.entry.rest.now }
     ensures idle_named { IsErrOf result EventFault.IdleNamed ↔ NamesIdle line.entry.which line.entry.rest.now }

@@ -6,7 +6,8 @@ use Rattle.sched_record.specs.Beside.{IsPlaceBeside}
 use Rattle.sched_record.proofs.Walk.{passed_more}
 
 -- the place for the next event, from lists that are the record's
-pub next_place : (X : Type 0) (f : X → ℕ) (all : List X) (all_events events : List Entry) (items : List X) (event from place : ℕ) (entry : Entry)
+pub next_place : (X : Type 0) (f : X → ℕ) (all : List X) (all_events events : List Entry) (items : List X)
+    (event from place : ℕ) (entry : Entry)
     → AllPairs (λ a b. a.line < b.line) all_events → events ≡ all_events → items ≡ all → event < length all_events
     → IsPlaceBeside X f all all_events event from → place ≤ length items
     → ((k : ℕ) (d : X) → from ≤ k → k < place → f (get_or items k d) < (get_or events event entry).line)
@@ -21,5 +22,6 @@ next_place X f all all_events events items event from place entry rise same_even
     omega (arith, below k d low high, same, same_line)) in
     record {
       within = omega (arith, within, count);
-      passed = passed_more f (λ (e : Entry). e.line) all all_events from place event line entry rise refl has before.passed below_line;
+      passed = passed_more f (λ (e : Entry). e.line) all all_events from place event line entry rise refl has
+          before.passed below_line;
     }

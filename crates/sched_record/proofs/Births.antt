@@ -1,5 +1,6 @@
 -- Births among events whose lines rise: those of the events up to one, and the last one above a line.
-use Rattle.std.proofs.Common.{◌≡◌, ℕ, ◌+◌, ◌<◌, ◌&&◌, ◌||◌, List, length, get_or, take, Bool, true, false, eqb, inl, inr, sym, ap, ◌∙◌, arith}
+use Rattle.std.proofs.Common.{◌≡◌, ℕ, ◌+◌, ◌<◌, ◌&&◌, ◌||◌, List, length, get_or, take, Bool, true, false, eqb, inl}
+use Rattle.std.proofs.Common.{inr, sym, ap, ◌∙◌, arith}
 use Rattle.std.specs.List.{AllPairs}
 use Rattle.std.proofs.lemmas.Bool.{cases_order, eq-eqb, eqb-true, and_parts}
 use Rattle.std.proofs.lemmas.List.{get_or-take, get_or_default, length-take-le}
@@ -17,7 +18,8 @@ pub record IsBirthAt (events : List Entry) (line pid place : ℕ) : Type 0 where
   pub line_is : (d : Entry) → (get_or events place d).line ≡ line
   pub birth : (d : Entry) → is_birth_of pid (get_or events place d).act ≡ true
 
-pub birth_found : (events : List Entry) (line pid : ℕ) → is_birth_line events line pid ≡ true → (place : ℕ) × IsBirthAt events line pid place
+pub birth_found : (events : List Entry) (line pid : ℕ) → is_birth_line events line pid ≡ true
+    → (place : ℕ) × IsBirthAt events line pid place
 birth_found events line pid is =
     let any = Any-from_list_any (λ (event : Entry). eqb event.line line && is_birth_of pid event.act) events is in
     let k = any.0 in
@@ -32,27 +34,34 @@ birth_found events line pid is =
       },
     )
 
-pub birth_at : (events : List Entry) (line pid place : ℕ) (d : Entry) → place < length events → (get_or events place d).line ≡ line
+pub birth_at : (events : List Entry) (line pid place : ℕ) (d : Entry) → place < length events
+    → (get_or events place d).line ≡ line
     → is_birth_of pid (get_or events place d).act ≡ true → is_birth_line events line pid ≡ true
 birth_at events line pid place d h placed birth =
     list_any_at (λ (event : Entry). eqb event.line line && is_birth_of pid event.act) events place d h
     (ap (λ b. b && is_birth_of pid (get_or events place d).act) (eq-eqb _ _ placed) ∙ birth)
 
 -- one more event keeps the births so far
-pub birth_kept : (events : List Entry) (i line pid : ℕ) → is_birth_line (take i events) line pid ≡ true → is_birth_line (take (i + 1) events) line pid ≡ true
-birth_kept events i line pid is = list_any_kept (λ (event : Entry). eqb event.line line && is_birth_of pid event.act) events i is
+pub birth_kept : (events : List Entry) (i line pid : ℕ) → is_birth_line (take i events) line pid ≡ true
+    → is_birth_line (take (i + 1) events) line pid ≡ true
+birth_kept events i line pid is = list_any_kept (λ (event : Entry). eqb event.line line && is_birth_of pid event.act)
+    events i is
 
 -- and a birth line that is new is its line
-pub birth_new : (events : List Entry) (i line pid : ℕ) (d : Entry) → i < length events → is_birth_line (take (i + 1) events) line pid ≡ true
-    → is_birth_line (take i events) line pid ≡ false → ((get_or events i d).line ≡ line) × (is_birth_of pid (get_or events i d).act ≡ true)
+pub birth_new : (events : List Entry) (i line pid : ℕ) (d : Entry) → i < length events
+    → is_birth_line (take (i + 1) events) line pid ≡ true
+    → is_birth_line (take i events) line pid ≡ false
+    → ((get_or events i d).line ≡ line) × (is_birth_of pid (get_or events i d).act ≡ true)
 birth_new events i line pid d h is before =
     let test : Entry → Bool = λ event. eqb event.line line && is_birth_of pid event.act in
-    let here : test (get_or events i d) ≡ true = sym (ap (λ b. b || test (get_or events i d)) before) ∙ sym (list_any_more test events i d h) ∙ is in
+    let here : test (get_or events i d) ≡ true = sym (ap (λ b. b || test (get_or events i d)) before)
+    ∙ sym (list_any_more test events i d h) ∙ is in
     let parts = and_parts (eqb (get_or events i d).line line) (is_birth_of pid (get_or events i d).act) here in
     (eqb-true _ _ parts.0, parts.1)
 
 -- the births so far stand above the next event
-pub birth_above : (events : List Entry) (i line pid : ℕ) (d : Entry) → Rise events → i < length events → is_birth_line (take i events) line pid ≡ true
+pub birth_above : (events : List Entry) (i line pid : ℕ) (d : Entry) → Rise events → i < length events
+    → is_birth_line (take i events) line pid ≡ true
     → line < (get_or events i d).line
 birth_above events i line pid d rise h is =
     let found = birth_found (take i events) line pid is in
@@ -65,7 +74,8 @@ birth_above events i line pid d rise h is =
     omega (arith, at, line_is, rises)
 
 -- a birth above an event is one of those so far
-pub birth_so_far : (events : List Entry) (i line pid : ℕ) (d : Entry) → Rise events → i < length events → is_birth_line events line pid ≡ true
+pub birth_so_far : (events : List Entry) (i line pid : ℕ) (d : Entry) → Rise events → i < length events
+    → is_birth_line events line pid ≡ true
     → line < (get_or events i d).line → is_birth_line (take i events) line pid ≡ true
 birth_so_far events i line pid d rise h is above =
     let found = birth_found events line pid is in
@@ -74,7 +84,8 @@ birth_so_far events i line pid d rise h is above =
     let size = length-take-le i events (omega arith) in
     elim (cases_order k i) [
       | inl same ↦ (let at = ap (λ n. (get_or events n d).line) same in absurd (omega (arith, at, line_is, above)))
-      | inr (inr behind) ↦ (let rises = rise i k d behind found.1.within in absurd (omega (arith, rises, line_is, above)))
+      | inr (inr behind) ↦ (let rises = rise i k d behind found.1.within in
+          absurd (omega (arith, rises, line_is, above)))
       | inr (inl before) ↦ (
           let at = get_or-take i events k d before in
           birth_at (take i events) line pid k d (omega (arith, size)) (ap (λ (e : Entry). e.line) at ∙ line_is)

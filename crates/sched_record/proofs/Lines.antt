@@ -1,6 +1,7 @@
 -- The lines of a trace, one after another: behind lines of which none is bad, what the next one says gives the events
 -- so far, or the trace's first bad line.
-use Rattle.std.proofs.Common.{◌≡◌, ℕ, ◌+◌, ◌<◌, ◌≤◌, List, [], ◌∷◌, ◌++◌, length, Option, Some, None, Ok, Err, inl, inr, refl, sym, ap, ◌∙◌, subst, arith}
+use Rattle.std.proofs.Common.{◌≡◌, ℕ, ◌+◌, ◌<◌, ◌≤◌, List, [], ◌∷◌, ◌++◌, length, Option, Some, None, Ok, Err, inl, inr}
+use Rattle.std.proofs.Common.{refl, sym, ap, ◌∙◌, subst, arith}
 use Rattle.std.specs.Prelude.{All}
 use Rattle.std.specs.List.{AllPairs, AllZip, cons_option, enumerate_from}
 use Rattle.std.proofs.lemmas.List.{append-nil, length_push}
@@ -18,7 +19,8 @@ pub enumerate_push : {X : Type 0} (n : ℕ) (xs : List X) (x : X)
     → enumerate_from n (xs ++ x ∷ []) ≡ enumerate_from n xs ++ (n + length xs, x) ∷ []
 enumerate_push n [] x = ap (λ k. (k, x) ∷ []) (omega arith)
 enumerate_push n (y ∷ ys) x =
-    ap (λ rest. (n, y) ∷ rest) (enumerate_push (n + 1) ys x ∙ ap (λ k. enumerate_from (n + 1) ys ++ (k, x) ∷ []) (omega arith))
+    ap (λ rest. (n, y) ∷ rest) (enumerate_push (n + 1) ys x
+    ∙ ap (λ k. enumerate_from (n + 1) ys ++ (k, x) ∷ []) (omega arith))
 
 zip_push : {A B : Type 0} (R : A → B → Type 0) (xs : List A) (ys : List B) (x : A) (y : B) → AllZip R xs ys → R x y
     → AllZip R (xs ++ x ∷ []) (ys ++ y ∷ [])
@@ -28,14 +30,18 @@ zip_push R (a ∷ xs) [] x y all r = absurd all
 zip_push R (a ∷ xs) (b ∷ ys) x y all r = (all.0, zip_push R xs ys x y all.1 r)
 
 -- one more line, which says an event or nothing
-good_push : (lines : List (List ℕ)) (events : List Entry) (line : List ℕ) (say : Option Entry) → AreEventsOf lines events
+good_push : (lines : List (List ℕ)) (events : List Entry) (line : List ℕ) (say : Option Entry)
+    → AreEventsOf lines events
     → LineSays (length lines + 1) line (Ok say)
-    → AllPairs (λ a b. a.time ≤ b.time) (events ++ cons_option say []) → AreEventsOf (lines ++ line ∷ []) (events ++ cons_option say [])
+    → AllPairs (λ a b. a.time ≤ b.time) (events ++ cons_option say [])
+    → AreEventsOf (lines ++ line ∷ []) (events ++ cons_option say [])
 good_push lines events line say good says in_time = record {
   said = good.said ++ say ∷ [];
   each =
-      subst (λ ls. AllZip (λ line say. LineSays line.0 line.1 (Ok say)) ls (good.said ++ say ∷ [])) (sym (enumerate_push 1 lines line))
-      (zip_push (λ (line : ℕ × List ℕ) (say : Option Entry). LineSays line.0 line.1 (Ok say)) (enumerate_from 1 lines) good.said (1 + length lines, line) say good.each
+      subst (λ ls. AllZip (λ line say. LineSays line.0 line.1 (Ok say)) ls (good.said ++ say ∷ []))
+      (sym (enumerate_push 1 lines line))
+      (zip_push (λ (line : ℕ × List ℕ) (say : Option Entry). LineSays line.0 line.1 (Ok say)) (enumerate_from 1 lines)
+      good.said (1 + length lines, line) say good.each
       (subst (λ n. LineSays n line (Ok say)) (omega arith) says));
   kept = ap (λ es. es ++ cons_option say []) good.kept ∙ sym (filter_map-append (λ s. s) good.said (say ∷ []));
   in_time = in_time;
@@ -50,11 +56,13 @@ begins = record {
 }
 
 -- the next line says nothing that is kept
-pub passes_over : {lines : List (List ℕ)} {count last : ℕ} {events : List Entry} (line : List ℕ) → AreRead lines count last events
+pub passes_over : {lines : List (List ℕ)} {count last : ℕ} {events : List Entry} (line : List ℕ)
+    → AreRead lines count last events
     → LineSays (count + 1) line (Ok None) → AreRead (lines ++ line ∷ []) (count + 1) last events
 passes_over {lines} {count} {last} {events} line read says =
     let good : AreEventsOf (lines ++ line ∷ []) (events ++ []) =
-    good_push lines events line None read.good (subst (λ n. LineSays n line (Ok None)) (ap (λ n. n + 1) read.counted) says)
+    good_push lines events line None read.good (subst (λ n. LineSays n line (Ok None)) (ap (λ n. n + 1) read.counted)
+    says)
     (rw append-nil read.good.in_time) in
     record {
       good = rw append-nil at good;
@@ -87,7 +95,8 @@ bad_alone events number line TimeBack says = absurd says
 
 -- the next line is bad
 first_bad : {lines : List (List ℕ)} {count last : ℕ} {events : List Entry} (line : List ℕ) (cause : TraceCause)
-    → AreRead lines count last events → IsBadAfter events (count + 1) line cause → IsFirstBadTraceLine (lines ++ line ∷ []) (count + 1) cause
+    → AreRead lines count last events → IsBadAfter events (count + 1) line cause
+    → IsFirstBadTraceLine (lines ++ line ∷ []) (count + 1) cause
 first_bad {lines} {count} {last} {events} line cause read bad = record {
   front = lines;
   line = line;
@@ -101,7 +110,8 @@ first_bad {lines} {count} {last} {events} line cause read bad = record {
 
 -- the next line is bad by itself
 pub refuses : {lines : List (List ℕ)} {count last : ℕ} {events : List Entry} (line : List ℕ) (cause : TraceCause)
-    → AreRead lines count last events → LineSays (count + 1) line (Err cause) → IsFirstBadTraceLine (lines ++ line ∷ []) (count + 1) cause
+    → AreRead lines count last events → LineSays (count + 1) line (Err cause)
+    → IsFirstBadTraceLine (lines ++ line ∷ []) (count + 1) cause
 refuses {lines} {count} {last} {events} line cause read says =
     first_bad line cause read (bad_alone events (count + 1) line cause says)
 

@@ -1,5 +1,6 @@
 -- A line of a number says one thing, since it reads in one way, and the text behind a head reads in one way.
-use Rattle.std.proofs.Common.{◌≡◌, ℕ, ◌<◌, ◌≤◌, List, Option, Some, None, Result, Ok, Err, ◌⊎◌, inl, inr, refl, sym, ap, ◌∙◌, subst, arith}
+use Rattle.std.proofs.Common.{◌≡◌, ℕ, ◌<◌, ◌≤◌, List, Option, Some, None, Result, Ok, Err, ◌⊎◌, inl, inr, refl, sym, ap}
+use Rattle.std.proofs.Common.{◌∙◌, subst, arith}
 use Rattle.cfs_model.specs.Limits.{greatest_line}
 use Rattle.cfs_model.specs.declared.act.Act.{Act}
 use Rattle.cfs_model.specs.declared.act.Entry.{Entry}
@@ -15,7 +16,8 @@ use Rattle.sched_record.specs.Said.{LineSays}
 -- a line reads in one way, and so does an event's text
 pub record ReadOnce : Type 0 where
   pub lines : (line : List ℕ) (a b : Result LineView LineFault) → LineAnswer line a → LineAnswer line b → a ≡ b
-  pub events : (cpu : ℕ) (which : Which) (rest : List ℕ) (a b : Result EventView EventFault) → EventAnswer cpu which rest a
+  pub events : (cpu : ℕ) (which : Which) (rest : List ℕ) (a b : Result EventView EventFault)
+      → EventAnswer cpu which rest a
       → EventAnswer cpu which rest b → a ≡ b
 
 -- what an event's text makes of its line
@@ -28,7 +30,8 @@ abbrev Follows : ℕ → Result LineView LineFault → Result (Option Entry) Tra
 Follows number (Ok comment) say = say ≡ Ok None
 Follows number (Ok lost) say = say ≡ Err LostEvents
 Follows number (Ok other) say = say ≡ Ok None
-Follows number (Ok (sched cpu time which rest)) say = (event : Result EventView EventFault) × EventAnswer cpu which rest event × (say ≡ of_event number time event)
+Follows number (Ok (sched cpu time which rest)) say = (event : Result EventView EventFault)
+    × EventAnswer cpu which rest event × (say ≡ of_event number time event)
 Follows number (Err fault) say = say ≡ Err (Line fault)
 
 record Path (number : ℕ) (line : List ℕ) (say : Result (Option Entry) TraceCause) : Type 0 where
@@ -54,8 +57,10 @@ path number line (Ok (Some entry)) says =
         follows = (Ok s.event, s.text, ap (λ e. Ok (Some e)) (entry_is entry number (act_of s.event) s.placed s.act));
       },
     )
-path number line (Ok None) (within, inl says) = inr (within, record { reading = Ok comment; answer = says; follows = refl })
-path number line (Ok None) (within, inr says) = inr (within, record { reading = Ok other; answer = says; follows = refl })
+path number line (Ok None) (within, inl says) = inr
+    (within, record { reading = Ok comment; answer = says; follows = refl })
+path number line (Ok None) (within, inr says) = inr
+    (within, record { reading = Ok other; answer = says; follows = refl })
 path number line (Err TooManyLines) says = inl (says, refl)
 path number line (Err (Line fault)) says = inr (says.0, record { reading = Err fault; answer = says.1; follows = refl })
 path number line (Err LostEvents) says = inr (says.0, record { reading = Ok lost; answer = says.1; follows = refl })
@@ -80,7 +85,8 @@ one_follows once number (Ok (sched cpu time which rest)) a b p q =
     p.2 ∙ ap (of_event number time) (once.events cpu which rest p.0 q.0 p.1 q.1) ∙ sym q.2
 one_follows once number (Err fault) a b p q = p ∙ sym q
 
-pub one_saying : ReadOnce → (number : ℕ) (line : List ℕ) (a b : Result (Option Entry) TraceCause) → LineSays number line a
+pub one_saying : ReadOnce → (number : ℕ) (line : List ℕ) (a b : Result (Option Entry) TraceCause)
+    → LineSays number line a
     → LineSays number line b → a ≡ b
 one_saying once number line a b says says' =
     elim (path number line a says) [

@@ -25,7 +25,8 @@ none_kept = record {
 pub keeps_on : (events : List Entry) (count last : ℕ) → AreKept events count last → AreKept events (count + 1) last
 keeps_on events count last kept = record {
   in_order = kept.in_order;
-  lines = All-weaker (λ event. event.line ≤ count) (λ event. event.line ≤ count + 1) (λ event le. omega arith) events kept.lines;
+  lines = All-weaker (λ event. event.line ≤ count) (λ event. event.line ≤ count + 1) (λ event le. omega arith) events
+      kept.lines;
   times = kept.times;
 }
 
@@ -42,12 +43,14 @@ keeps_event events count last line event kept says le =
             (λ k d h. let before = kept.lines k d h in omega (arith, before, placed));
         never_falls = all_pairs_push (λ a b. a.time ≤ b.time) events event kept.in_order.never_falls
             (λ k d h. let before = kept.times k d h in omega (arith, before, le));
-        named = All-push (λ e. IsNamed e.act) events event kept.in_order.named (says_named (count + 1) line event says.1);
+        named = All-push (λ e. IsNamed e.act) events event kept.in_order.named
+            (says_named (count + 1) line event says.1);
       };
       lines = All-push (λ e. e.line ≤ count + 1) events event
           (All-weaker (λ e. e.line ≤ count) (λ e. e.line ≤ count + 1) (λ e below. omega arith) events kept.lines)
           (omega (arith, placed));
       times = All-push (λ e. e.time ≤ event.time) events event
-          (All-weaker (λ e. e.time ≤ last) (λ e. e.time ≤ event.time) (λ e below. omega (arith, below, le)) events kept.times)
+          (All-weaker (λ e. e.time ≤ last) (λ e. e.time ≤ event.time) (λ e below. omega (arith, below, le)) events
+          kept.times)
           (omega arith);
     }

@@ -1,6 +1,7 @@
--- The places of the events that touch a processor: what one more event adds, and that the events at these places are those
--- that touch it.
-use Rattle.std.proofs.Common.{◌≡◌, ℕ, suc, ◌+◌, ◌<◌, ◌≤◌, List, [], ◌∷◌, ◌++◌, length, get_or, map, Bool, true, false, cond, refl, sym, ap, ◌∙◌, arith}
+-- The places of the events that touch a processor: what one more event adds, and that the events at these places are
+-- those that touch it.
+use Rattle.std.proofs.Common.{◌≡◌, ℕ, suc, ◌+◌, ◌<◌, ◌≤◌, List, [], ◌∷◌, ◌++◌, length, get_or, map, Bool, true, false}
+use Rattle.std.proofs.Common.{cond, refl, sym, ap, ◌∙◌, arith}
 use Rattle.std.specs.Prelude.{All, filter}
 use Rattle.std.specs.List.{enumerate_from}
 use Rattle.std.proofs.lemmas.List.{get_or-map, get_or_default, map-append, length-map}
@@ -15,13 +16,15 @@ use Rattle.replay_model.specs.declared.step.Step.{Step}
 use Rattle.sched_record.specs.Places.{ArePlacesOf, places_at, places_touching, touches_cpu}
 use Rattle.sched_record.proofs.Lines.{enumerate_push}
 
-map_first : {X : Type 0} (b : Bool) (n : ℕ) (x : X) → map (λ (at : ℕ × X). at.0) (cond b ((n, x) ∷ []) []) ≡ cond b (n ∷ []) []
+map_first : {X : Type 0} (b : Bool) (n : ℕ) (x : X)
+    → map (λ (at : ℕ × X). at.0) (cond b ((n, x) ∷ []) []) ≡ cond b (n ∷ []) []
 map_first true n x = refl
 map_first false n x = refl
 
 -- what one more event adds
 pub places_push : (cpu : ℕ) (events : List Entry) (event : Entry)
-    → places_touching cpu (events ++ event ∷ []) ≡ places_touching cpu events ++ cond (touches_cpu cpu event.act) (length events ∷ []) []
+    → places_touching cpu (events ++ event ∷ []) ≡ places_touching cpu events
+    ++ cond (touches_cpu cpu event.act) (length events ∷ []) []
 unfolding places_touching
 places_push cpu events event =
     let test : ℕ × Entry → Bool = λ at. touches_cpu cpu (at.1).act in
@@ -40,8 +43,10 @@ unfolding places_touching
 none_placed cpu h = refl
 
 -- one more event, at the place behind the last
-pub placed_more : (events : List Entry) (lists more : List (List ℕ)) (event : Entry) (place : ℕ) → ArePlacesOf events lists → place ≡ length events
-    → ((cpu : ℕ) → cpu < most_processors → places_at more cpu ≡ places_at lists cpu ++ cond (touches_cpu cpu event.act) (place ∷ []) [])
+pub placed_more : (events : List Entry) (lists more : List (List ℕ)) (event : Entry) (place : ℕ)
+    → ArePlacesOf events lists → place ≡ length events
+    → ((cpu : ℕ) → cpu < most_processors → places_at more cpu ≡ places_at lists cpu
+    ++ cond (touches_cpu cpu event.act) (place ∷ []) [])
     → ArePlacesOf (events ++ event ∷ []) more
 placed_more events lists more event place placed is_last added cpu h =
     added cpu h ∙ ap (λ xs. xs ++ cond (touches_cpu cpu event.act) (place ∷ []) []) (placed cpu h)
@@ -61,22 +66,27 @@ touching cpu events = filter (λ event. touches_cpu cpu event.act) events
 abbrev places_from : ℕ → ℕ → List Entry → List ℕ
 places_from cpu n events = map (λ at. at.0) (filter (λ at. touches_cpu cpu (at.1).act) (enumerate_from n events))
 
-found_from : (cpu n : ℕ) (f : ℕ → Entry) (events : List Entry) → ((k : ℕ) (d : Entry) → k < length events → f (n + k) ≡ get_or events k d)
+found_from : (cpu n : ℕ) (f : ℕ → Entry) (events : List Entry)
+    → ((k : ℕ) (d : Entry) → k < length events → f (n + k) ≡ get_or events k d)
     → map f (places_from cpu n events) ≡ touching cpu events
 found_from cpu n f [] reads = refl
 found_from cpu n f (event ∷ events) reads =
     by (touches_cpu cpu event.act) refl (ap f (omega arith) ∙ reads 0 event (omega arith))
     (found_from cpu (n + 1) f events (λ k d h. ap f (omega arith) ∙ reads (suc k) d (omega arith)))
   where
-    by : (b : Bool) → touches_cpu cpu event.act ≡ b → f n ≡ event → map f (places_from cpu (n + 1) events) ≡ touching cpu events
-        → map f (map (λ at. at.0) (cond (touches_cpu cpu event.act) ((n, event) ∷ filter (λ at. touches_cpu cpu (at.1).act) (enumerate_from (n + 1) events))
+    by : (b : Bool) → touches_cpu cpu event.act ≡ b → f n ≡ event
+        → map f (places_from cpu (n + 1) events) ≡ touching cpu events
+        → map f (map (λ at. at.0) (cond (touches_cpu cpu event.act)
+        ((n, event) ∷ filter (λ at. touches_cpu cpu (at.1).act) (enumerate_from (n + 1) events))
         (filter (λ at. touches_cpu cpu (at.1).act) (enumerate_from (n + 1) events))))
         ≡ cond (touches_cpu cpu event.act) (event ∷ touching cpu events) (touching cpu events)
-    by true e first rest = rw e (ap (λ x. x ∷ map f (places_from cpu (n + 1) events)) first ∙ ap (λ xs. event ∷ xs) rest)
+    by true e first rest = rw e (ap (λ x. x ∷ map f (places_from cpu (n + 1) events)) first
+        ∙ ap (λ xs. event ∷ xs) rest)
     by false e first rest = rw e rest
 
 -- the events at the places are those that touch the processor
-pub places_found : (cpu : ℕ) (events : List Entry) (d : Entry) → map (λ place. get_or events place d) (places_touching cpu events) ≡ touching cpu events
+pub places_found : (cpu : ℕ) (events : List Entry) (d : Entry)
+    → map (λ place. get_or events place d) (places_touching cpu events) ≡ touching cpu events
 unfolding places_touching
 places_found cpu events d =
     found_from cpu 0 (λ place. get_or events place d) events
@@ -86,21 +96,25 @@ within_from : (cpu n : ℕ) (events : List Entry) → All (λ place. place < n +
 within_from cpu n [] = All-nil (λ place. place < n + 0)
 within_from cpu n (event ∷ events) =
     by (touches_cpu cpu event.act) refl
-    (All-weaker (λ place. place < n + 1 + length events) (λ place. place < n + suc (length events)) (λ place lt. omega arith) (places_from cpu (n + 1) events)
+    (All-weaker (λ place. place < n + 1 + length events) (λ place. place < n + suc (length events))
+    (λ place lt. omega arith) (places_from cpu (n + 1) events)
     (within_from cpu (n + 1) events))
   where
-    by : (b : Bool) → touches_cpu cpu event.act ≡ b → All (λ place. place < n + suc (length events)) (places_from cpu (n + 1) events)
+    by : (b : Bool) → touches_cpu cpu event.act ≡ b
+        → All (λ place. place < n + suc (length events)) (places_from cpu (n + 1) events)
         → All (λ place. place < n + suc (length events)) (map (λ at. at.0) (cond (touches_cpu cpu event.act)
         ((n, event) ∷ filter (λ at. touches_cpu cpu (at.1).act) (enumerate_from (n + 1) events))
         (filter (λ at. touches_cpu cpu (at.1).act) (enumerate_from (n + 1) events))))
-    by true e rest = rw e (All-cons (λ place. place < n + suc (length events)) n (places_from cpu (n + 1) events) (omega arith) rest)
+    by true e rest = rw e (All-cons (λ place. place < n + suc (length events)) n (places_from cpu (n + 1) events)
+        (omega arith) rest)
     by false e rest = rw e rest
 
 -- each is a place among the events
 pub places_within : (cpu : ℕ) (events : List Entry) → All (λ place. place < length events) (places_touching cpu events)
 unfolding places_touching
 places_within cpu events =
-    All-weaker (λ place. place < 0 + length events) (λ place. place < length events) (λ place lt. omega arith) _ (within_from cpu 0 events)
+    All-weaker (λ place. place < 0 + length events) (λ place. place < length events) (λ place lt. omega arith) _
+    (within_from cpu 0 events)
 
 -- an event with what is said on its line, as a processor sees it
 abbrev pub step_of : ℕ → List Claim → List NiceLine → (Entry → Bool) → Entry → Step
@@ -110,18 +124,25 @@ step_of cpu claims nices policy event = step_at cpu (with_claim claims nices pol
 pub steps_are : (cpu : ℕ) (claims : List Claim) (nices : List NiceLine) (policy : Entry → Bool) (events : List Entry)
     → steps_at cpu (claimed claims nices policy events) ≡ map (step_of cpu claims nices policy) (touching cpu events)
 steps_are cpu claims nices policy [] = refl
-steps_are cpu claims nices policy (event ∷ events) = by (touches_cpu cpu event.act) refl (steps_are cpu claims nices policy events)
+steps_are cpu claims nices policy (event ∷ events) =
+    by (touches_cpu cpu event.act) refl (steps_are cpu claims nices policy events)
   where
-    by : (b : Bool) → touches_cpu cpu event.act ≡ b → steps_at cpu (claimed claims nices policy events) ≡ map (step_of cpu claims nices policy) (touching cpu events)
-        → map (step_at cpu) (cond (touches_cpu cpu event.act) (with_claim claims nices policy event ∷ filter (touches cpu) (claimed claims nices policy events))
+    by : (b : Bool) → touches_cpu cpu event.act ≡ b
+        → steps_at cpu (claimed claims nices policy events) ≡ map (step_of cpu claims nices policy)
+        (touching cpu events)
+        → map (step_at cpu) (cond (touches_cpu cpu event.act)
+        (with_claim claims nices policy event ∷ filter (touches cpu) (claimed claims nices policy events))
         (filter (touches cpu) (claimed claims nices policy events)))
-        ≡ map (step_of cpu claims nices policy) (cond (touches_cpu cpu event.act) (event ∷ touching cpu events) (touching cpu events))
+        ≡ map (step_of cpu claims nices policy) (cond (touches_cpu cpu event.act) (event ∷ touching cpu events)
+        (touching cpu events))
     by true e rest = rw e (ap (λ xs. step_of cpu claims nices policy event ∷ xs) rest)
     by false e rest = rw e rest
 
 -- what stands at the next place is the next of these events
-pub next_touching : (cpu : ℕ) (events : List Entry) (places : List ℕ) (i : ℕ) (event : Entry) → places ≡ places_touching cpu events → i < length places
-    → event ≡ get_or events (get_or places i 0) event → (i < length (touching cpu events)) × (event ≡ get_or (touching cpu events) i event)
+pub next_touching : (cpu : ℕ) (events : List Entry) (places : List ℕ) (i : ℕ) (event : Entry)
+    → places ≡ places_touching cpu events → i < length places
+    → event ≡ get_or events (get_or places i 0) event
+    → (i < length (touching cpu events)) × (event ≡ get_or (touching cpu events) i event)
 next_touching cpu events places i event are h is =
     let read : ℕ → Entry = λ place. get_or events place event in
     let all : map read places ≡ touching cpu events = ap (map read) are ∙ places_found cpu events event in
@@ -129,9 +150,11 @@ next_touching cpu events places i event are h is =
     (omega (arith, size), is ∙ sym (get_or-map read places i 0 event h) ∙ ap (λ es. get_or es i event) all)
 
 -- there are as many of these as places
-pub count_touching : (cpu : ℕ) (events : List Entry) (places : List ℕ) → places ≡ places_touching cpu events → length (touching cpu events) ≤ length places
+pub count_touching : (cpu : ℕ) (events : List Entry) (places : List ℕ) → places ≡ places_touching cpu events
+    → length (touching cpu events) ≤ length places
 count_touching cpu [] places are = omega arith
 count_touching cpu (event ∷ events) places are =
     let read : ℕ → Entry = λ place. get_or (event ∷ events) place event in
-    let size = ap length (sym (places_found cpu (event ∷ events) event)) ∙ length-map (places_touching cpu (event ∷ events)) read ∙ ap length (sym are) in
+    let size = ap length (sym (places_found cpu (event ∷ events) event))
+    ∙ length-map (places_touching cpu (event ∷ events)) read ∙ ap length (sym are) in
     omega (arith, size)

@@ -1,6 +1,8 @@
--- Who is of the idle policy before a line: as was told at the last birth of the pid above the line, or at the start. Where a
--- span of the pid starts above the line, the last such one starts at that birth just if it has no end above the line.
-use Rattle.std.proofs.Common.{◌≡◌, ℕ, zero, suc, ◌<◌, ◌≤◌, ◌||◌, ◌⊎◌, List, [], ◌∷◌, length, get_or, Bool, true, false, true≢false, cond, eqb, leb, ltb, inl, inr, refl, sym, ap, ◌∙◌, subst, arith}
+-- Who is of the idle policy before a line: as was told at the last birth of the pid above the line, or at the start.
+-- Where a span of the pid starts above the line, the last such one starts at that birth just if it has no end above the
+-- line.
+use Rattle.std.proofs.Common.{◌≡◌, ℕ, zero, suc, ◌<◌, ◌≤◌, ◌||◌, ◌⊎◌, List, [], ◌∷◌, length, get_or, Bool, true, false}
+use Rattle.std.proofs.Common.{true≢false, cond, eqb, leb, ltb, inl, inr, refl, sym, ap, ◌∙◌, subst, arith}
 use Rattle.std.specs.Prelude.{All, pos}
 use Rattle.std.proofs.lemmas.Bool.{cases_Bool, cases_lt, eqb-true, eq-eqb, ne_eqb}
 use Rattle.std.proofs.lemmas.Bool.Decides.{nat_tests}
@@ -26,7 +28,8 @@ last_birth from (event ∷ events) line pid =
     cond (ltb event.line line) (last_birth (cond (is_birth_of pid event.act) event.line from) events line pid) from
 
 -- what an event tells of a pid
-after_is : (idles : List IdleLine) (policies : ℕ → Bool) (from line pid : ℕ) (act : Act) → policies pid ≡ is_named_idle idles from pid
+after_is : (idles : List IdleLine) (policies : ℕ → Bool) (from line pid : ℕ) (act : Act)
+    → policies pid ≡ is_named_idle idles from pid
     → policies_after idles policies line act pid ≡ is_named_idle idles (cond (is_birth_of pid act) line from) pid
 unfolding put
 after_is idles policies from line pid (Born cpu born nice) told =
@@ -41,29 +44,35 @@ after_is idles policies from line pid (Wake cpu woken nice) told = told
 after_is idles policies from line pid (Shift orig dest moved nice) told = told
 
 -- the policy is the one told at the last birth
-told_at_birth : (idles : List IdleLine) (policies : ℕ → Bool) (from : ℕ) (events : List Entry) (line pid : ℕ) → policies pid ≡ is_named_idle idles from pid
+told_at_birth : (idles : List IdleLine) (policies : ℕ → Bool) (from : ℕ) (events : List Entry) (line pid : ℕ)
+    → policies pid ≡ is_named_idle idles from pid
     → policies_before idles policies events line pid ≡ is_named_idle idles (last_birth from events line pid) pid
 told_at_birth idles policies from [] line pid told = told
 told_at_birth idles policies from (event ∷ events) line pid told =
     by (ltb event.line line) refl
-    (told_at_birth idles (policies_after idles policies event.line event.act) (cond (is_birth_of pid event.act) event.line from) events line pid
+    (told_at_birth idles (policies_after idles policies event.line event.act)
+    (cond (is_birth_of pid event.act) event.line from) events line pid
     (after_is idles policies from event.line pid event.act told))
   where
     by : (b : Bool) → ltb event.line line ≡ b
         → policies_before idles (policies_after idles policies event.line event.act) events line pid
         ≡ is_named_idle idles (last_birth (cond (is_birth_of pid event.act) event.line from) events line pid) pid
-        → cond (ltb event.line line) (policies_before idles (policies_after idles policies event.line event.act) events line) policies pid
-        ≡ is_named_idle idles (cond (ltb event.line line) (last_birth (cond (is_birth_of pid event.act) event.line from) events line pid) from) pid
+        → cond (ltb event.line line) (policies_before idles (policies_after idles policies event.line event.act) events
+        line) policies pid
+        ≡ is_named_idle idles (cond (ltb event.line line)
+        (last_birth (cond (is_birth_of pid event.act) event.line from) events line pid) from) pid
     by true e rest = rw e rest
     by false e rest = rw e told
 
 -- it stands above the line
-birth_above_line : (from : ℕ) (events : List Entry) (line pid : ℕ) → from < line → last_birth from events line pid < line
+birth_above_line : (from : ℕ) (events : List Entry) (line pid : ℕ) → from < line
+    → last_birth from events line pid < line
 birth_above_line from [] line pid lt = lt
 birth_above_line from (event ∷ events) line pid lt =
     elim (cases_Bool (ltb event.line line)) [
       | inr isnt ↦ rw isnt lt
-      | inl is_so ↦ rw is_so (birth_above_line (cond (is_birth_of pid event.act) event.line from) events line pid (chosen (is_birth_of pid event.act) (grind (arith, nat_tests))))
+      | inl is_so ↦ rw is_so (birth_above_line (cond (is_birth_of pid event.act) event.line from) events line pid
+          (chosen (is_birth_of pid event.act) (grind (arith, nat_tests))))
     ]
   where
     chosen : (b : Bool) → event.line < line → cond b event.line from < line
@@ -71,7 +80,8 @@ birth_above_line from (event ∷ events) line pid lt =
     chosen false low = lt
 
 -- a number that is not above the first line stays or rises
-birth_rises : (from : ℕ) (events : List Entry) (line pid : ℕ) → Rise events → All (λ e. from < e.line) events → from ≤ last_birth from events line pid
+birth_rises : (from : ℕ) (events : List Entry) (line pid : ℕ) → Rise events → All (λ e. from < e.line) events
+    → from ≤ last_birth from events line pid
 birth_rises from [] line pid rise later = omega arith
 birth_rises from (event ∷ events) line pid rise later =
     elim (cases_Bool (ltb event.line line)) [
@@ -92,8 +102,10 @@ birth_rises from (event ∷ events) line pid rise later =
     chosen false up same = same
 
 -- it is the last: no birth above the line comes behind it
-birth_last : (from : ℕ) (events : List Entry) (line pid place : ℕ) (d : Entry) → Rise events → place < length events → (get_or events place d).line < line
-    → is_birth_of pid (get_or events place d).act ≡ true → (get_or events place d).line ≤ last_birth from events line pid
+birth_last : (from : ℕ) (events : List Entry) (line pid place : ℕ) (d : Entry) → Rise events → place < length events
+    → (get_or events place d).line < line
+    → is_birth_of pid (get_or events place d).act ≡ true
+    → (get_or events place d).line ≤ last_birth from events line pid
 birth_last from [] line pid place d rise h above birth = absurd (omega arith)
 birth_last from (event ∷ events) line pid zero d rise h above birth =
     let up = birth_rises event.line events line pid (pairs_tail (λ (a b : Entry). a.line < b.line) event events rise)
@@ -105,7 +117,8 @@ birth_last from (event ∷ events) line pid (suc place) d rise h above birth =
     let lt : event.line < line = omega (arith, low, above) in
     let is : ltb event.line line ≡ true = grind (arith, nat_tests) in
     rw is
-    (birth_last (cond (is_birth_of pid event.act) event.line from) events line pid place d (pairs_tail (λ (a b : Entry). a.line < b.line) event events rise)
+    (birth_last (cond (is_birth_of pid event.act) event.line from) events line pid place d
+    (pairs_tail (λ (a b : Entry). a.line < b.line) event events rise)
     (omega arith) above birth)
 
 -- it is a birth, where it isn't the number for none
@@ -116,49 +129,60 @@ birth_or_none from (event ∷ events) line pid =
     elim (cases_Bool (ltb event.line line)) [
       | inr isnt ↦ inl (rw isnt refl)
       | inl is_so ↦ subst (λ m. (m ≡ from) ⊎ (is_birth_line (event ∷ events) m pid ≡ true))
-          (sym (ap (λ b. cond b (last_birth (cond (is_birth_of pid event.act) event.line from) events line pid) from) is_so))
-          (chosen (is_birth_of pid event.act) refl (birth_or_none event.line events line pid) (birth_or_none from events line pid))
+          (sym (ap (λ b. cond b (last_birth (cond (is_birth_of pid event.act) event.line from) events line pid) from)
+          is_so))
+          (chosen (is_birth_of pid event.act) refl (birth_or_none event.line events line pid)
+          (birth_or_none from events line pid))
     ]
   where
     there : (m : ℕ) → is_birth_line events m pid ≡ true → is_birth_line (event ∷ events) m pid ≡ true
     there m is =
         let found = birth_found events m pid is in
-        birth_at (event ∷ events) m pid (suc found.0) event (let within = found.1.within in omega (arith, within)) (found.1.line_is event) (found.1.birth event)
+        birth_at (event ∷ events) m pid (suc found.0) event (let within = found.1.within in
+        omega (arith, within)) (found.1.line_is event) (found.1.birth event)
 
     here : is_birth_of pid event.act ≡ true → is_birth_line (event ∷ events) event.line pid ≡ true
     here birth = birth_at (event ∷ events) event.line pid 0 event (omega arith) refl birth
 
     chosen : (b : Bool) → is_birth_of pid event.act ≡ b
-        → (last_birth event.line events line pid ≡ event.line) ⊎ (is_birth_line events (last_birth event.line events line pid) pid ≡ true)
+        → (last_birth event.line events line pid ≡ event.line)
+        ⊎ (is_birth_line events (last_birth event.line events line pid) pid ≡ true)
         → (last_birth from events line pid ≡ from) ⊎ (is_birth_line events (last_birth from events line pid) pid ≡ true)
         → (last_birth (cond (is_birth_of pid event.act) event.line from) events line pid ≡ from)
-        ⊎ (is_birth_line (event ∷ events) (last_birth (cond (is_birth_of pid event.act) event.line from) events line pid) pid ≡ true)
+        ⊎ (is_birth_line (event ∷ events) (last_birth (cond (is_birth_of pid event.act) event.line from) events line
+        pid) pid ≡ true)
     chosen true e now later =
-        subst (λ b. (last_birth (cond b event.line from) events line pid ≡ from) ⊎ (is_birth_line (event ∷ events) (last_birth (cond b event.line from) events line pid) pid ≡ true)) (sym e)
+        subst (λ b. (last_birth (cond b event.line from) events line pid ≡ from)
+        ⊎ (is_birth_line (event ∷ events) (last_birth (cond b event.line from) events line pid) pid ≡ true)) (sym e)
         (elim now [
           | inl none ↦ inr (ap (λ m. is_birth_line (event ∷ events) m pid) none ∙ here e)
           | inr is ↦ inr (there (last_birth event.line events line pid) is)
         ])
     chosen false e now later =
-        subst (λ b. (last_birth (cond b event.line from) events line pid ≡ from) ⊎ (is_birth_line (event ∷ events) (last_birth (cond b event.line from) events line pid) pid ≡ true)) (sym e)
+        subst (λ b. (last_birth (cond b event.line from) events line pid ≡ from)
+        ⊎ (is_birth_line (event ∷ events) (last_birth (cond b event.line from) events line pid) pid ≡ true)) (sym e)
         (elim later [
           | inl none ↦ inl none
           | inr is ↦ inr (there (last_birth from events line pid) is)
         ])
 
 -- a birth line above the line isn't behind the last
-pub birth_line_last : (from : ℕ) (events : List Entry) (line pid birth : ℕ) → Rise events → birth < line → is_birth_line events birth pid ≡ true
+pub birth_line_last : (from : ℕ) (events : List Entry) (line pid birth : ℕ) → Rise events → birth < line
+    → is_birth_line events birth pid ≡ true
     → birth ≤ last_birth from events line pid
 birth_line_last from events line pid birth rise above is =
     let found = birth_found events birth pid is in
     let at : Entry = record { line = 0; time = 0; act = Wake 0 0 (pos 0) } in
     let line_is = found.1.line_is at in
-    let le = birth_last from events line pid found.0 at rise found.1.within (omega (arith, line_is, above)) (found.1.birth at) in
+    let le = birth_last from events line pid found.0 at rise found.1.within (omega (arith, line_is, above))
+    (found.1.birth at) in
     omega (arith, line_is, le)
 
 -- where no span of the pid starts above the line, its task isn't of the idle policy
-pub not_idle_before : (idles : List IdleLine) (spans : List IdleSpan) (policies : ℕ → Bool) (events : List Entry) (line pid : ℕ) → AreSpansOf idles spans
-    → policies pid ≡ is_named_idle idles 0 pid → 0 < line → NoneBefore spans line pid → policies_before idles policies events line pid ≡ false
+pub not_idle_before : (idles : List IdleLine) (spans : List IdleSpan) (policies : ℕ
+    → Bool) (events : List Entry) (line pid : ℕ) → AreSpansOf idles spans
+    → policies pid ≡ is_named_idle idles 0 pid → 0 < line → NoneBefore spans line pid
+    → policies_before idles policies events line pid ≡ false
 not_idle_before idles spans policies events line pid told start some none =
     let birth = last_birth 0 events line pid in
     let above = birth_above_line 0 events line pid some in
@@ -173,9 +197,11 @@ not_idle_before idles spans policies events line pid told start some none =
     ])
 
 -- where one does, it is just where the last one doesn't end above the line
-pub idle_before : (idles : List IdleLine) (spans : List IdleSpan) (policies : ℕ → Bool) (events : List Entry) (line pid place : ℕ) (s : IdleSpan) → Rise events
+pub idle_before : (idles : List IdleLine) (spans : List IdleSpan) (policies : ℕ
+    → Bool) (events : List Entry) (line pid place : ℕ) (s : IdleSpan) → Rise events
     → All (λ e. 0 < e.line) events
-    → AreSpansOf idles spans → All (NamesBirth events) idles → All (EndsAtBirth events) spans → policies pid ≡ is_named_idle idles 0 pid → 0 < line
+    → AreSpansOf idles spans → All (NamesBirth events) idles → All (EndsAtBirth events) spans
+    → policies pid ≡ is_named_idle idles 0 pid → 0 < line
     → IsLastBefore spans line pid place → s ≡ get_or spans place s
     → policies_before idles policies events line pid ≡ (eqb s.until 0 || leb line s.until)
 idle_before idles spans policies events line pid place s rise from_one told born ends start some last is =
@@ -183,14 +209,17 @@ idle_before idles spans policies events line pid place s rise from_one told born
     let above = birth_above_line 0 events line pid some in
     let within = last.within in
     let pid_is : s.pid ≡ pid = ap (λ (x : IdleSpan). x.pid) is ∙ last.named s in
-    let starts : s.from < line = (let lt = last.above s in let e = ap (λ (x : IdleSpan). x.from) is in omega (arith, lt, e)) in
+    let starts : s.from < line = (let lt = last.above s in let e = ap (λ (x : IdleSpan). x.from) is in
+    omega (arith, lt, e)) in
     let end : EndsAtBirth events s = subst (EndsAtBirth events) (sym is) (ends place s within) in
     let here : starts_span spans s.from pid ≡ true =
-    ap (λ p. starts_span spans s.from p) (sym pid_is) ∙ ap (λ (x : IdleSpan). starts_span spans x.from x.pid) is ∙ span_starts spans place s within in
+    ap (λ p. starts_span spans s.from p) (sym pid_is) ∙ ap (λ (x : IdleSpan). starts_span spans x.from x.pid) is
+    ∙ span_starts spans place s within in
     let least : s.from ≤ birth =
     elim (cases_lt 0 s.from) [
       | inr none ↦ omega (arith, none)
-      | inl more ↦ birth_line_last 0 events line pid s.from rise starts (span_born events idles spans s.from pid born told more here)
+      | inl more ↦ birth_line_last 0 events line pid s.from rise starts
+          (span_born events idles spans s.from pid born told more here)
     ] in
     told_at_birth idles policies 0 events line pid start ∙ told.starts birth pid
     ∙ (elim (cases_Bool (eqb s.until 0 || leb line s.until)) [
@@ -213,7 +242,8 @@ idle_before idles spans policies events line pid place s rise from_one told born
       | inr over ↦ (
           let has : (0 < s.until) × (s.until < line) = closed s.until over in
           let found = end.found has.0 in
-          let later = birth_line_last 0 events line pid s.until rise has.1 (ap (λ p. is_birth_line events s.until p) (sym pid_is) ∙ found.1) in
+          let later = birth_line_last 0 events line pid s.until rise has.1
+          (ap (λ p. is_birth_line events s.until p) (sym pid_is) ∙ found.1) in
           let behind = found.0 in
           elim (cases_Bool (starts_span spans birth pid)) [
             | inr isnt ↦ isnt ∙ sym over
@@ -228,7 +258,8 @@ idle_before idles spans policies events line pid place s rise from_one told born
     closed : (n : ℕ) → (eqb n 0 || leb line n) ≡ false → (0 < n) × (n < line)
     closed n over = (grind (arith, nat_tests), grind (arith, nat_tests))
 
-    not_behind : (k : ℕ) (d : IdleSpan) → k ≤ place → k < length spans → (get_or spans k d).pid ≡ pid → s.from < (get_or spans k d).from → ⊥
+    not_behind : (k : ℕ) (d : IdleSpan) → k ≤ place → k < length spans → (get_or spans k d).pid ≡ pid
+        → s.from < (get_or spans k d).from → ⊥
     not_behind k d le h named less =
         let same = ap (λ (x : IdleSpan). x.from) (is ∙ get_or_default spans place s d last.within) in
         elim (cases_lt k place) [

@@ -38,7 +38,8 @@ sort_decides a b = (λ h. cc, λ h. cc)
 
 claim_decides : (a b : Claim) → Decides ((claim_eq.ghosts).eq a b) (a ≡ b)
 claim_decides a b =
-    Decides-like _ (λ h i. record { line = h.0 i; pid = h.1.0 i; v = h.1.1.0 i; sort = h.1.1.1 i }) (λ e. (cc, (cc, (cc, cc))))
+    Decides-like _ (λ h i. record { line = h.0 i; pid = h.1.0 i; v = h.1.1.0 i; sort = h.1.1.1 i })
+    (λ e. (cc, (cc, (cc, cc))))
     (Decides-and _ _ (Decides-eqb a.line b.line) (Decides-and _ _ (Decides-eqb a.pid b.pid)
     (Decides-and _ _ (Decides-int_eq a.v b.v) (sort_decides a.sort b.sort))))
 
@@ -50,7 +51,8 @@ option_decides a b = (λ h. cc, λ h. cc)
 nice_decides : (a b : NiceLine) → Decides ((nice_eq.ghosts).eq a b) (a ≡ b)
 nice_decides a b =
     Decides-like _ (λ h i. record { line = h.0 i; pid = h.1.0 i; nice = h.1.1 i }) (λ e. (cc, (cc, cc)))
-    (Decides-and _ _ (Decides-eqb a.line b.line) (Decides-and _ _ (Decides-eqb a.pid b.pid) (Decides-int_eq a.nice b.nice)))
+    (Decides-and _ _ (Decides-eqb a.line b.line) (Decides-and _ _ (Decides-eqb a.pid b.pid)
+    (Decides-int_eq a.nice b.nice)))
 
 change_decides : (a b : Option NiceLine) → Decides (option_eq (nice_eq.ghosts).eq a b) (a ≡ b)
 change_decides None None = (λ _. refl, λ _. refl)
@@ -61,7 +63,8 @@ deed_decides : (a b : Deed) → Decides ((deed_eq.ghosts).eq a b) (a ≡ b)
 deed_decides (Switch prev prev_nice way next next_nice) (Switch prev' prev_nice' way' next' next_nice') =
     Decides-like _ (λ h. cc) (λ e. (cc, (cc, (cc, (cc, cc)))))
     (Decides-and _ _ (Decides-eqb prev prev') (Decides-and _ _ (Decides-int_eq prev_nice prev_nice')
-    (Decides-and _ _ (way_decides way way') (Decides-and _ _ (Decides-eqb next next') (Decides-int_eq next_nice next_nice')))))
+    (Decides-and _ _ (way_decides way way') (Decides-and _ _ (Decides-eqb next next')
+    (Decides-int_eq next_nice next_nice')))))
 deed_decides (Wake pid nice) (Wake pid' nice') =
     Decides-like _ (λ h. cc) (λ e. (cc, cc)) (Decides-and _ _ (Decides-eqb pid pid') (Decides-int_eq nice nice'))
 deed_decides (Born pid nice idle) (Born pid' nice' idle') =
@@ -78,17 +81,33 @@ deed_decides a b = (λ h. cc, λ h. cc)
 
 pub task_decides : (a b : Task) → Decides ((task_eq.ghosts).eq a b) (a ≡ b)
 task_decides a b =
-    Decides-like _ (λ h i. record { pid = h.0 i; nice = h.1.0 i; idle = h.1.1.0 i; cpu = h.1.1.1.0 i; place = h.1.1.1.1.0 i; v = h.1.1.1.1.1 i })
+    Decides-like _ (λ h i. record {
+      pid = h.0 i;
+      nice = h.1.0 i;
+      idle = h.1.1.0 i;
+      cpu = h.1.1.1.0 i;
+      place = h.1.1.1.1.0 i;
+      v = h.1.1.1.1.1 i;
+    })
     (λ e. (cc, (cc, (cc, (cc, (cc, cc))))))
     (Decides-and _ _ (Decides-eqb a.pid b.pid) (Decides-and _ _ (Decides-int_eq a.nice b.nice)
-    (Decides-and _ _ (booleans_Decides a.idle b.idle) (Decides-and _ _ (Decides-eqb a.cpu b.cpu) (Decides-and _ _ (place_decides a.place b.place) (Decides-int_eq a.v b.v))))))
+    (Decides-and _ _ (booleans_Decides a.idle b.idle)
+    (Decides-and _ _ (Decides-eqb a.cpu b.cpu) (Decides-and _ _ (place_decides a.place b.place)
+    (Decides-int_eq a.v b.v))))))
 
 pub step_decides : (a b : Step) → Decides ((step_eq.ghosts).eq a b) (a ≡ b)
 step_decides a b =
-    Decides-like _ (λ h i. record { line = h.0 i; time = h.1.0 i; deed = h.1.1.0 i; claim = h.1.1.1.0 i; nice = h.1.1.1.1 i })
+    Decides-like _ (λ h i. record {
+      line = h.0 i;
+      time = h.1.0 i;
+      deed = h.1.1.0 i;
+      claim = h.1.1.1.0 i;
+      nice = h.1.1.1.1 i;
+    })
     (λ e. (cc, (cc, (cc, (cc, cc)))))
     (Decides-and _ _ (Decides-eqb a.line b.line) (Decides-and _ _ (Decides-eqb a.time b.time)
-    (Decides-and _ _ (deed_decides a.deed b.deed) (Decides-and _ _ (option_decides a.claim b.claim) (change_decides a.nice b.nice)))))
+    (Decides-and _ _ (deed_decides a.deed b.deed) (Decides-and _ _ (option_decides a.claim b.claim)
+    (change_decides a.nice b.nice)))))
 
 -- two streams hold the same where each of what they hold is equal
 pub is_same_decides : (a b : StreamView) → Decides (is_same a b) (a ≡ b)

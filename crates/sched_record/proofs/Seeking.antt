@@ -4,7 +4,8 @@ use Rattle.std.specs.List.{AllPairs}
 use Rattle.std.proofs.lemmas.Bool.{cases_order}
 use Rattle.std.proofs.lemmas.List.{get_or_default}
 
-pub above_hint : {X : Type 0} (f : X → ℕ) (items : List X) (hint line : ℕ) (e : X) → AllPairs (λ a b. f a < f b) items → hint ≤ length items
+pub above_hint : {X : Type 0} (f : X → ℕ) (items : List X) (hint line : ℕ) (e : X) → AllPairs (λ a b. f a < f b) items
+    → hint ≤ length items
     → f (get_or items (hint - 1) e) < line → (k : ℕ) (d : X) → k < hint → f (get_or items k d) < line
 above_hint {X} f items hint line e rise within here k d lt =
     let same = ap f (get_or_default items (hint - 1) e d (omega arith)) in

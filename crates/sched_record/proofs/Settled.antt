@@ -1,6 +1,7 @@
 -- A settled line says the same with anything behind it. So what a reader keeps of lines that end with it, it keeps of
 -- those that end with the longer one.
-use Rattle.std.proofs.Common.{◌≡◌, ℕ, ◌+◌, List, [], ◌∷◌, ◌++◌, length, Option, Some, None, Result, Ok, Err, ◌⊎◌, inl, inr, refl, sym, ap, ◌∙◌, subst, arith, length-append}
+use Rattle.std.proofs.Common.{◌≡◌, ℕ, ◌+◌, List, [], ◌∷◌, ◌++◌, length, Option, Some, None, Result, Ok, Err, ◌⊎◌, inl}
+use Rattle.std.proofs.Common.{inr, refl, sym, ap, ◌∙◌, subst, arith, length-append}
 use Rattle.std.specs.Prelude.{MatchOption}
 use Rattle.std.specs.List.{AllZip, enumerate_from}
 use Rattle.std.proofs.lemmas.List.{length_push}
@@ -18,7 +19,8 @@ use Rattle.sched_record.proofs.Following.{Says}
 
 -- what the one line says, the other says too
 abbrev SaysToo : List ℕ → List ℕ → Type 0
-SaysToo front line = (number : ℕ) (say : Result (Option Entry) TraceCause) → LineSays number front say → LineSays number line say
+SaysToo front line = (number : ℕ) (say : Result (Option Entry) TraceCause) → LineSays number front say
+    → LineSays number line say
 
 nothing_too : (front more : List ℕ) → IsSettled front → LineAnswer front (Ok comment) ⊎ LineAnswer front (Ok other)
     → LineAnswer (front ++ more) (Ok comment) ⊎ LineAnswer (front ++ more) (Ok other)
@@ -57,11 +59,13 @@ settled_too front more settled number (Err (Event fault)) says = (
 settled_too front more settled number (Err TimeBack) says = absurd says
 
 each_too : (n : ℕ) (lines : List (List ℕ)) (front line : List ℕ) (said : List (Option Entry)) → SaysToo front line
-    → AllZip Says (enumerate_from n (lines ++ front ∷ [])) said → AllZip Says (enumerate_from n (lines ++ line ∷ [])) said
+    → AllZip Says (enumerate_from n (lines ++ front ∷ [])) said
+    → AllZip Says (enumerate_from n (lines ++ line ∷ [])) said
 each_too n [] front line [] too each = absurd each
 each_too n [] front line (say ∷ said) too each = (too n (Ok say) each.0, each.1)
 each_too n (first ∷ lines) front line [] too each = absurd each
-each_too n (first ∷ lines) front line (say ∷ said) too each = (each.0, each_too (n + 1) lines front line said too each.1)
+each_too n (first ∷ lines) front line (say ∷ said) too each =
+    (each.0, each_too (n + 1) lines front line said too each.1)
 
 read_too : (lines : List (List ℕ)) (front line : List ℕ) (count last : ℕ) (events : List Entry) → SaysToo front line
     → AreRead (lines ++ front ∷ []) count last events → AreRead (lines ++ line ∷ []) count last events
@@ -92,7 +96,8 @@ bad_too front line events number TimeBack too bad = record {
 }
 
 -- a line of lines that end with another is that, or stands before it
-last_or_before : {L : Type 0} (lines front : List L) (x y line : L) (rest : List L) → lines ++ x ∷ [] ≡ front ++ line ∷ rest
+last_or_before : {L : Type 0} (lines front : List L) (x y line : L) (rest : List L)
+    → lines ++ x ∷ [] ≡ front ++ line ∷ rest
     → ((front ≡ lines) × (line ≡ x)) ⊎ ((more : List L) × (lines ++ y ∷ [] ≡ front ++ line ∷ more))
 last_or_before [] [] x y line rest e = inl (refl, cc)
 last_or_before [] (f ∷ front) x y line rest e = absurd (omega (arith, ap length e, length-append front (line ∷ rest)))
@@ -103,15 +108,18 @@ last_or_before (l ∷ lines) (f ∷ front) x y line rest e =
     further first (last_or_before lines front x y line rest later)
   where
     further : l ≡ f → ((front ≡ lines) × (line ≡ x)) ⊎ ((more : List _) × (lines ++ y ∷ [] ≡ front ++ line ∷ more))
-        → ((f ∷ front ≡ l ∷ lines) × (line ≡ x)) ⊎ ((more : List _) × (l ∷ (lines ++ y ∷ []) ≡ f ∷ (front ++ line ∷ more)))
+        → ((f ∷ front ≡ l ∷ lines) × (line ≡ x)) ⊎ ((more : List _)
+        × (l ∷ (lines ++ y ∷ []) ≡ f ∷ (front ++ line ∷ more)))
     further first (inl (same, is)) = inl (cc, is)
     further first (inr (more, parts)) = inr (more, cc)
 
 first_bad_too : (lines : List (List ℕ)) (front line : List ℕ) (number : ℕ) (cause : TraceCause) → SaysToo front line
     → IsFirstBadTraceLine (lines ++ front ∷ []) number cause → IsFirstBadTraceLine (lines ++ line ∷ []) number cause
-first_bad_too lines front line number cause too b = by_place (last_or_before lines b.front front line b.line b.rest b.parts)
+first_bad_too lines front line number cause too b =
+    by_place (last_or_before lines b.front front line b.line b.rest b.parts)
   where
-    by_place : ((b.front ≡ lines) × (b.line ≡ front)) ⊎ ((more : List (List ℕ)) × (lines ++ line ∷ [] ≡ b.front ++ b.line ∷ more))
+    by_place : ((b.front ≡ lines) × (b.line ≡ front))
+        ⊎ ((more : List (List ℕ)) × (lines ++ line ∷ [] ≡ b.front ++ b.line ∷ more))
         → IsFirstBadTraceLine (lines ++ line ∷ []) number cause
     by_place (inl (same, is)) = record {
       front = b.front;
@@ -134,7 +142,8 @@ first_bad_too lines front line number cause too b = by_place (last_or_before lin
       bad = b.bad;
     }
 
-both_ways : {X A C : Type 0} (B D : X → Type 0) (o : Option X) → (A → C) → ((x : X) → B x → D x) → MatchOption o A B → MatchOption o C D
+both_ways : {X A C : Type 0} (B D : X → Type 0) (o : Option X) → (A → C) → ((x : X) → B x → D x) → MatchOption o A B
+    → MatchOption o C D
 both_ways B D None none some holds = none holds
 both_ways B D (Some x) none some holds = some x holds
 
@@ -142,6 +151,7 @@ pub has_read_too : (reader : TraceReader) (lines : List (List ℕ)) (front more 
     → HasRead reader (lines ++ front ∷ []) → HasRead reader (lines ++ (front ++ more) ∷ [])
 has_read_too reader lines front more settled read =
     let too = settled_too front more settled in
-    both_ways (λ bad. IsFirstBadTraceLine (lines ++ front ∷ []) bad.line bad.cause) (λ bad. IsFirstBadTraceLine (lines ++ (front ++ more) ∷ []) bad.line bad.cause) reader.bad
+    both_ways (λ bad. IsFirstBadTraceLine (lines ++ front ∷ []) bad.line bad.cause)
+    (λ bad. IsFirstBadTraceLine (lines ++ (front ++ more) ∷ []) bad.line bad.cause) reader.bad
     (read_too lines front (front ++ more) reader.count reader.last reader.entries.items too)
     (λ bad. first_bad_too lines front (front ++ more) bad.line bad.cause too) read

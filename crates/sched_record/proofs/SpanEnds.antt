@@ -1,7 +1,35 @@
 -- The spans' ends along the events: where a task is born, of the spans of its pid that start above just the last can be
 -- without an end, since a span that isn't of the start begins at a birth, which ended those before it.
-use Rattle.std.proofs.Common.{◌≡◌, ℕ, zero, suc, ◌+◌, ◌<◌, ◌&&◌, List, [], ◌∷◌, length, get_or, take, true, false,
-    true≢false, eqb, inl, inr, refl, sym, ap, ◌∙◌, subst, arith, Option, Some, None}
+use Rattle.std.proofs.Common.{
+  ◌≡◌,
+  ℕ,
+  zero,
+  suc,
+  ◌+◌,
+  ◌<◌,
+  ◌&&◌,
+  List,
+  [],
+  ◌∷◌,
+  length,
+  get_or,
+  take,
+  true,
+  false,
+  true≢false,
+  eqb,
+  inl,
+  inr,
+  refl,
+  sym,
+  ap,
+  ◌∙◌,
+  subst,
+  arith,
+  Option,
+  Some,
+  None,
+}
 use Rattle.std.specs.Prelude.{All, unwrap_or}
 use Rattle.std.specs.List.{AllPairs}
 use Rattle.std.proofs.lemmas.Bool.{cases_Bool, cases_order, cases_lt, eqb-true, eq-eqb, and_parts}
@@ -20,16 +48,19 @@ use Rattle.sched_record.specs.Policies.{EndsAtBirth, EndsLast, IsLastBefore}
 use Rattle.sched_record.proofs.Births.{birth_above, birth_at, birth_kept, birth_new, birth_so_far}
 
 -- a span that isn't of the start begins at a birth
-pub span_born : (events : List Entry) (idles : List IdleLine) (spans : List IdleSpan) (line pid : ℕ) → All (NamesBirth events) idles
+pub span_born : (events : List Entry) (idles : List IdleLine) (spans : List IdleSpan) (line pid : ℕ)
+    → All (NamesBirth events) idles
     → AreSpansOf idles spans → 0 < line → starts_span spans line pid ≡ true → is_birth_line events line pid ≡ true
 span_born events idles spans line pid born told some starts =
-    let any = Any-from_list_any (λ (idle : IdleLine). eqb idle.line line && eqb idle.pid pid) idles (told.starts line pid ∙ starts) in
+    let any = Any-from_list_any (λ (idle : IdleLine). eqb idle.line line && eqb idle.pid pid) idles
+    (told.starts line pid ∙ starts) in
     let item = any.1 in
     let parts = and_parts (eqb item.line line) (eqb item.pid pid) any.4 in
     let line_is = eqb-true item.line line parts.0 in
     let pid_is = eqb-true item.pid pid parts.1 in
     let names : NamesBirth events item = subst (NamesBirth events) any.3 (born any.0 item any.2) in
-    sym (ap (λ l. is_birth_line events l item.pid) line_is ∙ ap (λ p. is_birth_line events line p) pid_is) ∙ names (omega (arith, line_is, some))
+    sym (ap (λ l. is_birth_line events l item.pid) line_is ∙ ap (λ p. is_birth_line events line p) pid_is)
+    ∙ names (omega (arith, line_is, some))
 
 -- where a span that starts at a line stands
 pub any_span : (spans : List IdleSpan) (line pid : ℕ) → starts_span spans line pid ≡ true
@@ -46,7 +77,8 @@ any_span spans line pid starts =
     )
 
 -- the span at a place starts where it does
-pub span_starts : (spans : List IdleSpan) (k : ℕ) (d : IdleSpan) → k < length spans → starts_span spans (get_or spans k d).from (get_or spans k d).pid ≡ true
+pub span_starts : (spans : List IdleSpan) (k : ℕ) (d : IdleSpan) → k < length spans
+    → starts_span spans (get_or spans k d).from (get_or spans k d).pid ≡ true
 span_starts spans k d h =
     let s = get_or spans k d in
     list_any_at (λ (span : IdleSpan). eqb span.from s.from && eqb span.pid s.pid) spans k d h (both s.from s.pid)
@@ -55,8 +87,10 @@ span_starts spans k d h =
     both a b = rw (eq-eqb a a refl, eq-eqb b b refl) refl
 
 -- a span that keeps its end
-kept : (events : List Entry) (i : ℕ) (d : Entry) (s : IdleSpan) → AllPairs (λ a b. a.line < b.line) events → i < length events
-    → EndsAtBirth (take i events) s → (is_birth_of s.pid (get_or events i d).act ≡ true → s.from < (get_or events i d).line → 0 < s.until)
+kept : (events : List Entry) (i : ℕ) (d : Entry) (s : IdleSpan) → AllPairs (λ a b. a.line < b.line) events
+    → i < length events
+    → EndsAtBirth (take i events) s → (is_birth_of s.pid (get_or events i d).act ≡ true
+    → s.from < (get_or events i d).line → 0 < s.until)
     → EndsAtBirth (take (i + 1) events) s
 kept events i d s rise h ends known =
     record {
@@ -74,7 +108,8 @@ kept events i d s rise h ends known =
     }
 
 -- a span that ends
-ends_here : (events : List Entry) (i : ℕ) (d : Entry) (s : IdleSpan) → i < length events → EndsAtBirth (take i events) s → s.until ≡ 0
+ends_here : (events : List Entry) (i : ℕ) (d : Entry) (s : IdleSpan) → i < length events → EndsAtBirth (take i events) s
+    → s.until ≡ 0
     → is_birth_of s.pid (get_or events i d).act ≡ true → s.from < (get_or events i d).line
     → EndsAtBirth (take (i + 1) events) (record { pid = s.pid; from = s.from; until = (get_or events i d).line })
 ends_here events i d s h ends endless birth above =
@@ -93,19 +128,25 @@ ends_here events i d s h ends endless birth above =
     now =
         let size = length-take-le (i + 1) events (omega arith) in
         let at = get_or-take (i + 1) events i d (omega arith) in
-        birth_at (take (i + 1) events) (get_or events i d).line s.pid i d (omega (arith, size)) (ap (λ (e : Entry). e.line) at)
+        birth_at (take (i + 1) events) (get_or events i d).line s.pid i d (omega (arith, size))
+        (ap (λ (e : Entry). e.line) at)
         (ap (λ (e : Entry). is_birth_of s.pid e.act) at ∙ birth)
 
 -- the span at the place that ends, and the others
 ended_at : (spans : List IdleSpan) (place line k : ℕ) (d : IdleSpan) → k ≡ place → k < length spans
-    → get_or (ended spans place line) k d ≡ record { pid = (get_or spans k d).pid; from = (get_or spans k d).from; until = line }
+    → get_or (ended spans place line) k d ≡ record {
+      pid = (get_or spans k d).pid;
+      from = (get_or spans k d).from;
+      until = line;
+    }
 ended_at [] place line k d e h = absurd (omega arith)
 ended_at (x ∷ spans) zero line zero d e h = refl
 ended_at (x ∷ spans) zero line (suc k) d e h = absurd (omega arith)
 ended_at (x ∷ spans) (suc place) line zero d e h = absurd (omega arith)
 ended_at (x ∷ spans) (suc place) line (suc k) d e h = ended_at spans place line k d (omega arith) (omega arith)
 
-ended_other : (spans : List IdleSpan) (place line k : ℕ) (d : IdleSpan) → (k ≡ place → ⊥) → get_or (ended spans place line) k d ≡ get_or spans k d
+ended_other : (spans : List IdleSpan) (place line k : ℕ) (d : IdleSpan) → (k ≡ place → ⊥)
+    → get_or (ended spans place line) k d ≡ get_or spans k d
 ended_other [] place line k d e = refl
 ended_other (x ∷ spans) zero line zero d e = absurd (e refl)
 ended_other (x ∷ spans) zero line (suc k) d e = refl
@@ -114,18 +155,22 @@ ended_other (x ∷ spans) (suc place) line (suc k) d e = ended_other spans place
 
 -- one span more has no end
 pub forgotten_more : (old new : List IdleSpan) (place : ℕ) → new ≡ ended old place 0 → place < length old
-    → ((k : ℕ) (d : IdleSpan) → k < place → (get_or old k d).until ≡ 0) → (k : ℕ) (d : IdleSpan) → k < place + 1 → (get_or new k d).until ≡ 0
+    → ((k : ℕ) (d : IdleSpan) → k < place → (get_or old k d).until ≡ 0) → (k : ℕ) (d : IdleSpan) → k < place + 1
+    → (get_or new k d).until ≡ 0
 forgotten_more old new place same h forgotten k d lt =
     let at = ap (λ (spans : List IdleSpan). (get_or spans k d).until) same in
     elim (cases_lt k place) [
       | inl before ↦ (
-          let other = ap (λ (s : IdleSpan). s.until) (ended_other old place 0 k d (λ e. absurd (omega (arith, e, before)))) in
+          let other = ap (λ (s : IdleSpan). s.until) (ended_other old place 0 k d
+          (λ e. absurd (omega (arith, e, before)))) in
           at ∙ other ∙ forgotten k d before)
-      | inr ge ↦ at ∙ ap (λ (s : IdleSpan). s.until) (ended_at old place 0 k d (omega (arith, lt, ge)) (omega (arith, lt, h)))
+      | inr ge ↦ at ∙ ap (λ (s : IdleSpan). s.until)
+          (ended_at old place 0 k d (omega (arith, lt, ge)) (omega (arith, lt, h)))
     ]
 
 -- an event that is no birth behind the events so far
-ends_still : (events : List Entry) (spans : List IdleSpan) (i : ℕ) (d : Entry) → AllPairs (λ a b. a.line < b.line) events → i < length events
+ends_still : (events : List Entry) (spans : List IdleSpan) (i : ℕ) (d : Entry)
+    → AllPairs (λ a b. a.line < b.line) events → i < length events
     → ((other : ℕ) → is_birth_of other (get_or events i d).act ≡ false) → All (EndsAtBirth (take i events)) spans
     → All (EndsAtBirth (take (i + 1) events)) spans
 ends_still events spans i d rise h bears ends k s has =
@@ -133,9 +178,12 @@ ends_still events spans i d rise h bears ends k s has =
     (λ birth above. absurd (true≢false (sym birth ∙ bears (get_or spans k s).pid)))
 
 -- a span before the last of its pid has an end
-has_end : (events : List Entry) (idles : List IdleLine) (spans : List IdleSpan) (i pid place k : ℕ) (d : Entry) (s : IdleSpan)
-    → AllPairs (λ a b. a.line < b.line) events → All (NamesBirth events) idles → AreSpansOf idles spans → i < length events
-    → All (EndsAtBirth (take i events)) spans → IsLastBefore spans (get_or events i d).line pid place → k < place → (get_or spans k s).pid ≡ pid
+has_end : (events : List Entry) (idles : List IdleLine) (spans : List IdleSpan) (i pid place k : ℕ) (d : Entry)
+    (s : IdleSpan)
+    → AllPairs (λ a b. a.line < b.line) events → All (NamesBirth events) idles → AreSpansOf idles spans
+    → i < length events
+    → All (EndsAtBirth (take i events)) spans → IsLastBefore spans (get_or events i d).line pid place → k < place
+    → (get_or spans k s).pid ≡ pid
     → 0 < (get_or spans k s).until
 has_end events idles spans i pid place k d s rise born told h ends last before named =
     let within = last.within in
@@ -143,7 +191,8 @@ has_end events idles spans i pid place k d s rise born told h ends last before n
     let rises = told.rise k place s before within in
     let less = rises.lines (named ∙ sym same) in
     let start = (get_or spans place s).from in
-    let birth = span_born events idles spans start (get_or spans place s).pid born told (omega (arith, less)) (span_starts spans place s within) in
+    let birth = span_born events idles spans start (get_or spans place s).pid born told (omega (arith, less))
+    (span_starts spans place s within) in
     let so_far = birth_so_far events i start (get_or spans place s).pid d rise h birth (last.above s) in
     let here : is_birth_line (take i events) start (get_or spans k s).pid ≡ true =
     ap (λ p. is_birth_line (take i events) start p) (named ∙ sym same) ∙ so_far in
@@ -151,9 +200,11 @@ has_end events idles spans i pid place k d s rise born told h ends last before n
 
 -- the birth of a task behind the events so far
 ends_more : (events : List Entry) (idles : List IdleLine) (old new : List IdleSpan) (i pid : ℕ) (d : Entry)
-    → AllPairs (λ a b. a.line < b.line) events → All (NamesBirth events) idles → AreSpansOf idles old → i < length events
+    → AllPairs (λ a b. a.line < b.line) events → All (NamesBirth events) idles → AreSpansOf idles old
+    → i < length events
     → ((other : ℕ) → is_birth_of other (get_or events i d).act ≡ eqb pid other)
-    → All (EndsAtBirth (take i events)) old → EndsLast old (get_or events i d).line pid new → All (EndsAtBirth (take (i + 1) events)) new
+    → All (EndsAtBirth (take i events)) old → EndsLast old (get_or events i d).line pid new
+    → All (EndsAtBirth (take (i + 1) events)) new
 ends_more events idles old new i pid d rise born told h bears ends (inl (none, same)) =
     subst (All (EndsAtBirth (take (i + 1) events))) (sym same)
     (λ k s has. kept events i d (get_or old k s) rise h (ends k s has)

@@ -1,5 +1,6 @@
 -- Spans by rising pid, and at one pid by rising start: those before one that starts at a line stand before a place.
-use Rattle.std.proofs.Common.{◌≡◌, ℕ, ◌-◌, ◌<◌, ◌≤◌, ◌&&◌, ◌||◌, List, length, get_or, true, false, true≢false, eqb, ltb, inl, inr, sym, ap, ◌∙◌, arith}
+use Rattle.std.proofs.Common.{◌≡◌, ℕ, ◌-◌, ◌<◌, ◌≤◌, ◌&&◌, ◌||◌, List, length, get_or, true, false, true≢false, eqb}
+use Rattle.std.proofs.Common.{ltb, inl, inr, sym, ap, ◌∙◌, arith}
 use Rattle.std.specs.List.{AllPairs}
 use Rattle.std.specs.List.Sorted.{IsPartitionedBy}
 use Rattle.std.proofs.lemmas.Bool.{cases_Bool, cases_order, cases_lt, eq-eqb, eqb-true, and_parts}
@@ -24,10 +25,12 @@ is_before line pid p f le lt =
     ]
 
 -- no span stands before it behind one that doesn't
-pub parted : (spans : List IdleSpan) (line pid : ℕ) → AllPairs SpanRises spans → IsPartitionedBy (stands_before line pid) spans
+pub parted : (spans : List IdleSpan) (line pid : ℕ) → AllPairs SpanRises spans
+    → IsPartitionedBy (stands_before line pid) spans
 parted spans line pid rise i j d le h passes =
     elim (cases_lt i j) [
-      | inr ge ↦ (let same : j ≡ i = omega arith in ap (λ k. stands_before line pid (get_or spans k d)) (sym same) ∙ passes)
+      | inr ge ↦ (let same : j ≡ i = omega arith in ap (λ k. stands_before line pid (get_or spans k d)) (sym same)
+          ∙ passes)
       | inl lt ↦ (
           let rises = rise i j d lt h in
           let a = get_or spans i d in
@@ -43,16 +46,19 @@ parted spans line pid rise i j d le h passes =
     ]
 
 -- what stands at the place or behind it
-behind_pid : (spans : List IdleSpan) (line pid place k : ℕ) (d : IdleSpan) → IsSpanPlace spans line pid place → place ≤ k → k < length spans
+behind_pid : (spans : List IdleSpan) (line pid place k : ℕ) (d : IdleSpan) → IsSpanPlace spans line pid place
+    → place ≤ k → k < length spans
     → pid ≤ (get_or spans k d).pid
 behind_pid spans line pid place k d at le h =
     let s = get_or spans k d in
     elim (cases_lt s.pid pid) [
       | inr ge ↦ ge
-      | inl lt ↦ absurd (at.behind k d le h (is_before line pid s.pid s.from (omega arith) (λ same. absurd (omega arith))))
+      | inl lt ↦ absurd (at.behind k d le h (is_before line pid s.pid s.from (omega arith)
+          (λ same. absurd (omega arith))))
     ]
 
-behind_from : (spans : List IdleSpan) (line pid place k : ℕ) (d : IdleSpan) → IsSpanPlace spans line pid place → place ≤ k → k < length spans
+behind_from : (spans : List IdleSpan) (line pid place k : ℕ) (d : IdleSpan) → IsSpanPlace spans line pid place
+    → place ≤ k → k < length spans
     → (get_or spans k d).pid ≡ pid → line ≤ (get_or spans k d).from
 behind_from spans line pid place k d at le h same =
     let s = get_or spans k d in
@@ -62,25 +68,30 @@ behind_from spans line pid place k d at le h same =
     ]
 
 -- a span of the pid that starts on the line stands at the place
-pub has_span_at : (spans : List IdleSpan) (line pid place : ℕ) (d : IdleSpan) → place < length spans → (get_or spans place d).pid ≡ pid
+pub has_span_at : (spans : List IdleSpan) (line pid place : ℕ) (d : IdleSpan) → place < length spans
+    → (get_or spans place d).pid ≡ pid
     → (get_or spans place d).from ≡ line → starts_span spans line pid ≡ true
 has_span_at spans line pid place d h named starts =
     list_any_at (λ (s : IdleSpan). eqb s.from line && eqb s.pid pid) spans place d h
     (ap (λ b. b && eqb (get_or spans place d).pid pid) (eq-eqb _ _ starts) ∙ eq-eqb _ _ named)
 
 -- and where another stands there, none does
-pub has_no_span : (spans : List IdleSpan) (line pid place : ℕ) → AllPairs SpanRises spans → IsSpanPlace spans line pid place
-    → ((d : IdleSpan) → place < length spans → (get_or spans place d).pid ≡ pid → (get_or spans place d).from ≡ line → ⊥)
+pub has_no_span : (spans : List IdleSpan) (line pid place : ℕ) → AllPairs SpanRises spans
+    → IsSpanPlace spans line pid place
+    → ((d : IdleSpan) → place < length spans → (get_or spans place d).pid ≡ pid → (get_or spans place d).from ≡ line
+    → ⊥)
     → starts_span spans line pid ≡ false
 has_no_span spans line pid place rise at other =
     list_any_none (λ (s : IdleSpan). eqb s.from line && eqb s.pid pid) spans each
   where
-    apart : (k : ℕ) (d : IdleSpan) → k < length spans → (get_or spans k d).from ≡ line → (get_or spans k d).pid ≡ pid → ⊥
+    apart : (k : ℕ) (d : IdleSpan) → k < length spans → (get_or spans k d).from ≡ line → (get_or spans k d).pid ≡ pid
+        → ⊥
     apart k d h starts named =
         elim (cases_order k place) [
           | inl here ↦ (
               let e = ap (λ n. get_or spans n d) here in
-              other d (omega arith) (sym (ap (λ (s : IdleSpan). s.pid) e) ∙ named) (sym (ap (λ (s : IdleSpan). s.from) e) ∙ starts))
+              other d (omega arith) (sym (ap (λ (s : IdleSpan). s.pid) e) ∙ named)
+              (sym (ap (λ (s : IdleSpan). s.from) e) ∙ starts))
           | inr (inl before) ↦ (
               let low = before_from line pid _ _ (at.before k d before) named in
               absurd (omega (arith, low, starts)))
@@ -95,7 +106,8 @@ has_no_span spans line pid place rise at other =
               absurd (omega (arith, less, low, starts)))
         ]
 
-    each : (k : ℕ) (d : IdleSpan) → k < length spans → (eqb (get_or spans k d).from line && eqb (get_or spans k d).pid pid) ≡ false
+    each : (k : ℕ) (d : IdleSpan) → k < length spans
+        → (eqb (get_or spans k d).from line && eqb (get_or spans k d).pid pid) ≡ false
     each k d h =
         elim (cases_Bool (eqb (get_or spans k d).from line && eqb (get_or spans k d).pid pid)) [
           | inr isnt ↦ isnt
@@ -105,8 +117,10 @@ has_no_span spans line pid place rise at other =
         ]
 
 -- so whether one starts there is said by the span at the place
-pub span_at : (spans : List IdleSpan) (line pid place : ℕ) (d : IdleSpan) → AllPairs SpanRises spans → IsSpanPlace spans line pid place
-    → place < length spans → (eqb (get_or spans place d).pid pid && eqb (get_or spans place d).from line) ≡ starts_span spans line pid
+pub span_at : (spans : List IdleSpan) (line pid place : ℕ) (d : IdleSpan) → AllPairs SpanRises spans
+    → IsSpanPlace spans line pid place
+    → place < length spans → (eqb (get_or spans place d).pid pid && eqb (get_or spans place d).from line) ≡ starts_span
+    spans line pid
 span_at spans line pid place d rise at h =
     let s = get_or spans place d in
     elim (cases_Bool (eqb s.pid pid && eqb s.from line)) [
@@ -116,12 +130,14 @@ span_at spans line pid place d rise at h =
       | inr isnt ↦ isnt ∙ sym (has_no_span spans line pid place rise at (λ e within named starts.
           let same = get_or_default spans place d e h in
           let both : (eqb s.pid pid && eqb s.from line) ≡ true =
-          ap (λ b. b && eqb s.from line) (eq-eqb _ _ (ap (λ (x : IdleSpan). x.pid) same ∙ named)) ∙ eq-eqb _ _ (ap (λ (x : IdleSpan). x.from) same ∙ starts) in
+          ap (λ b. b && eqb s.from line) (eq-eqb _ _ (ap (λ (x : IdleSpan). x.pid) same ∙ named))
+          ∙ eq-eqb _ _ (ap (λ (x : IdleSpan). x.from) same ∙ starts) in
           absurd (true≢false (sym both ∙ isnt))))
     ]
 
 -- the span before the place, where it is of the pid, is the last that starts above the line
-pub last_before : (spans : List IdleSpan) (line pid place : ℕ) (d : IdleSpan) → IsSpanPlace spans line pid place → 0 < place
+pub last_before : (spans : List IdleSpan) (line pid place : ℕ) (d : IdleSpan) → IsSpanPlace spans line pid place
+    → 0 < place
     → (get_or spans (place - 1) d).pid ≡ pid → IsLastBefore spans line pid (place - 1)
 last_before spans line pid place d at some named =
     let within = at.within in
@@ -134,12 +150,14 @@ last_before spans line pid place d at some named =
       last = λ k e h is starts.
           elim (cases_lt k place) [
             | inl lt ↦ omega (arith, some)
-            | inr ge ↦ (let low = behind_from spans line pid place k e at ge h is in absurd (omega (arith, low, starts)))
+            | inr ge ↦ (let low = behind_from spans line pid place k e at ge h is in
+                absurd (omega (arith, low, starts)))
           ];
     }
 
 -- where it isn't, none does
-pub none_before : (spans : List IdleSpan) (line pid place : ℕ) → AllPairs SpanRises spans → IsSpanPlace spans line pid place
+pub none_before : (spans : List IdleSpan) (line pid place : ℕ) → AllPairs SpanRises spans
+    → IsSpanPlace spans line pid place
     → ((d : IdleSpan) → 0 < place → (get_or spans (place - 1) d).pid ≡ pid → ⊥) → NoneBefore spans line pid
 none_before spans line pid place rise at other k d h named =
     elim (cases_lt k place) [

@@ -1,5 +1,7 @@
 -- The least lines of stray claims, changes of nice values and idle lines: the least of them is the least of all.
-use Rattle.std.proofs.Common.{◌≡◌, ℕ, ◌+◌, ◌<◌, ◌≤◌, ◌&&◌, List, [], ◌∷◌, length, get_or, min, Option, Some, None, IsTrue, Bool, true, false, true≢false, eqb, inl, inr, ◌⊎◌, refl, sym, ap, ◌∙◌, subst, arith}
+use Rattle.std.proofs.Common.{◌≡◌, ℕ, ◌+◌, ◌<◌, ◌≤◌, ◌&&◌, List, [], ◌∷◌, length, get_or, min, Option, Some, None}
+use Rattle.std.proofs.Common.{IsTrue, Bool, true, false, true≢false, eqb, inl, inr, ◌⊎◌, refl, sym, ap, ◌∙◌, subst}
+use Rattle.std.proofs.Common.{arith}
 use Rattle.std.specs.Prelude.{All, Any, IfNone, IfSome}
 use Rattle.std.specs.List.{AllPairs}
 use Rattle.std.specs.Option.{option_map_or}
@@ -16,7 +18,8 @@ use Rattle.sched_record.proofs.Births.{birth_at, birth_found}
 use Rattle.sched_record.proofs.Walk.{HasPassed}
 
 -- the least of two that are the least of their own
-pub least_of_both : (P Q : ℕ → Type 0) (a b : Option ℕ) → IsLeastOf P a → IsLeastOf Q b → IsLeastOf (λ n. P n ⊎ Q n) (lesser_of a b)
+pub least_of_both : (P Q : ℕ → Type 0) (a b : Option ℕ) → IsLeastOf P a → IsLeastOf Q b
+    → IsLeastOf (λ n. P n ⊎ Q n) (lesser_of a b)
 least_of_both P Q None None p q = λ n said. elim said [
   | inl x ↦ p n x
   | inr y ↦ q n y
@@ -54,9 +57,11 @@ pub least_stray : (X : Type 0) (f : X → ℕ) (events : List Entry) (items : Li
     → IsLeastOf (λ line. Any (λ item. f item ≡ line) items × (¬ IsTrue (is_event_line events line))) found
 least_stray X f events items None none said stray earlier = λ line other. other.1 (on_line none other.0)
   where
-    on_line : {line : ℕ} → All (λ item. IsTrue (is_event_line events (f item))) items → Any (λ item. f item ≡ line) items → IsTrue (is_event_line events line)
+    on_line : {line : ℕ} → All (λ item. IsTrue (is_event_line events (f item))) items
+        → Any (λ item. f item ≡ line) items → IsTrue (is_event_line events line)
     on_line all (k, item, h, at, on) = subst (λ n. IsTrue (is_event_line events n)) (ap f at ∙ on) (all k item h)
-least_stray X f events items (Some l) none said stray earlier = ((said, stray), λ line other. least line other.0 other.1)
+least_stray X f events items (Some l) none said stray earlier =
+    ((said, stray), λ line other. least line other.0 other.1)
   where
     least : (line : ℕ) → Any (λ item. f item ≡ line) items → (¬ IsTrue (is_event_line events line)) → l ≤ line
     least line (k, item, h, at, on) apart =
@@ -64,7 +69,8 @@ least_stray X f events items (Some l) none said stray earlier = ((said, stray), 
           | inr ge ↦ ge
           | inl lt ↦ (
               let same : f (get_or items k item) ≡ line = ap f at ∙ on in
-              absurd (apart (subst (λ n. IsTrue (is_event_line events n)) same (earlier k item h (omega (arith, same, lt))))))
+              absurd (apart (subst (λ n. IsTrue (is_event_line events n)) same
+              (earlier k item h (omega (arith, same, lt))))))
         ]
 
 -- where there is a least one it is one, and where there is none it isn't
@@ -72,7 +78,8 @@ pub least_found : (P : ℕ → Type 0) (found : Option ℕ) → IsLeastOf P foun
 least_found P None least = tt
 least_found P (Some n) least = least
 
-pub none_found : (P : ℕ → Type 0) (Q : Type 0) (found : Option ℕ) → IsLeastOf P found → (((n : ℕ) → ¬ P n) → Q) → IfNone found Q
+pub none_found : (P : ℕ → Type 0) (Q : Type 0) (found : Option ℕ) → IsLeastOf P found → (((n : ℕ) → ¬ P n) → Q)
+    → IfNone found Q
 none_found P Q None least then_so = then_so least
 none_found P Q (Some n) least then_so = tt
 
@@ -80,11 +87,13 @@ on_not : (b : Bool) → ((b ≡ true → ⊥) → ⊥) → b ≡ true
 on_not true h = refl
 on_not false h = absurd (h (λ e. true≢false (sym e)))
 
-same_at : {X : Type 0} (items : List X) (k : ℕ) (d : X) → k < length items → get_or items k (get_or items k d) ≡ get_or items k d
+same_at : {X : Type 0} (items : List X) (k : ℕ) (d : X) → k < length items
+    → get_or items k (get_or items k d) ≡ get_or items k d
 same_at items k d h = get_or_default items k (get_or items k d) d h
 
 -- where no line is stray, claims and changes of nice values stand on events' lines
-pub claims_on_events : (events : List Entry) (companion : CompanionView) → ((line : ℕ) → ¬ IsStray events companion line)
+pub claims_on_events : (events : List Entry) (companion : CompanionView)
+    → ((line : ℕ) → ¬ IsStray events companion line)
     → All (λ claim. IsTrue (is_event_line events claim.line)) companion.claims
 claims_on_events events companion none k d h =
     on_not _ (λ stray. none _ (inl ((k, get_or companion.claims k d, h, same_at companion.claims k d h, refl), stray)))
@@ -92,30 +101,44 @@ claims_on_events events companion none k d h =
 pub nices_on_events : (events : List Entry) (companion : CompanionView) → ((line : ℕ) → ¬ IsStray events companion line)
     → All (λ change. IsTrue (is_event_line events change.line)) companion.nices
 nices_on_events events companion none k d h =
-    on_not _ (λ stray. none _ (inr (inl ((k, get_or companion.nices k d, h, same_at companion.nices k d h, refl), stray))))
+    on_not _ (λ stray. none _ (inr (inl (
+      (k, get_or companion.nices k d, h, same_at companion.nices k d h, refl),
+      stray,
+    ))))
 
 -- and idle lines of births on one of their pid
 pub idles_on_births : (events : List Entry) (companion : CompanionView) → ((line : ℕ) → ¬ IsStray events companion line)
     → All (NamesBirth events) companion.idles
 idles_on_births events companion none k d h some =
-    on_not _ (λ stray. none _ (inr (inr (k, get_or companion.idles k d, h, same_at companion.idles k d h, (refl, λ names. stray (names some))))))
+    on_not _ (λ stray. none _ (inr (inr (
+      k,
+      get_or companion.idles k d,
+      h,
+      same_at companion.idles k d h,
+      (refl, λ names. stray (names some)),
+    ))))
 
 -- what stands at the place tells whether a birth of the pid stands on the line
 there_at : (events : List Entry) (place : ℕ) (idle : IdleLine) (d : Entry) → place < length events
-    → is_birth_there events place idle ≡ (eqb (get_or events place d).line idle.line && is_birth_of idle.pid (get_or events place d).act)
+    → is_birth_there events place idle ≡ (eqb (get_or events place d).line idle.line
+    && is_birth_of idle.pid (get_or events place d).act)
 there_at events place idle d h =
-    ap (λ found. option_map_or (λ (event : Entry). eqb event.line idle.line && is_birth_of idle.pid event.act) found false) (slice_get-get_or events place d h)
+    ap (λ found. option_map_or (λ (event : Entry). eqb event.line idle.line && is_birth_of idle.pid event.act) found
+    false) (slice_get-get_or events place d h)
 
-pub birth_there : (events : List Entry) (place : ℕ) (idle : IdleLine) → is_birth_there events place idle ≡ true → NamesBirth events idle
+pub birth_there : (events : List Entry) (place : ℕ) (idle : IdleLine) → is_birth_there events place idle ≡ true
+    → NamesBirth events idle
 birth_there [] place idle there some = absurd cc
 birth_there (event ∷ events) place idle there some =
     elim (cases_lt place (length (event ∷ events))) [
       | inr ge ↦ (
-          let out = ap (λ found. option_map_or (λ (e : Entry). eqb e.line idle.line && is_birth_of idle.pid e.act) found false) (slice_get_past (event ∷ events) place ge) in
+          let out = ap (λ found. option_map_or (λ (e : Entry). eqb e.line idle.line && is_birth_of idle.pid e.act) found
+          false) (slice_get_past (event ∷ events) place ge) in
           absurd (true≢false (sym there ∙ out)))
       | inl h ↦ (
           let at = get_or (event ∷ events) place event in
-          let parts = and_parts (eqb at.line idle.line) (is_birth_of idle.pid at.act) (sym (there_at (event ∷ events) place idle event h) ∙ there) in
+          let parts = and_parts (eqb at.line idle.line) (is_birth_of idle.pid at.act)
+          (sym (there_at (event ∷ events) place idle event h) ∙ there) in
           birth_at (event ∷ events) idle.line idle.pid place event h (eqb-true _ _ parts.0) parts.1)
     ]
 
@@ -135,7 +158,8 @@ no_birth_there (event ∷ events) place idle rise above reached some other names
           let within : place < length all = omega (arith, same, h) in
           let at = ap (λ n. get_or all n event) same in
           let is : is_birth_there all place idle ≡ true =
-          there_at all place idle event within ∙ ap (λ (e : Entry). eqb e.line idle.line && is_birth_of idle.pid e.act) (sym at)
+          there_at all place idle event within ∙ ap (λ (e : Entry). eqb e.line idle.line && is_birth_of idle.pid e.act)
+          (sym at)
           ∙ ap (λ b. b && is_birth_of idle.pid (get_or all k event).act) (eq-eqb _ _ line_is) ∙ found.1.birth event in
           absurd (true≢false (sym is ∙ other)))
       | inr (inl before) ↦ (let low = above k event before in absurd (omega (arith, low, line_is)))
@@ -146,19 +170,23 @@ no_birth_there (event ∷ events) place idle rise above reached some other names
     ]
 
 -- the first of the idle lines with no birth stands on the least line of them
-pub least_stray_idle : (events : List Entry) (idles : List IdleLine) (i : ℕ) (idle : IdleLine) → AllPairs IdleRises idles → i < length idles
-    → idle ≡ get_or idles i idle → (NamesBirth events idle → ⊥) → ((k : ℕ) (d : IdleLine) → k < i → NamesBirth events (get_or idles k d))
+pub least_stray_idle : (events : List Entry) (idles : List IdleLine) (i : ℕ) (idle : IdleLine)
+    → AllPairs IdleRises idles → i < length idles
+    → idle ≡ get_or idles i idle → (NamesBirth events idle → ⊥)
+    → ((k : ℕ) (d : IdleLine) → k < i → NamesBirth events (get_or idles k d))
     → IsLeastOf (HasStrayIdle events idles) (Some idle.line)
 least_stray_idle events idles i idle rise h is stray before = (
   (i, idle, h, sym is, (refl, stray)),
   λ line other. least other.0 other.1 line other.2 other.3 other.4.0 other.4.1,
 )
   where
-    least : (k : ℕ) (item : IdleLine) (line : ℕ) → k < length idles → get_or idles k item ≡ item → item.line ≡ line → (NamesBirth events item → ⊥) → idle.line ≤ line
+    least : (k : ℕ) (item : IdleLine) (line : ℕ) → k < length idles → get_or idles k item ≡ item → item.line ≡ line
+        → (NamesBirth events item → ⊥) → idle.line ≤ line
     least k item line has at on apart =
         elim (cases_order k i) [
           | inl same ↦ (
-              let at_i = ap (λ (x : IdleLine). x.line) (sym at ∙ ap (λ n. get_or idles n item) same ∙ get_or_default idles i item idle h ∙ sym is) in
+              let at_i = ap (λ (x : IdleLine). x.line) (sym at ∙ ap (λ n. get_or idles n item) same
+              ∙ get_or_default idles i item idle h ∙ sym is) in
               omega (arith, at_i, on))
           | inr (inl first) ↦ absurd (apart (subst (NamesBirth events) at (before k item first)))
           | inr (inr behind) ↦ (
@@ -168,12 +196,15 @@ least_stray_idle events idles i idle rise h is stray before = (
               omega (arith, up, a, b, on))
         ]
 
-pub no_stray_idle : (events : List Entry) (idles : List IdleLine) → All (NamesBirth events) idles → IsLeastOf (HasStrayIdle events idles) None
+pub no_stray_idle : (events : List Entry) (idles : List IdleLine) → All (NamesBirth events) idles
+    → IsLeastOf (HasStrayIdle events idles) None
 no_stray_idle events idles all line (k, item, h, at, (on, stray)) = stray (subst (NamesBirth events) at (all k item h))
 
 -- what is passed lies above what comes later, where lines may be the same
-pub passed_idles : (events : List Entry) (idles : List IdleLine) (from place index : ℕ) (idle : IdleLine) → AllPairs IdleRises idles → idle ≡ get_or idles index idle
-    → index < length idles → HasPassed (λ (event : Entry). event.line) (λ (x : IdleLine). x.line) events idles from index
+pub passed_idles : (events : List Entry) (idles : List IdleLine) (from place index : ℕ) (idle : IdleLine)
+    → AllPairs IdleRises idles → idle ≡ get_or idles index idle
+    → index < length idles → HasPassed (λ (event : Entry). event.line) (λ (x : IdleLine). x.line) events idles from
+    index
     → ((k : ℕ) (d : Entry) → from ≤ k → k < place → (get_or events k d).line < idle.line)
     → HasPassed (λ (event : Entry). event.line) (λ (x : IdleLine). x.line) events idles place (index + 1)
 passed_idles events idles from place index idle rise is has passed below k j d e h later h' =

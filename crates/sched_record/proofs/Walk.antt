@@ -1,6 +1,7 @@
 -- What the companion says on lines and events walked side by side: the place in the events never goes back, since every
 -- event before it stands on a line above that of the item in hand, and so above those of all later items.
-use Rattle.std.proofs.Common.{◌≡◌, ℕ, ◌+◌, ◌<◌, ◌≤◌, ◌≢◌, List, length, get_or, eqb, IsTrue, inl, inr, ◌⊎◌, ap, ◌∙◌, arith, subst}
+use Rattle.std.proofs.Common.{◌≡◌, ℕ, ◌+◌, ◌<◌, ◌≤◌, ◌≢◌, List, length, get_or, eqb, IsTrue, inl, inr, ◌⊎◌, ap, ◌∙◌}
+use Rattle.std.proofs.Common.{arith, subst}
 use Rattle.std.specs.List.{AllPairs}
 use Rattle.std.proofs.lemmas.Bool.{both_ways, ne_eqb, eq-eqb, cases_lt, cases_order}
 use Rattle.std.proofs.lemmas.List.{get_or_default}
@@ -18,7 +19,8 @@ IsBelowAt {X} f xs place line = (d : X) → place < length xs → line < f (get_
 
 -- so nothing lies on the line
 pub apart_from : {X : Type 0} (f : X → ℕ) (xs : List X) (line place : ℕ) → AllPairs (λ a b. f a < f b) xs
-    → AllAbove f xs place line → IsBelowAt f xs place line → (k : ℕ) (d : X) → k < length xs → f (get_or xs k d) ≡ line → ⊥
+    → AllAbove f xs place line → IsBelowAt f xs place line → (k : ℕ) (d : X) → k < length xs → f (get_or xs k d) ≡ line
+    → ⊥
 apart_from {X} f xs line place rising above below k d h same = apart (cases_order k place)
   where
     apart : (k ≡ place) ⊎ ((k < place) ⊎ (place < k)) → ⊥
@@ -56,12 +58,14 @@ below_other f xs line place d' reached other d h =
 
 -- of two lists that are walked side by side, what is passed in the first lies above all that is left of the second
 abbrev pub HasPassed : {X Y : Type 0} → (X → ℕ) → (Y → ℕ) → List X → List Y → ℕ → ℕ → Type 0
-HasPassed {X} {Y} f g xs ys place index = (k j : ℕ) (d : X) (e : Y) → k < place → index ≤ j → j < length ys → f (get_or xs k d) < g (get_or ys j e)
+HasPassed {X} {Y} f g xs ys place index = (k j : ℕ) (d : X) (e : Y) → k < place → index ≤ j → j < length ys
+    → f (get_or xs k d) < g (get_or ys j e)
 
 -- so everything before the new place lies above what is in hand
 pub above_here : {X Y : Type 0} (f : X → ℕ) (g : Y → ℕ) (xs : List X) (ys : List Y) (from place index line : ℕ) (e' : Y)
     → line ≡ g (get_or ys index e') → index < length ys → HasPassed f g xs ys from index
-    → ((k : ℕ) (d : X) → from ≤ k → k < place → f (get_or xs k d) < line) → (k : ℕ) (d : X) → k < place → f (get_or xs k d) < line
+    → ((k : ℕ) (d : X) → from ≤ k → k < place → f (get_or xs k d) < line) → (k : ℕ) (d : X) → k < place
+    → f (get_or xs k d) < line
 above_here f g xs ys from place index line e' is_line has passed below k d h =
     elim (cases_lt k from) [
       | inl lt ↦ (let before = passed k index d e' lt (omega arith) has in omega (arith, before, is_line))
@@ -69,8 +73,10 @@ above_here f g xs ys from place index line e' is_line has passed below k d h =
     ]
 
 -- and above what comes later
-pub passed_more : {X Y : Type 0} (f : X → ℕ) (g : Y → ℕ) (xs : List X) (ys : List Y) (from place index line : ℕ) (e' : Y)
-    → AllPairs (λ a b. g a < g b) ys → line ≡ g (get_or ys index e') → index < length ys → HasPassed f g xs ys from index
+pub passed_more : {X Y : Type 0} (f : X → ℕ) (g : Y
+    → ℕ) (xs : List X) (ys : List Y) (from place index line : ℕ) (e' : Y)
+    → AllPairs (λ a b. g a < g b) ys → line ≡ g (get_or ys index e') → index < length ys
+    → HasPassed f g xs ys from index
     → ((k : ℕ) (d : X) → from ≤ k → k < place → f (get_or xs k d) < line) → HasPassed f g xs ys place (index + 1)
 passed_more f g xs ys from place index line e' rising is_line has passed below k j d e h later h' =
     elim (cases_lt k from) [
@@ -83,30 +89,38 @@ passed_more f g xs ys from place index line e' rising is_line has passed below k
     ]
 
 -- an event stands on the line, where the one at the place does
-pub event_line_at : (events : List Entry) (line place : ℕ) (d : Entry) → place < length events → (get_or events place d).line ≡ line
+pub event_line_at : (events : List Entry) (line place : ℕ) (d : Entry) → place < length events
+    → (get_or events place d).line ≡ line
     → IsTrue (is_event_line events line)
-event_line_at events line place d h same = list_any_at (λ (event : Entry). eqb event.line line) events place d h (eq-eqb _ _ same)
+event_line_at events line place d h same = list_any_at (λ (event : Entry). eqb event.line line) events place d h
+    (eq-eqb _ _ same)
 
 -- the items before a place stand on events' lines
 abbrev pub AreOnEvents : {X : Type 0} → (X → ℕ) → List Entry → List X → ℕ → Type 0
-AreOnEvents {X} f events items index = (k : ℕ) (d : X) → k < index → IsTrue (is_event_line events (f (get_or items k d)))
+AreOnEvents {X} f events items index = (k : ℕ) (d : X) → k < index
+    → IsTrue (is_event_line events (f (get_or items k d)))
 
 -- one more does
-pub on_events_more : {X : Type 0} (f : X → ℕ) (events : List Entry) (items : List X) (index : ℕ) (item : X) → index < length items
-    → item ≡ get_or items index item → AreOnEvents f events items index → IsTrue (is_event_line events (f item)) → AreOnEvents f events items (index + 1)
+pub on_events_more : {X : Type 0} (f : X → ℕ) (events : List Entry) (items : List X) (index : ℕ) (item : X)
+    → index < length items
+    → item ≡ get_or items index item → AreOnEvents f events items index → IsTrue (is_event_line events (f item))
+    → AreOnEvents f events items (index + 1)
 on_events_more {X} f events items index item h is before here k d lt =
     elim (cases_lt k index) [
       | inl less ↦ before k d less
       | inr ge ↦ (
           let last : index ≡ k = omega arith in
-          let same : item ≡ get_or items k d = is ∙ get_or_default items index item d h ∙ ap (λ n. get_or items n d) last in
+          let same : item ≡ get_or items k d = is ∙ get_or_default items index item d h
+          ∙ ap (λ n. get_or items n d) last in
           subst (λ (x : X). IsTrue (is_event_line events (f x))) same here)
     ]
 
 -- those above the item in hand do
-pub on_events_above : {X : Type 0} (f : X → ℕ) (events : List Entry) (items : List X) (index : ℕ) (item : X) → AllPairs (λ a b. f a < f b) items
+pub on_events_above : {X : Type 0} (f : X → ℕ) (events : List Entry) (items : List X) (index : ℕ) (item : X)
+    → AllPairs (λ a b. f a < f b) items
     → index < length items → item ≡ get_or items index item → AreOnEvents f events items index
-    → (k : ℕ) (d : X) → k < length items → f (get_or items k d) < f item → IsTrue (is_event_line events (f (get_or items k d)))
+    → (k : ℕ) (d : X) → k < length items → f (get_or items k d) < f item
+    → IsTrue (is_event_line events (f (get_or items k d)))
 on_events_above {X} f events items index item rise h is before k d has less =
     let here = ap f is in
     elim (cases_order k index) [

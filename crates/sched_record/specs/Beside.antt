@@ -5,10 +5,11 @@ use Rattle.sched_record.specs.Kept.{RecordView}
 
 -- a place in what stands on lines, as the walk has it at an event: what is before the place stands on lines above this
 -- event's and those of all later ones
-pub record IsPlaceBeside (X : Type 0) (line : X → ℕ) (items : List X) (events : List Entry) (event place : ℕ) : Type 0 where
-  pub within : place ≤ length items
-  pub passed : (k j : ℕ) (item : X) (entry : Entry) → k < place → event ≤ j → j < length events
-      → line (slice_index_or items k item) < (slice_index_or events j entry).line
+pub record IsPlaceBeside (X : Type 0) (line : X → ℕ) (items : List X) (events : List Entry) (event place : ℕ) : Type 0
+  where
+    pub within : place ≤ length items
+    pub passed : (k j : ℕ) (item : X) (entry : Entry) → k < place → event ≤ j → j < length events
+        → line (slice_index_or items k item) < (slice_index_or events j entry).line
 
 -- such a place in a record's claims
 abbrev pub IsClaimPlace : RecordView → ℕ → ℕ → Type 0

@@ -1,5 +1,6 @@
 -- What joining a trace and a companion gives (this project's profile).
-use Rattle.std.specs.Prelude.{◌≡◌, ℕ, ◌<◌, ◌≤◌, IsTrue, List, [], ◌∷◌, ◌++◌, ◌⊎◌, ◌==◌, Bool, false, ◌&&◌, min, slice_get, Any, All, Option, Some, None, Result, Ok, Err}
+use Rattle.std.specs.Prelude.{◌≡◌, ℕ, ◌<◌, ◌≤◌, IsTrue, List, [], ◌∷◌, ◌++◌, ◌⊎◌, ◌==◌, Bool, false, ◌&&◌, min}
+use Rattle.std.specs.Prelude.{slice_get, Any, All, Option, Some, None, Result, Ok, Err}
 use Rattle.std.specs.Option.{option_map_or}
 use Rattle.cfs_model.specs.declared.act.Entry.{Entry}
 use Rattle.cfs_model.specs.declared.claim.Claim.{Claim}
@@ -49,15 +50,16 @@ HasStrayIdle events idles line = Any (λ idle. (idle.line ≡ line) × (¬ Names
 -- one of these does
 abbrev pub IsStray : List Entry → CompanionView → ℕ → Type 0
 IsStray events companion line =
-    HasStrayClaim events companion.claims line ⊎ HasStrayNice events companion.nices line ⊎ HasStrayIdle events companion.idles line
+    HasStrayClaim events companion.claims line ⊎ HasStrayNice events companion.nices line
+    ⊎ HasStrayIdle events companion.idles line
 
 -- the least number of which this holds, if there is one
 abbrev pub IsLeastOf : (ℕ → Type 0) → Option ℕ → Type 0
 IsLeastOf P None = (n : ℕ) → ¬ P n
 IsLeastOf P (Some n) = P n × ((m : ℕ) → P m → n ≤ m)
 
--- the least line on which a claim or a change of a nice value stands that is no event's line, or an idle line with no birth
--- of its pid
+-- the least line on which a claim or a change of a nice value stands that is no event's line, or an idle line with no
+-- birth of its pid
 abbrev pub IsFirstStray : List Entry → CompanionView → ℕ → Type 0
 IsFirstStray events companion line = IsLeastOf (IsStray events companion) (Some line)
 

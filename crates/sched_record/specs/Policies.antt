@@ -1,6 +1,7 @@
 -- How long a task that the companion names stays of the idle policy: until the next birth of its pid (this project's
 -- profile). The spans say it, one for each idle line.
-use Rattle.std.specs.Prelude.{◌≡◌, ℕ, ◌<◌, ◌≤◌, ◌==◌, nat_lt, Bool, ◌&&◌, ◌||◌, IsTrue, List, ◌⊎◌, length, slice_index_or}
+use Rattle.std.specs.Prelude.{◌≡◌, ℕ, ◌<◌, ◌≤◌, ◌==◌, nat_lt, Bool, ◌&&◌, ◌||◌, IsTrue, List, ◌⊎◌, length}
+use Rattle.std.specs.Prelude.{slice_index_or}
 use Rattle.cfs_model.specs.Limits.{no_line}
 use Rattle.cfs_model.specs.declared.act.Entry.{Entry}
 use Rattle.companion_file.specs.Spans.{ended}
@@ -10,7 +11,8 @@ use Rattle.sched_record.specs.Kept.{is_birth_line}
 -- the span ends at the first birth of its pid behind its start, and has no end where there is no such birth
 pub record EndsAtBirth (events : List Entry) (span : IdleSpan) : Type 0 where
   pub found : no_line < span.until → (span.from < span.until) × IsTrue (is_birth_line events span.until span.pid)
-  pub first : (line : ℕ) → span.from < line → IsTrue (is_birth_line events line span.pid) → (no_line < span.until) × (span.until ≤ line)
+  pub first : (line : ℕ) → span.from < line → IsTrue (is_birth_line events line span.pid)
+      → (no_line < span.until) × (span.until ≤ line)
 
 -- the span stands before one of this pid that starts at this line
 abbrev pub stands_before : ℕ → ℕ → IdleSpan → Bool
@@ -20,22 +22,27 @@ stands_before line pid span = nat_lt span.pid pid || ((span.pid == pid) && nat_l
 pub record IsSpanPlace (spans : List IdleSpan) (line pid place : ℕ) : Type 0 where
   pub within : place ≤ length spans
   pub before : (k : ℕ) (d : IdleSpan) → k < place → IsTrue (stands_before line pid (slice_index_or spans k d))
-  pub behind : (k : ℕ) (d : IdleSpan) → place ≤ k → k < length spans → ¬ IsTrue (stands_before line pid (slice_index_or spans k d))
+  pub behind : (k : ℕ) (d : IdleSpan) → place ≤ k → k < length spans
+      → ¬ IsTrue (stands_before line pid (slice_index_or spans k d))
 
 -- the place of the last span of this pid that starts above this line
 pub record IsLastBefore (spans : List IdleSpan) (line pid place : ℕ) : Type 0 where
   pub within : place < length spans
   pub named : (d : IdleSpan) → (slice_index_or spans place d).pid ≡ pid
   pub above : (d : IdleSpan) → (slice_index_or spans place d).from < line
-  pub last : (k : ℕ) (d : IdleSpan) → k < length spans → (slice_index_or spans k d).pid ≡ pid → (slice_index_or spans k d).from < line → k ≤ place
+  pub last : (k : ℕ) (d : IdleSpan) → k < length spans → (slice_index_or spans k d).pid ≡ pid
+      → (slice_index_or spans k d).from < line → k ≤ place
 
 -- no span of this pid starts above this line
 abbrev pub NoneBefore : List IdleSpan → ℕ → ℕ → Type 0
-NoneBefore spans line pid = (k : ℕ) (d : IdleSpan) → k < length spans → (slice_index_or spans k d).pid ≡ pid → line ≤ (slice_index_or spans k d).from
+NoneBefore spans line pid = (k : ℕ) (d : IdleSpan) → k < length spans → (slice_index_or spans k d).pid ≡ pid
+    → line ≤ (slice_index_or spans k d).from
 
 -- the last span of this pid that starts above this line has an end: this line, where it had none
 abbrev pub EndsLast : List IdleSpan → ℕ → ℕ → List IdleSpan → Type 0
 EndsLast old line pid new =
     (NoneBefore old line pid × (new ≡ old))
-    ⊎ ((place : ℕ) × IsLastBefore old line pid place × ((d : IdleSpan) → no_line < (slice_index_or old place d).until) × (new ≡ old))
-    ⊎ ((place : ℕ) × IsLastBefore old line pid place × ((d : IdleSpan) → (slice_index_or old place d).until ≡ no_line) × (new ≡ ended old place line))
+    ⊎ ((place : ℕ) × IsLastBefore old line pid place × ((d : IdleSpan) → no_line < (slice_index_or old place d).until)
+    × (new ≡ old))
+    ⊎ ((place : ℕ) × IsLastBefore old line pid place × ((d : IdleSpan) → (slice_index_or old place d).until ≡ no_line)
+    × (new ≡ ended old place line))

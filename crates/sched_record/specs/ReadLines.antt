@@ -7,7 +7,8 @@ use Rattle.sched_record.specs.Trace.{AreEventsOf}
 -- a number is the time of the last event, and 0 before the first
 abbrev pub IsLastTime : ℕ → List Entry → Type 0
 IsLastTime last events =
-    ((last ≡ 0) × (events ≡ [])) ⊎ ((before : List Entry) × (event : Entry) × (events ≡ before ++ event ∷ []) × (last ≡ event.time))
+    ((last ≡ 0) × (events ≡ [])) ⊎ ((before : List Entry) × (event : Entry) × (events ≡ before ++ event ∷ [])
+    × (last ≡ event.time))
 
 -- these lines are so many, none of them is bad, and these are their events and the time of the last one
 pub record AreRead (lines : List (List ℕ)) (count last : ℕ) (events : List Entry) : Type 0 where

@@ -9,7 +9,8 @@ use Rattle.sched_record.specs.Trace.{IsFirstBadTraceLine}
 -- a reader has read these lines: it keeps their events, or the first bad one and why it is bad
 abbrev pub HasRead : TraceReader → List (List ℕ) → Type 0
 HasRead reader lines =
-    MatchOption reader.bad (AreRead lines reader.count reader.last reader.entries.items) (λ bad. IsFirstBadTraceLine lines bad.line bad.cause)
+    MatchOption reader.bad (AreRead lines reader.count reader.last reader.entries.items)
+    (λ bad. IsFirstBadTraceLine lines bad.line bad.cause)
 
 -- a reader has read these lines and some of those that follow, the first ones
 abbrev pub HasReadFront : TraceReader → List (List ℕ) → List (List ℕ) → Type 0

@@ -47,7 +47,8 @@ impl Record {
     pub fn claim_beside(&self, event: usize, from: usize) -> (Option<Claim>, usize)
         requires event { event < length (record_view self.now).events }
         requires from { IsClaimPlace (record_view self.now) event from }
-        ensures claim { (entry : Entry) → result.0 ≡ claim_at (record_view self.now).claims (slice_index_or (record_view self.now).events event entry).line }
+        ensures claim { (entry : Entry) → result.0 ≡ claim_at (record_view self.now).claims
+            (slice_index_or (record_view self.now).events event entry).line }
         ensures next { IsClaimPlace (record_view self.now) (event + 1) result.1 }
     {
         let claims = self.claims();
@@ -61,7 +62,8 @@ impl Record {
     pub fn nice_beside(&self, event: usize, from: usize) -> (Option<NiceLine>, usize)
         requires event { event < length (record_view self.now).events }
         requires from { IsNicePlace (record_view self.now) event from }
-        ensures nice { (entry : Entry) → result.0 ≡ nice_at (record_view self.now).nices (slice_index_or (record_view self.now).events event entry).line }
+        ensures nice { (entry : Entry) → result.0 ≡ nice_at (record_view self.now).nices
+            (slice_index_or (record_view self.now).events event entry).line }
         ensures next { IsNicePlace (record_view self.now) (event + 1) result.1 }
     {
         let nices = self.nices();
@@ -73,7 +75,8 @@ impl Record {
     /// Whether the task that an event bears or moves is of the idle policy. It takes no memory.
     pub fn policy_at(&self, event: usize) -> bool
         requires { event < length (record_view self.now).events }
-        ensures { (entry : Entry) → result ≡ policy_of (record_view self.now) (slice_index_or (record_view self.now).events event entry) }
+        ensures { (entry : Entry) → result ≡ policy_of (record_view self.now)
+            (slice_index_or (record_view self.now).events event entry) }
     {
         self.policy_of(&self.events()[event])
     }
@@ -91,8 +94,8 @@ impl Record {
         }
     }
 
-    /// Whether the task of this pid is of the idle policy as a line of the trace begins: as it was told at its last birth
-    /// above the line, or at the start.
+    /// Whether the task of this pid is of the idle policy as a line of the trace begins: as it was told at its last
+    /// birth above the line, or at the start.
     fn policy_before(&self, line: u32, pid: u32) -> bool
         requires { 0 < line }
         ensures { let r = record_view self.now in
@@ -166,8 +169,8 @@ fn tasks_of(alloc: Global, tasks: &[Task], cpu: u32) -> Result<Tasks, Memory>
     Ok(Tasks::from_vec(here))
 }
 
-/// An event with the claim and the change of a nice value on its line, and the policy of the task that it bears or moves, as
-/// a processor that it touches sees it.
+/// An event with the claim and the change of a nice value on its line, and the policy of the task that it bears or
+/// moves, as a processor that it touches sees it.
 pub fn step_at(
     event: Entry,
     claim: Option<Claim>,

@@ -4,7 +4,8 @@ ghost use Rattle.std.specs.List.{AllPairs};
 ghost use Rattle.cfs_model.specs.Touch.{touched};
 ghost use Rattle.companion_file.specs.Companion.{companion_view};
 ghost use Rattle.companion_file.specs.Reading.{IdleRises};
-ghost use Rattle.sched_record.specs.Join.{BeginsInTime, GoTogether, HasStrayIdle, IsBeforeStart, IsFirstOutside, IsFirstStray, IsLeastOf, Refuses, is_birth_there, lesser_of};
+ghost use Rattle.sched_record.specs.Join.{BeginsInTime, GoTogether, HasStrayIdle, IsBeforeStart, IsFirstOutside};
+ghost use Rattle.sched_record.specs.Join.{IsFirstStray, IsLeastOf, Refuses, is_birth_there, lesser_of};
 ghost use Rattle.sched_record.specs.Kept.{AreInOrder, IsInside, NamesBirth, is_birth_of, is_event_line};
 ghost use Rattle.sched_record.specs.Record.{RecordAnswer, RecordView, join_answer_view};
 ghost use Rattle.sched_record.specs.Trace.{trace_view};
@@ -22,8 +23,8 @@ pub enum JoinCause {
     CpuOutside,
     /// The first event comes before the start.
     StartLate,
-    /// A claim or a change of a nice value stands on a line that is no event's, or an idle line of a task that is born on one
-    /// that is no birth of its pid: the least such line.
+    /// A claim or a change of a nice value stands on a line that is no event's, or an idle line of a task that is born
+    /// on one that is no birth of its pid: the least such line.
     ClaimNoEvent,
 }
 
@@ -118,12 +119,14 @@ fn early_line(events: &[Entry], start: u64) -> Option<u32>
     }
 }
 
-/// The least line of a claim or of a change of a nice value that is no event's line, or of an idle line with no birth of its
-/// pid.
+/// The least line of a claim or of a change of a nice value that is no event's line, or of an idle line with no birth
+/// of its pid.
 fn stray_line(events: &[Entry], companion: &Companion) -> Option<u32>
     requires { AllPairs (λ a b. a.line < b.line) events.now }
-    ensures claimed { IfNone result (All (λ claim. IsTrue (is_event_line events.now claim.line)) (companion_view companion.now).claims) }
-    ensures reniced { IfNone result (All (λ change. IsTrue (is_event_line events.now change.line)) (companion_view companion.now).nices) }
+    ensures claimed { IfNone result (All (λ claim. IsTrue (is_event_line events.now claim.line))
+        (companion_view companion.now).claims) }
+    ensures reniced { IfNone result (All (λ change. IsTrue (is_event_line events.now change.line))
+        (companion_view companion.now).nices) }
     ensures born { IfNone result (All (NamesBirth events.now) (companion_view companion.now).idles) }
     ensures found { IfSome result (λ line. IsFirstStray events.now (companion_view companion.now) line) }
 {
@@ -178,7 +181,8 @@ fn first_stray<T: OnLine>(events: &[Entry], items: &[T]) -> Option<u32>
     ensures none { IfNone result (All (λ item. IsTrue (is_event_line events.now (T.line item))) items.now) }
     ensures said { IfSome result (λ line. Any (λ item. T.line item ≡ line) items.now) }
     ensures stray { IfSome result (λ line. ¬ IsTrue (is_event_line events.now line)) }
-    ensures earlier { IfSome result (λ line. All (λ item. T.line item < line → IsTrue (is_event_line events.now (T.line item))) items.now) }
+    ensures earlier { IfSome result (λ line. All (λ item. T.line item < line
+        → IsTrue (is_event_line events.now (T.line item))) items.now) }
 {
     let mut place = 0;
     for item in items {

@@ -8,7 +8,8 @@ ghost use Rattle.sched_record.specs.declared.joining.JoinCause.{JoinCause};
 
 /// A law: a trace means one thing, its events or its first bad line.
 pub fn one_trace_answer()
-    ensures { (text : List ℕ) (a b : Result (List Entry) (ℕ × TraceCause)) → TraceAnswer text a → TraceAnswer text b → a ≡ b }
+    ensures { (text : List ℕ) (a b : Result (List Entry) (ℕ × TraceCause)) → TraceAnswer text a → TraceAnswer text b
+        → a ≡ b }
 {
     ftrace_line::one_reading();
     sched_event::one_answer();

@@ -50,8 +50,8 @@ pub(crate) fn place_from<T: OnLine>(items: &[T], from: usize, line: u32) -> usiz
     place
 }
 
-/// The place of the first item, from a place on, that stands on this line or below it. The hint is where to begin, if all
-/// items before it stand above the line.
+/// The place of the first item, from a place on, that stands on this line or below it. The hint is where to begin, if
+/// all items before it stand above the line.
 pub(crate) fn place_near<T: OnLine>(items: &[T], from: usize, hint: usize, line: u32) -> usize
     requires within { from ≤ length items.now }
     requires rise { AllPairs (λ a b. T.line a < T.line b) items.now }

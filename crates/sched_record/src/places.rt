@@ -86,10 +86,13 @@ impl Places {
         }
     }
 
-    /// Adds the place of an event to the processors that it touches: to all of them, or to none where a growth is refused.
+    /// Adds the place of an event to the processors that it touches: to all of them, or to none where a growth is
+    /// refused.
     pub(crate) fn add(&mut self, act: Act, place: u32) -> Result<(), Memory>
-        ensures added { OnOk result ((cpu : ℕ) → cpu < most_processors → places_at self.new cpu ≡ places_at self.old cpu ++ (if touches_cpu cpu act then place ∷ [] else [])) }
-        ensures kept { OnErr result ((cpu : ℕ) → cpu < most_processors → places_at self.new cpu ≡ places_at self.old cpu) }
+        ensures added { OnOk result ((cpu : ℕ) → cpu < most_processors
+            → places_at self.new cpu ≡ places_at self.old cpu ++ (if touches_cpu cpu act then place ∷ [] else [])) }
+        ensures kept { OnErr result ((cpu : ℕ) → cpu < most_processors
+            → places_at self.new cpu ≡ places_at self.old cpu) }
     {
         if (place as usize).is_multiple_of(EVENTS_A_MARK) {
             self.marks.push(NO_MARK)?;
@@ -108,7 +111,8 @@ impl Places {
 
     /// Puts a place behind the last of a processor.
     fn push_at(&mut self, cpu: u32, place: u32) -> Result<(), Memory>
-        ensures added { OnOk result ((other : ℕ) → other < most_processors → places_at self.new other ≡ places_at self.old other ++ (if cpu == other then place ∷ [] else [])) }
+        ensures added { OnOk result ((other : ℕ) → other < most_processors
+            → places_at self.new other ≡ places_at self.old other ++ (if cpu == other then place ∷ [] else [])) }
         ensures kept { OnErr result ((other : ℕ) → places_at self.new other ≡ places_at self.old other) }
     {
         let index = cpu as usize;
@@ -126,7 +130,8 @@ impl Places {
     /// Takes a processor's last place off, if there is one.
     fn pop_at(&mut self, cpu: u32)
         ensures other { (other : ℕ) → other ≢ cpu → places_at self.new other ≡ places_at self.old other }
-        ensures here { (before : List ℕ) (place : ℕ) → places_at self.old cpu ≡ before ++ place ∷ [] → places_at self.new cpu ≡ before }
+        ensures here { (before : List ℕ) (place : ℕ) → places_at self.old cpu ≡ before ++ place ∷ []
+            → places_at self.new cpu ≡ before }
     {
         let index = cpu as usize;
         if index < self.lists.len() {

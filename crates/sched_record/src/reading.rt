@@ -15,9 +15,11 @@ pub fn read_trace(alloc: Global, text: &[u8]) -> Result<Trace, TraceFault>
     // What is answered is what the text means.
     ensures answered { Tells result (TraceAnswer text.now) }
     // What the text means is answered, unless a growth was refused.
-    ensures only { (answer : Result (List Entry) (ℕ × TraceCause)) → TraceAnswer text.now answer → Tells result (λ told. told ≡ answer) }
+    ensures only { (answer : Result (List Entry) (ℕ × TraceCause)) → TraceAnswer text.now answer
+        → Tells result (λ told. told ≡ answer) }
     // A refusal is of the first bad line.
-    ensures refused { (line : ℕ) (cause : TraceCause) → IsErrOf result (TraceFault.Text line cause) → IsFirstBadTraceLine (lines_of text.now) line cause }
+    ensures refused { (line : ℕ) (cause : TraceCause) → IsErrOf result (TraceFault.Text line cause)
+        → IsFirstBadTraceLine (lines_of text.now) line cause }
 {
     one_trace_answer();
     trace_of(alloc, text)

@@ -25,9 +25,11 @@ pub fn read_trace_wide(
     // What is answered is what the text means.
     ensures answered { Tells result (TraceAnswer text.now) }
     // What the text means is answered, unless a growth was refused.
-    ensures only { (answer : Result (List Entry) (ℕ × TraceCause)) → TraceAnswer text.now answer → Tells result (λ told. told ≡ answer) }
+    ensures only { (answer : Result (List Entry) (ℕ × TraceCause)) → TraceAnswer text.now answer
+        → Tells result (λ told. told ≡ answer) }
     // A refusal is of the first bad line.
-    ensures refused { (line : ℕ) (cause : TraceCause) → IsErrOf result (TraceFault.Text line cause) → IsFirstBadTraceLine (lines_of text.now) line cause }
+    ensures refused { (line : ℕ) (cause : TraceCause) → IsErrOf result (TraceFault.Text line cause)
+        → IsFirstBadTraceLine (lines_of text.now) line cause }
 {
     one_trace_answer();
     trace_of(rt, alloc, text)
@@ -59,7 +61,8 @@ fn readers_of(
     alloc: Global,
     pieces: &[&[u8]],
 ) -> Result<Vec<TraceReader>, Memory>
-    ensures { IfOk result (λ readers. AllZip (λ piece reader. HasRead reader (lines_of piece.now)) pieces.now readers.items) }
+    ensures { IfOk result (λ readers. AllZip (λ piece reader. HasRead reader (lines_of piece.now)) pieces.now
+        readers.items) }
 {
     pieces
         .par_iter()

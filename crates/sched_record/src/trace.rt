@@ -49,7 +49,8 @@ impl Trace {
         self.places.at(cpu)
     }
 
-    /// Marks where in these claims and these changes of nice values those of the events begin, for `hint`. Takes no memory.
+    /// Marks where in these claims and these changes of nice values those of the events begin, for `hint`. Takes no
+    /// memory.
     pub(crate) fn mark(&mut self, claims: &[Claim], nices: &[NiceLine])
         ensures { trace_view self.new ≡ trace_view self.old }
     {

@@ -61,8 +61,10 @@ impl TraceReader {
     /// Reads the lines of a text, behind those read before. Where a growth is refused, the lines before the one that
     /// met it are read.
     pub fn read(&mut self, text: &[u8]) -> Result<(), Memory>
-        ensures read { OnOk result ((lines : List (List ℕ)) → HasRead self.old lines → HasRead self.new (lines ++ lines_of text.now)) }
-        ensures memory { OnErr result ((lines : List (List ℕ)) → HasRead self.old lines → HasReadFront self.new lines (lines_of text.now)) }
+        ensures read { OnOk result ((lines : List (List ℕ)) → HasRead self.old lines
+            → HasRead self.new (lines ++ lines_of text.now)) }
+        ensures memory { OnErr result ((lines : List (List ℕ)) → HasRead self.old lines
+            → HasReadFront self.new lines (lines_of text.now)) }
     {
         let mut rest = text;
         while !rest.is_empty() {
@@ -76,7 +78,8 @@ impl TraceReader {
     /// Reads a text whose lines another reader has read by themselves, behind those read before.
     pub(crate) fn followed_by(self, later: TraceReader, text: &[u8]) -> Result<TraceReader, Memory>
         requires { HasRead later (lines_of text.now) }
-        ensures { IfOk result (λ reader. (lines : List (List ℕ)) → HasRead self lines → HasRead reader (lines ++ lines_of text.now)) }
+        ensures { IfOk result (λ reader. (lines : List (List ℕ)) → HasRead self lines
+            → HasRead reader (lines ++ lines_of text.now)) }
     {
         if self.takes_on(&later) {
             return self.with_all_of(later);
@@ -86,8 +89,8 @@ impl TraceReader {
         Ok(reader)
     }
 
-    /// Whether what another reader has read stands behind what this one has, but for the numbers of its lines: no line is
-    /// bad, they aren't too many, and the time doesn't fall from the last event here to the first there.
+    /// Whether what another reader has read stands behind what this one has, but for the numbers of its lines: no line
+    /// is bad, they aren't too many, and the time doesn't fall from the last event here to the first there.
     fn takes_on(&self, later: &TraceReader) -> bool
         ensures { OnTrue result (TakesOn self.now later.now) }
     {
@@ -104,7 +107,8 @@ impl TraceReader {
     /// The events of both, those of the other reader as many lines further down as this one has read.
     fn with_all_of(self, later: TraceReader) -> Result<TraceReader, Memory>
         requires { TakesOn self later }
-        ensures { IfOk result (λ reader. (lines more : List (List ℕ)) → HasRead self lines → HasRead later more → HasRead reader (lines ++ more)) }
+        ensures { IfOk result (λ reader. (lines more : List (List ℕ)) → HasRead self lines → HasRead later more
+            → HasRead reader (lines ++ more)) }
     {
         let TraceReader {
             mut entries,
@@ -134,7 +138,8 @@ impl TraceReader {
 
     /// A law: a reader that has read a settled line last has read that line with anything behind it.
     pub fn settled_line()
-        ensures { (reader : Reader) (lines : List (List ℕ)) (front more : List ℕ) → IsSettled front → HasRead reader (lines ++ front ∷ []) → HasRead reader (lines ++ (front ++ more) ∷ []) }
+        ensures { (reader : Reader) (lines : List (List ℕ)) (front more : List ℕ) → IsSettled front
+            → HasRead reader (lines ++ front ∷ []) → HasRead reader (lines ++ (front ++ more) ∷ []) }
     {}
 
     /// The trace of the lines that were read, or the first bad one. It takes no memory.
@@ -158,7 +163,8 @@ impl TraceReader {
     /// Reads one more line.
     #[inline(always)]
     fn take_line(&mut self, line: &[u8]) -> Result<(), Memory>
-        ensures read { OnOk result ((lines : List (List ℕ)) → HasRead self.old lines → HasRead self.new (lines ++ line.now ∷ [])) }
+        ensures read { OnOk result ((lines : List (List ℕ)) → HasRead self.old lines
+            → HasRead self.new (lines ++ line.now ∷ [])) }
         ensures memory { OnErr result ((lines : List (List ℕ)) → HasRead self.old lines → HasRead self.new lines) }
     {
         if self.bad.is_some() {

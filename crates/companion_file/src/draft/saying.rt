@@ -64,7 +64,14 @@ impl Draft {
         place: Place,
         v: i64,
     ) -> Result<(), Refusal>
-        ensures { AddsTested self.old (task_line (record { pid = pid; nice = nice; idle = false; cpu = cpu; place = place; v = v })) result self.new }
+        ensures { AddsTested self.old (task_line (record {
+          pid = pid;
+          nice = nice;
+          idle = false;
+          cpu = cpu;
+          place = place;
+          v = v;
+        })) result self.new }
     {
         if !self.is_at_start() || !self.idles.is_empty() {
             return Err(Refusal::Bad(CompanionCause::Order));
@@ -86,7 +93,8 @@ impl Draft {
 
     #[inline(always)]
     fn say_claim(&mut self, line: u64, pid: u64, v: i64, sort: ClaimSort) -> Result<(), Refusal>
-        ensures { AddsTested self.old (claim_line (record { line = line; pid = pid; v = v; sort = sort })) result self.new }
+        ensures { AddsTested self.old (claim_line (record { line = line; pid = pid; v = v; sort = sort })) result
+            self.new }
     {
         if !self.has_all_floors() {
             return Err(Refusal::Bad(CompanionCause::Order));

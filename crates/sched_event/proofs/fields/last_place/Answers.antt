@@ -29,7 +29,8 @@ returns-then-begins_with-clause-place c =
     let place = c.last_byte-place.result in
     let there : begins_with key (drop place text) ≡ true =
     ap (begins_with key) (sym (take_rest text place)) ∙ sym c.begins_with.ensures ∙ c.if-begins_with.true in
-    sym (c.loop-limit.invariant.same ∙ passed_over c.loop-limit.limit place key text c.last_byte-place.ensures.within c.loop-limit.invariant.within c.requires c.last_byte-place.ensures.none ∙ place_found place key text there)
+    sym (c.loop-limit.invariant.same ∙ passed_over c.loop-limit.limit place key text c.last_byte-place.ensures.within
+    c.loop-limit.invariant.within c.requires c.last_byte-place.ensures.none ∙ place_found place key text there)
 
 pub returns-then-place-eq0-clause-place : goal.returns-then-place-eq0-clause-place
 returns-then-place-eq0-clause-place c =
@@ -38,7 +39,9 @@ returns-then-place-eq0-clause-place c =
     let place = c.last_byte-place.result in
     let other : begins_with key (drop place text) ≡ false =
     ap (begins_with key) (sym (take_rest text place)) ∙ sym c.begins_with.ensures ∙ c.if-begins_with.false in
-    sym (c.loop-limit.invariant.same ∙ passed_over c.loop-limit.limit place key text c.last_byte-place.ensures.within c.loop-limit.invariant.within c.requires c.last_byte-place.ensures.none ∙ place_none place key text other c.if-place-eq0.true)
+    sym (c.loop-limit.invariant.same ∙ passed_over c.loop-limit.limit place key text c.last_byte-place.ensures.within
+    c.loop-limit.invariant.within c.requires c.last_byte-place.ensures.none
+    ∙ place_none place key text other c.if-place-eq0.true)
 
 pub loop-limit-preserved : goal.loop-limit-preserved
 loop-limit-preserved c =
@@ -49,5 +52,7 @@ loop-limit-preserved c =
     ap (begins_with key) (sym (take_rest text place)) ∙ sym c.begins_with.ensures ∙ c.if-begins_with.false in
     record {
       within = omega arith;
-      same = c.loop-limit.invariant.same ∙ passed_over c.loop-limit.limit place key text c.last_byte-place.ensures.within c.loop-limit.invariant.within c.requires c.last_byte-place.ensures.none ∙ place_below place key text other c.if-place-eq0.false;
+      same = c.loop-limit.invariant.same ∙ passed_over c.loop-limit.limit place key text
+          c.last_byte-place.ensures.within c.loop-limit.invariant.within c.requires c.last_byte-place.ensures.none
+          ∙ place_below place key text other c.if-place-eq0.false;
     }

@@ -11,6 +11,7 @@ loop-place-preserved c =
     let size = ap length c.spans-place-end.ensures in
     record {
       count = ap length c.end_span.ensures.spans ∙ ended_length _ _ _ ∙ count;
-      forgotten = forgotten_more _ _ c.loop-place.place c.end_span.ensures.spans (omega (arith, within, count, size)) i.forgotten;
+      forgotten = forgotten_more _ _ c.loop-place.place c.end_span.ensures.spans (omega (arith, within, count, size))
+          i.forgotten;
       others = c.end_span.ensures.others ∙ i.others;
     }

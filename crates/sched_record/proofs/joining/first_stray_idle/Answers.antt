@@ -7,7 +7,8 @@ use Rattle.sched_record.specs.Kept.{NamesBirth}
 use Rattle.sched_record.proofs.Straying.{birth_there, least_stray_idle, no_birth_there, passed_idles}
 use Rattle.sched_record.proofs.Walk.{above_here}
 use Rattle.sched_record.proofs.joining.first_stray_idle.Goals as goal
-use Rattle.sched_record.proofs.joining.first_stray_idle.Goals.{else-idle-ne-NO_LINE-via-then-idle-ne-NO_LINE+else-not-is_birth_at, else-idle-ne-NO_LINE-via-else-idle-ne-NO_LINE}
+use Rattle.sched_record.proofs.joining.first_stray_idle.Goals.{else-idle-ne-NO_LINE-via-then-idle-ne-NO_LINE+else-not-is_birth_at}
+use Rattle.sched_record.proofs.joining.first_stray_idle.Goals.{else-idle-ne-NO_LINE-via-else-idle-ne-NO_LINE}
 
 abbrev line_of_event : Entry → ℕ
 line_of_event event = event.line
@@ -27,7 +28,8 @@ returns-then-not-is_birth_at c =
     let same = get_or_default idles i idle no_idle c.loop-idle-test.true in
     least_stray_idle events idles i idle c.requires.idles_rise c.loop-idle-test.true (sym same)
     (no_birth_there events c.place_from-place.result idle c.requires.events_rise
-    (above_here line_of_event line_of_idle events idles c.loop-idle.place c.place_from-place.result i idle.line no_idle refl
+    (above_here line_of_event line_of_idle events idles c.loop-idle.place c.place_from-place.result i idle.line no_idle
+    refl
     c.loop-idle-test.true c.loop-idle.invariant.passed c.place_from-place.ensures.below)
     c.place_from-place.ensures.reached (omega (arith, c.if-idle-ne-NO_LINE.true)) (search rules))
     c.loop-idle.invariant.born
@@ -40,17 +42,21 @@ loop-idle-preserved c =
     let idle = get_or idles i no_idle in
     let same = get_or_default idles i idle no_idle c.loop-idle-test.true in
     let here : NamesBirth events idle = elim c.else-idle-ne-NO_LINE.branch [
-      | else-idle-ne-NO_LINE-via-then-idle-ne-NO_LINE+else-not-is_birth_at w ↦ birth_there events c.place_from-place.result idle (search rules)
-      | else-idle-ne-NO_LINE-via-else-idle-ne-NO_LINE w ↦ (λ some. absurd (omega (arith, some, w.if-idle-ne-NO_LINE.false)))
+      | else-idle-ne-NO_LINE-via-then-idle-ne-NO_LINE+else-not-is_birth_at w ↦
+          birth_there events c.place_from-place.result idle (search rules)
+      | else-idle-ne-NO_LINE-via-else-idle-ne-NO_LINE w ↦
+          (λ some. absurd (omega (arith, some, w.if-idle-ne-NO_LINE.false)))
     ] in record {
       within = c.place_from-place.ensures.within.1;
-      passed = passed_idles events idles c.loop-idle.place c.place_from-place.result i idle c.requires.idles_rise (sym same) c.loop-idle-test.true
+      passed = passed_idles events idles c.loop-idle.place c.place_from-place.result i idle c.requires.idles_rise
+          (sym same) c.loop-idle-test.true
           c.loop-idle.invariant.passed c.place_from-place.ensures.below;
       born = λ k d lt.
           elim (cases_lt k i) [
             | inl less ↦ c.loop-idle.invariant.born k d less
             | inr ge ↦ (
                 let is : i ≡ k = omega arith in
-                subst (NamesBirth events) (get_or_default idles i no_idle d c.loop-idle-test.true ∙ ap (λ n. get_or idles n d) is) here)
+                subst (NamesBirth events) (get_or_default idles i no_idle d c.loop-idle-test.true
+                ∙ ap (λ n. get_or idles n d) is) here)
           ];
     }

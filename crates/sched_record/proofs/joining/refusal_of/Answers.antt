@@ -13,4 +13,5 @@ returns-clause-found c =
     let inside : All (IsInside companion.cpus) events = search rules in
     let in_time : BeginsInTime companion.start events = search rules in
     let first : IsFirstStray events companion c.in_ok-line.line = c.in_ok-line.ensures.found in
-    subst (λ (fault : JoinFault). Refuses events companion fault.line fault.cause) (sym c.refusal-2.ensures) (inside, in_time, first)
+    subst (λ (fault : JoinFault). Refuses events companion fault.line fault.cause) (sym c.refusal-2.ensures)
+    (inside, in_time, first)

@@ -3,7 +3,8 @@ use Rattle.std.proofs.lemmas.List.{get_or_default}
 use Rattle.sched_record.proofs.Dealt.{item_found, item_missing}
 use Rattle.sched_record.proofs.Walk.{apart_from, below_end, below_other}
 use Rattle.sched_record.proofs.on_line.item_on.Goals as goal
-use Rattle.sched_record.proofs.on_line.item_on.Goals.{else-place-items-via-then-place-items+else-line, else-place-items-via-else-place-items}
+use Rattle.sched_record.proofs.on_line.item_on.Goals.{else-place-items-via-then-place-items+else-line}
+use Rattle.sched_record.proofs.on_line.item_on.Goals.{else-place-items-via-else-place-items}
 
 pub returns-then-line : goal.returns-then-line
 returns-then-line g c =
@@ -21,7 +22,8 @@ pub returns-else-place-items : goal.returns-else-place-items
 returns-else-place-items g c =
     let line_of = g.T.OnLine.line in
     let place = c.args.place in
-    sym (item_missing line_of _ _ (apart_from line_of _ _ place c.requires.rise c.requires.above (elim c.else-place-items.branch [
+    sym (item_missing line_of _ _ (apart_from line_of _ _ place c.requires.rise c.requires.above
+    (elim c.else-place-items.branch [
       | else-place-items-via-then-place-items+else-line w ↦
           below_other line_of _ _ place w.index-items-place.result c.requires.reached
           (λ same. w.if-line.false (w.line.ensures ∙ ap line_of w.index-items-place.is ∙ same))

@@ -9,7 +9,8 @@ returns-then-line-clause-below g c k d le lt =
     let is = ap line_of c.index-items-hint.is in
     let said = c.line.ensures in
     elim (cases_lt k c.args.hint) [
-      | inl passed ↦ above_hint line_of c.args.items.now c.args.hint c.args.line c.index-items-hint.result c.requires.rise c.if-hint-items.true
+      | inl passed ↦ above_hint line_of c.args.items.now c.args.hint c.args.line c.index-items-hint.result
+          c.requires.rise c.if-hint-items.true
           (omega (arith, is, said, c.if-line.true)) k d passed
       | inr ahead ↦ c.place_from.ensures.below k d ahead lt
     ]

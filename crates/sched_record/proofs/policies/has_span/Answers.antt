@@ -10,7 +10,8 @@ none = record { pid = 0; from = 0; until = 0 }
 pub returns-then-place-spans : goal.returns-then-place-spans
 returns-then-place-spans c =
     let end = c.if-place-spans.true in
-    sym (has_no_span c.args.spans.now c.args.line c.args.pid c.span_place-place.result c.requires c.span_place-place.ensures
+    sym (has_no_span c.args.spans.now c.args.line c.args.pid c.span_place-place.result c.requires
+    c.span_place-place.ensures
     (λ d within named starts. omega (arith, end, within)))
 
 pub returns-then-span-pid : goal.returns-then-span-pid
@@ -18,8 +19,10 @@ returns-then-span-pid c =
     let before = c.if-place-spans.false in
     let bound = c.span_place-place.ensures.within in
     let within : c.span_place-place.result < length c.args.spans.now = omega (arith, before, bound) in
-    sym (ap (λ b. b && eqb (get_or c.args.spans.now c.span_place-place.result none).from c.args.line) (eq-eqb _ _ c.if-span-pid.true))
-    ∙ span_at c.args.spans.now c.args.line c.args.pid c.span_place-place.result none c.requires c.span_place-place.ensures within
+    sym (ap (λ b. b && eqb (get_or c.args.spans.now c.span_place-place.result none).from c.args.line)
+    (eq-eqb _ _ c.if-span-pid.true))
+    ∙ span_at c.args.spans.now c.args.line c.args.pid c.span_place-place.result none c.requires
+    c.span_place-place.ensures within
 
 pub returns-else-span-pid : goal.returns-else-span-pid
 returns-else-span-pid c =
@@ -28,4 +31,5 @@ returns-else-span-pid c =
     let within : c.span_place-place.result < length c.args.spans.now = omega (arith, before, bound) in
     let other = ne_eqb _ _ c.if-span-pid.false in
     other ∙ sym (ap (λ b. b && eqb (get_or c.args.spans.now c.span_place-place.result none).from c.args.line) other)
-    ∙ span_at c.args.spans.now c.args.line c.args.pid c.span_place-place.result none c.requires c.span_place-place.ensures within
+    ∙ span_at c.args.spans.now c.args.line c.args.pid c.span_place-place.result none c.requires
+    c.span_place-place.ensures within

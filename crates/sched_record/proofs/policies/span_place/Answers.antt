@@ -6,8 +6,10 @@ use Rattle.sched_record.proofs.policies.span_place.Goals as goal
 
 pub returns : goal.returns
 returns c =
-    let point = IsPartitionPoint-from_clause (stands_before c.args.line c.args.pid) c.args.spans.now c.partition_point.result
-    c.partition_point.ensures.partitioned (parted c.args.spans.now c.args.line c.args.pid c.requires) (λ a r q k. search rules) in
+    let point = IsPartitionPoint-from_clause (stands_before c.args.line c.args.pid) c.args.spans.now
+    c.partition_point.result
+    c.partition_point.ensures.partitioned (parted c.args.spans.now c.args.line c.args.pid c.requires)
+    (λ a r q k. search rules) in
     record {
       within = c.partition_point.ensures.bound;
       before = λ k d lt. point.0 k d (omega arith) lt;

@@ -8,6 +8,7 @@ use Rattle.sched_record.proofs.reading_wide.joined.Given as goal
 
 abbrev pub invariant-loop-piece : goal.invariant-loop-piece
 invariant-loop-piece l = record {
-  left : AllZip (λ piece reader. HasRead reader (lines_of piece.now)) (drop l.piece-index l.pieces) (into_iter_items l.readers);
+  left : AllZip (λ piece reader. HasRead reader (lines_of piece.now)) (drop l.piece-index l.pieces)
+      (into_iter_items l.readers);
   read : HasRead l.whole (flat_map (λ piece. lines_of piece.now) (take l.piece-index l.pieces));
 }

@@ -21,11 +21,13 @@ returns-then-not-may_be_idle c =
 
 pub returns-then-idle-ne-NO_LINE : goal.returns-then-idle-ne-NO_LINE
 returns-then-idle-ne-NO_LINE c =
-    adds_tested c.args.self.now (idle_line (record { line = c.args.line; pid = c.args.pid })) c.add_from_birth.result c.add_from_birth.new.self
+    adds_tested c.args.self.now (idle_line (record { line = c.args.line; pid = c.args.pid })) c.add_from_birth.result
+    c.add_from_birth.new.self
     (no_fault c.args.self.now (idle_line (record { line = c.args.line; pid = c.args.pid }))
     (sym c.is_at_start.ensures ∙ c.if-not-is_at_start.false) (c.in-Some.ensures.1 0) refl refl refl
     (rw c.in-Some.ensures.0 at (sym c.may_be_idle.ensures ∙ c.if-not-may_be_idle.false))
-    (birth_known c.args.line _ (ne_eqb c.args.line no_line (λ e. c.if-idle-ne-NO_LINE.true (ap (λ (idle : IdleLine). idle.line) c.in-Some.ensures.0 ∙ e)))))
+    (birth_known c.args.line _ (ne_eqb c.args.line no_line
+    (λ e. c.if-idle-ne-NO_LINE.true (ap (λ (idle : IdleLine). idle.line) c.in-Some.ensures.0 ∙ e)))))
     (rw c.in-Some.ensures.0 at c.add_from_birth.ensures)
 
 pub returns-in_default-place_of : goal.returns-in_default-place_of
@@ -33,13 +35,16 @@ returns-in_default-place_of c =
     fault_known c.args.self.now (idle_line (record { line = c.args.line; pid = c.args.pid }))
     (sym c.is_at_start.ensures ∙ c.if-not-is_at_start.false) (c.in-Some.ensures.1 0) refl refl refl
     (rw c.in-Some.ensures.0 at (sym c.may_be_idle.ensures ∙ c.if-not-may_be_idle.false))
-    (none_known c.args.line _ (eq-eqb c.args.line no_line (sym (ap (λ (idle : IdleLine). idle.line) c.in-Some.ensures.0) ∙ c.if-idle-ne-NO_LINE.false)) (rw c.in-Some.ensures.0 at c.in_default-place_of.ensures))
+    (none_known c.args.line _ (eq-eqb c.args.line no_line (sym (ap (λ (idle : IdleLine). idle.line) c.in-Some.ensures.0)
+    ∙ c.if-idle-ne-NO_LINE.false)) (rw c.in-Some.ensures.0 at c.in_default-place_of.ensures))
 
 pub returns : goal.returns
 returns c =
-    adds_tested c.args.self.now (idle_line (record { line = c.args.line; pid = c.args.pid })) c.add_from_start.result c.add_from_start.new.self
+    adds_tested c.args.self.now (idle_line (record { line = c.args.line; pid = c.args.pid })) c.add_from_start.result
+    c.add_from_start.new.self
     (no_fault c.args.self.now (idle_line (record { line = c.args.line; pid = c.args.pid }))
     (sym c.is_at_start.ensures ∙ c.if-not-is_at_start.false) (c.in-Some.ensures.1 0) refl refl refl
     (rw c.in-Some.ensures.0 at (sym c.may_be_idle.ensures ∙ c.if-not-may_be_idle.false))
-    (start_known c.args.line _ (is_there c.args.self.now.tasks c.args.pid c.in-Some-place_of.place (rw c.in-Some.ensures.0 at c.in-Some-place_of.ensures))))
+    (start_known c.args.line _ (is_there c.args.self.now.tasks c.args.pid c.in-Some-place_of.place
+    (rw c.in-Some.ensures.0 at c.in-Some-place_of.ensures))))
     (rw c.in-Some.ensures.0 at c.add_from_start.ensures)

@@ -14,13 +14,20 @@ returns-in_default c =
 pub returns-in_default-statement_of : goal.returns-in_default-statement_of
 returns-in_default-statement_of c = (
   λ comment. let test = c.is_comment.ensures in absurd cc,
-  later_refused c.in-Some.version c.args.self.now c.args.line.now BadLine (sym (ap (λ (s : Said). s.version) c.self.view_is) ∙ c.in-Some.is)
-      (inr (inl (λ group. let test = c.is_group.ensures.1 group in absurd cc, no_shape c.in-Some.version c.args.line.now c.in_default-statement_of.ensures, refl))),
+  later_refused c.in-Some.version c.args.self.now c.args.line.now BadLine
+      (sym (ap (λ (s : Said). s.version) c.self.view_is) ∙ c.in-Some.is)
+      (inr (inl (
+        λ group. let test = c.is_group.ensures.1 group in
+            absurd cc,
+        no_shape c.in-Some.version c.args.line.now c.in_default-statement_of.ensures,
+        refl,
+      ))),
 )
 
 pub returns : goal.returns
 returns c =
-    later_taken c.in-Some.version c.args.self.now c.args.line.now (stated c.in-Some-statement_of.statement) c.say.result c.say.new.self
+    later_taken c.in-Some.version c.args.self.now c.args.line.now (stated c.in-Some-statement_of.statement) c.say.result
+    c.say.new.self
     (λ comment. let test = c.is_comment.ensures in absurd cc)
     (sym (ap (λ (s : Said). s.version) c.self.view_is) ∙ c.in-Some.is)
     (λ group. let test = c.is_group.ensures.1 group in absurd cc)

@@ -11,13 +11,18 @@ invariant_of-result c =
     let fits : SFits w64 c.floor_of.result = search rules in
     let r = record_view c.args.self.now in
     let is_cut =
-    cut_is r c.args.cpu _ _ _ _ _ _ _ _ c.tasks.ensures c.in_ok-tasks.ensures c.floors.ensures c.floor_of.ensures c.start.ensures
+    cut_is r c.args.cpu _ _ _ _ _ _ _ _ c.tasks.ensures c.in_ok-tasks.ensures c.floors.ensures c.floor_of.ensures
+    c.start.ensures
     c.in_ok-steps.ensures c.last_time.ensures c.last_line.ensures in
-    rw to_z-of_z (record { share = subst IsShare (sym is_cut) (share_of_record r c.args.cpu c.args.self.now.in_order c.requires) })
+    rw to_z-of_z (record {
+      share = subst IsShare (sym is_cut)
+          (share_of_record r c.args.cpu c.args.self.now.in_order c.requires);
+    })
 
 pub returns : goal.returns
 returns c =
     let fits : SFits w64 c.floor_of.result = search rules in
     rw to_z-of_z
-    (cut_is (record_view c.args.self.now) c.args.cpu _ _ _ _ _ _ _ _ c.tasks.ensures c.in_ok-tasks.ensures c.floors.ensures c.floor_of.ensures c.start.ensures
+    (cut_is (record_view c.args.self.now) c.args.cpu _ _ _ _ _ _ _ _ c.tasks.ensures c.in_ok-tasks.ensures
+    c.floors.ensures c.floor_of.ensures c.start.ensures
     c.in_ok-steps.ensures c.last_time.ensures c.last_line.ensures)

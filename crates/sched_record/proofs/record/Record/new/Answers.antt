@@ -9,7 +9,8 @@ use Rattle.sched_record.proofs.Rising.{started_from}
 use Rattle.sched_record.proofs.record.Record.new.Goals as goal
 
 -- what a trace and a companion keep, and that they go together, is what their record keeps
-joined_in_order : (events : List Entry) (companion : CompanionView) → IsCompanionInOrder companion → AreInOrder events → GoTogether events companion
+joined_in_order : (events : List Entry) (companion : CompanionView) → IsCompanionInOrder companion → AreInOrder events
+    → GoTogether events companion
     → IsRecordInOrder (joined_record events companion)
 joined_in_order events companion kept in_order together = record {
   companion = kept;
@@ -23,8 +24,11 @@ joined_in_order events companion kept in_order together = record {
 
 pub invariant_of-result : goal.invariant_of-result
 invariant_of-result c = record {
-  in_order = subst (λ companion. IsRecordInOrder (joined_record c.mark.new.self.events companion)) (sym c.end_spans.ensures.others)
+  in_order = subst (λ companion. IsRecordInOrder (joined_record c.mark.new.self.events companion))
+      (sym c.end_spans.ensures.others)
       (subst (λ events. IsRecordInOrder (joined_record events (companion_view c.args.companion))) (sym c.mark.ensures)
-      (joined_in_order c.args.trace.events (companion_view c.args.companion) c.args.companion.in_order c.args.trace.in_order c.requires));
-  spans_end = subst (λ events. All (EndsAtBirth events) c.end_spans.new.companion.spans) c.events.ensures c.end_spans.ensures.ended;
+      (joined_in_order c.args.trace.events (companion_view c.args.companion) c.args.companion.in_order
+      c.args.trace.in_order c.requires));
+  spans_end = subst (λ events. All (EndsAtBirth events) c.end_spans.new.companion.spans) c.events.ensures
+      c.end_spans.ensures.ended;
 }

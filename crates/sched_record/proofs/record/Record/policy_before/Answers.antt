@@ -20,19 +20,24 @@ is_idle record_here line pid =
     policies_before r.idles (starts_idle r.tasks) r.events line pid
 
 -- a record's spans tell it
-told_by_span : (r : Record) (spans : List IdleSpan) (line pid place : ℕ) → spans ≡ r.companion.spans → 0 < line → IsLastBefore spans line pid place
+told_by_span : (r : Record) (spans : List IdleSpan) (line pid place : ℕ) → spans ≡ r.companion.spans → 0 < line
+    → IsLastBefore spans line pid place
     → is_idle r line pid ≡ (eqb (get_or spans place no_span).until 0 || leb line (get_or spans place no_span).until)
 told_by_span r spans line pid place same some last =
-    idle_before r.companion.idles r.companion.spans (starts_idle r.companion.tasks) (record_view r).events line pid place (get_or spans place no_span)
+    idle_before r.companion.idles r.companion.spans (starts_idle r.companion.tasks) (record_view r).events line pid
+    place (get_or spans place no_span)
     r.in_order.events.lines_rise r.in_order.events.from_one r.companion.spans_told r.in_order.born r.spans_end
     (sym (r.in_order.companion.policies_told pid)) some
     (subst (λ ss. IsLastBefore ss line pid place) same last)
-    (get_or_default spans place no_span (get_or spans place no_span) last.within ∙ ap (λ ss. get_or ss place (get_or spans place no_span)) same)
+    (get_or_default spans place no_span (get_or spans place no_span) last.within
+    ∙ ap (λ ss. get_or ss place (get_or spans place no_span)) same)
 
-told_by_none : (r : Record) (spans : List IdleSpan) (line pid : ℕ) → spans ≡ r.companion.spans → 0 < line → NoneBefore spans line pid
+told_by_none : (r : Record) (spans : List IdleSpan) (line pid : ℕ) → spans ≡ r.companion.spans → 0 < line
+    → NoneBefore spans line pid
     → is_idle r line pid ≡ false
 told_by_none r spans line pid same some none =
-    not_idle_before r.companion.idles r.companion.spans (starts_idle r.companion.tasks) (record_view r).events line pid r.companion.spans_told
+    not_idle_before r.companion.idles r.companion.spans (starts_idle r.companion.tasks) (record_view r).events line pid
+    r.companion.spans_told
     (sym (r.in_order.companion.policies_told pid)) some (subst (λ ss. NoneBefore ss line pid) same none)
 
 -- a span without an end, and one with an end
@@ -40,22 +45,26 @@ endless : (until line : ℕ) (idle : Bool) → until ≡ 0 → idle ≡ (eqb unt
 endless until line idle none is = eq-eqb until 0 none ∙ sym (is ∙ ap (λ b. b || leb line until) (eq-eqb until 0 none))
 
 ending : (until line : ℕ) (idle : Bool) → 0 < until → idle ≡ (eqb until 0 || leb line until) → leb line until ≡ idle
-ending until line idle some is = sym (is ∙ ap (λ b. b || leb line until) (ne_eqb until 0 (λ none. omega (arith, none, some))))
+ending until line idle some is = sym (is ∙ ap (λ b. b || leb line until)
+    (ne_eqb until 0 (λ none. omega (arith, none, some))))
 
 pub returns-then-until-eq-NO_LINE : goal.returns-then-until-eq-NO_LINE
 returns-then-until-eq-NO_LINE c =
     let spans = c.spans-spans.result.now in
     endless (get_or spans c.in-Some.place no_span).until c.args.line (is_idle c.args.self.now c.args.line c.args.pid)
     (omega (arith, c.if-until-eq-NO_LINE.true))
-    (told_by_span c.args.self.now spans c.args.line c.args.pid c.in-Some.place c.spans-spans.ensures c.requires c.in-Some.ensures.found)
+    (told_by_span c.args.self.now spans c.args.line c.args.pid c.in-Some.place c.spans-spans.ensures c.requires
+    c.in-Some.ensures.found)
 
 pub returns-else-until-eq-NO_LINE : goal.returns-else-until-eq-NO_LINE
 returns-else-until-eq-NO_LINE c =
     let spans = c.spans-spans.result.now in
     ending (get_or spans c.in-Some.place no_span).until c.args.line (is_idle c.args.self.now c.args.line c.args.pid)
     (omega (arith, c.if-until-eq-NO_LINE.false))
-    (told_by_span c.args.self.now spans c.args.line c.args.pid c.in-Some.place c.spans-spans.ensures c.requires c.in-Some.ensures.found)
+    (told_by_span c.args.self.now spans c.args.line c.args.pid c.in-Some.place c.spans-spans.ensures c.requires
+    c.in-Some.ensures.found)
 
 pub returns-in-None : goal.returns-in-None
 returns-in-None c =
-    sym (told_by_none c.args.self.now c.spans-spans.result.now c.args.line c.args.pid c.spans-spans.ensures c.requires c.in-None.ensures.none)
+    sym (told_by_none c.args.self.now c.spans-spans.result.now c.args.line c.args.pid c.spans-spans.ensures c.requires
+    c.in-None.ensures.none)

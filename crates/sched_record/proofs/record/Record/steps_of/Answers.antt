@@ -27,16 +27,20 @@ abbrev line_of_nice : NiceLine → ℕ
 line_of_nice change = change.line
 
 -- the lines of the events that touch a processor rise
-touching_rise : (cpu : ℕ) (events all : List Entry) → events ≡ all → AllPairs (λ a b. a.line < b.line) all → AllPairs (λ a b. a.line < b.line) (touching cpu events)
+touching_rise : (cpu : ℕ) (events all : List Entry) → events ≡ all → AllPairs (λ a b. a.line < b.line) all
+    → AllPairs (λ a b. a.line < b.line) (touching cpu events)
 touching_rise cpu events all same rise =
-    pairs_filter (λ a b. a.line < b.line) (λ event. touches_cpu cpu event.act) events (subst (λ es. AllPairs (λ a b. a.line < b.line) es) (sym same) rise)
+    pairs_filter (λ a b. a.line < b.line) (λ event. touches_cpu cpu event.act) events
+    (subst (λ es. AllPairs (λ a b. a.line < b.line) es) (sym same) rise)
 
 -- the places are those of the events at hand
-placed_here : (cpu : ℕ) (events all : List Entry) (places : List ℕ) → events ≡ all → places ≡ places_touching cpu all → places ≡ places_touching cpu events
+placed_here : (cpu : ℕ) (events all : List Entry) (places : List ℕ) → events ≡ all → places ≡ places_touching cpu all
+    → places ≡ places_touching cpu events
 placed_here cpu events all places same placed = placed ∙ ap (places_touching cpu) (sym same)
 
 -- each is a place among the events
-place_below : (cpu : ℕ) (events : List Entry) (places : List ℕ) (i : ℕ) → places ≡ places_touching cpu events → i < length places → get_or places i 0 < length events
+place_below : (cpu : ℕ) (events : List Entry) (places : List ℕ) (i : ℕ) → places ≡ places_touching cpu events
+    → i < length places → get_or places i 0 < length events
 place_below cpu events places i is h =
     let size = ap length is in
     let within = places_within cpu events i 0 (omega (arith, size, h)) in
@@ -47,7 +51,8 @@ pub bounds-events-place : goal.bounds-events-place
 bounds-events-place c =
     place_below c.args.cpu c.events-events.result.now c.places-places.result.now c.loop-place.place-index
     (placed_here c.args.cpu c.events-events.result.now _ c.places-places.result.now c.events-events.ensures
-    (c.places-places.ensures ∙ ap (λ (trace : Trace). places_touching c.args.cpu (trace_view trace)) c.trace-trace.ensures))
+    (c.places-places.ensures ∙ ap (λ (trace : Trace). places_touching c.args.cpu (trace_view trace))
+    c.trace-trace.ensures))
     c.loop-place-test.true
 
 pub policy_of-idle-requires : goal.policy_of-idle-requires
@@ -55,9 +60,11 @@ policy_of-idle-requires c =
     let r = record_view c.args.self.now in
     let place = get_or c.places-places.result.now c.loop-place.place-index 0 in
     let event = c.index-events-place.result in
-    let at = ap (λ (e : Entry). e.line) (c.index-events-place.is ∙ ap (λ es. get_or es place event) c.events-events.ensures) in
+    let at = ap (λ (e : Entry). e.line) (c.index-events-place.is
+    ∙ ap (λ es. get_or es place event) c.events-events.ensures) in
     let within = place_below c.args.cpu r.events c.places-places.result.now c.loop-place.place-index
-    (c.places-places.ensures ∙ ap (λ (trace : Trace). places_touching c.args.cpu (trace_view trace)) c.trace-trace.ensures)
+    (c.places-places.ensures ∙ ap (λ (trace : Trace). places_touching c.args.cpu (trace_view trace))
+    c.trace-trace.ensures)
     c.loop-place-test.true in
     let above = c.args.self.now.in_order.events.from_one place event within in
     omega (arith, at, above)
@@ -68,9 +75,12 @@ item_on-claimed-requires-clause-above c =
     let i = c.loop-place.place-index in
     let event = c.index-events-place.result in
     let is = placed_here c.args.cpu events _ c.places-places.result.now c.events-events.ensures
-    (c.places-places.ensures ∙ ap (λ (trace : Trace). places_touching c.args.cpu (trace_view trace)) c.trace-trace.ensures) in
-    let here = next_touching c.args.cpu events c.places-places.result.now i event is c.loop-place-test.true c.index-events-place.is in
-    above_here line_of_claim line_of_event c.claims-claims.result.now (touching c.args.cpu events) c.loop-place.claims_from c.place_near-claims_from.result i event.line
+    (c.places-places.ensures ∙ ap (λ (trace : Trace). places_touching c.args.cpu (trace_view trace))
+    c.trace-trace.ensures) in
+    let here = next_touching c.args.cpu events c.places-places.result.now i event is c.loop-place-test.true
+    c.index-events-place.is in
+    above_here line_of_claim line_of_event c.claims-claims.result.now (touching c.args.cpu events)
+    c.loop-place.claims_from c.place_near-claims_from.result i event.line
     event (ap line_of_event here.1) here.0 c.loop-place.invariant.claims_passed c.place_near-claims_from.ensures.below
 
 pub item_on-change-requires-clause-above : goal.item_on-change-requires-clause-above
@@ -79,9 +89,12 @@ item_on-change-requires-clause-above c =
     let i = c.loop-place.place-index in
     let event = c.index-events-place.result in
     let is = placed_here c.args.cpu events _ c.places-places.result.now c.events-events.ensures
-    (c.places-places.ensures ∙ ap (λ (trace : Trace). places_touching c.args.cpu (trace_view trace)) c.trace-trace.ensures) in
-    let here = next_touching c.args.cpu events c.places-places.result.now i event is c.loop-place-test.true c.index-events-place.is in
-    above_here line_of_nice line_of_event c.nices-nices.result.now (touching c.args.cpu events) c.loop-place.nices_from c.place_near-nices_from.result i event.line
+    (c.places-places.ensures ∙ ap (λ (trace : Trace). places_touching c.args.cpu (trace_view trace))
+    c.trace-trace.ensures) in
+    let here = next_touching c.args.cpu events c.places-places.result.now i event is c.loop-place-test.true
+    c.index-events-place.is in
+    above_here line_of_nice line_of_event c.nices-nices.result.now (touching c.args.cpu events) c.loop-place.nices_from
+    c.place_near-nices_from.result i event.line
     event (ap line_of_event here.1) here.0 c.loop-place.invariant.nices_passed c.place_near-nices_from.ensures.below
 
 pub loop-place-preserved : goal.loop-place-preserved
@@ -92,20 +105,29 @@ loop-place-preserved c =
     let event = c.index-events-place.result in
     let there = touching c.args.cpu events in
     let is = placed_here c.args.cpu events _ c.places-places.result.now c.events-events.ensures
-    (c.places-places.ensures ∙ ap (λ (trace : Trace). places_touching c.args.cpu (trace_view trace)) c.trace-trace.ensures) in
-    let here = next_touching c.args.cpu events c.places-places.result.now i event is c.loop-place-test.true c.index-events-place.is in
+    (c.places-places.ensures ∙ ap (λ (trace : Trace). places_touching c.args.cpu (trace_view trace))
+    c.trace-trace.ensures) in
+    let here = next_touching c.args.cpu events c.places-places.result.now i event is c.loop-place-test.true
+    c.index-events-place.is in
     let rise = touching_rise c.args.cpu events _ c.events-events.ensures c.args.self.now.in_order.events.lines_rise in
     record {
       claims_within = c.place_near-claims_from.ensures.within.1;
-      claims_passed = passed_more line_of_claim line_of_event c.claims-claims.result.now there c.loop-place.claims_from c.place_near-claims_from.result i event.line event
-          rise (ap line_of_event here.1) here.0 c.loop-place.invariant.claims_passed c.place_near-claims_from.ensures.below;
+      claims_passed = passed_more line_of_claim line_of_event c.claims-claims.result.now there c.loop-place.claims_from
+          c.place_near-claims_from.result i event.line event
+          rise (ap line_of_event here.1) here.0 c.loop-place.invariant.claims_passed
+          c.place_near-claims_from.ensures.below;
       nices_within = c.place_near-nices_from.ensures.within.1;
-      nices_passed = passed_more line_of_nice line_of_event c.nices-nices.result.now there c.loop-place.nices_from c.place_near-nices_from.result i event.line event
-          rise (ap line_of_event here.1) here.0 c.loop-place.invariant.nices_passed c.place_near-nices_from.ensures.below;
+      nices_passed = passed_more line_of_nice line_of_event c.nices-nices.result.now there c.loop-place.nices_from
+          c.place_near-nices_from.result i event.line event
+          rise (ap line_of_event here.1) here.0 c.loop-place.invariant.nices_passed
+          c.place_near-nices_from.ensures.below;
       dealt =
           rw c.in_ok-push.ensures.items
-          (dealt_more c.args.cpu c.claims-claims.result.now c.nices-nices.result.now (policy_of r) events i event c.loop-place.steps.items _ _ _ _ _ here.0 here.1
-          c.loop-place.invariant.dealt (c.deed_at-deed.ensures ∙ ap (λ b. deed_at c.args.cpu b event.act) c.policy_of-idle.ensures) c.item_on-claimed.ensures c.claim_for-claim.ensures
+          (dealt_more c.args.cpu c.claims-claims.result.now c.nices-nices.result.now (policy_of r) events i event
+          c.loop-place.steps.items _ _ _ _ _ here.0 here.1
+          c.loop-place.invariant.dealt (c.deed_at-deed.ensures
+          ∙ ap (λ b. deed_at c.args.cpu b event.act) c.policy_of-idle.ensures) c.item_on-claimed.ensures
+          c.claim_for-claim.ensures
           c.item_on-change.ensures c.nice_for-nice.ensures);
     }
 
@@ -115,11 +137,15 @@ returns c =
     let events = c.events-events.result.now in
     let there = touching c.args.cpu events in
     let is = placed_here c.args.cpu events _ c.places-places.result.now c.events-events.ensures
-    (c.places-places.ensures ∙ ap (λ (trace : Trace). places_touching c.args.cpu (trace_view trace)) c.trace-trace.ensures) in
+    (c.places-places.ensures ∙ ap (λ (trace : Trace). places_touching c.args.cpu (trace_view trace))
+    c.trace-trace.ensures) in
     let all = count_touching c.args.cpu events c.places-places.result.now is in
     c.from_vec.ensures ∙ c.loop-place.invariant.dealt
-    ∙ ap (map (step_of c.args.cpu c.claims-claims.result.now c.nices-nices.result.now (policy_of r))) (take_all c.loop-place.place-index there (omega (arith, all)))
+    ∙ ap (map (step_of c.args.cpu c.claims-claims.result.now c.nices-nices.result.now (policy_of r)))
+    (take_all c.loop-place.place-index there (omega (arith, all)))
     ∙ sym (steps_are c.args.cpu c.claims-claims.result.now c.nices-nices.result.now (policy_of r) events)
-    ∙ ap (λ es. steps_at c.args.cpu (claimed c.claims-claims.result.now c.nices-nices.result.now (policy_of r) es)) c.events-events.ensures
-    ∙ ap (λ cs. steps_at c.args.cpu (claimed cs c.nices-nices.result.now (policy_of r) r.events)) c.claims-claims.ensures
+    ∙ ap (λ es. steps_at c.args.cpu (claimed c.claims-claims.result.now c.nices-nices.result.now (policy_of r) es))
+    c.events-events.ensures
+    ∙ ap (λ cs. steps_at c.args.cpu (claimed cs c.nices-nices.result.now (policy_of r) r.events))
+    c.claims-claims.ensures
     ∙ ap (λ ns. steps_at c.args.cpu (claimed r.claims ns (policy_of r) r.events)) c.nices-nices.ensures

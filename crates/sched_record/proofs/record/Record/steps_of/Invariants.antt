@@ -11,8 +11,11 @@ use Rattle.sched_record.proofs.record.Record.steps_of.Given as goal
 abbrev pub invariant-loop-place : goal.invariant-loop-place
 invariant-loop-place l = record {
   claims_within : l.claims_from ≤ length l.claims;
-  claims_passed : HasPassed (λ (claim : Claim). claim.line) (λ (event : Entry). event.line) l.claims (touching l.cpu l.events) l.claims_from l.place-index;
+  claims_passed : HasPassed (λ (claim : Claim). claim.line) (λ (event : Entry). event.line) l.claims
+      (touching l.cpu l.events) l.claims_from l.place-index;
   nices_within : l.nices_from ≤ length l.nices;
-  nices_passed : HasPassed (λ (change : NiceLine). change.line) (λ (event : Entry). event.line) l.nices (touching l.cpu l.events) l.nices_from l.place-index;
-  dealt : l.steps.items ≡ map (step_of l.cpu l.claims l.nices (policy_of (record_view l.self))) (take l.place-index (touching l.cpu l.events));
+  nices_passed : HasPassed (λ (change : NiceLine). change.line) (λ (event : Entry). event.line) l.nices
+      (touching l.cpu l.events) l.nices_from l.place-index;
+  dealt : l.steps.items ≡ map (step_of l.cpu l.claims l.nices (policy_of (record_view l.self)))
+      (take l.place-index (touching l.cpu l.events));
 }

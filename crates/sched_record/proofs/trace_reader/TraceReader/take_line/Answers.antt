@@ -13,19 +13,28 @@ invariant_of-self-else-time-self c =
     let says = as_told _ _ c.in-Ok-Some.field-0-is c.in-Ok-Some.ensures in
     record {
       few = says.0;
-      counted = omega (arith, before.counted, ap length c.in_ok-push-in-Ok-Some.ensures.items, ap length c.reserve.ensures.items, length_push c.reserve.new.self.items c.in-Ok-Some.entry);
+      counted = omega (
+        arith,
+        before.counted,
+        ap length c.in_ok-push-in-Ok-Some.ensures.items,
+        ap length c.reserve.ensures.items,
+        length_push c.reserve.new.self.items c.in-Ok-Some.entry,
+      );
       placed = rw c.in_ok-push-in-Ok-Some.ensures.items
-          (placed_more c.reserve.new.self.items before.places c.add.new.self c.in-Ok-Some.entry _ (rw c.reserve.ensures.items before.placed) (search rules)
+          (placed_more c.reserve.new.self.items before.places c.add.new.self c.in-Ok-Some.entry _
+          (rw c.reserve.ensures.items before.placed) (search rules)
           c.in_ok-add-in-Ok-Some.ensures.added);
       kept = rw (c.in_ok-push-in-Ok-Some.ensures.items, c.reserve.ensures.items)
-          (keeps_event before.entries.items before.count before.last c.args.line.now c.in-Ok-Some.entry before.kept says c.if-time-self.false);
+          (keeps_event before.entries.items before.count before.last c.args.line.now c.in-Ok-Some.entry before.kept says
+          c.if-time-self.false);
     }
 
 pub returns-in-Ok-None-clause-read : goal.returns-in-Ok-None-clause-read
 returns-in-Ok-None-clause-read c lines read =
     let bad = c.args.self.now.bad in
     let none = sym c.is_some.ensures ∙ c.if-is_some.false in
-    as_none _ bad none (passes_over c.args.line.now (where_none _ bad none read) (as_told _ _ c.in-Ok-None.field-0-is c.in-Ok-None.ensures))
+    as_none _ bad none (passes_over c.args.line.now (where_none _ bad none read)
+    (as_told _ _ c.in-Ok-None.field-0-is c.in-Ok-None.ensures))
 
 pub returns-then-time-self-clause-read : goal.returns-then-time-self-clause-read
 returns-then-time-self-clause-read c lines read =

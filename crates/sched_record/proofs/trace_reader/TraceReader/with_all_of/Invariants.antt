@@ -6,6 +6,7 @@ use Rattle.sched_record.proofs.trace_reader.TraceReader.with_all_of.Given as goa
 
 abbrev pub invariant-loop-event : goal.invariant-loop-event
 invariant-loop-event l = record {
-  added : l.entries.items ≡ l.initial.entries.items ++ map (shifted l.count) (take l.event-index l.fn.later.entries.items);
+  added : l.entries.items ≡ l.initial.entries.items
+      ++ map (shifted l.count) (take l.event-index l.fn.later.entries.items);
   placed : ArePlacesOf l.entries.items l.places;
 }

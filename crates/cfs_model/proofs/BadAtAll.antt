@@ -2,16 +2,15 @@
 use Rattle.std.proofs.Common.{[], ◌∷◌, ◌++◌, arith}
 use Rattle.cfs_model.specs.Settings.{Settings, AreInRange}
 use Rattle.cfs_model.specs.Least.{AtMost, greatest_settings}
+use Rattle.cfs_model.specs.declared.setting.Setting.TheVariants.{Granularity, Credit, Debit, Slack}
 use Rattle.cfs_model.specs.Laws.{GreatestTellBadAtAll}
 use Rattle.cfs_model.proofs.MoreGenerous.{run_more}
 
 within_greatest : (knobs : Settings) → AreInRange knobs → AtMost knobs greatest_settings
-within_greatest knobs range = record {
-  granularity = range.0;
-  credit = range.1;
-  debit = range.2;
-  slack = range.3;
-}
+within_greatest knobs range Granularity = range.0
+within_greatest knobs range Credit = range.1.0
+within_greatest knobs range Debit = range.1.1.0
+within_greatest knobs range Slack = range.1.1.1.0
 
 pub bad_at_all : GreatestTellBadAtAll
 bad_at_all start first events line bad = record {
@@ -20,7 +19,7 @@ bad_at_all start first events line bad = record {
   rest = bad.rest;
   whole = bad.whole;
   line_is = bad.line_is;
-  runs = (greatest_settings, (omega arith, omega arith, omega arith, omega arith), bad.runs);
-  ends = λ knobs range run. bad.ends (run_more knobs greatest_settings start first (bad.before ++ bad.event ∷ [])
-      (within_greatest knobs range) run);
+  runs = (greatest_settings, (omega arith, (omega arith, (omega arith, (omega arith, tt)))), bad.runs);
+  ends = λ knobs range run. bad.ends (run_more knobs greatest_settings start first
+      (bad.before ++ bad.event ∷ []) (within_greatest knobs range) run);
 }

@@ -1,9 +1,11 @@
 -- The least settings: the lesser of two settings that make a run makes one, since a step asks for one setting alone;
 -- and what follows.
-use Rattle.std.proofs.Common.{◌≡◌, ℕ, ◌≤◌, min, ◌⊎◌, inl, inr, List, [], ◌∷◌, sym, subst, arith}
+use Rattle.std.proofs.Common.{◌≡◌, ℕ, ◌≤◌, min, ◌⊎◌, inl, inr, List, [], ◌∷◌, max, refl, sym, subst, arith}
 use Rattle.std.proofs.lemmas.Bool.{cases_lt}
 use Rattle.std.proofs.Math.Nat.{le-max_left, le-max_right, max-le}
-use Rattle.cfs_model.specs.Settings.{Settings}
+use Rattle.cfs_model.specs.Settings.{Settings, settings_by, value_at}
+use Rattle.cfs_model.specs.declared.setting.Setting.{Setting}
+use Rattle.cfs_model.specs.declared.setting.Setting.TheVariants.{Granularity, Credit, Debit, Slack}
 use Rattle.cfs_model.specs.Machine.{Machine}
 use Rattle.cfs_model.specs.Claimed.{Claimed}
 use Rattle.cfs_model.specs.Step.{IsStep}
@@ -17,42 +19,52 @@ use Rattle.cfs_model.proofs.MoreGenerous.{asked, step_more, steps_more, run_more
 use Rattle.cfs_model.specs.declared.act.Act.{Act}
 use Rattle.cfs_model.specs.declared.act.Act.TheVariants.{Switch, Wake, Born, Shift}
 
+abbrev larger_value : Settings → Settings → Setting → ℕ
+larger_value one other which = max (value_at one which) (value_at other which)
+
+-- settings by a function have its values
+at_by : (value : Setting → ℕ) (which : Setting) → value_at (settings_by value) which ≡ value which
+at_by value Granularity = refl
+at_by value Credit = refl
+at_by value Debit = refl
+at_by value Slack = refl
+
+-- settings that have the same value of each are the same
+pub same_settings : (one other : Settings) → ((which : Setting) → value_at one which ≡ value_at other which)
+    → one ≡ other
+same_settings one other same =
+    built one.granularity other.granularity one.credit other.credit one.debit other.debit one.slack other.slack
+    (same Granularity) (same Credit) (same Debit) (same Slack)
+  where
+    of : ℕ → ℕ → ℕ → ℕ → Settings
+    of g c d s = record { granularity = g; credit = c; debit = d; slack = s }
+
+    built : (g g' c c' d d' s s' : ℕ) → g ≡ g' → c ≡ c' → d ≡ d' → s ≡ s' → of g c d s ≡ of g' c' d' s'
+    built g g' c c' d d' s s' p q r t = cc
+
 -- the larger of two settings
 pub below_larger : (one other : Settings) → AtMost one (larger one other)
-below_larger one other = record {
-  granularity = le-max_left one.granularity other.granularity;
-  credit = le-max_left one.credit other.credit;
-  debit = le-max_left one.debit other.debit;
-  slack = le-max_left one.slack other.slack;
-}
+below_larger one other which =
+    subst (λ n. value_at one which ≤ n) (sym (at_by (larger_value one other) which))
+    (le-max_left (value_at one which) (value_at other which))
 
 pub other_below_larger : (one other : Settings) → AtMost other (larger one other)
-other_below_larger one other = record {
-  granularity = le-max_right one.granularity other.granularity;
-  credit = le-max_right one.credit other.credit;
-  debit = le-max_right one.debit other.debit;
-  slack = le-max_right one.slack other.slack;
-}
+other_below_larger one other which =
+    subst (λ n. value_at other which ≤ n) (sym (at_by (larger_value one other) which))
+    (le-max_right (value_at one which) (value_at other which))
 
 -- what is at most something: along a chain, of the larger of two, and nothing at all
 pub at_most_trans : (less between more : Settings) → AtMost less between → AtMost between more → AtMost less more
-at_most_trans less between more h k = record {
-  granularity = le_through less.granularity between.granularity more.granularity h.granularity k.granularity;
-  credit = le_through less.credit between.credit more.credit h.credit k.credit;
-  debit = le_through less.debit between.debit more.debit h.debit k.debit;
-  slack = le_through less.slack between.slack more.slack h.slack k.slack;
-}
+at_most_trans less between more h k which =
+    le_through (value_at less which) (value_at between which) (value_at more which) (h which) (k which)
   where
     le_through : (a b c : ℕ) → a ≤ b → b ≤ c → a ≤ c
     le_through a b c h k = omega arith
 
-pub larger_at_most : (one other more : Settings) → AtMost one more → AtMost other more → AtMost (larger one other) more
-larger_at_most one other more h k = record {
-  granularity = max-le h.granularity k.granularity;
-  credit = max-le h.credit k.credit;
-  debit = max-le h.debit k.debit;
-  slack = max-le h.slack k.slack;
-}
+pub larger_at_most : (one other more : Settings) → AtMost one more → AtMost other more
+    → AtMost (larger one other) more
+larger_at_most one other more h k which =
+    subst (λ n. n ≤ value_at more which) (sym (at_by (larger_value one other) which)) (max-le (h which) (k which))
 
 -- one of two numbers is at most the lesser
 pub one_or_other : (a b : ℕ) → (a ≤ min a b) ⊎ (b ≤ min a b)
@@ -112,22 +124,10 @@ run_lesser one other start first events run also =
 nat_same : (a b : ℕ) → a ≤ b → b ≤ a → a ≡ b
 nat_same a b h k = omega arith
 
-abbrev settings : ℕ → ℕ → ℕ → ℕ → Settings
-settings g c d s = record { granularity = g; credit = c; debit = d; slack = s }
-
-settings_same : (g g' c c' d d' s s' : ℕ) → g ≡ g' → c ≡ c' → d ≡ d' → s ≡ s'
-    → settings g c d s ≡ settings g' c' d' s'
-settings_same g g' c c' d d' s s' p q r t = cc
-
 pub one_least : OneLeast
 one_least start first events one other a b =
-    let h = a.least other b.run in
-    let k = b.least one a.run in
-    settings_same one.granularity other.granularity one.credit other.credit one.debit other.debit one.slack other.slack
-    (nat_same one.granularity other.granularity h.granularity k.granularity)
-    (nat_same one.credit other.credit h.credit k.credit)
-    (nat_same one.debit other.debit h.debit k.debit)
-    (nat_same one.slack other.slack h.slack k.slack)
+    same_settings one other (λ which. nat_same (value_at one which) (value_at other which)
+    (a.least other b.run which) (b.least one a.run which))
 
 pub run_from_least : RunFromLeast
 run_from_least start first events least other a =

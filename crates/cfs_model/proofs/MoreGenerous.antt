@@ -4,6 +4,7 @@ use Rattle.std.proofs.Common.{ℕ, zero, suc, Bool, ◌≤◌, Option, ℤ, pos,
 use Rattle.std.proofs.lemmas.Int.{ints, clamps}
 use Rattle.std.specs.Int.{int_max}
 use Rattle.cfs_model.specs.Settings.{Settings}
+use Rattle.cfs_model.specs.declared.setting.Setting.TheVariants.{Granularity, Credit, Debit, Slack}
 use Rattle.cfs_model.specs.Machine.{Machine}
 use Rattle.cfs_model.specs.Claimed.{Claimed}
 use Rattle.cfs_model.specs.Step.{IsPick, after_prev, Changes, IsStep}
@@ -81,9 +82,9 @@ step_more knobs more before event after h s = record {
 }
 
 pub asked_most : (less more : Settings) (act : Act) → AtMost less more → asked act less ≤ asked act more
-asked_most less more (Switch cpu prev prev_nice way next next_nice) h = h.granularity
-asked_most less more (Wake cpu pid nice) h = h.credit
-asked_most less more (Born cpu pid nice) h = h.debit
+asked_most less more (Switch cpu prev prev_nice way next next_nice) h = h Granularity
+asked_most less more (Wake cpu pid nice) h = h Credit
+asked_most less more (Born cpu pid nice) h = h Debit
 asked_most less more (Shift orig dest pid nice) h = omega arith
 
 pub steps_more : (less more : Settings) (before : Machine) (events : List Claimed) (states : List Machine)
@@ -106,5 +107,5 @@ pub run_more : (less more : Settings) (start : ℕ) (first : Machine) (events : 
 run_more less more start first events h run = record {
   states = run.states;
   steps = steps_more less more first events run.states h run.steps;
-  slack = slack_more less.slack more.slack (times_of start events) (first ∷ run.states) h.slack run.slack;
+  slack = slack_more less.slack more.slack (times_of start events) (first ∷ run.states) (h Slack) run.slack;
 }

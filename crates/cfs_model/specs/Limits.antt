@@ -34,6 +34,10 @@ no_line = 0
 abbrev pub greatest_seconds : ℕ
 greatest_seconds = 4294967295
 
+-- the greatest value of a setting, in nanoseconds
+abbrev pub greatest_setting : ℕ
+greatest_setting = 1000000000000
+
 -- nanoseconds in a second
 abbrev pub nanoseconds_per_second : ℕ
 nanoseconds_per_second = 1000000000

@@ -1,5 +1,9 @@
--- The four settings of the profile, in nanoseconds (this project's profile).
-use Rattle.std.specs.Prelude.{ℕ, ◌≤◌}
+-- The settings of the profile, each in nanoseconds (this project's profile).
+use Rattle.std.specs.Prelude.{ℕ, ◌≤◌, List, [], ◌∷◌, codes}
+use Rattle.std.specs.List.{AllByRecursion}
+use Rattle.cfs_model.specs.Limits.{greatest_setting}
+use Rattle.cfs_model.specs.declared.setting.Setting.{Setting}
+use Rattle.cfs_model.specs.declared.setting.Setting.TheVariants.{Granularity, Credit, Debit, Slack}
 
 pub record Settings : Type 0 where
   -- how far above the least virtual runtime a picked task may be
@@ -11,10 +15,40 @@ pub record Settings : Type 0 where
   -- how long a processor may idle beside a waiting task
   pub slack : ℕ
 
--- the greatest setting
-abbrev pub most : ℕ
-most = 1000000000000
+-- all of them, in the order in which they are told
+abbrev pub all_settings : List Setting
+all_settings = Granularity ∷ Credit ∷ Debit ∷ Slack ∷ []
 
--- each setting is at most the greatest
+-- the value of a setting
+abbrev pub value_at : Settings → Setting → ℕ
+value_at settings Granularity = settings.granularity
+value_at settings Credit = settings.credit
+value_at settings Debit = settings.debit
+value_at settings Slack = settings.slack
+
+-- the settings of which each has the value that a function gives it
+abbrev pub settings_by : (Setting → ℕ) → Settings
+settings_by value = record {
+  granularity = value Granularity;
+  credit = value Credit;
+  debit = value Debit;
+  slack = value Slack;
+}
+
+-- the name of a setting's option
+abbrev pub name_of_setting : Setting → List ℕ
+name_of_setting Granularity = codes "granularity-ns"
+name_of_setting Credit = codes "credit-ns"
+name_of_setting Debit = codes "debit-ns"
+name_of_setting Slack = codes "slack-ns"
+
+-- the default of a setting
+abbrev pub standard_value : Setting → ℕ
+standard_value Granularity = 1000000
+standard_value Credit = 3000000
+standard_value Debit = 3000000
+standard_value Slack = 100000
+
+-- no setting is above the greatest value
 abbrev pub AreInRange : Settings → Type 0
-AreInRange s = (s.granularity ≤ most) × (s.credit ≤ most) × (s.debit ≤ most) × (s.slack ≤ most)
+AreInRange settings = AllByRecursion (λ which. value_at settings which ≤ greatest_setting) all_settings

@@ -1,13 +1,13 @@
 ghost use Rattle.std.specs.Prelude.{◌≡◌, ◌≤◌, ◌↔◌, IsSome, IfSome};
 ghost use Rattle.cfs_model.specs.Least.{greatest_settings};
-ghost use Rattle.cfs_model.specs.Settings.{Settings, AreInRange, most};
+ghost use Rattle.cfs_model.specs.Limits.{greatest_setting};
+ghost use Rattle.cfs_model.specs.Settings.{AreInRange, Settings, settings_by, standard_value, value_at};
 
+use crate::limits::GREATEST_SETTING;
+use crate::setting::Setting;
 use std::marker::Model;
 
-/// The greatest setting, in nanoseconds.
-const MOST: u64 = 1_000_000_000_000;
-
-/// The four settings of the profile, each in nanoseconds and at most 10^12.
+/// A value of each setting of the profile, in nanoseconds and at most `GREATEST_SETTING`.
 #[derive(Clone, Copy, Debug, PartialEq, Eq)]
 pub struct Knobs {
     granularity: u64,
@@ -30,22 +30,27 @@ impl Model for Knobs {
       slack = k.slack;
     }) };
 
-    ghost inverse = { λ s. record { granularity = s.granularity; credit = s.credit; debit = s.debit; slack = s.slack } };
+    ghost inverse = { λ s. record {
+      granularity = s.granularity;
+      credit = s.credit;
+      debit = s.debit;
+      slack = s.slack;
+    } };
 }
 
 impl Knobs {
-    /// None where one of the four is above 10^12.
+    /// None where one of them is above `GREATEST_SETTING`.
     pub fn new(granularity: u64, credit: u64, debit: u64, slack: u64) -> Option<Knobs>
         ensures in_range { IsSome result ↔ AreInRange
             (record { granularity = granularity; credit = credit; debit = debit; slack = slack }) }
-        ensures same { IfSome result (λ k. k ≡ record {
-          granularity = granularity;
-          credit = credit;
-          debit = debit;
-          slack = slack;
-        }) }
+        ensures same { IfSome result (λ knobs. knobs
+            ≡ record { granularity = granularity; credit = credit; debit = debit; slack = slack }) }
     {
-        if granularity <= MOST && credit <= MOST && debit <= MOST && slack <= MOST {
+        if granularity <= GREATEST_SETTING
+            && credit <= GREATEST_SETTING
+            && debit <= GREATEST_SETTING
+            && slack <= GREATEST_SETTING
+        {
             Some(Knobs {
                 granularity,
                 credit,
@@ -57,58 +62,71 @@ impl Knobs {
         }
     }
 
-    /// The defaults: granularity 1 ms, credit and debit 3 ms, slack 0.1 ms.
+    /// The defaults.
     pub fn standard() -> Knobs
-        ensures { result ≡ record { granularity = 1000000; credit = 3000000; debit = 3000000; slack = 100000 } }
+        ensures { result ≡ settings_by standard_value }
     {
         Knobs {
-            granularity: 1_000_000,
-            credit: 3_000_000,
-            debit: 3_000_000,
-            slack: 100_000,
+            granularity: Setting::Granularity.standard(),
+            credit: Setting::Credit.standard(),
+            debit: Setting::Debit.standard(),
+            slack: Setting::Slack.standard(),
         }
     }
 
-    /// Each as large as it may be, 10^12 ns.
+    /// Each as large as it may be.
     pub fn greatest() -> Knobs
         ensures { result ≡ greatest_settings }
     {
         Knobs {
-            granularity: MOST,
-            credit: MOST,
-            debit: MOST,
-            slack: MOST,
+            granularity: GREATEST_SETTING,
+            credit: GREATEST_SETTING,
+            debit: GREATEST_SETTING,
+            slack: GREATEST_SETTING,
         }
     }
 
-    /// How far above the least virtual runtime a picked task may be, in nanoseconds.
+    /// The value of a setting.
+    pub fn get(self, setting: Setting) -> u64
+        ensures same { result ≡ value_at self setting }
+        ensures in_range { result ≤ greatest_setting }
+    {
+        match setting {
+            Setting::Granularity => self.granularity,
+            Setting::Credit => self.credit,
+            Setting::Debit => self.debit,
+            Setting::Slack => self.slack,
+        }
+    }
+
+    /// How far above the least virtual runtime a picked task may be.
     pub fn granularity(self) -> u64
         ensures same { result ≡ self.granularity }
-        ensures in_range { result ≤ most }
+        ensures in_range { result ≤ greatest_setting }
     {
         self.granularity
     }
 
-    /// How far below the floor a woken task may be placed, in nanoseconds.
+    /// How far below the floor a woken task may be placed.
     pub fn credit(self) -> u64
         ensures same { result ≡ self.credit }
-        ensures in_range { result ≤ most }
+        ensures in_range { result ≤ greatest_setting }
     {
         self.credit
     }
 
-    /// How far above the floor a new task may be placed, in nanoseconds.
+    /// How far above the floor a new task may be placed.
     pub fn debit(self) -> u64
         ensures same { result ≡ self.debit }
-        ensures in_range { result ≤ most }
+        ensures in_range { result ≤ greatest_setting }
     {
         self.debit
     }
 
-    /// How long a processor may idle beside a waiting task, in nanoseconds.
+    /// How long a processor may idle beside a waiting task.
     pub fn slack(self) -> u64
         ensures same { result ≡ self.slack }
-        ensures in_range { result ≤ most }
+        ensures in_range { result ≤ greatest_setting }
     {
         self.slack
     }

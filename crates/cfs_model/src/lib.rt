@@ -13,6 +13,7 @@ mod limits;
 mod memory;
 mod nice;
 mod nice_line;
+mod setting;
 mod task;
 mod weights;
 
@@ -27,11 +28,12 @@ pub use kind::Kind;
 pub use knobs::Knobs;
 pub use laws::{floors_rise, least_settings, marks_move, one_list, places, policies, prefixes};
 pub use limits::{
-    GREATEST_LINE, GREATEST_PID, GREATEST_PROCESSOR, GREATEST_RUNTIME, GREATEST_SECONDS, IDLE_PID,
-    MOST_PROCESSORS, NANOSECONDS_PER_SECOND, NO_LINE,
+    GREATEST_LINE, GREATEST_PID, GREATEST_PROCESSOR, GREATEST_RUNTIME, GREATEST_SECONDS,
+    GREATEST_SETTING, IDLE_PID, MOST_PROCESSORS, NANOSECONDS_PER_SECOND, NO_LINE,
 };
 pub use memory::Memory;
 pub use nice::{Nice, PrioFault};
 pub use nice_line::NiceLine;
+pub use setting::Setting;
 pub use task::{Place, Task};
 pub use weights::{charge, weight, weight_of};

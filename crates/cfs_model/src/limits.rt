@@ -22,5 +22,8 @@ pub const NO_LINE: u32 = 0;
 /// The greatest whole seconds of a time.
 pub const GREATEST_SECONDS: u64 = 4_294_967_295;
 
+/// The greatest value of a setting, in nanoseconds.
+pub const GREATEST_SETTING: u64 = 1_000_000_000_000;
+
 /// Nanoseconds in a second.
 pub const NANOSECONDS_PER_SECOND: u64 = 1_000_000_000;

@@ -1,16 +1,11 @@
 //! The command line, as clap reads it.
 
+use cfs_model::{GREATEST_SETTING, Setting};
 use clap::error::ErrorKind;
 use clap::{Arg, ArgMatches, Command, Error, value_parser};
 use companion_maker::{Strategy, Wishes};
 use std::alloc::{AllocError, Global};
 use std::convert::AsStr;
-
-/// The greatest setting, in nanoseconds.
-const MOST: i64 = 1_000_000_000_000;
-
-/// The auditor's own credit and debit, in nanoseconds.
-const STANDARD: u64 = 3_000_000;
 
 /// What a command line asks for.
 #[derive(Clone, Copy, Debug)]
@@ -54,25 +49,18 @@ fn command<'a>(alloc: Global) -> Result<Command<'a>, AllocError> {
                     "How tasks are placed: low, high, picked, level, or best, which tries all [default: best]",
                 ),
         )?
-        .arg(setting(
-            alloc,
-            "credit-ns",
-            "How far below the floor a woken task may be placed [default: 3000000]",
-        ))?
-        .arg(setting(
-            alloc,
-            "debit-ns",
-            "How far above the floor a new task may be placed [default: 3000000]",
-        ))
+        .arg(option_of(alloc, Setting::Credit))?
+        .arg(option_of(alloc, Setting::Debit))
 }
 
-/// An option with a number of nanoseconds.
-fn setting<'a>(alloc: Global, id: &'a str, help: &'a str) -> Arg<'a> {
-    Arg::new(alloc, id)
-        .long(id)
+/// A setting's option, as the auditor has it.
+fn option_of<'a>(alloc: Global, setting: Setting) -> Arg<'a> {
+    let name = setting.name();
+    Arg::new(alloc, name)
+        .long(name)
         .value_name("N")
-        .value_parser(value_parser!(u64).range(0..=MOST))
-        .help(help)
+        .value_parser(value_parser!(u64).range(0..=GREATEST_SETTING as i64))
+        .help(setting.help())
 }
 
 /// The name and the wishes that the values are; None where one has no sense.
@@ -84,17 +72,17 @@ fn request_of<'a>(matches: &ArgMatches<'a>) -> Option<Request<'a>> {
     Some(Request {
         trace: matches.get_str("TRACE")?,
         wishes: Wishes {
-            credit: number_of(matches, "credit-ns")?,
-            debit: number_of(matches, "debit-ns")?,
+            credit: number_of(matches, Setting::Credit)?,
+            debit: number_of(matches, Setting::Debit)?,
             strategy,
         },
     })
 }
 
-/// An option's number, or the auditor's own where it isn't given; None where it is no number.
-fn number_of(matches: &ArgMatches<'_>, id: &str) -> Option<u64> {
-    match matches.try_get_one::<u64>(id) {
-        Ok(number) => Some(number.unwrap_or(STANDARD)),
+/// A setting's number, or its default where the option isn't given; None where it is no number.
+fn number_of(matches: &ArgMatches<'_>, setting: Setting) -> Option<u64> {
+    match matches.try_get_one::<u64>(setting.name()) {
+        Ok(number) => Some(number.unwrap_or(setting.standard())),
         Err(_) => None,
     }
 }

@@ -1,17 +1,17 @@
 -- Why the events up to and including one are no run, though those before it are: the first of five things that can be
 -- wrong with it, in this order (this project's profile). Each is said of the machine just before the event.
-use Rattle.std.specs.Prelude.{◌≡◌, ◌≢◌, ℕ, ◌<◌, ◌⊎◌, ℤ, List, [], ◌∷◌, ◌++◌}
+use Rattle.std.specs.Prelude.{◌≡◌, ◌≢◌, ℕ, ◌<◌, ◌⊎◌, ℤ, List, [], ◌∷◌, ◌++◌, ◌+◌, length, slice_index}
 use Rattle.cfs_model.specs.Settings.{Settings}
 use Rattle.cfs_model.specs.Machine.{Machine, Stands}
 use Rattle.cfs_model.specs.Claimed.{Claimed}
 use Rattle.cfs_model.specs.Run.{times_of, IsRun, last_of}
+use Rattle.cfs_model.specs.Idle.{IdlesFrom}
 use Rattle.replay_model.specs.Part.{Part, part_of}
 use Rattle.replay_model.specs.Found.{IsFound}
 use Rattle.replay_model.specs.Deeds.{left_ticket, came_ticket}
 use Rattle.replay_model.specs.QueueTests.{IsOutOfRange}
 use Rattle.replay_model.specs.Tests.{FirstHolds, PassesTests, late_tests}
 use Rattle.replay_model.specs.Cut.{step_at}
-use Rattle.replay_model.specs.Following.{SlackFails}
 use Rattle.cfs_model.specs.declared.act.Act.{Act}
 use Rattle.cfs_model.specs.declared.act.Act.TheVariants.{Switch, Wake, Born, Shift}
 use Rattle.cfs_model.specs.declared.kind.Kind.{Kind}
@@ -24,6 +24,14 @@ pub record FaultCause : Type 0 where
   pub cpu : ℕ
   pub pid : ℕ
   pub kind : Kind
+
+-- with one more event, at this time, a processor will have idled for longer than the slack: from some state on it
+-- has idled in each
+pub record SlackFails (slack : ℕ) (times : List ℕ) (states : List Machine) (cpu time : ℕ) : Type 0 where
+  pub from : ℕ
+  pub is_state : from < length states
+  pub idles : IdlesFrom states cpu from (length states)
+  pub late : slice_index times from + slack < time
 
 -- the first test of a step that fails on a part: the charge and what it leads to, then those on the part as the deed finds
 -- it

@@ -1,20 +1,14 @@
--- What the steps of one processor need of each setting, and how the needs of all processors tell the least settings at which
--- a record is a run (this project's profile).
-use Rattle.std.specs.Prelude.{◌≡◌, ℕ, zero, suc, ◌-◌, ◌<◌, Option, Some, None, ℤ, pos, ◌+ℤ◌, ◌≤ℤ◌, ◌⊎◌, ◌↔◌, List, [], ◌∷◌}
-use Rattle.std.specs.List.{AllByRecursion}
+-- What a step of one processor needs of each setting, and what the page of all its steps does (this project's profile).
+use Rattle.std.specs.Prelude.{◌≡◌, ℕ, zero, suc, ◌-◌, Option, Some, None, ℤ, pos, ◌+ℤ◌, ◌≤ℤ◌, ◌⊎◌, List, [], ◌∷◌}
 use Rattle.cfs_model.specs.Settings.{Settings}
-use Rattle.cfs_model.specs.Start.{start_machine}
-use Rattle.cfs_model.specs.Claimed.{Claimed}
-use Rattle.cfs_model.specs.Least.{AtMost, larger, AreLeast}
+use Rattle.cfs_model.specs.Least.{larger}
 use Rattle.replay_model.specs.Part.{Part, Entity}
 use Rattle.replay_model.specs.Deeds.{part_after_prev}
-use Rattle.replay_model.specs.Cut.{StreamView, cut}
+use Rattle.replay_model.specs.Cut.{StreamView}
 use Rattle.replay_model.specs.Noted.{PageView}
 use Rattle.replay_model.specs.Page.{ReplayStateView, IsStartOf, PassesStep}
-use Rattle.replay_model.specs.Composition.{IsRecord, TicketsAgree, BirthsAreNew, named}
 use Rattle.cfs_model.specs.declared.claim.Claim.{Claim}
 use Rattle.cfs_model.specs.declared.task.Place.TheVariants.{Wait}
-use Rattle.cfs_model.specs.declared.task.Task.{Task}
 use Rattle.replay_model.specs.declared.step.Deed.{Deed}
 use Rattle.replay_model.specs.declared.step.Deed.TheVariants.{Switch, Wake, Born}
 use Rattle.replay_model.specs.declared.step.Step.{Step}
@@ -96,21 +90,3 @@ pub record IsPageNeeding (stream : StreamView) (knobs : Settings) (page : PageVi
 abbrev pub largest : (ℕ → Settings) → ℕ → Settings
 largest needs zero = only_slack 0
 largest needs (suc cpu) = larger (largest needs cpu) (needs cpu)
-
--- a step that passes under some settings passes under others just where these are at least what it needs
-abbrev pub PassesFromNeeds : Type 0
-PassesFromNeeds = (knobs other : Settings) (cpu : ℕ) (before : ReplayStateView) (step : Step) (after : ReplayStateView)
-    (needs : Settings)
-    → PassesNeeding knobs cpu before step after needs
-    → PassesStep other cpu before step after ↔ AtMost needs other
-
--- where the replays of all processors of a record pass, with these pages and needs, the tickets of each migration agree and
--- each birth is new, the largest needs are the least settings at which the events are a run
-abbrev pub PagesTellLeast : Type 0
-PagesTellLeast = (knobs : Settings) (start : ℕ) (floors : List ℤ) (tasks : List Task) (events : List Claimed)
-    (cpus : ℕ) (pages : ℕ → PageView) (needs : ℕ → Settings)
-    → IsRecord start floors tasks events cpus
-    → ((cpu : ℕ) → cpu < cpus → IsPageNeeding (cut start floors tasks events cpu) knobs (pages cpu) (needs cpu))
-    → AllByRecursion (λ event. TicketsAgree pages event.entry.line event.entry.act) events
-    → BirthsAreNew (named tasks) events
-    → AreLeast start (start_machine start floors tasks) events (largest needs cpus)

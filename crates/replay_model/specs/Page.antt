@@ -1,5 +1,6 @@
 -- The replay of one processor alone, by its first steps (this project's profile).
-use Rattle.std.specs.Prelude.{◌≡◌, ℕ, ◌+◌, if◌then◌else◌, nat_lt, nat_le, Option, Some, None, unwrap_or, ◌⊎◌, List, [], ◌∷◌, map, length, take}
+use Rattle.std.specs.Prelude.{◌≡◌, ℕ, ◌+◌, if◌then◌else◌, nat_lt, nat_le, Option, Some, None, unwrap_or, ◌⊎◌, List, []}
+use Rattle.std.specs.Prelude.{◌∷◌, map, length, take}
 use Rattle.cfs_model.specs.Limits.{no_line}
 use Rattle.cfs_model.specs.Settings.{Settings}
 use Rattle.replay_model.specs.Part.{Part, IsIdlePart, start_part}

@@ -1,0 +1,2 @@
+pub mod PartMigration
+pub mod MigrationSteps

@@ -1,0 +1,4 @@
+pub mod OneLift
+pub mod OnePid
+pub mod OneRunner
+pub mod OnePage

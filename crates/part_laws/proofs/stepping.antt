@@ -1,0 +1,9 @@
+pub mod PartLift
+pub mod PartRenice
+pub mod PartMoves
+pub mod PartSwitch
+pub mod SwitchClear
+pub mod PartPlaced
+pub mod PlacedClear
+pub mod PartSteps
+pub mod PartForward

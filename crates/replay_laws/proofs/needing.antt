@@ -1,0 +1,2 @@
+pub mod StepNeeds
+pub mod PageNeeds

@@ -1,0 +1,2 @@
+pub mod OneCause
+pub mod FirstFaults

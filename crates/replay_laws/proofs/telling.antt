@@ -1,0 +1,12 @@
+pub mod WholeReplay
+pub mod Deadlines
+pub mod FrontReplay
+pub mod IdleFaults
+pub mod Fronts
+pub mod FrontRun
+pub mod FrontFaults
+pub mod BornHere
+pub mod PageCauses
+pub mod PagesTell
+pub mod Stops
+pub mod PagesSuffice

@@ -14,7 +14,8 @@ use Rattle.replay_laws.specs.Telling.{IsCauseOf, SayNothing}
 use Rattle.replay_laws.specs.Sufficing.{SufficesAmong}
 use Rattle.cfs_model.specs.declared.task.Task.{Task}
 
--- where the pages of all processors suffice and say nothing against any event, none has a fault, and each is by all steps
+-- where the pages of all processors suffice and say nothing against any event, none has a fault, and each is by all
+-- steps
 abbrev pub SilentPagesAreDone : Type 0
 SilentPagesAreDone = (knobs : Settings) (start : ℕ) (floors : List ℤ) (tasks : List Task) (events : List Claimed)
     (cpus : ℕ) (pages : ℕ → PageView)
@@ -36,7 +37,8 @@ PagesTellRun = (knobs : Settings) (start : ℕ) (floors : List ℤ) (tasks : Lis
 -- where they say nothing against the events before one, the first thing that they say against that one is what is wrong
 -- with it, and it is the first event up to which the events are no run
 abbrev pub PagesTellFault : Type 0
-PagesTellFault = (knobs : Settings) (start : ℕ) (floors : List ℤ) (tasks : List Task) (events before rest : List Claimed)
+PagesTellFault = (knobs : Settings) (start : ℕ) (floors : List ℤ) (tasks : List Task)
+    (events before rest : List Claimed)
     (event : Claimed) (cpus : ℕ) (pages : ℕ → PageView) (cause : FaultCause)
     → IsRecord start floors tasks events cpus
     → ((cpu : ℕ) → cpu < cpus → SufficesAmong knobs start floors tasks events cpus pages cpu)

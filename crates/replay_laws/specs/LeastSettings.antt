@@ -22,8 +22,8 @@ PassesFromNeeds = (knobs other : Settings) (cpu : ℕ) (before : ReplayStateView
     → PassesNeeding knobs cpu before step after needs
     → PassesStep other cpu before step after ↔ AtMost needs other
 
--- where the replays of all processors of a record pass, with these pages and needs, the tickets of each migration agree and
--- each birth is new, the largest needs are the least settings at which the events are a run
+-- where the replays of all processors of a record pass, with these pages and needs, the tickets of each migration agree
+-- and each birth is new, the largest needs are the least settings at which the events are a run
 abbrev pub PagesTellLeast : Type 0
 PagesTellLeast = (knobs : Settings) (start : ℕ) (floors : List ℤ) (tasks : List Task) (events : List Claimed)
     (cpus : ℕ) (pages : ℕ → PageView) (needs : ℕ → Settings)

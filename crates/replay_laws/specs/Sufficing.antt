@@ -24,8 +24,8 @@ pub record HasFaultBy (pages : ℕ → PageView) (cpus line : ℕ) : Type 0 wher
   pub is_fault : (pages cpu).fault ≡ Some fault
   pub by : fault.line ≤ line
 
--- the page of a processor, among those of all, suffices for what they tell together: its replay went to its first fault,
--- or by all its steps and the end test, or to a step on the line of a fault on one of the pages or past it
+-- the page of a processor, among those of all, suffices for what they tell together: its replay went to its first
+-- fault, or by all its steps and the end test, or to a step on the line of a fault on one of the pages or past it
 pub record SufficesAmong (knobs : Settings) (start : ℕ) (floors : List ℤ) (tasks : List Task) (events : List Claimed)
     (cpus : ℕ) (pages : ℕ → PageView) (cpu : ℕ) : Type 0 where
   pub made : ℕ

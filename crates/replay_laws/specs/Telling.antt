@@ -1,4 +1,5 @@
--- What the pages of all processors say against an event, in the order of what can be wrong with it (this project's profile).
+-- What the pages of all processors say against an event, in the order of what can be wrong with it (this project's
+-- profile).
 use Rattle.std.specs.Prelude.{◌≡◌, ◌≢◌, ℕ, ◌<◌, ◌⊎◌, Bool, true, Option, Some, None, List}
 use Rattle.std.specs.List.{AllByRecursion}
 use Rattle.cfs_model.specs.Claimed.{Claimed}

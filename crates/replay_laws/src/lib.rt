@@ -39,8 +39,8 @@ pub fn endings()
 /// Where the replays of all processors pass, the tickets of each migration agree and each birth is of a pid that isn't
 /// alive, the events are a run: of any events, and of a whole record by its pages.
 ///
-/// Carried by `composing`: PagesCompose, ComposeAll, StepExists, ShiftTickets, StepLines, Bounded, Shares; then Followed,
-/// Follow and Roll of `following`, and the laws `part_steps` and `migrations`.
+/// Carried by `composing`: PagesCompose, ComposeAll, StepExists, ShiftTickets, StepLines, Bounded, Shares; then
+/// Followed, Follow and Roll of `following`, and the laws `part_steps` and `migrations`.
 pub fn composition()
     ensures shares { SharesCompose }
     ensures pages { PagesCompose }
@@ -51,8 +51,8 @@ pub fn composition()
 /// with it, and it is the first event up to which the events are no run.
 ///
 /// Carried by `telling`: of a run FrontRun, Fronts, IdleFaults, FrontReplay, Deadlines, WholeReplay, then the law
-/// `composition`; of a fault PagesSuffice, Stops, FrontFaults, PagesTell, PageCauses, BornHere over these, then the laws
-/// `replays`, `faults_end_runs` and `endings`.
+/// `composition`; of a fault PagesSuffice, Stops, FrontFaults, PagesTell, PageCauses, BornHere over these, then the
+/// laws `replays`, `faults_end_runs` and `endings`.
 pub fn closing()
     ensures done { SilentPagesAreDone }
     ensures run { PagesTellRun }

@@ -1,5 +1,5 @@
--- The tests on the part as a deed finds it: that of the change of a nice value, the sixteen of the deed by name, and what
--- can be decided.
+-- The tests on the part as a deed finds it: that of the change of a nice value, the sixteen of the deed by name, and
+-- what can be decided.
 use Rattle.std.proofs.Common.{◌≡◌, ◌≢◌, ℕ, Option, Some, None, ℤ, ◌⊎◌, inl, inr, refl, arith}
 use Rattle.std.proofs.lemmas.Int.{ints, by_lt_z}
 use Rattle.cfs_model.specs.Settings.{Settings}

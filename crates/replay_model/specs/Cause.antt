@@ -33,8 +33,8 @@ pub record SlackFails (slack : ℕ) (times : List ℕ) (states : List Machine) (
   pub idles : IdlesFrom states cpu from (length states)
   pub late : slice_index times from + slack < time
 
--- the first test of a step that fails on a part: the charge and what it leads to, then those on the part as the deed finds
--- it
+-- the first test of a step that fails on a part: the charge and what it leads to, then those on the part as the deed
+-- finds it
 abbrev pub FailsOn : Settings → ℕ → Part → Step → Kind → ℕ → Type 0
 FailsOn knobs cpu part step kind pid =
     (IsOutOfRange part step.time pid × (kind ≡ Range))
@@ -58,8 +58,8 @@ pub record FailsAtArrival (knobs : Settings) (m : Machine) (orig dest : ℕ) (ev
   pub fails : FailsAt knobs m dest event cause
 
 -- the tests of a migration pass at both ends, and the task's place or its virtual runtime less the floor differ there
-pub record IsUnequal (knobs : Settings) (m : Machine) (orig dest pid : ℕ) (nice : ℤ) (event : Claimed) (cause : FaultCause)
-    : Type 0 where
+pub record IsUnequal (knobs : Settings) (m : Machine) (orig dest pid : ℕ) (nice : ℤ) (event : Claimed)
+    (cause : FaultCause) : Type 0 where
   pub left : Part
   pub came : Part
   pub leaves : PassesAt knobs m orig event left
@@ -68,7 +68,8 @@ pub record IsUnequal (knobs : Settings) (m : Machine) (orig dest pid : ℕ) (nic
   pub is : cause ≡ record { cpu = dest; pid = pid; kind = TicketUnequal }
 
 -- the tests of a birth pass at its processor, and the pid stands at another
-pub record IsBornTwice (knobs : Settings) (m : Machine) (cpu pid : ℕ) (event : Claimed) (cause : FaultCause) : Type 0 where
+pub record IsBornTwice (knobs : Settings) (m : Machine) (cpu pid : ℕ) (event : Claimed) (cause : FaultCause)
+    : Type 0 where
   pub found : Part
   pub passes : PassesAt knobs m cpu event found
   pub place : Place
@@ -90,7 +91,8 @@ IsActCause knobs m event (Shift orig dest pid nice) cause =
     ⊎ IsUnequal knobs m orig dest pid nice event cause
 
 -- with one more event, at this time, the slack fails at the cause's processor, and at no lower one
-pub record IsIdlingCause (slack : ℕ) (times : List ℕ) (states : List Machine) (time : ℕ) (cause : FaultCause) : Type 0 where
+pub record IsIdlingCause (slack : ℕ) (times : List ℕ) (states : List Machine) (time : ℕ) (cause : FaultCause)
+    : Type 0 where
   pub idles : SlackFails slack times states cause.cpu time
   pub lowest : (other : ℕ) → other < cause.cpu → ¬ SlackFails slack times states other time
   pub pid : cause.pid ≡ 0

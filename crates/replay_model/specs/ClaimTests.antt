@@ -73,7 +73,8 @@ IsInForkBounds debit floor v = (floor ≤ℤ v) × (v ≤ℤ (floor +ℤ pos deb
 
 -- a new task is claimed outside those bounds
 abbrev pub IsForkOutside : ℕ → Part → Deed → Option Claim → ℕ → Type 0
-IsForkOutside debit part (Born task nice idle) (Some claim) pid = (¬ IsInForkBounds debit part.floor claim.v) × (pid ≡ task)
+IsForkOutside debit part (Born task nice idle) (Some claim) pid = (¬ IsInForkBounds debit part.floor claim.v)
+    × (pid ≡ task)
 IsForkOutside debit part deed claim pid = ⊥
 
 -- the next task of a switch doesn't wait here

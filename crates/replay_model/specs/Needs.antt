@@ -26,8 +26,8 @@ pub record IsLeastWaiting (part : Part) (v : ℤ) : Type 0 where
   pub runtime : task.runtime ≡ v
   pub least : (other : ℕ) (s : Entity) → part.tasks other ≡ Some s → s.place ≡ Wait → v ≤ℤ s.runtime
 
--- a pick needs a granularity of how far the next task's virtual runtime is above the least of those who wait, a previous
--- task that stays among them; a switch to pid 0 and every other deed need none
+-- a pick needs a granularity of how far the next task's virtual runtime is above the least of those who wait, a
+-- previous task that stays among them; a switch to pid 0 and every other deed need none
 abbrev pub IsPickNeed : Part → Deed → ℕ → Type 0
 IsPickNeed part (Switch prev prev_nice way (suc n) next_nice) need =
     (s : Entity) × (least : ℤ) × (part.tasks (suc n) ≡ Some s) × IsLeastWaiting (part_after_prev part prev way) least
@@ -44,13 +44,14 @@ abbrev pub IsBirthNeed : Part → Deed → Option Claim → ℕ → Type 0
 IsBirthNeed part (Born pid nice idle) (Some claim) need = IsExcess claim.v part.floor need
 IsBirthNeed part deed claim need = need ≡ 0
 
--- a processor that has idled beside a waiting task since a time needs a slack of how long that is; one that hasn't, none
+-- a processor that has idled beside a waiting task since a time needs a slack of how long that is; one that hasn't,
+-- none
 abbrev pub idle_need : Option ℕ → ℕ → ℕ
 idle_need None time = 0
 idle_need (Some since) time = time - since
 
--- what a step needs, where the processor has idled beside a waiting task since a time, or hasn't, and the deed finds this
--- part: of each setting what it is asked for
+-- what a step needs, where the processor has idled beside a waiting task since a time, or hasn't, and the deed finds
+-- this part: of each setting what it is asked for
 pub record AreStepNeeds (since : Option ℕ) (found : Part) (step : Step) (needs : Settings) : Type 0 where
   pub granularity : IsPickNeed found step.deed needs.granularity
   pub credit : IsWakeNeed found step.deed step.claim needs.credit
@@ -74,9 +75,9 @@ AllPassNeeding knobs cpu before (step ∷ steps) after needs =
     (between : ReplayStateView) × (here later : Settings) × PassesNeeding knobs cpu before step between here
     × AllPassNeeding knobs cpu between steps after later × (needs ≡ larger here later)
 
--- a stream's replay passes by all steps, and this is its page behind the last one, the end test left out; needs has of each
--- setting the greatest that one of the steps needs, and of the slack also what the processor needs which still idles at the
--- record's last time
+-- a stream's replay passes by all steps, and this is its page behind the last one, the end test left out; needs has of
+-- each setting the greatest that one of the steps needs, and of the slack also what the processor needs which still
+-- idles at the record's last time
 pub record IsPageNeeding (stream : StreamView) (knobs : Settings) (page : PageView) (needs : Settings) : Type 0 where
   pub start : ReplayStateView
   pub is_start : IsStartOf stream start

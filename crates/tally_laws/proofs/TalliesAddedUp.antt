@@ -1,5 +1,5 @@
--- The tallies on pages that suffice and say nothing against any event add up to those of the run: a page's to what the run
--- gives at its processor, so those of all pages to all that it gives.
+-- The tallies on pages that suffice and say nothing against any event add up to those of the run: a page's to what the
+-- run gives at its processor, so those of all pages to all that it gives.
 use Rattle.std.proofs.Common.{◌≡◌, ℕ, zero, suc, ◌+◌, ◌<◌, nat_eq, cond, None, ℤ, List, [], ◌++◌, map, sum_by, refl}
 use Rattle.std.proofs.Common.{sym, ap, ◌∙◌, subst, arith}
 use Rattle.std.proofs.lemmas.List.Sums.{sum_by-append}

@@ -92,7 +92,8 @@ tallied_charged (Leave task nice dest) tallies pid = omega arith
 tallied_charged (Arrive task nice orig idle) tallies pid =
     let e = said_with task tallies (λ t. t.charged) refl pid in omega arith
 
-pub tallied_picks : (deed : Deed) (tallies : List Tally) (pid : ℕ) → (has_tally tallies pid ≡ false → picks_of deed pid ≡ 0)
+pub tallied_picks : (deed : Deed) (tallies : List Tally) (pid : ℕ)
+    → (has_tally tallies pid ≡ false → picks_of deed pid ≡ 0)
     → said (λ t. t.picks) (tallied deed tallies) pid ≡ said (λ t. t.picks) tallies pid + picks_of deed pid
 tallied_picks (Switch prev pn way zero nn) tallies pid none = omega arith
 tallied_picks (Switch prev pn way (suc n) nn) tallies pid none =

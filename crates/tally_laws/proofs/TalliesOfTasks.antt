@@ -165,7 +165,8 @@ module _ (K : ℕ → Type 0) where
       ∙ or_right (is_among (born_by event.entry.act) pid) (is_among (born_in events) pid) h) in (
         act_brings knobs m event after alive o roll steps.0 old here,
         events_bring knobs after events states (roll_after alive event.entry.act)
-            (step_in_order knobs m event after o steps.0) (roll_step alive knobs m event after o roll steps.0) steps.1 (alive_after alive event.entry.act old here)
+            (step_in_order knobs m event after o steps.0) (roll_step alive knobs m event after o roll steps.0) steps.1
+            (alive_after alive event.entry.act old here)
             later,
       )
 
@@ -198,7 +199,8 @@ pub tallies_of_tasks : TalliesOfTasks
 tallies_of_tasks knobs start floors tasks events cpus pages r enough say =
     let run = pages_tell_run knobs start floors tasks events cpus pages r enough say in
     let brings = events_bring (IsOfRun tasks events) knobs (start_machine start floors tasks) events run.states
-    (named tasks) (start_in_order start floors tasks r.is_start) (start_roll start floors tasks) run.steps (λ pid h. in_tasks pid (named_among tasks pid h))
+    (named tasks) (start_in_order start floors tasks r.is_start) (start_roll start floors tasks) run.steps
+    (λ pid h. in_tasks pid (named_among tasks pid h))
     in_births in
     All-from_recursion (λ (tally : Tally). IsOfRun tasks events tally.pid) (tallies_below pages cpus)
     (below cpus (λ cpu k. page_of cpu k brings))

@@ -103,7 +103,8 @@ module _ (pid : ℕ) (tallies : List Tally) where
   pub has_with_same : has_tally (with_tally pid tallies) pid ≡ true
   has_with_same = go (has_tally tallies pid) refl
     where
-      go : (b : Bool) → has_tally tallies pid ≡ b → has_tally (cond b tallies (tallies ++ new_tally pid ∷ [])) pid ≡ true
+      go : (b : Bool) → has_tally tallies pid ≡ b
+          → has_tally (cond b tallies (tallies ++ new_tally pid ∷ [])) pid ≡ true
       go true e = e
       go false e = has_push tallies (new_tally pid) pid ∙ ap (λ b. b || nat_eq pid pid) e ∙ same
         where
@@ -140,7 +141,8 @@ pub said_none : (field : Tally → ℕ) (tallies : List Tally) (pid : ℕ) → h
 said_none field [] pid none = refl
 said_none field (tally ∷ tallies) pid none = go (nat_eq tally.pid pid) none (said_none field tallies pid)
   where
-    go : (b : Bool) → (b || has_tally tallies pid) ≡ false → (has_tally tallies pid ≡ false → said field tallies pid ≡ 0)
+    go : (b : Bool) → (b || has_tally tallies pid) ≡ false
+        → (has_tally tallies pid ≡ false → said field tallies pid ≡ 0)
         → cond b (field tally) (said field tallies pid) ≡ 0
     go true h rest = absurd (true≢false h)
     go false h rest = rest h

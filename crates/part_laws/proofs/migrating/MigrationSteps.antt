@@ -36,7 +36,8 @@ pub leave_deed : (act : Act) (idle : Bool) (orig dest pid : ℕ) (nice : ℤ) �
 leave_deed act idle orig dest pid nice e = ap (deed_at orig idle) e
     ∙ ap (λ b. cond b (Leave pid nice dest) (Arrive pid nice orig idle)) (eq-eqb orig orig refl)
 
-pub arrive_deed : (act : Act) (idle : Bool) (orig dest pid : ℕ) (nice : ℤ) → act ≡ Shift orig dest pid nice → orig ≢ dest
+pub arrive_deed : (act : Act) (idle : Bool) (orig dest pid : ℕ) (nice : ℤ) → act ≡ Shift orig dest pid nice
+    → orig ≢ dest
     → deed_at dest idle act ≡ Arrive pid nice orig idle
 arrive_deed act idle orig dest pid nice e ne = ap (deed_at dest idle) e
     ∙ ap (λ b. cond b (Leave pid nice dest) (Arrive pid nice orig idle)) (ne_eqb orig dest ne)

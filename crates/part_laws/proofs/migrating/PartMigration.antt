@@ -125,7 +125,8 @@ migration_parts m a orig dest pid nice claim idle after s =
           ∙ placed_part m next pid s.place dest nice idle w p k (moved_nice m s.place orig dest pid w nice s.prio)
           (moved_policy m s.place orig dest pid w idle s.policy)
           (put-same (with_move m pid s.place orig s.place dest).runtime pid (Some w))
-          ∙ ap (with_entity (part_of m dest) pid) (sym (comes_to claim s.sort s.place pid nice idle w s.moves s.claimed)),
+          ∙ ap (with_entity (part_of m dest) pid) (sym (comes_to claim s.sort s.place pid nice idle w s.moves
+          s.claimed)),
       (λ d ne other. ap (λ x. part_of x d) s.result ∙ placed_away m next pid s.place dest p k d other
           ∙ none_there m d pid (elsewhere m a s.place orig pid s.stands d ne)),
     )
@@ -189,7 +190,8 @@ arrive_clear knobs m a orig dest pid nice claim idle after s = record {
   already = λ q h. nowhere_none m dest pid (elsewhere m a s.place orig pid s.stands dest (λ e. s.differ (sym e))) h.0;
   running = λ q h. h;
   prio = λ q h. h;
-  missing = said_come (part_of m dest) pid orig nice idle claim s.sort ((s.own -ℤ m.floor orig) +ℤ m.floor dest) s.claimed;
+  missing = said_come (part_of m dest) pid orig nice idle claim s.sort ((s.own -ℤ m.floor orig) +ℤ m.floor dest)
+      s.claimed;
   extra = no_extra_come (part_of m dest) pid orig nice idle claim;
   other = own_come (part_of m dest) pid orig nice idle claim s.sort ((s.own -ℤ m.floor orig) +ℤ m.floor dest) s.claimed;
   put_back = λ q h. h;
@@ -248,7 +250,8 @@ migration_exists knobs m a orig dest pid line nice (Some claim) idle l c t = go 
   where
     go : (o : Option Entity) → entity_at m orig pid ≡ o
         → option_map (λ (s : Entity). let x : Ticket = record
-        { line = line; pid = pid; nice = s.nice; idle = s.idle; place = s.place; offset = s.runtime -ℤ m.floor orig } in x) o
+        { line = line; pid = pid; nice = s.nice; idle = s.idle; place = s.place; offset = s.runtime -ℤ m.floor orig } in
+        x) o
         ≡ came_ticket (part_of m dest) line pid nice idle (Some claim)
         → (after : Machine) × IsMigration m orig dest pid nice (Some claim) idle after
     go None e t = absurd (l.strange pid (e, refl))

@@ -1,4 +1,5 @@
--- A part has at most one lift, one way in which a deed finds it and one since, and what the first test that holds says is against none holding.
+-- A part has at most one lift, one way in which a deed finds it and one since, and what the first test that holds says
+-- is against none holding.
 use Rattle.std.proofs.Common.{◌≡◌, ℕ, Option, ℤ, ◌≤ℤ◌, inl, inr, List, [], ◌∷◌, sym, ap, ◌∙◌, subst, arith}
 use Rattle.std.proofs.lemmas.Int.{ints}
 use Rattle.std.specs.Int.{int_max}
@@ -33,7 +34,8 @@ same_lift time before one other a b =
     (same_floor (charged_part before time) a.floor b.floor a.raised b.raised) ∙ sym b.result
 
 -- at most one part as a deed finds it
-pub same_found : (step : Step) (before one other : Part) → IsFound step before one → IsFound step before other → one ≡ other
+pub same_found : (step : Step) (before one other : Part) → IsFound step before one → IsFound step before other
+    → one ≡ other
 same_found step before one other a b =
     a.is_reniced ∙ ap (reniced step.nice) (same_lift step.time before a.lifted b.lifted a.is_lifted b.is_lifted)
     ∙ sym b.is_reniced
@@ -53,7 +55,8 @@ none_first (test ∷ tests) kind pid none (inl h) = none.0 pid h.0
 none_first (test ∷ tests) kind pid none (inr h) = none_first tests kind pid none.1 h.1
 
 -- a step of the part that keeps the slack doesn't fail
-pub step_no_fault : (knobs : Settings) (cpu : ℕ) (before : ReplayStateView) (step : Step) (part : Part) (after : ReplayStateView)
+pub step_no_fault : (knobs : Settings) (cpu : ℕ) (before : ReplayStateView) (step : Step) (part : Part)
+    (after : ReplayStateView)
     → PartStep knobs cpu before.part step part
     → ((pid : ℕ) → ¬ IsIdleTooLong knobs.slack before.since step.time pid) → FailsStep knobs cpu before step after → ⊥
 step_no_fault knobs cpu before step part after s in_time f = go f.fails
@@ -67,7 +70,8 @@ step_no_fault knobs cpu before step part after s in_time f = go f.fails
         (same_found step before.part s.found late.0 s.passes.is_found late.2) s.passes.none) late.3
 
 -- the part after a step that passes is that of the part's step
-pub step_same_part : (knobs : Settings) (cpu : ℕ) (before : ReplayStateView) (step : Step) (part : Part) (after : ReplayStateView)
+pub step_same_part : (knobs : Settings) (cpu : ℕ) (before : ReplayStateView) (step : Step) (part : Part)
+    (after : ReplayStateView)
     → PartStep knobs cpu before.part step part
     → PassesStep knobs cpu before step after → after.part ≡ part
 step_same_part knobs cpu before step part after s p =

@@ -26,11 +26,13 @@ same_progress a b e f g =
     ∙ ap (λ x. record { part = b.part; since = b.since; page = x }) g
 
 -- the part's step of a step that passes
-mine : (knobs : Settings) (cpu : ℕ) (s : ReplayStateView) (step : Step) (a : ReplayStateView) → PassesStep knobs cpu s step a
+mine : (knobs : Settings) (cpu : ℕ) (s : ReplayStateView) (step : Step) (a : ReplayStateView)
+    → PassesStep knobs cpu s step a
     → PartStep knobs cpu s.part step a.part
 mine knobs cpu s step a p = record { found = p.found; passes = p.passes; result = p.part }
 
-pass_one : (knobs : Settings) (cpu : ℕ) (s : ReplayStateView) (step : Step) (a b : ReplayStateView) → PassesStep knobs cpu s step a
+pass_one : (knobs : Settings) (cpu : ℕ) (s : ReplayStateView) (step : Step) (a b : ReplayStateView)
+    → PassesStep knobs cpu s step a
     → PassesStep knobs cpu s step b → a ≡ b
 pass_one knobs cpu s step a b p q =
     let found : p.found ≡ q.found = same_found step s.part p.found q.found p.passes.is_found q.passes.is_found in
@@ -63,7 +65,8 @@ fail_one knobs cpu s step one a b p q =
     ∙ sym q.result
 
 step_one : (knobs : Settings) (cpu : ℕ) (s : ReplayStateView) (step : Step) → OneRunsIn s.part
-    → (o : Option StepFault) (a b : ReplayStateView) → IsReplayStep knobs cpu o s step a → IsReplayStep knobs cpu o s step b
+    → (o : Option StepFault) (a b : ReplayStateView) → IsReplayStep knobs cpu o s step a
+    → IsReplayStep knobs cpu o s step b
     → a ≡ b
 step_one knobs cpu s step one (Some fault) a b p q = p ∙ sym q
 step_one knobs cpu s step one None a b (inl p) (inl q) = pass_one knobs cpu s step a b p q
@@ -82,7 +85,8 @@ step_keeps knobs cpu s step one None a (inl p) =
     (clear_of knobs cpu p.found step p.passes.none))
 step_keeps knobs cpu s step one None a (inr p) = subst (λ x. OneRunsIn x.part) (sym p.result) one
 
-pub replay_one : (knobs : Settings) (cpu : ℕ) (s : ReplayStateView) (steps : List Step) (a b : ReplayStateView) → OneRunsIn s.part
+pub replay_one : (knobs : Settings) (cpu : ℕ) (s : ReplayStateView) (steps : List Step) (a b : ReplayStateView)
+    → OneRunsIn s.part
     → IsReplay knobs cpu s steps a → IsReplay knobs cpu s steps b → a ≡ b
 replay_one knobs cpu s [] a b one p q = p ∙ sym q
 replay_one knobs cpu s (step ∷ steps) a b one p q =

@@ -210,7 +210,10 @@ late_one knobs cpu part step =
                               wake_one cpu part knobs.credit d c,
                               (
                                 fork_one cpu part knobs.debit d c,
-                                (next_one cpu part d, (beside_one cpu part d, (least_one cpu part knobs.granularity d, tt))),
+                                (
+                                  next_one cpu part d,
+                                  (beside_one cpu part d, (least_one cpu part knobs.granularity d, tt)),
+                                ),
                               ),
                             ),
                           ),

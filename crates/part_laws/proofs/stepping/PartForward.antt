@@ -58,7 +58,12 @@ change_says knobs m a cpu (Wake here pid nice) claim idle after t s =
 change_says knobs m a cpu (Born here pid nice) claim idle after t s =
     let p = birth_part knobs m here pid nice claim idle after s in
     subst (λ x. SaysParts knobs m x (Born here pid nice) claim idle after) (heads here cpu t)
-    (record { clear = birth_clear knobs m here pid nice claim idle after s; here = p.0; others = p.1; nowhere = s.nowhere })
+    (record {
+      clear = birth_clear knobs m here pid nice claim idle after s;
+      here = p.0;
+      others = p.1;
+      nowhere = s.nowhere;
+    })
 change_says knobs m a cpu (Shift orig dest pid nice) claim idle after t s = absurd cc
 
 -- who stands somewhere stands there in the lifted machine too

@@ -48,7 +48,8 @@ charged_floor_part m cpu time f =
 -- a task elsewhere isn't charged
 kept_by : (b idle : Bool) (place : Option Place) (n x v : Option ℤ) → (b ≡ true → place ≡ None)
     → entity_by idle place n (cond b x v) ≡ entity_by idle place n v
-kept_by true idle place n x v h = ap (λ p. entity_by idle p n x) (h refl) ∙ ap (λ p. entity_by idle p n v) (sym (h refl))
+kept_by true idle place n x v h = ap (λ p. entity_by idle p n x) (h refl)
+    ∙ ap (λ p. entity_by idle p n v) (sym (h refl))
 kept_by false idle place n x v h = refl
 
 charged_elsewhere : (m : Machine) → IsApart m → (cpu time : ℕ) (f : ℤ) (d : ℕ) → d ≢ cpu

@@ -27,7 +27,8 @@ same_stander m after d q up down i e f =
     let at = place_by (m.running d q) (m.waiting d q) (m.resting d q) in
     ap (λ x. entity_by x (place_by (after.running d q) (after.waiting d q) (after.resting d q)) (after.nice q)
     (after.runtime q)) i
-    ∙ ap (λ x. entity_by (m.idle q) (place_by x (after.waiting d q) (after.resting d q)) (after.nice q) (after.runtime q)) r
+    ∙ ap (λ x. entity_by (m.idle q) (place_by x (after.waiting d q) (after.resting d q)) (after.nice q)
+    (after.runtime q)) r
     ∙ ap (λ x. entity_by (m.idle q) (place_by (m.running d q) x (after.resting d q)) (after.nice q) (after.runtime q)) w
     ∙ ap (λ x. entity_by (m.idle q) (place_by (m.running d q) (m.waiting d q) x) (after.nice q) (after.runtime q)) s
     ∙ ap (λ x. entity_by (m.idle q) at x (after.runtime q)) e
@@ -107,7 +108,8 @@ elsewhere m a place cpu pid h d ne r k = ne (a.one_place pid r place d cpu k h).
 -- a task that goes to another place at its processor
 pub goes_here : (m after : Machine) → IsApart m → (place : Place) (cpu pid : ℕ) (to : Place) → Stands m place cpu pid
     → IsPutAt m after pid to cpu
-    → after.runtime ≡ m.runtime → after.nice ≡ m.nice → after.idle ≡ m.idle → after.floor ≡ m.floor → after.mark ≡ m.mark
+    → after.runtime ≡ m.runtime → after.nice ≡ m.nice → after.idle ≡ m.idle → after.floor ≡ m.floor
+    → after.mark ≡ m.mark
     → (part_of after cpu ≡ goes (part_of m cpu) pid to) × ((d : ℕ) → d ≢ cpu → part_of after d ≡ part_of m d)
 goes_here m after a place cpu pid to h p e f i g k =
     let keeps : KeepsRest m after pid = record {

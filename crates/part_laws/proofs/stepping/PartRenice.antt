@@ -1,4 +1,5 @@
--- A change of a nice value in the machine is one in the part at the processor where the task stands, and other parts stay.
+-- A change of a nice value in the machine is one in the part at the processor where the task stands, and other parts
+-- stay.
 use Rattle.std.proofs.Common.{◌≡◌, ◌≢◌, ℕ, Bool, Option, Some, None, is_some, option_map, ℤ, ◌⊎◌, inl, inr, [], ◌∷◌}
 use Rattle.std.proofs.Common.{refl, sym, ap, ◌∙◌, subst}
 use Rattle.cfs_model.specs.Machine.{Machine, Stands, with_nice}
@@ -30,9 +31,11 @@ kept f h None part pid = refl
 kept f h (Some change) part pid = go (same_or_not pid change.pid)
   where
     go : (pid ≡ change.pid) ⊎ (pid ≢ change.pid) → f ((reniced (Some change) part).tasks pid) ≡ f (part.tasks pid)
-    go (inl e) = ap (λ q. f ((reniced (Some change) part).tasks q)) e ∙ ap f (put-same part.tasks change.pid (option_map (with_new change.nice) (part.tasks change.pid)))
+    go (inl e) = ap (λ q. f ((reniced (Some change) part).tasks q)) e
+        ∙ ap f (put-same part.tasks change.pid (option_map (with_new change.nice) (part.tasks change.pid)))
         ∙ h change.nice (part.tasks change.pid) ∙ ap (λ q. f (part.tasks q)) (sym e)
-    go (inr ne) = ap f (put-other part.tasks change.pid (option_map (with_new change.nice) (part.tasks change.pid)) pid ne)
+    go (inr ne) = ap f (put-other part.tasks change.pid (option_map (with_new change.nice) (part.tasks change.pid)) pid
+        ne)
 
 -- who stands where stays
 pub reniced_in : (change : Option NiceLine) (part : Part) (pid : ℕ)
@@ -68,7 +71,8 @@ module _ (m : Machine) (a : IsApart m) (cpu pid : ℕ) (nice : ℤ) (place : Pla
       let s = values_of m a place cpu pid h in
       ap (λ n. entity_by (m.idle pid) (place_at m cpu pid) n (m.runtime pid)) (put-same m.nice pid (Some nice))
       ∙ nice_by (m.idle pid) (place_at m cpu pid) s.0.nice nice (m.runtime pid)
-      ∙ ap (λ n. option_map (with_new nice) (entity_by (m.idle pid) (place_at m cpu pid) n (m.runtime pid))) (sym s.3.nice)
+      ∙ ap (λ n. option_map (with_new nice) (entity_by (m.idle pid) (place_at m cpu pid) n (m.runtime pid)))
+      (sym s.3.nice)
 
   nice_other : (d q : ℕ) → q ≢ pid → entity_at (with_nice m pid nice) d q ≡ entity_at m d q
   nice_other d q ne = ap (λ n. entity_by (m.idle q) (place_at m d q) n (m.runtime q))
@@ -94,22 +98,28 @@ reniced_here m a cpu None found r = (
 )
 reniced_here m a cpu (Some change) found r = (
   ap (λ (x : Machine). part_of x cpu) r.1
-      ∙ same_part (part_of (with_nice m change.pid change.nice) cpu) (reniced (Some change) (part_of m cpu)) (λ q. here q (same_or_not q change.pid)) refl refl,
+      ∙ same_part (part_of (with_nice m change.pid change.nice) cpu) (reniced (Some change) (part_of m cpu))
+      (λ q. here q (same_or_not q change.pid)) refl refl,
   (λ d ne. ap (λ (x : Machine). part_of x d) r.1
-      ∙ same_part (part_of (with_nice m change.pid change.nice) d) (part_of m d) (λ q. there d ne q (same_or_not q change.pid)) refl refl),
+      ∙ same_part (part_of (with_nice m change.pid change.nice) d) (part_of m d)
+      (λ q. there d ne q (same_or_not q change.pid)) refl refl),
   (λ pid h. stands (ap (λ (x : Machine). entity_at x cpu change.pid) (sym r.1) ∙ h.0)),
 )
   where
     here : (q : ℕ) → (q ≡ change.pid) ⊎ (q ≢ change.pid)
         → entity_at (with_nice m change.pid change.nice) cpu q ≡ (reniced (Some change) (part_of m cpu)).tasks q
-    here q (inl e) = ap (entity_at (with_nice m change.pid change.nice) cpu) e ∙ nice_here m a cpu change.pid change.nice r.0.0 r.0.1
+    here q (inl e) = ap (entity_at (with_nice m change.pid change.nice) cpu) e
+        ∙ nice_here m a cpu change.pid change.nice r.0.0 r.0.1
         ∙ sym (put-same (entity_at m cpu) change.pid (option_map (with_new change.nice) (entity_at m cpu change.pid)))
         ∙ ap (λ p. (reniced (Some change) (part_of m cpu)).tasks p) (sym e)
     here q (inr ne) = nice_other m a cpu change.pid change.nice r.0.0 r.0.1 cpu q ne
-        ∙ sym (put-other (entity_at m cpu) change.pid (option_map (with_new change.nice) (entity_at m cpu change.pid)) q ne)
+        ∙ sym (put-other (entity_at m cpu) change.pid (option_map (with_new change.nice) (entity_at m cpu change.pid)) q
+        ne)
 
-    there : (d : ℕ) → d ≢ cpu → (q : ℕ) → (q ≡ change.pid) ⊎ (q ≢ change.pid) → entity_at (with_nice m change.pid change.nice) d q ≡ entity_at m d q
-    there d ne q (inl e) = ap (entity_at (with_nice m change.pid change.nice) d) e ∙ nice_elsewhere m a cpu change.pid change.nice r.0.0 r.0.1 d ne
+    there : (d : ℕ) → d ≢ cpu → (q : ℕ) → (q ≡ change.pid) ⊎ (q ≢ change.pid)
+        → entity_at (with_nice m change.pid change.nice) d q ≡ entity_at m d q
+    there d ne q (inl e) = ap (entity_at (with_nice m change.pid change.nice) d) e
+        ∙ nice_elsewhere m a cpu change.pid change.nice r.0.0 r.0.1 d ne
         ∙ ap (entity_at m d) (sym e)
     there d ne q (inr other) = nice_other m a cpu change.pid change.nice r.0.0 r.0.1 d q other
 

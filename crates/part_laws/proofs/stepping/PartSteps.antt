@@ -33,13 +33,15 @@ pub record ChangesPart (knobs : Settings) (m : Machine) (cpu : ℕ) (act : Act) 
     : Type 0 where
   pub after : Machine
   pub changes : Changes knobs m act claim idle after
-  pub here : part_of after cpu ≡ after_deed (part_of m cpu) (deed_at cpu idle act) (claim_for (deed_at cpu idle act) claim)
+  pub here : part_of after cpu ≡ after_deed (part_of m cpu) (deed_at cpu idle act)
+      (claim_for (deed_at cpu idle act) claim)
   pub others : OthersStay m after cpu
 
 pub heads : (a b : ℕ) → a ∷ [] ≡ b ∷ [] → a ≡ b
 heads a b e = cc
 
-change_exists : (knobs : Settings) (m : Machine) → IsApart m → (cpu : ℕ) (act : Act) (claim : Option Claim) (idle : Bool)
+change_exists : (knobs : Settings) (m : Machine) → IsApart m
+    → (cpu : ℕ) (act : Act) (claim : Option Claim) (idle : Bool)
     → touched act ≡ cpu ∷ [] → BornNowhere m act
     → IsClear knobs cpu (part_of m cpu) (deed_at cpu idle act) (claim_for (deed_at cpu idle act) claim)
     → ChangesPart knobs m cpu act claim idle
@@ -101,7 +103,8 @@ machine_steps knobs before event cpu part o r t b s =
     (subst (λ p. NoneHolds (late_tests knobs cpu p (step_at cpu event))) (sym n.2) s.passes.none) in
     let nowhere = found_nowhere before n.0 (λ place d pid h. lifted_sets before cpu time l.1.floor place d pid
     (subst (λ x. Stands x place d pid) l.1.result (reniced_stood cpu event.nice l.0 n.0 n.1 place d pid h))) act b in
-    let c = change_exists knobs n.0 (reniced_apart cpu event.nice l.0 n.0 n.1 a) cpu act event.claim event.idle t nowhere
+    let c = change_exists knobs n.0 (reniced_apart cpu event.nice l.0 n.0 n.1 a) cpu act event.claim event.idle t
+    nowhere
     clear in
     let step : IsStep knobs before event c.after = record {
       lifted = l.0;
@@ -115,7 +118,8 @@ machine_steps knobs before event cpu part o r t b s =
       c.after,
       step,
       step_in_order knobs before event c.after o step,
-      c.here ∙ ap (λ p. after_deed p (deed_at cpu event.idle act) (claim_for (deed_at cpu event.idle act) event.claim)) n.2
+      c.here ∙ ap (λ p. after_deed p (deed_at cpu event.idle act) (claim_for (deed_at cpu event.idle act) event.claim))
+          n.2
           ∙ sym s.result,
       (λ d ne. c.others d ne ∙ n.3 d ne ∙ l.3 d ne),
     )

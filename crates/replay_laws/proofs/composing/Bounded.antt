@@ -18,7 +18,8 @@ kept_within slack since x time e h = elim
     (cases_lt (x + slack) time)
     [ inl k ↦ absurd (h 0 (subst (λ o. IsIdleTooLong slack o time 0) (sym e) (k, refl))) | inr k ↦ k ]
 
-pub bounded : (knobs : Settings) (cpu : ℕ) (s : ReplayStateView) (event : Claimed) (events : List Claimed) (end : ReplayStateView)
+pub bounded : (knobs : Settings) (cpu : ℕ) (s : ReplayStateView) (event : Claimed) (events : List Claimed)
+    (end : ReplayStateView)
     (x : ℕ) → s.since ≡ Some x → s.page.fault ≡ None
     → IsReplay knobs cpu s (steps_at cpu (event ∷ events)) end → end.page.fault ≡ None
     → TimesRise event.entry.time events

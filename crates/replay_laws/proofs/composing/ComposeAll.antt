@@ -46,7 +46,8 @@ pub record ComposedAll (knobs : Settings) (m : Machine) (time : ℕ) (s : ℕ �
   pub stills : (cpu : ℕ) → Still knobs.slack cpu m time (s cpu) events states
 
 -- a machine's step by the first event
-first_of_steps : (knobs : Settings) (m : Machine) (time : ℕ) (s : ℕ → ReplayStateView) (event : Claimed) (events : List Claimed)
+first_of_steps : (knobs : Settings) (m : Machine) (time : ℕ) (s : ℕ → ReplayStateView) (event : Claimed)
+    (events : List Claimed)
     (end : ℕ → ReplayStateView) (alive : ℕ → Bool)
     → AtEvents knobs m time s (event ∷ events) end alive → (after : Machine) × IsStep knobs m event after
 first_of_steps knobs m time s event events end alive at =
@@ -64,7 +65,8 @@ first_of_steps knobs m time s event events end alive at =
       new = at.new.0;
     })
 
-in_slack : (knobs : Settings) (m : Machine) (time : ℕ) (s : ℕ → ReplayStateView) (event : Claimed) (events : List Claimed)
+in_slack : (knobs : Settings) (m : Machine) (time : ℕ) (s : ℕ → ReplayStateView) (event : Claimed)
+    (events : List Claimed)
     (end : ℕ → ReplayStateView) (alive : ℕ → Bool)
     → AtEvents knobs m time s (event ∷ events) end alive → (cpu x : ℕ) → (s cpu).since ≡ Some x
     → event.entry.time ≤ x + knobs.slack
@@ -72,7 +74,8 @@ in_slack knobs m time s event events end alive at cpu x e =
     bounded knobs cpu (s cpu) event events (end cpu) x e (at.follows cpu).fault (at.replays cpu)
     (at.no_fault cpu) at.times_rise.1 (at.in_time cpu)
 
-advanced : (knobs : Settings) (m : Machine) (time : ℕ) (s : ℕ → ReplayStateView) (event : Claimed) (events : List Claimed)
+advanced : (knobs : Settings) (m : Machine) (time : ℕ) (s : ℕ → ReplayStateView) (event : Claimed)
+    (events : List Claimed)
     (end : ℕ → ReplayStateView) (alive : ℕ → Bool)
     → AtEvents knobs m time s (event ∷ events) end alive → (after : Machine) → IsStep knobs m event after → (cpu : ℕ)
     → Advanced knobs cpu event after (s cpu) events (end cpu)
@@ -81,7 +84,8 @@ advanced knobs m time s event events end alive at after step cpu =
     (in_slack knobs m time s event events end alive at cpu) (at.replays cpu)
 
 -- the lines of the tickets one event later
-lines_later : (knobs : Settings) (cpu n : ℕ) (event : Claimed) (after : Machine) (s : ReplayStateView) (events : List Claimed)
+lines_later : (knobs : Settings) (cpu n : ℕ) (event : Claimed) (after : Machine) (s : ReplayStateView)
+    (events : List Claimed)
     (end : ReplayStateView) (a : Advanced knobs cpu event after s events end)
     → LinesUpTo n s → n < event.entry.line → LinesUpTo event.entry.line a.next
 lines_later knobs cpu n event after s events end a h l = elim a.page [

@@ -1,9 +1,8 @@
 -- The replays of all processors, and so their pages, make a run.
-use Rattle.std.proofs.Common.{◌≡◌, ℕ, ◌<◌, ◌≤◌, Option, Some, None, is_some, option_map, ℤ, List, [], ◌∷◌, refl, sym}
-use Rattle.std.proofs.Common.{ap, ◌∙◌, subst}
+use Rattle.std.proofs.Common.{◌≡◌, ℕ, ◌<◌, ◌≤◌, ℤ, List, [], ◌∷◌, sym, ap, ◌∙◌, subst}
 use Rattle.std.specs.List.{AllByRecursion}
 use Rattle.cfs_model.specs.Settings.{Settings}
-use Rattle.cfs_model.specs.Start.{task_of, start_machine}
+use Rattle.cfs_model.specs.Start.{start_machine}
 use Rattle.cfs_model.specs.Claimed.{Claimed}
 use Rattle.cfs_model.specs.Touch.{touched}
 use Rattle.cfs_model.specs.Run.{IsRun}

@@ -201,7 +201,8 @@ past_done knobs start floors tasks events cpus cpu r k =
     }
 
 -- a processor's replay, which has its page's tickets
-pub record ShareOf (knobs : Settings) (start : ℕ) (floors : List ℤ) (tasks : List Task) (events : List Claimed) (cpus : ℕ)
+pub record ShareOf (knobs : Settings) (start : ℕ) (floors : List ℤ) (tasks : List Task) (events : List Claimed)
+    (cpus : ℕ)
     (page : PageView) (cpu : ℕ) : Type 0 where
   pub share : IsShareDone knobs start floors tasks events cpu
   pub left : cpu < cpus → page.left ≡ share.end.page.left

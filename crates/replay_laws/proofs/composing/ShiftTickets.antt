@@ -38,7 +38,8 @@ module _ (knobs : Settings) (event : Claimed) (orig dest pid : ℕ) (nice : ℤ)
       ∙ ap (λ x. ticket_at line (left_by p.found (step_at orig event) x))
       (leave_deed event.entry.act event.idle orig dest pid nice e)
       ∙ only_ticket (λ (t : Entity). let x : Ticket = record
-      { line = line; pid = pid; nice = t.nice; idle = t.idle; place = t.place; offset = t.runtime -ℤ p.found.floor } in x)
+      { line = line; pid = pid; nice = t.nice; idle = t.idle; place = t.place; offset = t.runtime -ℤ p.found.floor } in
+      x)
       line (λ t. refl) (p.found.tasks pid)
 
   pub came_is : (events : List Claimed) (s next end : ReplayStateView) → orig ≢ dest

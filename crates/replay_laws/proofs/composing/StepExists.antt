@@ -1,4 +1,5 @@
--- Where the replays of all processors are where the machine is, and pass an event's steps, the machine has a step by it.
+-- Where the replays of all processors are where the machine is, and pass an event's steps, the machine has a step by
+-- it.
 use Rattle.std.proofs.Common.{◌≡◌, ℕ, ◌<◌, ◌≤◌, nat_eq, Bool, true, false, ◌||◌, None, ℤ, List, [], ◌∷◌, refl, sym, ap}
 use Rattle.std.proofs.Common.{◌∙◌, subst, arith}
 use Rattle.std.proofs.lemmas.Bool.{eq-eqb}
@@ -39,7 +40,8 @@ pub record PassesHere (knobs : Settings) (cpu : ℕ) (s : ReplayStateView) (even
   pub passes : PassesStep knobs cpu s (step_at cpu event) next
   pub replay : IsReplay knobs cpu next (steps_at cpu events) end
 
-pub passes_here : (knobs : Settings) (cpu : ℕ) (s : ReplayStateView) (event : Claimed) (events : List Claimed) (end : ReplayStateView)
+pub passes_here : (knobs : Settings) (cpu : ℕ) (s : ReplayStateView) (event : Claimed) (events : List Claimed)
+    (end : ReplayStateView)
     → s.page.fault ≡ None
     → IsReplay knobs cpu s (steps_at cpu (event ∷ events)) end → end.page.fault ≡ None → touches cpu event ≡ true
     → PassesHere knobs cpu s event events end
@@ -49,7 +51,8 @@ passes_here knobs cpu s event events end f r g t =
     record { next = h.0; passes = p.0; replay = h.2 }
 
 -- the step of the machine's part that a replay makes
-pub part_step : (knobs : Settings) (cpu : ℕ) (m : Machine) (s : ReplayStateView) (event : Claimed) (next : ReplayStateView)
+pub part_step : (knobs : Settings) (cpu : ℕ) (m : Machine) (s : ReplayStateView) (event : Claimed)
+    (next : ReplayStateView)
     → part_of m cpu ≡ s.part → PassesStep knobs cpu s (step_at cpu event) next
     → PartStep knobs cpu (part_of m cpu) (step_at cpu event) next.part
 part_step knobs cpu m s event next e p = record {

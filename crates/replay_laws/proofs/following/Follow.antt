@@ -29,7 +29,8 @@ pub record KeepsUp (cpu : ℕ) (m : Machine) (time : ℕ) (s : ReplayStateView) 
   pub fault : s.page.fault ≡ None
 
 -- the machine's state idles where the replay tells since when
-pub state_idles : (cpu : ℕ) (m : Machine) (time : ℕ) (s : ReplayStateView) → KeepsUp cpu m time s → (x : ℕ) → s.since ≡ Some x
+pub state_idles : (cpu : ℕ) (m : Machine) (time : ℕ) (s : ReplayStateView) → KeepsUp cpu m time s → (x : ℕ)
+    → s.since ≡ Some x
     → IsIdle m cpu
 state_idles cpu m time s f x e = part_idle m (apart_of m f.order) cpu (subst IsIdlePart (sym f.part) (f.idles x e))
 
@@ -85,7 +86,8 @@ not_too_long slack (Some x) time pid h k = let a : time ≤ x + slack = h x refl
     absurd (omega arith)
 
 -- an event that touches the processor
-advance_here : (knobs : Settings) (cpu : ℕ) (m : Machine) (time : ℕ) (s : ReplayStateView) (event : Claimed) (after : Machine)
+advance_here : (knobs : Settings) (cpu : ℕ) (m : Machine) (time : ℕ) (s : ReplayStateView) (event : Claimed)
+    (after : Machine)
     (events : List Claimed) (last : ReplayStateView)
     → KeepsUp cpu m time s → IsInOrder after → time ≤ event.entry.time
     → ((x : ℕ) → s.since ≡ Some x → event.entry.time ≤ x + knobs.slack)
@@ -127,7 +129,8 @@ advance_here knobs cpu m time s event after events last f o late slack step r = 
     }
 
 -- an event that touches another
-advance_away : (knobs : Settings) (cpu : ℕ) (m : Machine) (time : ℕ) (s : ReplayStateView) (event : Claimed) (after : Machine)
+advance_away : (knobs : Settings) (cpu : ℕ) (m : Machine) (time : ℕ) (s : ReplayStateView) (event : Claimed)
+    (after : Machine)
     (events : List Claimed) (last : ReplayStateView)
     → KeepsUp cpu m time s → IsInOrder after → time ≤ event.entry.time → part_of after cpu ≡ part_of m cpu
     → IsReplay knobs cpu s (steps_at cpu events) last → Advanced knobs cpu event after s events last
@@ -147,7 +150,8 @@ advance_away knobs cpu m time s event after events last f o late same r = record
   page = inl refl;
 }
 
-pub advance : (knobs : Settings) (cpu : ℕ) (m : Machine) (time : ℕ) (s : ReplayStateView) (event : Claimed) (after : Machine)
+pub advance : (knobs : Settings) (cpu : ℕ) (m : Machine) (time : ℕ) (s : ReplayStateView) (event : Claimed)
+    (after : Machine)
     (events : List Claimed) (last : ReplayStateView)
     → KeepsUp cpu m time s → IsStep knobs m event after → time ≤ event.entry.time
     → ((x : ℕ) → s.since ≡ Some x → event.entry.time ≤ x + knobs.slack)

@@ -48,7 +48,8 @@ pub record BeginsAt (cpu : ℕ) (times : List ℕ) (states : List Machine) (x : 
   pub time : slice_index times at ≡ x
   pub idles : IdlesFrom states cpu at (length states)
 
-pub record Followed (cpu : ℕ) (m : Machine) (time : ℕ) (s : ReplayStateView) (events : List Claimed) (states : List Machine)
+pub record Followed (cpu : ℕ) (m : Machine) (time : ℕ) (s : ReplayStateView) (events : List Claimed)
+    (states : List Machine)
     (last : ReplayStateView) : Type 0 where
   pub at : KeepsUp cpu (last_of m states) (last_time_of time events) last
   pub begun : (x : ℕ) → last.since ≡ Some x
@@ -72,7 +73,8 @@ followed_none cpu m time s last f e = subst (Followed cpu m time s [] []) (sym e
     early (suc i) below x e = absurd (omega arith)
 
 -- the slack of a processor one event later
-pub still_more : (slack cpu : ℕ) (m : Machine) (time : ℕ) (s : ReplayStateView) (event : Claimed) (events : List Claimed)
+pub still_more : (slack cpu : ℕ) (m : Machine) (time : ℕ) (s : ReplayStateView) (event : Claimed)
+    (events : List Claimed)
     (after : Machine) (states : List Machine) (next : ReplayStateView)
     → KeepsUp cpu m time s → Still slack cpu m time s (event ∷ events) (after ∷ states)
     → KeepsSlack slack (times_of time (event ∷ events)) (m ∷ after ∷ states)

@@ -1,6 +1,6 @@
 -- The roll of births and ends tells who stands somewhere in the machine: whoever has a nice value.
 use Rattle.std.proofs.Common.{◌≡◌, ℕ, zero, suc, Bool, true, false, Option, Some, None, is_some, ℤ, inl, inr, List, []}
-use Rattle.std.proofs.Common.{◌∷◌, refl, sym, ap, ◌∙◌, subst, true≢false}
+use Rattle.std.proofs.Common.{◌∷◌, refl, sym, ap, ◌∙◌, subst, true≢false, option_map}
 use Rattle.cfs_model.specs.Settings.{Settings}
 use Rattle.cfs_model.specs.Machine.{Machine, put, put_pair, pairs_of, without_task}
 use Rattle.cfs_model.specs.Claimed.{Claimed}
@@ -9,7 +9,8 @@ use Rattle.cfs_model.specs.Lifted.{IsLifted}
 use Rattle.cfs_model.specs.Reniced.{home_of}
 use Rattle.cfs_model.specs.Step.{after_prev, after_next, Changes, IsStep}
 use Rattle.cfs_model.specs.Order.{IsInOrder}
-use Rattle.replay_model.specs.Roll.{roll_after, BirthIsNew}
+use Rattle.cfs_model.specs.Start.{task_of, start_machine}
+use Rattle.replay_model.specs.Roll.{roll_after, BirthIsNew, named}
 use Rattle.part_laws.specs.TouchedParts.{BornNowhere}
 use Rattle.cfs_model.proofs.Moves.{put-same, put-other, same_or_not}
 use Rattle.cfs_model.proofs.KeptOrder.{lifted_apart}
@@ -20,6 +21,7 @@ use Rattle.cfs_model.specs.declared.act.Act.TheVariants.{Switch, Wake, Born, Shi
 use Rattle.cfs_model.specs.declared.act.Way.{Way}
 use Rattle.cfs_model.specs.declared.act.Way.TheVariants.{Stays, Sleeps, Ends}
 use Rattle.cfs_model.specs.declared.claim.Claim.{Claim}
+use Rattle.cfs_model.specs.declared.task.Task.{Task}
 
 -- the pids with a nice value are those alive
 abbrev pub RollIs : (ℕ → Bool) → Machine → Type 0
@@ -58,7 +60,8 @@ change_roll alive knobs m (Switch cpu prev pn way next nn) claim idle after h s 
     (prev_roll alive m cpu prev pn way next nn h))
 change_roll alive knobs m (Wake cpu pid nice) claim idle after h (inl s) = subst (RollIs alive) (sym s.result) h
 change_roll alive knobs m (Wake cpu pid nice) claim idle after h (inr s) = subst (RollIs alive) (sym s.result) h
-change_roll alive knobs m (Born cpu pid nice) claim idle after h s = subst (RollIs (roll_after alive (Born cpu pid nice)))
+change_roll alive knobs m (Born cpu pid nice) claim idle after h s = subst
+    (RollIs (roll_after alive (Born cpu pid nice)))
     (sym s.result) (put_roll m.nice alive pid (Some nice) true refl h)
 change_roll alive knobs m (Shift orig dest pid nice) claim idle after h s =
     subst (RollIs alive) (sym s.result)
@@ -94,7 +97,8 @@ born_nowhere alive m o h (Born cpu pid nice) new = λ place other k. true≢fals
     (sym ((o.nices pid).1 (place, other, k)) ∙ h pid ∙ new)
 
 -- at the start those whom it names are alive
-pub start_roll : (start : ℕ) (floors : List ℤ) (tasks : List Task) → RollIs (named tasks) (start_machine start floors tasks)
+pub start_roll : (start : ℕ) (floors : List ℤ) (tasks : List Task)
+    → RollIs (named tasks) (start_machine start floors tasks)
 start_roll start floors tasks pid = go (task_of tasks pid)
   where
     go : (o : Option Task) → is_some (option_map (λ (t : Task). t.nice) o) ≡ is_some o

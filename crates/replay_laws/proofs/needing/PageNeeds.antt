@@ -1,5 +1,5 @@
--- The largest needs of all processors are the least settings: under them each processor's replay passes, so the events are a
--- run; and along a run under other settings each step of a replay passes under those too.
+-- The largest needs of all processors are the least settings: under them each processor's replay passes, so the events
+-- are a run; and along a run under other settings each step of a replay passes under those too.
 use Rattle.std.proofs.Common.{◌≡◌, ℕ, zero, suc, ◌+◌, ◌<◌, ◌≤◌, true, false, Some, None, ℤ, ◌⊎◌, inl, inr, List, []}
 use Rattle.std.proofs.Common.{◌∷◌, refl, sym, ap, ◌∙◌, subst, arith}
 use Rattle.std.proofs.lemmas.Bool.{cases_lt}
@@ -42,7 +42,8 @@ slack_within slack other h = record {
 }
 
 -- steps that pass are a replay under any settings that are at least what they need
-replay_within : (knobs other : Settings) (cpu : ℕ) (before : ReplayStateView) (steps : List Step) (after : ReplayStateView)
+replay_within : (knobs other : Settings) (cpu : ℕ) (before : ReplayStateView) (steps : List Step)
+    (after : ReplayStateView)
     (needs : Settings)
     → before.page.fault ≡ None → AllPassNeeding knobs cpu before steps after needs → AtMost needs other
     → IsReplay other cpu before steps after × (after.page.fault ≡ None)
@@ -67,7 +68,8 @@ share_within knobs other start floors tasks events cpu page needs p h =
     let k : AtMost (larger p.of_steps (only_slack still)) other = subst (λ x. AtMost x other) p.needs_are h in
     let r = replay_within knobs other cpu p.start (steps_at cpu events) p.end p.of_steps
     (ap (λ x. x.fault) p.is_start.page) p.all_pass
-    (at_most_trans p.of_steps (larger p.of_steps (only_slack still)) other (below_larger p.of_steps (only_slack still)) k) in
+    (at_most_trans p.of_steps (larger p.of_steps (only_slack still)) other (below_larger p.of_steps (only_slack still))
+    k) in
     record {
       share = record { first = p.start; is_start = p.is_start; replay = r.0 };
       no_fault = r.1;
@@ -163,8 +165,8 @@ one_later knobs other cpu m time s event after events last needs f step late soo
           (subst (λ xs. AllPassNeeding knobs cpu s xs last needs) (untouched_steps cpu event events h.0) p)
     ]
 
--- along a run under other settings these are at least what the steps of a replay need, and no processor idles for longer than
--- their slack
+-- along a run under other settings these are at least what the steps of a replay need, and no processor idles for
+-- longer than their slack
 needs_along : (knobs other : Settings) (cpu : ℕ) (m : Machine) (time : ℕ) (s : ReplayStateView) (events : List Claimed)
     (states : List Machine) (last : ReplayStateView) (needs : Settings)
     → KeepsUp cpu m time s → AreSteps other m events states → TimesRise time events
@@ -181,9 +183,11 @@ needs_along knobs other cpu m time s [] (after ∷ states) last needs f steps ri
 needs_along knobs other cpu m time s (event ∷ events) [] last needs f steps rise still keeps now p = absurd steps
 needs_along knobs other cpu m time s (event ∷ events) (after ∷ states) last needs f steps rise still keeps now p =
     let soon : (x : ℕ) → s.since ≡ Some x → event.entry.time ≤ x + other.slack =
-    λ x e. still x e 1 (omega arith) (omega arith) (idles_one m (after ∷ states) cpu (state_idles cpu m time s f x e)) in
+    λ x e. still x e 1 (omega arith) (omega arith) (idles_one m (after ∷ states) cpu
+    (state_idles cpu m time s f x e)) in
     let l = one_later knobs other cpu m time s event after events last needs f steps.0 rise.0 soon p in
-    let rest = needs_along knobs other cpu after event.entry.time l.next events states last l.later l.follows steps.1 rise.1
+    let rest = needs_along knobs other cpu after event.entry.time l.next events states last l.later l.follows steps.1
+    rise.1
     (still_more other.slack cpu m time s event events after states l.next f still keeps l.begun)
     (keeps_more other.slack time (times_of event.entry.time events) m (after ∷ states) keeps)
     (λ x e. elim (l.begun x e) [ inl k ↦ soon x k | inr k ↦ omega arith ])

@@ -88,7 +88,8 @@ wake_bounds : (known bound : ℕ) (floor own v : ℤ) → IsInWakeBounds known f
 wake_bounds known bound floor own v h k =
     let a = h.0 in (omega (arith, ints, clamps), h.1)
 
-wake_within : (known bound need : ℕ) (part : Part) (deed : Deed) (claim : Option Claim) → IsWakeNeed part deed claim need
+wake_within : (known bound need : ℕ) (part : Part) (deed : Deed) (claim : Option Claim)
+    → IsWakeNeed part deed claim need
     → need ≤ bound → ((pid : ℕ) → ¬ IsWakeOutside known part deed claim pid) → (pid : ℕ)
     → ¬ IsWakeOutside bound part deed claim pid
 wake_within known bound need part (Wake task nice) (Some claim) n h none pid k =
@@ -148,7 +149,8 @@ wake_needs bound need part (Leave task nice dest) claim n extra h = none_needed 
 wake_needs bound need part (Arrive task nice orig idle) claim n extra h = none_needed need bound n
 
 -- a birth
-birth_within : (known bound need : ℕ) (part : Part) (deed : Deed) (claim : Option Claim) → IsBirthNeed part deed claim need
+birth_within : (known bound need : ℕ) (part : Part) (deed : Deed) (claim : Option Claim)
+    → IsBirthNeed part deed claim need
     → need ≤ bound → ((pid : ℕ) → ¬ IsForkOutside known part deed claim pid) → (pid : ℕ)
     → ¬ IsForkOutside bound part deed claim pid
 birth_within known bound need part (Born task nice idle) (Some claim) n h none pid k =
@@ -218,14 +220,16 @@ tests_within knobs other cpu part step found since needs p n h =
       });
     }
 
-pub passes_within : (knobs other : Settings) (cpu : ℕ) (before : ReplayStateView) (step : Step) (after : ReplayStateView)
+pub passes_within : (knobs other : Settings) (cpu : ℕ) (before : ReplayStateView) (step : Step)
+    (after : ReplayStateView)
     (needs : Settings)
     → PassesNeeding knobs cpu before step after needs → AtMost needs other → PassesStep other cpu before step after
 passes_within knobs other cpu before step after needs p h = record {
   in_time = idle_within other.slack before.since step.time
       (subst (λ x. x ≤ other.slack) p.needs_are.slack h.slack);
   found = p.passes.found;
-  passes = tests_within knobs other cpu before.part step p.passes.found before.since needs p.passes.passes p.needs_are h;
+  passes = tests_within knobs other cpu before.part step p.passes.found before.since needs p.passes.passes p.needs_are
+      h;
   part = p.passes.part;
   since = p.passes.since;
   page = p.passes.page;

@@ -1,5 +1,5 @@
--- The fault on a page that says nothing against some events isn't of their lines: it is of a step behind them, or of the
--- end test, which is of the record's last line.
+-- The fault on a page that says nothing against some events isn't of their lines: it is of a step behind them, or of
+-- the end test, which is of the record's last line.
 use Rattle.std.proofs.Common.{◌≡◌, ℕ, ◌<◌, ◌≤◌, Bool, true, false, Some, None, ℤ, inl, inr, List, [], ◌∷◌, ◌++◌, refl}
 use Rattle.std.proofs.Common.{sym, ap, ◌∙◌, subst, arith}
 use Rattle.std.proofs.lemmas.Bool.{cases_lt}

@@ -1,6 +1,7 @@
--- Events against which the pages of all processors say nothing are a run: each replay among them passes, and the tickets
--- of their lines are those on the pages, since lines rise. Sufficing pages that say nothing against any event have no
--- fault, since one would be due at an event, and are by all steps: a page that stopped before did so at a fault.
+-- Events against which the pages of all processors say nothing are a run: each replay among them passes, and the
+-- tickets of their lines are those on the pages, since lines rise. Sufficing pages that say nothing against any event
+-- have no fault, since one would be due at an event, and are by all steps: a page that stopped before did so at a
+-- fault.
 use Rattle.std.proofs.Common.{◌≡◌, ℕ, ◌<◌, ◌≤◌, ℤ, Option, Some, None, is_some, IsSome, inl, inr, List, [], ◌∷◌, ◌++◌}
 use Rattle.std.proofs.Common.{length, refl, sym, ap, ◌∙◌, subst, true≢false}
 use Rattle.std.specs.List.{AllByRecursion}

@@ -1,6 +1,6 @@
 -- The first thing that sufficing pages say against an event is what is wrong with it. Their first fault isn't on a line
--- before the event's, so a page that stopped at that fault's line or past it is the whole page of the record up to where
--- it stopped, with the event.
+-- before the event's, so a page that stopped at that fault's line or past it is the whole page of the record up to
+-- where it stopped, with the event.
 use Rattle.std.proofs.Common.{◌≡◌, ℕ, ◌<◌, ◌≤◌, nat_le, Bool, true, false, Option, Some, None, is_some, ℤ, inl, inr}
 use Rattle.std.proofs.Common.{List, ◌∷◌, ◌++◌, length, refl, ap, subst, arith}
 use Rattle.std.proofs.lemmas.Bool.{cases_lt, leb-true}
@@ -50,9 +50,11 @@ module _ (knobs : Settings) (start : ℕ) (floors : List ℤ) (tasks : List Task
   not_past : (line : ℕ) → HasFaultBy pages cpus line → event.entry.line ≤ line
   not_past line by =
       let at = at_front knobs start floors tasks before (event ∷ rest) cpus by.cpu (pages by.cpu) r
-      (λ k. whole_by_fault knobs start floors tasks (before ++ event ∷ rest) cpus pages by.cpu by.fault (enough by.cpu k)
+      (λ k. whole_by_fault knobs start floors tasks (before ++ event ∷ rest) cpus pages by.cpu by.fault
+      (enough by.cpu k)
       by.is_fault) (say.no_fault by.cpu) in
-      let from = not_before knobs start floors tasks before rest event cpus by.cpu (pages by.cpu) by.fault r by.within at
+      let from = not_before knobs start floors tasks before rest event cpus by.cpu (pages by.cpu) by.fault r by.within
+      at
       by.is_fault in
       let to = by.by in
       omega (arith, from, to)
@@ -87,7 +89,8 @@ module _ (knobs : Settings) (start : ℕ) (floors : List ℤ) (tasks : List Task
   ]
 
   fronts : (cpu : ℕ) → AtFront knobs start floors tasks before (event ∷ (each_goes cpu).rest) cpus cpu (pages cpu)
-  fronts cpu = front_of knobs start floors tasks before (event ∷ (each_goes cpu).rest) cpus cpu (pages cpu) (each_goes cpu).kept
+  fronts cpu = front_of knobs start floors tasks before (event ∷ (each_goes cpu).rest) cpus cpu (pages cpu)
+      (each_goes cpu).kept
       (each_goes cpu).replay (say.no_fault cpu)
 
 pub pages_tell_fault : PagesTellFault

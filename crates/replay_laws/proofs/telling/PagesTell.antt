@@ -103,17 +103,20 @@ module _ (knobs : Settings) (start : ℕ) (floors : List ℤ) (tasks : List Task
       (at cpu).passes.share).1
 
   idles_is : (cpu : ℕ) → Idles cpu ↔ IsIdleTooLong knobs.slack (at cpu).mid.since event.entry.time 0
-  idles_is cpu = slack_follows knobs start floors tasks before cpu (at cpu).mid event.entry.time (r 0).is_start times run
+  idles_is cpu = slack_follows knobs start floors tasks before cpu (at cpu).mid event.entry.time (r 0).is_start times
+      run
       (at cpu).passes.share
 
   -- a processor idles for too long just where its page says so
   idle_told : (cpu : ℕ) → cpu < cpus → IdlesBefore event (pages cpu).fault
       → IsIdleTooLong knobs.slack (at cpu).mid.since event.entry.time 0
-  idle_told cpu k h = idling_of_page knobs start before (rest cpu) event cpu (pages cpu) (at cpu).mid (at cpu).passes.no_fault
+  idle_told cpu k h = idling_of_page knobs start before (rest cpu) event cpu (pages cpu) (at cpu).mid
+      (at cpu).passes.no_fault
       ((at cpu).back k) (later_times cpu) h
 
   tells : (cpu : ℕ) → cpu < cpus → Idles cpu → IdlesBefore event (pages cpu).fault
-  tells cpu k h = page_of_idling knobs start before (rest cpu) event cpu (pages cpu) (at cpu).mid (at cpu).passes.no_fault
+  tells cpu k h = page_of_idling knobs start before (rest cpu) event cpu (pages cpu) (at cpu).mid
+      (at cpu).passes.no_fault
       ((at cpu).back k) (later_times cpu) ((idles_is cpu).0 h)
 
   none_idle : ((cpu : ℕ) → cpu < cpus → ¬ IdlesBefore event (pages cpu).fault) → (cpu : ℕ) → ¬ Idles cpu
@@ -208,7 +211,8 @@ module _ (knobs : Settings) (start : ℕ) (floors : List ℤ) (tasks : List Task
       ≢ came_ticket d.passes.found event.entry.line pid nice event.idle event.claim
   unequal orig dest pid nice e k l o d differ same =
       let line = event.entry.line in
-      let left = left_is knobs event orig dest pid nice e (rest orig) (at orig).mid o.next ((at orig).back k).end o.passes
+      let left = left_is knobs event orig dest pid nice e (rest orig) (at orig).mid o.next ((at orig).back k).end
+      o.passes
       o.replay (share_below knobs start floors tasks before (rest orig) event orig (at orig).mid (r orig).lines_rise
       (at orig).passes.share).0 (later_lines orig) in
       let came = came_is knobs event orig dest pid nice e (rest dest) (at dest).mid d.next ((at dest).back l).end

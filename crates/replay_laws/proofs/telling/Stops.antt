@@ -1,5 +1,5 @@
--- A replay without a fault that stopped at a step is that of the first events of the record, up to the step's own: it has
--- made all their steps, and its processor is in time at the last of them, since the step was.
+-- A replay without a fault that stopped at a step is that of the first events of the record, up to the step's own: it
+-- has made all their steps, and its processor is in time at the last of them, since the step was.
 use Rattle.std.proofs.Common.{◌≡◌, ℕ, zero, suc, ◌+◌, ◌<◌, ◌≤◌, nat_le, Bool, true, false, cond, Some, None, ℤ, inl}
 use Rattle.std.proofs.Common.{inr, List, [], ◌∷◌, ◌++◌, length, take, refl, sym, ap, ◌∙◌, subst, arith}
 use Rattle.std.proofs.lemmas.Bool.{cases_lt, leb-false}
@@ -21,7 +21,8 @@ use Rattle.replay_laws.proofs.telling.WholeReplay.{WholeReplay}
 use Rattle.cfs_model.specs.declared.task.Task.{Task}
 
 -- the first events, of which a replay made all steps: the last of them is the last step's
-record Seen (knobs : Settings) (cpu : ℕ) (s end : ReplayStateView) (time line : ℕ) (events : List Claimed) : Type 0 where
+record Seen (knobs : Settings) (cpu : ℕ) (s end : ReplayStateView) (time line : ℕ) (events : List Claimed)
+    : Type 0 where
   seen : List Claimed
   more : List Claimed
   whole : events ≡ seen ++ more
@@ -111,7 +112,8 @@ seen_from knobs cpu s end time line (event ∷ events) (suc n) few none through 
         let same = touched_steps cpu event events t in
         let h = subst (λ xs. IsReplay knobs cpu s (take (suc n) xs) end) same r in
         let count : suc n ≤ suc (length (steps_at cpu events)) = subst (λ xs. suc n ≤ length xs) same few in
-        let p = first_passes knobs cpu s (step_at cpu event) h.0 (take n (steps_at cpu events)) end none h.1 h.2 through in
+        let p = first_passes knobs cpu s (step_at cpu event) h.0 (take n (steps_at cpu events)) end none h.1 h.2
+        through in
         replayed_first knobs cpu s h.0 end time line event events t h.1
         (here h.0 (omega arith) p.1 (λ no x e. in_time_after knobs cpu s event h.0 p.0 x e)
         (λ no. line_after knobs cpu s event h.0 p.0) h.2)
@@ -171,7 +173,8 @@ stops_past knobs start floors tasks before rest event cpus cpu made page r g non
     s = seen_from knobs cpu g.start g.end start no_line all made
         (let k = leb-false (length (steps_at cpu all)) made short in omega (arith, k))
         (ap (λ p. p.fault) g.is_start.page) through
-        (λ no x e. (let at : x ≡ start = starts_at start g.start.part g.start.since g.is_start.since x e in omega arith))
+        (λ no x e. (let at : x ≡ start = starts_at start g.start.part g.start.since g.is_start.since x e in
+        omega arith))
         (λ no. ap (λ p. p.line) g.is_start.page) g.replay
 
     a : Among before event s.seen s.more
@@ -180,7 +183,8 @@ stops_past knobs start floors tasks before rest event cpus cpu made page r g non
 
     kept : IsRecord start floors tasks (before ++ event ∷ a.rest) cpus
     kept = subst (λ xs. IsRecord start floors tasks xs cpus) a.is
-        (record_front start floors tasks s.seen s.more cpus (subst (λ xs. IsRecord start floors tasks xs cpus) s.whole r))
+        (record_front start floors tasks s.seen s.more cpus
+        (subst (λ xs. IsRecord start floors tasks xs cpus) s.whole r))
 
     of_seen : WholeReplay knobs start floors tasks s.seen cpu page
     of_seen = record {

@@ -20,7 +20,8 @@ pub fn part_steps()
 /// The machine has a step by a migration just where the parts at both ends pass the tests and their tickets are equal;
 /// no other part changes.
 ///
-/// Carried by `migrating`: MigrationSteps, PartMigration; then PartLift, PartRenice, PartMoves of `stepping`.
+/// Carried by `migrating`: MigrationSteps, PartMigration; then PartLift, PartRenice, PartMoves and PlacedClear of
+/// `stepping`.
 pub fn migrations()
     ensures part { PartsMigrate }
     ensures machine { MachineMigrates }

@@ -21,7 +21,7 @@ pub fn replays()
 
 /// Where a step of a processor's replay fails, the events up to its own are no run.
 ///
-/// Carried by `ending`: RunEnds; then the law `replays`.
+/// Carried by `ending`: RunEnds; then the law `replays`, and Touching of `part_laws`.
 pub fn faults_end_runs()
     ensures { FaultEndsRun }
 {}
@@ -29,7 +29,8 @@ pub fn faults_end_runs()
 /// What ends a run beside a step that fails: a processor that idles for too long, a birth of a pid that is alive, a
 /// migration whose tickets differ.
 ///
-/// Carried by `ending`: RunEndings, RunEnds; then Roll of `following`, and the laws `replays` and `migrations`.
+/// Carried by `ending`: RunEndings, RunEnds; then Roll of `following`, and the laws `replays`, `part_steps` and
+/// `migrations`.
 pub fn endings()
     ensures idling { IdlingEndsRun }
     ensures birth { BirthEndsRun }

@@ -1,19 +1,21 @@
--- The tests on the part as a deed finds it: that of the change of a nice value, the sixteen of the deed by name, and what
--- can be decided.
+-- The tests on the part as a deed finds it: that of the change of a nice value, the sixteen of the deed by name, and
+-- what can be decided.
 use Rattle.std.proofs.Common.{◌≡◌, ◌≢◌, ℕ, Option, Some, None, ℤ, ◌⊎◌, inl, inr, refl, arith}
 use Rattle.std.proofs.lemmas.Int.{ints, by_lt_z}
 use Rattle.cfs_model.specs.Settings.{Settings}
 use Rattle.replay_model.specs.Part.{Part}
-use Rattle.replay_model.specs.QueueTests.{IsStrangeNice, IsMoveHome, IsSelfSwitch, IsPrevNotRunning, IsStrange, IsAlready, IsMoveRunning, IsWrongPrio}
-use Rattle.replay_model.specs.ClaimTests.{IsClaimMissing, IsClaimExtra, IsClaimPid, IsWrongPutBack, IsWakeOutside, IsForkOutside, IsNextNotWaiting, IsIdleBesideWaiting, IsNotLeast}
+use Rattle.replay_model.specs.QueueTests.{IsStrangeNice, IsMoveHome, IsSelfSwitch, IsPrevNotRunning, IsStrange}
+use Rattle.replay_model.specs.QueueTests.{IsAlready, IsMoveRunning, IsWrongPrio}
+use Rattle.replay_model.specs.ClaimTests.{IsClaimMissing, IsClaimExtra, IsClaimPid, IsWrongPutBack, IsWakeOutside}
+use Rattle.replay_model.specs.ClaimTests.{IsForkOutside, IsNextNotWaiting, IsIdleBesideWaiting, IsNotLeast}
 use Rattle.replay_model.specs.Tests.{NoneHolds, late_tests}
 use Rattle.cfs_model.specs.declared.claim.Claim.{Claim}
 use Rattle.cfs_model.specs.declared.claim.ClaimSort.{ClaimSort}
 use Rattle.cfs_model.specs.declared.claim.ClaimSort.TheVariants.{At, Pass}
-use Rattle.replay_model.specs.declared.step.Deed.{Deed}
-use Rattle.replay_model.specs.declared.step.Step.{Step}
 use Rattle.cfs_model.specs.declared.task.Place.{Place}
 use Rattle.cfs_model.specs.declared.task.Place.TheVariants.{Run, Wait, Rest}
+use Rattle.replay_model.specs.declared.step.Deed.{Deed}
+use Rattle.replay_model.specs.declared.step.Step.{Step}
 
 -- none of the tests of a deed holds
 pub record IsClear (knobs : Settings) (cpu : ℕ) (part : Part) (deed : Deed) (claim : Option Claim) : Type 0 where

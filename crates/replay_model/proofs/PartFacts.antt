@@ -1,5 +1,6 @@
 -- What a processor's part and the machine's sets say of one another.
-use Rattle.std.proofs.Common.{◌≡◌, ℕ, Bool, true, false, Option, Some, None, IsSome, option_map, ℤ, refl, sym, ap, ◌∙◌, subst, true≢false}
+use Rattle.std.proofs.Common.{◌≡◌, ℕ, Bool, true, false, Option, Some, None, IsSome, option_map, ℤ, refl, sym, ap, ◌∙◌}
+use Rattle.std.proofs.Common.{subst, true≢false}
 use mathlib.Core.Path.{fun_ext}
 use Rattle.cfs_model.specs.Machine.{Machine, pairs_of, Stands}
 use Rattle.replay_model.specs.Part.{Part, Entity, place_by, entity_by, entity_at, part_of, IsIn}

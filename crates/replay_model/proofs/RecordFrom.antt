@@ -1,14 +1,13 @@
 -- What a record of some processors keeps, from the same facts by index, as a list's readers state them.
-use Rattle.std.proofs.Common.{ℕ, suc, ◌<◌, ◌≤◌, nat_eq, Bool, true, false, cond, Some, IfSome, ℤ, List, [], ◌∷◌, All, AllPairs, suc-le-suc, arith}
+use Rattle.std.proofs.Common.{ℕ, suc, ◌<◌, ◌≤◌, nat_eq, Bool, true, false, cond, Some, IfSome, ℤ, List, [], ◌∷◌, All}
+use Rattle.std.proofs.Common.{AllPairs, suc-le-suc, arith}
 use Rattle.std.proofs.lemmas.List.Elements.{recursion_from_All}
 use Rattle.std.specs.List.{AllByRecursion}
 use Rattle.cfs_model.specs.Charge.{IsInRange}
 use Rattle.cfs_model.specs.Claimed.{Claimed, claim_at, claimed}
 use Rattle.cfs_model.specs.Touch.{touched}
 use Rattle.cfs_model.specs.Order.{IsStart}
-use Rattle.replay_model.specs.PartStep.{ClaimInRange}
-use Rattle.replay_model.specs.Following.{TimesRise}
-use Rattle.replay_model.specs.Composition.{LinesRise, IsRecord}
+use Rattle.replay_model.specs.Record.{ClaimInRange, TimesRise, LinesRise, IsRecord}
 use Rattle.cfs_model.specs.declared.act.Entry.{Entry}
 use Rattle.cfs_model.specs.declared.claim.Claim.{Claim}
 use Rattle.cfs_model.specs.declared.nice_line.NiceLine.{NiceLine}

@@ -6,7 +6,8 @@ use Rattle.replay_model.specs.declared.page.StepFault.{StepFault}
 use Rattle.replay_model.specs.declared.step.Step.{Step}
 
 -- one more step
-pub IsReplay-push : (knobs : Settings) (cpu : ℕ) (before : ReplayStateView) (steps : List Step) (between : ReplayStateView)
+pub IsReplay-push : (knobs : Settings) (cpu : ℕ) (before : ReplayStateView) (steps : List Step)
+    (between : ReplayStateView)
     (step : Step) (after : ReplayStateView)
     → IsReplay knobs cpu before steps between → IsReplayStep knobs cpu between.page.fault between step after
     → IsReplay knobs cpu before (steps ++ step ∷ []) after
@@ -25,7 +26,8 @@ IsReplay-append knobs cpu before (first ∷ steps) more between after r s =
     (r.0, r.1, IsReplay-append knobs cpu r.0 steps more between after r.2 s)
 
 -- after a fault nothing changes
-pub stays_faulted : (knobs : Settings) (cpu : ℕ) (before : ReplayStateView) (steps : List Step) (after : ReplayStateView)
+pub stays_faulted : (knobs : Settings) (cpu : ℕ) (before : ReplayStateView) (steps : List Step)
+    (after : ReplayStateView)
     (fault : StepFault)
     → before.page.fault ≡ Some fault → IsReplay knobs cpu before steps after → after ≡ before
 stays_faulted knobs cpu before [] after fault e r = r

@@ -1,17 +1,17 @@
 -- Why the events up to and including one are no run, though those before it are: the first of five things that can be
 -- wrong with it, in this order (this project's profile). Each is said of the machine just before the event.
-use Rattle.std.specs.Prelude.{◌≡◌, ◌≢◌, ℕ, ◌<◌, ◌⊎◌, ℤ, List, [], ◌∷◌, ◌++◌}
+use Rattle.std.specs.Prelude.{◌≡◌, ◌≢◌, ℕ, ◌<◌, ◌⊎◌, ℤ, List, [], ◌∷◌, ◌++◌, ◌+◌, length, slice_index}
 use Rattle.cfs_model.specs.Settings.{Settings}
 use Rattle.cfs_model.specs.Machine.{Machine, Stands}
 use Rattle.cfs_model.specs.Claimed.{Claimed}
 use Rattle.cfs_model.specs.Run.{times_of, IsRun, last_of}
+use Rattle.cfs_model.specs.Idle.{IdlesFrom}
 use Rattle.replay_model.specs.Part.{Part, part_of}
 use Rattle.replay_model.specs.Found.{IsFound}
 use Rattle.replay_model.specs.Deeds.{left_ticket, came_ticket}
 use Rattle.replay_model.specs.QueueTests.{IsOutOfRange}
 use Rattle.replay_model.specs.Tests.{FirstHolds, PassesTests, late_tests}
 use Rattle.replay_model.specs.Cut.{step_at}
-use Rattle.replay_model.specs.Following.{SlackFails}
 use Rattle.cfs_model.specs.declared.act.Act.{Act}
 use Rattle.cfs_model.specs.declared.act.Act.TheVariants.{Switch, Wake, Born, Shift}
 use Rattle.cfs_model.specs.declared.kind.Kind.{Kind}
@@ -25,8 +25,16 @@ pub record FaultCause : Type 0 where
   pub pid : ℕ
   pub kind : Kind
 
--- the first test of a step that fails on a part: the charge and what it leads to, then those on the part as the deed finds
--- it
+-- with one more event, at this time, a processor will have idled for longer than the slack: from some state on it
+-- has idled in each
+pub record SlackFails (slack : ℕ) (times : List ℕ) (states : List Machine) (cpu time : ℕ) : Type 0 where
+  pub from : ℕ
+  pub is_state : from < length states
+  pub idles : IdlesFrom states cpu from (length states)
+  pub late : slice_index times from + slack < time
+
+-- the first test of a step that fails on a part: the charge and what it leads to, then those on the part as the deed
+-- finds it
 abbrev pub FailsOn : Settings → ℕ → Part → Step → Kind → ℕ → Type 0
 FailsOn knobs cpu part step kind pid =
     (IsOutOfRange part step.time pid × (kind ≡ Range))
@@ -50,8 +58,8 @@ pub record FailsAtArrival (knobs : Settings) (m : Machine) (orig dest : ℕ) (ev
   pub fails : FailsAt knobs m dest event cause
 
 -- the tests of a migration pass at both ends, and the task's place or its virtual runtime less the floor differ there
-pub record IsUnequal (knobs : Settings) (m : Machine) (orig dest pid : ℕ) (nice : ℤ) (event : Claimed) (cause : FaultCause)
-    : Type 0 where
+pub record IsUnequal (knobs : Settings) (m : Machine) (orig dest pid : ℕ) (nice : ℤ) (event : Claimed)
+    (cause : FaultCause) : Type 0 where
   pub left : Part
   pub came : Part
   pub leaves : PassesAt knobs m orig event left
@@ -60,7 +68,8 @@ pub record IsUnequal (knobs : Settings) (m : Machine) (orig dest pid : ℕ) (nic
   pub is : cause ≡ record { cpu = dest; pid = pid; kind = TicketUnequal }
 
 -- the tests of a birth pass at its processor, and the pid stands at another
-pub record IsBornTwice (knobs : Settings) (m : Machine) (cpu pid : ℕ) (event : Claimed) (cause : FaultCause) : Type 0 where
+pub record IsBornTwice (knobs : Settings) (m : Machine) (cpu pid : ℕ) (event : Claimed) (cause : FaultCause)
+    : Type 0 where
   pub found : Part
   pub passes : PassesAt knobs m cpu event found
   pub place : Place
@@ -82,7 +91,8 @@ IsActCause knobs m event (Shift orig dest pid nice) cause =
     ⊎ IsUnequal knobs m orig dest pid nice event cause
 
 -- with one more event, at this time, the slack fails at the cause's processor, and at no lower one
-pub record IsIdlingCause (slack : ℕ) (times : List ℕ) (states : List Machine) (time : ℕ) (cause : FaultCause) : Type 0 where
+pub record IsIdlingCause (slack : ℕ) (times : List ℕ) (states : List Machine) (time : ℕ) (cause : FaultCause)
+    : Type 0 where
   pub idles : SlackFails slack times states cause.cpu time
   pub lowest : (other : ℕ) → other < cause.cpu → ¬ SlackFails slack times states other time
   pub pid : cause.pid ≡ 0

@@ -7,10 +7,10 @@ use Rattle.replay_model.specs.Deeds.{part_after_prev}
 use Rattle.cfs_model.specs.declared.act.Way.TheVariants.{Stays}
 use Rattle.cfs_model.specs.declared.claim.Claim.{Claim}
 use Rattle.cfs_model.specs.declared.claim.ClaimSort.TheVariants.{At}
-use Rattle.replay_model.specs.declared.step.Deed.{Deed}
-use Rattle.replay_model.specs.declared.step.Deed.TheVariants.{Switch, Wake, Born, Leave, Arrive}
 use Rattle.cfs_model.specs.declared.task.Place.{Place}
 use Rattle.cfs_model.specs.declared.task.Place.TheVariants.{Wait, Rest}
+use Rattle.replay_model.specs.declared.step.Deed.{Deed}
+use Rattle.replay_model.specs.declared.step.Deed.TheVariants.{Switch, Wake, Born, Leave, Arrive}
 
 -- a pid in the place of rest
 abbrev pub if_resting : ℕ → Option Place → Option ℕ
@@ -73,7 +73,8 @@ IsInForkBounds debit floor v = (floor ≤ℤ v) × (v ≤ℤ (floor +ℤ pos deb
 
 -- a new task is claimed outside those bounds
 abbrev pub IsForkOutside : ℕ → Part → Deed → Option Claim → ℕ → Type 0
-IsForkOutside debit part (Born task nice idle) (Some claim) pid = (¬ IsInForkBounds debit part.floor claim.v) × (pid ≡ task)
+IsForkOutside debit part (Born task nice idle) (Some claim) pid = (¬ IsInForkBounds debit part.floor claim.v)
+    × (pid ≡ task)
 IsForkOutside debit part deed claim pid = ⊥
 
 -- the next task of a switch doesn't wait here

@@ -1,5 +1,5 @@
--- What a change of a nice value and each deed change in a processor's part (this project's profile). The part spoken of is
--- charged and lifted.
+-- What a change of a nice value and each deed change in a processor's part (this project's profile). The part spoken of
+-- is charged and lifted.
 use Rattle.std.specs.Prelude.{ℕ, zero, suc, Bool, Option, Some, None, option_map, ℤ, ◌-ℤ◌}
 use Rattle.cfs_model.specs.Machine.{put}
 use Rattle.replay_model.specs.Part.{Part, Entity}
@@ -9,11 +9,11 @@ use Rattle.cfs_model.specs.declared.claim.Claim.{Claim}
 use Rattle.cfs_model.specs.declared.claim.ClaimSort.{ClaimSort}
 use Rattle.cfs_model.specs.declared.claim.ClaimSort.TheVariants.{At, Pass}
 use Rattle.cfs_model.specs.declared.nice_line.NiceLine.{NiceLine}
+use Rattle.cfs_model.specs.declared.task.Place.{Place}
+use Rattle.cfs_model.specs.declared.task.Place.TheVariants.{Run, Wait, Rest}
 use Rattle.replay_model.specs.declared.page.Ticket.{Ticket}
 use Rattle.replay_model.specs.declared.step.Deed.{Deed}
 use Rattle.replay_model.specs.declared.step.Deed.TheVariants.{Switch, Wake, Born, Leave, Arrive}
-use Rattle.cfs_model.specs.declared.task.Place.{Place}
-use Rattle.cfs_model.specs.declared.task.Place.TheVariants.{Run, Wait, Rest}
 
 -- the pid stands here so, or no more
 abbrev pub with_entity : Part → ℕ → Option Entity → Part
@@ -86,10 +86,12 @@ after_deed part (Arrive pid nice orig idle) claim = arrives part pid nice idle c
 abbrev pub left_ticket : Part → ℕ → ℕ → Option Ticket
 left_ticket part line pid =
     option_map (λ s. record
-    { line = line; pid = pid; nice = s.nice; idle = s.idle; place = s.place; offset = s.runtime -ℤ part.floor }) (part.tasks pid)
+    { line = line; pid = pid; nice = s.nice; idle = s.idle; place = s.place; offset = s.runtime -ℤ part.floor })
+    (part.tasks pid)
 
 -- the ticket of a task that comes, by its claim
 abbrev pub came_ticket : Part → ℕ → ℕ → ℤ → Bool → Option Claim → Option Ticket
 came_ticket part line pid nice idle claim =
     option_map (λ c. record
-    { line = line; pid = pid; nice = nice; idle = idle; place = place_of_sort c.sort; offset = c.v -ℤ part.floor }) claim
+    { line = line; pid = pid; nice = nice; idle = idle; place = place_of_sort c.sort; offset = c.v -ℤ part.floor })
+    claim

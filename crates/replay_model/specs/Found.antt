@@ -1,5 +1,5 @@
--- The part of a processor as a step's deed finds it: charged and lifted, and then with the nice value that the companion
--- changes on the step's line (this project's profile).
+-- The part of a processor as a step's deed finds it: charged and lifted, and then with the nice value that the
+-- companion changes on the step's line (this project's profile).
 use Rattle.std.specs.Prelude.{◌≡◌}
 use Rattle.replay_model.specs.Part.{Part, IsLiftedPart}
 use Rattle.replay_model.specs.Deeds.{reniced}

@@ -1,20 +1,14 @@
--- What the steps of one processor need of each setting, and how the needs of all processors tell the least settings at which
--- a record is a run (this project's profile).
-use Rattle.std.specs.Prelude.{◌≡◌, ℕ, zero, suc, ◌-◌, ◌<◌, Option, Some, None, ℤ, pos, ◌+ℤ◌, ◌≤ℤ◌, ◌⊎◌, ◌↔◌, List, [], ◌∷◌}
-use Rattle.std.specs.List.{AllByRecursion}
+-- What a step of one processor needs of each setting, and what the page of all its steps does (this project's profile).
+use Rattle.std.specs.Prelude.{◌≡◌, ℕ, zero, suc, ◌-◌, Option, Some, None, ℤ, pos, ◌+ℤ◌, ◌≤ℤ◌, ◌⊎◌, List, [], ◌∷◌}
 use Rattle.cfs_model.specs.Settings.{Settings}
-use Rattle.cfs_model.specs.Start.{start_machine}
-use Rattle.cfs_model.specs.Claimed.{Claimed}
-use Rattle.cfs_model.specs.Least.{AtMost, larger, AreLeast}
+use Rattle.cfs_model.specs.Least.{larger}
 use Rattle.replay_model.specs.Part.{Part, Entity}
 use Rattle.replay_model.specs.Deeds.{part_after_prev}
-use Rattle.replay_model.specs.Cut.{StreamView, cut}
+use Rattle.replay_model.specs.Cut.{StreamView}
 use Rattle.replay_model.specs.Noted.{PageView}
 use Rattle.replay_model.specs.Page.{ReplayStateView, IsStartOf, PassesStep}
-use Rattle.replay_model.specs.Composition.{IsRecord, TicketsAgree, BirthsAreNew, named}
 use Rattle.cfs_model.specs.declared.claim.Claim.{Claim}
 use Rattle.cfs_model.specs.declared.task.Place.TheVariants.{Wait}
-use Rattle.cfs_model.specs.declared.task.Task.{Task}
 use Rattle.replay_model.specs.declared.step.Deed.{Deed}
 use Rattle.replay_model.specs.declared.step.Deed.TheVariants.{Switch, Wake, Born}
 use Rattle.replay_model.specs.declared.step.Step.{Step}
@@ -32,8 +26,8 @@ pub record IsLeastWaiting (part : Part) (v : ℤ) : Type 0 where
   pub runtime : task.runtime ≡ v
   pub least : (other : ℕ) (s : Entity) → part.tasks other ≡ Some s → s.place ≡ Wait → v ≤ℤ s.runtime
 
--- a pick needs a granularity of how far the next task's virtual runtime is above the least of those who wait, a previous
--- task that stays among them; a switch to pid 0 and every other deed need none
+-- a pick needs a granularity of how far the next task's virtual runtime is above the least of those who wait, a
+-- previous task that stays among them; a switch to pid 0 and every other deed need none
 abbrev pub IsPickNeed : Part → Deed → ℕ → Type 0
 IsPickNeed part (Switch prev prev_nice way (suc n) next_nice) need =
     (s : Entity) × (least : ℤ) × (part.tasks (suc n) ≡ Some s) × IsLeastWaiting (part_after_prev part prev way) least
@@ -50,13 +44,14 @@ abbrev pub IsBirthNeed : Part → Deed → Option Claim → ℕ → Type 0
 IsBirthNeed part (Born pid nice idle) (Some claim) need = IsExcess claim.v part.floor need
 IsBirthNeed part deed claim need = need ≡ 0
 
--- a processor that has idled beside a waiting task since a time needs a slack of how long that is; one that hasn't, none
+-- a processor that has idled beside a waiting task since a time needs a slack of how long that is; one that hasn't,
+-- none
 abbrev pub idle_need : Option ℕ → ℕ → ℕ
 idle_need None time = 0
 idle_need (Some since) time = time - since
 
--- what a step needs, where the processor has idled beside a waiting task since a time, or hasn't, and the deed finds this
--- part: of each setting what it is asked for
+-- what a step needs, where the processor has idled beside a waiting task since a time, or hasn't, and the deed finds
+-- this part: of each setting what it is asked for
 pub record AreStepNeeds (since : Option ℕ) (found : Part) (step : Step) (needs : Settings) : Type 0 where
   pub granularity : IsPickNeed found step.deed needs.granularity
   pub credit : IsWakeNeed found step.deed step.claim needs.credit
@@ -80,9 +75,9 @@ AllPassNeeding knobs cpu before (step ∷ steps) after needs =
     (between : ReplayStateView) × (here later : Settings) × PassesNeeding knobs cpu before step between here
     × AllPassNeeding knobs cpu between steps after later × (needs ≡ larger here later)
 
--- a stream's replay passes by all steps, and this is its page behind the last one, the end test left out; needs has of each
--- setting the greatest that one of the steps needs, and of the slack also what the processor needs which still idles at the
--- record's last time
+-- a stream's replay passes by all steps, and this is its page behind the last one, the end test left out; needs has of
+-- each setting the greatest that one of the steps needs, and of the slack also what the processor needs which still
+-- idles at the record's last time
 pub record IsPageNeeding (stream : StreamView) (knobs : Settings) (page : PageView) (needs : Settings) : Type 0 where
   pub start : ReplayStateView
   pub is_start : IsStartOf stream start
@@ -96,21 +91,3 @@ pub record IsPageNeeding (stream : StreamView) (knobs : Settings) (page : PageVi
 abbrev pub largest : (ℕ → Settings) → ℕ → Settings
 largest needs zero = only_slack 0
 largest needs (suc cpu) = larger (largest needs cpu) (needs cpu)
-
--- a step that passes under some settings passes under others just where these are at least what it needs
-abbrev pub PassesFromNeeds : Type 0
-PassesFromNeeds = (knobs other : Settings) (cpu : ℕ) (before : ReplayStateView) (step : Step) (after : ReplayStateView)
-    (needs : Settings)
-    → PassesNeeding knobs cpu before step after needs
-    → PassesStep other cpu before step after ↔ AtMost needs other
-
--- where the replays of all processors of a record pass, with these pages and needs, the tickets of each migration agree and
--- each birth is new, the largest needs are the least settings at which the events are a run
-abbrev pub PagesTellLeast : Type 0
-PagesTellLeast = (knobs : Settings) (start : ℕ) (floors : List ℤ) (tasks : List Task) (events : List Claimed)
-    (cpus : ℕ) (pages : ℕ → PageView) (needs : ℕ → Settings)
-    → IsRecord start floors tasks events cpus
-    → ((cpu : ℕ) → cpu < cpus → IsPageNeeding (cut start floors tasks events cpu) knobs (pages cpu) (needs cpu))
-    → AllByRecursion (λ event. TicketsAgree pages event.entry.line event.entry.act) events
-    → BirthsAreNew (named tasks) events
-    → AreLeast start (start_machine start floors tasks) events (largest needs cpus)

@@ -1,9 +1,12 @@
 -- What a page tells of the steps of one processor, and what a step adds to it (this project's profile).
-use Rattle.std.specs.Prelude.{ℕ, zero, suc, ◌+◌, ◌-◌, ◌==◌, if◌then◌else◌, Option, Some, None, option_to_list, List, [], ◌∷◌, ◌++◌, map}
+use Rattle.std.specs.Prelude.{ℕ, zero, suc, ◌+◌, ◌-◌, ◌==◌, if◌then◌else◌, Option, Some, None, option_to_list, List, []}
+use Rattle.std.specs.Prelude.{◌∷◌, ◌++◌, map}
 use Rattle.std.specs.List.{list_any}
 use Rattle.replay_model.specs.Part.{Part, Entity, cost_in}
 use Rattle.replay_model.specs.Deeds.{left_ticket, came_ticket}
 use Rattle.cfs_model.specs.declared.act.Way.TheVariants.{Ends}
+use Rattle.cfs_model.specs.declared.task.Place.{Place}
+use Rattle.cfs_model.specs.declared.task.Place.TheVariants.{Run}
 use Rattle.replay_model.specs.declared.page.LifeEvent.{LifeEvent}
 use Rattle.replay_model.specs.declared.page.StepFault.{StepFault}
 use Rattle.replay_model.specs.declared.page.Tally.{Tally}
@@ -11,8 +14,6 @@ use Rattle.replay_model.specs.declared.page.Ticket.{Ticket}
 use Rattle.replay_model.specs.declared.step.Deed.{Deed}
 use Rattle.replay_model.specs.declared.step.Deed.TheVariants.{Switch, Born, Leave, Arrive}
 use Rattle.replay_model.specs.declared.step.Step.{Step}
-use Rattle.cfs_model.specs.declared.task.Place.{Place}
-use Rattle.cfs_model.specs.declared.task.Place.TheVariants.{Run}
 
 -- what a page tells of the steps replayed
 pub record PageView : Type 0 where

@@ -1,5 +1,6 @@
 -- The replay of one processor alone, by its first steps (this project's profile).
-use Rattle.std.specs.Prelude.{◌≡◌, ℕ, ◌+◌, if◌then◌else◌, nat_lt, nat_le, Option, Some, None, unwrap_or, ◌⊎◌, List, [], ◌∷◌, map, length, take}
+use Rattle.std.specs.Prelude.{◌≡◌, ℕ, ◌+◌, if◌then◌else◌, nat_lt, nat_le, Option, Some, None, unwrap_or, ◌⊎◌, List, []}
+use Rattle.std.specs.Prelude.{◌∷◌, map, length, take}
 use Rattle.cfs_model.specs.Limits.{no_line}
 use Rattle.cfs_model.specs.Settings.{Settings}
 use Rattle.replay_model.specs.Part.{Part, IsIdlePart, start_part}
@@ -27,7 +28,8 @@ IsSince before time part since =
     (IsIdlePart part × (since ≡ Some (unwrap_or before time))) ⊎ ((¬ IsIdlePart part) × (since ≡ None))
 
 -- the replay goes on by a step that passes
-pub record PassesStep (knobs : Settings) (cpu : ℕ) (before : ReplayStateView) (step : Step) (after : ReplayStateView) : Type 0 where
+pub record PassesStep (knobs : Settings) (cpu : ℕ) (before : ReplayStateView) (step : Step) (after : ReplayStateView)
+    : Type 0 where
   pub in_time : (pid : ℕ) → ¬ IsIdleTooLong knobs.slack before.since step.time pid
   pub found : Part
   pub passes : PassesTests knobs cpu before.part step found
@@ -52,7 +54,8 @@ abbrev pub with_fault : ReplayStateView → StepFault → ReplayStateView
 with_fault before fault = record before { page = record (before.page) { fault = Some fault } }
 
 -- the replay ends with a step that fails: it adds the fault alone
-pub record FailsStep (knobs : Settings) (cpu : ℕ) (before : ReplayStateView) (step : Step) (after : ReplayStateView) : Type 0 where
+pub record FailsStep (knobs : Settings) (cpu : ℕ) (before : ReplayStateView) (step : Step) (after : ReplayStateView)
+    : Type 0 where
   pub kind : Kind
   pub pid : ℕ
   pub fails : FailsTest knobs cpu before step kind pid

@@ -2,7 +2,8 @@
 -- details" and "The rbtree" (a running task's virtual runtime grows by the time that it ran, scaled by its weight;
 -- min_vruntime is monotonic and follows the smallest virtual runtime of the runqueue). That only events charge, the
 -- weight of the idle policy and the rounding are this project's profile.
-use Rattle.std.specs.Prelude.{◌≡◌, ◌≢◌, ℕ, ◌==◌, ◌-◌, Bool, true, false, Option, Some, None, option_map, ℤ, pos, ◌+ℤ◌, ◌≤ℤ◌, ◌⊎◌, List, find}
+use Rattle.std.specs.Prelude.{◌≡◌, ◌≢◌, ℕ, ◌==◌, ◌-◌, Bool, true, false, Option, Some, None, option_map, ℤ, pos, ◌+ℤ◌}
+use Rattle.std.specs.Prelude.{◌≤ℤ◌, ◌⊎◌, List, find}
 use Rattle.std.specs.Int.{int_max}
 use Rattle.cfs_model.specs.Charge.{charge_of}
 use Rattle.cfs_model.specs.Nice.{task_weight}
@@ -123,3 +124,7 @@ pub record IsLiftedPart (time : ℕ) (before after : Part) : Type 0 where
   pub floor : ℤ
   pub raised : IsRaisedHere (charged_part before time) floor
   pub result : after ≡ record (charged_part before time) { floor = floor }
+
+-- at most one task runs here
+abbrev pub OneRunsIn : Part → Type 0
+OneRunsIn part = (pid other : ℕ) → IsIn part Run pid → IsIn part Run other → pid ≡ other

@@ -4,9 +4,9 @@ use Rattle.std.specs.Prelude.{◌≡◌, ◌≢◌, ℕ, zero, suc, ◌+◌, ◌
 use Rattle.cfs_model.specs.Charge.{greatest}
 use Rattle.replay_model.specs.Part.{Part, Entity, IsIn, NobodyIn, cost_in}
 use Rattle.cfs_model.specs.declared.nice_line.NiceLine.{NiceLine}
+use Rattle.cfs_model.specs.declared.task.Place.TheVariants.{Run}
 use Rattle.replay_model.specs.declared.step.Deed.{Deed}
 use Rattle.replay_model.specs.declared.step.Deed.TheVariants.{Switch, Wake, Born, Leave, Arrive}
-use Rattle.cfs_model.specs.declared.task.Place.TheVariants.{Run}
 
 -- the processor has idled beside a waiting task for longer than the slack; no task is named
 abbrev pub IsIdleTooLong : ℕ → Option ℕ → ℕ → ℕ → Type 0

@@ -4,8 +4,10 @@ use Rattle.std.specs.Prelude.{◌≡◌, ℕ, Option, ◌⊎◌, ⊤, List, [], 
 use Rattle.cfs_model.specs.Settings.{Settings}
 use Rattle.replay_model.specs.Part.{Part}
 use Rattle.replay_model.specs.Found.{IsFound}
-use Rattle.replay_model.specs.QueueTests.{IsIdleTooLong, IsOutOfRange, IsStrangeNice, IsMoveHome, IsSelfSwitch, IsPrevNotRunning, IsStrange, IsAlready, IsMoveRunning, IsWrongPrio}
-use Rattle.replay_model.specs.ClaimTests.{IsClaimMissing, IsClaimExtra, IsClaimPid, IsWrongPutBack, IsWakeOutside, IsForkOutside, IsNextNotWaiting, IsIdleBesideWaiting, IsNotLeast}
+use Rattle.replay_model.specs.QueueTests.{IsIdleTooLong, IsOutOfRange, IsStrangeNice, IsMoveHome, IsSelfSwitch}
+use Rattle.replay_model.specs.QueueTests.{IsPrevNotRunning, IsStrange, IsAlready, IsMoveRunning, IsWrongPrio}
+use Rattle.replay_model.specs.ClaimTests.{IsClaimMissing, IsClaimExtra, IsClaimPid, IsWrongPutBack, IsWakeOutside}
+use Rattle.replay_model.specs.ClaimTests.{IsForkOutside, IsNextNotWaiting, IsIdleBesideWaiting, IsNotLeast}
 use Rattle.cfs_model.specs.declared.kind.Kind.{Kind}
 use Rattle.cfs_model.specs.declared.kind.Kind.TheVariants as kind
 use Rattle.replay_model.specs.declared.step.Step.{Step}

@@ -1,14 +1,9 @@
-//! What is seen of a recording from one processor: its part of a machine, its steps, the tests of a step, the page of a
-//! replay, and the laws that tie the replays of all processors to a run.
+//! What is seen of a recording from one processor: its part of a machine, its steps, the tests of a step, and the page
+//! of a replay. `part_laws`, `replay_laws` and `tally_laws` tie the replays of all processors to a run.
 #![tactic(auto)]
 
-mod laws;
 mod page;
 mod step;
 
-pub use laws::{
-    closing, composition, endings, faults_end_runs, first_faults, migrations, needs, pages,
-    part_steps, replays, tallying,
-};
 pub use page::{LifeEvent, StepFault, Tally, Ticket};
 pub use step::{Deed, Step};

@@ -51,7 +51,7 @@ pub struct Step {
     pub deed: Deed,
     /// The claim on the line. A task that leaves has none: it is the destination's.
     pub claim: Option<Claim>,
-    /// The change of a task's nice value on the line, which this step makes before its deed. A task that comes has none:
-    /// it is the origin's.
+    /// The change of a task's nice value on the line, which this step makes before its deed. A task that comes has
+    /// none: it is the origin's.
     pub nice: Option<NiceLine>,
 }

@@ -4,10 +4,8 @@ use cfs_model::{
     marks_move, migration_example, one_list, pick_example, places, prefixes, put_back_example,
     wake_example, weight, weight_of,
 };
-use replay_model::{
-    closing, composition, endings, faults_end_runs, first_faults, migrations, pages, part_steps,
-    replays,
-};
+use part_laws::{migrations, pages, part_steps};
+use replay_laws::{closing, composition, endings, faults_end_runs, first_faults, replays};
 use std::test::Fail;
 
 static CHARGES: [(u64, u32, Option<i64>); 9] = [

@@ -7,7 +7,7 @@ use Rattle.std.proofs.lemmas.Bool.{cases_lt, false≢true, le-ltb, ltb-false}
 use Rattle.std.proofs.lemmas.List.{length_push}
 use Rattle.std.proofs.lemmas.Option.{same_Some, slice_get_within}
 use Rattle.cfs_model.specs.Settings.{Settings}
-use Rattle.replay_model.specs.Closing.{HasFaultBy}
+use Rattle.replay_laws.specs.Sufficing.{HasFaultBy}
 use Rattle.replay_model.specs.Cut.{StreamView}
 use Rattle.replay_model.specs.Page.{IsPageOf}
 use Rattle.replay_model.specs.declared.page.StepFault.{StepFault}

@@ -4,9 +4,13 @@ use Rattle.cfs_model.specs.Laws.{GreatestTellBadAtAll}
 use Rattle.cfs_model.specs.Least.{AreLeast, greatest_settings}
 use Rattle.cfs_model.specs.Settings.{AreInRange}
 use Rattle.cfs_model.specs.Start.{start_machine}
-use Rattle.replay_model.specs.Closing.{FaultIsFirstBad, PagesTellFault, PagesTellRun, SayNothing, SilentPagesAreDone, SufficesAmong}
+use Rattle.replay_laws.specs.FirstFaults.{FaultIsFirstBad}
+use Rattle.replay_laws.specs.Closing.{PagesTellFault, PagesTellRun, SilentPagesAreDone}
+use Rattle.replay_laws.specs.Telling.{SayNothing}
+use Rattle.replay_laws.specs.Sufficing.{SufficesAmong}
 use Rattle.replay_model.specs.Cut.{StreamView}
-use Rattle.replay_model.specs.Needs.{IsPageNeeding, PagesTellLeast, largest}
+use Rattle.replay_model.specs.Needs.{IsPageNeeding, largest}
+use Rattle.replay_laws.specs.LeastSettings.{PagesTellLeast}
 use Rattle.replay_model.specs.Noted.{PageView}
 use Rattle.queue_replay.specs.Replay.{ReplayView}
 use Rattle.sched_record.specs.Record.{RecordView, IsRecordInOrder}

@@ -8,7 +8,7 @@ use Rattle.std.proofs.lemmas.List.Folds.{find-append}
 use Rattle.cfs_model.specs.Machine.{put}
 use Rattle.cfs_model.specs.Start.{task_of}
 use Rattle.cfs_model.proofs.Moves.{put-same, put-other, same_or_not}
-use Rattle.replay_model.specs.Composition.{named, roll_after}
+use Rattle.replay_model.specs.Roll.{named, roll_after}
 use Rattle.cfs_model.specs.declared.act.Act.{Act}
 use Rattle.cfs_model.specs.declared.act.Act.TheVariants.{Switch}
 use Rattle.cfs_model.specs.declared.act.Way.{Way}

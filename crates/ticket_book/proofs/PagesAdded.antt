@@ -4,7 +4,7 @@ use Rattle.std.proofs.lemmas.Bool.{cases_lt}
 use Rattle.std.proofs.lemmas.List.{append-nil}
 use Rattle.std.proofs.lemmas.List.Elements.{All-map, All-weaker}
 use Rattle.replay_model.specs.Noted.{PageView, new_tally}
-use Rattle.replay_model.specs.Totals.{tallies_below, total_of}
+use Rattle.tally_laws.specs.Totals.{tallies_below, total_of}
 use Rattle.replay_model.specs.declared.page.Tally.{Tally}
 use Rattle.queue_replay.specs.Replay.{ReplayView}
 use Rattle.ticket_book.specs.Tallying.{FitsTally, with_tallies}

@@ -10,8 +10,9 @@ use Rattle.cfs_model.specs.declared.act.Act.{Act}
 use Rattle.cfs_model.specs.declared.act.Act.TheVariants.{Switch, Wake, Born, Shift}
 use Rattle.cfs_model.specs.declared.act.Way.{Way}
 use Rattle.cfs_model.specs.declared.kind.Kind.TheVariants.{IdleTooLong, TicketUnequal}
-use Rattle.replay_model.specs.Closing.{IdlesBefore, FailsHere, IsPageCause, IsActCauseOf, IsCauseOf}
-use Rattle.replay_model.specs.Composition.{BirthIsNew, TicketsAgree, ticket_at}
+use Rattle.replay_laws.specs.Telling.{IdlesBefore, FailsHere, IsPageCause, IsActCauseOf, IsCauseOf}
+use Rattle.replay_model.specs.Roll.{BirthIsNew}
+use Rattle.replay_model.specs.Tickets.{TicketsAgree, ticket_at}
 use Rattle.replay_model.specs.Noted.{PageView}
 use Rattle.replay_model.specs.declared.page.StepFault.{StepFault}
 use Rattle.queue_replay.specs.Replay.{ReplayView}

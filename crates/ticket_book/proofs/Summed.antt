@@ -6,7 +6,7 @@ use Rattle.cfs_model.specs.declared.act.Entry.{Entry}
 use Rattle.cfs_model.specs.declared.task.Task.{Task}
 use Rattle.replay_model.specs.Noted.{new_tally}
 use Rattle.replay_model.specs.Summary.{SummaryView, is_birth, is_death, is_migration, is_switch, tasks_of_run}
-use Rattle.replay_model.specs.Totals.{summary_by}
+use Rattle.tally_laws.specs.Totals.{summary_by}
 use Rattle.replay_model.specs.declared.page.Tally.{Tally}
 use Rattle.sched_record.specs.Kept.{policy_of}
 use Rattle.sched_record.specs.Record.{RecordView}

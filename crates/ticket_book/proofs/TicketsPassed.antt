@@ -6,7 +6,7 @@ use Rattle.std.proofs.lemmas.Bool.{eq-eqb, ne_eqb, cases_lt, ltb-true, ltb-false
 use Rattle.std.proofs.lemmas.List.{get_or-drop, get_or-take, length-drop, length-take}
 use Rattle.std.proofs.lemmas.List.Sums.{prefix_len_passes, prefix_len_stops}
 use Rattle.cfs_model.proofs.Moves.{same_or_not}
-use Rattle.replay_model.specs.Composition.{ticket_at}
+use Rattle.replay_model.specs.Tickets.{ticket_at}
 use Rattle.replay_model.specs.declared.page.Ticket.{Ticket}
 use Rattle.ticket_book.specs.TicketPlaces.{AreBelow, if_of_line}
 

@@ -9,12 +9,15 @@ use Rattle.cfs_model.specs.Settings.{Settings}
 use Rattle.cfs_model.specs.declared.act.Entry.{Entry}
 use Rattle.cfs_model.specs.Start.{start_machine}
 use Rattle.replay_model.specs.Cause.{IsFirstFault}
-use Rattle.replay_model.specs.Closing.{HasFaultBy, PagesTellFault, SayNothing, SufficesAmong}
-use Rattle.replay_model.specs.Composition.{IsRecord}
+use Rattle.replay_laws.specs.Sufficing.{HasFaultBy, SufficesAmong}
+use Rattle.replay_laws.specs.Closing.{PagesTellFault}
+use Rattle.replay_laws.specs.Telling.{SayNothing}
+use Rattle.replay_model.specs.Record.{IsRecord}
 use Rattle.replay_model.specs.Cut.{StreamView}
 use Rattle.replay_model.specs.Noted.{PageView}
 use Rattle.replay_model.specs.Page.{IsPageOf}
-use Rattle.replay_model.specs.Totals.{PagesAddUp, PagesTellSummary, TalliesBounded, summary_by, tallies_below, total_of}
+use Rattle.tally_laws.specs.Tallying.{PagesAddUp, PagesTellSummary, TalliesBounded}
+use Rattle.tally_laws.specs.Totals.{summary_by, tallies_below, total_of}
 use Rattle.replay_model.proofs.RecordFrom.{record_from}
 use Rattle.replay_model.proofs.StartFrom.{start_from}
 use Rattle.queue_replay.specs.Replay.{ReplayView}

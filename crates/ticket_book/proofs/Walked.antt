@@ -10,10 +10,11 @@ use Rattle.cfs_model.specs.declared.claim.Claim.{Claim}
 use Rattle.cfs_model.specs.declared.nice_line.NiceLine.{NiceLine}
 use Rattle.cfs_model.specs.declared.task.Task.{Task}
 use Rattle.replay_model.specs.Cause.{FaultCause}
-use Rattle.replay_model.specs.Closing.{IdlesBefore, FailsHere, SayNothing, IsCauseOf}
-use Rattle.replay_model.specs.Composition.{named, roll_after, BirthIsNew, BirthsAreNew, TicketsAgree}
+use Rattle.replay_laws.specs.Telling.{IdlesBefore, FailsHere, SayNothing, IsCauseOf}
+use Rattle.replay_model.specs.Roll.{named, roll_after, BirthIsNew, BirthsAreNew}
+use Rattle.replay_model.specs.Tickets.{TicketsAgree}
 use Rattle.replay_model.specs.Cut.{touches}
-use Rattle.replay_model.specs.Endings.{roll_of}
+use Rattle.replay_model.specs.Roll.{roll_of}
 use Rattle.replay_model.specs.Noted.{PageView}
 use Rattle.queue_replay.specs.Replay.{ReplayView}
 use Rattle.sched_record.proofs.Rising.{split_at}

@@ -1,6 +1,6 @@
 -- Tallies that are added to what is known of each task (this project's profile).
 use Rattle.std.specs.Prelude.{◌+◌, ◌^◌, ◌<◌, List}
-use Rattle.replay_model.specs.Totals.{total_of}
+use Rattle.tally_laws.specs.Totals.{total_of}
 use Rattle.replay_model.specs.declared.page.Tally.{Tally}
 
 -- a task's sum with what some tallies say of the task

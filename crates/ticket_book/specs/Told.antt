@@ -4,10 +4,11 @@ use Rattle.std.specs.Prelude.{◌≡◌, ℕ, zero, suc, ◌<◌, true, Bool, Op
 use Rattle.cfs_model.specs.Limits.{no_line}
 use Rattle.cfs_model.specs.Claimed.{Claimed}
 use Rattle.replay_model.specs.Cause.{FaultCause}
-use Rattle.replay_model.specs.Closing.{IdlesBefore, FailsHere, SayNothing, IsCauseOf}
-use Rattle.replay_model.specs.Composition.{named, TicketsAgree, BirthIsNew}
+use Rattle.replay_laws.specs.Telling.{IdlesBefore, FailsHere, SayNothing, IsCauseOf}
+use Rattle.replay_model.specs.Roll.{named, BirthIsNew}
+use Rattle.replay_model.specs.Tickets.{TicketsAgree}
 use Rattle.replay_model.specs.Cut.{touches}
-use Rattle.replay_model.specs.Endings.{roll_of}
+use Rattle.replay_model.specs.Roll.{roll_of}
 use Rattle.replay_model.specs.Noted.{PageView}
 use Rattle.queue_replay.specs.Replay.{ReplayView}
 use Rattle.cfs_model.specs.declared.task.Task.{Task}

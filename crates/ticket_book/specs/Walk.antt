@@ -3,8 +3,8 @@ use Rattle.std.specs.Prelude.{◌≡◌, ℕ, ◌<◌, ◌≤◌, ◌==◌, ◌&
 use Rattle.cfs_model.specs.Claimed.{Claimed}
 use Rattle.cfs_model.specs.declared.kind.Kind.TheVariants.{BornTwice, TicketUnequal}
 use Rattle.replay_model.specs.Cause.{FaultCause as SpecCause}
-use Rattle.replay_model.specs.Closing.{FailsHere, IsPageCause}
-use Rattle.replay_model.specs.Composition.{ticket_at}
+use Rattle.replay_laws.specs.Telling.{FailsHere, IsPageCause}
+use Rattle.replay_model.specs.Tickets.{ticket_at}
 use Rattle.replay_model.specs.Noted.{PageView}
 use Rattle.replay_model.specs.declared.page.StepFault.{StepFault}
 use Rattle.replay_model.specs.declared.page.Ticket.{Ticket}

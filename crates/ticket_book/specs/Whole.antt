@@ -1,7 +1,7 @@
 -- Pages on which a verdict can rest (this project's profile).
 use Rattle.std.specs.Prelude.{◌≡◌, ℕ, ◌≤◌, ◌⊎◌, IsSome, Some, List, length, slice_get}
 use Rattle.cfs_model.specs.Settings.{Settings}
-use Rattle.replay_model.specs.Closing.{HasFaultBy}
+use Rattle.replay_laws.specs.Sufficing.{HasFaultBy}
 use Rattle.replay_model.specs.Page.{IsPageOf}
 use Rattle.queue_replay.specs.Replay.{ReplayView}
 use Rattle.sched_record.specs.Record.{RecordView}

@@ -1,5 +1,5 @@
 ghost use Rattle.std.specs.Prelude.{◌≡◌, ℕ, IfOk, OnOk};
-ghost use Rattle.replay_model.specs.Composition.{named, roll_after};
+ghost use Rattle.replay_model.specs.Roll.{named, roll_after};
 ghost use Rattle.ticket_book.specs.Alive.{alive_view};
 
 use cfs_model::{Act, Memory, Task};

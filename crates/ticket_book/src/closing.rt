@@ -12,9 +12,10 @@ use crate::summing::summary_by;
 use crate::walk::Walk;
 use cfs_model::{Knobs, Memory};
 use queue_replay::Page;
-use replay_model::{closing, tallying};
+use replay_laws::closing;
 use sched_record::Record;
 use std::alloc::Global;
+use tally_laws::tallying;
 
 /// The verdict on a record to which pages that suffice come together.
 pub(crate) fn verdict_on(

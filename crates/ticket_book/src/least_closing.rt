@@ -13,7 +13,7 @@ use crate::LeastSettings;
 use crate::closing::told_by;
 use cfs_model::{Knobs, Memory, least_settings};
 use queue_replay::{Needs, Page};
-use replay_model::{closing, first_faults, needs};
+use replay_laws::{closing, first_faults, needs};
 use sched_record::Record;
 use std::alloc::Global;
 

@@ -1,7 +1,7 @@
 //! The summary of a run: its events counted in one walk, and the tallies of all its pages added in another.
 ghost use Rattle.std.specs.Prelude.{◌≡◌, All, IfOk, OnOk, length, map};
 ghost use Rattle.replay_model.specs.Summary.{born_by, tasks_of_run};
-ghost use Rattle.replay_model.specs.Totals.{summary_by, tallies_below, total_of};
+ghost use Rattle.tally_laws.specs.Totals.{summary_by, tallies_below, total_of};
 ghost use Rattle.sched_record.specs.Record.{record_view};
 ghost use Rattle.ticket_book.specs.EventCounts.{counts_of};
 ghost use Rattle.ticket_book.specs.Naming.{births_in, with_named};

@@ -1,6 +1,6 @@
 ghost use Rattle.std.specs.Prelude.{◌≡◌, ◌+◌, ◌<◌, ◌≤◌, nat_lt, AllPairs, IfOk, drop, length, min, replicate, slice_get, slice_index, take};
 ghost use Rattle.std.specs.List.{prefix_len};
-ghost use Rattle.replay_model.specs.Composition.{ticket_at};
+ghost use Rattle.replay_model.specs.Tickets.{ticket_at};
 ghost use Rattle.ticket_book.specs.TicketPlaces.{AreBelow, PassesTo, if_of_line};
 
 use cfs_model::Memory;

@@ -2,8 +2,8 @@ use Rattle.std.proofs.Common.{◌<◌, length, refl, sym, ap, ◌∙◌, subst, 
 use Rattle.std.specs.List.{AllPairs}
 use Rattle.cfs_model.specs.Claimed.{claimed, with_claim}
 use Rattle.cfs_model.specs.declared.act.Entry.{Entry}
-use Rattle.replay_model.specs.Closing.{SayNothing}
-use Rattle.replay_model.specs.Composition.{named}
+use Rattle.replay_laws.specs.Telling.{SayNothing}
+use Rattle.replay_model.specs.Roll.{named}
 use Rattle.sched_record.specs.Kept.{policy_of}
 use Rattle.sched_record.specs.Record.{record_view}
 use Rattle.ticket_book.specs.Told.{TellFault, cause_view, view_at}

@@ -2,7 +2,7 @@ use Rattle.std.proofs.Common.{length, sym, ◌∙◌, subst}
 use Rattle.cfs_model.specs.Least.{AreLeast, greatest_settings}
 use Rattle.cfs_model.specs.Settings.{AreInRange}
 use Rattle.cfs_model.specs.Start.{start_machine}
-use Rattle.replay_model.specs.Closing.{SayNothing}
+use Rattle.replay_laws.specs.Telling.{SayNothing}
 use Rattle.sched_record.specs.Record.{record_view}
 use Rattle.ticket_book.specs.SaidEvents.{events_of}
 use Rattle.ticket_book.specs.Told.{Tell, view_at}

@@ -1,5 +1,5 @@
 use Rattle.std.proofs.Common.{◌≡◌, map}
-use Rattle.replay_model.specs.Totals.{tallies_below}
+use Rattle.tally_laws.specs.Totals.{tallies_below}
 use Rattle.ticket_book.specs.Tallying.{with_tallies}
 use Rattle.ticket_book.specs.Told.{view_at}
 use Rattle.ticket_book.proofs.summing.add_pages.Given as goal

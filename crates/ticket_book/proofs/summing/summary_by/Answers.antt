@@ -1,7 +1,7 @@
 use Rattle.std.proofs.Common.{◌≡◌, All, length, map, sym, ◌∙◌, refl, subst}
 use Rattle.replay_model.specs.Noted.{new_tally}
 use Rattle.replay_model.specs.Summary.{tasks_of_run}
-use Rattle.replay_model.specs.Totals.{tallies_below}
+use Rattle.tally_laws.specs.Totals.{tallies_below}
 use Rattle.sched_record.specs.Record.{record_view}
 use Rattle.ticket_book.specs.SaidEvents.{events_of}
 use Rattle.ticket_book.specs.Tallying.{FitsTally, with_tallies}

@@ -1,6 +1,6 @@
 use Rattle.std.proofs.Common.{take, ◌++◌, ◌+◌, ◌∷◌, [], ◌≡◌, ap, sym, ◌∙◌}
 use Rattle.std.proofs.lemmas.List.{take_more}
-use Rattle.replay_model.specs.Composition.{named}
+use Rattle.replay_model.specs.Roll.{named}
 use Rattle.ticket_book.specs.Alive.{alive_view}
 use Rattle.ticket_book.proofs.Living.{one_named}
 use Rattle.ticket_book.proofs.alive.Alive.new.Goals as goal

@@ -1,5 +1,5 @@
 use Rattle.std.proofs.Common.{◌≡◌, ℕ, take}
-use Rattle.replay_model.specs.Composition.{named}
+use Rattle.replay_model.specs.Roll.{named}
 use Rattle.ticket_book.specs.Alive.{alive_view}
 use Rattle.ticket_book.proofs.alive.Alive.new.Given as goal
 

@@ -1,5 +1,5 @@
 use Rattle.std.proofs.Common.{◌≡◌, true, false, sym, ap, ◌∙◌}
-use Rattle.replay_model.specs.Composition.{roll_after}
+use Rattle.replay_model.specs.Roll.{roll_after}
 use Rattle.cfs_model.specs.declared.act.Way.TheVariants.{Ends}
 use Rattle.ticket_book.specs.Alive.{alive_view}
 use Rattle.ticket_book.proofs.Living.{one_put, roll_ends}

@@ -1,7 +1,7 @@
 use Rattle.std.proofs.Common.{sym, ap, subst}
 use Rattle.ticket_book.specs.Alive.{alive_view}
 use Rattle.std.specs.Option.{MatchOption}
-use Rattle.replay_model.specs.Closing.{IsActCauseOf}
+use Rattle.replay_laws.specs.Telling.{IsActCauseOf}
 use Rattle.ticket_book.specs.Told.{AllowAct, cause_view, view_at}
 use Rattle.ticket_book.proofs.Saying.{act_said}
 use Rattle.ticket_book.proofs.walk.Walk.cause.Goals as goal

@@ -2,7 +2,7 @@ use Rattle.std.proofs.Common.{◌≡◌, ◌≢◌, ◌≤◌, take, sym, ap, su
 use Rattle.std.specs.Prelude.{slice_index}
 use Rattle.std.specs.List.{AllPairs}
 use Rattle.std.specs.Bool.{OnFalse, OnTrue}
-use Rattle.replay_model.specs.Composition.{ticket_at}
+use Rattle.replay_model.specs.Tickets.{ticket_at}
 use Rattle.replay_model.specs.declared.page.Ticket.{Ticket}
 use Rattle.ticket_book.specs.TicketPlaces.{AreBelow, PassesTo}
 use Rattle.ticket_book.specs.Told.{view_at}

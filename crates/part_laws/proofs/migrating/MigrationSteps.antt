@@ -1,0 +1,249 @@
+-- A step of the machine by a migration, and the steps of the parts at its two ends.
+use Rattle.std.proofs.Common.{◌≡◌, ◌≢◌, ℕ, Bool, cond, Option, None, ℤ, [], ◌∷◌, refl, sym, ap, ◌∙◌, subst}
+use Rattle.std.proofs.lemmas.Bool.{eq-eqb, ne_eqb}
+use Rattle.cfs_model.specs.Settings.{Settings}
+use Rattle.cfs_model.specs.Machine.{Machine}
+use Rattle.cfs_model.specs.Claimed.{Claimed}
+use Rattle.cfs_model.specs.Touch.{touched}
+use Rattle.cfs_model.specs.Lifted.{IsLiftedAt, IsLifted}
+use Rattle.cfs_model.specs.Reniced.{home_of, IsReniced}
+use Rattle.cfs_model.specs.Step.{Changes, IsMigration, IsStep}
+use Rattle.cfs_model.specs.Order.{IsInOrder}
+use Rattle.replay_model.specs.Record.{ClaimInRange}
+use Rattle.replay_model.specs.Part.{Part, part_of, IsLiftedPart}
+use Rattle.replay_model.specs.Deeds.{reniced, after_deed, left_ticket, came_ticket}
+use Rattle.replay_model.specs.QueueTests.{IsOutOfRange, IsStrangeNice}
+use Rattle.replay_model.specs.Cut.{deed_at, claim_for, nice_for, step_at}
+use Rattle.part_laws.specs.TouchedParts.{MovesBetween, RestStays}
+use Rattle.part_laws.specs.Migrations.{PartsMigrate, MachineMigrates}
+use Rattle.cfs_model.proofs.KeptOrder.{IsApart, lifted_apart}
+use Rattle.cfs_model.proofs.StepOrder.{apart_of, step_in_order}
+use Rattle.cfs_model.proofs.Range.{lifted_range, change_range}
+use Rattle.cfs_model.proofs.Renice.{reniced_apart, reniced_range}
+use Rattle.replay_model.proofs.Clear.{IsClear, clear_of, stands_of, none_of}
+use Rattle.part_laws.proofs.stepping.PartLift.{lifted_here, lift_exists}
+use Rattle.part_laws.proofs.stepping.PartRenice.{reniced_here, renice_exists}
+use Rattle.part_laws.proofs.migrating.PartMigration.{migration_parts, leave_clear, arrive_clear, tickets_equal}
+use Rattle.part_laws.proofs.migrating.PartMigration.{migration_exists}
+use Rattle.cfs_model.specs.declared.act.Act.{Act}
+use Rattle.cfs_model.specs.declared.act.Act.TheVariants.{Shift}
+use Rattle.cfs_model.specs.declared.nice_line.NiceLine.{NiceLine}
+use Rattle.replay_model.specs.declared.step.Deed.TheVariants.{Leave, Arrive}
+
+-- what a migration is at its two ends
+pub leave_deed : (act : Act) (idle : Bool) (orig dest pid : ℕ) (nice : ℤ) → act ≡ Shift orig dest pid nice
+    → deed_at orig idle act ≡ Leave pid nice dest
+leave_deed act idle orig dest pid nice e = ap (deed_at orig idle) e
+    ∙ ap (λ b. cond b (Leave pid nice dest) (Arrive pid nice orig idle)) (eq-eqb orig orig refl)
+
+pub arrive_deed : (act : Act) (idle : Bool) (orig dest pid : ℕ) (nice : ℤ) → act ≡ Shift orig dest pid nice
+    → orig ≢ dest
+    → deed_at dest idle act ≡ Arrive pid nice orig idle
+arrive_deed act idle orig dest pid nice e ne = ap (deed_at dest idle) e
+    ∙ ap (λ b. cond b (Leave pid nice dest) (Arrive pid nice orig idle)) (ne_eqb orig dest ne)
+
+-- a lift at both ends, end by end
+pub record LiftsBoth (time orig dest : ℕ) (before lifted : Machine) : Type 0 where
+  pub orig_range : (pid : ℕ) → ¬ IsOutOfRange (part_of before orig) time pid
+  pub orig_lift : IsLiftedPart time (part_of before orig) (part_of lifted orig)
+  pub dest_range : (pid : ℕ) → ¬ IsOutOfRange (part_of before dest) time pid
+  pub dest_lift : IsLiftedPart time (part_of before dest) (part_of lifted dest)
+  pub others : RestStays before lifted orig dest
+
+both_lifted : (time orig dest : ℕ) (before lifted : Machine) → IsApart before → orig ≢ dest
+    → IsLifted time (orig ∷ dest ∷ []) before lifted → LiftsBoth time orig dest before lifted
+both_lifted time orig dest before lifted a ne l =
+    let between = l.0 in
+    let second : IsLiftedAt time dest between lifted = subst (λ x. IsLiftedAt time dest between x) (sym l.2.2) l.2.1 in
+    let first = lifted_here before a time orig between l.1 in
+    let apart = lifted_apart time (orig ∷ []) before between (between, l.1, refl) a in
+    let then = lifted_here between apart time dest lifted second in
+    let at_orig : part_of lifted orig ≡ part_of between orig = then.2 orig ne in
+    let at_dest : part_of between dest ≡ part_of before dest = first.2 dest (λ e. ne (sym e)) in
+    record {
+      orig_range = first.0;
+      orig_lift = subst (λ p. IsLiftedPart time (part_of before orig) p) (sym at_orig) first.1;
+      dest_range = subst (λ p. (pid : ℕ) → ¬ IsOutOfRange p time pid) at_dest then.0;
+      dest_lift = subst (λ p. IsLiftedPart time p (part_of lifted dest)) at_dest then.1;
+      others = λ d no_orig no_dest. then.2 d no_dest ∙ first.2 d no_orig;
+    }
+
+-- the change of a nice value at the two ends
+leave_nice : (act : Act) (idle : Bool) (orig dest pid : ℕ) (nice : ℤ) (change : Option NiceLine)
+    → act ≡ Shift orig dest pid nice → nice_for (deed_at orig idle act) change ≡ change
+leave_nice act idle orig dest pid nice change e = ap (λ d. nice_for d change) (leave_deed act idle orig dest pid nice e)
+
+arrive_nice : (act : Act) (idle : Bool) (orig dest pid : ℕ) (nice : ℤ) (change : Option NiceLine)
+    → act ≡ Shift orig dest pid nice → orig ≢ dest → nice_for (deed_at dest idle act) change ≡ None
+arrive_nice act idle orig dest pid nice change e ne =
+    ap (λ d. nice_for d change) (arrive_deed act idle orig dest pid nice e ne)
+
+pub parts_migrate : PartsMigrate
+parts_migrate knobs before after event orig dest pid nice o e s =
+    let act = event.entry.act in
+    let time = event.entry.time in
+    let lifted_order = lifted_apart time (touched act) before s.lifted s.is_lifted (apart_of before o) in
+    let r : IsReniced orig event.nice s.lifted s.found = subst (λ x. IsReniced x event.nice s.lifted s.found)
+    (ap home_of e) s.is_reniced in
+    let n = reniced_here s.lifted lifted_order orig event.nice s.found r in
+    let a = reniced_apart orig event.nice s.lifted s.found r lifted_order in
+    let m : IsMigration s.found orig dest pid nice event.claim event.idle after = subst
+    (λ x. Changes knobs s.found x event.claim event.idle after) e s.changes in
+    let l = both_lifted time orig dest before s.lifted (apart_of before o) m.differ
+    (subst (λ x. IsLifted time (touched x) before s.lifted) e s.is_lifted) in
+    let p = migration_parts s.found a orig dest pid nice event.claim event.idle after m in
+    let leave = leave_deed act event.idle orig dest pid nice e in
+    let arrive = arrive_deed act event.idle orig dest pid nice e m.differ in
+    let left_nice = leave_nice act event.idle orig dest pid nice event.nice e in
+    let came_nice = arrive_nice act event.idle orig dest pid nice event.nice e m.differ in (
+      m.differ,
+      record {
+        leave = record {
+          found = part_of s.found orig;
+          passes = record {
+            in_range = l.orig_range;
+            is_found = record {
+              lifted = part_of s.lifted orig;
+              is_lifted = l.orig_lift;
+              is_reniced = n.0 ∙ ap (λ x. reniced x (part_of s.lifted orig)) (sym left_nice);
+            };
+            none = none_of knobs orig (part_of s.found orig) (step_at orig event)
+                (subst (λ x. (q : ℕ) → ¬ IsStrangeNice (part_of s.found orig) x q) (sym left_nice) n.2)
+                (subst (λ d. IsClear knobs orig (part_of s.found orig) d (claim_for d event.claim)) (sym leave)
+                (leave_clear knobs s.found a orig dest pid nice event.claim event.idle after m));
+          };
+          result = p.0 ∙ ap (λ d. after_deed (part_of s.found orig) d (claim_for d event.claim)) (sym leave);
+        };
+        arrive = record {
+          found = part_of s.found dest;
+          passes = record {
+            in_range = l.dest_range;
+            is_found = record {
+              lifted = part_of s.lifted dest;
+              is_lifted = l.dest_lift;
+              is_reniced = n.1 dest (λ same. m.differ (sym same))
+                  ∙ ap (λ x. reniced x (part_of s.lifted dest)) (sym came_nice);
+            };
+            none = none_of knobs dest (part_of s.found dest) (step_at dest event)
+                (subst (λ x. (q : ℕ) → ¬ IsStrangeNice (part_of s.found dest) x q) (sym came_nice) (λ q h. h))
+                (subst (λ d. IsClear knobs dest (part_of s.found dest) d (claim_for d event.claim)) (sym arrive)
+                (arrive_clear knobs s.found a orig dest pid nice event.claim event.idle after m));
+          };
+          result = p.1 ∙ ap (λ d. after_deed (part_of s.found dest) d (claim_for d event.claim)) (sym arrive);
+        };
+        tickets = tickets_equal s.found a orig dest pid event.entry.line nice event.claim event.idle after m;
+      },
+      (λ d ne other. p.2 d ne other ∙ n.1 d ne ∙ l.others d ne other),
+    )
+
+-- a migration to its own processor is no step of the part
+not_home : (knobs : Settings) (before : Machine) (event : Claimed) (orig dest pid : ℕ) (nice : ℤ) (left came : Part)
+    → event.entry.act ≡ Shift orig dest pid nice
+    → MovesBetween knobs before event orig dest pid nice left came → orig ≢ dest
+not_home knobs before event orig dest pid nice left came e s same =
+    (subst (λ d. IsClear knobs orig s.leave.found d (claim_for d event.claim))
+    (leave_deed event.entry.act event.idle orig dest pid nice e)
+    (clear_of knobs orig s.leave.found (step_at orig event) s.leave.passes.none)).home pid (sym same, refl)
+
+-- what is told of a migration by its ends
+module _ (knobs : Settings) (before : Machine) (event : Claimed) (orig dest pid : ℕ) (nice : ℤ) (left came : Part)
+    (o : IsInOrder before) (range : ClaimInRange event) (e : event.entry.act ≡ Shift orig dest pid nice)
+    (ne : orig ≢ dest) (s : MovesBetween knobs before event orig dest pid nice left came) where
+  -- the machine's step, and the parts after it
+  abbrev Migrates : Type 0
+  Migrates =
+      (after : Machine) × IsStep knobs before event after × IsInOrder after × (part_of after orig ≡ left)
+      × (part_of after dest ≡ came) × RestStays before after orig dest
+
+  -- from the machine's own change to the machine after
+  after_change : (lifted found : Machine) → IsLifted event.entry.time (orig ∷ dest ∷ []) before lifted
+      → IsReniced orig event.nice lifted found → IsApart found → part_of found orig ≡ s.leave.found
+      → part_of found dest ≡ s.arrive.found → RestStays before found orig dest → (after : Machine)
+      → IsMigration found orig dest pid nice event.claim event.idle after → Migrates
+  after_change lifted found both r a here there rest after m =
+      let act = event.entry.act in
+      let time = event.entry.time in
+      let leave = leave_deed act event.idle orig dest pid nice e in
+      let arrive = arrive_deed act event.idle orig dest pid nice e ne in
+      let p = migration_parts found a orig dest pid nice event.claim event.idle after m in
+      let is_lifted : IsLifted time (touched act) before lifted = subst
+      (λ x. IsLifted time (touched x) before lifted) (sym e) both in
+      let is_reniced : IsReniced (home_of act) event.nice lifted found = subst
+      (λ x. IsReniced (home_of x) event.nice lifted found) (sym e) r in
+      let changes : Changes knobs found act event.claim event.idle after = subst
+      (λ x. Changes knobs found x event.claim event.idle after) (sym e) m in
+      let step : IsStep knobs before event after = record {
+        lifted = lifted;
+        is_lifted = is_lifted;
+        found = found;
+        is_reniced = is_reniced;
+        changes = changes;
+        in_range = change_range knobs found act event.claim event.idle after changes range
+            (reniced_range orig event.nice lifted found r
+            (lifted_range time (touched act) before lifted is_lifted o.in_range));
+      } in (
+        after,
+        step,
+        step_in_order knobs before event after o step,
+        p.0 ∙ ap (λ x. after_deed x (Leave pid nice dest) None) here
+            ∙ ap (λ d. after_deed s.leave.found d (claim_for d event.claim)) (sym leave) ∙ sym s.leave.result,
+        p.1 ∙ ap (λ x. after_deed x (Arrive pid nice orig event.idle) event.claim) there
+            ∙ ap (λ d. after_deed s.arrive.found d (claim_for d event.claim)) (sym arrive) ∙ sym s.arrive.result,
+        (λ d no_orig no_dest. p.2 d no_orig no_dest ∙ rest d no_orig no_dest),
+      )
+
+  -- from the machine as the event finds it to the machine after
+  after_found : (lifted found : Machine) → IsLifted event.entry.time (orig ∷ dest ∷ []) before lifted
+      → IsReniced orig event.nice lifted found → IsApart found → part_of found orig ≡ s.leave.found
+      → part_of found dest ≡ s.arrive.found → RestStays before found orig dest → Migrates
+  after_found lifted found both r a here there rest =
+      let act = event.entry.act in
+      let leave = leave_deed act event.idle orig dest pid nice e in
+      let arrive = arrive_deed act event.idle orig dest pid nice e ne in
+      let c = migration_exists knobs found a orig dest pid event.entry.line nice event.claim event.idle
+      (subst (λ p. IsClear knobs orig p (Leave pid nice dest) None) (sym here)
+      (subst (λ d. IsClear knobs orig s.leave.found d (claim_for d event.claim)) leave
+      (clear_of knobs orig s.leave.found (step_at orig event) s.leave.passes.none)))
+      (subst (λ p. IsClear knobs dest p (Arrive pid nice orig event.idle) event.claim) (sym there)
+      (subst (λ d. IsClear knobs dest s.arrive.found d (claim_for d event.claim)) arrive
+      (clear_of knobs dest s.arrive.found (step_at dest event) s.arrive.passes.none)))
+      (ap (λ p. left_ticket p event.entry.line pid) here ∙ s.tickets
+      ∙ ap (λ p. came_ticket p event.entry.line pid nice event.idle event.claim) (sym there)) in
+      after_change lifted found both r a here there rest c.0 c.1
+
+  -- from a machine lifted at both ends to the machine after
+  after_lift : (lifted : Machine) → IsLifted event.entry.time (orig ∷ dest ∷ []) before lifted
+      → part_of lifted orig ≡ s.leave.passes.is_found.lifted
+      → part_of lifted dest ≡ s.arrive.passes.is_found.lifted → RestStays before lifted orig dest → Migrates
+  after_lift lifted both here there rest =
+      let act = event.entry.act in
+      let left_nice = leave_nice act event.idle orig dest pid nice event.nice e in
+      let came_nice = arrive_nice act event.idle orig dest pid nice event.nice e ne in
+      let a = lifted_apart event.entry.time (orig ∷ dest ∷ []) before lifted both (apart_of before o) in
+      let leaves = s.leave.passes.is_found in
+      let arrives = s.arrive.passes.is_found in
+      let n = renice_exists lifted a orig event.nice s.leave.found
+      (leaves.is_reniced ∙ ap (λ x. reniced x leaves.lifted) left_nice ∙ ap (reniced event.nice) (sym here))
+      (subst (λ x. (q : ℕ) → ¬ IsStrangeNice s.leave.found x q) left_nice
+      (stands_of knobs orig s.leave.found (step_at orig event) s.leave.passes.none)) in
+      after_found lifted n.0 both n.1 (reniced_apart orig event.nice lifted n.0 n.1 a) n.2
+      (n.3 dest (λ same. ne (sym same)) ∙ there
+      ∙ sym (arrives.is_reniced ∙ ap (λ x. reniced x arrives.lifted) came_nice))
+      (λ d no_orig no_dest. n.3 d no_orig ∙ rest d no_orig no_dest)
+
+pub machine_migrates : MachineMigrates
+machine_migrates knobs before event orig dest pid nice left came o r e s =
+    let time = event.entry.time in
+    let ne = not_home knobs before event orig dest pid nice left came e s in
+    let leaves = s.leave.passes.is_found in
+    let arrives = s.arrive.passes.is_found in
+    let first = lift_exists before
+    (apart_of before o) time orig leaves.lifted s.leave.passes.in_range leaves.is_lifted in
+    let apart = lifted_apart time (orig ∷ []) before first.0 (first.0, first.1, refl) (apart_of before o) in
+    let at_dest : part_of first.0 dest ≡ part_of before dest = first.3 dest (λ e. ne (sym e)) in
+    let then = lift_exists first.0 apart time dest arrives.lifted
+    (subst (λ p. (pid : ℕ) → ¬ IsOutOfRange p time pid) (sym at_dest) s.arrive.passes.in_range)
+    (subst (λ p. IsLiftedPart time p arrives.lifted) (sym at_dest) arrives.is_lifted) in
+    after_lift knobs before event orig dest pid nice left came o r e ne s then.0
+    (first.0, first.1, (then.0, then.1, refl)) (then.3 orig ne ∙ first.2) then.2
+    (λ d no_orig no_dest. then.3 d no_dest ∙ first.3 d no_orig)

@@ -1,0 +1,125 @@
+-- A step of the machine by an event that touches one processor, from the step of the part there.
+use Rattle.std.proofs.Common.{◌≡◌, ℕ, Bool, Option, ℤ, [], ◌∷◌, refl, sym, ap, ◌∙◌, subst}
+use Rattle.cfs_model.specs.Settings.{Settings}
+use Rattle.cfs_model.specs.Machine.{Machine, Stands, with_floor}
+use Rattle.cfs_model.specs.Touch.{touched}
+use Rattle.cfs_model.specs.Lifted.{charged, IsLifted}
+use Rattle.cfs_model.specs.Reniced.{home_of, IsReniced}
+use Rattle.cfs_model.specs.Step.{after_prev, after_next, Changes, IsStep}
+use Rattle.replay_model.specs.Part.{part_of}
+use Rattle.replay_model.specs.Deeds.{reniced, after_deed}
+use Rattle.replay_model.specs.QueueTests.{IsStrangeNice}
+use Rattle.replay_model.specs.Tests.{NoneHolds, late_tests}
+use Rattle.replay_model.specs.Cut.{deed_at, claim_for, step_at}
+use Rattle.part_laws.specs.TouchedParts.{BornNowhere, OthersStay}
+use Rattle.part_laws.specs.PartSteps.{MachineSteps}
+use Rattle.cfs_model.proofs.KeptOrder.{IsApart, lifted_apart}
+use Rattle.cfs_model.proofs.StepOrder.{apart_of, step_in_order}
+use Rattle.cfs_model.proofs.Range.{lifted_range, change_range}
+use Rattle.cfs_model.proofs.Renice.{reniced_apart, reniced_range}
+use Rattle.replay_model.proofs.Clear.{IsClear, clear_of, stands_of}
+use Rattle.part_laws.proofs.stepping.PartLift.{lift_exists}
+use Rattle.part_laws.proofs.stepping.PartRenice.{renice_exists, reniced_stood, home_is, nice_is}
+use Rattle.part_laws.proofs.stepping.PartSwitch.{switch_part, switch_exists}
+use Rattle.part_laws.proofs.stepping.PartPlaced.{wake_part, wake_exists, birth_part, birth_exists}
+use Rattle.cfs_model.specs.declared.act.Act.{Act}
+use Rattle.cfs_model.specs.declared.act.Act.TheVariants.{Switch, Wake, Born, Shift}
+use Rattle.cfs_model.specs.declared.claim.Claim.{Claim}
+use Rattle.cfs_model.specs.declared.task.Place.{Place}
+use Rattle.cfs_model.specs.declared.task.Place.TheVariants.{Run, Wait, Rest}
+
+-- an event's own change, and the parts after it
+pub record ChangesPart (knobs : Settings) (m : Machine) (cpu : ℕ) (act : Act) (claim : Option Claim) (idle : Bool)
+    : Type 0 where
+  pub after : Machine
+  pub changes : Changes knobs m act claim idle after
+  pub here : part_of after cpu ≡ after_deed (part_of m cpu) (deed_at cpu idle act)
+      (claim_for (deed_at cpu idle act) claim)
+  pub others : OthersStay m after cpu
+
+pub heads : (a b : ℕ) → a ∷ [] ≡ b ∷ [] → a ≡ b
+heads a b e = cc
+
+change_exists : (knobs : Settings) (m : Machine) → IsApart m
+    → (cpu : ℕ) (act : Act) (claim : Option Claim) (idle : Bool)
+    → touched act ≡ cpu ∷ [] → BornNowhere m act
+    → IsClear knobs cpu (part_of m cpu) (deed_at cpu idle act) (claim_for (deed_at cpu idle act) claim)
+    → ChangesPart knobs m cpu act claim idle
+change_exists knobs m a cpu (Switch here prev pn way next nn) claim idle t b =
+    subst (λ x. IsClear knobs x (part_of m x) (deed_at x idle (Switch here prev pn way next nn)) claim
+    → ChangesPart knobs m x (Switch here prev pn way next nn) claim idle)
+    (heads here cpu t)
+    (λ c. let s = switch_exists knobs m a here prev pn way next nn claim c in
+    let after = after_next (after_prev m here prev way) here next in
+    let p = switch_part knobs m a here prev pn way next nn claim after s in
+    record { after = after; changes = s; here = p.0; others = p.1 })
+change_exists knobs m a cpu (Wake here pid nice) claim idle t b =
+    subst (λ x. IsClear knobs x (part_of m x) (deed_at x idle (Wake here pid nice)) claim
+    → ChangesPart knobs m x (Wake here pid nice) claim idle)
+    (heads here cpu t)
+    (λ c. let s = wake_exists knobs m a here pid nice claim c in
+    let p = wake_part knobs m a here pid nice claim s.0 s.1 in
+    record { after = s.0; changes = s.1; here = p.0; others = p.1 })
+change_exists knobs m a cpu (Born here pid nice) claim idle t b =
+    subst (λ x. IsClear knobs x (part_of m x) (deed_at x idle (Born here pid nice)) claim
+    → ChangesPart knobs m x (Born here pid nice) claim idle)
+    (heads here cpu t)
+    (λ c. let s = birth_exists knobs m here pid nice claim idle c b in
+    let p = birth_part knobs m here pid nice claim idle s.0 s.1 in
+    record { after = s.0; changes = s.1; here = p.0; others = p.1 })
+change_exists knobs m a cpu (Shift orig dest pid nice) claim idle t b = absurd cc
+
+-- a lift leaves everybody where they stood
+lifted_sets : (m : Machine) (cpu time : ℕ) (f : ℤ) (place : Place) (d pid : ℕ)
+    → Stands (with_floor (charged m cpu time) cpu f) place d pid → Stands m place d pid
+lifted_sets m cpu time f Run d pid h = h
+lifted_sets m cpu time f Wait d pid h = h
+lifted_sets m cpu time f Rest d pid h = h
+
+found_nowhere : (m found : Machine) → ((place : Place) (d pid : ℕ) → Stands found place d pid → Stands m place d pid)
+    → (act : Act) → BornNowhere m act → BornNowhere found act
+found_nowhere m found stood (Switch here prev pn way next nn) b = tt
+found_nowhere m found stood (Wake here pid nice) b = tt
+found_nowhere m found stood (Born here pid nice) b = λ place other h. b place other (stood place other pid h)
+found_nowhere m found stood (Shift orig dest pid nice) b = tt
+
+pub machine_steps : MachineSteps
+machine_steps knobs before event cpu part o r t b s =
+    let act = event.entry.act in
+    let time = event.entry.time in
+    let f = s.passes.is_found in
+    let l = lift_exists before (apart_of before o) time cpu f.lifted s.passes.in_range f.is_lifted in
+    let lifted : IsLifted time (touched act) before l.0 = subst (λ cpus. IsLifted time cpus before l.0) (sym t)
+    (l.0, l.1, refl) in
+    let a = lifted_apart time (touched act) before l.0 lifted (apart_of before o) in
+    let nice = nice_is act event.idle cpu event.nice t in
+    let n = renice_exists l.0 a cpu event.nice s.found
+    (f.is_reniced ∙ ap (λ x. reniced x f.lifted) nice ∙ ap (reniced event.nice) (sym l.2))
+    (subst (λ x. (pid : ℕ) → ¬ IsStrangeNice s.found x pid) nice
+    (stands_of knobs cpu s.found (step_at cpu event) s.passes.none)) in
+    let renices : IsReniced (home_of act) event.nice l.0 n.0 = subst (λ x. IsReniced x event.nice l.0 n.0)
+    (sym (home_is act cpu t)) n.1 in
+    let clear = clear_of knobs cpu (part_of n.0 cpu) (step_at cpu event)
+    (subst (λ p. NoneHolds (late_tests knobs cpu p (step_at cpu event))) (sym n.2) s.passes.none) in
+    let nowhere = found_nowhere before n.0 (λ place d pid h. lifted_sets before cpu time l.1.floor place d pid
+    (subst (λ x. Stands x place d pid) l.1.result (reniced_stood cpu event.nice l.0 n.0 n.1 place d pid h))) act b in
+    let c = change_exists knobs n.0 (reniced_apart cpu event.nice l.0 n.0 n.1 a) cpu act event.claim event.idle t
+    nowhere
+    clear in
+    let step : IsStep knobs before event c.after = record {
+      lifted = l.0;
+      is_lifted = lifted;
+      found = n.0;
+      is_reniced = renices;
+      changes = c.changes;
+      in_range = change_range knobs n.0 act event.claim event.idle c.after c.changes r
+          (reniced_range cpu event.nice l.0 n.0 n.1 (lifted_range time (touched act) before l.0 lifted o.in_range));
+    } in (
+      c.after,
+      step,
+      step_in_order knobs before event c.after o step,
+      c.here ∙ ap (λ p. after_deed p (deed_at cpu event.idle act) (claim_for (deed_at cpu event.idle act) event.claim))
+          n.2
+          ∙ sym s.result,
+      (λ d ne. c.others d ne ∙ n.3 d ne ∙ l.3 d ne),
+    )

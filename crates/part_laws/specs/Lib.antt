@@ -1,0 +1,4 @@
+pub mod TouchedParts
+pub mod PartSteps
+pub mod Migrations
+pub mod Pages

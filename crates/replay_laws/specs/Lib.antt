@@ -1,0 +1,10 @@
+pub mod Share
+pub mod Sufficing
+pub mod Telling
+pub mod Replays
+pub mod FaultsEndRuns
+pub mod Endings
+pub mod Composition
+pub mod Closing
+pub mod FirstFaults
+pub mod LeastSettings

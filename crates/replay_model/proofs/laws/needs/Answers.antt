@@ -1,9 +1,0 @@
-use Rattle.replay_model.proofs.PageNeeds.{pages_tell_least}
-use Rattle.replay_model.proofs.StepNeeds.{passes_from_needs}
-use Rattle.replay_model.proofs.laws.needs.Goals as goal
-
-pub returns-clause-step : goal.returns-clause-step
-returns-clause-step c = passes_from_needs
-
-pub returns-clause-pages : goal.returns-clause-pages
-returns-clause-pages c = pages_tell_least

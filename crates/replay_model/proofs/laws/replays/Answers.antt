@@ -1,8 +1,0 @@
-use Rattle.replay_model.proofs.FollowLaws.{replay_follows, slack_follows}
-use Rattle.replay_model.proofs.laws.replays.Goals as goal
-
-pub returns-clause-part : goal.returns-clause-part
-returns-clause-part c = replay_follows
-
-pub returns-clause-slack : goal.returns-clause-slack
-returns-clause-slack c = slack_follows

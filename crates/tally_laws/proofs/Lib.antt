@@ -1,0 +1,12 @@
+pub mod Among
+pub mod TalliesSaid
+pub mod TalliesCharged
+pub mod TalliesOfDeeds
+pub mod TalliesAtStart
+pub mod TalliesKept
+pub mod TalliesInMachine
+pub mod TalliesInRun
+pub mod TalliesShared
+pub mod TalliesAddedUp
+pub mod TalliesOfTasks
+pub mod TallyBounds

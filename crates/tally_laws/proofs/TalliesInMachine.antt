@@ -1,0 +1,63 @@
+-- What a task is charged for at a processor, read off the processor's part or off the machine.
+use Rattle.std.proofs.Common.{◌≡◌, ℕ, ◌-◌, Bool, true, false, cond, Option, Some, None, refl, sym, ap, ◌∙◌, true≢false}
+use Rattle.std.specs.Option.{option_map_or}
+use Rattle.cfs_model.specs.Machine.{Machine, pairs_of, Stands}
+use Rattle.cfs_model.specs.Lifted.{cost_at}
+use Rattle.replay_model.specs.Part.{Entity, entity_at, part_of, cost_in}
+use Rattle.replay_model.specs.Summary.{ran_at, charged_at}
+use Rattle.cfs_model.proofs.KeptOrder.{IsApart}
+use Rattle.replay_model.proofs.PartFacts.{stands_as, values_of}
+use Rattle.tally_laws.proofs.TalliesCharged.{of_runner, time_of, charge_to}
+use Rattle.cfs_model.specs.declared.task.Place.{Place}
+use Rattle.cfs_model.specs.declared.task.Place.TheVariants.{Run, Wait, Rest}
+
+-- who doesn't run is charged nothing
+of_other : (place : Place) (amount : ℕ) → (place ≡ Run → ⊥) → of_runner place amount ≡ 0
+of_other Run amount ne = absurd (ne refl)
+of_other Wait amount ne = refl
+of_other Rest amount ne = refl
+
+module _ (m : Machine) (apart : IsApart m) (cpu time pid : ℕ) where
+  not_running : m.running cpu pid ≡ false → (s : Entity) → entity_at m cpu pid ≡ Some s → s.place ≡ Run → ⊥
+  not_running e s h run =
+      let stands : Stands m Run cpu pid =
+      ap (λ place. pairs_of m place cpu pid) (sym run) ∙ (stands_as m cpu pid s h).stands in
+      true≢false (sym stands ∙ e)
+
+  pub time_is : time_of (part_of m cpu) time (entity_at m cpu pid) ≡ ran_at m time pid cpu
+  time_is = go (m.running cpu pid) refl
+    where
+      rest : (o : Option Entity) → entity_at m cpu pid ≡ o → m.running cpu pid ≡ false
+          → time_of (part_of m cpu) time o ≡ 0
+      rest None h e = refl
+      rest (Some s) h e = of_other s.place (time - m.mark cpu) (not_running e s h)
+
+      go : (b : Bool) → m.running cpu pid ≡ b
+          → time_of (part_of m cpu) time (entity_at m cpu pid) ≡ cond (m.running cpu pid) (time - m.mark cpu) 0
+      go true e =
+          let s = values_of m apart Run cpu pid e in
+          ap (time_of (part_of m cpu) time) s.2 ∙ ap (λ place. of_runner place (time - m.mark cpu)) s.1
+          ∙ ap (λ b. cond b (time - m.mark cpu) 0) (sym e)
+      go false e = rest (entity_at m cpu pid) refl e ∙ ap (λ b. cond b (time - m.mark cpu) 0) (sym e)
+
+  pub charge_is : charge_to (part_of m cpu) time (entity_at m cpu pid) ≡ charged_at m time pid cpu
+  charge_is = go (m.running cpu pid) refl
+    where
+      cost : ℕ
+      cost = option_map_or (λ nice. cost_at m cpu time nice (m.idle pid)) (m.nice pid) 0
+
+      rest : (o : Option Entity) → entity_at m cpu pid ≡ o → m.running cpu pid ≡ false
+          → charge_to (part_of m cpu) time o ≡ 0
+      rest None h e = refl
+      rest (Some s) h e = of_other s.place (cost_in (part_of m cpu) time s) (not_running e s h)
+
+      go : (b : Bool) → m.running cpu pid ≡ b
+          → charge_to (part_of m cpu) time (entity_at m cpu pid) ≡ cond (m.running cpu pid) cost 0
+      go true e =
+          let s = values_of m apart Run cpu pid e in
+          ap (charge_to (part_of m cpu) time) s.2
+          ∙ ap (λ place. of_runner place (cost_in (part_of m cpu) time s.0)) s.1
+          ∙ sym (ap (λ o. option_map_or (λ nice. cost_at m cpu time nice (m.idle pid)) o 0) s.3.nice
+          ∙ ap (cost_at m cpu time s.0.nice) s.3.policy)
+          ∙ ap (λ b. cond b cost 0) (sym e)
+      go false e = rest (entity_at m cpu pid) refl e ∙ ap (λ b. cond b cost 0) (sym e)

@@ -29,17 +29,16 @@ use Rattle.replay_laws.proofs.following.FollowLaws.{starts_at, follows_start, st
 use Rattle.replay_laws.proofs.composing.PagesCompose.{compose_shares}
 use Rattle.replay_laws.proofs.composing.Shares.{ShareOf, past_share_of, share_from}
 use Rattle.replay_laws.proofs.needing.StepNeeds.{idle_within, idle_needs, passes_within, needs_of_tests}
+use Rattle.cfs_model.specs.declared.setting.Setting.TheVariants.{Granularity, Credit, Debit, Slack}
 use Rattle.cfs_model.specs.declared.task.Task.{Task}
 use Rattle.replay_model.specs.declared.step.Step.{Step}
 
 -- a slack alone is at most other settings
 slack_within : (slack : ℕ) (other : Settings) → slack ≤ other.slack → AtMost (only_slack slack) other
-slack_within slack other h = record {
-  granularity = omega arith;
-  credit = omega arith;
-  debit = omega arith;
-  slack = h;
-}
+slack_within slack other h Granularity = omega arith
+slack_within slack other h Credit = omega arith
+slack_within slack other h Debit = omega arith
+slack_within slack other h Slack = h
 
 -- steps that pass are a replay under any settings that are at least what they need
 replay_within : (knobs other : Settings) (cpu : ℕ) (before : ReplayStateView) (steps : List Step)
@@ -75,7 +74,7 @@ share_within knobs other start floors tasks events cpu page needs p h =
       no_fault = r.1;
       in_time = idle_within other.slack p.end.since (last_time_of start events)
           (at_most_trans (only_slack still) (larger p.of_steps (only_slack still)) other
-          (other_below_larger p.of_steps (only_slack still)) k).slack 0;
+          (other_below_larger p.of_steps (only_slack still)) k Slack) 0;
     }
 
 -- the share has the page's tickets, as every processor's is wanted

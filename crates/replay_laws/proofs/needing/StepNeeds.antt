@@ -19,6 +19,7 @@ use Rattle.replay_model.proofs.PartFacts.{task_in}
 use Rattle.replay_model.proofs.Options.{same_some}
 use Rattle.part_laws.proofs.one_page.OneLift.{same_found}
 use Rattle.cfs_model.specs.declared.claim.Claim.{Claim}
+use Rattle.cfs_model.specs.declared.setting.Setting.TheVariants.{Granularity, Credit, Debit, Slack}
 use Rattle.cfs_model.specs.declared.task.Place.{Place}
 use Rattle.cfs_model.specs.declared.task.Place.TheVariants.{Run, Wait, Rest}
 use Rattle.replay_model.specs.declared.step.Deed.{Deed}
@@ -212,11 +213,11 @@ tests_within knobs other cpu part step found since needs p n h =
         extra = c.extra;
         other = c.other;
         put_back = c.put_back;
-        wake = wake_within knobs.credit other.credit needs.credit found step.deed step.claim n.credit h.credit c.wake;
-        fork = birth_within knobs.debit other.debit needs.debit found step.deed step.claim n.debit h.debit c.fork;
+        wake = wake_within knobs.credit other.credit needs.credit found step.deed step.claim n.credit (h Credit) c.wake;
+        fork = birth_within knobs.debit other.debit needs.debit found step.deed step.claim n.debit (h Debit) c.fork;
         next = c.next;
         idle = c.idle;
-        least = pick_within other.granularity needs.granularity found step.deed n.granularity h.granularity;
+        least = pick_within other.granularity needs.granularity found step.deed n.granularity (h Granularity);
       });
     }
 
@@ -226,7 +227,7 @@ pub passes_within : (knobs other : Settings) (cpu : ℕ) (before : ReplayStateVi
     → PassesNeeding knobs cpu before step after needs → AtMost needs other → PassesStep other cpu before step after
 passes_within knobs other cpu before step after needs p h = record {
   in_time = idle_within other.slack before.since step.time
-      (subst (λ x. x ≤ other.slack) p.needs_are.slack h.slack);
+      (subst (λ x. x ≤ other.slack) p.needs_are.slack (h Slack));
   found = p.passes.found;
   passes = tests_within knobs other cpu before.part step p.passes.found before.since needs p.passes.passes p.needs_are
       h;
@@ -240,14 +241,16 @@ pub needs_of_tests : (other : Settings) (cpu : ℕ) (part : Part) (step : Step) 
     (needs : Settings)
     → PassesTests other cpu part step mine → mine ≡ found → AreStepNeeds since found step needs
     → ((x : ℕ) → since ≡ Some x → step.time ≤ x + other.slack) → AtMost needs other
-needs_of_tests other cpu part step found mine since needs p e n idle =
-    let c = subst (λ x. IsClear other cpu x step.deed step.claim) e (clear_of other cpu mine step p.none) in
-    record {
-      granularity = pick_needs other.granularity needs.granularity found step.deed n.granularity c.least;
-      credit = wake_needs other.credit needs.credit found step.deed step.claim n.credit c.extra c.wake;
-      debit = birth_needs other.debit needs.debit found step.deed step.claim n.debit c.fork;
-      slack = subst (λ x. x ≤ other.slack) (sym n.slack) (idle_needs other.slack since step.time idle);
-    }
+needs_of_tests other cpu part step found mine since needs p e n idle = each
+  where
+    c : IsClear other cpu found step.deed step.claim
+    c = subst (λ x. IsClear other cpu x step.deed step.claim) e (clear_of other cpu mine step p.none)
+
+    each : AtMost needs other
+    each Granularity = pick_needs other.granularity needs.granularity found step.deed n.granularity c.least
+    each Credit = wake_needs other.credit needs.credit found step.deed step.claim n.credit c.extra c.wake
+    each Debit = birth_needs other.debit needs.debit found step.deed step.claim n.debit c.fork
+    each Slack = subst (λ x. x ≤ other.slack) (sym n.slack) (idle_needs other.slack since step.time idle)
 
 pub passes_from_needs : PassesFromNeeds
 passes_from_needs knobs other cpu before step after needs p = (

@@ -1,5 +1,5 @@
--- The beginning of a line, while what follows it up to the line feed isn't there yet: what it settles, and which beginnings
--- are told to settle it (this project's profile).
+-- The beginning of a line, while what follows it up to the line feed isn't there yet: what it settles, and of which
+-- beginnings that is told (this project's profile).
 use Rattle.std.specs.Prelude.{◌≡◌, ℕ, ◌<◌, ◌⊎◌, List, [], ◌∷◌, ◌++◌, codes, length, Result}
 use Rattle.text_parts.specs.Lines.{IsComment}
 use Rattle.text_parts.specs.Pieces.{joined}
@@ -11,13 +11,13 @@ pub record IsSettled (line : List ℕ) : Type 0 where
   pub some : 0 < length line
   pub same : (answer : Result LineView LineFault) (more : List ℕ) → LineAnswer line answer → LineAnswer (line ++ more) answer
 
--- it reaches behind the name of an event's line, and has not the shape of one: a space, a name of fifteen bytes and a `-`;
--- nor is it a notice of lost events
+-- seventeen bytes or more that have not the shape of an event's line, a space, a name of fifteen bytes and a `-`, nor
+-- that of a notice of lost events
 pub record IsShapeless (line : List ℕ) : Type 0 where
   pub long : 16 < length line
   pub no_event : (name rest : List ℕ) → length name ≡ 15 → line ≡ joined (codes " " ∷ name ∷ codes "-" ∷ rest ∷ []) → ⊥
   pub no_loss : (rest : List ℕ) → line ≡ codes "CPU:" ++ rest → ⊥
 
--- a comment that isn't empty, or a line without a shape: of these alone it is told that they are settled
+-- a comment that isn't empty, or a line of neither shape: of these alone it is told that they are settled
 abbrev pub IsTold : List ℕ → Type 0
 IsTold line = ((0 < length line) × IsComment line) ⊎ IsShapeless line

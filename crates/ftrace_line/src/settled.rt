@@ -6,8 +6,8 @@ use crate::head::after_name;
 use text_parts::lines::is_comment;
 use text_parts::pieces::begins_with;
 
-/// Whether the beginning of a line settles what the whole line says: it is a comment's, or neither an event's nor one of
-/// lost events.
+/// Whether the beginning of a line settles what the whole line says, by its shape: it is a comment's, or neither an
+/// event's nor that of a notice of lost events.
 pub fn is_settled(line: &[u8]) -> bool
     ensures settled { OnTrue result (IsSettled line.now) }
     ensures shaped { IsTrue result ↔ IsTold line.now }

@@ -11,4 +11,5 @@ returns-then-is_comment-clause-settled c = on_true {P = IsSettled c.args.line.no
 
 pub returns-else-is_comment-clause-settled : goal.returns-else-is_comment-clause-settled
 returns-else-is_comment-clause-settled c = on_true {P = IsSettled c.args.line.now} _ (λ yes.
-    shapeless_settled c.args.line.now (λ is. false≢true (sym c.if-is_comment.false ∙ c.is_comment.ensures ∙ is)) (c.is_shapeless.ensures.0 yes))
+    shapeless_settled c.args.line.now
+    (λ is. false≢true (sym c.if-is_comment.false ∙ c.is_comment.ensures ∙ is)) (c.is_shapeless.ensures.0 yes))

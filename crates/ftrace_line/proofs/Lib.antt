@@ -5,5 +5,4 @@ pub mod Losses
 pub mod Marks
 pub mod OneReading
 pub mod Answered
-pub mod Beginnings
-pub mod Settling
+pub mod Shapes

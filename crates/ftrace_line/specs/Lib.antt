@@ -2,4 +2,3 @@ pub mod Head
 pub mod Line
 pub mod Front
 pub mod Meaning
-pub mod Behind

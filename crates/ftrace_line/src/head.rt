@@ -72,7 +72,7 @@ fn after_brackets(text: &[u8]) -> Option<&[u8]>
 /// What follows one or more bytes of a thread group.
 #[inline(always)]
 #[tactic(auto, unfolding(text_parts::specs::Reading::after_run))]
-pub(crate) fn beyond_group(text: &[u8]) -> Option<&[u8]>
+fn beyond_group(text: &[u8]) -> Option<&[u8]>
     ensures { Gives (λ x. x.now) result (after_run is_group_byte text.now) }
 {
     beyond(text, group_width(text))
@@ -139,7 +139,7 @@ fn flagged_stamp_at(text: &[u8]) -> Option<(Time, &[u8])>
 /// What follows one or more bytes of a word of flags.
 #[inline(always)]
 #[tactic(auto, unfolding(text_parts::specs::Reading::after_run))]
-pub(crate) fn beyond_flags(text: &[u8]) -> Option<&[u8]>
+fn beyond_flags(text: &[u8]) -> Option<&[u8]>
     ensures { Gives (λ x. x.now) result (after_run is_flag text.now) }
 {
     beyond(text, flags_width(text))

@@ -4,7 +4,6 @@
 mod fault;
 mod head;
 mod kinds;
-mod past;
 mod reading;
 mod settled;
 

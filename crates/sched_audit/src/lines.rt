@@ -20,9 +20,7 @@ use text_parts::lines::{lines_after_whole, next_line, whole_lines};
 #[derive(Clone, Copy)]
 struct Held {
     length: usize,
-    /// How many were held when it was last asked whether they settle what the line says.
-    asked: usize,
-    /// Whether they do. What then comes of the line isn't held.
+    /// Whether they settle what the line says. What then comes of the line isn't held.
     settled: bool,
 }
 
@@ -45,7 +43,6 @@ pub(crate) fn read_lines<F: Feed>(alloc: Global, feed: &mut F) -> Result<TraceRe
     let mut bytes = Vec::new(alloc);
     let mut held = Held {
         length: 0,
-        asked: 0,
         settled: false,
     };
     for _ in 0..MOST_READS {
@@ -77,7 +74,7 @@ fn read_on(
     lines_after_whole();
     TraceReader::settled_line();
     if !held.settled {
-        return read_open(reader, bytes, held.length, count, held.asked);
+        return read_open(reader, bytes, held.length, count);
     }
     let width = next_line(&bytes[held.length..held.length + count]).0.len();
     if width == count {
@@ -85,7 +82,7 @@ fn read_on(
     }
     let end = width + 1;
     end_settled(reader, bytes, held.length, end, count)?;
-    read_open(reader, bytes, 0, count - end, 0)
+    read_open(reader, bytes, 0, count - end)
 }
 
 /// Reads a settled line of which so many bytes are held, now that it ends with so many of the new bytes, and moves those
@@ -115,7 +112,6 @@ fn read_open(
     bytes: &mut Vec<u8>,
     filled: usize,
     count: usize,
-    asked: usize,
 ) -> Result<Held, Memory>
     requires { filled + count ≤ vec_len bytes.old }
     ensures length { vec_len bytes.new ≡ vec_len bytes.old }
@@ -124,29 +120,17 @@ fn read_open(
     ensures within { IfOk result (λ next. next.length ≤ filled + count) }
 {
     let left = read_whole(reader, bytes, filled, count)?;
-    let asked = if left < filled + count { 0 } else { asked };
-    Ok(held_of(&bytes[..left], asked))
+    Ok(held_of(&bytes[..left]))
 }
 
-/// The beginning of a line. Whether it settles the line is asked when it is twice as long as when that was last asked, so
-/// that a long line isn't gone over for each read.
-fn held_of(line: &[u8], asked: usize) -> Held
+/// The beginning of a line.
+fn held_of(line: &[u8]) -> Held
     ensures length { result.length ≡ length line.now }
     ensures settled { OnTrue result.settled (IsSettled line.now) }
 {
-    let length = line.len();
-    if length / 2 < asked {
-        Held {
-            length,
-            asked,
-            settled: false,
-        }
-    } else {
-        Held {
-            length,
-            asked: length,
-            settled: is_settled(line),
-        }
+    Held {
+        length: line.len(),
+        settled: is_settled(line),
     }
 }
 

@@ -1,7 +1,7 @@
 -- What the text has, with the tallies that are still to be gone over, is the whole.
 use Rattle.std.proofs.Common.{◌≡◌, ◌++◌, string_bytes, drop}
 use Rattle.sched_audit.specs.Report.{tally_lines}
-use Rattle.sched_audit.proofs.reporting.push_tallies.Given as goal
+use Rattle.sched_audit.proofs.verdict.push_tallies.Given as goal
 
 abbrev pub invariant-loop-tally : goal.invariant-loop-tally
 invariant-loop-tally l =

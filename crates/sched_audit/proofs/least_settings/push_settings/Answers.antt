@@ -1,9 +1,9 @@
 -- Each line stands behind those that were written before it.
 use Rattle.std.proofs.Common.{List, ℕ, ◌≡◌, ◌∙◌, ◌++◌, ap, codes, refl, string_bytes}
-use Rattle.sched_audit.specs.LeastReport.{setting_lines}
+use Rattle.sched_audit.specs.Report.{setting_lines}
 use Rattle.sched_audit.specs.Report.{count_line}
 use Rattle.sched_audit.proofs.Written.{behind}
-use Rattle.sched_audit.proofs.least_reporting.push_settings.Goals as goal
+use Rattle.sched_audit.proofs.least_settings.push_settings.Goals as goal
 
 pub returns : goal.returns
 returns c =

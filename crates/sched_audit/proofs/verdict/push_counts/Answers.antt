@@ -2,7 +2,7 @@
 use Rattle.std.proofs.Common.{◌++◌, codes, string_bytes}
 use Rattle.sched_audit.proofs.Written.{behind}
 use Rattle.sched_audit.specs.Report.{count_line, line_of}
-use Rattle.sched_audit.proofs.reporting.push_counts.Goals as goal
+use Rattle.sched_audit.proofs.verdict.push_counts.Goals as goal
 
 pub returns : goal.returns
 returns c =

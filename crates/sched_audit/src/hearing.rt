@@ -1,0 +1,18 @@
+use crate::{Outcome, Verdict};
+use sched_record::Record;
+
+/// What two inputs came to, and what was read of them.
+#[derive(Debug, Drop)]
+pub struct Hearing<J = Verdict> {
+    pub outcome: Outcome<J>,
+    pub kept: Kept,
+}
+
+/// What is kept of two inputs.
+#[derive(Debug, Drop)]
+pub enum Kept {
+    /// The record that they are together.
+    Record(Record),
+    /// The companion's bytes, where a text was refused.
+    Companion(Vec<u8>),
+}

@@ -2,19 +2,22 @@ ghost use Rattle.std.specs.Prelude.{◌≡◌, ◌++◌, ℕ, IfOk, List, OnOk, 
 ghost use Rattle.cfs_model.specs.Settings.{Settings};
 ghost use Rattle.replay_model.specs.declared.first_fault.FirstFault.{FirstFault};
 ghost use Rattle.sched_record.specs.Record.{RecordView, record_view};
+ghost use Rattle.ticket_book.specs.BookView.{book_view};
+ghost use Rattle.ticket_book.specs.Own.{AreOwn};
 
-use crate::Gate;
 use cfs_model::{Knobs, Memory};
 use replay_model::FirstFault;
 use sched_record::Record;
-use std::alloc::{AllocError, Global};
-use std::sync::Wait;
-use std::thread::Threads;
+use std::alloc::AllocError;
+use ticket_book::Book;
 
 /// What is told of a record: a verdict, or the least settings.
 pub trait Judgement: Drop {
-    /// Whether it is that of a record, by these settings.
+    /// Whether it is that of a record, where these settings are asked for.
     ghost is_of: { Settings → RecordView → Self → Type 0 };
+
+    /// By which settings the processors are then replayed.
+    ghost replayed_by: { Settings → Settings };
 
     /// What a report says of it.
     ghost lines: { Self → List ℕ };
@@ -22,15 +25,14 @@ pub trait Judgement: Drop {
     /// The fault that it names, if it does.
     ghost fault: { Self → Option FirstFault };
 
-    /// That of a record, by a thread for each processor.
-    fn of_record<R: Threads + Wait + Sync, G: Gate>(
-        rt: &R,
-        alloc: Global,
-        record: &Record,
-        knobs: Knobs,
-        gate: &G,
-    ) -> Result<Self, Memory>
-        ensures { IfOk result (is_of knobs (record_view record.now)) };
+    /// By which settings the processors are replayed, where these are asked for.
+    fn replayed_by(knobs: Knobs) -> Knobs
+        ensures { result ≡ replayed_by knobs };
+
+    /// That of a record, by a book of its processors' own pages.
+    fn of_book(book: Book, joined: &Record, knobs: Knobs) -> Result<Self, Memory>
+        requires { AreOwn (replayed_by knobs) (record_view joined.now) (book_view book) }
+        ensures { IfOk result (is_of knobs (record_view joined.now)) };
 
     /// Writes what a report says of it.
     fn push(&self, text: &mut String) -> Result<(), AllocError>

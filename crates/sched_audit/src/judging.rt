@@ -1,5 +1,6 @@
 //! What a verdict and the least settings share: the texts are read and joined, and their record is judged.
 ghost use Rattle.std.specs.Prelude.{◌≡◌, ◌≢◌, false, ℕ, IfErr, IfOk, List};
+ghost use Rattle.sched_record.specs.Record.{record_view};
 ghost use Rattle.sched_record.specs.Trace.{Tells, TraceAnswer};
 ghost use Rattle.sched_audit.specs.Answer.{IsAnswer, OutcomeAnswer};
 ghost use Rattle.sched_audit.specs.Run.{IsOutcomeOf, Reads, Runs, input_of, output_of};
@@ -10,8 +11,9 @@ use crate::texts::record_of;
 use crate::{
     Fault, Feed, Gate, Hearing, Judgement, Kept, Outcome, Refused, Sink, Status, write_report,
 };
+use audit_crew::crew;
 use cfs_model::{Knobs, Memory};
-use sched_record::{Trace, TraceFault, read_trace_wide};
+use sched_record::{Record, Trace, TraceFault, read_trace_wide};
 use std::alloc::Global;
 use std::sync::Wait;
 use std::thread::Threads;
@@ -29,7 +31,7 @@ pub(crate) fn texts_judged<J: Judgement, R: Threads + Wait + Sync, G: Gate>(
 {
     let trace = read_trace_wide(rt, alloc, trace);
     let record = record_of(rt, alloc, trace, companion)?;
-    Ok(J::of_record(rt, alloc, &record, knobs, gate)?)
+    Ok(judged(rt, alloc, &record, knobs, gate)?)
 }
 
 /// Reads the trace to its end, then the companion, judges them, and writes the report.
@@ -105,7 +107,7 @@ fn hearing_of<J: Judgement, R: Threads + Wait + Sync, G: Gate>(
     match record_of(rt, alloc, trace, &companion) {
         Ok(record) => {
             drop(companion);
-            let judged = J::of_record(rt, alloc, &record, knobs, gate)?;
+            let judged = judged(rt, alloc, &record, knobs, gate)?;
             Ok(Hearing {
                 outcome: Outcome::Judged(judged),
                 kept: Kept::Record(record),
@@ -127,4 +129,18 @@ fn hearing_of<J: Judgement, R: Threads + Wait + Sync, G: Gate>(
         }),
         Err(Refused::Memory) => Err(Memory),
     }
+}
+
+/// Replays a record's processors, each in a thread of its own that passes this gate, and judges it by their pages.
+fn judged<J: Judgement, R: Threads + Wait + Sync, G: Gate>(
+    rt: &R,
+    alloc: Global,
+    joined: &Record,
+    knobs: Knobs,
+    gate: &G,
+) -> Result<J, Memory>
+    ensures { IfOk result (J.is_of knobs (record_view joined.now)) }
+{
+    let gathered = crew(rt, alloc, joined, J::replayed_by(knobs), gate)?;
+    J::of_book(gathered.book, joined, knobs)
 }

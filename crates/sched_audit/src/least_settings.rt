@@ -3,32 +3,32 @@ ghost use Rattle.std.specs.Prelude.{◌≡◌, ◌++◌, OnOk, string_bytes};
 ghost use Rattle.sched_audit.specs.Report.{setting_lines};
 
 use crate::reporting::push_fault;
-use crate::{Gate, Judgement, LeastSettings};
+use crate::{Judgement, LeastSettings};
 use cfs_model::{Knobs, Memory};
 use replay_model::FirstFault;
 use sched_record::Record;
-use std::alloc::{AllocError, Global};
-use std::sync::Wait;
-use std::thread::Threads;
+use std::alloc::AllocError;
+use ticket_book::Book;
 
 impl Judgement for LeastSettings {
+    ghost use Rattle.cfs_model.specs.Least.{greatest_settings};
     ghost use Rattle.sched_audit.specs.Report.{least_fault, least_lines};
     ghost use Rattle.ticket_book.specs.LeastAnswer.{IsLeastAnswer};
 
     ghost is_of = { λ _. IsLeastAnswer };
 
+    ghost replayed_by = { λ _. greatest_settings };
+
     ghost lines = { least_lines };
 
     ghost fault = { least_fault };
 
-    fn of_record<R: Threads + Wait + Sync, G: Gate>(
-        rt: &R,
-        alloc: Global,
-        record: &Record,
-        _knobs: Knobs,
-        gate: &G,
-    ) -> Result<LeastSettings, Memory> {
-        let closed = audit_crew::audit_least(rt, alloc, record, gate)?;
+    fn replayed_by(_knobs: Knobs) -> Knobs {
+        Knobs::greatest()
+    }
+
+    fn of_book(book: Book, joined: &Record, _knobs: Knobs) -> Result<LeastSettings, Memory> {
+        let closed = book.close_least(joined)?;
         Ok(closed.least)
     }
 

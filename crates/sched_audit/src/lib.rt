@@ -39,7 +39,7 @@ pub use judgement::Judgement;
 pub use judging::judge;
 pub use outcome::Outcome;
 pub use refused::Refused;
-pub use reporting::report;
+pub use reporting::{least_report, report};
 pub use request::Request;
 pub use sink::Sink;
 pub use sink_of::SinkOf;

@@ -1,13 +1,30 @@
 ghost use Rattle.std.specs.Prelude.{◌≡◌, ◌++◌, IfOk, OnOk, string_bytes};
-ghost use Rattle.sched_audit.specs.Report.{fault_line, refusal_line, report_of};
+ghost use Rattle.sched_audit.specs.Report.{fault_line, least_lines, refusal_line, report_of, verdict_lines};
 
-use crate::{Cause, Judgement, Outcome, Source};
+use crate::{Cause, Judgement, LeastSettings, Outcome, Source};
 use cfs_model::Memory;
 use replay_model::FirstFault;
 use std::alloc::{AllocError, Global};
 
 /// What is written for an outcome.
-pub fn report<J: Judgement>(alloc: Global, outcome: &Outcome<J>) -> Result<Vec<u8>, Memory>
+pub fn report(alloc: Global, outcome: &Outcome) -> Result<Vec<u8>, Memory>
+    ensures { IfOk result (λ text. text.items ≡ report_of verdict_lines outcome.now) }
+{
+    report_on(alloc, outcome)
+}
+
+/// What is written for the outcome of a search for the least settings.
+pub fn least_report(alloc: Global, outcome: &Outcome<LeastSettings>) -> Result<Vec<u8>, Memory>
+    ensures { IfOk result (λ text. text.items ≡ report_of least_lines outcome.now) }
+{
+    report_on(alloc, outcome)
+}
+
+/// What is written for what was judged, or for a refusal.
+pub(crate) fn report_on<J: Judgement>(
+    alloc: Global,
+    outcome: &Outcome<J>,
+) -> Result<Vec<u8>, Memory>
     ensures { IfOk result (λ text. text.items ≡ report_of J.lines outcome.now) }
 {
     let text = text_of(alloc, outcome)?;

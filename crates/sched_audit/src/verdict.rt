@@ -4,13 +4,12 @@ ghost use Rattle.ticket_book.specs.SummaryView.{summary_view};
 ghost use Rattle.sched_audit.specs.Report.{count_lines, run_lines, tally_lines};
 
 use crate::reporting::push_fault;
-use crate::{Gate, Judgement, Summary, Verdict};
+use crate::{Judgement, Summary, Verdict};
 use cfs_model::{Knobs, Memory};
 use replay_model::{FirstFault, Tally};
 use sched_record::Record;
-use std::alloc::{AllocError, Global};
-use std::sync::Wait;
-use std::thread::Threads;
+use std::alloc::AllocError;
+use ticket_book::Book;
 
 // Writes lines at the end of a text, each with its line feed.
 macro_rules! lines {
@@ -25,18 +24,18 @@ impl Judgement for Verdict {
 
     ghost is_of = { IsVerdict };
 
+    ghost replayed_by = { λ knobs. knobs };
+
     ghost lines = { verdict_lines };
 
     ghost fault = { verdict_fault };
 
-    fn of_record<R: Threads + Wait + Sync, G: Gate>(
-        rt: &R,
-        alloc: Global,
-        record: &Record,
-        knobs: Knobs,
-        gate: &G,
-    ) -> Result<Verdict, Memory> {
-        let closed = audit_crew::audit(rt, alloc, record, knobs, gate)?;
+    fn replayed_by(knobs: Knobs) -> Knobs {
+        knobs
+    }
+
+    fn of_book(book: Book, joined: &Record, knobs: Knobs) -> Result<Verdict, Memory> {
+        let closed = book.close_own(joined, knobs)?;
         Ok(closed.verdict)
     }
 

@@ -4,7 +4,8 @@ ghost use Rattle.sched_audit.specs.Codes.{status_of};
 ghost use Rattle.sched_audit.specs.Known.{AppendsFront};
 ghost use Rattle.sched_audit.specs.Report.{report_of};
 
-use crate::{Fault, Judgement, Outcome, Sink, Status, report};
+use crate::reporting::report_on;
+use crate::{Fault, Judgement, Outcome, Sink, Status};
 use std::alloc::Global;
 
 /// Writes the report of an outcome, and answers its status.
@@ -27,7 +28,7 @@ pub fn write_report<J: Judgement, S: Sink>(
     ensures unwritten { IsErrOf result Fault.Memory
         → Keeps (S.taken out.old) (S.taken out.new) × (S.has_failed out.new ≡ false) }
 {
-    let report = report(alloc, outcome)?;
+    let report = report_on(alloc, outcome)?;
     write_all(out, &report)?;
     Ok(outcome.status())
 }

@@ -7,8 +7,9 @@ ghost use Rattle.sched_audit.specs.Run.{Runs, input_of, output_of};
 ghost use Rattle.ticket_book.specs.LeastAnswer.{IsLeastAnswer};
 ghost use Rattle.ticket_book.specs.Verdict.{IsVerdict};
 
-use crate::judging::{run_judged, texts_judged};
-use crate::{Fault, Feed, Gate, LeastSettings, Refused, Sink, Status, Verdict};
+use crate::judging::{judge, texts_judged};
+use crate::writing::write_report;
+use crate::{Fault, Feed, Gate, Hearing, LeastSettings, Refused, Sink, Status, Verdict};
 use cfs_model::Knobs;
 use std::alloc::Global;
 use std::sync::Wait;
@@ -48,14 +49,13 @@ pub fn run<R: Threads + Wait + Sync, T: Feed, C: Feed, G: Gate, S: Sink>(
     ensures { Runs (IsVerdict knobs) verdict_lines verdict_fault
         (input_of (T.left trace.old) (T.left trace.new) (T.calls trace.new) (T.has_failed trace.new) (T.has_ended trace.new))
         (input_of (C.left companion.old) (C.left companion.new) (C.calls companion.new) (C.has_failed companion.new)
-        (C.has_ended companion.new))
-        (output_of (S.taken out.old) (S.taken out.new) (S.has_failed out.new)) result }
+        (C.has_ended companion.new)) (output_of (S.taken out.old) (S.taken out.new) (S.has_failed out.new)) result }
 {
-    run_judged::<Verdict, _, _, _, _, _>(rt, alloc, trace, companion, knobs, gate, out)
+    let hearing: Hearing = judge(rt, alloc, trace, companion, knobs, gate)?;
+    write_report(alloc, &hearing.into_outcome(), out)
 }
 
-/// The least settings at which a trace is a run by its companion, or the first line up to which it is one at none. The
-/// texts are read and the processors replayed as by `audit_texts`, at the greatest settings.
+/// The least settings at which a trace is a run by its companion, or the first line up to which it is one at none.
 pub fn least_texts<R: Threads + Wait + Sync, G: Gate>(
     rt: &R,
     alloc: Global,
@@ -78,23 +78,15 @@ pub fn run_least<R: Threads + Wait + Sync, T: Feed, C: Feed, G: Gate, S: Sink>(
     gate: &G,
     out: &mut S,
 ) -> Result<Status, Fault>
-    // As of `run`.
     requires trace { T.calls trace.old ≡ 0 }
     requires companion { C.calls companion.old ≡ 0 }
     requires out { S.has_failed out.old ≡ false }
     ensures { Runs IsLeastAnswer least_lines least_fault
         (input_of (T.left trace.old) (T.left trace.new) (T.calls trace.new) (T.has_failed trace.new) (T.has_ended trace.new))
         (input_of (C.left companion.old) (C.left companion.new) (C.calls companion.new) (C.has_failed companion.new)
-        (C.has_ended companion.new))
-        (output_of (S.taken out.old) (S.taken out.new) (S.has_failed out.new)) result }
+        (C.has_ended companion.new)) (output_of (S.taken out.old) (S.taken out.new) (S.has_failed out.new)) result }
 {
-    run_judged::<LeastSettings, _, _, _, _, _>(
-        rt,
-        alloc,
-        trace,
-        companion,
-        Knobs::greatest(),
-        gate,
-        out,
-    )
+    let knobs = Knobs::greatest();
+    let hearing: Hearing<LeastSettings> = judge(rt, alloc, trace, companion, knobs, gate)?;
+    write_report(alloc, &hearing.into_outcome(), out)
 }

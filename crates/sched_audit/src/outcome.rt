@@ -22,7 +22,10 @@ impl<J: Judgement> Outcome<J> {
         ensures { result ≡ status_of J.fault self.now }
     {
         match self {
-            Outcome::Judged(judged) => Status::of_fault(judged.fault()),
+            Outcome::Judged(judged) => match judged.fault() {
+                Some(_) => Status::No,
+                None => Status::Yes,
+            },
             Outcome::Text { .. } => Status::Refused,
         }
     }

@@ -1,7 +1,5 @@
 ghost use Rattle.std.specs.Prelude.{◌≡◌};
-ghost use Rattle.sched_audit.specs.Codes.{code_of_status, status_by};
-
-use replay_model::FirstFault;
+ghost use Rattle.sched_audit.specs.Codes.{code_of_status};
 
 /// How an audit that was written out ended.
 #[derive(Clone, Copy, Debug, PartialEq, Eq)]
@@ -15,16 +13,6 @@ pub enum Status {
 }
 
 impl Status {
-    /// Of what names a fault, or names none.
-    pub(crate) fn of_fault(fault: Option<FirstFault>) -> Status
-        ensures { result ≡ status_by fault }
-    {
-        match fault {
-            Some(_) => Status::No,
-            None => Status::Yes,
-        }
-    }
-
     /// The exit status of a program.
     pub fn code(self) -> u8
         ensures { result ≡ code_of_status self }

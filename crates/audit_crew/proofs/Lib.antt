@@ -2,4 +2,3 @@ mod InTurn
 mod Owned
 mod Pages
 mod Reached
-mod Remaking

@@ -3,7 +3,6 @@ ghost use Rattle.std.specs.Prelude.{◌≡◌, ◌≤◌, length, IfOk};
 ghost use Rattle.audit_crew.specs.Filled.{filled};
 ghost use Rattle.sched_record.specs.Record.{record_view};
 ghost use Rattle.ticket_book.specs.BookView.{book_view};
-ghost use Rattle.ticket_book.specs.LeastAnswer.{IsLeastAnswer};
 ghost use Rattle.ticket_book.specs.Own.{AreOwn};
 ghost use Rattle.ticket_book.specs.Verdict.{IsVerdict};
 
@@ -17,7 +16,7 @@ use std::marker::Brand;
 use std::sync::ledger::Blank;
 use std::sync::{Mutex, Wait};
 use std::thread::Threads;
-use ticket_book::{Book, Closed, ClosedLeast};
+use ticket_book::{Book, Closed};
 
 /// The audit of a record by a crew: its auditors' pages in one book, which is then closed.
 pub fn audit<R: Threads + Wait + Sync, G: Gate>(
@@ -33,22 +32,6 @@ pub fn audit<R: Threads + Wait + Sync, G: Gate>(
     crew(rt, alloc, joined, knobs, gate)?
         .book
         .close_own(joined, knobs)
-}
-
-/// The least settings of a record, by a crew at the greatest settings: its auditors' pages in one book, which is then
-/// closed.
-pub fn audit_least<R: Threads + Wait + Sync, G: Gate>(
-    rt: &R,
-    alloc: Global,
-    joined: &Record,
-    gate: &G,
-) -> Result<ClosedLeast, Memory>
-    ensures least { IfOk result (λ closed. IsLeastAnswer (record_view joined.now) closed.least) }
-    ensures remade { IfOk result (λ closed. closed.remade ≤ (record_view joined.now).cpus) }
-{
-    crew(rt, alloc, joined, Knobs::greatest(), gate)?
-        .book
-        .close_least(joined)
 }
 
 /// Audits each processor of a record in a thread of its own, all at once, and gathers their pages in one book. No auditor

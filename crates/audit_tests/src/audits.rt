@@ -5,7 +5,7 @@ use crate::ends::{Failing, Pieces, Room, ample, in_pieces, room_by, whole};
 use crate::runs::wants_run;
 use cfs_model::{Kind, Knobs};
 use queue_replay::Tallies;
-use replay_model::Tally;
+use replay_model::{FirstFault, Tally};
 use sched_audit::{
     Cause, Fault, Feed, FeedOf, OpenGate, Outcome, Refused, Source, Status, Summary, Verdict,
     audit_texts, report,
@@ -96,12 +96,12 @@ fn report_of_run(alloc: Global) -> Result<Vec<u8>, Fail> {
 
 /// The report of a fault at a line.
 fn report_of_fault(alloc: Global, line: u32) -> Result<Vec<u8>, Fail> {
-    let verdict = Verdict::Fault {
+    let verdict = Verdict::Fault(FirstFault {
         line,
         cpu: 63,
         pid: 201,
         kind: Kind::PrevNotRunning,
-    };
+    });
     Ok(report(alloc, &Outcome::Judged(verdict))?)
 }
 

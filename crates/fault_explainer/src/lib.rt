@@ -1,5 +1,5 @@
-//! Explains the fault of a recording, or shows the line that is refused, in lines for people. The one call is
-//! `explanation`. What it says is no part of what is proved.
+//! Explains the fault of a recording, or shows the line that is refused, in lines for people. The calls
+//! are `explanation` and `quoted_line`. What it says is no part of what is proved.
 #![tactic(auto)]
 
 mod bounds;
@@ -22,3 +22,4 @@ mod stood;
 mod waiting_task;
 
 pub use explaining::explanation;
+pub use quoting::quoted_line;

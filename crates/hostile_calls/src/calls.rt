@@ -1,16 +1,16 @@
 use crate::tray::Tray;
-use audit_crew::{OpenGate, audit, audit_least, audit_serial, auditor, crew};
+use audit_crew::{OpenGate, audit, audit_serial, auditor, crew};
 use cfs_model::{Knobs, Memory};
 use companion_file::{read_companion, read_companion_wide};
 use queue_replay::{Page, Replay};
-use sched_audit::{LeastOutcome, Outcome, audit_texts, least_report, least_texts, report};
+use sched_audit::{Outcome, audit_texts, least_report, least_texts, report};
 use sched_record::{Record, Stream, join, read_trace, read_trace_wide};
 use std::alloc::Global;
 use std::io;
 use std::io::ErrorKind;
 use std::sync::Wait;
 use std::thread::Threads;
-use ticket_book::{Book, whole_page};
+use ticket_book::{Book, ClosedLeast, whole_page};
 
 /// Makes the call of this name on a recording, and prints a line for each of its answers. False where no call has it.
 pub fn print_call<R: AllocGlobal + Print + Threads + Wait + Sync>(
@@ -93,17 +93,27 @@ fn print_call_on<R: AllocGlobal + Print + Threads + Wait + Sync>(
             println!(rt; "{answer:?}")?;
         }
         "audit_least" => {
-            let answer = audit_least(rt, alloc, record, &OpenGate);
+            let answer = audit_least(rt, record);
             println!(rt; "{answer:?}")?;
         }
         "least_report" => {
-            let closed = audit_least(rt, alloc, record, &OpenGate).map_err(out_of_memory)?;
-            let answer = least_report(alloc, &LeastOutcome::Told(closed.least));
+            let closed = audit_least(rt, record).map_err(out_of_memory)?;
+            let answer = least_report(alloc, &Outcome::Judged(closed.least));
             println!(rt; "{answer:?}")?;
         }
         _ => return print_calls_by_processor(rt, call, record),
     }
     Ok(true)
+}
+
+/// The least settings of a record, by a crew.
+fn audit_least<R: AllocGlobal + Threads + Wait + Sync>(
+    rt: &R,
+    record: &Record,
+) -> Result<ClosedLeast, Memory> {
+    crew(rt, rt.alloc(), record, Knobs::greatest(), &OpenGate)?
+        .book
+        .close_least(record)
 }
 
 /// Makes a call on each processor of a record.

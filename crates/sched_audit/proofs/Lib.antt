@@ -1,6 +1,5 @@
 mod Counting
 mod Holding
-mod LeastOutcomes
 mod Outcomes
 mod Passing
 mod Written

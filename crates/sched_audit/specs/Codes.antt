@@ -1,15 +1,12 @@
 -- Exit statuses (this project's format).
-use Rattle.std.specs.Prelude.{ℕ}
+use Rattle.std.specs.Prelude.{ℕ, Option, Some, None}
+use Rattle.replay_model.specs.declared.first_fault.FirstFault.{FirstFault}
 use Rattle.sched_audit.specs.declared.status.Status.{Status}
 use Rattle.sched_audit.specs.declared.status.Status.TheVariants.{Yes, No, Refused}
 use Rattle.sched_audit.specs.declared.fault.Fault.{Fault}
 use Rattle.sched_audit.specs.declared.fault.Fault.TheVariants.{ReadTrace, ReadCompanion, Write, Memory}
 use Rattle.sched_audit.specs.declared.outcome.Outcome.{Outcome}
 use Rattle.sched_audit.specs.declared.outcome.Outcome.TheVariants.{Judged, Text}
-use Rattle.sched_audit.specs.declared.least_outcome.LeastOutcome.{LeastOutcome}
-use Rattle.sched_audit.specs.declared.least_outcome.LeastOutcome.TheVariants as least_outcomes
-use Rattle.ticket_book.specs.declared.least_settings.LeastSettings.TheVariants as leasts
-use Rattle.ticket_book.specs.declared.verdict.Verdict.TheVariants as verdicts
 
 -- yes, no, and a refused text
 abbrev pub code_of_status : Status → ℕ
@@ -24,14 +21,12 @@ code_of_fault ReadCompanion = 3
 code_of_fault Write = 3
 code_of_fault Memory = 4
 
--- a run is a yes and a fault in the schedule a no
-abbrev pub status_of : Outcome → Status
-status_of (Judged (verdicts.Run summary)) = Yes
-status_of (Judged (verdicts.Fault line cpu pid kind)) = No
-status_of (Text source line cause) = Refused
+-- no fault is a yes, and a fault in the schedule a no
+abbrev pub status_by : Option FirstFault → Status
+status_by None = Yes
+status_by (Some fault) = No
 
--- least settings are a yes, and a fault at all settings a no
-abbrev pub least_status_of : LeastOutcome → Status
-least_status_of (least_outcomes.Told (leasts.Found knobs)) = Yes
-least_status_of (least_outcomes.Told (leasts.Fault line cpu pid kind)) = No
-least_status_of (least_outcomes.Text source line cause) = Refused
+-- by the fault that is named, if one is
+abbrev pub status_of : {J : Type 0} → (J → Option FirstFault) → Outcome J → Status
+status_of fault_of (Judged judged) = status_by (fault_of judged)
+status_of fault_of (Text source line cause) = Refused

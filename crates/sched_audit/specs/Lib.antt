@@ -6,6 +6,3 @@ pub mod Report
 pub mod Known
 pub mod Run
 pub mod CommandLine
-pub mod LeastAnswer
-pub mod LeastReport
-pub mod LeastRun

@@ -1,5 +1,5 @@
 -- The report (this project's format): its lines, each ended by a line feed, with numbers in plain decimal.
-use Rattle.std.specs.Prelude.{ℕ, List, [], ◌∷◌, ◌++◌, codes, decimal, map}
+use Rattle.std.specs.Prelude.{ℕ, Option, Some, None, List, [], ◌∷◌, ◌++◌, codes, decimal, map}
 use Rattle.std.specs.List.{concat}
 use Rattle.sched_audit.specs.declared.source.Source.{Source}
 use Rattle.sched_audit.specs.declared.source.Source.TheVariants.{Trace, Companion, Join}
@@ -8,9 +8,14 @@ use Rattle.sched_audit.specs.declared.cause.Cause.TheVariants.{BadHead, NumberRa
 use Rattle.sched_audit.specs.declared.outcome.Outcome.{Outcome}
 use Rattle.sched_audit.specs.declared.outcome.Outcome.TheVariants.{Judged, Text}
 use Rattle.cfs_model.specs.Kinds.{name_of, text_of}
+use Rattle.cfs_model.specs.Settings.{Settings}
 use Rattle.cfs_model.specs.declared.kind.Kind.{Kind}
+use Rattle.replay_model.specs.declared.first_fault.FirstFault.{FirstFault}
 use Rattle.replay_model.specs.declared.page.Tally.{Tally}
 use Rattle.ticket_book.specs.SummaryView.{SummaryView, summary_view}
+use Rattle.ticket_book.specs.declared.least_settings.LeastSettings.{LeastSettings}
+use Rattle.ticket_book.specs.declared.least_settings.LeastSettings.TheVariants as leasts
+use Rattle.ticket_book.specs.declared.verdict.Verdict.{Verdict}
 use Rattle.ticket_book.specs.declared.verdict.Verdict.TheVariants as verdicts
 
 -- which text is refused
@@ -77,18 +82,44 @@ abbrev pub words_of : Kind → List ℕ
 words_of kind = name_of kind ++ (codes ": " ++ text_of kind)
 
 -- the line of a fault
-abbrev pub fault_line : ℕ → ℕ → ℕ → Kind → List ℕ
-fault_line line cpu pid kind =
-    line_of (codes "fault line " ++ (decimal line ++ (codes " cpu " ++ (decimal cpu
-    ++ (codes " pid " ++ (decimal pid ++ (codes " " ++ words_of kind)))))))
+abbrev pub fault_line : FirstFault → List ℕ
+fault_line f =
+    line_of (codes "fault line " ++ (decimal f.line ++ (codes " cpu " ++ (decimal f.cpu
+    ++ (codes " pid " ++ (decimal f.pid ++ (codes " " ++ words_of f.kind)))))))
 
 -- the line of a refusal
 abbrev pub refusal_line : Source → ℕ → Cause → List ℕ
 refusal_line source line cause =
     line_of (codes "refused " ++ (source_word source ++ (codes " line " ++ (decimal line ++ (codes " " ++ cause_word cause)))))
 
+-- each setting, in nanoseconds, by the name of its option
+abbrev pub setting_lines : Settings → List ℕ
+setting_lines knobs =
+    count_line (codes "least granularity-ns") knobs.granularity
+    ++ (count_line (codes "least credit-ns") knobs.credit
+    ++ (count_line (codes "least debit-ns") knobs.debit ++ count_line (codes "least slack-ns") knobs.slack))
+
+-- what is written for a verdict
+abbrev pub verdict_lines : Verdict → List ℕ
+verdict_lines (verdicts.Run summary) = run_lines (summary_view summary)
+verdict_lines (verdicts.Fault fault) = fault_line fault
+
+-- and the fault that it names
+abbrev pub verdict_fault : Verdict → Option FirstFault
+verdict_fault (verdicts.Run summary) = None
+verdict_fault (verdicts.Fault fault) = Some fault
+
+-- what is written for least settings
+abbrev pub least_lines : LeastSettings → List ℕ
+least_lines (leasts.Found knobs) = setting_lines knobs
+least_lines (leasts.Fault fault) = fault_line fault
+
+-- and the fault that they name
+abbrev pub least_fault : LeastSettings → Option FirstFault
+least_fault (leasts.Found knobs) = None
+least_fault (leasts.Fault fault) = Some fault
+
 -- what is written for an outcome
-abbrev pub report_of : Outcome → List ℕ
-report_of (Judged (verdicts.Run summary)) = run_lines (summary_view summary)
-report_of (Judged (verdicts.Fault line cpu pid kind)) = fault_line line cpu pid kind
-report_of (Text source line cause) = refusal_line source line cause
+abbrev pub report_of : {J : Type 0} → (J → List ℕ) → Outcome J → List ℕ
+report_of lines (Judged judged) = lines judged
+report_of lines (Text source line cause) = refusal_line source line cause

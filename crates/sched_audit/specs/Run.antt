@@ -1,18 +1,21 @@
 -- A run over two inputs and one output: what it writes, and what it answers (this project's profile).
-use Rattle.std.specs.Prelude.{◌≡◌, ℕ, Bool, true, false, List, [], ◌++◌, take, Option}
+use Rattle.std.specs.Prelude.{◌≡◌, ◌≢◌, ◌≤◌, ℕ, Bool, true, false, List, [], ◌++◌, take, Option, Result, IfOk, IfErr, OnOk, IsErrOf}
 use Rattle.std.specs.List.{list_any}
-use Rattle.std.specs.Io.KnownBytes.{Appends}
-use Rattle.cfs_model.specs.Settings.{Settings}
+use Rattle.std.specs.Io.KnownBytes.{Appends, IsAtEnd, Keeps}
+use Rattle.replay_model.specs.declared.first_fault.FirstFault.{FirstFault}
 use Rattle.text_parts.specs.Lines.{is_line_feed, lines_of, IsWhole}
 use Rattle.ftrace_line.specs.Front.{IsSettled}
 use Rattle.sched_record.specs.Reader.{HasRead}
+use Rattle.sched_record.specs.Record.{RecordView}
 use Rattle.sched_record.specs.declared.trace_reader.TraceReader.{TraceReader}
+use Rattle.sched_audit.specs.declared.fault.Fault.{Fault}
+use Rattle.sched_audit.specs.declared.fault.Fault.TheVariants.{ReadTrace, ReadCompanion, Write, Memory}
 use Rattle.sched_audit.specs.declared.lines.Held.{Held}
 use Rattle.sched_audit.specs.declared.status.Status.{Status}
 use Rattle.sched_audit.specs.declared.outcome.Outcome.{Outcome}
 use Rattle.sched_audit.specs.Answer.{OutcomeAnswer}
 use Rattle.sched_audit.specs.Codes.{status_of}
-use Rattle.sched_audit.specs.Known.{Agrees, AppendsFront}
+use Rattle.sched_audit.specs.Known.{Agrees, AppendsFront, IsCutShort, most_reads}
 use Rattle.sched_audit.specs.Report.{report_of}
 
 -- the reader has read the lines of the bytes that the input still gave
@@ -44,19 +47,66 @@ pub record PassesOn (old new : TraceReader) (text bytes : List ℕ) (held : Held
   pub passes : PassesWhole old new text line
 
 -- the outcome is that of the bytes that the two inputs still gave
-pub record IsOutcomeOf (trace companion : Option (List ℕ)) (settings : Settings) (outcome : Outcome) : Type 0 where
+pub record IsOutcomeOf {J : Type 0} (is_of : RecordView → J → Type 0) (trace companion : Option (List ℕ)) (outcome : Outcome J)
+    : Type 0 where
   pub trace_bytes : List ℕ
   pub companion_bytes : List ℕ
   pub trace_whole : Agrees trace trace_bytes
   pub companion_whole : Agrees companion companion_bytes
-  pub answer : OutcomeAnswer trace_bytes companion_bytes settings outcome
+  pub answer : OutcomeAnswer is_of trace_bytes companion_bytes outcome
 
--- the report of the two inputs' outcome was taken and nothing else, and the status is that outcome's
-abbrev pub WritesReport : Option (List ℕ) → Option (List ℕ) → Settings → Status → Option (List ℕ) → Option (List ℕ) → Type 0
-WritesReport trace companion settings status before after =
-    (outcome : Outcome) × IsOutcomeOf trace companion settings outcome × Appends before after (report_of outcome) × (status ≡ status_of outcome)
+-- of an input: the bytes that it gave from the call's beginning on and those that it has left, where they are known; the reads
+-- made of it, whether one failed, and whether it has ended
+pub record Input : Type 0 where
+  pub gave : Option (List ℕ)
+  pub left : Option (List ℕ)
+  pub calls : ℕ
+  pub has_failed : Bool
+  pub has_ended : Bool
 
--- a front of that report was taken and nothing else
-abbrev pub WritesFront : Option (List ℕ) → Option (List ℕ) → Settings → Option (List ℕ) → Option (List ℕ) → Type 0
-WritesFront trace companion settings before after =
-    (outcome : Outcome) × IsOutcomeOf trace companion settings outcome × AppendsFront before after (report_of outcome)
+abbrev pub input_of : Option (List ℕ) → Option (List ℕ) → ℕ → Bool → Bool → Input
+input_of gave left calls has_failed has_ended =
+    record { gave = gave; left = left; calls = calls; has_failed = has_failed; has_ended = has_ended }
+
+-- of an output: the bytes that it had taken before and those that it has taken, where they are known, and whether a write
+-- failed or took no byte of some
+pub record Output : Type 0 where
+  pub before : Option (List ℕ)
+  pub taken : Option (List ℕ)
+  pub has_failed : Bool
+
+abbrev pub output_of : Option (List ℕ) → Option (List ℕ) → Bool → Output
+output_of before taken has_failed = record { before = before; taken = taken; has_failed = has_failed }
+
+-- how two inputs are read
+pub record Reads {A : Type 0} (trace companion : Input) (result : Result A Fault) : Type 0 where
+  -- where no fault is answered both were read to their ends, a refused trace and its companion too: nothing is left of them
+  pub ended : OnOk result ((trace.has_ended ≡ true) × (companion.has_ended ≡ true))
+  pub left : OnOk result (IsAtEnd trace.left × IsAtEnd companion.left)
+  -- and no read failed
+  pub heard : OnOk result ((trace.has_failed ≡ false) × (companion.has_failed ≡ false))
+  -- an input's fault comes only where a read of it failed, or the most reads of it were made
+  pub read_trace : IsErrOf result ReadTrace → IsCutShort trace.has_failed trace.calls
+  pub read_companion : IsErrOf result ReadCompanion → IsCutShort companion.has_failed companion.calls
+  -- memory is wanted only where no read failed
+  pub memory : IsErrOf result Memory → (trace.has_failed ≡ false) × (companion.has_failed ≡ false)
+  -- each is read by at most the most reads, and the companion only after the trace
+  pub bounded : (trace.calls ≤ most_reads) × (companion.calls ≤ most_reads)
+  pub order : IsErrOf result ReadTrace → companion.calls ≡ 0
+
+-- what a run over two inputs writes to an output, and what it answers, by what it judges of their record
+pub record Runs {J : Type 0} (is_of : RecordView → J → Type 0) (lines : J → List ℕ) (fault_of : J → Option FirstFault)
+    (trace companion : Input) (out : Output) (result : Result Status Fault) : Type 0 where
+  -- where a status is answered, the report of the two inputs' outcome was written and nothing else, and the status is that
+  -- outcome's
+  pub answered : IfOk result (λ status. (outcome : Outcome J) × IsOutcomeOf is_of trace.gave companion.gave outcome
+      × Appends out.before out.taken (report_of lines outcome) × (status ≡ status_of fault_of outcome))
+  pub reads : Reads trace companion result
+  -- and no write failed
+  pub written : OnOk result (out.has_failed ≡ false)
+  -- a write fault comes only where a write failed or took no byte, and a front of the report was written
+  pub write : IsErrOf result Write → out.has_failed ≡ true
+  pub front : IsErrOf result Write → (outcome : Outcome J) × IsOutcomeOf is_of trace.gave companion.gave outcome
+      × AppendsFront out.before out.taken (report_of lines outcome)
+  -- at any other fault nothing was written, and no write failed
+  pub unwritten : IfErr result (λ fault. fault ≢ Write → Keeps out.before out.taken × (out.has_failed ≡ false))

@@ -1,19 +1,16 @@
-//! The theorems: what the audit of two texts answers, and what a run over two inputs writes.
+//! The theorems: what two texts come to, and what a run over two inputs writes.
 
-ghost use Rattle.std.specs.Prelude.{◌≡◌, ◌≢◌, ◌≤◌, true, false, IfOk, IfErr, OnOk, IsErrOf};
-ghost use Rattle.std.specs.Io.KnownBytes.{IsAtEnd, Keeps};
+ghost use Rattle.std.specs.Prelude.{◌≡◌, false};
 ghost use Rattle.sched_audit.specs.Answer.{IsAnswer};
-ghost use Rattle.sched_audit.specs.Known.{IsCutShort, most_reads};
-ghost use Rattle.sched_audit.specs.Run.{WritesReport, WritesFront};
+ghost use Rattle.sched_audit.specs.Report.{least_fault, least_lines, verdict_fault, verdict_lines};
+ghost use Rattle.sched_audit.specs.Run.{Runs, input_of, output_of};
+ghost use Rattle.ticket_book.specs.LeastAnswer.{IsLeastAnswer};
+ghost use Rattle.ticket_book.specs.Verdict.{IsVerdict};
 
-use crate::audit::audit;
-use crate::lines::read_lines;
-use crate::reading::read_all;
-use crate::texts::record_of;
-use crate::writing::write_all;
-use crate::{Fault, Feed, Gate, Outcome, Refused, Sink, Status, Verdict, report};
+use crate::judging::{judge, texts_judged};
+use crate::writing::write_report;
+use crate::{Fault, Feed, Gate, Hearing, LeastSettings, Refused, Sink, Status, Verdict};
 use cfs_model::Knobs;
-use sched_record::read_trace_wide;
 use std::alloc::Global;
 use std::sync::Wait;
 use std::thread::Threads;
@@ -28,12 +25,10 @@ pub fn audit_texts<R: Threads + Wait + Sync, G: Gate>(
     knobs: Knobs,
     gate: &G,
 ) -> Result<Verdict, Refused>
-    // A verdict or a refusal is the outcome of the two texts.
-    ensures answer { IsAnswer trace.now companion.now knobs result }
+    // A verdict on the record of the two texts, or why one is refused.
+    ensures answer { IsAnswer (IsVerdict knobs) trace.now companion.now result }
 {
-    let trace = read_trace_wide(rt, alloc, trace);
-    let record = record_of(rt, alloc, trace, companion);
-    audit(rt, alloc, record, knobs, gate)
+    texts_judged(rt, alloc, trace, companion, knobs, gate)
 }
 
 /// Reads the trace to its end, then the companion, judges them, and writes the report.
@@ -50,51 +45,48 @@ pub fn run<R: Threads + Wait + Sync, T: Feed, C: Feed, G: Gate, S: Sink>(
     requires trace { T.calls trace.old ≡ 0 }
     requires companion { C.calls companion.old ≡ 0 }
     requires out { S.has_failed out.old ≡ false }
-
-    // Where a status is answered, the report of the two inputs' outcome was written and nothing else, and the
-    // status is that outcome's.
-    ensures answered { IfOk result (λ status.
-        WritesReport (T.left trace.old) (C.left companion.old) knobs status
-        (S.taken out.old) (S.taken out.new)) }
-
-    // Both inputs were read to their ends, a refused trace and its companion too: nothing is left of them.
-    ensures ended { OnOk result ((T.has_ended trace.new ≡ true) × (C.has_ended companion.new ≡ true)) }
-    ensures left { OnOk result (IsAtEnd (T.left trace.new) × IsAtEnd (C.left companion.new)) }
-
-    // And no read or write failed.
-    ensures heard { OnOk result ((T.has_failed trace.new ≡ false)
-        × (C.has_failed companion.new ≡ false) × (S.has_failed out.new ≡ false)) }
-
-    // An input's fault comes only where a read of it failed, or the most reads of it were made.
-    ensures read_trace { IsErrOf result Fault.ReadTrace
-        → IsCutShort (T.has_failed trace.new) (T.calls trace.new) }
-    ensures read_companion { IsErrOf result Fault.ReadCompanion
-        → IsCutShort (C.has_failed companion.new) (C.calls companion.new) }
-
-    // Memory is wanted only where no read failed.
-    ensures memory { IsErrOf result Fault.Memory
-        → (T.has_failed trace.new ≡ false) × (C.has_failed companion.new ≡ false) }
-
-    // A write fault comes only where a write failed or took no byte, and a front of the report was written.
-    ensures write { IsErrOf result Fault.Write → S.has_failed out.new ≡ true }
-    ensures front { IsErrOf result Fault.Write
-        → WritesFront (T.left trace.old) (C.left companion.old) knobs
-        (S.taken out.old) (S.taken out.new) }
-
-    // At any other fault nothing was written, and no write failed.
-    ensures unwritten { IfErr result (λ fault. fault ≢ Fault.Write
-        → Keeps (S.taken out.old) (S.taken out.new) × (S.has_failed out.new ≡ false)) }
-
-    // Each input is read by at most the most reads, and the companion only after the trace.
-    ensures bounded { (T.calls trace.new ≤ most_reads) × (C.calls companion.new ≤ most_reads) }
-    ensures order { IsErrOf result Fault.ReadTrace → C.calls companion.new ≡ 0 }
+    // The report of the verdict on the two inputs, or of a refusal, was written, and else it is told why not.
+    ensures { Runs (IsVerdict knobs) verdict_lines verdict_fault
+        (input_of (T.left trace.old) (T.left trace.new) (T.calls trace.new) (T.has_failed trace.new) (T.has_ended trace.new))
+        (input_of (C.left companion.old) (C.left companion.new) (C.calls companion.new) (C.has_failed companion.new)
+        (C.has_ended companion.new)) (output_of (S.taken out.old) (S.taken out.new) (S.has_failed out.new)) result }
 {
-    let trace = read_lines(alloc, trace)?;
-    let companion = read_all(alloc, companion, Fault::ReadCompanion)?;
-    let record = record_of(rt, alloc, trace.finish(), &companion);
-    drop(companion);
-    let outcome = Outcome::of(audit(rt, alloc, record, knobs, gate))?;
-    let report = report(alloc, &outcome)?;
-    write_all(out, &report)?;
-    Ok(outcome.status())
+    let hearing: Hearing = judge(rt, alloc, trace, companion, knobs, gate)?;
+    write_report(alloc, &hearing.into_outcome(), out)
+}
+
+/// The least settings at which a trace is a run by its companion, or the first line up to which it is one at none.
+pub fn least_texts<R: Threads + Wait + Sync, G: Gate>(
+    rt: &R,
+    alloc: Global,
+    trace: &[u8],
+    companion: &[u8],
+    gate: &G,
+) -> Result<LeastSettings, Refused>
+    // The least settings of the record of the two texts, a fault of it at all settings, or why a text is refused.
+    ensures answer { IsAnswer IsLeastAnswer trace.now companion.now result }
+{
+    texts_judged(rt, alloc, trace, companion, Knobs::greatest(), gate)
+}
+
+/// Reads the trace to its end, then the companion, and writes the least settings at which they are a run.
+pub fn run_least<R: Threads + Wait + Sync, T: Feed, C: Feed, G: Gate, S: Sink>(
+    rt: &R,
+    alloc: Global,
+    trace: &mut T,
+    companion: &mut C,
+    gate: &G,
+    out: &mut S,
+) -> Result<Status, Fault>
+    requires trace { T.calls trace.old ≡ 0 }
+    requires companion { C.calls companion.old ≡ 0 }
+    requires out { S.has_failed out.old ≡ false }
+    ensures { Runs IsLeastAnswer least_lines least_fault
+        (input_of (T.left trace.old) (T.left trace.new) (T.calls trace.new) (T.has_failed trace.new) (T.has_ended trace.new))
+        (input_of (C.left companion.old) (C.left companion.new) (C.calls companion.new) (C.has_failed companion.new)
+        (C.has_ended companion.new)) (output_of (S.taken out.old) (S.taken out.new) (S.has_failed out.new)) result }
+{
+    let knobs = Knobs::greatest();
+    let hearing: Hearing<LeastSettings> = judge(rt, alloc, trace, companion, knobs, gate)?;
+    write_report(alloc, &hearing.into_outcome(), out)
 }

@@ -1,7 +1,6 @@
 //! Judges a recorded schedule: a trace and its companion in, a verdict and its report out.
 #![tactic(auto)]
 
-mod audit;
 mod cause;
 mod command_words;
 mod failed;
@@ -9,10 +8,10 @@ mod fault;
 mod feed;
 mod feed_of;
 mod headline;
-mod least_audit;
-mod least_headline;
-mod least_outcome;
-mod least_reporting;
+mod hearing;
+mod judgement;
+mod judging;
+mod least_settings;
 mod lines;
 mod outcome;
 mod reading;
@@ -24,6 +23,7 @@ mod sink_of;
 mod source;
 mod status;
 mod texts;
+mod verdict;
 mod writing;
 
 pub use audit_crew::{Gate, OpenGate};
@@ -33,16 +33,17 @@ pub use failed::Failed;
 pub use fault::Fault;
 pub use feed::Feed;
 pub use feed_of::FeedOf;
-pub use headline::{audit_texts, run};
-pub use least_headline::{least_texts, run_least};
-pub use least_outcome::LeastOutcome;
-pub use least_reporting::least_report;
+pub use headline::{audit_texts, least_texts, run, run_least};
+pub use hearing::{Hearing, Kept};
+pub use judgement::Judgement;
+pub use judging::judge;
 pub use outcome::Outcome;
 pub use refused::Refused;
-pub use reporting::report;
+pub use reporting::{least_report, report};
 pub use request::Request;
 pub use sink::Sink;
 pub use sink_of::SinkOf;
 pub use source::Source;
 pub use status::Status;
 pub use ticket_book::{LeastSettings, Summary, Verdict};
+pub use writing::write_report;

@@ -1,11 +1,40 @@
-ghost use Rattle.std.specs.Prelude.{◌≡◌, true, OnOk, OnErr, IfErr};
-ghost use Rattle.std.specs.Io.KnownBytes.{Appends};
+ghost use Rattle.std.specs.Prelude.{◌≡◌, ◌⊎◌, false, true, OnOk, OnErr, IfErr, IfOk, IsErrOf};
+ghost use Rattle.std.specs.Io.KnownBytes.{Appends, Keeps};
+ghost use Rattle.sched_audit.specs.Codes.{status_of};
 ghost use Rattle.sched_audit.specs.Known.{AppendsFront};
+ghost use Rattle.sched_audit.specs.Report.{report_of};
 
-use crate::{Fault, Sink};
+use crate::reporting::report_on;
+use crate::{Fault, Judgement, Outcome, Sink, Status};
+use std::alloc::Global;
+
+/// Writes the report of an outcome, and answers its status.
+pub fn write_report<J: Judgement, S: Sink>(
+    alloc: Global,
+    outcome: &Outcome<J>,
+    out: &mut S,
+) -> Result<Status, Fault>
+    // No write failed.
+    requires { S.has_failed out.old ≡ false }
+    ensures status { IfOk result (λ status. status ≡ status_of J.fault outcome.now) }
+    ensures whole { OnOk result (Appends (S.taken out.old) (S.taken out.new) (report_of J.lines outcome.now)) }
+    ensures written { OnOk result (S.has_failed out.new ≡ false) }
+    // The output's fault comes only where a write failed or took no byte, and a front of the report was written.
+    ensures fault { IfErr result (λ fault. (fault ≡ Fault.Write) ⊎ (fault ≡ Fault.Memory)) }
+    ensures write { IsErrOf result Fault.Write → S.has_failed out.new ≡ true }
+    ensures front { IsErrOf result Fault.Write
+        → AppendsFront (S.taken out.old) (S.taken out.new) (report_of J.lines outcome.now) }
+    // Where memory is wanted nothing was written.
+    ensures unwritten { IsErrOf result Fault.Memory
+        → Keeps (S.taken out.old) (S.taken out.new) × (S.has_failed out.new ≡ false) }
+{
+    let report = report_on(alloc, outcome)?;
+    write_all(out, &report)?;
+    Ok(outcome.status())
+}
 
 /// Writes the bytes, in as many writes as it takes. It ends at the first that fails or takes no byte.
-pub(crate) fn write_all<S: Sink>(out: &mut S, bytes: &[u8]) -> Result<(), Fault>
+fn write_all<S: Sink>(out: &mut S, bytes: &[u8]) -> Result<(), Fault>
     ensures whole { OnOk result (Appends (S.taken out.old) (S.taken out.new) bytes.now) }
     ensures heard { OnOk result (S.has_failed out.new ≡ S.has_failed out.old) }
     ensures fault { IfErr result (λ fault. fault ≡ Fault.Write) }

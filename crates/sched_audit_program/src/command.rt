@@ -1,9 +1,12 @@
 use crate::ending::Ending;
-use crate::explaining::explain;
+use crate::explaining::answer_explained;
 use cfs_model::Knobs;
 use clap::Error;
 use clap::error::ErrorKind::OutOfMemory;
-use sched_audit::{Fault, FeedOf, OpenGate, Request, SinkOf, Status, command_line, run, run_least};
+use sched_audit::{
+    Fault, FeedOf, LeastSettings, OpenGate, Request, SinkOf, Status, Verdict, command_line, run,
+    run_least,
+};
 use std::alloc::Global;
 use std::fs::File;
 use std::io::ErrorKind;
@@ -34,7 +37,7 @@ pub fn obey<R: Env + Files + Print + Eprint + AllocGlobal + Threads + Wait + Syn
 }
 
 /// Answers a request.
-fn ending_of<R: Files + Print + AllocGlobal + Threads + Wait + Sync>(
+fn ending_of<R: Files + Print + Threads + Wait + Sync>(
     rt: &R,
     alloc: Global,
     request: &Request<'_>,
@@ -50,37 +53,34 @@ fn words_of<R: Env + AllocGlobal>(rt: &R, alloc: Global) -> io::Result<Vec<Strin
     Ok(env::args(rt)?.collect(alloc)?)
 }
 
-/// Answers a request, and explains the answer where that is asked for and it is no run.
-fn answer<R: Files + Print + AllocGlobal + Threads + Wait + Sync>(
-    rt: &R,
-    alloc: Global,
-    request: &Request<'_>,
-) -> Result<Status, Fault> {
-    let status = report(rt, alloc, request)?;
-    if request.explain && status != Status::Yes {
-        explain(
-            rt,
-            alloc,
-            request.trace,
-            request.companion,
-            fault_knobs(request),
-        )?;
-    }
-    Ok(status)
-}
-
 /// Opens the trace, then the companion, and writes what is asked of them to standard output.
-fn report<R: Files + Print + Threads + Wait + Sync>(
+fn answer<R: Files + Print + Threads + Wait + Sync>(
     rt: &R,
     alloc: Global,
     request: &Request<'_>,
 ) -> Result<Status, Fault> {
     let trace = File::open(rt, request.trace).map_err(|_| Fault::ReadTrace)?;
     let companion = File::open(rt, request.companion).map_err(|_| Fault::ReadCompanion)?;
+    match (request.explain, request.least) {
+        (true, true) => answer_explained::<LeastSettings, R>(rt, alloc, request, trace, companion),
+        (true, false) => answer_explained::<Verdict, R>(rt, alloc, request, trace, companion),
+        (false, least) => answer_alone(rt, alloc, trace, companion, request.knobs, least),
+    }
+}
+
+/// Writes the report, and nothing behind it.
+fn answer_alone<R: Files + Print + Threads + Wait + Sync>(
+    rt: &R,
+    alloc: Global,
+    trace: R::File,
+    companion: R::File,
+    knobs: Knobs,
+    least: bool,
+) -> Result<Status, Fault> {
     let mut trace = FeedOf::new(trace);
     let mut companion = FeedOf::new(companion);
     let mut out = SinkOf::new(io::writer(rt));
-    if request.least {
+    if least {
         run_least(rt, alloc, &mut trace, &mut companion, &OpenGate, &mut out)
     } else {
         run(
@@ -88,19 +88,10 @@ fn report<R: Files + Print + Threads + Wait + Sync>(
             alloc,
             &mut trace,
             &mut companion,
-            request.knobs,
+            knobs,
             &OpenGate,
             &mut out,
         )
-    }
-}
-
-/// The settings that a fault is told by: in place of the least ones, the greatest.
-fn fault_knobs(request: &Request<'_>) -> Knobs {
-    if request.least {
-        Knobs::greatest()
-    } else {
-        request.knobs
     }
 }
 

@@ -1,52 +1,139 @@
+//! The report of an audit, and behind it why that is a fault, or which line is refused.
+use crate::keeping_feed::KeepingFeed;
+use crate::line_finding::line_of;
 use cfs_model::Knobs;
-use fault_explainer::explanation;
-use sched_audit::{Fault, OpenGate};
+use fault_explainer::{explanation, quoted_line};
+use replay_model::FirstFault;
+use sched_audit::{
+    Fault, Feed, FeedOf, Hearing, Judgement, Kept, OpenGate, Outcome, Request, SinkOf, Source,
+    Status, judge, write_report,
+};
+use sched_record::Record;
 use std::alloc::Global;
-use std::io::{ErrorKind, Write};
+use std::fs::{File, OpenFile};
+use std::io;
+use std::io::{ErrorKind, Read, Write};
 use std::rt::Files;
 use std::sync::Wait;
 use std::thread::Threads;
-use std::{fs, io};
 
-/// What is written where one of the files can't be read a second time, or reads differently then.
+/// What is written where the trace can't be read a second time.
 const NOT_EXPLAINED: &[u8] = b"# no explanation: the texts can't be read a second time\n";
 
-/// Reads both files again, and writes behind the report why it is a fault or which line is refused.
-pub(crate) fn explain<R: Files + Print + AllocGlobal + Threads + Wait + Sync>(
+/// Judges both inputs, and writes the report and what there is to say of it.
+pub(crate) fn answer_explained<J: Judgement, R: Files + Print + Threads + Wait + Sync>(
     rt: &R,
     alloc: Global,
-    trace: &str,
-    companion: &str,
-    knobs: Knobs,
-) -> Result<(), Fault> {
-    let told = match (text_of(rt, trace)?, text_of(rt, companion)?) {
-        (Some(trace), Some(companion)) => {
-            explanation(rt, alloc, &trace, &companion, knobs, &OpenGate)?
-        }
-        _ => Vec::new(alloc),
-    };
-    let told = if told.is_empty() {
-        NOT_EXPLAINED
-    } else {
-        told.as_slice()
-    };
-    io::writer(rt).write_all(told).map_err(|_| Fault::Write)
+    request: &Request<'_>,
+    trace: R::File,
+    companion: R::File,
+) -> Result<Status, Fault> {
+    let keeps = !is_regular(&trace);
+    let mut trace = KeepingFeed::new(alloc, FeedOf::new(trace), keeps);
+    let mut companion = FeedOf::new(companion);
+    let knobs = request.knobs;
+    let hearing: Hearing<J> = judge(rt, alloc, &mut trace, &mut companion, knobs, &OpenGate)?;
+    let mut out = SinkOf::new(io::writer(rt));
+    let status = write_report(alloc, &hearing.outcome, &mut out)?;
+    if status != Status::Yes {
+        let told = told_of(rt, alloc, request, hearing, &trace)?;
+        let told = match &told {
+            Some(told) => told.as_slice(),
+            None => NOT_EXPLAINED,
+        };
+        io::writer(rt).write_all(told).map_err(|_| Fault::Write)?;
+    }
+    Ok(status)
 }
 
-/// The bytes of a file, where it is one that can be read again: a pipe isn't even opened.
-fn text_of<R: Files + AllocGlobal>(rt: &R, name: &str) -> Result<Option<Vec<u8>>, Fault> {
-    match fs::metadata(rt, name) {
-        Ok(about) if !about.is_file() => return Ok(None),
-        Ok(_) => (),
-        Err(error) => return unread(&error),
+/// Whether a file is one that can be read a second time.
+fn is_regular<F: OpenFile>(file: &F) -> bool {
+    match file.metadata() {
+        Ok(about) => about.is_file(),
+        Err(_) => false,
     }
-    match fs::read(rt, name) {
-        Ok(text) => Ok(Some(text)),
+}
+
+/// What there is to say of a fault or a refusal. None where the trace can't be read a second time.
+fn told_of<J: Judgement, R: Files, F: Feed>(
+    rt: &R,
+    alloc: Global,
+    request: &Request<'_>,
+    hearing: Hearing<J>,
+    trace: &KeepingFeed<F>,
+) -> Result<Option<Vec<u8>>, Fault> {
+    let Hearing { outcome, kept } = hearing;
+    match (outcome, kept) {
+        (Outcome::Judged(judged), Kept::Record(record)) => match judged.fault() {
+            Some(fault) => {
+                let quote = quoted_trace(rt, alloc, request.trace, trace, u64::from(fault.line))?;
+                with_explanation(alloc, quote, &record, J::replayed_by(request.knobs), &fault)
+            }
+            None => Ok(None),
+        },
+        (
+            Outcome::Text {
+                source: Source::Companion,
+                line,
+                ..
+            },
+            Kept::Companion(text),
+        ) => quoted(alloc, text.as_slice(), line),
+        (Outcome::Text { line, .. }, _) => quoted_trace(rt, alloc, request.trace, trace, line),
+        (Outcome::Judged(_), Kept::Companion(_)) => Ok(None),
+    }
+}
+
+/// A fault's line, if it can be quoted, and how the fault comes about.
+fn with_explanation(
+    alloc: Global,
+    quote: Option<Vec<u8>>,
+    record: &Record,
+    knobs: Knobs,
+    fault: &FirstFault,
+) -> Result<Option<Vec<u8>>, Fault> {
+    match quote {
+        Some(quote) => {
+            let mut told = quote;
+            let text = explanation(alloc, record, knobs, fault)?;
+            match told.extend_from_slice(&text) {
+                Ok(()) => Ok(Some(told)),
+                Err(_) => Err(Fault::Memory),
+            }
+        }
+        None => Ok(None),
+    }
+}
+
+/// The trace's line of this number: from what was kept of it, else from the file, which is opened again.
+fn quoted_trace<R: Files, F: Feed>(
+    rt: &R,
+    alloc: Global,
+    name: &str,
+    trace: &KeepingFeed<F>,
+    number: u64,
+) -> Result<Option<Vec<u8>>, Fault> {
+    match trace.kept()? {
+        Some(text) => quoted(alloc, text, number),
+        None => match File::open(rt, name) {
+            Ok(file) => quoted(alloc, file, number),
+            Err(error) => unread(&error),
+        },
+    }
+}
+
+/// The line of this number of what is read, as it is shown.
+fn quoted<T: Read + Drop>(alloc: Global, text: T, number: u64) -> Result<Option<Vec<u8>>, Fault> {
+    match line_of(alloc, text, number) {
+        Ok(line) => {
+            let line = line.as_ref().map(|line| line.as_slice());
+            Ok(Some(quoted_line(alloc, number, line)?))
+        }
         Err(error) => unread(&error),
     }
 }
 
-/// What follows from a failure: want of memory is told, and a file that can't be read is none.
+/// What follows from a failure: want of memory is told, and what can't be read isn't shown.
 fn unread(error: &io::Error) -> Result<Option<Vec<u8>>, Fault> {
     if error.kind() == ErrorKind::OutOfMemory {
         Err(Fault::Memory)

@@ -4,6 +4,8 @@
 mod command;
 mod ending;
 mod explaining;
+mod keeping_feed;
+mod line_finding;
 
 use ending::Ending;
 use std::process::ExitCode;

@@ -22,20 +22,19 @@ use Rattle.ticket_book.specs.Told.{Tell, cause_view, view_at}
 use Rattle.ticket_book.specs.Whole.{AreSufficient}
 use Rattle.ticket_book.proofs.LargestNeeds.{needs_there}
 use Rattle.ticket_book.proofs.Verdicts.{fault_is_verdict, in_record, page_there, suffices_among}
-use Rattle.ticket_book.specs.declared.fault_cause.FaultCause.{FaultCause as FoundCause}
+use Rattle.replay_model.specs.declared.first_fault.FirstFault.{FirstFault}
 use Rattle.ticket_book.specs.declared.least_settings.LeastSettings.TheVariants.{Fault}
 
 module _ (r : RecordView) (pages : List ReplayView) (sufficient : AreSufficient greatest_settings r pages)
     (o : IsRecordInOrder r) where
   -- what they say first is what is wrong, and no settings in range help
-  pub bad_of : PagesTellFault → FaultIsFirstBad → GreatestTellBadAtAll → (line : ℕ) (cause : FoundCause)
-      → Tell (view_at pages) (length pages) r.tasks (events_of r) (Some (line, cause))
-      → IsLeastAnswer r (Fault line cause.cpu cause.pid cause.kind)
-  bad_of faults first_bad at_all line cause tell =
-      let fault = fault_is_verdict greatest_settings r pages sufficient faults o line cause tell in (
-        at_all r.start (start_machine r.start r.floors r.tasks) (events_of r) line
-            (first_bad greatest_settings r.start r.floors r.tasks (events_of r) line (cause_view cause) fault),
-        fault,
+  pub bad_of : PagesTellFault → FaultIsFirstBad → GreatestTellBadAtAll → (fault : FirstFault)
+      → Tell (view_at pages) (length pages) r.tasks (events_of r) (Some fault) → IsLeastAnswer r (Fault fault)
+  bad_of faults first_bad at_all fault tell =
+      let first = fault_is_verdict greatest_settings r pages sufficient faults o fault tell in (
+        at_all r.start (start_machine r.start r.floors r.tasks) (events_of r) fault.line
+            (first_bad greatest_settings r.start r.floors r.tasks (events_of r) fault.line (cause_view fault) first),
+        first,
       )
 
   module _ (nothing : SayNothing (view_at pages) (length pages) r.tasks (events_of r)) (have : HaveNeeds pages)

@@ -19,7 +19,7 @@ use Rattle.queue_replay.specs.Replay.{ReplayView}
 use Rattle.ticket_book.specs.Idling.{IsFirstLate, NoneLate, is_past}
 use Rattle.ticket_book.specs.Told.{Allow, AllowAct, cause_view, view_at}
 use Rattle.ticket_book.specs.Walk.{AllowShift, IsShiftCause, born_twice_on, failed_on}
-use Rattle.ticket_book.specs.declared.fault_cause.FaultCause.{FaultCause}
+use Rattle.replay_model.specs.declared.first_fault.FirstFault.{FirstFault}
 
 -- a fault is of a test that failed at the event's line, or it isn't
 pub failed_says : (event : Claimed) (cpu line : ℕ) (page : PageView) → event.entry.line ≡ line
@@ -32,7 +32,7 @@ failed_says event cpu line page on = go page.fault refl
 
     late : (fault : StepFault) (d : Option ℕ) → fault.deadline ≡ d → (b : Bool) → nat_eq fault.line line ≡ b
         → page.fault ≡ Some fault
-        → MatchOption (cond (is_none d && b) (Some (record { cpu = cpu; pid = fault.pid; kind = fault.kind })) None)
+        → MatchOption (cond (is_none d && b) (Some (record { line = line; cpu = cpu; pid = fault.pid; kind = fault.kind })) None)
         (¬ FailsHere event (Some fault)) (λ found. IsPageCause event cpu page (cause_view found))
     late fault (Some d) is b at has = λ here. some_none d (sym is ∙ here.0)
     late fault None is true at has = record {
@@ -73,7 +73,7 @@ module _ (pages : ℕ → PageView) (alive : ℕ → Bool) (event : Claimed) whe
   }
 
   -- an answer on an act, as the answer on what the act is
-  abbrev pub Answers : Act → Option FaultCause → Type 0
+  abbrev pub Answers : Act → Option FirstFault → Type 0
   Answers act o = MatchOption o (AllowAct pages alive event) (λ found. IsActCauseOf pages alive event act (cause_view found))
 
   module _ (line : ℕ) (on : event.entry.line ≡ line) where
@@ -83,7 +83,7 @@ module _ (pages : ℕ → PageView) (alive : ℕ → Bool) (event : Claimed) whe
         subst (λ a. Answers a (failed_on cpu line (pages cpu).fault)) (sym is)
         (go (failed_on cpu line (pages cpu).fault) (failed_says event cpu line (pages cpu) on))
       where
-        go : (o : Option FaultCause) → MatchOption o (¬ FailsHere event (pages cpu).fault)
+        go : (o : Option FirstFault) → MatchOption o (¬ FailsHere event (pages cpu).fault)
             (λ found. IsPageCause event cpu (pages cpu) (cause_view found)) → Answers (Switch cpu prev pn way next nn) o
         go None h = allow (Switch cpu prev pn way next nn) (does ∙ is) (h, tt) tt tt
         go (Some found) h = h
@@ -94,26 +94,26 @@ module _ (pages : ℕ → PageView) (alive : ℕ → Bool) (event : Claimed) whe
         subst (λ a. Answers a (failed_on cpu line (pages cpu).fault)) (sym is)
         (go (failed_on cpu line (pages cpu).fault) (failed_says event cpu line (pages cpu) on))
       where
-        go : (o : Option FaultCause) → MatchOption o (¬ FailsHere event (pages cpu).fault)
+        go : (o : Option FirstFault) → MatchOption o (¬ FailsHere event (pages cpu).fault)
             (λ found. IsPageCause event cpu (pages cpu) (cause_view found)) → Answers (Wake cpu pid nice) o
         go None h = allow (Wake cpu pid nice) (does ∙ is) (h, tt) tt tt
         go (Some found) h = h
 
     pub birth_said : (act : Act) (cpu pid : ℕ) (nice : ℤ) → event.entry.act ≡ act → act ≡ Born cpu pid nice
-        → Answers act (option_or (failed_on cpu line (pages cpu).fault) (born_twice_on cpu pid (alive pid)))
+        → Answers act (option_or (failed_on cpu line (pages cpu).fault) (born_twice_on cpu pid line (alive pid)))
     birth_said act cpu pid nice does is =
-        subst (λ a. Answers a (option_or (failed_on cpu line (pages cpu).fault) (born_twice_on cpu pid (alive pid)))) (sym is)
+        subst (λ a. Answers a (option_or (failed_on cpu line (pages cpu).fault) (born_twice_on cpu pid line (alive pid)))) (sym is)
         (go (failed_on cpu line (pages cpu).fault) (failed_says event cpu line (pages cpu) on) (alive pid) refl)
       where
-        go : (o : Option FaultCause) → MatchOption o (¬ FailsHere event (pages cpu).fault)
+        go : (o : Option FirstFault) → MatchOption o (¬ FailsHere event (pages cpu).fault)
             (λ found. IsPageCause event cpu (pages cpu) (cause_view found)) → (b : Bool) → alive pid ≡ b
-            → Answers (Born cpu pid nice) (option_or o (born_twice_on cpu pid b))
+            → Answers (Born cpu pid nice) (option_or o (born_twice_on cpu pid line b))
         go (Some found) h b e = inl h
         go None h true e = inr (h, e, refl)
         go None h false e = allow (Born cpu pid nice) (does ∙ is) (h, tt) tt e
 
     pub shift_said : (act : Act) (orig dest pid : ℕ) (nice : ℤ) → event.entry.act ≡ act → act ≡ Shift orig dest pid nice
-        → (o : Option FaultCause)
+        → (o : Option FirstFault)
         → MatchOption o (AllowShift pages orig dest event) (λ found. IsShiftCause pages orig dest pid event (cause_view found))
         → Answers act o
     shift_said act orig dest pid nice does is None h =
@@ -151,7 +151,7 @@ module _ (pages : List ReplayView) (alive : ℕ → Bool) (event : Claimed) (tim
   })
 
   -- where none is late, the answer on what the event does
-  pub act_said : NoneLate pages time (length pages) → (o : Option FaultCause)
+  pub act_said : NoneLate pages time (length pages) → (o : Option FirstFault)
       → MatchOption o (AllowAct (view_at pages) alive event)
       (λ found. IsActCauseOf (view_at pages) alive event event.entry.act (cause_view found))
       → MatchOption o (Allow (view_at pages) (length pages) alive event)

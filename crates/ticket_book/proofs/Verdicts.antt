@@ -34,7 +34,7 @@ use Rattle.ticket_book.specs.Walk.{TicketsRise}
 use Rattle.ticket_book.specs.Whole.{AreSufficient, SufficesBeside}
 use Rattle.ticket_book.proofs.Extent.{bounds_fit, events_few, last_greatest, times_below}
 use Rattle.ticket_book.proofs.TicketOrder.{own_tickets_rise}
-use Rattle.ticket_book.specs.declared.fault_cause.FaultCause.{FaultCause as FoundCause}
+use Rattle.replay_model.specs.declared.first_fault.FirstFault.{FirstFault}
 use Rattle.ticket_book.specs.declared.summary.Summary.{Summary}
 use Rattle.ticket_book.specs.declared.verdict.Verdict.TheVariants.{Run, Fault}
 
@@ -82,14 +82,13 @@ module _ (knobs : Settings) (r : RecordView) (pages : List ReplayView) (sufficie
   in_record o = subst (IsRecord r.start r.floors r.tasks (events_of r)) (sym sufficient.count) (record_in_order r o)
 
   -- what they say first is what is wrong
-  pub fault_is_verdict : PagesTellFault → IsRecordInOrder r → (line : ℕ) (cause : FoundCause)
-      → Tell (view_at pages) (length pages) r.tasks (events_of r) (Some (line, cause))
-      → IsVerdict knobs r (Fault line cause.cpu cause.pid cause.kind)
-  fault_is_verdict faults o line cause tell =
-      subst (λ n. IsFirstFault knobs r.start (start_machine r.start r.floors r.tasks) (events_of r) n (cause_view cause))
+  pub fault_is_verdict : PagesTellFault → IsRecordInOrder r → (fault : FirstFault)
+      → Tell (view_at pages) (length pages) r.tasks (events_of r) (Some fault) → IsVerdict knobs r (Fault fault)
+  fault_is_verdict faults o fault tell =
+      subst (λ n. IsFirstFault knobs r.start (start_machine r.start r.floors r.tasks) (events_of r) n (cause_view fault))
       tell.line_is
       (faults knobs r.start r.floors r.tasks (events_of r) tell.before tell.rest tell.event (length pages) (view_at pages)
-      (cause_view cause) (in_record o) all_suffice tell.whole tell.nothing tell.why)
+      (cause_view fault) (in_record o) all_suffice tell.whole tell.nothing tell.why)
 
   module _ (o : IsRecordInOrder r)
       (nothing : SayNothing (view_at pages) (length pages) r.tasks (events_of r)) where

@@ -11,6 +11,6 @@ use Rattle.ticket_book.specs.declared.least_settings.LeastSettings.TheVariants.{
 -- in range, and what is wrong there at the greatest
 abbrev pub IsLeastAnswer : RecordView → LeastSettings → Type 0
 IsLeastAnswer r (Found knobs) = AreLeast r.start (start_machine r.start r.floors r.tasks) (events_of r) knobs
-IsLeastAnswer r (Fault line cpu pid kind) =
-    IsFirstBadAtAll r.start (start_machine r.start r.floors r.tasks) (events_of r) line
-    × IsFaulty greatest_settings r line (record { cpu = cpu; pid = pid; kind = kind })
+IsLeastAnswer r (Fault fault) =
+    IsFirstBadAtAll r.start (start_machine r.start r.floors r.tasks) (events_of r) fault.line
+    × IsFaulty greatest_settings r fault

@@ -12,7 +12,7 @@ use Rattle.replay_model.specs.Roll.{roll_of}
 use Rattle.replay_model.specs.Noted.{PageView}
 use Rattle.queue_replay.specs.Replay.{ReplayView}
 use Rattle.cfs_model.specs.declared.task.Task.{Task}
-use Rattle.ticket_book.specs.declared.fault_cause.FaultCause.{FaultCause as FoundCause}
+use Rattle.replay_model.specs.declared.first_fault.FirstFault.{FirstFault}
 
 -- a page that tells nothing
 abbrev pub empty_view : PageView
@@ -24,9 +24,9 @@ view_at [] cpu = empty_view
 view_at (page ∷ pages) zero = page.page
 view_at (page ∷ pages) (suc cpu) = view_at pages cpu
 
--- the cause as the model sees it
-abbrev pub cause_view : FoundCause → FaultCause
-cause_view c = record { cpu = c.cpu; pid = c.pid; kind = c.kind }
+-- what is wrong, as the model sees it
+abbrev pub cause_view : FirstFault → FaultCause
+cause_view f = record { cpu = f.cpu; pid = f.pid; kind = f.kind }
 
 -- the pages say nothing against what an event does
 pub record AllowAct (pages : ℕ → PageView) (alive : ℕ → Bool) (event : Claimed) : Type 0 where
@@ -51,7 +51,7 @@ pub record TellFault (pages : ℕ → PageView) (cpus : ℕ) (tasks : List Task)
   pub nothing : SayNothing pages cpus tasks before
   pub why : IsCauseOf pages cpus (roll_of (named tasks) before) event cause
 
--- what the pages tell of all events: nothing against them, or what they say first and its line
-abbrev pub Tell : (ℕ → PageView) → ℕ → List Task → List Claimed → Option (ℕ × FoundCause) → Type 0
+-- what the pages tell of all events: nothing against them, or what they say first
+abbrev pub Tell : (ℕ → PageView) → ℕ → List Task → List Claimed → Option FirstFault → Type 0
 Tell pages cpus tasks events None = SayNothing pages cpus tasks events
-Tell pages cpus tasks events (Some found) = TellFault pages cpus tasks events found.0 (cause_view found.1)
+Tell pages cpus tasks events (Some fault) = TellFault pages cpus tasks events fault.line (cause_view fault)

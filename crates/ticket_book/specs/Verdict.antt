@@ -1,10 +1,10 @@
 -- The verdict on a record: the headline (this project's profile). What a run is, is said by cfs_model; what its summary
 -- is, and what is wrong with the first event up to which the events are none, by replay_model.
-use Rattle.std.specs.Prelude.{ℕ}
 use Rattle.cfs_model.specs.Settings.{Settings}
 use Rattle.cfs_model.specs.Start.{start_machine}
-use Rattle.replay_model.specs.Cause.{FaultCause, IsFirstFault}
+use Rattle.replay_model.specs.Cause.{IsFirstFault}
 use Rattle.replay_model.specs.Summary.{SummaryView, IsSummary}
+use Rattle.replay_model.specs.declared.first_fault.FirstFault.{FirstFault}
 use Rattle.sched_record.specs.Record.{RecordView}
 use Rattle.ticket_book.specs.SaidEvents.{events_of}
 use Rattle.ticket_book.specs.SummaryView.{summary_view}
@@ -17,13 +17,14 @@ abbrev pub IsScheduled : Settings → RecordView → SummaryView → Type 0
 IsScheduled knobs r summary =
     IsSummary knobs r.start (start_machine r.start r.floors r.tasks) r.tasks (events_of r) summary
 
--- the record's events are none from this line on, which is the first, and this is what is wrong there
-abbrev pub IsFaulty : Settings → RecordView → ℕ → FaultCause → Type 0
-IsFaulty knobs r line cause =
-    IsFirstFault knobs r.start (start_machine r.start r.floors r.tasks) (events_of r) line cause
+-- the record's events are none from the fault's line on, which is the first, and the fault tells what is wrong there
+abbrev pub IsFaulty : Settings → RecordView → FirstFault → Type 0
+IsFaulty knobs r fault =
+    IsFirstFault knobs r.start (start_machine r.start r.floors r.tasks) (events_of r) fault.line
+    (record { cpu = fault.cpu; pid = fault.pid; kind = fault.kind })
 
 -- a verdict on a record: yes means that it is a run, and tells what the run did; a fault names the first line up to which
 -- the events are none, and what is wrong there
 abbrev pub IsVerdict : Settings → RecordView → Verdict → Type 0
 IsVerdict knobs r (Run summary) = IsScheduled knobs r (summary_view summary)
-IsVerdict knobs r (Fault line cpu pid kind) = IsFaulty knobs r line (record { cpu = cpu; pid = pid; kind = kind })
+IsVerdict knobs r (Fault fault) = IsFaulty knobs r fault

@@ -2,7 +2,7 @@
 use Rattle.std.specs.Prelude.{◌≡◌, ℕ, ◌<◌, ◌≤◌, ◌==◌, ◌&&◌, ◌≢◌, ◌⊎◌, Bool, if◌then◌else◌, is_none, Option, Some, None, List, AllPairs, length, slice_index, take}
 use Rattle.cfs_model.specs.Claimed.{Claimed}
 use Rattle.cfs_model.specs.declared.kind.Kind.TheVariants.{BornTwice, TicketUnequal}
-use Rattle.replay_model.specs.Cause.{FaultCause as SpecCause}
+use Rattle.replay_model.specs.Cause.{FaultCause}
 use Rattle.replay_laws.specs.Telling.{FailsHere, IsPageCause}
 use Rattle.replay_model.specs.Tickets.{ticket_at}
 use Rattle.replay_model.specs.Noted.{PageView}
@@ -12,7 +12,7 @@ use Rattle.queue_replay.specs.Replay.{ReplayView}
 use Rattle.ticket_book.specs.Idling.{NoneFirst}
 use Rattle.ticket_book.specs.TicketPlaces.{AreBelow}
 use Rattle.ticket_book.specs.Told.{view_at}
-use Rattle.ticket_book.specs.declared.fault_cause.FaultCause.{FaultCause}
+use Rattle.replay_model.specs.declared.first_fault.FirstFault.{FirstFault}
 use Rattle.ticket_book.specs.declared.walk.Walk.{Walk}
 
 -- the lines of the tickets on each page never fall
@@ -32,17 +32,18 @@ pub record StandsAt (pages : List ReplayView) (line : ℕ) (walk : Walk) : Type 
   pub left : AreBehind (λ page. page.left) pages line walk.left
   pub came : AreBehind (λ page. page.came) pages line walk.came
 
--- the cause by a page's fault, where it is of a test that failed at this line
-abbrev pub failed_on : ℕ → ℕ → Option StepFault → Option FaultCause
+-- what a page's fault says, where it is of a test that failed at this line
+abbrev pub failed_on : ℕ → ℕ → Option StepFault → Option FirstFault
 failed_on cpu line None = None
 failed_on cpu line (Some fault) =
     if is_none fault.deadline && (fault.line == line)
-    then Some (record { cpu = cpu; pid = fault.pid; kind = fault.kind })
+    then Some (record { line = line; cpu = cpu; pid = fault.pid; kind = fault.kind })
     else None
 
--- the cause of a birth of a pid that is alive
-abbrev pub born_twice_on : ℕ → ℕ → Bool → Option FaultCause
-born_twice_on cpu pid alive = if alive then Some (record { cpu = cpu; pid = pid; kind = BornTwice }) else None
+-- what a birth of a pid that is alive says
+abbrev pub born_twice_on : ℕ → ℕ → ℕ → Bool → Option FirstFault
+born_twice_on cpu pid line alive =
+    if alive then Some (record { line = line; cpu = cpu; pid = pid; kind = BornTwice }) else None
 
 -- the pages say nothing against a migration
 pub record AllowShift (pages : ℕ → PageView) (orig dest : ℕ) (event : Claimed) : Type 0 where
@@ -51,7 +52,7 @@ pub record AllowShift (pages : ℕ → PageView) (orig dest : ℕ) (event : Clai
   pub agree : ticket_at event.entry.line (pages orig).left ≡ ticket_at event.entry.line (pages dest).came
 
 -- the first thing that they say against a migration
-abbrev pub IsShiftCause : (ℕ → PageView) → ℕ → ℕ → ℕ → Claimed → SpecCause → Type 0
+abbrev pub IsShiftCause : (ℕ → PageView) → ℕ → ℕ → ℕ → Claimed → FaultCause → Type 0
 IsShiftCause pages orig dest pid event cause =
     IsPageCause event orig (pages orig) cause
     ⊎ ((¬ FailsHere event (pages orig).fault) × IsPageCause event dest (pages dest) cause)

@@ -105,6 +105,7 @@ impl Book {
         ensures verdict { IfOk result (λ closed. IsVerdict knobs (record_view joined.now) closed.verdict) }
         ensures remade { IfOk result (λ closed. AreRemade knobs (record_view joined.now) (book_view self) closed.remade) }
         ensures nothing_remade { IfOk result (λ closed. AreLeft knobs (record_view joined.now) (book_view self) → closed.remade ≡ 0) }
+        ensures few { IfOk result (λ closed. closed.remade ≤ (record_view joined.now).cpus) }
     {
         let alloc = *self.places.allocator();
         let (pages, remade) = sufficing_own_pages(alloc, self, joined, knobs)?;
@@ -121,6 +122,7 @@ impl Book {
         ensures least { IfOk result (λ closed. IsLeastAnswer (record_view joined.now) closed.least) }
         ensures remade { IfOk result (λ closed. AreRemade greatest_settings (record_view joined.now) (book_view self) closed.remade) }
         ensures nothing_remade { IfOk result (λ closed. AreLeft greatest_settings (record_view joined.now) (book_view self) → closed.remade ≡ 0) }
+        ensures few { IfOk result (λ closed. closed.remade ≤ (record_view joined.now).cpus) }
     {
         let alloc = *self.places.allocator();
         let (pages, remade) = sufficing_own_pages(alloc, self, joined, Knobs::greatest())?;

@@ -7,12 +7,12 @@ ghost use Rattle.ticket_book.specs.Walk.{TicketsRise};
 ghost use Rattle.ticket_book.specs.Whole.{AreSufficient};
 
 use crate::Verdict;
-use crate::fault_cause::FaultCause;
 use crate::summing::summary_by;
 use crate::walk::Walk;
 use cfs_model::{Knobs, Memory};
 use queue_replay::Page;
 use replay_laws::closing;
+use replay_model::FirstFault;
 use sched_record::Record;
 use std::alloc::Global;
 use tally_laws::tallying;
@@ -29,12 +29,7 @@ pub(crate) fn verdict_on(
 {
     closing();
     match told_by(alloc, pages, joined)? {
-        Some((line, cause)) => Ok(Verdict::Fault {
-            line,
-            cpu: cause.cpu,
-            pid: cause.pid,
-            kind: cause.kind,
-        }),
+        Some(fault) => Ok(Verdict::Fault(fault)),
         None => {
             tallying();
             // No sum is too great: no time is above the last, and there are no more events than lines.
@@ -45,12 +40,12 @@ pub(crate) fn verdict_on(
 }
 
 /// What the pages of a record's processors tell of its events, which are walked once: the first thing that they say
-/// against one and its line, or nothing.
+/// against one, or nothing.
 pub(crate) fn told_by(
     alloc: Global,
     pages: &[Page],
     joined: &Record,
-) -> Result<Option<(u32, FaultCause)>, Memory>
+) -> Result<Option<FirstFault>, Memory>
     requires count { length pages.now ≡ (record_view joined.now).cpus }
     requires rise { TicketsRise pages.now }
     ensures { IfOk result (Tell (view_at pages.now) (length pages.now) (record_view joined.now).tasks
@@ -58,8 +53,8 @@ pub(crate) fn told_by(
 {
     let mut walk = Walk::new(alloc, pages, joined.tasks())?;
     for event in joined.events() {
-        if let Some(cause) = walk.cause(pages, event) {
-            return Ok(Some((event.line, cause)));
+        if let Some(fault) = walk.fault(pages, event) {
+            return Ok(Some(fault));
         }
         walk.pass(event.act)?;
     }

@@ -29,14 +29,9 @@ pub(crate) fn least_on(
     closing();
     least_settings();
     match told_by(alloc, pages, joined)? {
-        Some((line, cause)) => {
+        Some(fault) => {
             first_faults();
-            Ok(LeastSettings::Fault {
-                line,
-                cpu: cause.cpu,
-                pid: cause.pid,
-                kind: cause.kind,
-            })
+            Ok(LeastSettings::Fault(fault))
         }
         None => {
             needs();

@@ -8,7 +8,6 @@ mod closed_least;
 mod closing;
 mod cursor;
 mod event_counts;
-mod fault_cause;
 mod following;
 mod idling;
 mod least_closing;

@@ -1,9 +1,10 @@
 //! A page for each processor on which a verdict can rest: of a book's pages those that suffice, and the others made again.
-ghost use Rattle.std.specs.Prelude.{◌≡◌, ◌≢◌, ℕ, None, Some, ◌<◌, IfOk, IfSome, length};
+ghost use Rattle.std.specs.Prelude.{◌≡◌, ◌≢◌, ℕ, None, Some, ◌<◌, ◌≤◌, IfOk, IfSome, length};
 ghost use Rattle.replay_model.specs.Page.{IsPageOf};
 ghost use Rattle.sched_record.specs.Record.{record_view};
 ghost use Rattle.ticket_book.specs.Book.{page_at};
 ghost use Rattle.ticket_book.specs.BookView.{book_view};
+ghost use Rattle.ticket_book.specs.Core.{AreLeft};
 ghost use Rattle.ticket_book.specs.Own.{AreOwn, AreToldOwn};
 ghost use Rattle.ticket_book.specs.Relying.{IsReliable};
 ghost use Rattle.ticket_book.specs.Remade.{AreRemade};
@@ -27,6 +28,7 @@ pub(crate) fn sufficing_pages(
 ) -> Result<(Vec<Page>, u32), Memory>
     ensures suffice { IfOk result (λ made. AreSufficient knobs (record_view joined.now) made.0.items) }
     ensures remade { IfOk result (λ made. AreRemade knobs (record_view joined.now) (book_view book) made.1) }
+    ensures nothing_remade { IfOk result (λ made. AreLeft knobs (record_view joined.now) (book_view book) → made.1 ≡ 0) }
 {
     let places = book.into_places();
     let own = own_places(alloc, &places, joined, knobs)?;
@@ -43,6 +45,8 @@ pub(crate) fn sufficing_own_pages(
     requires own { AreOwn knobs (record_view joined.now) (book_view book) }
     ensures suffice { IfOk result (λ made. AreSufficient knobs (record_view joined.now) made.0.items) }
     ensures remade { IfOk result (λ made. AreRemade knobs (record_view joined.now) (book_view book) made.1) }
+    ensures nothing_remade { IfOk result (λ made. AreLeft knobs (record_view joined.now) (book_view book) → made.1 ≡ 0) }
+    ensures few { IfOk result (λ made. made.1 ≤ (record_view joined.now).cpus) }
 {
     let own = Vec::from_elem(alloc, true, joined.cpus() as usize)?;
     gathered_pages(alloc, book.into_places(), &own, joined, knobs)
@@ -60,6 +64,8 @@ fn gathered_pages(
     requires told { AreToldOwn knobs (record_view joined.now) places.items own.now }
     ensures suffice { IfOk result (λ made. AreSufficient knobs (record_view joined.now) made.0.items) }
     ensures remade { IfOk result (λ made. AreRemade knobs (record_view joined.now) places.items made.1) }
+    ensures nothing_remade { IfOk result (λ made. AreLeft knobs (record_view joined.now) places.items → made.1 ≡ 0) }
+    ensures few { IfOk result (λ made. made.1 ≤ (record_view joined.now).cpus) }
 {
     let least = least_fault(&places, own);
     let left = places.as_mut_slice();

@@ -1,4 +1,4 @@
-ghost use Rattle.std.specs.Prelude.{◌≡◌, ◌≢◌, ◌<◌, ◌^◌, ℕ, All, IfOk, MatchOption, OnOk, length};
+ghost use Rattle.std.specs.Prelude.{◌≡◌, ◌≢◌, ◌<◌, ◌^◌, ℕ, All, IfOk, IfSome, MatchOption, OnOk, length};
 ghost use Rattle.std.specs.Bool.{OnFalse, OnTrue};
 ghost use Rattle.std.specs.Option.{option_or};
 ghost use Rattle.cfs_model.specs.Claimed.{Claimed};
@@ -11,12 +11,11 @@ ghost use Rattle.ticket_book.specs.Told.{Allow, AllowAct, cause_view, view_at};
 ghost use Rattle.ticket_book.specs.Walk.{AllowShift, IsShiftCause, StandsAt, TicketsRise, born_twice_on, failed_on};
 
 use crate::alive::Alive;
-use crate::fault_cause::FaultCause;
 use crate::idling::{first_deadline, late};
 use crate::ticket_places::TicketPlaces;
 use cfs_model::{Act, Entry, Kind, Memory, Task};
 use queue_replay::Page;
-use replay_model::{StepFault, Ticket};
+use replay_model::{FirstFault, StepFault, Ticket};
 use std::alloc::Global;
 
 /// A walk along a record's events, which asks the pages about each in turn.
@@ -46,61 +45,67 @@ impl Walk {
     }
 
     /// The first thing that the pages say against the next event.
-    pub(crate) fn cause(&mut self, pages: &[Page], event: &Entry) -> Option<FaultCause>
+    pub(crate) fn fault(&mut self, pages: &[Page], event: &Entry) -> Option<FirstFault>
         requires few { length pages.now < 2 ^ 32 }
         requires inside { All (λ cpu. cpu < length pages.now) (touched event.now.act) }
         requires rise { TicketsRise pages.now }
         requires stands { StandsAt pages.now event.now.line self.old }
         ensures said { (said : Claimed) → said.entry ≡ event.now → MatchOption result
             (Allow (view_at pages.now) (length pages.now) (alive_view self.old.alive) said)
-            (λ cause. IsCauseOf (view_at pages.now) (length pages.now) (alive_view self.old.alive) said (cause_view cause)) }
+            (λ fault. IsCauseOf (view_at pages.now) (length pages.now) (alive_view self.old.alive) said (cause_view fault)) }
+        ensures line { IfSome result (λ fault. fault.line ≡ event.now.line) }
         ensures stands { StandsAt pages.now event.now.line self.new }
         ensures alive { self.new.alive ≡ self.old.alive }
     {
         if let Some(cpu) = late(pages, self.deadline, event.time) {
-            return Some(FaultCause {
+            return Some(FirstFault {
+                line: event.line,
                 cpu: cpu as u32,
                 pid: 0,
                 kind: Kind::IdleTooLong,
             });
         }
-        self.act_cause(pages, event.line, event.act)
+        self.act_fault(pages, event.line, event.act)
     }
 
     /// The first thing that they say against what it does.
-    fn act_cause(&mut self, pages: &[Page], line: u32, act: Act) -> Option<FaultCause>
+    fn act_fault(&mut self, pages: &[Page], line: u32, act: Act) -> Option<FirstFault>
         requires inside { All (λ cpu. cpu < length pages.now) (touched act) }
         requires rise { TicketsRise pages.now }
         requires stands { StandsAt pages.now line self.old }
         ensures said { (said : Claimed) → said.entry.line ≡ line → said.entry.act ≡ act → MatchOption result
             (AllowAct (view_at pages.now) (alive_view self.old.alive) said)
-            (λ cause. IsActCauseOf (view_at pages.now) (alive_view self.old.alive) said act (cause_view cause)) }
+            (λ fault. IsActCauseOf (view_at pages.now) (alive_view self.old.alive) said act (cause_view fault)) }
+        ensures line { IfSome result (λ fault. fault.line ≡ line) }
         ensures stands { StandsAt pages.now line self.new }
         ensures alive { self.new.alive ≡ self.old.alive }
     {
         match act {
             Act::Switch { cpu, .. } => failed_at(pages, cpu, line),
             Act::Wake { cpu, .. } => failed_at(pages, cpu, line),
-            Act::Born { cpu, pid, .. } => self.birth_cause(pages, cpu, pid, line),
+            Act::Born { cpu, pid, .. } => self.birth_fault(pages, cpu, pid, line),
             Act::Shift {
                 orig,
                 dest,
                 pid,
                 ..
-            } => self.shift_cause(pages, orig, dest, pid, line),
+            } => self.shift_fault(pages, orig, dest, pid, line),
         }
     }
 
     /// The first thing that they say against a birth.
-    fn birth_cause(&self, pages: &[Page], cpu: u32, pid: u32, line: u32) -> Option<FaultCause>
+    fn birth_fault(&self, pages: &[Page], cpu: u32, pid: u32, line: u32) -> Option<FirstFault>
         requires { cpu < length pages.now }
-        ensures { result ≡ option_or (failed_on cpu line (view_at pages.now cpu).fault) (born_twice_on cpu pid (alive_view self.now.alive pid)) }
+        ensures fault { result ≡ option_or (failed_on cpu line (view_at pages.now cpu).fault)
+            (born_twice_on cpu pid line (alive_view self.now.alive pid)) }
+        ensures line { IfSome result (λ fault. fault.line ≡ line) }
     {
-        if let Some(cause) = failed_at(pages, cpu, line) {
-            return Some(cause);
+        if let Some(fault) = failed_at(pages, cpu, line) {
+            return Some(fault);
         }
         if self.alive.has(pid) {
-            Some(FaultCause {
+            Some(FirstFault {
+                line,
                 cpu,
                 pid,
                 kind: Kind::BornTwice,
@@ -111,32 +116,34 @@ impl Walk {
     }
 
     /// The first thing that they say against a migration.
-    fn shift_cause(
+    fn shift_fault(
         &mut self,
         pages: &[Page],
         orig: u32,
         dest: u32,
         pid: u32,
         line: u32,
-    ) -> Option<FaultCause>
+    ) -> Option<FirstFault>
         requires orig { orig < length pages.now }
         requires dest { dest < length pages.now }
         requires rise { TicketsRise pages.now }
         requires stands { StandsAt pages.now line self.old }
         ensures said { (event : Claimed) → event.entry.line ≡ line → MatchOption result
             (AllowShift (view_at pages.now) orig dest event)
-            (λ cause. IsShiftCause (view_at pages.now) orig dest pid event (cause_view cause)) }
+            (λ fault. IsShiftCause (view_at pages.now) orig dest pid event (cause_view fault)) }
+        ensures line { IfSome result (λ fault. fault.line ≡ line) }
         ensures stands { StandsAt pages.now line self.new }
         ensures alive { self.new.alive ≡ self.old.alive }
     {
-        if let Some(cause) = failed_at(pages, orig, line) {
-            return Some(cause);
+        if let Some(fault) = failed_at(pages, orig, line) {
+            return Some(fault);
         }
-        if let Some(cause) = failed_at(pages, dest, line) {
-            return Some(cause);
+        if let Some(fault) = failed_at(pages, dest, line) {
+            return Some(fault);
         }
         if self.tickets_differ(pages, orig, dest, line) {
-            Some(FaultCause {
+            Some(FirstFault {
+                line,
                 cpu: dest,
                 pid,
                 kind: Kind::TicketUnequal,
@@ -176,20 +183,23 @@ impl Walk {
 }
 
 /// The fault on a processor's page, where it is of a test that failed at this line.
-fn failed_at(pages: &[Page], cpu: u32, line: u32) -> Option<FaultCause>
+fn failed_at(pages: &[Page], cpu: u32, line: u32) -> Option<FirstFault>
     requires { cpu < length pages.now }
-    ensures { result ≡ failed_on cpu line (view_at pages.now cpu).fault }
+    ensures fault { result ≡ failed_on cpu line (view_at pages.now cpu).fault }
+    ensures line { IfSome result (λ fault. fault.line ≡ line) }
 {
     failed_by(pages[cpu as usize].fault(), cpu, line)
 }
 
 /// A fault, where it is of a test that failed at this line.
-fn failed_by(fault: Option<StepFault>, cpu: u32, line: u32) -> Option<FaultCause>
-    ensures { result ≡ failed_on cpu line fault }
+fn failed_by(fault: Option<StepFault>, cpu: u32, line: u32) -> Option<FirstFault>
+    ensures fault { result ≡ failed_on cpu line fault }
+    ensures line { IfSome result (λ fault. fault.line ≡ line) }
 {
     let fault = fault?;
     if fault.deadline.is_none() && fault.line == line {
-        Some(FaultCause {
+        Some(FirstFault {
+            line,
             cpu,
             pid: fault.pid,
             kind: fault.kind,

@@ -77,12 +77,7 @@ pub(crate) fn stream_of(alloc: Global, recording: &Recording, cpu: u32) -> Resul
 pub(crate) fn fault_of(verdict: Verdict) -> MaybeFault {
     match verdict {
         Verdict::Run(_) => None,
-        Verdict::Fault {
-            line,
-            cpu,
-            pid,
-            kind,
-        } => Some((line, cpu, pid, kind)),
+        Verdict::Fault(fault) => Some((fault.line, fault.cpu, fault.pid, fault.kind)),
     }
 }
 

@@ -6,6 +6,7 @@ use Rattle.replay_laws.specs.Telling.{SayNothing}
 use Rattle.replay_model.specs.Roll.{named}
 use Rattle.sched_record.specs.Kept.{policy_of}
 use Rattle.sched_record.specs.Record.{record_view}
+use Rattle.ticket_book.specs.SaidEvents.{events_of}
 use Rattle.ticket_book.specs.Told.{TellFault, cause_view, view_at}
 use Rattle.ticket_book.specs.Walk.{StandsAt}
 use Rattle.ticket_book.proofs.Walked.{walk_starts, walk_goes_on, walk_ends, walk_is_done}
@@ -17,11 +18,11 @@ loop-event-init c =
     walk_starts c.args.pages.now r.tasks r.claims r.nices (policy_of r) c.events-event-items.result.now c.in_ok-walk.walk
     (λ pid. c.in_ok-walk.ensures.alive pid ∙ ap (λ tasks. named tasks pid) c.tasks.ensures) c.in_ok-walk.ensures.stands
 
-pub cause-requires-clause-rise : goal.cause-requires-clause-rise
-cause-requires-clause-rise c = c.requires.rise
+pub fault-requires-clause-rise : goal.fault-requires-clause-rise
+fault-requires-clause-rise c = c.requires.rise
 
-pub cause-requires-clause-stands : goal.cause-requires-clause-stands
-cause-requires-clause-stands c =
+pub fault-requires-clause-stands : goal.fault-requires-clause-stands
+fault-requires-clause-stands c =
     let i = c.loop-event.event-index in
     let event = c.event-item.result in
     subst (λ (e : Entry). StandsAt c.args.pages.now e.line c.loop-event.walk) (sym c.event-item.is)
@@ -34,10 +35,12 @@ returns-in-Some c =
     let events = c.events-event-items.result.now in
     let event = c.event-item.result in
     let told = walk_ends pages r.tasks r.claims r.nices (policy_of r) events c.loop-event.event-index event c.loop-event-test.true c.event-item.is
-    c.loop-event.walk (cause_view c.in-Some.cause) c.loop-event.invariant
+    c.loop-event.walk (cause_view c.in-Some.fault) c.loop-event.invariant
     (c.in-Some.ensures.said (with_claim r.claims r.nices (policy_of r) event) refl) in
-    subst (λ es. TellFault (view_at pages) (length pages) r.tasks (claimed r.claims r.nices (policy_of r) es) event.line (cause_view c.in-Some.cause))
-    c.events-event-items.ensures told
+    subst (λ n. TellFault (view_at pages) (length pages) r.tasks (events_of r) n (cause_view c.in-Some.fault))
+    (sym c.in-Some.ensures.line)
+    (subst (λ es. TellFault (view_at pages) (length pages) r.tasks (claimed r.claims r.nices (policy_of r) es) event.line (cause_view c.in-Some.fault))
+    c.events-event-items.ensures told)
 
 pub loop-event-preserved : goal.loop-event-preserved
 loop-event-preserved c =
@@ -48,8 +51,8 @@ loop-event-preserved c =
     let rise = subst (AllPairs (λ (a b : Entry). a.line < b.line)) (sym c.events-event-items.ensures)
     joined.in_order.events.lines_rise in
     walk_goes_on c.args.pages.now r.tasks r.claims r.nices (policy_of r) events c.loop-event.event-index event c.loop-event-test.true
-    c.event-item.is c.loop-event.walk c.cause.new.self c.pass.new.self rise c.loop-event.invariant
-    c.cause.ensures.alive c.cause.ensures.stands (c.in_default.ensures.said (with_claim r.claims r.nices (policy_of r) event) refl)
+    c.event-item.is c.loop-event.walk c.fault.new.self c.pass.new.self rise c.loop-event.invariant
+    c.fault.ensures.alive c.fault.ensures.stands (c.in_default.ensures.said (with_claim r.claims r.nices (policy_of r) event) refl)
     c.in_ok-pass.ensures.alive c.pass.ensures.deadline c.pass.ensures.left c.pass.ensures.came
 
 pub returns : goal.returns

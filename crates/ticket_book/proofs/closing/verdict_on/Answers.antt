@@ -14,8 +14,8 @@ pub returns-in-Some : goal.returns-in-Some
 returns-in-Some c =
     let r = record_view c.args.joined.now in
     let pages = c.args.pages.now in
-    fault_is_verdict c.args.knobs r pages c.requires c.closing.ensures.fault c.args.joined.now.in_order c.in-Some.line c.in-Some.cause
-    (subst (Tell (view_at pages) (length pages) r.tasks (events_of r)) c.in-Some.is c.in_ok-line.ensures)
+    fault_is_verdict c.args.knobs r pages c.requires c.closing.ensures.fault c.args.joined.now.in_order c.in-Some.fault
+    (subst (Tell (view_at pages) (length pages) r.tasks (events_of r)) c.in-Some.is c.in_ok-fault.ensures)
 
 pub summary_by-requires : goal.summary_by-requires
 summary_by-requires c =
@@ -23,7 +23,7 @@ summary_by-requires c =
     let pages = c.args.pages.now in
     let order = c.args.joined.now.in_order in
     let nothing = subst (Tell (view_at pages) (length pages) r.tasks (events_of r)) c.in-None.is
-    c.in_ok-line.ensures in
+    c.in_ok-fault.ensures in
     sums_fit c.args.knobs r pages c.requires order
     nothing c.tallying.ensures.totals c.tallying.ensures.bounded c.last_time.result c.last_line.result c.last_time.ensures
     c.last_time.type_inv c.last_line.ensures c.last_line.type_inv (tasks_of_run r.tasks (events_of r))
@@ -34,6 +34,6 @@ returns-in_ok-summary_by-in-None c =
     let pages = c.args.pages.now in
     let order = c.args.joined.now.in_order in
     let nothing = subst (Tell (view_at pages) (length pages) r.tasks (events_of r)) c.in-None.is
-    c.in_ok-line.ensures in
+    c.in_ok-fault.ensures in
     run_of c.args.knobs r pages c.requires order
     nothing c.tallying.ensures.summary c.in_ok-summary_by-in-None.field-0 c.in_ok-summary_by-in-None.ensures

@@ -20,8 +20,8 @@ returns-in-Some c =
     let r = record_view c.args.joined.now in
     let pages = c.args.pages.now in
     bad_of r pages c.requires c.args.joined.now.in_order c.closing.ensures.fault c.first_faults.ensures.first_bad
-    c.least_settings.ensures.bad_at_all c.in-Some.line c.in-Some.cause
-    (subst (Tell (view_at pages) (length pages) r.tasks (events_of r)) c.in-Some.is c.in_ok-line.ensures)
+    c.least_settings.ensures.bad_at_all c.in-Some.fault
+    (subst (Tell (view_at pages) (length pages) r.tasks (events_of r)) c.in-Some.is c.in_ok-fault.ensures)
 
 -- the pages say nothing against any event
 nothing : (c : After-largest_needs) → let r = record_view c.args.joined.now in let pages = c.args.pages.now in
@@ -29,7 +29,7 @@ nothing : (c : After-largest_needs) → let r = record_view c.args.joined.now in
 nothing c =
     let r = record_view c.args.joined.now in
     let pages = c.args.pages.now in
-    subst (Tell (view_at pages) (length pages) r.tasks (events_of r)) c.in-None.is c.in_ok-line.ensures
+    subst (Tell (view_at pages) (length pages) r.tasks (events_of r)) c.in-None.is c.in_ok-fault.ensures
 
 pub knobs_of-requires : goal.knobs_of-requires
 knobs_of-requires c =

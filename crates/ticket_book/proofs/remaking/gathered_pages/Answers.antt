@@ -3,7 +3,9 @@ use Rattle.queue_replay.specs.Replay.{ReplayView}
 use Rattle.sched_record.specs.Record.{record_view}
 use Rattle.ticket_book.specs.Own.{AreToldOwn, IsToldOwn}
 use Rattle.ticket_book.specs.Relying.{IsLeastFaultLine}
-use Rattle.ticket_book.specs.Remade.{Suffices}
+use Rattle.ticket_book.specs.Remade.{AreRemadeBelow, Suffices}
+use Rattle.ticket_book.proofs.CoreKept.{nothing_remade}
+use Rattle.ticket_book.proofs.CoreKept.{nothing_remade}
 use Rattle.ticket_book.proofs.Gathering.{AreGathered, IsGathered, all_gathered, gathered_one, made_one, reliable_suffices, suffices_reliable, whole_suffices}
 use Rattle.ticket_book.proofs.Owned.{told_at}
 use Rattle.ticket_book.proofs.remaking.gathered_pages.Goals as goal
@@ -71,3 +73,15 @@ returns-clause-suffice c =
     let same : c.loop-cpu.cpu ≡ r.cpus = omega (arith, count, most, all) in
     all_gathered knobs r places c.loop-cpu.left c.loop-cpu.pages.items c.loop-cpu.remade
     (subst (λ n. AreGathered knobs r places c.loop-cpu.left c.loop-cpu.pages.items n c.loop-cpu.remade) same c.loop-cpu.invariant)
+
+pub returns-clause-nothing_remade : goal.returns-clause-nothing_remade
+returns-clause-nothing_remade c =
+    let knobs = c.args.knobs in
+    let r = record_view c.args.joined.now in
+    let places = c.args.places.items in
+    let count = c.cpus-cpu-end.ensures in
+    let most = c.loop-cpu.auto.cpu-end in
+    let all = c.loop-cpu-test.false in
+    let same : c.loop-cpu.cpu ≡ r.cpus = omega (arith, count, most, all) in
+    nothing_remade knobs r places c.loop-cpu.remade
+    (subst (λ n. AreRemadeBelow knobs r places n c.loop-cpu.remade) same c.loop-cpu.invariant.remade_are)

@@ -1,0 +1,113 @@
+//! What a verdict and the least settings share: the texts are read and joined, and their record is judged.
+ghost use Rattle.std.specs.Prelude.{◌≡◌, ◌≢◌, ℕ, IfErr, IfOk, List};
+ghost use Rattle.sched_record.specs.Record.{record_view};
+ghost use Rattle.sched_record.specs.Trace.{Tells, TraceAnswer};
+ghost use Rattle.sched_audit.specs.Answer.{IsAnswer, OutcomeAnswer};
+ghost use Rattle.sched_audit.specs.Run.{IsOutcomeOf, Reads, input_of};
+
+use crate::lines::read_lines;
+use crate::reading::read_all;
+use crate::texts::record_of;
+use crate::{
+    Fault, Feed, Gate, Hearing, Judgement, Kept, Outcome, Refused, Sink, Status, write_report,
+};
+use audit_crew::crew;
+use cfs_model::{Knobs, Memory};
+use sched_record::{Record, Trace, TraceFault, read_trace_wide};
+use std::alloc::Global;
+use std::sync::Wait;
+use std::thread::Threads;
+
+/// Judges two texts.
+pub(crate) fn texts_judged<J: Judgement, R: Threads + Wait + Sync, G: Gate>(
+    rt: &R,
+    alloc: Global,
+    trace: &[u8],
+    companion: &[u8],
+    knobs: Knobs,
+    gate: &G,
+) -> Result<J, Refused>
+    ensures { IsAnswer (J.is_of knobs) trace.now companion.now result }
+{
+    let trace = read_trace_wide(rt, alloc, trace);
+    let record = record_of(rt, alloc, trace, companion)?;
+    Ok(judged(rt, alloc, &record, knobs, gate)?)
+}
+
+/// Reads the trace to its end, then the companion, and judges them. What was read is kept beside the outcome.
+pub fn judge<J: Judgement, R: Threads + Wait + Sync, T: Feed, C: Feed, G: Gate>(
+    rt: &R,
+    alloc: Global,
+    trace: &mut T,
+    companion: &mut C,
+    knobs: Knobs,
+    gate: &G,
+) -> Result<Hearing<J>, Fault>
+    // No read was made yet.
+    requires trace { T.calls trace.old ≡ 0 }
+    requires companion { C.calls companion.old ≡ 0 }
+    ensures outcome { IfOk result (λ hearing.
+        IsOutcomeOf (J.is_of knobs) (T.left trace.old) (C.left companion.old) hearing.outcome) }
+    ensures reads { Reads
+        (input_of (T.left trace.old) (T.left trace.new) (T.calls trace.new) (T.has_failed trace.new) (T.has_ended trace.new))
+        (input_of (C.left companion.old) (C.left companion.new) (C.calls companion.new) (C.has_failed companion.new)
+        (C.has_ended companion.new)) result }
+    ensures unwritten { IfErr result (λ fault. fault ≢ Fault.Write) }
+{
+    let trace = read_lines(alloc, trace)?;
+    let companion = read_all(alloc, companion, Fault::ReadCompanion)?;
+    Ok(hearing_of(rt, alloc, trace.finish(), companion, knobs, gate)?)
+}
+
+/// Joins a trace that was read and a companion's text, and judges their record.
+fn hearing_of<J: Judgement, R: Threads + Wait + Sync, G: Gate>(
+    rt: &R,
+    alloc: Global,
+    trace: Result<Trace, TraceFault>,
+    companion: Vec<u8>,
+    knobs: Knobs,
+    gate: &G,
+) -> Result<Hearing<J>, Memory>
+    ensures { (text : List ℕ) → Tells trace (TraceAnswer text)
+        → IfOk result (λ hearing. OutcomeAnswer (J.is_of knobs) text companion.items hearing.outcome) }
+{
+    match record_of(rt, alloc, trace, &companion) {
+        Ok(record) => {
+            drop(companion);
+            let judged = judged(rt, alloc, &record, knobs, gate)?;
+            Ok(Hearing {
+                outcome: Outcome::Judged(judged),
+                kept: Kept::Record(record),
+            })
+        }
+        Err(
+            Refused::Text {
+                source,
+                line,
+                cause,
+            },
+        ) => Ok(Hearing {
+            outcome: Outcome::Text {
+                source,
+                line,
+                cause,
+            },
+            kept: Kept::Companion(companion),
+        }),
+        Err(Refused::Memory) => Err(Memory),
+    }
+}
+
+/// Replays a record's processors, each in a thread of its own that passes this gate, and judges it by their pages.
+fn judged<J: Judgement, R: Threads + Wait + Sync, G: Gate>(
+    rt: &R,
+    alloc: Global,
+    joined: &Record,
+    knobs: Knobs,
+    gate: &G,
+) -> Result<J, Memory>
+    ensures { IfOk result (J.is_of knobs (record_view joined.now)) }
+{
+    let gathered = crew(rt, alloc, joined, J::replayed_by(knobs), gate)?;
+    J::of_book(gathered.book, joined, knobs)
+}

@@ -1,0 +1,63 @@
+//! Least settings, as a search over two texts tells them.
+ghost use Rattle.std.specs.Prelude.{◌≡◌, ◌++◌, OnOk, string_bytes};
+ghost use Rattle.sched_audit.specs.Report.{setting_lines};
+
+use crate::reporting::push_fault;
+use crate::{Judgement, LeastSettings};
+use cfs_model::{Knobs, Memory};
+use replay_model::FirstFault;
+use sched_record::Record;
+use std::alloc::AllocError;
+use ticket_book::Book;
+
+impl Judgement for LeastSettings {
+    ghost use Rattle.cfs_model.specs.Least.{greatest_settings};
+    ghost use Rattle.sched_audit.specs.Report.{least_fault, least_lines};
+    ghost use Rattle.ticket_book.specs.LeastAnswer.{IsLeastAnswer};
+
+    ghost is_of = { λ _. IsLeastAnswer };
+
+    ghost replayed_by = { λ _. greatest_settings };
+
+    ghost lines = { least_lines };
+
+    ghost fault = { least_fault };
+
+    fn replayed_by(_knobs: Knobs) -> Knobs {
+        Knobs::greatest()
+    }
+
+    fn of_book(book: Book, joined: &Record, _knobs: Knobs) -> Result<LeastSettings, Memory> {
+        let closed = book.close_least(joined)?;
+        Ok(closed.least)
+    }
+
+    fn push(&self, text: &mut String) -> Result<(), AllocError> {
+        match self {
+            LeastSettings::Found(knobs) => push_settings(text, *knobs),
+            LeastSettings::Fault(fault) => push_fault(text, fault),
+        }
+    }
+
+    fn fault(&self) -> Option<FirstFault> {
+        match self {
+            LeastSettings::Found(_) => None,
+            LeastSettings::Fault(fault) => Some(*fault),
+        }
+    }
+}
+
+/// Writes each of the settings.
+fn push_settings(text: &mut String, knobs: Knobs) -> Result<(), AllocError>
+    ensures { OnOk result (string_bytes text.new ≡ string_bytes text.old ++ setting_lines knobs) }
+{
+    let granularity = knobs.granularity();
+    let credit = knobs.credit();
+    let debit = knobs.debit();
+    let slack = knobs.slack();
+    writeln!(text, "least granularity-ns {granularity}")?;
+    writeln!(text, "least credit-ns {credit}")?;
+    writeln!(text, "least debit-ns {debit}")?;
+    writeln!(text, "least slack-ns {slack}")?;
+    Ok(())
+}

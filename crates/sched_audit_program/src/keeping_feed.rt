@@ -1,0 +1,68 @@
+ghost use Rattle.std.specs.Prelude.{◌≡◌};
+
+use cfs_model::Memory;
+use sched_audit::{Failed, Feed};
+use std::alloc::Global;
+
+/// A feed that keeps what it gives, where that is asked for.
+#[derive(Drop)]
+pub(crate) struct KeepingFeed<F> {
+    feed: F,
+    keeps: bool,
+    /// What was given, or that there is no memory for it.
+    kept: Result<Vec<u8>, Memory>,
+}
+
+impl<F: Feed> KeepingFeed<F> {
+    pub(crate) fn new(alloc: Global, feed: F, keeps: bool) -> KeepingFeed<F>
+        ensures { ⟦<KeepingFeed<F> as Feed>⟧.calls result ≡ F.calls feed }
+    {
+        KeepingFeed {
+            feed,
+            keeps,
+            kept: Ok(Vec::new(alloc)),
+        }
+    }
+
+    /// What was given, where it is kept.
+    pub(crate) fn kept(&self) -> Result<Option<&[u8]>, Memory> {
+        match &self.kept {
+            Ok(bytes) if self.keeps => Ok(Some(bytes.as_slice())),
+            Ok(_) => Ok(None),
+            Err(_) => Err(Memory),
+        }
+    }
+
+    /// Keeps more of what is given.
+    fn keep(&mut self, bytes: &[u8])
+        ensures { self.new.feed ≡ self.old.feed }
+    {
+        if let Ok(kept) = &mut self.kept {
+            if self.keeps && kept.extend_from_slice(bytes).is_err() {
+                self.kept = Err(Memory);
+            }
+        }
+    }
+}
+
+impl<F: Feed> Feed for KeepingFeed<F> {
+    ghost left = { λ keeping. F.left keeping.feed };
+
+    ghost calls = { λ keeping. F.calls keeping.feed };
+
+    ghost has_failed = { λ keeping. F.has_failed keeping.feed };
+
+    ghost has_ended = { λ keeping. F.has_ended keeping.feed };
+
+    fn read(&mut self, buf: &mut [u8]) -> Result<usize, Failed> {
+        match self.feed.read(buf) {
+            Ok(count) => {
+                self.keep(&buf[..count]);
+                Ok(count)
+            }
+            Err(failed) => Err(failed),
+        }
+    }
+
+    ghost untouched = { λ keeping. F.untouched keeping.feed };
+}

@@ -1,5 +1,5 @@
 -- What becomes of a step whose line changes a nice value.
-use Rattle.std.proofs.Common.{◌≡◌, ◌≢◌, ℕ, Option, Some, None, option_map, Result, IfOk, ℤ, inl, inr, sym, ap, ◌∙◌, subst}
+use Rattle.std.proofs.Common.{◌≡◌, ◌≢◌, ℕ, Option, Some, None, option_map, Result, IfOk, ℤ, inl, inr, refl, sym, ap, ◌∙◌, subst}
 use Rattle.cfs_model.specs.Settings.{Settings}
 use Rattle.cfs_model.specs.declared.kind.Kind.TheVariants.{Strange}
 use Rattle.cfs_model.specs.declared.nice_line.NiceLine.{NiceLine}

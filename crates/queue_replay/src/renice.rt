@@ -10,7 +10,7 @@ use cfs_model::{Kind, Knobs, Memory, NiceLine};
 use replay_model::Step;
 use runqueue::Runqueue;
 /// A step is tried on a runqueue that is charged and lifted: the change of a nice value on its line, and then its deed.
-/// Where memory is wanted the map and the set hold what they did.
+/// Where a test fails, or memory is wanted, the map and the set hold what they did.
 pub(crate) fn try_step(
     queue: &mut Runqueue,
     cpu: u32,
@@ -18,7 +18,7 @@ pub(crate) fn try_step(
     knobs: Knobs,
 ) -> Result<Outcome, Memory>
     ensures tried { IfOk result (IsTried knobs cpu (reniced step.now.nice (runqueue_view queue.old)) step.now (runqueue_view queue.new)) }
-    ensures same { OnErr result (HoldsSame queue.old queue.new) }
+    ensures same { HoldsUnmade result queue.old queue.new }
 {
     match step.nice {
         None => try_deed(queue, cpu, step, knobs),
@@ -36,7 +36,7 @@ fn try_reniced(
 ) -> Result<Outcome, Memory>
     requires { step.now.nice ≡ Some change }
     ensures tried { IfOk result (IsTried knobs cpu (reniced (Some change) (runqueue_view queue.old)) step.now (runqueue_view queue.new)) }
-    ensures same { OnErr result (HoldsSame queue.old queue.new) }
+    ensures same { HoldsUnmade result queue.old queue.new }
 {
     let pid = change.pid;
     let Some(before) = queue.renice(pid, change.nice) else {
@@ -46,7 +46,11 @@ fn try_reniced(
         }));
     };
     match try_deed(queue, cpu, step, knobs) {
-        Ok(outcome) => Ok(outcome),
+        Ok(Outcome::Made(deed)) => Ok(Outcome::Made(deed)),
+        Ok(Outcome::Failed(failed)) => {
+            queue.renice(pid, before);
+            Ok(Outcome::Failed(failed))
+        }
         Err(memory) => {
             queue.renice(pid, before);
             Err(memory)

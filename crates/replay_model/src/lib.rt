@@ -2,10 +2,12 @@
 //! replay, and the laws that tie the replays of all processors to a run.
 #![tactic(auto)]
 
+mod first_fault;
 mod laws;
 mod page;
 mod step;
 
+pub use first_fault::FirstFault;
 pub use laws::{
     closing, composition, endings, faults_end_runs, first_faults, migrations, needs, pages,
     part_steps, replays, tallying,

@@ -1,50 +1,48 @@
-use crate::share::Share;
-use cfs_model::weight_of;
+use crate::task_words::Share;
+use cfs_model::{Task, weight_of};
+use runqueue::Runqueue;
 use std::fmt;
 
 /// What a running task is charged up to an event.
 #[derive(Clone, Copy)]
 pub(crate) struct Charge {
-    pub pid: u32,
-    pub share: Share,
+    /// As it stands before the charge.
+    pub task: Task,
     /// How long it ran, in nanoseconds.
-    pub ran: u64,
-    /// Its virtual runtime before the charge, in virtual nanoseconds.
-    pub from: i64,
+    ran: u64,
 }
 
 impl Charge {
+    /// That of who runs, up to a time in nanoseconds.
+    pub(crate) fn at(queue: &Runqueue, time: u64) -> Option<Charge> {
+        let task = queue.runner()?;
+        let ran = time.saturating_sub(queue.mark());
+        Some(Charge { task, ran })
+    }
+
     /// In virtual nanoseconds, however many they are.
     pub(crate) fn cost(&self) -> i128 {
-        let weight = weight_of(self.share.nice, self.share.idle);
+        let weight = weight_of(self.task.nice, self.task.idle);
         let cost = u128::from(self.ran) * 1024 / u128::from(weight);
         i128::try_from(cost).unwrap_or(i128::MAX)
     }
 
     /// The virtual runtime after it, in virtual nanoseconds, also where that is out of range.
     pub(crate) fn to(&self) -> i128 {
-        i128::from(self.from).saturating_add(self.cost())
-    }
-
-    /// The same, at most the greatest that a task can have.
-    pub(crate) fn reached(&self) -> i64 {
-        i64::try_from(self.to()).unwrap_or(i64::MAX)
+        i128::from(self.task.v).saturating_add(self.cost())
     }
 }
 
 impl fmt::Display for Charge {
     fn fmt<W: fmt::Write>(&self, f: &mut fmt::Formatter<W>) -> fmt::Result {
-        let Charge {
-            pid,
-            share,
-            ran,
-            from,
-        } = self;
+        let Task { pid, v, .. } = self.task;
+        let ran = self.ran;
+        let share = Share(self.task);
         let cost = self.cost();
         let to = self.to();
         write!(
             f,
-            "pid {pid} ran {ran} at {share}, which costs {cost}: from {from} to {to}"
+            "pid {pid} ran {ran} at {share}, which costs {cost}: from {v} to {to}"
         )
     }
 }

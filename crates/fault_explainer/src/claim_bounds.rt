@@ -3,8 +3,8 @@
 use crate::companion_lines::word_of;
 use crate::processor::Processor;
 use crate::scene::Scene;
-use crate::standing::Standing;
-use cfs_model::{Act, Claim, ClaimSort, IDLE_PID, Place, Way};
+use crate::task_words::{Share, verb};
+use cfs_model::{Act, Claim, ClaimSort, IDLE_PID, Place, Task, Way};
 use std::alloc::AllocError;
 
 /// The virtual runtimes that a claim may have, from the least to the greatest, in virtual nanoseconds.
@@ -15,7 +15,7 @@ struct Bounds {
 }
 
 /// Of a task that is put back, its own alone.
-fn put_back_bounds(task: Standing) -> Bounds {
+fn put_back_bounds(task: Task) -> Bounds {
     let own = i128::from(task.v);
     Bounds {
         least: own,
@@ -24,9 +24,9 @@ fn put_back_bounds(task: Standing) -> Bounds {
 }
 
 /// Of a task that wakes from rest.
-fn wake_bounds(scene: &Scene, task: Standing) -> Bounds {
+fn wake_bounds(scene: &Scene, task: Task) -> Bounds {
     let own = i128::from(task.v);
-    let floor = i128::from(scene.here.floor);
+    let floor = i128::from(scene.here.queue.floor());
     let credit = i128::from(scene.knobs.credit());
     Bounds {
         least: own.max(floor - credit),
@@ -36,7 +36,7 @@ fn wake_bounds(scene: &Scene, task: Standing) -> Bounds {
 
 /// Of a new task.
 fn fork_bounds(scene: &Scene) -> Bounds {
-    let floor = i128::from(scene.here.floor);
+    let floor = i128::from(scene.here.queue.floor());
     let debit = i128::from(scene.knobs.debit());
     Bounds {
         least: floor,
@@ -76,8 +76,8 @@ fn push_by_the_rules(text: &mut String, scene: &Scene) -> Result<(), AllocError>
 fn claim_bounds(scene: &Scene) -> Option<Bounds> {
     let act = scene.event.act;
     match act {
-        Act::Switch { prev, .. } => Some(put_back_bounds(scene.standing(prev)?)),
-        Act::Wake { pid, .. } => Some(wake_bounds(scene, scene.standing(pid)?)),
+        Act::Switch { prev, .. } => Some(put_back_bounds(scene.task(prev)?)),
+        Act::Wake { pid, .. } => Some(wake_bounds(scene, scene.task(pid)?)),
         Act::Born { .. } => Some(fork_bounds(scene)),
         Act::Shift { .. } => None,
     }
@@ -103,9 +103,9 @@ fn push_claim_bounds(
 /// What a migrated task is claimed at by the rules.
 fn push_moved(text: &mut String, scene: &Scene) -> Result<(), AllocError> {
     let pid = scene.event.pid();
-    match (scene.standing(pid), &scene.there) {
+    match (scene.task(pid), &scene.there) {
         (Some(task), Some(there)) => {
-            let v = offset(task.v, &scene.here).saturating_add(i128::from(there.floor));
+            let v = offset(task.v, &scene.here).saturating_add(i128::from(there.queue.floor()));
             push_moved_claim(text, scene.event.line, pid, sort_of(task), v)
         }
         _ => Ok(()),
@@ -113,7 +113,7 @@ fn push_moved(text: &mut String, scene: &Scene) -> Result<(), AllocError> {
 }
 
 /// Of which sort the claim of a migrated task is.
-fn sort_of(task: Standing) -> ClaimSort {
+fn sort_of(task: Task) -> ClaimSort {
     match task.place {
         Place::Rest => ClaimSort::Pass,
         Place::Run | Place::Wait => ClaimSort::At,
@@ -133,7 +133,7 @@ fn push_moved_claim(
 
 /// A virtual runtime less a processor's floor.
 fn offset(v: i64, processor: &Processor) -> i128 {
-    i128::from(v) - i128::from(processor.floor)
+    i128::from(v) - i128::from(processor.queue.floor())
 }
 
 /// A claim that no task needs.
@@ -153,7 +153,7 @@ pub(crate) fn push_claim_extra(text: &mut String, scene: &Scene) -> Result<(), A
             way: Way::Ends,
             ..
         } => push_goes(text, prev, "ends"),
-        _ => push_stays(text, scene.event.pid(), scene.standing(scene.event.pid())),
+        _ => push_stays(text, scene.event.pid(), scene.task(scene.event.pid())),
     }
 }
 
@@ -163,10 +163,10 @@ fn push_goes(text: &mut String, pid: u32, goes: &str) -> Result<(), AllocError> 
 }
 
 /// A task that needs no claim for where it is.
-fn push_stays(text: &mut String, pid: u32, task: Option<Standing>) -> Result<(), AllocError> {
+fn push_stays(text: &mut String, pid: u32, task: Option<Task>) -> Result<(), AllocError> {
     match task {
         Some(task) => {
-            let verb = task.verb();
+            let verb = verb(task);
             writeln!(
                 text,
                 "# the event needs no claim: pid {pid} {verb} there already"
@@ -188,7 +188,7 @@ pub(crate) fn push_claim_pid(text: &mut String, scene: &Scene) -> Result<(), All
 
 /// A previous task that is put back at another virtual runtime than its own.
 pub(crate) fn push_wrong_put_back(text: &mut String, scene: &Scene) -> Result<(), AllocError> {
-    match (scene.standing(scene.fault.pid), scene.event.claim) {
+    match (scene.task(scene.fault.pid), scene.event.claim) {
         (Some(task), Some(claim)) => push_apart(text, claim.pid, claim.v, task.v),
         _ => Ok(()),
     }
@@ -206,9 +206,9 @@ fn push_apart(text: &mut String, pid: u32, claimed: i64, own: i64) -> Result<(),
 
 /// A woken task that is claimed outside its bounds.
 pub(crate) fn push_wake_bounds(text: &mut String, scene: &Scene) -> Result<(), AllocError> {
-    match scene.standing(scene.fault.pid) {
+    match scene.task(scene.fault.pid) {
         Some(task) => {
-            push_wake_rule(text, task.v, scene.here.floor, scene.knobs.credit())?;
+            push_wake_rule(text, task.v, scene.here.queue.floor(), scene.knobs.credit())?;
             push_outside(text, scene, wake_bounds(scene, task))
         }
         None => Ok(()),
@@ -224,7 +224,7 @@ fn push_wake_rule(text: &mut String, own: i64, floor: i64, credit: u64) -> Resul
 
 /// A new task that is claimed outside its bounds.
 pub(crate) fn push_fork_bounds(text: &mut String, scene: &Scene) -> Result<(), AllocError> {
-    push_fork_rule(text, scene.here.floor, scene.knobs.debit())?;
+    push_fork_rule(text, scene.here.queue.floor(), scene.knobs.debit())?;
     push_outside(text, scene, fork_bounds(scene))
 }
 
@@ -257,7 +257,7 @@ fn push_beyond(text: &mut String, claim: Claim, side: &str, bound: i128) -> Resu
 
 /// What a migration takes along, as each of its ends sees it.
 pub(crate) fn push_ticket_unequal(text: &mut String, scene: &Scene) -> Result<(), AllocError> {
-    if let Some(task) = scene.standing(scene.fault.pid) {
+    if let Some(task) = scene.task(scene.fault.pid) {
         push_leaves(text, &scene.here, task)?;
     }
     if let (Some(there), Some(claim)) = (&scene.there, scene.event.claim) {
@@ -267,10 +267,11 @@ pub(crate) fn push_ticket_unequal(text: &mut String, scene: &Scene) -> Result<()
 }
 
 /// At a migration's origin.
-fn push_leaves(text: &mut String, here: &Processor, task: Standing) -> Result<(), AllocError> {
+fn push_leaves(text: &mut String, here: &Processor, task: Task) -> Result<(), AllocError> {
     let cpu = here.cpu;
-    let verb = task.verb();
-    let Standing { v, share, .. } = task;
+    let verb = verb(task);
+    let share = Share(task);
+    let v = task.v;
     let above = offset(v, here);
     writeln!(
         text,

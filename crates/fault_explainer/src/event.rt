@@ -17,14 +17,14 @@ pub(crate) struct Event {
 impl Event {
     /// That of a record on a line, if there is one.
     pub(crate) fn on_line(record: &Record, line: u32) -> Option<Event> {
-        let Entry { line, time, act } = entry_on(record.events(), line)?;
+        let Entry { time, act, .. } = *record.events().iter().find(|event| event.line == line)?;
         Some(Event {
             line,
             time,
             act,
-            claim: claim_on(record.claims(), line),
-            nice: nice_on(record.nices(), line),
-            idle: idle_on(record.idles(), line),
+            claim: record.claims().iter().find(|claim| claim.line == line).copied(),
+            nice: record.nices().iter().find(|change| change.line == line).copied(),
+            idle: record.idles().iter().find(|idle| idle.line == line).copied(),
         })
     }
 
@@ -45,40 +45,4 @@ impl Event {
             Act::Wake { pid, .. } | Act::Born { pid, .. } | Act::Shift { pid, .. } => pid,
         }
     }
-}
-
-fn entry_on(events: &[Entry], line: u32) -> Option<Entry> {
-    for event in events {
-        if event.line == line {
-            return Some(*event);
-        }
-    }
-    None
-}
-
-fn claim_on(claims: &[Claim], line: u32) -> Option<Claim> {
-    for claim in claims {
-        if claim.line == line {
-            return Some(*claim);
-        }
-    }
-    None
-}
-
-fn nice_on(changes: &[NiceLine], line: u32) -> Option<NiceLine> {
-    for change in changes {
-        if change.line == line {
-            return Some(*change);
-        }
-    }
-    None
-}
-
-fn idle_on(idles: &[IdleLine], line: u32) -> Option<IdleLine> {
-    for idle in idles {
-        if idle.line == line {
-            return Some(*idle);
-        }
-    }
-    None
 }

@@ -2,8 +2,8 @@
 
 use crate::charge::Charge;
 use crate::scene::Scene;
-use crate::waiting_task::WaitingTask;
 use cfs_model::GREATEST_RUNTIME;
+use runqueue::WaitingTask;
 use std::alloc::AllocError;
 
 /// For how long nobody ran beside a waiting task.
@@ -31,14 +31,14 @@ fn push_slack(text: &mut String, slack: u64) -> Result<(), AllocError> {
 
 /// Where the charge leads.
 pub(crate) fn push_range(text: &mut String, scene: &Scene) -> Result<(), AllocError> {
-    match scene.at_fault().charge(scene.event.time) {
+    match Charge::at(&scene.at_fault().queue, scene.event.time) {
         Some(charge) => push_beyond_range(text, charge),
         None => Ok(()),
     }
 }
 
 fn push_beyond_range(text: &mut String, charge: Charge) -> Result<(), AllocError> {
-    let pid = charge.pid;
+    let pid = charge.task.pid;
     let to = charge.to();
     let cost = charge.cost();
     writeln!(
@@ -49,7 +49,7 @@ fn push_beyond_range(text: &mut String, charge: Charge) -> Result<(), AllocError
 
 /// Who waits beside a switch to the idle task.
 pub(crate) fn push_idle_beside_waiting(text: &mut String, scene: &Scene) -> Result<(), AllocError> {
-    let waiting = &scene.here.tasks.waiting;
+    let waiting = scene.here.queue.waiting();
     match waiting.first() {
         Some(least) => push_passed_over(text, scene.here.cpu, *least, waiting.len()),
         None => Ok(()),
@@ -72,13 +72,13 @@ fn push_passed_over(
 /// How far the next task is above the least that waits.
 pub(crate) fn push_not_least(text: &mut String, scene: &Scene) -> Result<(), AllocError> {
     let next = scene.fault.pid;
-    match (scene.standing(next), scene.here.tasks.first()) {
+    match (scene.task(next), scene.here.queue.waiting().first()) {
         (Some(task), Some(least)) => {
             let next = WaitingTask {
                 v: task.v,
                 pid: next,
             };
-            push_above(text, next, least, scene.knobs.granularity())
+            push_above(text, next, *least, scene.knobs.granularity())
         }
         _ => Ok(()),
     }

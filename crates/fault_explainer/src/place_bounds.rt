@@ -1,10 +1,9 @@
 //! Who stands where, and which prio is printed.
 
-use crate::fault::Fault;
-use crate::scene::Scene;
-use crate::standing::Standing;
-use crate::stood::Stood;
-use cfs_model::{Act, IDLE_PID, Kind, Nice, NiceLine};
+use crate::scene::{Scene, lies_in_place};
+use crate::task_words::{Share, verb};
+use cfs_model::{Act, IDLE_PID, Kind, Nice, NiceLine, Task};
+use replay_model::FirstFault;
 use std::alloc::AllocError;
 
 /// The prio that a task of nice value 0 prints.
@@ -34,19 +33,19 @@ pub(crate) fn push_prev_not_running(text: &mut String, scene: &Scene) -> Result<
         text,
         scene.here.cpu,
         scene.fault.pid,
-        scene.here.tasks.running,
+        scene.here.queue.runner(),
     )?;
-    push_stood(text, scene.stood)
+    push_stood(text, scene)
 }
 
 fn push_runner(
     text: &mut String,
     cpu: u32,
     prev: u32,
-    running: Option<u32>,
+    runner: Option<Task>,
 ) -> Result<(), AllocError> {
-    match running {
-        Some(pid) => writeln!(
+    match runner {
+        Some(Task { pid, .. }) => writeln!(
             text,
             "# prev_pid is {prev}, but at cpu {cpu} pid {pid} runs"
         ),
@@ -60,7 +59,7 @@ fn push_runner(
 /// A task that doesn't stand where the event wants it.
 pub(crate) fn push_strange(text: &mut String, scene: &Scene) -> Result<(), AllocError> {
     push_absent(text, scene.here.cpu, scene.fault.pid, scene.event.nice)?;
-    push_stood(text, scene.stood)
+    push_stood(text, scene)
 }
 
 fn push_absent(
@@ -81,11 +80,11 @@ fn push_absent(
 /// A task that comes where it lives, or is born while it lives.
 pub(crate) fn push_lives(text: &mut String, scene: &Scene) -> Result<(), AllocError> {
     push_life(text, scene.fault)?;
-    push_stood(text, scene.stood)
+    push_stood(text, scene)
 }
 
-fn push_life(text: &mut String, fault: Fault) -> Result<(), AllocError> {
-    let Fault { cpu, pid, kind, .. } = fault;
+fn push_life(text: &mut String, fault: FirstFault) -> Result<(), AllocError> {
+    let FirstFault { cpu, pid, kind, .. } = fault;
     if kind == Kind::BornTwice {
         writeln!(
             text,
@@ -112,7 +111,7 @@ pub(crate) fn push_running(text: &mut String, scene: &Scene) -> Result<(), Alloc
 /// A next task that can't be picked.
 pub(crate) fn push_next_not_waiting(text: &mut String, scene: &Scene) -> Result<(), AllocError> {
     push_unpicked(text, scene.here.cpu, scene.fault.pid)?;
-    push_stood(text, scene.stood)
+    push_stood(text, scene)
 }
 
 fn push_unpicked(text: &mut String, cpu: u32, pid: u32) -> Result<(), AllocError> {
@@ -125,11 +124,11 @@ fn push_unpicked(text: &mut String, cpu: u32, pid: u32) -> Result<(), AllocError
 /// The printed prio, and the task's own.
 pub(crate) fn push_wrong_prio(text: &mut String, scene: &Scene) -> Result<(), AllocError> {
     let pid = scene.fault.pid;
-    match scene.standing(pid) {
+    match scene.task(pid) {
         Some(task) => push_prios(
             text,
             pid,
-            task.share.nice,
+            task.nice,
             printed_nice(scene.event.act, pid),
         ),
         None => Ok(()),
@@ -161,16 +160,12 @@ fn printed_nice(act: Act, task: u32) -> Nice {
     }
 }
 
-/// Where a task stood before, if that is known.
-fn push_stood(text: &mut String, stood: Option<Stood>) -> Result<(), AllocError> {
-    match stood {
-        Some(
-            Stood {
-                pid,
-                at: Some((cpu, standing)),
-            },
-        ) => push_stood_at(text, pid, cpu, standing),
-        Some(Stood { pid, at: None }) => writeln!(
+/// Where the fault's task stood before, where the fault lies in that.
+fn push_stood(text: &mut String, scene: &Scene) -> Result<(), AllocError> {
+    let pid = scene.fault.pid;
+    match scene.stood {
+        Some((cpu, task)) => push_stood_at(text, cpu, pid, task),
+        None if lies_in_place(scene.fault) => writeln!(
             text,
             "# before this line pid {pid} stands nowhere: it wasn't there yet, or it has ended"
         ),
@@ -178,14 +173,10 @@ fn push_stood(text: &mut String, stood: Option<Stood>) -> Result<(), AllocError>
     }
 }
 
-fn push_stood_at(
-    text: &mut String,
-    pid: u32,
-    cpu: u32,
-    standing: Standing,
-) -> Result<(), AllocError> {
-    let verb = standing.verb();
-    let Standing { v, share, .. } = standing;
+fn push_stood_at(text: &mut String, cpu: u32, pid: u32, task: Task) -> Result<(), AllocError> {
+    let verb = verb(task);
+    let share = Share(task);
+    let v = task.v;
     writeln!(
         text,
         "# before this line pid {pid} {verb} at cpu {cpu}, at {v}, {share}"

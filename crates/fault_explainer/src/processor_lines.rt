@@ -2,10 +2,9 @@
 
 use crate::charge::Charge;
 use crate::processor::Processor;
-use crate::share::Share;
-use crate::standing::Standing;
-use crate::standings::Standings;
-use crate::waiting_task::WaitingTask;
+use crate::task_words::Share;
+use cfs_model::Task;
+use runqueue::Runqueue;
 use std::alloc::AllocError;
 
 /// The most waiting tasks of a processor that are told.
@@ -13,13 +12,16 @@ const MOST_WAITING: usize = 20;
 
 /// How it stands before the event.
 pub(crate) fn push_processor(text: &mut String, processor: &Processor) -> Result<(), AllocError> {
-    push_marks(text, processor.cpu, processor.floor, processor.mark)?;
-    push_runner(text, processor.tasks.runner())?;
-    push_waiting(text, &processor.tasks)?;
-    push_others(text, processor.tasks.waiting.len())
+    let queue = &processor.queue;
+    push_marks(text, processor.cpu, queue)?;
+    push_runner(text, queue.runner())?;
+    push_waiting(text, queue)?;
+    push_others(text, queue.waiting().len())
 }
 
-fn push_marks(text: &mut String, cpu: u32, floor: i64, mark: u64) -> Result<(), AllocError> {
+fn push_marks(text: &mut String, cpu: u32, queue: &Runqueue) -> Result<(), AllocError> {
+    let floor = queue.floor();
+    let mark = queue.mark();
     writeln!(
         text,
         "# cpu {cpu} before this line: floor {floor}, mark {mark}"
@@ -27,33 +29,27 @@ fn push_marks(text: &mut String, cpu: u32, floor: i64, mark: u64) -> Result<(), 
 }
 
 /// Who runs.
-fn push_runner(text: &mut String, runner: Option<(u32, Standing)>) -> Result<(), AllocError> {
+fn push_runner(text: &mut String, runner: Option<Task>) -> Result<(), AllocError> {
     match runner {
-        Some((pid, Standing { v, share, .. })) => {
-            writeln!(text, "#   pid {pid} runs at {v}, {share}")
-        }
+        Some(task) => push_task(text, task, "runs"),
         None => writeln!(text, "#   nobody runs"),
     }
 }
 
 /// Those who wait, the least first.
-fn push_waiting(text: &mut String, tasks: &Standings) -> Result<(), AllocError> {
-    for task in tasks.waiting.iter().take(MOST_WAITING) {
-        push_waiting_task(text, *task, tasks.share(task.pid))?;
+fn push_waiting(text: &mut String, queue: &Runqueue) -> Result<(), AllocError> {
+    for waiting in queue.waiting().iter().take(MOST_WAITING) {
+        if let Some(task) = queue.task_at(waiting.pid) {
+            push_task(text, task, "waits")?;
+        }
     }
     Ok(())
 }
 
-fn push_waiting_task(
-    text: &mut String,
-    task: WaitingTask,
-    share: Option<Share>,
-) -> Result<(), AllocError> {
-    let WaitingTask { v, pid } = task;
-    match share {
-        Some(share) => writeln!(text, "#   pid {pid} waits at {v}, {share}"),
-        None => writeln!(text, "#   pid {pid} waits at {v}"),
-    }
+fn push_task(text: &mut String, task: Task, verb: &str) -> Result<(), AllocError> {
+    let Task { pid, v, .. } = task;
+    let share = Share(task);
+    writeln!(text, "#   pid {pid} {verb} at {v}, {share}")
 }
 
 /// That nobody waits, or how many more than are told.
@@ -68,13 +64,14 @@ fn push_others(text: &mut String, count: usize) -> Result<(), AllocError> {
     }
 }
 
-/// What who runs is charged.
+/// What who runs is charged, up to a time in nanoseconds.
 pub(crate) fn push_charge(
     text: &mut String,
-    cpu: u32,
-    charge: Option<Charge>,
+    processor: &Processor,
+    time: u64,
 ) -> Result<(), AllocError> {
-    match charge {
+    let cpu = processor.cpu;
+    match Charge::at(&processor.queue, time) {
         Some(charge) => writeln!(text, "# charge at cpu {cpu}: {charge}"),
         None => writeln!(
             text,

@@ -1,26 +1,25 @@
 use crate::companion_lines::push_companion_lines;
 use crate::event::Event;
-use crate::fault::Fault;
 use crate::processor::Processor;
 use crate::processor_lines::{push_charge, push_floor, push_processor};
-use crate::standing::Standing;
-use crate::stood::Stood;
-use cfs_model::{Act, IDLE_PID, Kind, Knobs, Memory};
+use cfs_model::{Act, IDLE_PID, Kind, Knobs, Memory, Task};
+use replay_model::FirstFault;
 use sched_record::Record;
 use std::alloc::{AllocError, Global};
 
 /// A fault with its event, and the processors at which it happened.
 #[derive(Drop)]
 pub(crate) struct Scene {
-    pub fault: Fault,
+    pub fault: FirstFault,
     pub event: Event,
     pub knobs: Knobs,
     /// The fault's processor; of a migration its origin.
     pub here: Processor,
     /// The destination of a migration to another processor.
     pub there: Option<Processor>,
-    /// Where the fault's task stood, where the fault asks for that.
-    pub stood: Option<Stood>,
+    /// Where the fault's task stood before the event, if it stood anywhere: the processor, and how. Told where the fault
+    /// lies in that.
+    pub stood: Option<(u32, Task)>,
 }
 
 impl Scene {
@@ -29,17 +28,21 @@ impl Scene {
         alloc: Global,
         record: &Record,
         knobs: Knobs,
-        fault: Fault,
+        fault: FirstFault,
         event: Event,
     ) -> Result<Scene, Memory> {
         let (here, there) = match event.ends() {
             Some((orig, dest)) if fault.kind != Kind::IdleTooLong => (orig, Some(dest)),
             _ => (fault.cpu, None),
         };
-        let stood = stood_for(alloc, record, fault)?;
-        let here = Processor::before(alloc, record, here, fault.line)?;
+        let stood = if lies_in_place(fault) {
+            stood_before(alloc, record, knobs, fault)?
+        } else {
+            None
+        };
+        let here = Processor::before(alloc, record, knobs, here, fault.line)?;
         let there = match there {
-            Some(cpu) => Some(Processor::before(alloc, record, cpu, fault.line)?),
+            Some(cpu) => Some(Processor::before(alloc, record, knobs, cpu, fault.line)?),
             None => None,
         };
         Ok(Scene {
@@ -53,8 +56,8 @@ impl Scene {
     }
 
     /// The task as it stands at the fault's processor, or at a migration's origin.
-    pub(crate) fn standing(&self, pid: u32) -> Option<Standing> {
-        self.here.tasks.get(pid)
+    pub(crate) fn task(&self, pid: u32) -> Option<Task> {
+        self.here.queue.task_at(pid)
     }
 
     /// The fault's processor.
@@ -73,7 +76,9 @@ impl Scene {
             return Ok(());
         }
         self.charge(text)?;
-        self.here.renice(self.event.nice);
+        if let Some(change) = self.event.nice {
+            self.here.queue.renice(change.pid, change.nice);
+        }
         push_companion_lines(text, &self.event)
     }
 
@@ -103,36 +108,43 @@ impl Scene {
 
     /// Where the fault lies in who is picked, the previous task of the switch has gone its way before.
     pub(crate) fn go_on_to_pick(&mut self) -> Result<(), Memory> {
-        if matches!(self.fault.kind, Kind::IdleBesideWaiting | Kind::NotLeast) {
-            self.send_prev()
-        } else {
-            Ok(())
-        }
-    }
-
-    /// The previous task of a switch goes its way.
-    fn send_prev(&mut self) -> Result<(), Memory> {
         let act = self.event.act;
-        match act {
-            Act::Switch { prev, way, .. } => self.here.send(prev, way),
-            Act::Wake { .. } | Act::Born { .. } | Act::Shift { .. } => Ok(()),
+        match (self.fault.kind, act) {
+            (Kind::IdleBesideWaiting | Kind::NotLeast, Act::Switch { way, .. }) => {
+                self.here.queue.put_prev(way)
+            }
+            _ => Ok(()),
         }
     }
 }
 
-/// Where the fault's task stood, for a fault that lies in that.
-fn stood_for(alloc: Global, record: &Record, fault: Fault) -> Result<Option<Stood>, Memory> {
-    match fault.kind {
-        Kind::Strange
-        | Kind::Already
-        | Kind::BornTwice
-        | Kind::NextNotWaiting
-        | Kind::PrevNotRunning
-            if fault.pid != IDLE_PID => {
-            Ok(Some(Stood::before(alloc, record, fault.pid, fault.line)?))
+/// Whether a fault lies in where its task stood.
+pub(crate) fn lies_in_place(fault: FirstFault) -> bool {
+    fault.pid != IDLE_PID
+        && matches!(
+            fault.kind,
+            Kind::Strange
+                | Kind::Already
+                | Kind::BornTwice
+                | Kind::NextNotWaiting
+                | Kind::PrevNotRunning
+        )
+}
+
+/// Where the fault's task stood, at whatever processor, and how.
+fn stood_before(
+    alloc: Global,
+    record: &Record,
+    knobs: Knobs,
+    fault: FirstFault,
+) -> Result<Option<(u32, Task)>, Memory> {
+    for cpu in 0..record.cpus() {
+        let processor = Processor::before(alloc, record, knobs, cpu, fault.line)?;
+        if let Some(task) = processor.queue.task_at(fault.pid) {
+            return Ok(Some((cpu, task)));
         }
-        _ => Ok(None),
     }
+    Ok(None)
 }
 
 /// Charges who runs, lifts the floor where that is asked for, and tells both.
@@ -142,10 +154,9 @@ fn charge(
     time: u64,
     lifts: bool,
 ) -> Result<(), AllocError> {
-    push_charge(text, processor.cpu, processor.charge(time))?;
-    if lifts {
-        processor.lift(time);
-        push_floor(text, processor.cpu, processor.floor)
+    push_charge(text, processor, time)?;
+    if lifts && processor.queue.lift(time).is_ok() {
+        push_floor(text, processor.cpu, processor.queue.floor())
     } else {
         Ok(())
     }

@@ -10,9 +10,10 @@ use Rattle.replay_model.specs.Needs.{IsLeastWaiting}
 use Rattle.replay_model.specs.QueueTests.{HasOtherNice, IsRunner}
 use Rattle.cfs_model.specs.declared.task.Place.TheVariants.{Run, Wait, Rest}
 use Rattle.cfs_model.specs.declared.task.Task.{Task}
-use Rattle.queue_replay.specs.Queue.{IdlesBeside, IsTheRunner}
-use Rattle.queue_replay.specs.Tasks.{entity_of}
-use Rattle.queue_replay.proofs.Parts.{its_place}
+use Rattle.queue_replay.specs.Picks.{IdlesBeside}
+use Rattle.runqueue.specs.Queue.{IsTheRunner}
+use Rattle.runqueue.specs.Tasks.{entity_of}
+use Rattle.runqueue.proofs.Parts.{its_place}
 
 -- the task of a pid as the part has it
 pub entity_told : (task : Option Task) (t : Task) (o : Option Entity) → task ≡ Some t → option_map entity_of task ≡ o → Some (entity_of t) ≡ o

@@ -9,8 +9,8 @@ use Rattle.cfs_model.specs.declared.task.Place.TheVariants.{Run, Wait, Rest}
 use Rattle.cfs_model.specs.declared.task.Task.{Task}
 use Rattle.queue_replay.specs.Counting.{stretched}
 use Rattle.queue_replay.specs.Stretches.{ran_tally}
-use Rattle.queue_replay.specs.Queue.{IsTheRunner}
-use Rattle.queue_replay.specs.Tasks.{cost_of}
+use Rattle.runqueue.specs.Queue.{IsTheRunner}
+use Rattle.runqueue.specs.Tasks.{cost_of}
 
 map_same : {X : Type 0} (f g : X → X) → ((x : X) → f x ≡ g x) → (xs : List X) → map f xs ≡ map g xs
 map_same f g e [] = refl

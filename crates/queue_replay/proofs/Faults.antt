@@ -9,11 +9,11 @@ use Rattle.cfs_model.specs.declared.kind.Kind.TheVariants.{IdleTooLong}
 use Rattle.replay_model.specs.declared.page.StepFault.{StepFault}
 use Rattle.replay_model.specs.declared.page.Tally.{Tally}
 use Rattle.replay_model.specs.declared.step.Step.{Step}
-use Rattle.queue_replay.specs.Counting.{page_draft_view, faulted_page}
+use Rattle.queue_replay.specs.Counting.{page_draft_view}
 use Rattle.queue_replay.specs.Stretches.{IsWithin}
 use Rattle.queue_replay.specs.Needing.{needs_view}
 use Rattle.queue_replay.specs.ReplayState.{replay_state_view, IsGoing, IsPassed, IsStepped, IsUndone}
-use Rattle.queue_replay.specs.Queue.{runqueue_view}
+use Rattle.runqueue.specs.Queue.{runqueue_view}
 use Rattle.queue_replay.specs.declared.replay_state.ReplayState.{ReplayState}
 
 -- a fault of another kind has no deadline
@@ -22,22 +22,18 @@ no_deadline IdleTooLong slack since ne = absurd (ne refl)
 no_deadline _ slack since ne = refl
 
 -- a step that fails
-pub failed : (knobs : Settings) (cpu : ℕ) (before : ReplayStateView) (needed : Settings) (step : Step) (kind : Kind) (pid : ℕ) (deadline : Option ℕ) (page : PageView) (new : ReplayState)
-    → FailsTest knobs cpu before step kind pid → deadline ≡ deadline_of kind knobs.slack before.since → page ≡ before.page
-    → page_draft_view new.draft ≡ faulted_page page (record { line = step.line; kind = kind; pid = pid; deadline = deadline })
+pub failed : (knobs : Settings) (cpu : ℕ) (before : ReplayStateView) (needed : Settings) (step : Step) (kind : Kind) (pid : ℕ) (deadline : Option ℕ) (mid : ReplayStateView) (new : ReplayState)
+    → FailsTest knobs cpu before step kind pid → deadline ≡ deadline_of kind knobs.slack before.since → mid ≡ before
+    → replay_state_view new ≡ with_fault mid (record { line = step.line; kind = kind; pid = pid; deadline = deadline })
     → IsStepped knobs cpu before needed step new
-failed knobs cpu before needed step kind pid deadline page new fails is same noted =
-    let fault : StepFault = record { line = step.line; kind = kind; pid = pid; deadline = deadline } in
-    inr (
-      fault,
-      record {
-        kind = kind;
-        pid = pid;
-        fails = fails;
-        result = ap (λ d. with_fault before (record { line = step.line; kind = kind; pid = pid; deadline = d })) is;
-      },
-      noted ∙ ap (λ p. faulted_page p fault) same,
-    )
+failed knobs cpu before needed step kind pid deadline mid new fails is same noted =
+    inr (record {
+      kind = kind;
+      pid = pid;
+      fails = fails;
+      result = noted ∙ ap (λ (s : ReplayStateView). with_fault s (record { line = step.line; kind = kind; pid = pid; deadline = deadline })) same
+          ∙ ap (λ d. with_fault before (record { line = step.line; kind = kind; pid = pid; deadline = d })) is;
+    })
 
 -- a step that passes
 pub passed : (knobs : Settings) (cpu : ℕ) (old between new : ReplayState) (step : Step) → IsPassed knobs cpu old step between

@@ -1,5 +1,5 @@
 -- How far the tallies have grown after a step.
-use Rattle.std.proofs.Common.{◌≡◌, ℕ, zero, suc, ◌+◌, ◌*◌, ◌^◌, ◌-◌, ◌<◌, ◌≤◌, Bool, true, false, cond, eqb, List, [], ◌∷◌, ◌++◌, All, Option, Some, None, IfSome, sym, subst, arith, inl, inr}
+use Rattle.std.proofs.Common.{◌≡◌, ℕ, zero, suc, ◌+◌, ◌*◌, ◌^◌, ◌-◌, ◌<◌, ◌≤◌, Bool, true, false, cond, eqb, List, [], ◌∷◌, ◌++◌, All, map, Option, Some, None, IfSome, sym, subst, arith, inl, inr}
 use Rattle.std.specs.List.{list_any}
 use Rattle.std.proofs.lemmas.Bool.{cases_lt}
 use Rattle.std.proofs.lemmas.List.Elements.{All-map, All-weaker, All-push}
@@ -13,8 +13,8 @@ use Rattle.replay_model.specs.declared.step.Deed.TheVariants.{Switch, Wake, Born
 use Rattle.cfs_model.specs.declared.task.Task.{Task}
 use Rattle.queue_replay.specs.Counting.{stretched}
 use Rattle.queue_replay.specs.Stretches.{ran_tally, picked_tally, IsWithin}
-use Rattle.queue_replay.specs.Queue.{IsTheRunner}
-use Rattle.queue_replay.specs.Tasks.{cost_of, entity_of}
+use Rattle.runqueue.specs.Queue.{IsTheRunner}
+use Rattle.runqueue.specs.Tasks.{cost_of, entity_of}
 
 -- a tally with its last stretch, before a pick
 abbrev pub IsRan : ℕ → Tally → Type 0
@@ -89,3 +89,7 @@ noted_ran part time ran steps in_range is short runner e tallies w =
     let P : ℕ → Type 0 = λ n. IfSome runner (λ t. cost_of n t ≤ greatest) in
     let fits : P ran = subst P (sym is) (runner_fits part time in_range runner e) in
     (fits, stretched_ran steps ran runner tallies (omega arith) fits w)
+
+-- at the start nobody has run
+pub new_within : (tasks : List Task) → All (IsWithin 0) (map (λ t. new_tally t.pid) tasks)
+new_within tasks = All-map (IsWithin 0) (λ (t : Task). new_tally t.pid) tasks (λ k d h. (omega arith, omega arith, omega arith))

@@ -1,11 +1,4 @@
-pub mod Charges
-pub mod Parts
-pub mod TaskOf
-pub mod Standings
-pub mod Lifts
 pub mod Answered
-pub mod Moved
-pub mod Coming
 pub mod Passed
 pub mod Needed
 pub mod Rows
@@ -15,6 +8,5 @@ pub mod Counts
 pub mod Growing
 pub mod Noting
 pub mod Faults
-pub mod Starts
 pub mod Renices
 pub mod Replays

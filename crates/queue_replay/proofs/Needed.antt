@@ -19,8 +19,9 @@ use Rattle.replay_model.specs.declared.step.Step.{Step}
 use Rattle.replay_model.proofs.Clear.{place_or}
 use Rattle.replay_model.proofs.PartFacts.{task_in}
 use Rattle.queue_replay.specs.Needing.{IsNeed, PassesRaising, step_needs}
-use Rattle.queue_replay.specs.Queue.{IsAbove, IsAboveGranularity, IsLead, IsLeastIfWaiting}
-use Rattle.queue_replay.proofs.Parts.{its_place}
+use Rattle.queue_replay.specs.Picks.{IsAbove, IsAboveGranularity, IsLead}
+use Rattle.runqueue.specs.Queue.{IsLeastIfWaiting}
+use Rattle.runqueue.proofs.Parts.{its_place}
 use Rattle.queue_replay.proofs.Passed.{next_stays}
 
 -- the next task leads by more than the granularity
@@ -70,12 +71,12 @@ waits_there o h = elim (place_or o Wait) [
 ]
 
 -- a pick's lead is what it needs
-pub pick_needs_lead : (part moved : Part) (prev : ℕ) (prev_nice : ℤ) (way : Way) (next : ℕ) (next_nice : ℤ) (own : Option Entity) (need : ℕ)
-    → moved ≡ part_after_prev part prev way → (next ≢ 0 → own ≡ part.tasks next) → prev ≢ next
+pub pick_needs_lead : (part : Part) (prev : ℕ) (prev_nice : ℤ) (way : Way) (next : ℕ) (next_nice : ℤ) (own : Option Entity) (need : ℕ)
+    → (next ≢ 0 → own ≡ part.tasks next) → prev ≢ next
     → ((pid : ℕ) → ¬ IsNextNotWaiting part (Switch prev prev_nice way next next_nice) pid)
-    → IsLead own moved next need → IsPickNeed part (Switch prev prev_nice way next next_nice) need
-pick_needs_lead part moved prev prev_nice way zero next_nice own need m o two waits h = h
-pick_needs_lead part moved prev prev_nice way (suc n) next_nice own need m o two waits h =
+    → IsLead own (part_after_prev part prev way) next need → IsPickNeed part (Switch prev prev_nice way next next_nice) need
+pick_needs_lead part prev prev_nice way zero next_nice own need o two waits h = h
+pick_needs_lead part prev prev_nice way (suc n) next_nice own need o two waits h =
     go lead.0 lead.1 lead.2
   where
     left : Part
@@ -88,9 +89,7 @@ pick_needs_lead part moved prev prev_nice way (suc n) next_nice own need m o two
     task = task_in part Wait (suc n) there
 
     lead : IsLead (Some task.0) left (suc n) need
-    lead =
-        subst (λ (x : Option Entity). IsLead x left (suc n) need) (o (λ e. cc) ∙ task.1)
-        (subst (λ (p : Part). IsLead own p (suc n) need) m h)
+    lead = subst (λ (x : Option Entity). IsLead x left (suc n) need) (o (λ e. cc) ∙ task.1) h
 
     go : (least : Option ℤ) → IsLeastIfWaiting left least → IsAbove (Some task.0) least need
         → IsPickNeed part (Switch prev prev_nice way (suc n) next_nice) need

@@ -15,7 +15,7 @@ use Rattle.queue_replay.specs.FirstTest.{IsFirst}
 use Rattle.queue_replay.specs.Rows.{IsUnclaimed, moved_tests, pick_tests}
 use Rattle.queue_replay.specs.declared.failed_test.FailedTest.{FailedTest}
 use Rattle.cfs_model.proofs.Moves.{put-other}
-use Rattle.queue_replay.proofs.Parts.{written_over}
+use Rattle.runqueue.proofs.Parts.{written_over}
 
 -- a wakeup without a claim
 pub unwoken : (part : Part) (pid : ℕ) → wakes part pid None ≡ part
@@ -62,12 +62,12 @@ next_stays part (suc n) Sleeps next ne = put-other part.tasks (suc n) _ next (λ
 next_stays part (suc n) Ends next ne = put-other part.tasks (suc n) None next (λ e. ne (sym e))
 
 -- the tests of a switch's pick, on the part that its previous task has left
-pub pick_tests_same : (knobs : Settings) (part moved : Part) (prev : ℕ) (prev_nice : ℤ) (way : Way) (next : ℕ) (next_nice : ℤ) (own : Option Entity)
-    → moved ≡ part_after_prev part prev way → (next ≢ 0 → own ≡ part.tasks next)
-    → (found : Option FailedTest) → IsFirst found (moved_tests knobs.granularity own moved next)
+pub pick_tests_same : (knobs : Settings) (part : Part) (prev : ℕ) (prev_nice : ℤ) (way : Way) (next : ℕ) (next_nice : ℤ) (own : Option Entity)
+    → (next ≢ 0 → own ≡ part.tasks next)
+    → (found : Option FailedTest) → IsFirst found (moved_tests knobs.granularity own (part_after_prev part prev way) next)
     → IsFirst found (pick_tests knobs part (Switch prev prev_nice way next next_nice))
-pick_tests_same knobs part moved prev prev_nice way next next_nice own m o found h =
-    go next o (subst (λ (p : Part). IsFirst found (moved_tests knobs.granularity own p next)) m h)
+pick_tests_same knobs part prev prev_nice way next next_nice own o found h =
+    go next o h
   where
     go : (n : ℕ) → (n ≢ 0 → own ≡ part.tasks n) → IsFirst found (moved_tests knobs.granularity own (part_after_prev part prev way) n)
         → IsFirst found (pick_tests knobs part (Switch prev prev_nice way n next_nice))

@@ -8,7 +8,7 @@ use Rattle.std.proofs.lemmas.List.Elements.{All-head, All-tail}
 use Rattle.replay_model.specs.Noted.{new_tally, with_tally}
 use Rattle.replay_model.specs.declared.page.Tally.{Tally}
 use Rattle.cfs_model.specs.declared.task.Task.{Task}
-use Rattle.queue_replay.specs.Tasks.{RisesByPid}
+use Rattle.runqueue.specs.Tasks.{RisesByPid}
 use Rattle.queue_replay.specs.Places.{IsPlaced, HasTallyRoom}
 use Rattle.queue_replay.specs.Stretches.{ran_tally, picked_tally}
 use Rattle.queue_replay.proofs.PlacedBy.{set_none, changed_there, placed_map, room_map}

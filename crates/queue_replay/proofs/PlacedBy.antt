@@ -11,6 +11,7 @@ use Rattle.std.proofs.lemmas.List.{get_or_append_left, get_or_at, get_or_default
 use Rattle.std.proofs.lemmas.List.Elements.{All-head, All-tail}
 use Rattle.std.proofs.lemmas.Option.{same_Some}
 use Rattle.queue_replay.specs.Places.{IsPlacedBy, HasRoomBy}
+use Rattle.runqueue.proofs.Standings.{other_key}
 
 -- what leaves all others as they are changes the element at one place
 pub set_one : {X : Type 0} (f : X → X) (xs : List X) (i : ℕ) (d : X) → i < length xs
@@ -30,19 +31,6 @@ pub set_none : {X : Type 0} (P : X → Type 0) (f : X → X) (xs : List X) → (
 set_none P f [] same each = refl
 set_none P f (x ∷ xs) same each =
     ap (λ y. y ∷ map f xs) (same x (All-head P x xs each)) ∙ ap (λ l. x ∷ l) (set_none P f xs same (All-tail P x xs each))
-
--- keys that differ aren't one in the order
-pub other_key : (k q : ℕ) → q ≢ k → is_eq (nat_cmp k q) ≡ false
-other_key k q ne = go (is_eq (nat_cmp k q)) refl
-  where
-    from_is_eq : (o : Ordering) → is_eq o ≡ true → o ≡ Equal
-    from_is_eq Less e = absurd cc
-    from_is_eq Equal e = refl
-    from_is_eq Greater e = absurd cc
-
-    go : (b : Bool) → is_eq (nat_cmp k q) ≡ b → b ≡ false
-    go false e = refl
-    go true e = absurd (ne (sym (exact_unsigned k q (from_is_eq (nat_cmp k q) e))))
 
 -- an insertion, refused or not, leaves the other keys as they are
 pub same_others : {V E : Type 0} (r : Result V E) (k v : ℕ) (m n : BTreeMap ℕ ℕ) → OnOk r (Updates nat_cmp m n k (Some v)) → OnErr r (IsUnchanged m n)

@@ -4,7 +4,7 @@ use Rattle.std.proofs.lemmas.Bool.{cond-true, cond-false, le-leb, lt-leb}
 use Rattle.std.proofs.lemmas.List.{take_all, take_more}
 use Rattle.replay_model.specs.Cut.{StreamView}
 use Rattle.replay_model.specs.Noted.{PageView}
-use Rattle.replay_model.specs.Page.{ReplayStateView, PassesStep, FailsStep, with_fault, IsReplayStep, IsReplay, IsStartOf, IsPageOf, end_page}
+use Rattle.replay_model.specs.Page.{ReplayStateView, PassesStep, FailsStep, IsReplayStep, IsReplay, IsStartOf, IsPageOf, end_page}
 use Rattle.cfs_model.specs.Least.{larger}
 use Rattle.cfs_model.specs.Settings.{Settings}
 use Rattle.cfs_model.specs.declared.kind.Kind.TheVariants.{IdleTooLong}
@@ -15,8 +15,9 @@ use Rattle.replay_model.proofs.Replayed.{IsReplay-push}
 use Rattle.queue_replay.specs.Counting.{page_draft_view}
 use Rattle.queue_replay.specs.Needing.{needs_view}
 use Rattle.queue_replay.specs.ReplayState.{replay_state_view, IsGoing, IsStepped}
-use Rattle.queue_replay.specs.Made.{IsUnderWay, IsAt, IsFaultless, GoesOn}
+use Rattle.queue_replay.specs.Made.{IsUnderWay, IsAt, IsFaultless, IsPartAfter, GoesOn}
 use Rattle.queue_replay.specs.declared.replay_state.ReplayState.{ReplayState}
+use Rattle.runqueue.specs.Queue.{runqueue_view}
 use Rattle.queue_replay.proofs.Needed.{needing_more}
 
 -- a replay by one step more
@@ -29,69 +30,82 @@ replay_more knobs cpu start steps made between step after within is r none s =
     let e : take (made + 1) steps ≡ take made steps ++ step ∷ [] = take_more steps made step within ∙ ap (λ x. take made steps ++ x ∷ []) (sym is) in
     subst (λ l. IsReplay knobs cpu start l after) (sym e) more
 
--- the page of the steps made, before the end test
+-- a step that fails leaves a fault
+left_fault : (knobs : Settings) (cpu : ℕ) (before : ReplayStateView) (step : Step) (after : ReplayStateView) → FailsStep knobs cpu before step after
+    → after.page.fault ≡ None → ⊥
+left_fault knobs cpu before step after f none = go _ (sym (ap (λ (x : ReplayStateView). x.page.fault) f.result) ∙ none)
+  where
+    go : (fault : StepFault) → Some fault ≡ None → ⊥
+    go fault e = cc
+
+-- the replay by the steps made, before the end test
 pub record IsReached (s : StreamView) (knobs : Settings) (c : ReplayState) : Type 0 where
   pub start : ReplayStateView
   pub is_start : IsStartOf s start
-  pub end : ReplayStateView
-  pub replay : IsReplay knobs s.cpu start (take c.made s.steps) end
-  pub page : page_draft_view c.draft ≡ end.page
+  pub replay : IsReplay knobs s.cpu start (take c.made s.steps) (replay_state_view c)
   pub needing : c.draft.fault ≡ None → AllPassNeeding knobs s.cpu start (take c.made s.steps) (replay_state_view c) (needs_view c.needs)
-  pub going : c.draft.fault ≡ None → (end ≡ replay_state_view c) × IsGoing c
+  pub going : c.draft.fault ≡ None → IsGoing c
 
 pub reached_one_more : (s : StreamView) (knobs : Settings) (old new : ReplayState) (step : Step) (cpu : ℕ) → cpu ≡ s.cpu → IsUnderWay s knobs old
     → old.made < length s.steps → step ≡ get_or s.steps old.made step → IsStepped knobs cpu (replay_state_view old) (needs_view old.needs) step new → new.made ≡ old.made + 1
     → IsReached s knobs new
 reached_one_more s knobs old new step cpu same u within is stepped made = go (subst (λ n. IsStepped knobs n (replay_state_view old) (needs_view old.needs) step new) same stepped)
   where
+    more : PassesStep knobs s.cpu (replay_state_view old) step (replay_state_view new) ⊎ FailsStep knobs s.cpu (replay_state_view old) step (replay_state_view new)
+        → IsReplay knobs s.cpu u.start (take new.made s.steps) (replay_state_view new)
+    more h = subst (λ n. IsReplay knobs s.cpu u.start (take n s.steps) (replay_state_view new)) (sym made)
+        (replay_more knobs s.cpu u.start s.steps old.made (replay_state_view old) step (replay_state_view new) within is u.replay u.going.fault h)
+
     go : IsStepped knobs s.cpu (replay_state_view old) (needs_view old.needs) step new → IsReached s knobs new
     go (inl p) = record {
       start = u.start;
       is_start = u.is_start;
-      end = replay_state_view new;
-      replay = subst (λ n. IsReplay knobs s.cpu u.start (take n s.steps) (replay_state_view new)) (sym made)
-          (replay_more knobs s.cpu u.start s.steps old.made (replay_state_view old) step (replay_state_view new) within is u.replay u.going.fault (inl p.0.1.passes));
-      page = refl;
+      replay = more (inl p.0.1.passes);
       needing = λ _. subst (λ n. AllPassNeeding knobs s.cpu u.start (take n s.steps) (replay_state_view new) (needs_view new.needs)) (sym made)
           (needing_more knobs s.cpu u.start s.steps old.made (replay_state_view old) (needs_view old.needs) step (replay_state_view new) (needs_view new.needs)
           within is u.needing p.0);
-      going = λ _. (refl, p.1);
+      going = λ _. p.1;
     }
     go (inr f) = record {
       start = u.start;
       is_start = u.is_start;
-      end = with_fault (replay_state_view old) f.0;
-      replay = subst (λ n. IsReplay knobs s.cpu u.start (take n s.steps) (with_fault (replay_state_view old) f.0)) (sym made)
-          (replay_more knobs s.cpu u.start s.steps old.made (replay_state_view old) step (with_fault (replay_state_view old) f.0) within is u.replay u.going.fault (inr f.1));
-      page = f.2;
-      needing = λ none. let e : Some f.0 ≡ None = sym (ap (λ p. p.fault) f.2) ∙ none in absurd cc;
-      going = λ none. let e : Some f.0 ≡ None = sym (ap (λ p. p.fault) f.2) ∙ none in absurd cc;
+      replay = more (inr f);
+      needing = λ none. absurd (left_fault knobs s.cpu (replay_state_view old) step (replay_state_view new) f none);
+      going = λ none. absurd (left_fault knobs s.cpu (replay_state_view old) step (replay_state_view new) f none);
     }
+
+-- the part of the steps made
+part_reached : (s : StreamView) (knobs : Settings) (c : ReplayState) → IsReached s knobs c → IsPartAfter s knobs c.made (runqueue_view c.queue) c.since
+part_reached s knobs c r = record {
+  start = r.start;
+  is_start = r.is_start;
+  end = replay_state_view c;
+  replay = r.replay;
+  part_is = refl;
+  since_is = refl;
+}
 
 -- before the last step the page is that of the steps made
 pub at_middle : (s : StreamView) (knobs : Settings) (c : ReplayState) → IsReached s knobs c → c.made < length s.steps → IsAt s knobs c
 at_middle s knobs c r within = record {
   within = omega arith;
+  is_part = part_reached s knobs c r;
   is_page = record {
     start = r.start;
     is_start = r.is_start;
-    end = r.end;
+    end = replay_state_view c;
     replay = r.replay;
-    result = r.page ∙ sym (cond-false (nat_le (length s.steps) c.made) _ r.end.page (lt-leb (length s.steps) c.made within));
+    result = sym (cond-false (nat_le (length s.steps) c.made) _ (page_draft_view c.draft) (lt-leb (length s.steps) c.made within));
   };
   has_needs = λ none all. absurd (omega arith);
-  under_way = λ none left. let g = r.going none in record {
+  under_way = λ none left. record {
     start = r.start;
     is_start = r.is_start;
-    replay = subst (λ p. IsReplay knobs s.cpu r.start (take c.made s.steps) p) g.0 r.replay;
+    replay = r.replay;
     needing = r.needing none;
-    going = g.1;
+    going = r.going none;
   };
 }
-
-end_faulted : (slack : ℕ) (s : StreamView) (since : Option ℕ) (fault : StepFault) (page : PageView) → end_page slack s since (Some fault) page ≡ page
-end_faulted slack s None fault page = refl
-end_faulted slack s (Some since) fault page = refl
 
 -- an end test that leaves no fault leaves the page
 end_faultless : (slack : ℕ) (s : StreamView) (since : Option ℕ) (fault : Option StepFault) (page : PageView) → page.fault ≡ fault
@@ -112,18 +126,21 @@ end_faultless slack s (Some since) None page has none = (refl, go (nat_lt (since
 
 -- after the last step the end test is made
 pub at_end : (s : StreamView) (knobs : Settings) (c after : ReplayState) → IsReached s knobs c → c.made ≡ length s.steps → after.made ≡ c.made
+    → runqueue_view after.queue ≡ runqueue_view c.queue → after.since ≡ c.since
     → page_draft_view after.draft ≡ end_page knobs.slack s c.since c.draft.fault (page_draft_view c.draft)
     → (c.draft.fault ≡ None → needs_view after.needs ≡ larger (needs_view c.needs) (only_slack (idle_need c.since s.last_time)))
     → IsAt s knobs after
-at_end s knobs c after r last made noted raised = record {
+at_end s knobs c after r last made part since noted raised = record {
   within = omega arith;
+  is_part = subst (λ n. IsPartAfter s knobs n (runqueue_view after.queue) after.since) (sym made)
+      (record { start = r.start; is_start = r.is_start; end = replay_state_view c; replay = r.replay; part_is = part; since_is = since });
   is_page = subst (λ n. IsPageOf s knobs n (page_draft_view after.draft)) (sym made) (record {
     start = r.start;
     is_start = r.is_start;
-    end = r.end;
+    end = replay_state_view c;
     replay = r.replay;
-    result = noted ∙ same c.draft.fault refl
-        ∙ sym (cond-true (nat_le (length s.steps) c.made) (end_page knobs.slack s r.end.since r.end.page.fault r.end.page) r.end.page (le-leb (length s.steps) c.made (omega arith)));
+    result = noted
+        ∙ sym (cond-true (nat_le (length s.steps) c.made) (end_page knobs.slack s c.since c.draft.fault (page_draft_view c.draft)) (page_draft_view c.draft) (le-leb (length s.steps) c.made (omega arith)));
   });
   has_needs = λ none all.
       let u = end_faultless knobs.slack s c.since c.draft.fault (page_draft_view c.draft) refl (sym (ap (λ p. p.fault) noted) ∙ none) in
@@ -138,14 +155,6 @@ at_end s knobs c after r last made noted raised = record {
       };
   under_way = λ none left. absurd (omega arith);
 }
-  where
-    same : (fault : Option StepFault) → c.draft.fault ≡ fault
-        → end_page knobs.slack s c.since c.draft.fault (page_draft_view c.draft) ≡ end_page knobs.slack s r.end.since r.end.page.fault r.end.page
-    same None e = ap (λ (p : ReplayStateView). end_page knobs.slack s p.since p.page.fault p.page) (sym (r.going e).0)
-    same (Some f) e =
-        let g : r.end.page.fault ≡ Some f = sym (ap (λ p. p.fault) r.page) ∙ e in
-        ap (λ o. end_page knobs.slack s c.since o (page_draft_view c.draft)) e ∙ end_faulted knobs.slack s c.since f (page_draft_view c.draft) ∙ r.page
-        ∙ sym (end_faulted knobs.slack s r.end.since f r.end.page) ∙ ap (λ o. end_page knobs.slack s r.end.since o r.end.page) (sym g)
 
 -- a state before the first step
 pub reached_start : (s : StreamView) (knobs : Settings) (c : ReplayState) → c.made ≡ 0 → IsStartOf s (replay_state_view c) → IsGoing c → needs_view c.needs ≡ only_slack 0
@@ -153,11 +162,9 @@ pub reached_start : (s : StreamView) (knobs : Settings) (c : ReplayState) → c.
 reached_start s knobs c e start going none = record {
   start = replay_state_view c;
   is_start = start;
-  end = replay_state_view c;
   replay = subst (λ n. IsReplay knobs s.cpu (replay_state_view c) (take n s.steps) (replay_state_view c)) (sym e) refl;
-  page = refl;
   needing = λ _. subst (λ n. AllPassNeeding knobs s.cpu (replay_state_view c) (take n s.steps) (replay_state_view c) (needs_view c.needs)) (sym e) (refl, none);
-  going = λ _. (refl, going);
+  going = λ _. going;
 }
 
 -- a run of some steps, with so many left

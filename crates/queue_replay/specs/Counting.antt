@@ -2,7 +2,6 @@
 use Rattle.std.specs.Prelude.{ℕ, ◌<◌, ⊤, vec_len, vec_capacity, option_to_list, Option, Some, None, [], List, map}
 use Rattle.replay_model.specs.Deeds.{left_ticket, came_ticket}
 use Rattle.replay_model.specs.Part.{Part}
-use Rattle.replay_model.specs.declared.page.StepFault.{StepFault}
 use Rattle.replay_model.specs.declared.page.Tally.{Tally}
 use Rattle.replay_model.specs.declared.page.Ticket.{Ticket}
 use Rattle.replay_model.specs.declared.step.Deed.{Deed}
@@ -12,7 +11,7 @@ use Rattle.replay_model.specs.Noted.{PageView}
 use Rattle.cfs_model.specs.declared.task.Task.{Task}
 use Rattle.queue_replay.specs.Places.{HasTallyRoom}
 use Rattle.queue_replay.specs.Stretches.{ran_tally}
-use Rattle.queue_replay.specs.Tasks.{cost_of}
+use Rattle.runqueue.specs.Tasks.{cost_of}
 use Rattle.queue_replay.specs.declared.page_draft.PageDraft.{PageDraft}
 
 -- the draft as a page shows it
@@ -54,7 +53,3 @@ HasDraftRoom (Arrive pid nice orig idle) draft = (vec_len draft.came < vec_capac
 abbrev pub stretched : Option Task → ℕ → List Tally → List Tally
 stretched None time tallies = tallies
 stretched (Some t) time tallies = map (ran_tally t.pid time (cost_of time t)) tallies
-
--- a page with a fault
-abbrev pub faulted_page : PageView → StepFault → PageView
-faulted_page page fault = record page { fault = Some fault }

@@ -1,6 +1,4 @@
-pub mod Tasks
-pub mod Standing
-pub mod Queue
+pub mod Picks
 pub mod FirstTest
 pub mod Places
 pub mod Stretches

@@ -5,6 +5,7 @@ use Rattle.replay_model.specs.Cut.{StreamView}
 use Rattle.replay_model.specs.Needs.{AllPassNeeding}
 use Rattle.replay_model.specs.Noted.{PageView}
 use Rattle.replay_model.specs.Page.{ReplayStateView, IsStartOf, IsReplay, IsPageOf}
+use Rattle.replay_model.specs.Part.{Part}
 use Rattle.replay_model.specs.declared.page.StepFault.{StepFault}
 use Rattle.queue_replay.specs.Counting.{page_draft_view}
 use Rattle.queue_replay.specs.Needing.{HasNeeds, needs_view}
@@ -14,6 +15,7 @@ use Rattle.queue_replay.specs.declared.state.State.{State}
 use Rattle.queue_replay.specs.declared.state.State.TheVariants as states
 use Rattle.queue_replay.specs.declared.tag.Reached.{Reached}
 use Rattle.queue_replay.specs.declared.tag.Reached.TheVariants.{Stopped, Done, Faulted}
+use Rattle.runqueue.specs.Queue.{runqueue_view}
 
 -- the state is that of the stream's replay by its first steps, none of which failed, and its needs are theirs
 pub record IsUnderWay (stream : StreamView) (knobs : Settings) (state : ReplayState) : Type 0 where
@@ -23,9 +25,20 @@ pub record IsUnderWay (stream : StreamView) (knobs : Settings) (state : ReplaySt
   pub needing : AllPassNeeding knobs stream.cpu start (take state.made stream.steps) (replay_state_view state) (needs_view state.needs)
   pub going : IsGoing state
 
+-- the part of a processor, and since when it has idled beside a waiting task, after the first steps of its stream's replay; a
+-- step that fails changes neither
+pub record IsPartAfter (stream : StreamView) (knobs : Settings) (made : ℕ) (part : Part) (since : Option ℕ) : Type 0 where
+  pub start : ReplayStateView
+  pub is_start : IsStartOf stream start
+  pub end : ReplayStateView
+  pub replay : IsReplay knobs stream.cpu start (take made stream.steps) end
+  pub part_is : part ≡ end.part
+  pub since_is : since ≡ end.since
+
 -- the state has the page of the steps made, with what they need, and can go on where none has failed and some are left
 pub record IsAt (stream : StreamView) (knobs : Settings) (state : ReplayState) : Type 0 where
   pub within : state.made ≤ length stream.steps
+  pub is_part : IsPartAfter stream knobs state.made (runqueue_view state.queue) state.since
   pub is_page : IsPageOf stream knobs state.made (page_draft_view state.draft)
   pub has_needs : HasNeeds stream knobs state.made (page_draft_view state.draft) (needs_view state.needs)
   pub under_way : state.draft.fault ≡ None → state.made < length stream.steps → IsUnderWay stream knobs state

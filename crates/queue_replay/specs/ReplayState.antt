@@ -1,12 +1,11 @@
 -- A replay under way, as the definitions have it (this project's profile).
 use Rattle.std.specs.Prelude.{◌≡◌, ℕ, ◌+◌, None, ◌⊎◌, All}
 use Rattle.cfs_model.specs.Settings.{Settings}
-use Rattle.replay_model.specs.Page.{ReplayStateView, FailsStep, with_fault}
-use Rattle.replay_model.specs.declared.page.StepFault.{StepFault}
+use Rattle.replay_model.specs.Page.{ReplayStateView, FailsStep}
 use Rattle.replay_model.specs.declared.step.Step.{Step}
 use Rattle.queue_replay.specs.Counting.{page_draft_view}
 use Rattle.queue_replay.specs.Needing.{needs_view, PassesRaising}
-use Rattle.queue_replay.specs.Queue.{runqueue_view}
+use Rattle.runqueue.specs.Queue.{runqueue_view}
 use Rattle.queue_replay.specs.Stretches.{IsWithin}
 use Rattle.queue_replay.specs.declared.replay_state.ReplayState.{ReplayState}
 
@@ -27,10 +26,9 @@ pub record IsPassed (knobs : Settings) (cpu : ℕ) (old : ReplayState) (step : S
 abbrev pub IsStepped : Settings → ℕ → ReplayStateView → Settings → Step → ReplayState → Type 0
 IsStepped knobs cpu before needed step new =
     (PassesRaising knobs cpu before needed step (replay_state_view new) (needs_view new.needs) × IsGoing new)
-    ⊎ ((fault : StepFault) × FailsStep knobs cpu before step (with_fault before fault)
-    × (page_draft_view new.draft ≡ (with_fault before fault).page))
+    ⊎ FailsStep knobs cpu before step (replay_state_view new)
 
--- a step that met want of memory was undone
+-- a step that failed, or met want of memory, was undone
 pub record IsUndone (old new : ReplayState) : Type 0 where
   pub made : new.made ≡ old.made
   pub part : runqueue_view new.queue ≡ runqueue_view old.queue

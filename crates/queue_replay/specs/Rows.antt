@@ -1,7 +1,7 @@
 -- The tests that each deed can fail, in their order: the others of the ordered list hold of no pid at that deed. What
 -- becomes of a step whose processor is charged and lifted, and has the nice value that its line changes (this project's
 -- profile).
-use Rattle.std.specs.Prelude.{◌≡◌, ◌≢◌, ℕ, Option, Some, None, List, [], ◌∷◌}
+use Rattle.std.specs.Prelude.{◌≡◌, ◌≢◌, ℕ, ⊤, Option, Some, None, Result, Ok, Err, List, [], ◌∷◌}
 use Rattle.replay_model.specs.ClaimTests.{claimant, IsClaimMissing, IsWrongPutBack, IsWakeOutside, IsForkOutside, IsNextNotWaiting, IsIdleBesideWaiting, IsNotLeast}
 use Rattle.replay_model.specs.Deeds.{after_deed}
 use Rattle.replay_model.specs.Part.{Part, Entity}
@@ -16,10 +16,12 @@ use Rattle.cfs_model.specs.declared.claim.ClaimSort.TheVariants.{At}
 use Rattle.cfs_model.specs.declared.kind.Kind.TheVariants as kind
 use Rattle.queue_replay.specs.Counting.{ticket_by}
 use Rattle.queue_replay.specs.Needing.{IsNeed}
-use Rattle.queue_replay.specs.Queue.{IdlesBeside, IsAboveGranularity}
+use Rattle.queue_replay.specs.Picks.{IdlesBeside, IsAboveGranularity}
 use Rattle.queue_replay.specs.declared.context_switch.ContextSwitch.{ContextSwitch}
 use Rattle.queue_replay.specs.declared.outcome.Outcome.{Outcome}
 use Rattle.queue_replay.specs.declared.outcome.Outcome.TheVariants.{Made, Failed}
+use Rattle.runqueue.specs.Queue.{HoldsSame}
+use Rattle.runqueue.specs.declared.runqueue.Runqueue.{Runqueue}
 
 -- a switch as a deed
 abbrev pub switch_deed : ContextSwitch → Deed
@@ -112,3 +114,9 @@ IsTried knobs cpu part step after (Failed failed) = FirstHolds (late_tests knobs
 -- the same of a step's deed alone, whatever its line changes
 abbrev pub IsDeedTried : Settings → ℕ → Part → Step → Part → Outcome → Type 0
 IsDeedTried knobs cpu part step after outcome = IsTried knobs cpu part (record step { nice = None }) after outcome
+
+-- the map and the set of a runqueue hold what they did, unless the step was made
+abbrev pub HoldsUnmade : {E : Type 0} → Result Outcome E → Runqueue → Runqueue → Type 0
+HoldsUnmade (Ok (Made deed)) old new = ⊤
+HoldsUnmade (Ok (Failed failed)) old new = HoldsSame old new
+HoldsUnmade (Err error) old new = HoldsSame old new

@@ -3,13 +3,14 @@ ghost use Rattle.replay_model.specs.ClaimTests.{if_resting, IsClaimMissing, IsIn
 ghost use Rattle.replay_model.specs.Part.{Part, Entity, place_in};
 ghost use Rattle.replay_model.specs.declared.step.Deed.TheVariants.{Wake, Born, Arrive};
 ghost use Rattle.cfs_model.specs.declared.task.Place.TheVariants.{Rest};
-ghost use Rattle.queue_replay.specs.Queue.{runqueue_view, IdlesBeside, IsAboveGranularity, IsLead, IsTaskAt};
+ghost use Rattle.queue_replay.specs.Picks.{IdlesBeside, IsAboveGranularity, IsLead};
+ghost use Rattle.runqueue.specs.Queue.{runqueue_view, IsLeastIfWaiting, IsTaskAt};
 ghost use Rattle.queue_replay.specs.FirstTest.{Decides};
 ghost use Rattle.queue_replay.specs.Rows.{HasClaimAt, IsUnclaimed, IsNeedless, IsOfAnother};
 
 use crate::excess::excess;
 use crate::queue_tests::stands_in;
-use crate::runqueue::Runqueue;
+use runqueue::Runqueue;
 use cfs_model::{Claim, ClaimSort, IDLE_PID, Place, Task};
 
 /// The pid, if its task rests here.
@@ -100,21 +101,21 @@ pub(crate) fn fork_outside(
     ensures { (nice : ℤ) (idle : Bool) → Decides result (IsForkOutside debit (runqueue_view queue.now) (Born pid nice idle) claim) }
 {
     let claim = claim?;
-    if is_in_fork_bounds(queue, claim, debit) {
+    if is_in_fork_bounds(queue.floor(), claim, debit) {
         None
     } else {
         Some(pid)
     }
 }
 
-/// The processor goes idle, and somebody waits here; the previous task has gone its way.
-pub(crate) fn idle_beside_waiting(moved: &Runqueue, next: u32) -> Option<u32>
-    ensures { Decides result (IdlesBeside (runqueue_view moved.now) next) }
+/// The processor goes idle, and somebody waits here: the least of them has this virtual runtime.
+pub(crate) fn idle_beside_waiting(least: Option<i64>, next: u32) -> Option<u32>
+    ensures { (part : Part) → IsLeastIfWaiting part least → Decides result (IdlesBeside part next) }
 {
     if next != IDLE_PID {
         return None;
     }
-    moved.least_waiting().is_some().then_some(IDLE_PID)
+    least.is_some().then_some(IDLE_PID)
 }
 
 /// The next task leads the least of those who wait by more than the granularity; both in virtual nanoseconds.
@@ -137,41 +138,41 @@ pub(crate) fn is_at_other(task: Option<Task>, claim: Claim) -> bool
 
 /// The task rests here, and is claimed outside the bounds of its wakeup.
 fn rests_outside(queue: &Runqueue, claim: Claim, credit: u64, task: Option<Task>) -> bool
-    ensures { (pid : ℕ) → IsTaskAt (runqueue_view queue.now) pid task
-        → (IsTrue result ↔ ((s : Entity) × ((runqueue_view queue.now).tasks pid ≡ Some s) × (s.place ≡ Rest) × (¬ IsInWakeBounds credit queue.now.floor s.runtime claim.v))) }
+    ensures { let part = runqueue_view queue.now in (pid : ℕ) → IsTaskAt part pid task
+        → (IsTrue result ↔ ((s : Entity) × (part.tasks pid ≡ Some s) × (s.place ≡ Rest) × (¬ IsInWakeBounds credit part.floor s.runtime claim.v))) }
 {
     match task {
-        Some(task) => task.place == Place::Rest && !is_in_wake_bounds(queue, task, claim, credit),
+        Some(task) => task.place == Place::Rest && !is_in_wake_bounds(queue.floor(), task, claim, credit),
         None => false,
     }
 }
 
 /// The claim is within the bounds of the task's wakeup, by its own virtual runtime, the floor and the credit.
-fn is_in_wake_bounds(queue: &Runqueue, task: Task, claim: Claim, credit: u64) -> bool
-    ensures { IsTrue result ↔ IsInWakeBounds credit queue.now.floor task.v claim.v }
+fn is_in_wake_bounds(floor: i64, task: Task, claim: Claim, credit: u64) -> bool
+    ensures { IsTrue result ↔ IsInWakeBounds credit floor task.v claim.v }
 {
     if claim.v < task.v {
         return false;
     }
-    if claim.v > task.v.max(queue.floor) {
+    if claim.v > task.v.max(floor) {
         return false;
     }
-    reaches_credit(queue, claim, credit)
+    reaches_credit(floor, claim, credit)
 }
 
 /// The claim is at most the credit below the floor.
-fn reaches_credit(queue: &Runqueue, claim: Claim, credit: u64) -> bool
-    ensures { IsTrue result ↔ ((queue.now.floor -ℤ pos credit) ≤ℤ claim.v) }
+fn reaches_credit(floor: i64, claim: Claim, credit: u64) -> bool
+    ensures { IsTrue result ↔ ((floor -ℤ pos credit) ≤ℤ claim.v) }
 {
-    excess(queue.floor, claim.v) <= credit
+    excess(floor, claim.v) <= credit
 }
 
 /// The claim is within the bounds of a birth, by the floor and the debit.
-fn is_in_fork_bounds(queue: &Runqueue, claim: Claim, debit: u64) -> bool
-    ensures { IsTrue result ↔ IsInForkBounds debit queue.now.floor claim.v }
+fn is_in_fork_bounds(floor: i64, claim: Claim, debit: u64) -> bool
+    ensures { IsTrue result ↔ IsInForkBounds debit floor claim.v }
 {
-    if claim.v < queue.floor {
+    if claim.v < floor {
         return false;
     }
-    excess(claim.v, queue.floor) <= debit
+    excess(claim.v, floor) <= debit
 }

@@ -1,9 +1,9 @@
 ghost use Rattle.std.specs.Prelude.{◌≡◌, Some};
 ghost use Rattle.replay_model.specs.Deeds.{came_ticket, left_ticket, place_of_sort};
-ghost use Rattle.queue_replay.specs.Queue.{runqueue_view, IsTaskAt};
-ghost use Rattle.queue_replay.specs.Tasks.{entity_of};
+ghost use Rattle.runqueue.specs.Queue.{runqueue_view, IsTaskAt};
+ghost use Rattle.runqueue.specs.Tasks.{entity_of};
 
-use crate::runqueue::Runqueue;
+use runqueue::Runqueue;
 use cfs_model::{Claim, ClaimSort, Nice, Place, Task};
 use replay_model::Ticket;
 
@@ -46,7 +46,7 @@ pub(crate) fn left_ticket(
         nice: task.nice,
         idle: task.idle,
         place: task.place,
-        offset: i128::from(task.v) - i128::from(queue.floor),
+        offset: i128::from(task.v) - i128::from(queue.floor()),
     })
 }
 
@@ -67,7 +67,7 @@ pub(crate) fn came_ticket(
         nice,
         idle,
         place: place_of(claim),
-        offset: i128::from(claim.v) - i128::from(queue.floor),
+        offset: i128::from(claim.v) - i128::from(queue.floor()),
     }
 }
 

@@ -3,12 +3,12 @@ ghost use Rattle.replay_model.specs.ClaimTests.{claimant, IsWrongPutBack, IsNext
 ghost use Rattle.replay_model.specs.Part.{Part};
 ghost use Rattle.replay_model.specs.QueueTests.{IsSelfSwitch, IsPrevNotRunning, IsWrongPrio};
 ghost use Rattle.queue_replay.specs.FirstTest.{Decides};
-ghost use Rattle.queue_replay.specs.Queue.{runqueue_view, IsSwitchTask};
+ghost use Rattle.runqueue.specs.Queue.{runqueue_view, IsSwitchTask};
 ghost use Rattle.queue_replay.specs.Rows.{switch_deed};
 
 use crate::claim_tests::is_at_other;
 use crate::queue_tests::{has_other_prio, is_runner, stands_in};
-use crate::runqueue::Runqueue;
+use runqueue::Runqueue;
 use cfs_model::{Claim, IDLE_PID, Nice, Place, Task, Way};
 
 /// A switch from one task to another, and those of its tests that no other deed has.

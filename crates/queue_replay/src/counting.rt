@@ -2,7 +2,7 @@ ghost use Rattle.std.specs.Prelude.{◌≡◌, ℕ, ◌+◌, ◌^◌, ◌<◌, �
 ghost use Rattle.cfs_model.specs.Charge.{greatest};
 ghost use Rattle.replay_model.specs.Noted.{new_tally};
 ghost use Rattle.queue_replay.specs.Stretches.{ran_tally, picked_tally};
-ghost use Rattle.queue_replay.specs.Tasks.{cost_of};
+ghost use Rattle.runqueue.specs.Tasks.{cost_of};
 
 use cfs_model::{Task, charge, weight_of};
 use replay_model::Tally;

@@ -1,15 +1,15 @@
-ghost use Rattle.std.specs.Prelude.{◌≡◌, ℕ, IfOk, OnErr};
+ghost use Rattle.std.specs.Prelude.{◌≡◌, ℕ, IfOk};
 ghost use Rattle.cfs_model.specs.Settings.{Settings};
 ghost use Rattle.replay_model.specs.declared.step.Deed.TheVariants.{Wake, Born, Leave, Arrive};
-ghost use Rattle.queue_replay.specs.Queue.{runqueue_view, HoldsSame};
-ghost use Rattle.queue_replay.specs.Rows.{IsDeedTried, switch_deed};
+ghost use Rattle.runqueue.specs.Queue.{runqueue_view};
+ghost use Rattle.queue_replay.specs.Rows.{HoldsUnmade, IsDeedTried, switch_deed};
 
 use crate::claimed::{came_ticket, claimed_task, left_ticket, place_of};
 use crate::context_switch::ContextSwitch;
 use crate::excess::{excess, lead};
 use crate::made_deed::MadeDeed;
 use crate::outcome::Outcome;
-use crate::runqueue::Runqueue;
+use runqueue::Runqueue;
 use crate::step_table::{
     first_arrival_test, first_birth_test, first_leave_test, first_pick_test, first_switch_test,
     first_wake_test,
@@ -36,8 +36,8 @@ macro_rules! moves {
     };
 }
 
-/// A step's deed is tried on a runqueue as it finds it: the moves that it makes, or the first test that it fails. Where
-/// memory is wanted nothing changes.
+/// A step's deed is tried on a runqueue as it finds it: the moves that it makes, or the first test that it fails. Where a
+/// test fails, or memory is wanted, nothing changes.
 pub(crate) fn try_deed(
     queue: &mut Runqueue,
     cpu: u32,
@@ -45,7 +45,7 @@ pub(crate) fn try_deed(
     knobs: Knobs,
 ) -> Result<Outcome, Memory>
     ensures tried { IfOk result (IsDeedTried knobs cpu (runqueue_view queue.old) step.now (runqueue_view queue.new)) }
-    ensures same { OnErr result (HoldsSame queue.old queue.new) }
+    ensures same { HoldsUnmade result queue.old queue.new }
 {
     let deed = step.deed;
     match deed {
@@ -85,7 +85,7 @@ fn try_switch(
 ) -> Result<Outcome, Memory>
     requires { step.now.deed ≡ switch_deed switch.now }
     ensures tried { (cpu : ℕ) → IfOk result (IsDeedTried knobs cpu (runqueue_view queue.old) step.now (runqueue_view queue.new)) }
-    ensures same { OnErr result (HoldsSame queue.old queue.new) }
+    ensures same { HoldsUnmade result queue.old queue.new }
 {
     let prev = queue.switch_task(switch.prev);
     let pid = switch.next;
@@ -94,11 +94,12 @@ fn try_switch(
     if let Some(failed) = first_switch_test(queue, switch, &prev, &next, step.claim) {
         return Ok(Outcome::Failed(failed));
     }
-    moves!(queue: runner leaves by way);
-    let need = lead(queue, pid, next);
-    if let Some(failed) = first_pick_test(queue, pid, need, knobs) {
+    let least = queue.least_after(way);
+    let need = lead(least, pid, next);
+    if let Some(failed) = first_pick_test(least, pid, need, knobs) {
         return Ok(Outcome::Failed(failed));
     }
+    moves!(queue: runner leaves by way);
     moves!(queue: next of pid runs);
     Ok(Outcome::Made(MadeDeed { ticket: None, need }))
 }
@@ -112,7 +113,7 @@ fn try_wake(
 ) -> Result<Outcome, Memory>
     requires { step.now.deed ≡ Wake pid nice }
     ensures tried { (cpu : ℕ) → IfOk result (IsDeedTried knobs cpu (runqueue_view queue.old) step.now (runqueue_view queue.new)) }
-    ensures same { OnErr result (HoldsSame queue.old queue.new) }
+    ensures same { HoldsUnmade result queue.old queue.new }
 {
     let task = queue.task_at(pid);
     if let Some(failed) = first_wake_test(queue, pid, nice, &task, step.claim, knobs) {
@@ -124,7 +125,7 @@ fn try_wake(
             need: 0,
         }));
     };
-    let need = excess(queue.floor, claim.v);
+    let need = excess(queue.floor(), claim.v);
     moves!(queue: task of pid wakes at claim);
     Ok(Outcome::Made(MadeDeed { ticket: None, need }))
 }
@@ -140,7 +141,7 @@ fn try_birth(
 ) -> Result<Outcome, Memory>
     requires { step.now.deed ≡ Born pid nice idle }
     ensures tried { IfOk result (IsDeedTried knobs cpu (runqueue_view queue.old) step.now (runqueue_view queue.new)) }
-    ensures same { OnErr result (HoldsSame queue.old queue.new) }
+    ensures same { HoldsUnmade result queue.old queue.new }
 {
     let task = queue.task_at(pid);
     if let Some(failed) = first_birth_test(queue, pid, &task, step.claim, knobs) {
@@ -148,7 +149,7 @@ fn try_birth(
     }
     match step.claim {
         Some(claim) => {
-            let need = excess(claim.v, queue.floor);
+            let need = excess(claim.v, queue.floor());
             moves!(queue: claimed_task(Place::Wait, pid, nice, idle, cpu, claim), comes);
             Ok(Outcome::Made(MadeDeed { ticket: None, need }))
         }
@@ -166,7 +167,7 @@ fn try_leave(
 ) -> Result<Outcome, Memory>
     requires { step.now.deed ≡ Leave pid nice dest }
     ensures tried { (knobs : Settings) → IfOk result (IsDeedTried knobs cpu (runqueue_view queue.old) step.now (runqueue_view queue.new)) }
-    ensures same { OnErr result (HoldsSame queue.old queue.new) }
+    ensures same { HoldsUnmade result queue.old queue.new }
 {
     let task = queue.task_at(pid);
     if let Some(failed) = first_leave_test(cpu, pid, nice, dest, &task) {
@@ -187,7 +188,7 @@ fn try_arrival(
 ) -> Result<Outcome, Memory>
     requires { (orig : ℕ) × (step.now.deed ≡ Arrive pid nice orig idle) }
     ensures tried { (knobs : Settings) → IfOk result (IsDeedTried knobs cpu (runqueue_view queue.old) step.now (runqueue_view queue.new)) }
-    ensures same { OnErr result (HoldsSame queue.old queue.new) }
+    ensures same { HoldsUnmade result queue.old queue.new }
 {
     let task = queue.task_at(pid);
     if let Some(failed) = first_arrival_test(pid, &task, step.claim) {

@@ -1,9 +1,10 @@
-ghost use Rattle.std.specs.Prelude.{option_map};
+ghost use Rattle.std.specs.Prelude.{Option, ℤ, option_map};
 ghost use Rattle.replay_model.specs.Needs.{IsExcess};
-ghost use Rattle.queue_replay.specs.Queue.{runqueue_view, IsLead};
-ghost use Rattle.queue_replay.specs.Tasks.{entity_of};
+ghost use Rattle.replay_model.specs.Part.{Part};
+ghost use Rattle.queue_replay.specs.Picks.{IsLead};
+ghost use Rattle.runqueue.specs.Queue.{IsLeastIfWaiting};
+ghost use Rattle.runqueue.specs.Tasks.{entity_of};
 
-use crate::runqueue::Runqueue;
 use cfs_model::{IDLE_PID, Task};
 
 /// How far a virtual runtime is above another, in virtual nanoseconds; 0 where it isn't.
@@ -13,15 +14,14 @@ pub(crate) fn excess(v: i64, from: i64) -> u64
     if v > from { v.abs_diff(from) } else { 0 }
 }
 
-/// How far the next task, as it stood, is above the least of those who wait, in virtual nanoseconds; the previous task has
-/// gone its way.
-pub(crate) fn lead(moved: &Runqueue, next: u32, own: Option<Task>) -> u64
-    ensures { IsLead (option_map entity_of own) (runqueue_view moved.now) next result }
+/// How far the next task is above the least of those who wait, in virtual nanoseconds.
+pub(crate) fn lead(least: Option<i64>, next: u32, own: Option<Task>) -> u64
+    ensures { (part : Part) → IsLeastIfWaiting part least → IsLead (option_map entity_of own) part next result }
 {
     if next == IDLE_PID {
         return 0;
     }
-    match (own, moved.least_waiting()) {
+    match (own, least) {
         (Some(task), Some(least)) => excess(task.v, least),
         _ => 0,
     }

@@ -1,7 +1,6 @@
 //! The replay of one processor alone: its stream of steps, tested one after another, up to the first that fails.
 #![tactic(auto)]
 
-mod charging;
 mod claim_tests;
 mod claimed;
 mod context_switch;
@@ -9,10 +8,8 @@ mod counting;
 mod deeds;
 mod excess;
 mod failed_test;
-mod lift;
 mod lists;
 mod made_deed;
-mod moves;
 mod needs;
 mod outcome;
 mod page;
@@ -23,12 +20,10 @@ mod replay;
 mod replay_state;
 mod room;
 mod running;
-mod runqueue;
 mod state;
 mod step_table;
 mod tag;
 mod tally_book;
-mod waiting_task;
 
 pub use lists::{LifeEvents, Tallies, Tickets};
 pub use needs::Needs;

@@ -5,7 +5,7 @@ ghost use Rattle.replay_model.specs.declared.step.Deed.{Deed as DeedOf};
 ghost use Rattle.replay_model.specs.declared.step.Deed.TheVariants.{Switch};
 ghost use Rattle.queue_replay.specs.Counting.{HasDraftRoom, page_draft_view, if_left, if_came, stretched};
 ghost use Rattle.queue_replay.specs.Stretches.{IsWithin};
-ghost use Rattle.queue_replay.specs.Tasks.{cost_of};
+ghost use Rattle.runqueue.specs.Tasks.{cost_of};
 
 use crate::room::push_in;
 use crate::tally_book::TallyBook;

@@ -3,10 +3,10 @@ ghost use Rattle.cfs_model.specs.declared.task.Place.TheVariants.{Run};
 ghost use Rattle.replay_model.specs.Part.{Part, IsIn};
 ghost use Rattle.replay_model.specs.QueueTests.{IsMoveHome, IsRunner, HasOtherNice, HasOtherPrio};
 ghost use Rattle.replay_model.specs.declared.step.Deed.TheVariants.{Leave};
-ghost use Rattle.queue_replay.specs.Queue.{runqueue_view, IsSwitchTask, IsTaskAt};
+ghost use Rattle.runqueue.specs.Queue.{runqueue_view, IsSwitchTask, IsTaskAt};
 ghost use Rattle.queue_replay.specs.FirstTest.{Decides};
 
-use crate::runqueue::Runqueue;
+use runqueue::Runqueue;
 use cfs_model::{IDLE_PID, Nice, Place, Task};
 
 /// The task goes to the processor where it is.
@@ -62,7 +62,7 @@ pub(crate) fn is_runner(queue: &Runqueue, pid: u32, task: Option<Task>) -> bool
     ensures { IsTrue result ↔ IsRunner (runqueue_view queue.now) pid }
 {
     if pid == IDLE_PID {
-        queue.runner.is_none()
+        queue.runner().is_none()
     } else {
         stands_in(task, Place::Run)
     }

@@ -1,7 +1,9 @@
-ghost use Rattle.std.specs.Prelude.{◌≡◌, length, IfOk, IfErr, OnOk, OnErr};
+ghost use Rattle.std.specs.Prelude.{◌≡◌, ℕ, Option, length, IfOk, IfErr, OnOk, OnErr};
 ghost use Rattle.replay_model.specs.Page.{IsPageOf};
 ghost use Rattle.queue_replay.specs.Counting.{page_draft_view};
-ghost use Rattle.queue_replay.specs.Made.{IsAt, IsCut, GoesOn, state_of};
+ghost use Rattle.queue_replay.specs.Made.{IsAt, IsCut, IsPartAfter, GoesOn, state_of};
+ghost use Rattle.replay_model.specs.Part.{Part};
+ghost use Rattle.runqueue.specs.Queue.{runqueue_view};
 ghost use Rattle.sched_record.specs.Stream.{stream_view};
 
 use crate::lists::{LifeEvents, Tallies, Tickets};
@@ -12,6 +14,7 @@ use crate::running::{make_steps, start};
 use crate::state::State;
 use crate::tally_book::TallyBook;
 use cfs_model::{Knobs, Memory};
+use runqueue::Runqueue;
 use sched_record::Stream;
 use std::alloc::Global;
 use std::marker::Model;
@@ -86,6 +89,29 @@ impl Replay {
                 }
             }
         }
+    }
+
+    /// Who stands at the processor, after the steps made; a step that failed changed nothing.
+    pub fn runqueue(&self) -> &Runqueue
+        ensures { (since : Option ℕ) × IsPartAfter self.now.stream self.now.knobs self.now.made (runqueue_view result.now) since }
+    {
+        &self.state.queue
+    }
+
+    /// The same, where the replay ends there.
+    pub fn into_runqueue(self) -> Runqueue
+        ensures { (since : Option ℕ) × IsPartAfter self.stream self.knobs self.made (runqueue_view result) since }
+    {
+        let Replay { state, .. } = self;
+        let ReplayState { queue, .. } = state;
+        queue
+    }
+
+    /// Since when nothing has run at the processor while somebody waited, in nanoseconds; if that is so.
+    pub fn idled_since(&self) -> Option<u64>
+        ensures { (part : Part) × IsPartAfter self.now.stream self.now.knobs self.now.made part result }
+    {
+        self.state.since
     }
 
     /// The line of the last step that passed, from 1, comments counted; 0 if none did.

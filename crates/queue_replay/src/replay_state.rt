@@ -1,11 +1,11 @@
 ghost use Rattle.std.specs.Prelude.{◌≡◌, ◌≢◌, ℕ, ◌+◌, ◌-◌, ◌^◌, ◌<◌, Some, None, MatchOption, IfSome, IfOk, OnOk, OnErr};
 ghost use Rattle.replay_model.specs.Needs.{idle_need};
-ghost use Rattle.replay_model.specs.Page.{FailsTest, IsSince, deadline_of};
+ghost use Rattle.replay_model.specs.Page.{FailsTest, IsSince, deadline_of, with_fault};
 ghost use Rattle.replay_model.specs.QueueTests.{IsIdleTooLong};
 ghost use Rattle.cfs_model.specs.declared.kind.Kind.TheVariants.{IdleTooLong};
-ghost use Rattle.queue_replay.specs.Counting.{HasDraftRoom, page_draft_view, faulted_page};
+ghost use Rattle.queue_replay.specs.Counting.{HasDraftRoom};
 ghost use Rattle.queue_replay.specs.Needing.{needs_view};
-ghost use Rattle.queue_replay.specs.Queue.{runqueue_view};
+ghost use Rattle.runqueue.specs.Queue.{runqueue_view};
 ghost use Rattle.queue_replay.specs.ReplayState.{IsGoing, IsPassed, IsStepped, IsUndone, replay_state_view};
 
 use crate::failed_test::FailedTest;
@@ -13,21 +13,9 @@ use crate::needs::Needs;
 use crate::outcome::Outcome;
 use crate::page_draft::PageDraft;
 use crate::renice::try_step;
-use crate::runqueue::Runqueue;
+use runqueue::Runqueue;
 use cfs_model::{IDLE_PID, Kind, Knobs, Memory};
 use replay_model::{Step, StepFault};
-
-// A charge with its lift, up to a time in nanoseconds.
-macro_rules! lift {
-    ($queue:expr, $time:expr) => {
-        if let Err(pid) = $queue.lift($time) {
-            return Ok(Some(FailedTest {
-                kind: Kind::Range,
-                pid,
-            }));
-        }
-    };
-}
 
 /// A replay under way.
 #[derive(Drop)]
@@ -85,7 +73,7 @@ impl ReplayState {
     fn fail(&mut self, line: u32, failed: FailedTest, deadline: Option<u64>)
         requires { self.old.made < 2 ^ 64 - 1 }
         ensures made { self.new.made ≡ self.old.made + 1 }
-        ensures noted { page_draft_view self.new.draft ≡ faulted_page (page_draft_view self.old.draft) (record { line = line; kind = failed.kind; pid = failed.pid; deadline = deadline }) }
+        ensures noted { replay_state_view self.new ≡ with_fault (replay_state_view self.old) (record { line = line; kind = failed.kind; pid = failed.pid; deadline = deadline }) }
     {
         self.draft.fault = Some(StepFault {
             line,
@@ -96,7 +84,8 @@ impl ReplayState {
         self.made += 1;
     }
 
-    /// The tests of a step but for the first. If it passes them it is made. Where memory is wanted nothing changes.
+    /// The tests of a step but for the first. If it passes them it is made. Else, and where memory is wanted, nothing
+    /// changes.
     fn pass(&mut self, cpu: u32, step: &Step, knobs: Knobs) -> Result<Option<FailedTest>, Memory>
         requires going { IsGoing self.old }
         requires few { self.old.made < 2 ^ 64 - 1 }
@@ -106,31 +95,40 @@ impl ReplayState {
         ensures passes { IfOk result (λ found. found ≡ None → IsPassed knobs cpu self.old step.now self.new) }
         ensures fails { IfOk result (λ found. IfSome found (λ failed. FailsTest knobs cpu (replay_state_view self.old) step.now failed.kind failed.pid)) }
         ensures later { IfOk result (λ found. IfSome found (λ failed. failed.kind ≢ IdleTooLong)) }
-        ensures noted { IfOk result (λ found. found ≢ None → (page_draft_view self.new.draft ≡ page_draft_view self.old.draft) × (self.new.since ≡ self.old.since)) }
+        ensures undone { IfOk result (λ found. found ≢ None → IsUndone self.old self.new) }
         ensures memory { OnErr result (IsUndone self.old self.new) }
     {
         let before = self.queue.unlifted();
-        let time = step.time.saturating_sub(before.mark);
-        lift!(self.queue, step.time);
+        let runner = self.queue.runner();
+        let time = step.time.saturating_sub(self.queue.mark());
+        if let Err(pid) = self.queue.lift(step.time) {
+            return Ok(Some(FailedTest {
+                kind: Kind::Range,
+                pid,
+            }));
+        }
         let deed = match try_step(&mut self.queue, cpu, step, knobs) {
             Ok(Outcome::Made(deed)) => deed,
-            Ok(Outcome::Failed(failed)) => return Ok(Some(failed)),
+            Ok(Outcome::Failed(failed)) => {
+                self.queue.restore(before);
+                return Ok(Some(failed));
+            }
             Err(memory) => {
                 self.queue.restore(before);
                 return Err(memory);
             }
         };
-        self.draft.note_stretch(before.runner, time, self.made);
+        self.draft.note_stretch(runner, time, self.made);
         self.draft.note(step, deed.ticket, self.made);
-        let idle = idle_time(self.since, step.time);
-        self.needs.raise(step.deed, deed.need, idle);
+        let idled = idled_time(self.since, step.time);
+        self.needs.raise(step.deed, deed.need, idled);
         self.since = since_after(self.since, step.time, &self.queue);
         Ok(None)
     }
 }
 
 /// For how long the processor has idled beside a waiting task, if it has since a time; in nanoseconds.
-pub(crate) fn idle_time(since: Option<u64>, time: u64) -> u64
+pub(crate) fn idled_time(since: Option<u64>, time: u64) -> u64
     ensures { result ≡ idle_need since time }
 {
     match since {
@@ -157,7 +155,7 @@ pub(crate) fn idle_deadline(since: Option<u64>, time: u64, slack: u64) -> Option
 pub(crate) fn since_after(before: Option<u64>, time: u64, queue: &Runqueue) -> Option<u64>
     ensures { IsSince before time (runqueue_view queue.now) result }
 {
-    if queue.runner.is_some() {
+    if queue.runner().is_some() {
         return None;
     }
     match queue.least_waiting() {

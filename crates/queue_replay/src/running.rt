@@ -1,24 +1,20 @@
 ghost use Rattle.std.specs.Prelude.{◌≡◌, ◌+◌, ◌<◌, ◌≤◌, true, false, None, IsSome, ◌⊎◌, length, OnOk, OnErr, IfOk};
-ghost use Rattle.std.specs.List.{AllPairs};
-ghost use Rattle.cfs_model.specs.declared.task.Place.TheVariants.{Run};
 ghost use Rattle.cfs_model.specs.Least.{larger};
 ghost use Rattle.replay_model.specs.Needs.{idle_need, only_slack};
 ghost use Rattle.replay_model.specs.Page.{IsStartOf, end_page};
-ghost use Rattle.replay_model.specs.Part.{start_part};
-ghost use Rattle.queue_replay.specs.Queue.{runqueue_view};
-ghost use Rattle.queue_replay.specs.Tasks.{RisesByPid};
 ghost use Rattle.queue_replay.specs.Counting.{page_draft_view};
 ghost use Rattle.queue_replay.specs.Needing.{needs_view};
 ghost use Rattle.queue_replay.specs.ReplayState.{IsGoing, replay_state_view};
 ghost use Rattle.queue_replay.specs.Made.{IsAt, IsCut, GoesOn};
+ghost use Rattle.runqueue.specs.Queue.{runqueue_view};
 ghost use Rattle.sched_record.specs.Stream.{stream_view};
 
 use crate::needs::Needs;
 use crate::page_draft::PageDraft;
-use crate::replay_state::{ReplayState, idle_deadline, idle_time, since_after};
-use crate::runqueue::Runqueue;
+use crate::replay_state::{ReplayState, idle_deadline, idled_time, since_after};
+use runqueue::Runqueue;
 use crate::tally_book::TallyBook;
-use cfs_model::{IDLE_PID, Kind, Knobs, Memory, NO_LINE, Task};
+use cfs_model::{IDLE_PID, Kind, Knobs, Memory, NO_LINE};
 use replay_model::StepFault;
 use sched_record::Stream;
 use std::alloc::Global;
@@ -76,13 +72,15 @@ fn advance(stream: &Stream, knobs: Knobs, state: &mut ReplayState) -> Result<(),
 fn end_test(stream: &Stream, knobs: Knobs, state: &mut ReplayState)
     ensures made { state.new.made ≡ state.old.made }
     ensures needs { state.old.draft.fault ≡ None → needs_view state.new.needs ≡ larger (needs_view state.old.needs) (only_slack (idle_need state.old.since (stream_view stream.now).last_time)) }
+    ensures part { runqueue_view state.new.queue ≡ runqueue_view state.old.queue }
+    ensures since { state.new.since ≡ state.old.since }
     ensures page { page_draft_view state.new.draft ≡ end_page knobs.slack (stream_view stream.now) state.old.since state.old.draft.fault (page_draft_view state.old.draft) }
 {
     if state.draft.fault.is_some() {
         return;
     }
-    let idle = idle_time(state.since, stream.last_time());
-    state.needs.raise_slack(idle);
+    let idled = idled_time(state.since, stream.last_time());
+    state.needs.raise_slack(idled);
     if let Some(deadline) = idle_deadline(state.since, stream.last_time(), knobs.slack()) {
         state.draft.fault = Some(StepFault {
             line: stream.last_line(),
@@ -112,7 +110,7 @@ fn before_steps(alloc: Global, stream: &Stream) -> Result<ReplayState, Memory>
     ensures going { IfOk result IsGoing }
     ensures needs { IfOk result (λ state. needs_view state.needs ≡ only_slack 0) }
 {
-    let queue = queue_of(alloc, stream.tasks(), stream.floor(), stream.start())?;
+    let queue = Runqueue::of_tasks(alloc, stream.tasks(), stream.floor(), stream.start())?;
     Ok(ReplayState {
         made: 0,
         since: since_after(None, stream.start(), &queue),
@@ -128,17 +126,4 @@ fn before_steps(alloc: Global, stream: &Stream) -> Result<ReplayState, Memory>
             tallies: TallyBook::of_tasks(alloc, stream.tasks())?,
         },
     })
-}
-
-/// The runqueue of these tasks: their pids rise, and at most one of them runs.
-fn queue_of(alloc: Global, tasks: &[Task], floor: i64, mark: u64) -> Result<Runqueue, Memory>
-    requires rise { RisesByPid tasks.now }
-    requires one { AllPairs (λ t u. t.place ≡ Run → u.place ≡ Run → ⊥) tasks.now }
-    ensures { IfOk result (λ queue. runqueue_view queue ≡ start_part tasks.now floor mark) }
-{
-    let mut queue = Runqueue::empty(alloc, floor, mark);
-    for task in tasks {
-        queue.add(*task)?;
-    }
-    Ok(queue)
 }

@@ -4,7 +4,8 @@ ghost use Rattle.replay_model.specs.Part.{Part, Entity};
 ghost use Rattle.replay_model.specs.QueueTests.{IsPrevNotRunning};
 ghost use Rattle.replay_model.specs.declared.step.Deed.TheVariants.{Wake, Born, Leave, Arrive};
 ghost use Rattle.queue_replay.specs.FirstTest.{FindsFirst, IsFirst};
-ghost use Rattle.queue_replay.specs.Queue.{runqueue_view, IsLead, IsSwitchTask, IsTaskAt};
+ghost use Rattle.queue_replay.specs.Picks.{IsLead};
+ghost use Rattle.runqueue.specs.Queue.{runqueue_view, IsLeastIfWaiting, IsSwitchTask, IsTaskAt};
 ghost use Rattle.queue_replay.specs.Rows.{arrival_tests, birth_tests, leave_tests, moved_tests, pick_tests, switch_deed, switch_tests, wake_tests};
 
 use crate::claim_tests::{
@@ -14,7 +15,7 @@ use crate::claim_tests::{
 use crate::context_switch::ContextSwitch;
 use crate::failed_test::FailedTest;
 use crate::queue_tests::{already, move_home, move_running, strange, wrong_prio};
-use crate::runqueue::Runqueue;
+use runqueue::Runqueue;
 use cfs_model::{Claim, Kind, Knobs, Nice, Task};
 
 // A deed's tests in their order, each with the kind of fault that it is: the first that holds is answered.
@@ -58,18 +59,19 @@ pub(crate) fn first_switch_test(
     None
 }
 
-/// A switch's pick, after its previous task has gone its way: the first test that it fails. The next task, as it stood
-/// before, leads the least of those who wait by so many virtual nanoseconds.
+/// A switch's pick: the first test that it fails. Once the previous task has gone its way, the least of those who wait has
+/// this virtual runtime, and the next task, as it stands, leads it by so many virtual nanoseconds.
 pub(crate) fn first_pick_test(
-    moved: &Runqueue,
+    least: Option<i64>,
     next: u32,
     lead: u64,
     knobs: Knobs,
 ) -> Option<FailedTest>
-    ensures { (own : Option Entity) → IsLead own (runqueue_view moved.now) next lead → IsFirst result (moved_tests knobs.granularity own (runqueue_view moved.now) next) }
+    ensures { (own : Option Entity) (moved : Part) → IsLeastIfWaiting moved least → IsLead own moved next lead
+        → IsFirst result (moved_tests knobs.granularity own moved next) }
 {
     guard!(
-        IdleBesideWaiting: idle_beside_waiting(moved, next),
+        IdleBesideWaiting: idle_beside_waiting(least, next),
         NotLeast: not_least(next, lead, knobs.granularity()),
     );
     None

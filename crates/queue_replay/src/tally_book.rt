@@ -4,7 +4,7 @@ ghost use Rattle.replay_model.specs.Noted.{new_tally, with_tally};
 ghost use Rattle.replay_model.specs.declared.page.Tally.{Tally as TallyOf};
 ghost use Rattle.queue_replay.specs.Places.{IsPlaced, IsPlaced-prop, HasTallyRoom};
 ghost use Rattle.queue_replay.specs.Stretches.{ran_tally, picked_tally, IsWithin};
-ghost use Rattle.queue_replay.specs.Tasks.{cost_of, RisesByPid};
+ghost use Rattle.runqueue.specs.Tasks.{cost_of, RisesByPid};
 
 use crate::counting::{add_run, cost_of, new_tally, pick};
 use crate::room::push_in;

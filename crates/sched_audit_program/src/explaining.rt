@@ -96,7 +96,7 @@ fn with_explanation(
         Some(quote) => {
             let mut told = quote;
             let text = explanation(alloc, record, knobs, fault)?;
-            match told.extend_from_slice(&text) {
+            match told.extend_from_slice(text.as_bytes()) {
                 Ok(()) => Ok(Some(told)),
                 Err(_) => Err(Fault::Memory),
             }

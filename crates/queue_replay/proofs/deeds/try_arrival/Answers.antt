@@ -2,9 +2,9 @@ use Rattle.std.proofs.Common.{◌∙◌, sym, ap, refl, Some}
 use Rattle.replay_model.specs.Deeds.{after_deed, came_ticket, with_entity}
 use Rattle.replay_model.specs.Part.{Entity}
 use Rattle.replay_model.specs.declared.step.Deed.TheVariants.{Arrive}
-use Rattle.queue_replay.specs.Queue.{runqueue_view}
+use Rattle.runqueue.specs.Queue.{runqueue_view}
 use Rattle.queue_replay.specs.Rows.{arrival_tests}
-use Rattle.queue_replay.specs.Tasks.{entity_of}
+use Rattle.runqueue.specs.Tasks.{entity_of}
 use Rattle.queue_replay.proofs.Passed.{is_apart, arrival_claimed}
 use Rattle.queue_replay.proofs.Rows.{arrival_row, fails, passes}
 use Rattle.queue_replay.proofs.deeds.try_arrival.Goals as goal

@@ -5,9 +5,9 @@ use Rattle.replay_model.specs.Needs.{IsExcess}
 use Rattle.replay_model.specs.Part.{Entity}
 use Rattle.replay_model.specs.declared.step.Deed.TheVariants.{Born}
 use Rattle.queue_replay.specs.Needing.{IsNeed}
-use Rattle.queue_replay.specs.Queue.{runqueue_view}
+use Rattle.runqueue.specs.Queue.{runqueue_view}
 use Rattle.queue_replay.specs.Rows.{birth_tests}
-use Rattle.queue_replay.specs.Tasks.{entity_of}
+use Rattle.runqueue.specs.Tasks.{entity_of}
 use Rattle.queue_replay.proofs.Passed.{is_apart, birth_claimed}
 use Rattle.queue_replay.proofs.Rows.{birth_row, fails, passes}
 use Rattle.queue_replay.proofs.deeds.try_birth.Goals as goal
@@ -39,7 +39,7 @@ returns-clause-tried c =
     let deed = Born pid nice idle in
     let claim = c.in-Some-claim.claim in
     let at : to_z w64 (of_z w64 claim.v) ≡ claim.v = search rules in
-    let floor : to_z w64 (of_z w64 part.floor) ≡ part.floor = search rules in
+    let floor : to_z w64 (of_z w64 c.floor.result) ≡ c.floor.result = search rules in
     let task = c.claimed_task in
     passes c.args.knobs c.args.cpu part step deed step.claim (birth_tests c.args.knobs.debit part deed step.claim)
     (birth_row c.args.knobs c.args.cpu part pid nice idle step.claim) c.requires refl _ _ (c.in_default.ensures nice idle)
@@ -48,4 +48,4 @@ returns-clause-tried c =
     ∙ ap (after_deed part deed) (sym c.in-Some-claim.is))
     refl
     (subst (λ (x : Option Claim). IsNeed part deed x c.excess-need.result) (sym c.in-Some-claim.is)
-    (subst (λ v. IsExcess v part.floor c.excess-need.result) at (subst (λ v. IsExcess (to_z w64 (of_z w64 claim.v)) v c.excess-need.result) floor c.excess-need.ensures)))
+    (subst (λ v. IsExcess v part.floor c.excess-need.result) at (subst (λ v. IsExcess (to_z w64 (of_z w64 claim.v)) v c.excess-need.result) (floor ∙ c.floor.ensures) c.excess-need.ensures)))

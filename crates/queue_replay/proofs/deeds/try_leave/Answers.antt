@@ -1,6 +1,6 @@
 use Rattle.std.proofs.Common.{refl}
 use Rattle.replay_model.specs.declared.step.Deed.TheVariants.{Leave}
-use Rattle.queue_replay.specs.Queue.{runqueue_view}
+use Rattle.runqueue.specs.Queue.{runqueue_view}
 use Rattle.queue_replay.specs.Rows.{leave_tests}
 use Rattle.queue_replay.proofs.Rows.{leave_row, passes}
 use Rattle.queue_replay.proofs.deeds.try_leave.Goals as goal

@@ -1,13 +1,13 @@
 use Rattle.std.proofs.Common.{◌∙◌, sym, ap, refl, Some, None, option_map}
-use Rattle.replay_model.specs.Deeds.{part_after_next}
+use Rattle.replay_model.specs.Deeds.{part_after_next, part_after_prev}
 use Rattle.replay_model.specs.Part.{Part}
 use Rattle.queue_replay.specs.FirstTest.{IsFirst}
-use Rattle.queue_replay.specs.Queue.{runqueue_view}
 use Rattle.queue_replay.specs.Rows.{switch_deed, switch_tests}
-use Rattle.queue_replay.specs.Tasks.{entity_of}
 use Rattle.queue_replay.proofs.Needed.{pick_needs_lead}
 use Rattle.queue_replay.proofs.Passed.{next_stays, pick_tests_same, ran_prev}
 use Rattle.queue_replay.proofs.Rows.{switch_row, fails, passes}
+use Rattle.runqueue.specs.Queue.{runqueue_view}
+use Rattle.runqueue.specs.Tasks.{entity_of}
 use Rattle.queue_replay.proofs.deeds.try_switch.Goals as goal
 
 pub returns-in-Some-clause-tried : goal.returns-in-Some-clause-tried
@@ -24,14 +24,15 @@ returns-in-Some-first_pick_test-clause-tried c cpu =
     let part = runqueue_view c.args.queue.now in
     let step = c.args.step.now in
     let s = c.args.switch.now in
-    let runner = ran_prev part s.prev s.prev_nice s.way s.next s.next_nice (c.in_default.ensures.runner refl) in
+    let moved = part_after_prev part s.prev s.way in
+    let own = option_map entity_of c.switch_task-next.result in
+    let least = c.least_after-least.ensures s.prev (ran_prev part s.prev s.prev_nice s.way s.next s.next_nice (c.in_default.ensures.runner refl)) in
     let failed = c.in-Some-first_pick_test.failed in
     fails c.args.knobs cpu part step (switch_deed s) step.claim (switch_tests c.args.knobs part (switch_deed s) step.claim)
     (switch_row c.args.knobs cpu part s.prev s.prev_nice s.way s.next s.next_nice step.claim) c.requires refl part failed
     (c.in_default.ensures.first c.args.knobs (Some failed)
-    (pick_tests_same c.args.knobs part (runqueue_view c.put_prev.new.self) s.prev s.prev_nice s.way s.next s.next_nice (option_map entity_of c.switch_task-next.result)
-    (c.in_ok-put_prev.ensures.part s.prev runner) c.switch_task-next.ensures (Some failed)
-    (c.in-Some-first_pick_test.ensures (option_map entity_of c.switch_task-next.result) c.lead-need.ensures)))
+    (pick_tests_same c.args.knobs part s.prev s.prev_nice s.way s.next s.next_nice own c.switch_task-next.ensures (Some failed)
+    (c.in-Some-first_pick_test.ensures own moved least (c.lead-need.ensures moved least))))
 
 pub set_next-requires-clause-task : goal.set_next-requires-clause-task
 set_next-requires-clause-task c ne =
@@ -47,15 +48,16 @@ returns-clause-tried c cpu =
     let step = c.args.step.now in
     let s = c.args.switch.now in
     let runner = ran_prev part s.prev s.prev_nice s.way s.next s.next_nice (c.in_default.ensures.runner refl) in
-    let moved = runqueue_view c.put_prev.new.self in
+    let moved = part_after_prev part s.prev s.way in
     let own = option_map entity_of c.switch_task-next.result in
-    let left = c.in_ok-put_prev.ensures.part s.prev runner in
+    let least = c.least_after-least.ensures s.prev runner in
+    let lead = c.lead-need.ensures moved least in
     let first : IsFirst None (switch_tests c.args.knobs part (switch_deed s) step.claim)
     = c.in_default.ensures.first c.args.knobs None
-    (pick_tests_same c.args.knobs part moved s.prev s.prev_nice s.way s.next s.next_nice own left c.switch_task-next.ensures None
-    (c.in_default-first_pick_test.ensures own c.lead-need.ensures)) in
+    (pick_tests_same c.args.knobs part s.prev s.prev_nice s.way s.next s.next_nice own c.switch_task-next.ensures None
+    (c.in_default-first_pick_test.ensures own moved least lead)) in
     passes c.args.knobs cpu part step (switch_deed s) step.claim (switch_tests c.args.knobs part (switch_deed s) step.claim)
     (switch_row c.args.knobs cpu part s.prev s.prev_nice s.way s.next s.next_nice step.claim) c.requires refl _ _ first
-    (c.set_next.ensures ∙ ap (λ (p : Part). part_after_next p s.next) left) refl
-    (pick_needs_lead part moved s.prev s.prev_nice s.way s.next s.next_nice own c.lead-need.result left c.switch_task-next.ensures
-    (c.in_default.ensures.two refl) first.1.1.1.1.1.1.1.0 c.lead-need.ensures)
+    (c.set_next.ensures ∙ ap (λ (p : Part). part_after_next p s.next) (c.in_ok-put_prev.ensures.part s.prev runner)) refl
+    (pick_needs_lead part s.prev s.prev_nice s.way s.next s.next_nice own c.lead-need.result c.switch_task-next.ensures
+    (c.in_default.ensures.two refl) first.1.1.1.1.1.1.1.0 lead)

@@ -4,7 +4,7 @@ use Rattle.replay_model.specs.Deeds.{after_deed}
 use Rattle.replay_model.specs.Needs.{IsExcess}
 use Rattle.replay_model.specs.declared.step.Deed.TheVariants.{Wake}
 use Rattle.queue_replay.specs.Needing.{IsNeed}
-use Rattle.queue_replay.specs.Queue.{runqueue_view}
+use Rattle.runqueue.specs.Queue.{runqueue_view}
 use Rattle.queue_replay.specs.Rows.{wake_tests}
 use Rattle.queue_replay.proofs.Passed.{unwoken}
 use Rattle.queue_replay.proofs.Rows.{wake_row, fails, passes}
@@ -35,9 +35,9 @@ returns-clause-tried c cpu =
     let deed = Wake c.args.pid c.args.nice in
     let claim = c.in-Some-claim.claim in
     let at : to_z w64 (of_z w64 claim.v) ≡ claim.v = search rules in
-    let floor : to_z w64 (of_z w64 part.floor) ≡ part.floor = search rules in
+    let floor : to_z w64 (of_z w64 c.floor.result) ≡ c.floor.result = search rules in
     passes c.args.knobs cpu part step deed step.claim (wake_tests c.args.knobs.credit part deed step.claim)
     (wake_row c.args.knobs cpu part c.args.pid c.args.nice step.claim) c.requires refl _ _ c.in_default.ensures
     (c.in_ok-wake.ensures.part ∙ ap (after_deed part deed) (sym c.in-Some-claim.is)) refl
     (subst (λ (x : Option Claim). IsNeed part deed x c.excess-need.result) (sym c.in-Some-claim.is)
-    (subst (λ v. IsExcess part.floor v c.excess-need.result) at (subst (λ v. IsExcess v (to_z w64 (of_z w64 claim.v)) c.excess-need.result) floor c.excess-need.ensures)))
+    (subst (λ v. IsExcess part.floor v c.excess-need.result) at (subst (λ v. IsExcess v (to_z w64 (of_z w64 claim.v)) c.excess-need.result) (floor ∙ c.floor.ensures) c.excess-need.ensures)))

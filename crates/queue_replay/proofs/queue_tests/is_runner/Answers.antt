@@ -1,14 +1,12 @@
 use Rattle.std.proofs.Common.{◌≡◌, is_none, rules}
-use Rattle.queue_replay.specs.Queue.{runqueue_view}
-use Rattle.queue_replay.proofs.Standings.{the_runner}
+use Rattle.runqueue.specs.Queue.{runqueue_view}
 use Rattle.queue_replay.proofs.Answered.{is_runner, task_runs}
 use Rattle.queue_replay.proofs.queue_tests.is_runner.Goals as goal
 
 pub returns-then-pid-eq-IDLE_PID : goal.returns-then-pid-eq-IDLE_PID
 returns-then-pid-eq-IDLE_PID c =
-    let q = c.args.queue.now in
-    let same : c.is_none.result ≡ is_none q.runner = search rules in
-    is_runner (runqueue_view q) q.runner (the_runner q.runner q.tasks q.waiting q.floor q.mark q.kept) c.args.pid c.if-pid-eq-IDLE_PID.true c.is_none.result same
+    let same : c.is_none.result ≡ is_none c.runner.result = search rules in
+    is_runner (runqueue_view c.args.queue.now) c.runner.result c.runner.ensures c.args.pid c.if-pid-eq-IDLE_PID.true c.is_none.result same
 
 pub returns-else-pid-eq-IDLE_PID : goal.returns-else-pid-eq-IDLE_PID
 returns-else-pid-eq-IDLE_PID c =

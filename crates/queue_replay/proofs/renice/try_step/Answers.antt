@@ -1,4 +1,4 @@
-use Rattle.queue_replay.specs.Queue.{runqueue_view}
+use Rattle.runqueue.specs.Queue.{runqueue_view}
 use Rattle.queue_replay.proofs.Renices.{deed_alone}
 use Rattle.queue_replay.proofs.renice.try_step.Goals as goal
 

@@ -1,7 +1,7 @@
 use Rattle.std.proofs.Common.{List, All, sym, subst, refl}
 use Rattle.replay_model.specs.declared.page.Tally.{Tally}
 use Rattle.queue_replay.specs.Stretches.{IsWithin}
-use Rattle.queue_replay.proofs.Starts.{new_within}
+use Rattle.queue_replay.proofs.Growing.{new_within}
 use Rattle.queue_replay.proofs.running.before_steps.Goals as goal
 
 pub returns-clause-going : goal.returns-clause-going

@@ -1,7 +1,7 @@
 use Rattle.std.proofs.Common.{ℕ, inl, inr, refl, subst}
 use Rattle.replay_model.specs.ClaimTests.{IsForkOutside}
 use Rattle.replay_model.specs.declared.step.Deed.TheVariants.{Born}
-use Rattle.queue_replay.specs.Queue.{runqueue_view}
+use Rattle.runqueue.specs.Queue.{runqueue_view}
 use Rattle.queue_replay.proofs.step_table.first_birth_test.Goals as goal
 
 pub returns-in-Some : goal.returns-in-Some

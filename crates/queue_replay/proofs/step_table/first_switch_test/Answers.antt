@@ -1,5 +1,5 @@
 use Rattle.std.proofs.Common.{ℕ, Option, None, Some, inl, inr, refl, subst}
-use Rattle.queue_replay.specs.Queue.{runqueue_view}
+use Rattle.runqueue.specs.Queue.{runqueue_view}
 use Rattle.queue_replay.specs.Rows.{IsNeedless, IsOfAnother, IsUnclaimed}
 use Rattle.queue_replay.proofs.step_table.first_switch_test.Goals as goal
 

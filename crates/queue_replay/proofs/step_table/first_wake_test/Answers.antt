@@ -1,7 +1,7 @@
 use Rattle.std.proofs.Common.{ℕ, Option, inl, inr, refl, subst}
 use Rattle.replay_model.specs.ClaimTests.{IsWakeOutside}
 use Rattle.replay_model.specs.declared.step.Deed.TheVariants.{Wake}
-use Rattle.queue_replay.specs.Queue.{runqueue_view}
+use Rattle.runqueue.specs.Queue.{runqueue_view}
 use Rattle.queue_replay.specs.Rows.{IsNeedless, IsOfAnother, IsUnclaimed}
 use Rattle.queue_replay.proofs.step_table.first_wake_test.Goals as goal
 

@@ -2,7 +2,7 @@ use Rattle.std.proofs.Common.{◌∙◌, ap, sym, subst, refl, ℕ, map}
 use Rattle.queue_replay.proofs.Placed.{ran_there, ran_nowhere, ran_placed, room_ran}
 use Rattle.queue_replay.specs.Places.{IsPlaced}
 use Rattle.queue_replay.specs.Stretches.{ran_tally}
-use Rattle.queue_replay.specs.Tasks.{cost_of}
+use Rattle.runqueue.specs.Tasks.{cost_of}
 use Rattle.queue_replay.proofs.tally_book.TallyBook.add_stretch.Goals as goal
 
 pub invariant_of-self : goal.invariant_of-self

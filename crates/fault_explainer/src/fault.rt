@@ -1,1 +1,0 @@
-pub(crate) use replay_model::FirstFault as Fault;

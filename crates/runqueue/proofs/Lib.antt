@@ -1,0 +1,10 @@
+pub mod Charges
+pub mod Parts
+pub mod TaskOf
+pub mod Standings
+pub mod Lifts
+pub mod Moved
+pub mod Coming
+pub mod Starts
+pub mod Renices
+pub mod LeastAfter

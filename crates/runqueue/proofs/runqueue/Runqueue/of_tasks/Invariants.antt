@@ -1,0 +1,7 @@
+use Rattle.std.proofs.Common.{◌≡◌, take}
+use Rattle.replay_model.specs.Part.{start_part}
+use Rattle.runqueue.specs.Queue.{runqueue_view}
+use Rattle.runqueue.proofs.runqueue.Runqueue.of_tasks.Given as goal
+
+abbrev pub invariant-loop-task : goal.invariant-loop-task
+invariant-loop-task l = runqueue_view l.queue ≡ start_part (take l.task-index l.tasks) l.floor l.mark

@@ -1,0 +1,49 @@
+use Rattle.std.proofs.Common.{Option, sym, ap, subst, ◌∙◌}
+use Rattle.cfs_model.specs.declared.task.Task.{Task}
+use Rattle.runqueue.specs.Standing.{IsQueue, standing}
+use Rattle.runqueue.specs.Queue.{runqueue_view}
+use Rattle.runqueue.proofs.Parts.{part_with}
+use Rattle.runqueue.proofs.Renices.{nobody_changed, nobody_listed, reniced_part, reniced_queue, stands_listed, written}
+use Rattle.runqueue.proofs.runqueue.Runqueue.renice.Goals as goal
+
+pub returns-in_err-task-clause-part : goal.returns-in_err-task-clause-part
+returns-in_err-task-clause-part c =
+    let q = c.args.self.now in
+    nobody_changed (runqueue_view q) c.args.pid c.args.nice
+    (nobody_listed q.runner q.tasks q.waiting q.kept c.args.pid (sym c.in_err-task.ensures.value))
+
+pub returns-in_err-task-clause-strange : goal.returns-in_err-task-clause-strange
+returns-in_err-task-clause-strange c none =
+    let q = c.args.self.now in
+    nobody_listed q.runner q.tasks q.waiting q.kept c.args.pid (sym c.in_err-task.ensures.value)
+
+pub invariant_of-self : goal.invariant_of-self
+invariant_of-self c =
+    let q = c.args.self.now in
+    let n = c.write_over.new.tasks in
+    let pid = c.args.pid in
+    let nice = c.args.nice in
+    record {
+      kept = subst (λ (r : Option Task). IsQueue r c.write_over.new.tasks c.args.self.now.waiting) (sym c.reniced_runner-self.ensures)
+          (reniced_queue q.tasks n pid nice (written q.tasks n pid nice c.in_ok-task.field-0.now (sym c.in_ok-task.ensures.value) c.write_over.ensures)
+          q.runner q.waiting q.kept);
+    }
+
+pub returns-clause-part : goal.returns-clause-part
+returns-clause-part c =
+    let q = c.args.self.now in
+    let n = c.write_over.new.tasks in
+    let pid = c.args.pid in
+    let nice = c.args.nice in
+    ap (λ (r : Option Task). part_with (standing r c.write_over.new.tasks) c.args.self.now.floor c.args.self.now.mark) c.reniced_runner-self.ensures
+    ∙ reniced_part q.tasks n pid nice (written q.tasks n pid nice c.in_ok-task.field-0.now (sym c.in_ok-task.ensures.value) c.write_over.ensures)
+    q.runner q.floor q.mark
+
+pub returns-clause-stands : goal.returns-clause-stands
+returns-clause-stands c some =
+    let q = c.args.self.now in
+    let n = c.write_over.new.tasks in
+    let pid = c.args.pid in
+    let nice = c.args.nice in
+    stands_listed q.tasks n pid nice (written q.tasks n pid nice c.in_ok-task.field-0.now (sym c.in_ok-task.ensures.value) c.write_over.ensures)
+    q.runner (λ e. let f = c.in_ok-task.ensures.value ∙ e in cc)

@@ -1,0 +1,61 @@
+-- A runqueue, as the part of a machine at its processor (this project's profile).
+use Rattle.std.specs.Prelude.{◌≡◌, ◌≢◌, ℕ, Option, Some, None, option_map, ℤ}
+use Rattle.std.specs.BTreeMap.{get}
+use Rattle.std.specs.BTreeSet.{contains}
+use Rattle.std.specs.Ordering.{nat_cmp}
+use Rattle.replay_model.specs.Needs.{IsLeastWaiting}
+use Rattle.replay_model.specs.Part.{Part, Entity, IsIn, NobodyIn, IsQueuedHere, IsLeastHere}
+use Rattle.cfs_model.specs.declared.task.Place.TheVariants.{Run, Wait}
+use Rattle.cfs_model.specs.declared.task.Task.{Task}
+use Rattle.runqueue.specs.Standing.{HasNice, standing, by_runtime, waiting_task}
+use Rattle.runqueue.specs.Tasks.{entity_of}
+use Rattle.runqueue.specs.declared.lift.Unlifted.{Unlifted}
+use Rattle.runqueue.specs.declared.runqueue.Runqueue.{Runqueue}
+
+-- the part of a machine that the runqueue stands for
+abbrev pub runqueue_view : Runqueue → Part
+runqueue_view queue = record { tasks = standing queue.runner queue.tasks; floor = queue.floor; mark = queue.mark }
+
+-- the map and the set of a runqueue are as they were
+pub record HoldsSame (old new : Runqueue) : Type 0 where
+  pub tasks : (pid : ℕ) → get nat_cmp new.tasks pid ≡ get nat_cmp old.tasks pid
+  pub waiting : (v : ℤ) (pid : ℕ) → contains by_runtime new.waiting (waiting_task v pid) ≡ contains by_runtime old.waiting (waiting_task v pid)
+
+-- what a charge and its lift change of a runqueue, as it stands
+pub record IsUnlifted (queue : Runqueue) (before : Unlifted) : Type 0 where
+  pub runner : before.runner ≡ queue.runner
+  pub floor : before.floor ≡ queue.floor
+  pub mark : before.mark ≡ queue.mark
+
+-- the nice value that the map has of a pid
+abbrev pub nice_listed : Runqueue → ℕ → Option ℤ
+nice_listed queue pid = option_map (λ (t : Task). t.nice) (get nat_cmp queue.tasks pid)
+
+-- the map has this nice value of a pid, if it has an entry of it; each other entry and the set are as they were
+pub record IsReniced (pid : ℕ) (nice : ℤ) (old new : Runqueue) : Type 0 where
+  pub listed : HasNice pid nice old.tasks new.tasks
+  pub waiting : new.waiting ≡ old.waiting
+
+-- the one who runs here, if somebody does
+abbrev pub IsTheRunner : Part → Option Task → Type 0
+IsTheRunner part None = NobodyIn part Run
+IsTheRunner part (Some t) =
+    (part.tasks t.pid ≡ Some (entity_of t)) × (t.place ≡ Run) × ((pid : ℕ) → IsIn part Run pid → pid ≡ t.pid)
+
+-- the least virtual runtime of those who wait here; none where nobody does
+abbrev pub IsLeastIfWaiting : Part → Option ℤ → Type 0
+IsLeastIfWaiting part None = NobodyIn part Wait
+IsLeastIfWaiting part (Some v) = IsLeastWaiting part v
+
+-- the least virtual runtime of those who run or wait here; none where nobody does
+abbrev pub IsLeastQueued : Part → Option ℤ → Type 0
+IsLeastQueued part None = (pid : ℕ) (s : Entity) → part.tasks pid ≡ Some s → ¬ IsQueuedHere s
+IsLeastQueued part (Some v) = IsLeastHere part v
+
+-- the task of a pid, if it stands here
+abbrev pub IsTaskAt : Part → ℕ → Option Task → Type 0
+IsTaskAt part pid task = option_map entity_of task ≡ part.tasks pid
+
+-- the task of a pid that a switch names, if it stands here; pid 0 is no task
+abbrev pub IsSwitchTask : Part → ℕ → Option Task → Type 0
+IsSwitchTask part pid task = pid ≢ 0 → IsTaskAt part pid task

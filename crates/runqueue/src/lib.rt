@@ -1,0 +1,15 @@
+//! Who stands at one processor, and what happens to them: the runqueue of a replay, as the part of a machine.
+#![tactic(auto)]
+
+mod charging;
+mod lift;
+mod moves;
+mod readers;
+mod renice;
+mod runqueue;
+mod waiting_task;
+
+pub use charging::charged;
+pub use lift::Unlifted;
+pub use runqueue::Runqueue;
+pub use waiting_task::WaitingTask;

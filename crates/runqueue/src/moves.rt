@@ -1,0 +1,200 @@
+ghost use Rattle.std.specs.Prelude.{◌≡◌, ℕ, [], None, Some, IsSome, IfOk, OnOk, OnErr};
+ghost use Rattle.std.specs.List.{AllPairs};
+ghost use Rattle.std.specs.BTreeMap.{Updates, get};
+ghost use Rattle.std.specs.Ordering.{nat_cmp};
+ghost use Rattle.cfs_model.specs.declared.task.Place.TheVariants.{Run};
+ghost use Rattle.cfs_model.specs.declared.act.Way.TheVariants.{Stays, Sleeps, Ends};
+ghost use Rattle.replay_model.specs.Deeds.{part_after_next, part_after_prev, wakes, with_entity};
+ghost use Rattle.replay_model.specs.Part.{IsIn, NobodyIn, start_part};
+ghost use Rattle.replay_model.specs.QueueTests.{IsRunner};
+ghost use Rattle.runqueue.specs.Tasks.{entity_of, RisesByPid};
+ghost use Rattle.runqueue.specs.Queue.{HoldsSame, IsSwitchTask, IsTaskAt, runqueue_view};
+
+use crate::runqueue::Runqueue;
+use crate::waiting_task::WaitingTask;
+use cfs_model::{Claim, IDLE_PID, Memory, Place, Task, Way};
+use std::alloc::Global;
+use std::collections::{BTreeMap, BTreeSet};
+
+impl Runqueue {
+    /// Nobody.
+    pub fn empty(alloc: Global, floor: i64, mark: u64) -> Runqueue
+        ensures { runqueue_view result ≡ start_part [] floor mark }
+    {
+        Runqueue {
+            runner: None,
+            tasks: BTreeMap::new(alloc),
+            waiting: BTreeSet::new(alloc),
+            floor,
+            mark,
+        }
+    }
+
+    /// The runqueue of these tasks: their pids rise, and at most one of them runs.
+    pub fn of_tasks(alloc: Global, tasks: &[Task], floor: i64, mark: u64) -> Result<Runqueue, Memory>
+        requires rise { RisesByPid tasks.now }
+        requires one { AllPairs (λ t u. t.place ≡ Run → u.place ≡ Run → ⊥) tasks.now }
+        ensures { IfOk result (λ queue. runqueue_view queue ≡ start_part tasks.now floor mark) }
+    {
+        let mut queue = Runqueue::empty(alloc, floor, mark);
+        for task in tasks {
+            queue.add(*task)?;
+        }
+        Ok(queue)
+    }
+
+    /// Who runs waits, rests or is gone. Where memory is wanted nothing changes.
+    pub fn put_prev(&mut self, way: Way) -> Result<(), Memory>
+        ensures part { OnOk result ((prev : ℕ) → ((IsRunner (runqueue_view self.old) prev → ⊥) → ⊥) → runqueue_view self.new ≡ part_after_prev (runqueue_view self.old) prev way) }
+        ensures nobody { OnOk result (NobodyIn (runqueue_view self.new) Run) }
+        ensures same { OnErr result (HoldsSame self.old self.new) }
+    {
+        let Some(task) = self.runner else {
+            return Ok(());
+        };
+        match way {
+            Way::Stays => self.put_back(task),
+            Way::Sleeps => {
+                self.put_to_rest(task);
+                Ok(())
+            }
+            Way::Ends => {
+                self.end(task);
+                Ok(())
+            }
+        }
+    }
+
+    /// Who runs waits. Where memory is wanted nothing changes.
+    fn put_back(&mut self, runner: Task) -> Result<(), Memory>
+        requires { self.old.runner ≡ Some runner }
+        ensures part { OnOk result ((prev : ℕ) → ((IsRunner (runqueue_view self.old) prev → ⊥) → ⊥) → runqueue_view self.new ≡ part_after_prev (runqueue_view self.old) prev Stays) }
+        ensures nobody { OnOk result (NobodyIn (runqueue_view self.new) Run) }
+        ensures same { OnErr result (HoldsSame self.old self.new) }
+    {
+        self.waiting.insert(WaitingTask {
+            v: runner.v,
+            pid: runner.pid,
+        })?;
+        let mut task = runner;
+        task.place = Place::Wait;
+        write_over(&mut self.tasks, task.pid, task);
+        self.runner = None;
+        Ok(())
+    }
+
+    /// Who runs rests.
+    fn put_to_rest(&mut self, runner: Task)
+        requires { self.old.runner ≡ Some runner }
+        ensures part { (prev : ℕ) → ((IsRunner (runqueue_view self.old) prev → ⊥) → ⊥) → runqueue_view self.new ≡ part_after_prev (runqueue_view self.old) prev Sleeps }
+        ensures nobody { NobodyIn (runqueue_view self.new) Run }
+    {
+        let mut task = runner;
+        task.place = Place::Rest;
+        write_over(&mut self.tasks, task.pid, task);
+        self.runner = None;
+    }
+
+    /// Who runs is gone.
+    fn end(&mut self, runner: Task)
+        requires { self.old.runner ≡ Some runner }
+        ensures part { (prev : ℕ) → ((IsRunner (runqueue_view self.old) prev → ⊥) → ⊥) → runqueue_view self.new ≡ part_after_prev (runqueue_view self.old) prev Ends }
+        ensures nobody { NobodyIn (runqueue_view self.new) Run }
+    {
+        self.tasks.remove(&runner.pid);
+        self.runner = None;
+    }
+
+    /// The next task of a switch runs, as it stands here.
+    pub fn set_next(&mut self, next: u32, task: Option<Task>)
+        requires nobody { NobodyIn (runqueue_view self.old) Run }
+        requires task { IsSwitchTask (runqueue_view self.old) next task }
+        ensures { runqueue_view self.new ≡ part_after_next (runqueue_view self.old) next }
+    {
+        if next == IDLE_PID {
+            return;
+        }
+        if let Some(task) = task {
+            let waited = WaitingTask {
+                v: task.v,
+                pid: next,
+            };
+            self.waiting.remove(&waited);
+            let mut runner = task;
+            runner.pid = next;
+            runner.place = Place::Run;
+            self.runner = Some(runner);
+        }
+    }
+
+    /// The task of this pid, which doesn't run, stands here no more.
+    pub fn remove(&mut self, pid: u32)
+        requires { IsIn (runqueue_view self.old) Run pid → ⊥ }
+        ensures { runqueue_view self.new ≡ with_entity (runqueue_view self.old) pid None }
+    {
+        if let Some(task) = self.tasks.remove(&pid) {
+            self.waiting.remove(&WaitingTask { v: task.v, pid });
+        }
+    }
+
+    /// The task of this pid, as it stands here, waits at the claimed virtual runtime, if it rests. Where memory is wanted
+    /// nothing changes.
+    pub fn wake(&mut self, pid: u32, task: Option<Task>, claim: Claim) -> Result<(), Memory>
+        requires { IsTaskAt (runqueue_view self.old) pid task }
+        ensures part { OnOk result (runqueue_view self.new ≡ wakes (runqueue_view self.old) pid (Some claim)) }
+        ensures same { OnErr result (HoldsSame self.old self.new) }
+    {
+        let Some(task) = task else {
+            return Ok(());
+        };
+        match task.place {
+            Place::Run | Place::Wait => Ok(()),
+            Place::Rest => {
+                self.waiting.insert(WaitingTask { v: claim.v, pid })?;
+                let mut woken = task;
+                woken.pid = pid;
+                woken.place = Place::Wait;
+                woken.v = claim.v;
+                write_over(&mut self.tasks, pid, woken);
+                Ok(())
+            }
+        }
+    }
+
+    /// One more task stands here. Where memory is wanted nothing changes.
+    pub fn add(&mut self, task: Task) -> Result<(), Memory>
+        requires apart { (runqueue_view self.old).tasks task.pid ≡ None }
+        requires alone { task.place ≡ Run → NobodyIn (runqueue_view self.old) Run }
+        ensures part { OnOk result (runqueue_view self.new ≡ with_entity (runqueue_view self.old) task.pid (Some (entity_of task))) }
+        ensures same { OnErr result (HoldsSame self.old self.new) }
+    {
+        self.tasks.insert(task.pid, task)?;
+        match task.place {
+            Place::Run => {
+                self.runner = Some(task);
+                Ok(())
+            }
+            Place::Wait => match self.waiting.insert(WaitingTask {
+                v: task.v,
+                pid: task.pid,
+            }) {
+                Ok(_) => Ok(()),
+                Err(_) => {
+                    self.tasks.remove(&task.pid);
+                    Err(Memory)
+                }
+            },
+            Place::Rest => Ok(()),
+        }
+    }
+}
+
+/// Writes over the entry that the map has of the pid.
+pub(crate) fn write_over(tasks: &mut BTreeMap<u32, Task>, pid: u32, task: Task)
+    requires { IsSome (get nat_cmp tasks.old pid) }
+    ensures { Updates nat_cmp tasks.old tasks.new pid (Some task) }
+{
+    if tasks.insert(pid, task).is_err() {
+        unreachable!();
+    }
+}

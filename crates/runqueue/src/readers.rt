@@ -1,0 +1,106 @@
+ghost use Rattle.std.specs.Prelude.{◌≡◌, ℕ, option_map};
+ghost use Rattle.replay_model.specs.Deeds.{part_after_prev};
+ghost use Rattle.replay_model.specs.QueueTests.{IsRunner};
+ghost use Rattle.runqueue.specs.Queue.{IsLeastIfWaiting, IsLeastQueued, IsSwitchTask, IsTaskAt, IsTheRunner, runqueue_view};
+ghost use Rattle.runqueue.specs.Standing.{IsWaitingSet, listed};
+ghost use Rattle.runqueue.specs.Tasks.{entity_of};
+
+use crate::runqueue::Runqueue;
+use crate::waiting_task::WaitingTask;
+use cfs_model::{IDLE_PID, Task, Way};
+use std::collections::BTreeSet;
+
+impl Runqueue {
+    /// Who runs, if somebody does.
+    pub fn runner(&self) -> Option<Task>
+        ensures { IsTheRunner (runqueue_view self.now) result }
+    {
+        self.runner
+    }
+
+    /// Those who wait, in their order.
+    pub fn waiting(&self) -> &BTreeSet<WaitingTask>
+        ensures { IsWaitingSet (runqueue_view self.now).tasks result.now }
+    {
+        &self.waiting
+    }
+
+    /// The least virtual runtime of those who wait.
+    pub fn least_waiting(&self) -> Option<i64>
+        ensures { IsLeastIfWaiting (runqueue_view self.now) result }
+    {
+        match self.waiting.first() {
+            Some(first) => Some(first.v),
+            None => None,
+        }
+    }
+
+    /// The least virtual runtime of those who wait, once who runs has gone its way.
+    pub fn least_after(&self, way: Way) -> Option<i64>
+        ensures { (prev : ℕ) → ((IsRunner (runqueue_view self.now) prev → ⊥) → ⊥) → IsLeastIfWaiting (part_after_prev (runqueue_view self.now) prev way) result }
+    {
+        match way {
+            Way::Stays => self.least_queued(),
+            Way::Sleeps | Way::Ends => self.least_waiting(),
+        }
+    }
+
+    /// The least virtual runtime of those who run or wait.
+    pub(crate) fn least_queued(&self) -> Option<i64>
+        ensures { IsLeastQueued (runqueue_view self.now) result }
+    {
+        match (self.runner, self.least_waiting()) {
+            (Some(task), Some(least)) => Some(least.min(task.v)),
+            (Some(task), None) => Some(task.v),
+            (None, least) => least,
+        }
+    }
+
+    /// In virtual nanoseconds.
+    pub fn floor(&self) -> i64
+        ensures { result ≡ (runqueue_view self.now).floor }
+    {
+        self.floor
+    }
+
+    /// The time of the last charge, in nanoseconds.
+    pub fn mark(&self) -> u64
+        ensures { result ≡ (runqueue_view self.now).mark }
+    {
+        self.mark
+    }
+
+    /// The task of this pid, if it stands here.
+    pub fn task_at(&self, pid: u32) -> Option<Task>
+        ensures { IsTaskAt (runqueue_view self.now) pid result }
+    {
+        match self.runner {
+            Some(task) => {
+                if task.pid == pid {
+                    Some(task)
+                } else {
+                    self.listed(pid)
+                }
+            }
+            None => self.listed(pid),
+        }
+    }
+
+    /// The task of a pid that a switch names, if it stands here; none of pid 0.
+    pub fn switch_task(&self, pid: u32) -> Option<Task>
+        ensures { IsSwitchTask (runqueue_view self.now) pid result }
+    {
+        if pid == IDLE_PID {
+            None
+        } else {
+            self.task_at(pid)
+        }
+    }
+
+    /// What the map has of this pid.
+    fn listed(&self, pid: u32) -> Option<Task>
+        ensures { option_map entity_of result ≡ listed self.now.tasks pid }
+    {
+        self.tasks.get(&pid).copied()
+    }
+}

@@ -1,0 +1,21 @@
+ghost use Rattle.runqueue.specs.Standing.{IsQueue, IsQueue-prop};
+
+use crate::waiting_task::WaitingTask;
+use cfs_model::Task;
+use std::collections::{BTreeMap, BTreeSet};
+
+/// Those who stand at the processor, and what the processor keeps.
+#[derive(Drop)]
+pub struct Runqueue {
+    /// Who runs, if somebody does.
+    pub(crate) runner: Option<Task>,
+    /// Everybody by pid; who runs as it stood before.
+    pub(crate) tasks: BTreeMap<u32, Task>,
+    /// Those who wait, in their order.
+    pub(crate) waiting: BTreeSet<WaitingTask>,
+    /// In virtual nanoseconds.
+    pub(crate) floor: i64,
+    /// The time of the last charge, in nanoseconds.
+    pub(crate) mark: u64,
+    pub ghost kept: { IsQueue runner tasks waiting } by { IsQueue-prop runner tasks waiting },
+}

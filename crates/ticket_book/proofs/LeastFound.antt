@@ -3,6 +3,7 @@ use Rattle.std.proofs.Common.{◌≡◌, ℕ, ◌<◌, ◌≤◌, Some, None, Li
 use Rattle.cfs_model.specs.Laws.{GreatestTellBadAtAll}
 use Rattle.cfs_model.specs.Least.{AreLeast, greatest_settings}
 use Rattle.cfs_model.specs.Settings.{AreInRange}
+use Rattle.cfs_model.specs.declared.setting.Setting.TheVariants.{Granularity, Credit, Debit, Slack}
 use Rattle.cfs_model.specs.Start.{start_machine}
 use Rattle.replay_laws.specs.FirstFaults.{FaultIsFirstBad}
 use Rattle.replay_laws.specs.Closing.{PagesTellFault, PagesTellRun, SilentPagesAreDone}
@@ -77,4 +78,4 @@ module _ (r : RecordView) (pages : List ReplayView) (sufficient : AreSufficient 
           let most = least_of.least greatest_settings
           (runs greatest_settings r.start r.floors r.tasks (events_of r) (length pages) (view_at pages)
           (in_record greatest_settings r pages sufficient o) suffice nothing) in
-          (most.granularity, most.credit, most.debit, most.slack)
+          (most Granularity, (most Credit, (most Debit, (most Slack, tt))))

@@ -6,13 +6,16 @@ use Rattle.replay_model.specs.declared.first_fault.FirstFault.{FirstFault}
 use Rattle.text_parts.specs.Lines.{is_line_feed, lines_of, IsWhole}
 use Rattle.ftrace_line.specs.Front.{IsSettled}
 use Rattle.sched_record.specs.Reader.{HasRead}
-use Rattle.sched_record.specs.Record.{RecordView}
+use Rattle.sched_record.specs.Record.{RecordView, record_view}
 use Rattle.sched_record.specs.declared.trace_reader.TraceReader.{TraceReader}
 use Rattle.sched_audit.specs.declared.fault.Fault.{Fault}
 use Rattle.sched_audit.specs.declared.fault.Fault.TheVariants.{ReadTrace, ReadCompanion, Write, Memory}
 use Rattle.sched_audit.specs.declared.lines.Held.{Held}
 use Rattle.sched_audit.specs.declared.status.Status.{Status}
+use Rattle.sched_audit.specs.declared.hearing.Kept.{Kept}
+use Rattle.sched_audit.specs.declared.hearing.Kept.TheVariants.{Record, Companion}
 use Rattle.sched_audit.specs.declared.outcome.Outcome.{Outcome}
+use Rattle.sched_audit.specs.declared.outcome.Outcome.TheVariants.{Judged, Text}
 use Rattle.sched_audit.specs.Answer.{OutcomeAnswer}
 use Rattle.sched_audit.specs.Codes.{status_of}
 use Rattle.sched_audit.specs.Known.{Agrees, AppendsFront, IsCutShort, most_reads}
@@ -54,6 +57,14 @@ pub record IsOutcomeOf {J : Type 0} (is_of : RecordView → J → Type 0) (trace
   pub trace_whole : Agrees trace trace_bytes
   pub companion_whole : Agrees companion companion_bytes
   pub answer : OutcomeAnswer is_of trace_bytes companion_bytes outcome
+
+-- what is kept of two inputs beside their outcome: the record that was judged, or the companion's bytes, where a text was
+-- refused
+abbrev pub IsKept : {J : Type 0} → (RecordView → J → Type 0) → Option (List ℕ) → Outcome J → Kept → Type 0
+IsKept is_of companion (Judged judged) (Record joined) = is_of (record_view joined) judged
+IsKept is_of companion (Text source line cause) (Companion bytes) = Agrees companion bytes.items
+IsKept is_of companion (Judged judged) (Companion bytes) = ⊥
+IsKept is_of companion (Text source line cause) (Record joined) = ⊥
 
 -- of an input: the bytes that it gave from the call's beginning on and those that it has left, where they are known; the reads
 -- made of it, whether one failed, and whether it has ended

@@ -7,9 +7,8 @@ ghost use Rattle.sched_audit.specs.Run.{Runs, input_of, output_of};
 ghost use Rattle.ticket_book.specs.LeastAnswer.{IsLeastAnswer};
 ghost use Rattle.ticket_book.specs.Verdict.{IsVerdict};
 
-use crate::judging::{judge, texts_judged};
-use crate::writing::write_report;
-use crate::{Fault, Feed, Gate, Hearing, LeastSettings, Refused, Sink, Status, Verdict};
+use crate::judging::{run_judged, texts_judged};
+use crate::{Fault, Feed, Gate, LeastSettings, Refused, Sink, Status, Verdict};
 use cfs_model::Knobs;
 use std::alloc::Global;
 use std::sync::Wait;
@@ -51,8 +50,7 @@ pub fn run<R: Threads + Wait + Sync, T: Feed, C: Feed, G: Gate, S: Sink>(
         (input_of (C.left companion.old) (C.left companion.new) (C.calls companion.new) (C.has_failed companion.new)
         (C.has_ended companion.new)) (output_of (S.taken out.old) (S.taken out.new) (S.has_failed out.new)) result }
 {
-    let hearing: Hearing = judge(rt, alloc, trace, companion, knobs, gate)?;
-    write_report(alloc, &hearing.into_outcome(), out)
+    run_judged::<Verdict, _, _, _, _, _>(rt, alloc, trace, companion, knobs, gate, out)
 }
 
 /// The least settings at which a trace is a run by its companion, or the first line up to which it is one at none.
@@ -87,6 +85,5 @@ pub fn run_least<R: Threads + Wait + Sync, T: Feed, C: Feed, G: Gate, S: Sink>(
         (C.has_ended companion.new)) (output_of (S.taken out.old) (S.taken out.new) (S.has_failed out.new)) result }
 {
     let knobs = Knobs::greatest();
-    let hearing: Hearing<LeastSettings> = judge(rt, alloc, trace, companion, knobs, gate)?;
-    write_report(alloc, &hearing.into_outcome(), out)
+    run_judged::<LeastSettings, _, _, _, _, _>(rt, alloc, trace, companion, knobs, gate, out)
 }

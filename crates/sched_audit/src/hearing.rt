@@ -1,5 +1,3 @@
-ghost use Rattle.std.specs.Prelude.{◌≡◌};
-
 use crate::{Outcome, Verdict};
 use sched_record::Record;
 
@@ -8,15 +6,6 @@ use sched_record::Record;
 pub struct Hearing<J = Verdict> {
     pub outcome: Outcome<J>,
     pub kept: Kept,
-}
-
-impl<J: Drop> Hearing<J> {
-    /// The outcome alone: what was read is given back.
-    pub fn into_outcome(self) -> Outcome<J>
-        ensures { result ≡ self.outcome }
-    {
-        self.outcome
-    }
 }
 
 /// What is kept of two inputs.

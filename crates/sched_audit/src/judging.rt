@@ -1,9 +1,10 @@
 //! What a verdict and the least settings share: the texts are read and joined, and their record is judged.
-ghost use Rattle.std.specs.Prelude.{◌≡◌, ◌≢◌, ℕ, IfErr, IfOk, List};
+ghost use Rattle.std.specs.Prelude.{◌≡◌, ◌≢◌, false, ℕ, IfErr, IfOk, List, Option};
 ghost use Rattle.sched_record.specs.Record.{record_view};
 ghost use Rattle.sched_record.specs.Trace.{Tells, TraceAnswer};
 ghost use Rattle.sched_audit.specs.Answer.{IsAnswer, OutcomeAnswer};
-ghost use Rattle.sched_audit.specs.Run.{IsOutcomeOf, Reads, input_of};
+ghost use Rattle.sched_audit.specs.Known.{Agrees};
+ghost use Rattle.sched_audit.specs.Run.{IsKept, IsOutcomeOf, Reads, Runs, input_of, output_of};
 
 use crate::lines::read_lines;
 use crate::reading::read_all;
@@ -34,6 +35,38 @@ pub(crate) fn texts_judged<J: Judgement, R: Threads + Wait + Sync, G: Gate>(
     Ok(judged(rt, alloc, &record, knobs, gate)?)
 }
 
+/// Reads the trace to its end, then the companion, judges them, and writes the report.
+pub(crate) fn run_judged<
+    J: Judgement,
+    R: Threads + Wait + Sync,
+    T: Feed,
+    C: Feed,
+    G: Gate,
+    S: Sink,
+>(
+    rt: &R,
+    alloc: Global,
+    trace: &mut T,
+    companion: &mut C,
+    knobs: Knobs,
+    gate: &G,
+    out: &mut S,
+) -> Result<Status, Fault>
+    requires trace { T.calls trace.old ≡ 0 }
+    requires companion { C.calls companion.old ≡ 0 }
+    requires out { S.has_failed out.old ≡ false }
+    ensures { Runs (J.is_of knobs) J.lines J.fault
+        (input_of (T.left trace.old) (T.left trace.new) (T.calls trace.new) (T.has_failed trace.new) (T.has_ended trace.new))
+        (input_of (C.left companion.old) (C.left companion.new) (C.calls companion.new) (C.has_failed companion.new)
+        (C.has_ended companion.new)) (output_of (S.taken out.old) (S.taken out.new) (S.has_failed out.new)) result }
+{
+    let hearing: Hearing<J> = judge(rt, alloc, trace, companion, knobs, gate)?;
+    let Hearing { outcome, kept } = hearing;
+    // What was read is given back before the report is written.
+    drop(kept);
+    write_report(alloc, &outcome, out)
+}
+
 /// Reads the trace to its end, then the companion, and judges them. What was read is kept beside the outcome.
 pub fn judge<J: Judgement, R: Threads + Wait + Sync, T: Feed, C: Feed, G: Gate>(
     rt: &R,
@@ -52,6 +85,7 @@ pub fn judge<J: Judgement, R: Threads + Wait + Sync, T: Feed, C: Feed, G: Gate>(
         (input_of (T.left trace.old) (T.left trace.new) (T.calls trace.new) (T.has_failed trace.new) (T.has_ended trace.new))
         (input_of (C.left companion.old) (C.left companion.new) (C.calls companion.new) (C.has_failed companion.new)
         (C.has_ended companion.new)) result }
+    ensures kept { IfOk result (λ hearing. IsKept (J.is_of knobs) (C.left companion.old) hearing.outcome hearing.kept) }
     ensures unwritten { IfErr result (λ fault. fault ≢ Fault.Write) }
 {
     let trace = read_lines(alloc, trace)?;
@@ -68,7 +102,9 @@ fn hearing_of<J: Judgement, R: Threads + Wait + Sync, G: Gate>(
     knobs: Knobs,
     gate: &G,
 ) -> Result<Hearing<J>, Memory>
-    ensures { (text : List ℕ) → Tells trace (TraceAnswer text)
+    ensures kept { (left : Option (List ℕ)) → Agrees left companion.items
+        → IfOk result (λ hearing. IsKept (J.is_of knobs) left hearing.outcome hearing.kept) }
+    ensures outcome { (text : List ℕ) → Tells trace (TraceAnswer text)
         → IfOk result (λ hearing. OutcomeAnswer (J.is_of knobs) text companion.items hearing.outcome) }
 {
     match record_of(rt, alloc, trace, &companion) {

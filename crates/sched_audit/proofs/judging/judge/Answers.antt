@@ -9,5 +9,5 @@ returns-clause-outcome g c =
       companion_bytes = c.in_ok-companion.companion.items;
       trace_whole = read.1;
       companion_whole = c.in_ok-companion.ensures.all;
-      answer = c.in_ok-hearing_of.ensures read.0 (c.finish.ensures.answered (lines_of read.0) read.2);
+      answer = c.in_ok-hearing_of.ensures.outcome read.0 (c.finish.ensures.answered (lines_of read.0) read.2);
     }

@@ -3,7 +3,7 @@
 use crate::companion_lines::word_of;
 use crate::processor::Processor;
 use crate::scene::Scene;
-use crate::task_words::{Share, verb};
+use crate::task_words::{share_of, verb};
 use cfs_model::{Act, Claim, ClaimSort, IDLE_PID, Place, Task, Way};
 use std::alloc::AllocError;
 
@@ -269,10 +269,10 @@ pub(crate) fn push_ticket_unequal(text: &mut String, scene: &Scene) -> Result<()
 /// At a migration's origin.
 fn push_leaves(text: &mut String, here: &Processor, task: Task) -> Result<(), AllocError> {
     let cpu = here.cpu;
-    let verb = verb(task);
-    let share = Share(task);
-    let v = task.v;
+    let Task { v, .. } = task;
+    let share = share_of(task);
     let above = offset(v, here);
+    let verb = verb(task);
     writeln!(
         text,
         "# it leaves cpu {cpu}: {verb} at {v}, {share}; {above} from the floor"

@@ -12,7 +12,12 @@ pub(crate) fn verb(task: Task) -> &'static str {
 
 /// By what a task is charged: its nice value, its policy and its weight.
 #[derive(Clone, Copy)]
-pub(crate) struct Share(pub Task);
+pub(crate) struct Share(Task);
+
+/// Of a task.
+pub(crate) fn share_of(task: Task) -> Share {
+    Share(task)
+}
 
 impl fmt::Display for Share {
     fn fmt<W: fmt::Write>(&self, f: &mut fmt::Formatter<W>) -> fmt::Result {

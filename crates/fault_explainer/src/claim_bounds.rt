@@ -166,7 +166,7 @@ fn push_goes(text: &mut String, pid: u32, goes: &str) -> Result<(), AllocError> 
 fn push_stays(text: &mut String, pid: u32, task: Option<Task>) -> Result<(), AllocError> {
     match task {
         Some(task) => {
-            let verb = verb(task);
+            let verb = verb(&task);
             writeln!(
                 text,
                 "# the event needs no claim: pid {pid} {verb} there already"
@@ -269,10 +269,10 @@ pub(crate) fn push_ticket_unequal(text: &mut String, scene: &Scene) -> Result<()
 /// At a migration's origin.
 fn push_leaves(text: &mut String, here: &Processor, task: Task) -> Result<(), AllocError> {
     let cpu = here.cpu;
+    let share = share_of(&task);
+    let verb = verb(&task);
     let Task { v, .. } = task;
-    let share = share_of(task);
     let above = offset(v, here);
-    let verb = verb(task);
     writeln!(
         text,
         "# it leaves cpu {cpu}: {verb} at {v}, {share}; {above} from the floor"

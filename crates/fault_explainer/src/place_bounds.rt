@@ -169,9 +169,9 @@ fn push_stood(text: &mut String, scene: &Scene) -> Result<(), AllocError> {
 }
 
 fn push_stood_at(text: &mut String, cpu: u32, pid: u32, task: Task) -> Result<(), AllocError> {
+    let share = share_of(&task);
+    let verb = verb(&task);
     let Task { v, .. } = task;
-    let share = share_of(task);
-    let verb = verb(task);
     writeln!(
         text,
         "# before this line pid {pid} {verb} at cpu {cpu}, at {v}, {share}"

@@ -48,7 +48,7 @@ fn push_waiting(text: &mut String, queue: &Runqueue) -> Result<(), AllocError> {
 
 fn push_task(text: &mut String, task: Task, verb: &str) -> Result<(), AllocError> {
     let Task { pid, v, .. } = task;
-    let share = share_of(task);
+    let share = share_of(&task);
     writeln!(text, "#   pid {pid} {verb} at {v}, {share}")
 }
 

@@ -10,8 +10,8 @@ ghost use Rattle.queue_replay.specs.Rows.{HasClaimAt, IsUnclaimed, IsNeedless, I
 
 use crate::excess::excess;
 use crate::queue_tests::stands_in;
-use runqueue::Runqueue;
 use cfs_model::{Claim, ClaimSort, IDLE_PID, Place, Task};
+use runqueue::Runqueue;
 
 /// The pid, if its task rests here.
 pub(crate) fn if_resting(pid: u32, task: &Option<Task>) -> Option<u32>
@@ -142,7 +142,8 @@ fn rests_outside(queue: &Runqueue, claim: Claim, credit: u64, task: Option<Task>
         → (IsTrue result ↔ ((s : Entity) × (part.tasks pid ≡ Some s) × (s.place ≡ Rest) × (¬ IsInWakeBounds credit part.floor s.runtime claim.v))) }
 {
     match task {
-        Some(task) => task.place == Place::Rest && !is_in_wake_bounds(queue.floor(), task, claim, credit),
+        Some(task) => task.place == Place::Rest
+            && !is_in_wake_bounds(queue.floor(), task, claim, credit),
         None => false,
     }
 }

@@ -3,9 +3,9 @@ ghost use Rattle.replay_model.specs.Deeds.{came_ticket, left_ticket, place_of_so
 ghost use Rattle.runqueue.specs.Queue.{runqueue_view, IsTaskAt};
 ghost use Rattle.runqueue.specs.Tasks.{entity_of};
 
-use runqueue::Runqueue;
 use cfs_model::{Claim, ClaimSort, Nice, Place, Task};
 use replay_model::Ticket;
+use runqueue::Runqueue;
 
 /// A task at the claimed virtual runtime.
 pub(crate) fn claimed_task(

@@ -8,8 +8,8 @@ ghost use Rattle.queue_replay.specs.Rows.{switch_deed};
 
 use crate::claim_tests::is_at_other;
 use crate::queue_tests::{has_other_prio, is_runner, stands_in};
-use runqueue::Runqueue;
 use cfs_model::{Claim, IDLE_PID, Nice, Place, Task, Way};
+use runqueue::Runqueue;
 
 /// A switch from one task to another, and those of its tests that no other deed has.
 #[derive(Clone, Copy)]

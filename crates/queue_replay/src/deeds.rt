@@ -9,13 +9,13 @@ use crate::context_switch::ContextSwitch;
 use crate::excess::{excess, lead};
 use crate::made_deed::MadeDeed;
 use crate::outcome::Outcome;
-use runqueue::Runqueue;
 use crate::step_table::{
     first_arrival_test, first_birth_test, first_leave_test, first_pick_test, first_switch_test,
     first_wake_test,
 };
 use cfs_model::{Knobs, Memory, Nice, Place};
 use replay_model::{Deed, Step};
+use runqueue::Runqueue;
 
 // A move of a task between places: waiting, running, resting and none.
 macro_rules! moves {

@@ -6,8 +6,8 @@ ghost use Rattle.replay_model.specs.declared.step.Deed.TheVariants.{Leave};
 ghost use Rattle.runqueue.specs.Queue.{runqueue_view, IsSwitchTask, IsTaskAt};
 ghost use Rattle.queue_replay.specs.FirstTest.{Decides};
 
-use runqueue::Runqueue;
 use cfs_model::{IDLE_PID, Nice, Place, Task};
+use runqueue::Runqueue;
 
 /// The task goes to the processor where it is.
 pub(crate) fn move_home(cpu: u32, pid: u32, dest: u32) -> Option<u32>

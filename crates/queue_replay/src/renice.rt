@@ -57,4 +57,3 @@ fn try_reniced(
         }
     }
 }
-

@@ -13,9 +13,9 @@ use crate::needs::Needs;
 use crate::outcome::Outcome;
 use crate::page_draft::PageDraft;
 use crate::renice::try_step;
-use runqueue::Runqueue;
 use cfs_model::{IDLE_PID, Kind, Knobs, Memory};
 use replay_model::{Step, StepFault};
+use runqueue::Runqueue;
 
 /// A replay under way.
 #[derive(Drop)]

@@ -12,10 +12,10 @@ ghost use Rattle.sched_record.specs.Stream.{stream_view};
 use crate::needs::Needs;
 use crate::page_draft::PageDraft;
 use crate::replay_state::{ReplayState, idle_deadline, idled_time, since_after};
-use runqueue::Runqueue;
 use crate::tally_book::TallyBook;
 use cfs_model::{IDLE_PID, Kind, Knobs, Memory, NO_LINE};
 use replay_model::StepFault;
+use runqueue::Runqueue;
 use sched_record::Stream;
 use std::alloc::Global;
 

@@ -15,8 +15,8 @@ use crate::claim_tests::{
 use crate::context_switch::ContextSwitch;
 use crate::failed_test::FailedTest;
 use crate::queue_tests::{already, move_home, move_running, strange, wrong_prio};
-use runqueue::Runqueue;
 use cfs_model::{Claim, Kind, Knobs, Nice, Task};
+use runqueue::Runqueue;
 
 // A deed's tests in their order, each with the kind of fault that it is: the first that holds is answered.
 macro_rules! guard {

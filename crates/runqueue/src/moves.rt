@@ -31,7 +31,12 @@ impl Runqueue {
     }
 
     /// The runqueue of these tasks: their pids rise, and at most one of them runs.
-    pub fn of_tasks(alloc: Global, tasks: &[Task], floor: i64, mark: u64) -> Result<Runqueue, Memory>
+    pub fn of_tasks(
+        alloc: Global,
+        tasks: &[Task],
+        floor: i64,
+        mark: u64,
+    ) -> Result<Runqueue, Memory>
         requires rise { RisesByPid tasks.now }
         requires one { AllPairs (λ t u. t.place ≡ Run → u.place ≡ Run → ⊥) tasks.now }
         ensures { IfOk result (λ queue. runqueue_view queue ≡ start_part tasks.now floor mark) }

@@ -24,9 +24,7 @@ pub(crate) fn explain<R: Files + Print + AllocGlobal + Threads + Wait + Sync>(
     knobs: Knobs,
 ) -> Result<(), Fault> {
     let told = match (text_of(rt, trace)?, text_of(rt, companion)?) {
-        (Some(trace), Some(companion)) => {
-            explained(rt, alloc, &trace, &companion, knobs)?
-        }
+        (Some(trace), Some(companion)) => { explained(rt, alloc, &trace, &companion, knobs)? }
         _ => Vec::new(alloc),
     };
     let told = if told.is_empty() {

@@ -33,9 +33,11 @@ returns-in-Ok-Failed-clause-later c =
 pub restore-requires : goal.restore-requires
 restore-requires c =
     let q = c.args.self.now.queue in
-    let S : Outcome → Type 0 = λ o. HoldsUnmade {E = Memory} (Ok o) c.lift.new.self c.try_step.new.queue in
-    (q, c.unlifted-before.ensures,
-    holds_both q c.lift.new.self c.try_step.new.queue c.lift.ensures.same (subst S c.in-Ok-Failed.field-0-is c.in-Ok-Failed.ensures.same))
+    let S : Outcome → Type 0 = λ o. HoldsUnmade {E = Memory} (Ok o) c.lift.new.self c.try_step.new.queue in (
+      q,
+      c.unlifted-before.ensures,
+      holds_both q c.lift.new.self c.try_step.new.queue c.lift.ensures.same (subst S c.in-Ok-Failed.field-0-is c.in-Ok-Failed.ensures.same),
+    )
 
 pub restore-requires-in-Err-try_step : goal.restore-requires-in-Err-try_step
 restore-requires-in-Err-try_step c =

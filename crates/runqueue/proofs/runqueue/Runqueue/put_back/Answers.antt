@@ -33,5 +33,5 @@ returns-clause-nobody c =
     let whole : to_z w64 (of_z w64 t.v) ≡ t.v = search rules in
     nobody_runs None c.write_over.new.tasks c.insert.new.self q.floor q.mark
     (back_queue q.tasks c.write_over.new.tasks q.waiting t (kept_runner q.runner q.tasks q.waiting (Some t) q.kept c.requires) _ c.write_over.ensures
-          c.insert.new.self (subst (λ (v : ℤ). set.Updates by_runtime q.waiting c.insert.new.self (waiting_task v t.pid) true) whole c.in_ok-insert.ensures.updates) refl)
+    c.insert.new.self (subst (λ (v : ℤ). set.Updates by_runtime q.waiting c.insert.new.self (waiting_task v t.pid) true) whole c.in_ok-insert.ensures.updates) refl)
     refl

@@ -6,15 +6,14 @@ mod forecast;
 mod machine;
 mod made;
 mod making;
+mod named;
 mod not_made;
 mod opening;
 mod plain;
 mod processor;
-mod standing;
 mod strategy;
 mod touching;
 mod values;
-mod waiting_task;
 mod wishes;
 mod writing;
 

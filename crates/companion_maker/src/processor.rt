@@ -1,17 +1,11 @@
-use crate::waiting_task::WaitingTask;
+use cfs_model::{Claim, Memory, Place, Task, Way};
+use runqueue::Runqueue;
 use std::alloc::Global;
-use std::collections::BTreeSet;
 
-/// A processor and its runqueue.
+/// A processor: its runqueue, led by events that may break its rules. What breaks one changes nothing.
 #[derive(Drop)]
 pub(crate) struct Processor {
-    /// Who runs, if somebody does.
-    pub running: Option<u32>,
-    pub waiting: BTreeSet<WaitingTask>,
-    /// In virtual nanoseconds.
-    pub floor: i64,
-    /// The time of the last charge, in nanoseconds.
-    pub mark: u64,
+    pub queue: Runqueue,
     /// The last line of an event here that changes no nice value; 0 where there is none.
     pub free_line: u32,
 }
@@ -20,16 +14,66 @@ impl Processor {
     /// Nobody stands there.
     pub(crate) fn new(alloc: Global, start: u64) -> Processor {
         Processor {
-            running: None,
-            waiting: BTreeSet::new(alloc),
-            floor: 0,
-            mark: start,
+            queue: Runqueue::empty(alloc, 0, start),
             free_line: 0,
         }
     }
 
-    /// The least virtual runtime of those who wait.
-    pub(crate) fn least(&self) -> Option<i64> {
-        self.waiting.first().map(|task| task.v)
+    /// A task comes, unless one of its pid stands here, or it is to run beside another.
+    pub(crate) fn enter(&mut self, task: Task) -> Result<(), Memory> {
+        match (self.queue.task_at(task.pid), self.queue.runner()) {
+            (None, None) => self.queue.add(task),
+            (None, Some(_)) if task.place != Place::Run => self.queue.add(task),
+            _ => Ok(()),
+        }
+    }
+
+    /// Who runs goes its way, if it is the task of this pid, and is answered as it ran.
+    pub(crate) fn leave(&mut self, prev: u32, way: Way) -> Result<Option<Task>, Memory> {
+        match self.queue.runner() {
+            Some(task) if task.pid == prev => {
+                self.queue.put_prev(way)?;
+                Ok(Some(task))
+            }
+            _ => Ok(None),
+        }
+    }
+
+    /// A task that waits is picked; whoever runs still is lost. How far it was above the least who waits, in virtual
+    /// nanoseconds.
+    pub(crate) fn pick(&mut self, next: u32) -> Result<Option<u64>, Memory> {
+        let lead = match (self.queue.switch_task(next), self.queue.least_waiting()) {
+            (Some(task), Some(least)) if task.place == Place::Wait => task.v.abs_diff(least),
+            _ => return Ok(None),
+        };
+        self.queue.put_prev(Way::Ends)?;
+        let picked = self.queue.switch_task(next);
+        self.queue.set_next(next, picked);
+        Ok(Some(lead))
+    }
+
+    /// A task that rests waits where it is claimed.
+    pub(crate) fn wake(&mut self, claim: Claim) -> Result<(), Memory> {
+        let task = self.queue.task_at(claim.pid);
+        self.queue.wake(claim.pid, task, claim)
+    }
+
+    /// A task that doesn't run leaves, and is answered as it stood.
+    pub(crate) fn send(&mut self, pid: u32) -> Option<Task> {
+        let task = self.queue.task_at(pid)?;
+        if task.place == Place::Run {
+            return None;
+        }
+        self.queue.remove(pid);
+        Some(task)
+    }
+
+    /// The least who waits, or what is nearest to that within the bounds.
+    pub(crate) fn level(&self, low: i64, high: i64) -> i64 {
+        self.queue
+            .least_waiting()
+            .unwrap_or(high)
+            .min(high)
+            .max(low)
     }
 }

@@ -1,14 +1,8 @@
-use cfs_model::{GREATEST_RUNTIME, Nice, charge, weight};
+use cfs_model::GREATEST_RUNTIME;
 
 /// The nearest virtual runtime in range.
 pub(crate) fn within_range(v: i64) -> i64 {
     v.min(GREATEST_RUNTIME).max(-GREATEST_RUNTIME)
-}
-
-/// A virtual runtime after this many nanoseconds of running at this nice value.
-pub(crate) fn after_running(v: i64, spent: u64, nice: Nice) -> i64 {
-    let cost = charge(spent, weight(nice)).unwrap_or(GREATEST_RUNTIME);
-    within_range(v.saturating_add(cost))
 }
 
 /// A virtual runtime moved from one floor's frame to another's.

@@ -1,4 +1,4 @@
-use crate::task_words::Share;
+use crate::task_words::share_of;
 use cfs_model::{Task, weight_of};
 use runqueue::Runqueue;
 use std::fmt;
@@ -37,7 +37,7 @@ impl fmt::Display for Charge {
     fn fmt<W: fmt::Write>(&self, f: &mut fmt::Formatter<W>) -> fmt::Result {
         let Task { pid, v, .. } = self.task;
         let ran = self.ran;
-        let share = Share(self.task);
+        let share = share_of(&self.task);
         let cost = self.cost();
         let to = self.to();
         write!(

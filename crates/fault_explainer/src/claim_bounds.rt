@@ -3,7 +3,7 @@
 use crate::companion_lines::word_of;
 use crate::processor::Processor;
 use crate::scene::Scene;
-use crate::task_words::{Share, verb};
+use crate::task_words::{share_of, verb};
 use cfs_model::{Act, Claim, ClaimSort, IDLE_PID, Place, Task, Way};
 use std::alloc::AllocError;
 
@@ -166,7 +166,7 @@ fn push_goes(text: &mut String, pid: u32, goes: &str) -> Result<(), AllocError> 
 fn push_stays(text: &mut String, pid: u32, task: Option<Task>) -> Result<(), AllocError> {
     match task {
         Some(task) => {
-            let verb = verb(task);
+            let verb = verb(&task);
             writeln!(
                 text,
                 "# the event needs no claim: pid {pid} {verb} there already"
@@ -269,9 +269,9 @@ pub(crate) fn push_ticket_unequal(text: &mut String, scene: &Scene) -> Result<()
 /// At a migration's origin.
 fn push_leaves(text: &mut String, here: &Processor, task: Task) -> Result<(), AllocError> {
     let cpu = here.cpu;
-    let verb = verb(task);
-    let share = Share(task);
-    let v = task.v;
+    let share = share_of(&task);
+    let verb = verb(&task);
+    let Task { v, .. } = task;
     let above = offset(v, here);
     writeln!(
         text,

@@ -22,9 +22,21 @@ impl Event {
             line,
             time,
             act,
-            claim: record.claims().iter().find(|claim| claim.line == line).copied(),
-            nice: record.nices().iter().find(|change| change.line == line).copied(),
-            idle: record.idles().iter().find(|idle| idle.line == line).copied(),
+            claim: record
+                .claims()
+                .iter()
+                .find(|claim| claim.line == line)
+                .copied(),
+            nice: record
+                .nices()
+                .iter()
+                .find(|change| change.line == line)
+                .copied(),
+            idle: record
+                .idles()
+                .iter()
+                .find(|idle| idle.line == line)
+                .copied(),
         })
     }
 

@@ -1,7 +1,7 @@
 //! Who stands where, and which prio is printed.
 
 use crate::scene::{Scene, lies_in_place};
-use crate::task_words::{Share, verb};
+use crate::task_words::{share_of, verb};
 use cfs_model::{Act, IDLE_PID, Kind, Nice, NiceLine, Task};
 use replay_model::FirstFault;
 use std::alloc::AllocError;
@@ -125,12 +125,7 @@ fn push_unpicked(text: &mut String, cpu: u32, pid: u32) -> Result<(), AllocError
 pub(crate) fn push_wrong_prio(text: &mut String, scene: &Scene) -> Result<(), AllocError> {
     let pid = scene.fault.pid;
     match scene.task(pid) {
-        Some(task) => push_prios(
-            text,
-            pid,
-            task.nice,
-            printed_nice(scene.event.act, pid),
-        ),
+        Some(task) => push_prios(text, pid, task.nice, printed_nice(scene.event.act, pid)),
         None => Ok(()),
     }
 }
@@ -174,9 +169,9 @@ fn push_stood(text: &mut String, scene: &Scene) -> Result<(), AllocError> {
 }
 
 fn push_stood_at(text: &mut String, cpu: u32, pid: u32, task: Task) -> Result<(), AllocError> {
-    let verb = verb(task);
-    let share = Share(task);
-    let v = task.v;
+    let share = share_of(&task);
+    let verb = verb(&task);
+    let Task { v, .. } = task;
     writeln!(
         text,
         "# before this line pid {pid} {verb} at cpu {cpu}, at {v}, {share}"

@@ -2,7 +2,7 @@
 
 use crate::charge::Charge;
 use crate::processor::Processor;
-use crate::task_words::Share;
+use crate::task_words::share_of;
 use cfs_model::Task;
 use runqueue::Runqueue;
 use std::alloc::AllocError;
@@ -48,7 +48,7 @@ fn push_waiting(text: &mut String, queue: &Runqueue) -> Result<(), AllocError> {
 
 fn push_task(text: &mut String, task: Task, verb: &str) -> Result<(), AllocError> {
     let Task { pid, v, .. } = task;
-    let share = Share(task);
+    let share = share_of(&task);
     writeln!(text, "#   pid {pid} {verb} at {v}, {share}")
 }
 

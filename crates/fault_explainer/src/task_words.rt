@@ -1,8 +1,8 @@
-use cfs_model::{Place, Task, weight_of};
+use cfs_model::{Nice, Place, Task, weight_of};
 use std::fmt;
 
 /// What a task does where it stands.
-pub(crate) fn verb(task: Task) -> &'static str {
+pub(crate) fn verb(task: &Task) -> &'static str {
     match task.place {
         Place::Run => "runs",
         Place::Wait => "waits",
@@ -12,14 +12,24 @@ pub(crate) fn verb(task: Task) -> &'static str {
 
 /// By what a task is charged: its nice value, its policy and its weight.
 #[derive(Clone, Copy)]
-pub(crate) struct Share(pub Task);
+pub(crate) struct Share {
+    nice: Nice,
+    idle: bool,
+}
+
+/// That of a task.
+pub(crate) fn share_of(task: &Task) -> Share {
+    Share {
+        nice: task.nice,
+        idle: task.idle,
+    }
+}
 
 impl fmt::Display for Share {
     fn fmt<W: fmt::Write>(&self, f: &mut fmt::Formatter<W>) -> fmt::Result {
-        let Task { nice, idle, .. } = self.0;
-        let weight = weight_of(nice, idle);
-        let nice = nice.get();
-        if idle {
+        let weight = weight_of(self.nice, self.idle);
+        let nice = self.nice.get();
+        if self.idle {
             write!(f, "nice {nice}, idle policy (weight {weight})")
         } else {
             write!(f, "nice {nice} (weight {weight})")

@@ -8,3 +8,4 @@ pub mod Rows
 pub mod ReplayState
 pub mod Made
 pub mod Replay
+pub mod Found

@@ -8,6 +8,7 @@ mod counting;
 mod deeds;
 mod excess;
 mod failed_test;
+mod found;
 mod lists;
 mod made_deed;
 mod needs;

@@ -4,7 +4,7 @@ ghost use Rattle.queue_replay.specs.Made.{reached_of};
 ghost use Rattle.queue_replay.specs.Needing.{HasNeeds, needs_view};
 ghost use Rattle.sched_record.specs.Stream.{stream_view};
 
-use crate::lists::{LifeEvents, Tallies, Tickets};
+use crate::found::Found;
 use crate::needs::Needs;
 use crate::tag::{Reached, Tag};
 use cfs_model::Knobs;
@@ -19,16 +19,11 @@ pub struct Page {
     pub(crate) knobs: Knobs,
     pub(crate) made: usize,
     pub(crate) needs: Needs,
-    pub(crate) line: u32,
-    pub(crate) fault: Option<StepFault>,
-    pub(crate) left: Tickets,
-    pub(crate) came: Tickets,
-    pub(crate) births: LifeEvents,
-    pub(crate) deaths: LifeEvents,
-    pub(crate) tallies: Tallies,
+    pub(crate) found: Found,
 }
 
 impl Model for Page {
+    ghost use Rattle.queue_replay.specs.Found.{found_view};
     ghost use Rattle.queue_replay.specs.Needing.{HasNeeds, needs_view};
     ghost use Rattle.queue_replay.specs.Replay.{ReplayView};
     ghost use Rattle.replay_model.specs.Page.{IsPageOf};
@@ -40,35 +35,12 @@ impl Model for Page {
       stream = stream_view p.stream;
       knobs = p.knobs;
       made = p.made;
-      page = record {
-        line = p.line;
-        fault = p.fault;
-        left = p.left;
-        came = p.came;
-        births = p.births;
-        deaths = p.deaths;
-        tallies = p.tallies;
-      };
+      page = found_view p.found;
       needs = needs_view p.needs;
     } };
 
-    ghost invariant = { λ p. IsPageOf (stream_view p.stream) p.knobs p.made (record {
-      line = p.line;
-      fault = p.fault;
-      left = p.left;
-      came = p.came;
-      births = p.births;
-      deaths = p.deaths;
-      tallies = p.tallies;
-    }) × HasNeeds (stream_view p.stream) p.knobs p.made (record {
-      line = p.line;
-      fault = p.fault;
-      left = p.left;
-      came = p.came;
-      births = p.births;
-      deaths = p.deaths;
-      tallies = p.tallies;
-    }) (needs_view p.needs) };
+    ghost invariant = { λ p. IsPageOf (stream_view p.stream) p.knobs p.made (found_view p.found)
+        × HasNeeds (stream_view p.stream) p.knobs p.made (found_view p.found) (needs_view p.needs) };
 }
 
 impl Page {
@@ -114,49 +86,49 @@ impl Page {
     pub fn line(&self) -> u32
         ensures { result ≡ self.now.page.line }
     {
-        self.line
+        self.found.line
     }
 
     /// The first fault, of a step or of the end test.
     pub fn fault(&self) -> Option<StepFault>
         ensures { result ≡ self.now.page.fault }
     {
-        self.fault
+        self.found.fault
     }
 
     /// The tickets of the tasks that left, in the order of their lines.
     pub fn left(&self) -> &[Ticket]
         ensures { result.now ≡ self.now.page.left }
     {
-        self.left.as_slice()
+        self.found.left.as_slice()
     }
 
     /// The tickets of the tasks that came, in the order of their lines.
     pub fn came(&self) -> &[Ticket]
         ensures { result.now ≡ self.now.page.came }
     {
-        self.came.as_slice()
+        self.found.came.as_slice()
     }
 
     /// The births, in the order of their lines.
     pub fn births(&self) -> &[LifeEvent]
         ensures { result.now ≡ self.now.page.births }
     {
-        self.births.as_slice()
+        self.found.births.as_slice()
     }
 
     /// The deaths, in the order of their lines.
     pub fn deaths(&self) -> &[LifeEvent]
         ensures { result.now ≡ self.now.page.deaths }
     {
-        self.deaths.as_slice()
+        self.found.deaths.as_slice()
     }
 
     /// One for each pid that stood here, in the order in which they first did.
     pub fn tallies(&self) -> &[Tally]
         ensures { result.now ≡ self.now.page.tallies }
     {
-        self.tallies.as_slice()
+        self.found.tallies.as_slice()
     }
 
     /// The processor, and how far the replay went.
@@ -173,11 +145,11 @@ impl Page {
     fn reached(&self) -> Reached
         ensures { result ≡ reached_of self.now.page self.now.made (length self.now.stream.steps) }
     {
-        match self.fault {
+        match self.found.fault {
             Some(fault) => Reached::Faulted(fault.line),
             None => {
                 if self.made < self.stream.steps().len() {
-                    Reached::Stopped(self.line)
+                    Reached::Stopped(self.found.line)
                 } else {
                     Reached::Done
                 }

@@ -4,9 +4,12 @@ ghost use Rattle.replay_model.specs.Noted.{births_of, deaths_of, tallied};
 ghost use Rattle.replay_model.specs.declared.step.Deed.{Deed as DeedOf};
 ghost use Rattle.replay_model.specs.declared.step.Deed.TheVariants.{Switch};
 ghost use Rattle.queue_replay.specs.Counting.{HasDraftRoom, page_draft_view, if_left, if_came, stretched};
+ghost use Rattle.queue_replay.specs.Found.{found_view};
 ghost use Rattle.queue_replay.specs.Stretches.{IsWithin};
 ghost use Rattle.runqueue.specs.Tasks.{cost_of};
 
+use crate::found::Found;
+use crate::lists::{LifeEvents, Tallies, Tickets};
 use crate::room::push_in;
 use crate::tally_book::TallyBook;
 use cfs_model::{IDLE_PID, Memory, Task, Way};
@@ -28,6 +31,31 @@ pub(crate) struct PageDraft {
 }
 
 impl PageDraft {
+    /// What the page shows in the end.
+    pub fn found(self) -> Found
+        ensures { found_view result ≡ page_draft_view self }
+    {
+        let PageDraft {
+            line,
+            fault,
+            left,
+            came,
+            births,
+            deaths,
+            tallies,
+        } = self;
+        let TallyBook { list, .. } = tallies;
+        Found {
+            line,
+            fault,
+            left: Tickets::from_vec(left),
+            came: Tickets::from_vec(came),
+            births: LifeEvents::from_vec(births),
+            deaths: LifeEvents::from_vec(deaths),
+            tallies: Tallies::from_vec(list),
+        }
+    }
+
     /// Makes the growths that a deed can need.
     pub fn make_room(&mut self, deed: Deed) -> Result<(), Memory>
         ensures room { OnOk result (HasDraftRoom deed self.new) }

@@ -6,13 +6,10 @@ ghost use Rattle.replay_model.specs.Part.{Part};
 ghost use Rattle.runqueue.specs.Queue.{runqueue_view};
 ghost use Rattle.sched_record.specs.Stream.{stream_view};
 
-use crate::lists::{LifeEvents, Tallies, Tickets};
 use crate::page::Page;
-use crate::page_draft::PageDraft;
 use crate::replay_state::ReplayState;
 use crate::running::{make_steps, start};
 use crate::state::State;
-use crate::tally_book::TallyBook;
 use cfs_model::{Knobs, Memory};
 use runqueue::Runqueue;
 use sched_record::Stream;
@@ -138,28 +135,12 @@ impl Replay {
             draft,
             ..
         } = state;
-        let PageDraft {
-            line,
-            fault,
-            left,
-            came,
-            births,
-            deaths,
-            tallies,
-        } = draft;
-        let TallyBook { list, .. } = tallies;
         Page {
             stream,
             knobs,
             made,
             needs,
-            line,
-            fault,
-            left: Tickets::from_vec(left),
-            came: Tickets::from_vec(came),
-            births: LifeEvents::from_vec(births),
-            deaths: LifeEvents::from_vec(deaths),
-            tallies: Tallies::from_vec(list),
+            found: draft.found(),
         }
     }
 }

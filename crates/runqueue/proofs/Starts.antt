@@ -1,5 +1,5 @@
 -- A runqueue at the start, task by task: the pids rise, and at most one of the tasks runs.
-use Rattle.std.proofs.Common.{◌≡◌, ℕ, ◌+◌, ◌<◌, Bool, false, eqb, List, [], ◌∷◌, ◌++◌, length, map, take, get_or, All, Option, Some, None, option_map, ℤ, inl, inr, refl, sym, ap, ◌∙◌, subst, arith}
+use Rattle.std.proofs.Common.{◌≡◌, ℕ, ◌+◌, ◌<◌, Bool, false, eqb, List, [], ◌∷◌, ◌++◌, length, take, get_or, All, Some, None, option_map, ℤ, inl, inr, refl, sym, ap, ◌∙◌, subst, arith}
 use Rattle.std.specs.List.{find, AllPairs}
 use Rattle.std.proofs.lemmas.Bool.{ne_eqb, cond-false}
 use Rattle.std.proofs.lemmas.List.{get_or-take, get_or_default, length-take-le, take_more}
@@ -9,7 +9,7 @@ use Rattle.cfs_model.specs.Start.{task_of}
 use Rattle.cfs_model.specs.declared.task.Place.TheVariants.{Run}
 use Rattle.cfs_model.specs.declared.task.Task.{Task}
 use Rattle.replay_model.specs.Deeds.{with_entity}
-use Rattle.replay_model.specs.Part.{NobodyIn, Part, Entity, start_part}
+use Rattle.replay_model.specs.Part.{NobodyIn, Part, start_part}
 use Rattle.cfs_model.specs.Machine.{put}
 use Rattle.runqueue.specs.Tasks.{entity_of, RisesByPid}
 use Rattle.runqueue.proofs.Parts.{its_place, same_tasks}

@@ -19,7 +19,8 @@ runqueue_view queue = record { tasks = standing queue.runner queue.tasks; floor 
 -- the map and the set of a runqueue are as they were
 pub record HoldsSame (old new : Runqueue) : Type 0 where
   pub tasks : (pid : ℕ) → get nat_cmp new.tasks pid ≡ get nat_cmp old.tasks pid
-  pub waiting : (v : ℤ) (pid : ℕ) → contains by_runtime new.waiting (waiting_task v pid) ≡ contains by_runtime old.waiting (waiting_task v pid)
+  pub waiting : (v : ℤ) (pid : ℕ)
+      → contains by_runtime new.waiting (waiting_task v pid) ≡ contains by_runtime old.waiting (waiting_task v pid)
 
 -- what a charge and its lift change of a runqueue, as it stands
 pub record IsUnlifted (queue : Runqueue) (before : Unlifted) : Type 0 where

@@ -51,7 +51,8 @@ waiting_runtime (Some s) = runtime_if s.place s.runtime
 
 -- the set has those who wait, each at its virtual runtime, and nobody else
 unfoldable pub IsWaitingSet : (ℕ → Option Entity) → BTreeSet WaitingTask → Type 0
-IsWaitingSet tasks waiting = (v : ℤ) (pid : ℕ) → IsTrue (contains by_runtime waiting (waiting_task v pid)) ↔ (waiting_runtime (tasks pid) ≡ Some v)
+IsWaitingSet tasks waiting = (v : ℤ) (pid : ℕ) → IsTrue (contains by_runtime waiting (waiting_task v pid))
+    ↔ (waiting_runtime (tasks pid) ≡ Some v)
 
 -- nobody runs but the runner
 unfoldable pub IsOnlyRunner : (ℕ → Option Entity) → Option Task → Type 0
@@ -65,8 +66,10 @@ IsRunnerListed runner tasks = (t : Task) → runner ≡ Some t → (t.place ≡ 
 -- map, set and runner tell of the same tasks
 unfoldable pub IsQueue : Option Task → BTreeMap ℕ Task → BTreeSet WaitingTask → Type 0
 IsQueue runner tasks waiting =
-    IsWaitingSet (standing runner tasks) waiting × IsOnlyRunner (standing runner tasks) runner × IsRunnerListed runner tasks
+    IsWaitingSet (standing runner tasks) waiting × IsOnlyRunner (standing runner tasks) runner
+    × IsRunnerListed runner tasks
 
-pub IsQueue-prop : (runner : Option Task) (tasks : BTreeMap ℕ Task) (waiting : BTreeSet WaitingTask) → IsProp (IsQueue runner tasks waiting)
+pub IsQueue-prop : (runner : Option Task) (tasks : BTreeMap ℕ Task) (waiting : BTreeSet WaitingTask)
+    → IsProp (IsQueue runner tasks waiting)
 unfolding IsQueue IsWaitingSet IsOnlyRunner IsRunnerListed
 IsQueue-prop runner tasks waiting = Prim.hlevel props

@@ -70,7 +70,8 @@ impl Runqueue {
     /// Takes a charge and its lift back, where the map and the set of the runqueue hold what they did before.
     pub fn restore(&mut self, before: Unlifted)
         requires { (queue : Runqueue) × IsUnlifted queue before × HoldsSame queue self.old }
-        ensures { (queue : Runqueue) → IsUnlifted queue before → HoldsSame queue self.old → runqueue_view self.new ≡ runqueue_view queue }
+        ensures { (queue : Runqueue) → IsUnlifted queue before → HoldsSame queue self.old
+            → runqueue_view self.new ≡ runqueue_view queue }
     {
         self.runner = before.runner;
         self.floor = before.floor;

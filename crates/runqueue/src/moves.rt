@@ -50,7 +50,9 @@ impl Runqueue {
 
     /// Who runs waits, rests or is gone. Where memory is wanted nothing changes.
     pub fn put_prev(&mut self, way: Way) -> Result<(), Memory>
-        ensures part { OnOk result ((prev : ℕ) → ((IsRunner (runqueue_view self.old) prev → ⊥) → ⊥) → runqueue_view self.new ≡ part_after_prev (runqueue_view self.old) prev way) }
+        ensures part { OnOk result
+            ((prev : ℕ) → ((IsRunner (runqueue_view self.old) prev → ⊥) → ⊥)
+            → runqueue_view self.new ≡ part_after_prev (runqueue_view self.old) prev way) }
         ensures nobody { OnOk result (NobodyIn (runqueue_view self.new) Run) }
         ensures same { OnErr result (HoldsSame self.old self.new) }
     {
@@ -73,7 +75,9 @@ impl Runqueue {
     /// Who runs waits. Where memory is wanted nothing changes.
     fn put_back(&mut self, runner: Task) -> Result<(), Memory>
         requires { self.old.runner ≡ Some runner }
-        ensures part { OnOk result ((prev : ℕ) → ((IsRunner (runqueue_view self.old) prev → ⊥) → ⊥) → runqueue_view self.new ≡ part_after_prev (runqueue_view self.old) prev Stays) }
+        ensures part { OnOk result
+            ((prev : ℕ) → ((IsRunner (runqueue_view self.old) prev → ⊥) → ⊥)
+            → runqueue_view self.new ≡ part_after_prev (runqueue_view self.old) prev Stays) }
         ensures nobody { OnOk result (NobodyIn (runqueue_view self.new) Run) }
         ensures same { OnErr result (HoldsSame self.old self.new) }
     {
@@ -91,7 +95,8 @@ impl Runqueue {
     /// Who runs rests.
     fn put_to_rest(&mut self, runner: Task)
         requires { self.old.runner ≡ Some runner }
-        ensures part { (prev : ℕ) → ((IsRunner (runqueue_view self.old) prev → ⊥) → ⊥) → runqueue_view self.new ≡ part_after_prev (runqueue_view self.old) prev Sleeps }
+        ensures part { (prev : ℕ) → ((IsRunner (runqueue_view self.old) prev → ⊥) → ⊥)
+            → runqueue_view self.new ≡ part_after_prev (runqueue_view self.old) prev Sleeps }
         ensures nobody { NobodyIn (runqueue_view self.new) Run }
     {
         let mut task = runner;
@@ -103,7 +108,8 @@ impl Runqueue {
     /// Who runs is gone.
     fn end(&mut self, runner: Task)
         requires { self.old.runner ≡ Some runner }
-        ensures part { (prev : ℕ) → ((IsRunner (runqueue_view self.old) prev → ⊥) → ⊥) → runqueue_view self.new ≡ part_after_prev (runqueue_view self.old) prev Ends }
+        ensures part { (prev : ℕ) → ((IsRunner (runqueue_view self.old) prev → ⊥) → ⊥)
+            → runqueue_view self.new ≡ part_after_prev (runqueue_view self.old) prev Ends }
         ensures nobody { NobodyIn (runqueue_view self.new) Run }
     {
         self.tasks.remove(&runner.pid);
@@ -170,7 +176,8 @@ impl Runqueue {
     pub fn add(&mut self, task: Task) -> Result<(), Memory>
         requires apart { (runqueue_view self.old).tasks task.pid ≡ None }
         requires alone { task.place ≡ Run → NobodyIn (runqueue_view self.old) Run }
-        ensures part { OnOk result (runqueue_view self.new ≡ with_entity (runqueue_view self.old) task.pid (Some (entity_of task))) }
+        ensures part { OnOk result
+            (runqueue_view self.new ≡ with_entity (runqueue_view self.old) task.pid (Some (entity_of task))) }
         ensures same { OnErr result (HoldsSame self.old self.new) }
     {
         self.tasks.insert(task.pid, task)?;

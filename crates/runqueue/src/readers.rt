@@ -37,7 +37,8 @@ impl Runqueue {
 
     /// The least virtual runtime of those who wait, once who runs has gone its way.
     pub fn least_after(&self, way: Way) -> Option<i64>
-        ensures { (prev : ℕ) → ((IsRunner (runqueue_view self.now) prev → ⊥) → ⊥) → IsLeastIfWaiting (part_after_prev (runqueue_view self.now) prev way) result }
+        ensures { (prev : ℕ) → ((IsRunner (runqueue_view self.now) prev → ⊥) → ⊥)
+            → IsLeastIfWaiting (part_after_prev (runqueue_view self.now) prev way) result }
     {
         match way {
             Way::Stays => self.least_queued(),

@@ -14,7 +14,9 @@ impl Runqueue {
     pub fn renice(&mut self, pid: u32, nice: Nice) -> Option<Nice>
         ensures before { result ≡ nice_listed self.old pid }
         ensures reniced { IsReniced pid nice self.old self.new }
-        ensures part { runqueue_view self.new ≡ with_entity (runqueue_view self.old) pid (option_map (λ (s : Entity). record s { nice = nice }) ((runqueue_view self.old).tasks pid)) }
+        ensures part { runqueue_view self.new
+            ≡ with_entity (runqueue_view self.old) pid
+            (option_map (λ (s : Entity). record s { nice = nice }) ((runqueue_view self.old).tasks pid)) }
         ensures strange { result ≡ None → (runqueue_view self.old).tasks pid ≡ None }
         ensures stands { result ≢ None → (runqueue_view self.old).tasks pid ≢ None }
     {

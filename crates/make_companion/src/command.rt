@@ -49,18 +49,17 @@ fn command<'a>(alloc: Global) -> Result<Command<'a>, AllocError> {
                     "How tasks are placed: low, high, picked, level, or best, which tries all [default: best]",
                 ),
         )?
-        .arg(option_of(alloc, Setting::Credit))?
-        .arg(option_of(alloc, Setting::Debit))
+        .arg(setting(alloc, Setting::Credit.name(), Setting::Credit.help()))?
+        .arg(setting(alloc, Setting::Debit.name(), Setting::Debit.help()))
 }
 
-/// A setting's option, as the auditor has it.
-fn option_of<'a>(alloc: Global, setting: Setting) -> Arg<'a> {
-    let name = setting.name();
-    Arg::new(alloc, name)
-        .long(name)
+/// An option with a number of nanoseconds.
+fn setting<'a>(alloc: Global, id: &'a str, help: &'a str) -> Arg<'a> {
+    Arg::new(alloc, id)
+        .long(id)
         .value_name("N")
         .value_parser(value_parser!(u64).range(0..=GREATEST_SETTING as i64))
-        .help(setting.help())
+        .help(help)
 }
 
 /// The name and the wishes that the values are; None where one has no sense.

@@ -4,12 +4,12 @@ ghost use Rattle.std.specs.Bool.{OnTrue};
 ghost use Rattle.std.specs.Prelude.{◌≡◌, IfOk, IfSome, None, false, map};
 ghost use Rattle.clap.specs.Walk.{first_of};
 ghost use Rattle.clap.specs.Words.{app_of, found_of, rows_of, rule_of};
-ghost use Rattle.cfs_model.specs.Settings.{AreInRange, all_settings, settings_by};
+ghost use Rattle.cfs_model.specs.Settings.{AreInRange};
 ghost use Rattle.sched_audit.specs.CommandLine.{HasNoSetting, IsAskedBy, IsRequestOf, audit_app, flag_rule, is_flagged};
-ghost use Rattle.sched_audit.specs.CommandLine.{lone_flag_rule, name_rule, setting_rule, setting_told, with_settings};
+ghost use Rattle.sched_audit.specs.CommandLine.{lone_flag_rule, name_rule, setting_of, setting_rule, settings_of};
 
 use crate::Request;
-use cfs_model::{GREATEST_SETTING, Knobs, Setting};
+use cfs_model::{GREATEST_SETTING, Knobs};
 use clap::error::ErrorKind;
 use clap::{Arg, ArgAction, ArgMatches, Command, Error, value_parser};
 use std::alloc::{AllocError, Global};
@@ -31,11 +31,11 @@ pub fn command_line<'a, S: AsStr>(alloc: Global, words: &'a [S]) -> Result<Reque
     }
 }
 
-/// The two names, the settings, the two flags, and what clap adds: help and the version.
+/// The two names, the four settings, the two flags, and what clap adds: help and the version.
 fn command<'a>(alloc: Global) -> Result<Command<'a>, AllocError>
     ensures { IfOk result (λ command. app_of command ≡ audit_app) }
 {
-    let names = Command::new(alloc, "sched_audit")
+    Command::new(alloc, "sched_audit")
         .version("0.1.0")
         .about("Judges a recorded CFS schedule: a run, or its first fault")
         .bin_name("sched_audit")?
@@ -44,8 +44,27 @@ fn command<'a>(alloc: Global) -> Result<Command<'a>, AllocError>
             alloc,
             "COMPANION",
             "The start, and the claimed virtual runtimes",
-        ))?;
-    with_settings(alloc, names)?
+        ))?
+        .arg(setting(
+            alloc,
+            "granularity-ns",
+            "How far above the least a picked task may be [default: 1000000]",
+        ))?
+        .arg(setting(
+            alloc,
+            "credit-ns",
+            "How far below the floor a woken task may be placed [default: 3000000]",
+        ))?
+        .arg(setting(
+            alloc,
+            "debit-ns",
+            "How far above the floor a new task may be placed [default: 3000000]",
+        ))?
+        .arg(setting(
+            alloc,
+            "slack-ns",
+            "How long a processor may idle beside a waiting task [default: 100000]",
+        ))?
         .arg(lone_flag(
             alloc,
             "least",
@@ -58,17 +77,6 @@ fn command<'a>(alloc: Global) -> Result<Command<'a>, AllocError>
         ))
 }
 
-/// The command with an option for each setting.
-fn with_settings<'a>(alloc: Global, command: Command<'a>) -> Result<Command<'a>, AllocError>
-    ensures { IfOk result (λ more. app_of more ≡ with_settings all_settings (app_of command.entry)) }
-{
-    let mut command = command;
-    for setting in Setting::ALL.iter() {
-        command = command.arg(option_of(alloc, *setting))?;
-    }
-    Ok(command)
-}
-
 /// A file's name, which has to be there.
 fn name<'a>(alloc: Global, id: &'a str, help: &'a str) -> Arg<'a>
     ensures rule { rule_of result ≡ name_rule id.now }
@@ -77,17 +85,16 @@ fn name<'a>(alloc: Global, id: &'a str, help: &'a str) -> Arg<'a>
     Arg::new(alloc, id).required(true).help(help)
 }
 
-/// A setting's option, with a number of nanoseconds.
-fn option_of<'a>(alloc: Global, setting: Setting) -> Arg<'a>
-    ensures rule { rule_of result ≡ setting_rule setting }
+/// An option with a number of nanoseconds.
+fn setting<'a>(alloc: Global, id: &'a str, help: &'a str) -> Arg<'a>
+    ensures rule { rule_of result ≡ setting_rule id.now }
     ensures local { result.global ≡ false }
 {
-    let name = setting.name();
-    Arg::new(alloc, name)
-        .long(name)
+    Arg::new(alloc, id)
+        .long(id)
         .value_name("N")
         .value_parser(value_parser!(u64).range(0..=GREATEST_SETTING as i64))
-        .help(setting.help())
+        .help(help)
 }
 
 /// An option without a value.
@@ -106,11 +113,11 @@ fn lone_flag<'a>(alloc: Global, id: &'a str, help: &'a str) -> Result<Arg<'a>, A
     ensures rule { IfOk result (λ flag. rule_of flag ≡ lone_flag_rule id.now) }
     ensures local { IfOk result (λ flag. flag.global ≡ false) }
 {
-    let mut flag = flag(alloc, id, help);
-    for setting in Setting::ALL.iter() {
-        flag = flag.conflicts_with(setting.name())?;
-    }
-    Ok(flag)
+    flag(alloc, id, help)
+        .conflicts_with("granularity-ns")?
+        .conflicts_with("credit-ns")?
+        .conflicts_with("debit-ns")?
+        .conflicts_with("slack-ns")
 }
 
 /// The names, the settings and the flags that the values are; None where one has no sense, or where a setting is given
@@ -135,12 +142,10 @@ fn request_of<'a>(matches: &ArgMatches<'a>) -> Option<Request<'a>>
 fn has_no_setting(matches: &ArgMatches<'_>) -> bool
     ensures { OnTrue result (HasNoSetting (rows_of (found_of matches.now))) }
 {
-    for setting in Setting::ALL.iter() {
-        if !is_absent(matches, setting.name()) {
-            return false;
-        }
-    }
-    true
+    is_absent(matches, "granularity-ns")
+        && is_absent(matches, "credit-ns")
+        && is_absent(matches, "debit-ns")
+        && is_absent(matches, "slack-ns")
 }
 
 /// Whether an option isn't given.
@@ -152,23 +157,24 @@ fn is_absent(matches: &ArgMatches<'_>, id: &str) -> bool
 
 /// The settings that the values are; None where one has no sense.
 fn knobs_of(matches: &ArgMatches<'_>) -> Option<Knobs>
-    ensures same { IfSome result (λ knobs. knobs ≡ settings_by (setting_told (rows_of (found_of matches.now)))) }
-    ensures in_range { IfSome result (λ _. AreInRange (settings_by (setting_told (rows_of (found_of matches.now))))) }
+    ensures same { IfSome result (λ knobs. knobs ≡ settings_of (rows_of (found_of matches.now))) }
+    ensures in_range { IfSome result (λ _. AreInRange (settings_of (rows_of (found_of matches.now)))) }
 {
+    let standard = Knobs::standard();
     Knobs::new(
-        number_of(matches, Setting::Granularity)?,
-        number_of(matches, Setting::Credit)?,
-        number_of(matches, Setting::Debit)?,
-        number_of(matches, Setting::Slack)?,
+        number_of(matches, "granularity-ns", standard.granularity())?,
+        number_of(matches, "credit-ns", standard.credit())?,
+        number_of(matches, "debit-ns", standard.debit())?,
+        number_of(matches, "slack-ns", standard.slack())?,
     )
 }
 
-/// A setting's number, or its default where the option isn't given; None where it is no number.
-fn number_of(matches: &ArgMatches<'_>, setting: Setting) -> Option<u64>
-    ensures { IfSome result (λ number. number ≡ setting_told (rows_of (found_of matches.now)) setting) }
+/// An option's number, or this where it isn't given; None where it is no number.
+fn number_of(matches: &ArgMatches<'_>, id: &str, default: u64) -> Option<u64>
+    ensures { IfSome result (λ number. number ≡ setting_of id.now default (rows_of (found_of matches.now))) }
 {
-    match matches.try_get_one::<u64>(setting.name()) {
-        Ok(number) => Some(number.unwrap_or(setting.standard())),
+    match matches.try_get_one::<u64>(id) {
+        Ok(number) => Some(number.unwrap_or(default)),
         Err(_) => None,
     }
 }

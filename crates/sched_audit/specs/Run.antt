@@ -50,24 +50,24 @@ pub record PassesOn (old new : TraceReader) (text bytes : List ℕ) (held : Held
   pub passes : PassesWhole old new text line
 
 -- the outcome is that of the bytes that the two inputs still gave
-pub record IsOutcomeOf {J : Type 0} (is_of : RecordView → J → Type 0) (trace companion : Option (List ℕ)) (outcome : Outcome J)
-    : Type 0 where
+pub record IsOutcomeOf {J : Type 0} (is_of : RecordView → J → Type 0) (trace companion : Option (List ℕ))
+    (outcome : Outcome J) : Type 0 where
   pub trace_bytes : List ℕ
   pub companion_bytes : List ℕ
   pub trace_whole : Agrees trace trace_bytes
   pub companion_whole : Agrees companion companion_bytes
   pub answer : OutcomeAnswer is_of trace_bytes companion_bytes outcome
 
--- what is kept of two inputs beside their outcome: the record that was judged, or the companion's bytes, where a text was
--- refused
+-- what is kept of two inputs beside their outcome: the record that was judged, or the companion's bytes, where a text
+-- was refused
 abbrev pub IsKept : {J : Type 0} → (RecordView → J → Type 0) → Option (List ℕ) → Outcome J → Kept → Type 0
 IsKept is_of companion (Judged judged) (Record joined) = is_of (record_view joined) judged
 IsKept is_of companion (Text source line cause) (Companion bytes) = Agrees companion bytes.items
 IsKept is_of companion (Judged judged) (Companion bytes) = ⊥
 IsKept is_of companion (Text source line cause) (Record joined) = ⊥
 
--- of an input: the bytes that it gave from the call's beginning on and those that it has left, where they are known; the reads
--- made of it, whether one failed, and whether it has ended
+-- of an input: the bytes that it gave from the call's beginning on and those that it has left, where they are known; the
+-- reads made of it, whether one failed, and whether it has ended
 pub record Input : Type 0 where
   pub gave : Option (List ℕ)
   pub left : Option (List ℕ)
@@ -79,8 +79,8 @@ abbrev pub input_of : Option (List ℕ) → Option (List ℕ) → ℕ → Bool �
 input_of gave left calls has_failed has_ended =
     record { gave = gave; left = left; calls = calls; has_failed = has_failed; has_ended = has_ended }
 
--- of an output: the bytes that it had taken before and those that it has taken, where they are known, and whether a write
--- failed or took no byte of some
+-- of an output: the bytes that it had taken before and those that it has taken, where they are known, and whether a
+-- write failed or took no byte of some
 pub record Output : Type 0 where
   pub before : Option (List ℕ)
   pub taken : Option (List ℕ)
@@ -91,7 +91,8 @@ output_of before taken has_failed = record { before = before; taken = taken; has
 
 -- how two inputs are read
 pub record Reads {A : Type 0} (trace companion : Input) (result : Result A Fault) : Type 0 where
-  -- where no fault is answered both were read to their ends, a refused trace and its companion too: nothing is left of them
+  -- where no fault is answered both were read to their ends, a refused trace and its companion too: nothing is left of
+  -- them
   pub ended : OnOk result ((trace.has_ended ≡ true) × (companion.has_ended ≡ true))
   pub left : OnOk result (IsAtEnd trace.left × IsAtEnd companion.left)
   -- and no read failed
@@ -108,8 +109,8 @@ pub record Reads {A : Type 0} (trace companion : Input) (result : Result A Fault
 -- what a run over two inputs writes to an output, and what it answers, by what it judges of their record
 pub record Runs {J : Type 0} (is_of : RecordView → J → Type 0) (lines : J → List ℕ) (fault_of : J → Option FirstFault)
     (trace companion : Input) (out : Output) (result : Result Status Fault) : Type 0 where
-  -- where a status is answered, the report of the two inputs' outcome was written and nothing else, and the status is that
-  -- outcome's
+  -- where a status is answered, the report of the two inputs' outcome was written and nothing else, and the status is
+  -- that outcome's
   pub answered : IfOk result (λ status. (outcome : Outcome J) × IsOutcomeOf is_of trace.gave companion.gave outcome
       × Appends out.before out.taken (report_of lines outcome) × (status ≡ status_of fault_of outcome))
   pub reads : Reads trace companion result

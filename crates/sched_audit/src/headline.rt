@@ -46,9 +46,10 @@ pub fn run<R: Threads + Wait + Sync, T: Feed, C: Feed, G: Gate, S: Sink>(
     requires out { S.has_failed out.old ≡ false }
     // The report of the verdict on the two inputs, or of a refusal, was written, and else it is told why not.
     ensures { Runs (IsVerdict knobs) verdict_lines verdict_fault
-        (input_of (T.left trace.old) (T.left trace.new) (T.calls trace.new) (T.has_failed trace.new) (T.has_ended trace.new))
-        (input_of (C.left companion.old) (C.left companion.new) (C.calls companion.new) (C.has_failed companion.new)
-        (C.has_ended companion.new)) (output_of (S.taken out.old) (S.taken out.new) (S.has_failed out.new)) result }
+        (input_of (T.left trace.old) (T.left trace.new) (T.calls trace.new) (T.has_failed trace.new)
+        (T.has_ended trace.new)) (input_of (C.left companion.old) (C.left companion.new) (C.calls companion.new)
+        (C.has_failed companion.new) (C.has_ended companion.new))
+        (output_of (S.taken out.old) (S.taken out.new) (S.has_failed out.new)) result }
 {
     run_judged::<Verdict, _, _, _, _, _>(rt, alloc, trace, companion, knobs, gate, out)
 }
@@ -80,9 +81,10 @@ pub fn run_least<R: Threads + Wait + Sync, T: Feed, C: Feed, G: Gate, S: Sink>(
     requires companion { C.calls companion.old ≡ 0 }
     requires out { S.has_failed out.old ≡ false }
     ensures { Runs IsLeastAnswer least_lines least_fault
-        (input_of (T.left trace.old) (T.left trace.new) (T.calls trace.new) (T.has_failed trace.new) (T.has_ended trace.new))
-        (input_of (C.left companion.old) (C.left companion.new) (C.calls companion.new) (C.has_failed companion.new)
-        (C.has_ended companion.new)) (output_of (S.taken out.old) (S.taken out.new) (S.has_failed out.new)) result }
+        (input_of (T.left trace.old) (T.left trace.new) (T.calls trace.new) (T.has_failed trace.new)
+        (T.has_ended trace.new)) (input_of (C.left companion.old) (C.left companion.new) (C.calls companion.new)
+        (C.has_failed companion.new) (C.has_ended companion.new))
+        (output_of (S.taken out.old) (S.taken out.new) (S.has_failed out.new)) result }
 {
     let knobs = Knobs::greatest();
     run_judged::<LeastSettings, _, _, _, _, _>(rt, alloc, trace, companion, knobs, gate, out)

@@ -56,9 +56,10 @@ pub(crate) fn run_judged<
     requires companion { C.calls companion.old ≡ 0 }
     requires out { S.has_failed out.old ≡ false }
     ensures { Runs (J.is_of knobs) J.lines J.fault
-        (input_of (T.left trace.old) (T.left trace.new) (T.calls trace.new) (T.has_failed trace.new) (T.has_ended trace.new))
-        (input_of (C.left companion.old) (C.left companion.new) (C.calls companion.new) (C.has_failed companion.new)
-        (C.has_ended companion.new)) (output_of (S.taken out.old) (S.taken out.new) (S.has_failed out.new)) result }
+        (input_of (T.left trace.old) (T.left trace.new) (T.calls trace.new) (T.has_failed trace.new)
+        (T.has_ended trace.new)) (input_of (C.left companion.old) (C.left companion.new) (C.calls companion.new)
+        (C.has_failed companion.new) (C.has_ended companion.new))
+        (output_of (S.taken out.old) (S.taken out.new) (S.has_failed out.new)) result }
 {
     let hearing: Hearing<J> = judge(rt, alloc, trace, companion, knobs, gate)?;
     let Hearing { outcome, kept } = hearing;
@@ -82,9 +83,9 @@ pub fn judge<J: Judgement, R: Threads + Wait + Sync, T: Feed, C: Feed, G: Gate>(
     ensures outcome { IfOk result (λ hearing.
         IsOutcomeOf (J.is_of knobs) (T.left trace.old) (C.left companion.old) hearing.outcome) }
     ensures reads { Reads
-        (input_of (T.left trace.old) (T.left trace.new) (T.calls trace.new) (T.has_failed trace.new) (T.has_ended trace.new))
-        (input_of (C.left companion.old) (C.left companion.new) (C.calls companion.new) (C.has_failed companion.new)
-        (C.has_ended companion.new)) result }
+        (input_of (T.left trace.old) (T.left trace.new) (T.calls trace.new) (T.has_failed trace.new)
+        (T.has_ended trace.new)) (input_of (C.left companion.old) (C.left companion.new) (C.calls companion.new)
+        (C.has_failed companion.new) (C.has_ended companion.new)) result }
     ensures kept { IfOk result (λ hearing. IsKept (J.is_of knobs) (C.left companion.old) hearing.outcome hearing.kept) }
     ensures unwritten { IfErr result (λ fault. fault ≢ Fault.Write) }
 {

@@ -49,8 +49,16 @@ fn command<'a>(alloc: Global) -> Result<Command<'a>, AllocError> {
                     "How tasks are placed: low, high, picked, level, or best, which tries all [default: best]",
                 ),
         )?
-        .arg(setting(alloc, Setting::Credit.name(), Setting::Credit.help()))?
-        .arg(setting(alloc, Setting::Debit.name(), Setting::Debit.help()))
+        .arg(setting(
+            alloc,
+            "credit-ns",
+            "How far below the floor a woken task may be placed [default: 3000000]",
+        ))?
+        .arg(setting(
+            alloc,
+            "debit-ns",
+            "How far above the floor a new task may be placed [default: 3000000]",
+        ))
 }
 
 /// An option with a number of nanoseconds.

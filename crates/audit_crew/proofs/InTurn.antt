@@ -1,5 +1,6 @@
 -- The whole pages of a record's processors, posted in turn: each finds its place empty, and none is made again.
-use Rattle.std.proofs.Common.{◌≡◌, ◌≢◌, ℕ, zero, suc, ◌+◌, ◌<◌, ◌≤◌, ◌⊎◌, inl, inr, List, [], ◌∷◌, length, set, replicate, Option, Some, None, Result, Ok, Err, sym, ap, ◌∙◌, subst, arith}
+use Rattle.std.proofs.Common.{◌≡◌, ◌≢◌, ℕ, zero, suc, ◌+◌, ◌<◌, ◌≤◌, ◌⊎◌, inl, inr, List, [], ◌∷◌, length, set}
+use Rattle.std.proofs.Common.{replicate, Option, Some, None, Result, Ok, Err, sym, ap, ◌∙◌, subst, arith}
 use Rattle.std.specs.Prelude.{OnOk}
 use Rattle.std.proofs.lemmas.Bool.{cases_eq, cases_lt}
 use Rattle.std.proofs.lemmas.List.{get_or-set_same, get_or-set_other, length-replicate, length-set}
@@ -46,7 +47,8 @@ taken (place ∷ places) zero h e = ap (λ (p : Option ReplayView). refusal_at (
 taken (place ∷ places) (suc cpu) h e = taken places cpu (omega arith) e
 
 -- so that the next page is posted
-pub one_more_page : (knobs : Settings) (r : RecordView) (places after : List (Option ReplayView)) (cpu : ℕ) (page : ReplayView)
+pub one_more_page : (knobs : Settings) (r : RecordView) (places after : List (Option ReplayView)) (cpu : ℕ)
+    (page : ReplayView)
     (answer : Result ℕ (ReplayView × PostFault)) → AreFirst knobs r places cpu → cpu < r.cpus
     → IsWholePageOf knobs r cpu page → refusal_in answer ≡ post_refusal places page.stream.cpu
     → OnOk answer (after ≡ set places page.stream.cpu (Some page)) → AreFirst knobs r after (cpu + 1)
@@ -94,7 +96,8 @@ one_more_page knobs r places after cpu page answer first within whole refused ad
     go (Err back) refused added = absurd (none-some back.1 (sym (refused ∙ accepted)))
 
 -- so all pages are the record's own
-pub first_are_own : (knobs : Settings) (r : RecordView) (places : List (Option ReplayView)) → AreFirst knobs r places r.cpus
+pub first_are_own : (knobs : Settings) (r : RecordView) (places : List (Option ReplayView))
+    → AreFirst knobs r places r.cpus
     → AreOwn knobs r places
 first_are_own knobs r places all cpu page e = go (cases_lt cpu r.cpus)
   where

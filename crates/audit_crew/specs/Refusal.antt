@@ -8,8 +8,8 @@ use Rattle.audit_crew.specs.Tags.{tag_of}
 use Rattle.audit_crew.specs.declared.auditor_fault.AuditorFault.{AuditorFault}
 use Rattle.audit_crew.specs.declared.auditor_fault.AuditorFault.TheVariants.{Memory, Refused}
 
--- the shelf's last refusal, by the fault of the auditor of a stream: none where memory was wanted; else that of the page
--- that came back, which is of that stream
+-- the shelf's last refusal, by the fault of the auditor of a stream: none where memory was wanted; else that of the
+-- page that came back, which is of that stream
 abbrev pub IsToldBy : Option (Tag × PostFault) → StreamView → Settings → AuditorFault → Type 0
 IsToldBy refusal stream knobs Memory = refusal ≡ None
 IsToldBy refusal stream knobs (Refused page fault) =

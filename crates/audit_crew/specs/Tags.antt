@@ -46,8 +46,8 @@ pub record IsStoppedAt (stream : StreamView) (knobs : Settings) (told line : ℕ
   pub passes : IsFaultless stream knobs (place + 1)
   pub past : told ≤ line
 
--- how far an auditor goes in the replay of a stream, where a line was told to it last: to the replay's first fault, or to
--- its end, or to a line that isn't before the one told
+-- how far an auditor goes in the replay of a stream, where a line was told to it last: to the replay's first fault, or
+-- to its end, or to a line that isn't before the one told
 abbrev pub IsReachOf : StreamView → Settings → ℕ → Reached → Type 0
 IsReachOf stream knobs told (Faulted line) = IsFaultyAt stream knobs line
 IsReachOf stream knobs told Done = IsFaultless stream knobs (length stream.steps)

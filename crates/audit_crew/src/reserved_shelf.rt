@@ -8,8 +8,8 @@ use crate::Shelf;
 use queue_replay::Page;
 use ticket_book::PostFault;
 
-/// A shelf that may be kept for some pages alone, as a crew's is for the record's own. Its laws are those of `Shelf`, for
-/// the pages that it takes.
+/// A shelf that may be kept for some pages alone, as a crew's is for the record's own. Its laws are those of `Shelf`,
+/// for the pages that it takes.
 pub(crate) trait ReservedShelf {
     /// The tags of the pages that were accepted through it.
     ghost accepted: { Self → List Tag };

@@ -48,8 +48,8 @@ impl<L: CrewLedger> Seat<L> {
         }
     }
 
-    /// Deals the stream of a processor of the record, and runs its auditor for one stretch, or to its end where no step is
-    /// left then.
+    /// Deals the stream of a processor of the record, and runs its auditor for one stretch, or to its end where no step
+    /// is left then.
     pub(crate) fn begin<R: Wait, G: Gate>(
         &mut self,
         rt: &R,

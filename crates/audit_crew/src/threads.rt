@@ -34,10 +34,10 @@ pub fn audit<R: Threads + Wait + Sync, G: Gate>(
         .close_own(joined, knobs)
 }
 
-/// Audits each processor of a record in a thread of its own, all at once, and gathers their pages in one book. No auditor
-/// makes a second stretch before each has made its first: else one whose stream is dealt early would replay most of it
-/// before another could tell of a fault near the beginning. Where a thread can't be started its auditor runs in another,
-/// after that one's own.
+/// Audits each processor of a record in a thread of its own, all at once, and gathers their pages in one book. No
+/// auditor makes a second stretch before each has made its first: else one whose stream is dealt early would replay
+/// most of it before another could tell of a fault near the beginning. Where a thread can't be started its auditor runs
+/// in another, after that one's own.
 pub fn crew<R: Threads + Wait + Sync, G: Gate>(
     rt: &R,
     alloc: Global,

@@ -62,10 +62,12 @@ impl Underway {
         requires accepted { S.accepted shelf.old ≡ [] }
         requires refused { S.refused shelf.old ≡ None }
         requires taken { AreTaken S.takes self.replay.stream self.replay.knobs }
-        ensures posted { OnOk result (IsOneTag self.replay.stream self.replay.knobs (S.told shelf.new) (S.accepted shelf.new)) }
+        ensures posted { OnOk result (IsOneTag self.replay.stream self.replay.knobs (S.told shelf.new)
+            (S.accepted shelf.new)) }
         ensures none_refused { OnOk result (S.refused shelf.new ≡ None) }
         ensures kept { OnErr result (S.accepted shelf.new ≡ S.accepted shelf.old) }
-        ensures fault { IfErr result (λ fault. IsToldBy (S.refused shelf.new) self.replay.stream self.replay.knobs fault) }
+        ensures fault { IfErr result (λ fault. IsToldBy
+            (S.refused shelf.new) self.replay.stream self.replay.knobs fault) }
     {
         let Underway {
             cpu,
@@ -91,8 +93,8 @@ fn before_steps(alloc: Global, stream: Stream, knobs: Knobs) -> Result<Replay, M
     }
 }
 
-/// Makes the steps that are left of a processor's replay, in stretches before which it asks the shelf and after which it
-/// enters the gate, until none is left, one fails, or the last is on the line that the shelf told or past it.
+/// Makes the steps that are left of a processor's replay, in stretches before which it asks the shelf and after which
+/// it enters the gate, until none is left, one fails, or the last is on the line that the shelf told or past it.
 fn go_through<S: ReservedShelf, G: Gate>(
     replay: &mut Replay,
     state: State,

@@ -1,5 +1,5 @@
-//! Runs between ends of these tests, by one function that promises nothing: what the clauses of `run` say stands before no
-//! test, which is then proved in seconds.
+//! Runs between ends of these tests, by one function that promises nothing: what the clauses of `run` say stands before
+//! no test, which is then proved in seconds.
 
 use crate::ends::{Narrow, Pieces, Room};
 use cfs_model::Knobs;

@@ -368,10 +368,11 @@ shape_taken version line y e =
             | inl p ↦ moved version (codes "floor") line p.0 y p.1 refl (floor_found version p.0 y p.2)
             | inr i ↦ elim (tried (nice_shape_at version) (after_text (codes "nice ") line) _ y i) [
               | inl p ↦ moved version (codes "nice") line p.0 y p.1 refl (nice_found version p.0 y p.2)
-              | inr j ↦ elim (tried (idle_shape_at version) (after_text (codes "idle ") line) (front_shape_at line) y j) [
-                | inl p ↦ moved version (codes "idle") line p.0 y p.1 refl (idle_found version p.0 y p.2)
-                | inr l ↦ front_found version line y l
-              ]
+              | inr j ↦ elim (tried (idle_shape_at version) (after_text (codes "idle ") line)
+                  (front_shape_at line) y j) [
+                    | inl p ↦ moved version (codes "idle") line p.0 y p.1 refl (idle_found version p.0 y p.2)
+                    | inr l ↦ front_found version line y l
+                  ]
             ]
           ]
         ]

@@ -20,7 +20,17 @@ pub struct Companion {
     idles: Idles,
     // Room that joining fills: where the policy of each idle line ends.
     spans: IdleSpans,
-    pub ghost in_order: { IsCompanionInOrder (record { cpus = cpus; start = start; floors = floors; tasks = tasks; claims = claims; nices = nices; idles = idles }) },
+    pub ghost in_order: { IsCompanionInOrder
+        (record {
+          cpus = cpus;
+          start = start;
+          floors = floors;
+          tasks = tasks;
+          claims = claims;
+          nices = nices;
+          idles =
+              idles;
+        }) },
     pub ghost spans_told: { AreSpansOf idles spans },
 }
 

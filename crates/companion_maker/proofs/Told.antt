@@ -12,6 +12,7 @@ pub same_events : (a b : List Entry) → ◌≡◌ {A = Result (List Entry) (ℕ
 same_events a b e = cc
 
 -- it is refused for want of memory alone
-pub only_memory : (fault : TraceFault) (events : List Entry) → Tells (Err fault) (λ told. told ≡ Ok events) → reason_of fault ≡ reasons.Memory
+pub only_memory : (fault : TraceFault) (events : List Entry) → Tells (Err fault) (λ told. told ≡ Ok events)
+    → reason_of fault ≡ reasons.Memory
 only_memory (faults.Text line cause) events told = absurd cc
 only_memory faults.Memory events told = refl

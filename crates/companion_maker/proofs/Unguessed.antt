@@ -1,6 +1,7 @@
 -- The plain companion is read, and joins with every trace whose processors it has: its first three lines and then one
 -- floor after another, each good after those before it.
-use Rattle.std.proofs.Common.{length-append, ◌≡◌, ℕ, ◌+◌, ◌<◌, ◌≤◌, Bool, true, false, ◌&&◌, List, [], ◌∷◌, ◌++◌, length, map, Some, None, Ok, refl, sym, ap, subst, ◌∙◌, inl, inr, arith, codes}
+use Rattle.std.proofs.Common.{length-append, ◌≡◌, ℕ, ◌+◌, ◌<◌, ◌≤◌, Bool, true, false, ◌&&◌, List, [], ◌∷◌, ◌++◌}
+use Rattle.std.proofs.Common.{length, map, Some, None, Ok, refl, sym, ap, subst, ◌∙◌, inl, inr, arith, codes}
 use Rattle.std.specs.Prelude.{ℤ, pos, All, MatchOption, nat_lt, ◌==◌}
 use Rattle.std.specs.List.{list_all}
 use Rattle.std.proofs.lemmas.Bool.{ltb-true, lt-ltb, eqb-true, eq-eqb, ne_eqb}
@@ -50,7 +51,11 @@ number_stood_for word n e =
     let rest = and_right (nat_lt 0 (length word)) _ e in
     let all = and_left (list_all is_digit word) _ rest in
     let value = and_right (list_all is_digit word) _ rest in
-    record { digits = record { some = ltb-true 0 (length word) some; all = all }; value = sym (eqb-true (value_of word) n value) }
+    record {
+      digits = record { some = ltb-true 0 (length word) some; all = all };
+      value =
+          sym (eqb-true (value_of word) n value);
+    }
 
 -- the first three lines were said, and so many floors
 record IsBegun (said : Said) (cpu : ℕ) : Type 0 where
@@ -89,7 +94,8 @@ not_control line other (inl e) = other (ap first_byte e) (ap second_byte e)
 not_control line other (inr p) = other (ap first_byte p.1) (ap second_byte p.1)
 
 floor_no_group : (word : List ℕ) → ¬ IsControlGroup (floor_text word)
-floor_no_group word group = not_control (floor_text word) (λ e f. let no : 102 ≡ 99 = e in absurd (omega (arith, no))) group
+floor_no_group word group = not_control (floor_text word) (λ e f. let no : 102 ≡ 99 = e in
+    absurd (omega (arith, no))) group
 
 zero_number : IsNumber (codes "0") 0
 zero_number = record { digits = record { some = omega arith; all = refl }; value = refl }
@@ -98,17 +104,28 @@ floor_spelled : (word : List ℕ) (cpu : ℕ) → IsNumber word cpu → IsSpelle
 floor_spelled word cpu number = (word, codes "0", number, inl (0, zero_number, refl), refl)
 
 -- a line that is spelled so, and passes the tests, is good
-judged_good : (said : Said) (line : List ℕ) (x : Shape) → said.version ≡ Some 2 → ¬ IsControlGroup line → IsSpelled 2 line x → fault_of said x ≡ None → IsJudged said line (Ok x)
+judged_good : (said : Said) (line : List ℕ) (x : Shape) → said.version ≡ Some 2 → ¬ IsControlGroup line
+    → IsSpelled 2 line x → fault_of said x ≡ None → IsJudged said line (Ok x)
 judged_good said line x begun plain spelled passed =
     let ok : Ok x ≡ tested said x = rw passed refl in
-    subst (λ o. MatchOption o (IsJudgedFirst line (Ok x)) (λ v. IsJudgedLater v said line (Ok x))) (sym begun) (inr (inr (plain, (x, spelled, ok))))
+    subst (λ o. MatchOption o (IsJudgedFirst line (Ok x)) (λ v. IsJudgedLater v said line (Ok x))) (sym begun)
+    (inr (inr (plain, (x, spelled, ok))))
 
-begun_on : (earlier : List Shape) (cpu : ℕ) → IsBegun (summed earlier) cpu → IsBegun (summed (earlier ++ floor_line cpu (pos 0) ∷ [])) (cpu + 1)
+begun_on : (earlier : List Shape) (cpu : ℕ) → IsBegun (summed earlier) cpu
+    → IsBegun (summed (earlier ++ floor_line cpu (pos 0) ∷ [])) (cpu + 1)
 begun_on earlier cpu begun =
     subst (λ said. IsBegun said (cpu + 1)) (sym (summed-push earlier (floor_line cpu (pos 0))))
-    (record { version_is = begun.version_is; cpus_is = begun.cpus_is; start_is = begun.start_is; floors_are = length-append (summed earlier).floors (pos 0 ∷ []) ∙ ap (λ n. n + 1) begun.floors_are })
+    (record {
+      version_is = begun.version_is;
+      cpus_is = begun.cpus_is;
+      start_is = begun.start_is;
+      floors_are =
+          length-append (summed earlier).floors (pos 0 ∷ []) ∙ ap (λ n. n + 1) begun.floors_are;
+    })
 
-floors_good : (words : List (List ℕ)) (earlier : List Shape) (cpu : ℕ) → stand_from cpu words ≡ true → cpu + length words ≡ 64 → IsBegun (summed earlier) cpu → AreGood earlier (map floor_text words) (with_floors earlier cpu words)
+floors_good : (words : List (List ℕ)) (earlier : List Shape) (cpu : ℕ) → stand_from cpu words ≡ true
+    → cpu + length words ≡ 64 → IsBegun (summed earlier) cpu
+    → AreGood earlier (map floor_text words) (with_floors earlier cpu words)
 floors_good [] earlier cpu counted all begun = refl
 floors_good (word ∷ words) earlier cpu counted all begun =
     let number = number_stood_for word cpu (and_left (stands_for word cpu) _ counted) in
@@ -118,8 +135,10 @@ floors_good (word ∷ words) earlier cpu counted all begun =
       no_comment word,
       (
         x,
-        judged_good (summed earlier) (floor_text word) x begun.version_is (floor_no_group word) (floor_spelled word cpu number) passed,
-        floors_good words (earlier ++ x ∷ []) (cpu + 1) (and_right (stands_for word cpu) _ counted) (omega (arith, all)) (begun_on earlier cpu begun),
+        judged_good (summed earlier) (floor_text word) x begun.version_is (floor_no_group word)
+            (floor_spelled word cpu number) passed,
+        floors_good words (earlier ++ x ∷ []) (cpu + 1) (and_right (stands_for word cpu) _ counted) (omega (arith, all))
+            (begun_on earlier cpu begun),
       ),
     )
 
@@ -132,12 +151,23 @@ abbrev said_lines : List Shape
 said_lines = with_floors front 0 floor_words
 
 floors_all : AreGood front (map floor_text floor_words) said_lines
-floors_all = floors_good floor_words front 0 refl refl (record { version_is = refl; cpus_is = refl; start_is = refl; floors_are = refl })
+floors_all = floors_good floor_words front 0 refl refl
+    (record { version_is = refl; cpus_is = refl; start_is = refl; floors_are = refl })
 
 start_spelled : IsSpelled 2 (codes "start 0.000000") (start_line 0 0)
 start_spelled = (
   codes "0.000000",
-  record { whole_digits = codes "0"; whole_numeral = record { some = omega arith; all = refl }; whole_value = refl; fraction_digits = codes "000000"; fraction_numeral = record { some = omega arith; all = refl }; fraction_value = inl (refl, refl); whole = refl },
+  record {
+    whole_digits = codes "0";
+    whole_numeral = record { some = omega arith; all = refl };
+    whole_value =
+        refl;
+    fraction_digits = codes "000000";
+    fraction_numeral =
+        record { some = omega arith; all = refl };
+    fraction_value = inl (refl, refl);
+    whole = refl;
+  },
   refl,
 )
 
@@ -162,12 +192,14 @@ plain_good =
           (λ comment. absurd cc),
           (
             cpus_line 64,
-            judged_good (summed (version_line 2 ∷ [])) (codes "cpus 64") (cpus_line 64) refl cpus_no_group cpus_spelled refl,
+            judged_good (summed (version_line 2 ∷ [])) (codes "cpus 64")
+                (cpus_line 64) refl cpus_no_group cpus_spelled refl,
             inr (
               (λ comment. absurd cc),
               (
                 start_line 0 0,
-                judged_good (summed (version_line 2 ∷ cpus_line 64 ∷ [])) (codes "start 0.000000") (start_line 0 0) refl start_no_group start_spelled refl,
+                judged_good (summed (version_line 2 ∷ cpus_line 64 ∷ [])) (codes "start 0.000000")
+                    (start_line 0 0) refl start_no_group start_spelled refl,
                 floors_all,
               ),
             ),
@@ -178,20 +210,54 @@ plain_good =
 
 -- what the plain companion says
 abbrev said_plainly : CompanionView
-said_plainly = record { cpus = 64; start = 0; floors = (summed said_lines).floors; tasks = []; claims = []; nices = []; idles = [] }
+said_plainly = record {
+  cpus = 64;
+  start = 0;
+  floors = (summed said_lines).floors;
+  tasks = [];
+  claims = [];
+  nices =
+      [];
+  idles = [];
+}
 
 plain_read : CompanionAnswer plain (Ok said_plainly)
 plain_read =
     rw split_plain
-    (record { said = said_lines; good = plain_good; whole = refl; cpus_is = refl; start_is = refl; floors_is = refl; tasks_is = refl; claims_is = refl; nices_is = refl; idles_is = refl })
+    (record {
+      said = said_lines;
+      good = plain_good;
+      whole = refl;
+      cpus_is = refl;
+      start_is = refl;
+      floors_is =
+          refl;
+      tasks_is = refl;
+      claims_is = refl;
+      nices_is = refl;
+      idles_is = refl;
+    })
 
 begins_late : (events : List Entry) → BeginsInTime 0 events
 begins_late [] = tt
 begins_late (event ∷ events) = omega arith
 
 plain_joins : (events : List Entry) → All (IsInside most_processors) events → GoTogether events said_plainly
-plain_joins events inside = record { inside = inside; in_time = begins_late events; claimed = All-nil _; reniced = All-nil _; born = All-nil _ }
+plain_joins events inside = record {
+  inside = inside;
+  in_time = begins_late events;
+  claimed = All-nil _;
+  reniced =
+      All-nil _;
+  born = All-nil _;
+}
 
 -- the plain companion fits each trace whose processors are those that it has
-pub plain_fits : (text : List ℕ) → text ≡ plain → (events : List Entry) → All (IsInside most_processors) events → ReadsAndJoins events text
-plain_fits text same events inside = (said_plainly, subst (λ t. CompanionAnswer t (Ok said_plainly)) (sym same) plain_read, plain_joins events inside)
+pub plain_fits : (text : List ℕ) → text ≡ plain → (events : List Entry) → All (IsInside most_processors) events
+    → ReadsAndJoins events text
+plain_fits text same events inside = (
+  said_plainly,
+  subst (λ t. CompanionAnswer t (Ok said_plainly))
+      (sym same) plain_read,
+  plain_joins events inside,
+)

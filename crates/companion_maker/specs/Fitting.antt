@@ -11,10 +11,11 @@ use Rattle.companion_maker.specs.declared.not_made.NotMade.TheVariants as reason
 
 -- the text is read as a companion, which joins with these events
 abbrev pub ReadsAndJoins : List Entry → List ℕ → Type 0
-ReadsAndJoins events text = (companion : CompanionView) × CompanionAnswer text (Ok companion) × GoTogether events companion
+ReadsAndJoins events text = (companion : CompanionView) × CompanionAnswer text (Ok companion)
+    × GoTogether events companion
 
--- no companion is made for these events, since the first that touches a processor which no companion has stands on the line;
--- of want of memory nothing is said
+-- no companion is made for these events, since the first that touches a processor which no companion has stands on the
+-- line; of want of memory nothing is said
 abbrev pub IsNotMadeFor : List Entry → NotMade → Type 0
 IsNotMadeFor events (reasons.CpuOutside line) = IsFirstOutside most_processors events line
 IsNotMadeFor events reasons.Memory = Unit {0}

@@ -18,8 +18,8 @@ pub(crate) struct Candidate {
 }
 
 impl Candidate {
-    /// Whether it needs less granularity than another; of two that need the same, the one is better whose strategy is listed
-    /// first.
+    /// Whether it needs less granularity than another; of two that need the same, the one is better whose strategy is
+    /// listed first.
     pub(crate) fn is_better_than(&self, other: &Candidate) -> bool {
         self.granularity < other.granularity
             || (self.granularity == other.granularity && self.strategy < other.strategy)
@@ -67,8 +67,8 @@ pub(crate) fn better_candidate(
     }
 }
 
-/// Goes through the events by the rules, and answers whether what is made is better than a rival. It gives up at the first
-/// event by which it can't be any more: what is needed never falls.
+/// Goes through the events by the rules, and answers whether what is made is better than a rival. It gives up at the
+/// first event by which it can't be any more: what is needed never falls.
 fn follow(
     machine: &mut Machine,
     outset: &Outset,

@@ -134,8 +134,8 @@ impl Machine {
         }
     }
 
-    /// Where the event prints another nice value than the task's, it has changed: on this line, or on an earlier one of the
-    /// processor that doesn't name it.
+    /// Where the event prints another nice value than the task's, it has changed: on this line, or on an earlier one of
+    /// the processor that doesn't name it.
     fn renice(&mut self, line: u32, cpu: u32, pid: u32, nice: Nice) -> Result<(), Memory> {
         let Some(named) = self.tasks.get_mut(&pid) else {
             return Ok(());

@@ -29,13 +29,17 @@ const MOSTLY_BEST: Strategy = Strategy::Picked;
 /// A companion for the text of a trace.
 pub fn companion_of_text(alloc: Global, text: &[u8], wishes: &Wishes) -> Result<Made, NotMade>
     // What is made is a companion, and joins with the trace.
-    ensures fits { IfOk result (λ made. (events : List Event) × TraceAnswer text.now (Ok events) × ReadsAndJoins events made.text.items) }
+    ensures fits { IfOk result (λ made. (events : List Event) × TraceAnswer text.now (Ok events)
+        × ReadsAndJoins events made.text.items) }
     // It is made for every trace that is read and whose processors a companion can have, unless a growth is refused.
-    ensures made { (events : List Event) → TraceAnswer text.now (Ok events) → All (IsInside most_processors) events → IfErr result (λ why. why ≡ NotMade.Memory) }
+    ensures made { (events : List Event) → TraceAnswer text.now (Ok events) → All (IsInside most_processors) events
+        → IfErr result (λ why. why ≡ NotMade.Memory) }
     // Else it is said why: the trace's first bad line,
-    ensures refused { (line : ℕ) (cause : TraceCause) → IsErrOf result (NotMade.Trace line cause) → TraceAnswer text.now (Err (line, cause)) }
+    ensures refused { (line : ℕ) (cause : TraceCause) → IsErrOf result (NotMade.Trace line cause)
+        → TraceAnswer text.now (Err (line, cause)) }
     // or its first event that touches a processor which no companion has.
-    ensures outside { (line : ℕ) → IsErrOf result (NotMade.CpuOutside line) → (events : List Event) × TraceAnswer text.now (Ok events) × IsFirstOutside most_processors events line }
+    ensures outside { (line : ℕ) → IsErrOf result (NotMade.CpuOutside line) → (events : List Event)
+        × TraceAnswer text.now (Ok events) × IsFirstOutside most_processors events line }
 {
     one_trace_answer();
     make_companion(alloc, read_trace(alloc, text)?, wishes)

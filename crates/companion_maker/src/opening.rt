@@ -192,7 +192,8 @@ impl Opening {
         }
     }
 
-    /// Adds who runs at a processor without ever being named, each with the lowest pid that is free; none where no pid is.
+    /// Adds who runs at a processor without ever being named, each with the lowest pid that is free; none where no pid
+    /// is.
     fn add_stand_ins(&self, stood: &mut BTreeMap<u32, Task>) -> Result<(), Memory> {
         let mut last = IDLE_PID;
         for cpu in 0..MOST_PROCESSORS as u32 {

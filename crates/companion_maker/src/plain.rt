@@ -21,7 +21,8 @@ fn plain_bytes() -> &'static [u8]
 /// The text of that companion.
 #[tactic(auto, using(crate::proofs::Unguessed::plain_fits))]
 pub(crate) fn plain_text(alloc: Global) -> Result<Vec<u8>, AllocError>
-    ensures { IfOk result (λ text. (events : List Entry) → All (IsInside most_processors) events → ReadsAndJoins events text.items) }
+    ensures { IfOk result (λ text. (events : List Entry) → All (IsInside most_processors) events
+        → ReadsAndJoins events text.items) }
 {
     Vec::from_slice(alloc, plain_bytes())
 }

@@ -4,8 +4,8 @@ use std::alloc::{AllocError, Global};
 /// The most bytes of a line that are shown.
 const MOST_SHOWN: usize = 1000;
 
-/// A line of a text as it stands there, numbered from 1, without its line feed; none where the text ends before it. Of a
-/// very long one the beginning is shown.
+/// A line of a text as it stands there, numbered from 1, without its line feed; none where the text ends before it. Of
+/// a very long one the beginning is shown.
 pub fn quoted_line(alloc: Global, number: u64, line: Option<&[u8]>) -> Result<Vec<u8>, Memory> {
     let mut quote = format!(in alloc; "# line {number}: ")?.into_bytes();
     match line {

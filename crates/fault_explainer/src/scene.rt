@@ -17,8 +17,8 @@ pub(crate) struct Scene {
     pub here: Processor,
     /// The destination of a migration to another processor.
     pub there: Option<Processor>,
-    /// Where the fault's task stood before the event, if it stood anywhere: the processor, and how. Told where the fault
-    /// lies in that.
+    /// Where the fault's task stood before the event, if it stood anywhere: the processor, and how. Told where the
+    /// fault lies in that.
     pub stood: Option<(u32, Task)>,
 }
 

@@ -5,13 +5,16 @@ use Rattle.text_parts.specs.Numerals.{is_digit, value_of, many, IsNumeral}
 use Rattle.ftrace_line.specs.Head.{IsThreadGroup, IsHead}
 use Rattle.text_parts.specs.Pieces.{is_space, IsGap}
 use Rattle.text_parts.specs.Reading.{or_else, after_run}
-use Rattle.ftrace_line.specs.Meaning.{after_name, after_group, processor_at, stamp_at, flagged_stamp_at, HeadParts, head_at}
+use Rattle.ftrace_line.specs.Meaning.{after_name, after_group, processor_at, stamp_at, flagged_stamp_at, HeadParts}
+use Rattle.ftrace_line.specs.Meaning.{head_at}
 use Rattle.text_parts.proofs.Runs.{stops_at_run, run_again, run_taken, bind_elim}
-use Rattle.ftrace_line.proofs.HeadParts.{space_is_no_digit, head_name_again, name_taken, group_again, group_stops, group_taken, processor_again, processor_taken, TakesProcessor}
+use Rattle.ftrace_line.proofs.HeadParts.{space_is_no_digit, head_name_again, name_taken, group_again, group_stops}
+use Rattle.ftrace_line.proofs.HeadParts.{group_taken, processor_again, processor_taken, TakesProcessor}
 use Rattle.ftrace_line.proofs.Clocks.{clock_again, clock_stops, clock_taken, TakesClock}
 
 abbrev pub parts_found : ℕ → ℕ → ℕ → List ℕ → Option HeadParts
-parts_found cpu seconds nanoseconds text = Some (record { cpu = cpu; seconds = seconds; nanoseconds = nanoseconds; text = text })
+parts_found cpu seconds nanoseconds text =
+    Some (record { cpu = cpu; seconds = seconds; nanoseconds = nanoseconds; text = text })
 
 -- a line's head is what is read
 pub head_again : (line : List ℕ) (cpu seconds nanoseconds : ℕ) (text : List ℕ) →
@@ -25,11 +28,14 @@ head_again line cpu seconds nanoseconds text h =
     rw (
       h.whole,
       head_name_again h.name named h.name_width,
-      run_again is_digit h.pid (h.pid_gap ++ (h.group ++ behind)) h.pid_form (stops_at_run is_digit is_space h.pid_gap (h.group ++ behind) h.pid_gap_form space_is_no_digit),
-      run_again is_space h.pid_gap (h.group ++ behind) h.pid_gap_form (group_stops h.group (h.processor ++ (93 ∷ (h.processor_gap ++ clock))) h.group_form),
+      run_again is_digit h.pid (h.pid_gap ++ (h.group ++ behind)) h.pid_form
+          (stops_at_run is_digit is_space h.pid_gap (h.group ++ behind) h.pid_gap_form space_is_no_digit),
+      run_again is_space h.pid_gap (h.group ++ behind) h.pid_gap_form
+          (group_stops h.group (h.processor ++ (93 ∷ (h.processor_gap ++ clock))) h.group_form),
       group_again h.group (h.processor ++ (93 ∷ (h.processor_gap ++ clock))) h.group_form,
       processor_again h.processor (h.processor_gap ++ clock) h.processor_form h.processor_width,
-      run_again is_space h.processor_gap clock h.processor_gap_form (clock_stops h.flags h.time seconds nanoseconds (58 ∷ 32 ∷ text) h.flags_form h.time_form),
+      run_again is_space h.processor_gap clock h.processor_gap_form
+          (clock_stops h.flags h.time seconds nanoseconds (58 ∷ 32 ∷ text) h.flags_form h.time_form),
       clock_again h.flags h.time seconds nanoseconds text h.flags_form h.time_form,
       h.processor_value,
     ) refl
@@ -43,14 +49,22 @@ pub record TakesHead (line : List ℕ) (parts : HeadParts) : Type 0 where
   pub seconds_are : parts.seconds ≡ min seconds many
 
 -- the parts stand one behind the other
-regrouped : (line pid pid_gap group bracket clock name digits gap column space : List ℕ) (processor : ℕ × List ℕ) (stamp : ℕ × ℕ × List ℕ) →
+regrouped : (line pid pid_gap group bracket clock name digits gap column space : List ℕ) (processor : ℕ
+    × List ℕ) (stamp : ℕ × ℕ × List ℕ) →
     line ≡ 32 ∷ (name ++ (45 ∷ pid)) → pid ≡ digits ++ pid_gap → pid_gap ≡ gap ++ group → group ≡ column ++ bracket →
-    (p : TakesProcessor bracket processor.0 processor.1) → processor.1 ≡ space ++ clock → (t : TakesClock clock stamp.0 stamp.1 stamp.2) →
-    line ≡ 32 ∷ (name ++ (45 ∷ (digits ++ (gap ++ (column ++ (91 ∷ (p.digits ++ (93 ∷ (space ++ (t.flags ++ (t.time ++ (58 ∷ 32 ∷ stamp.2))))))))))))
+    (p : TakesProcessor bracket processor.0 processor.1) → processor.1 ≡ space ++ clock
+    → (t : TakesClock clock stamp.0 stamp.1 stamp.2) →
+    line ≡ 32 ∷ (name ++ (45 ∷ (digits ++ (gap
+    ++ (column ++ (91 ∷ (p.digits ++ (93 ∷ (space ++ (t.flags ++ (t.time ++ (58 ∷ 32 ∷ stamp.2))))))))))))
 regrouped line pid pid_gap group bracket clock name digits gap column space processor stamp a b c d p f t =
-    a ∙ ap (λ (r : List ℕ). 32 ∷ (name ++ (45 ∷ r))) (b ∙ ap (λ (r : List ℕ). digits ++ r) (c ∙ ap (λ (r : List ℕ). gap ++ r) (d ∙ ap (λ (r : List ℕ). column ++ r) (p.whole ∙ ap (λ (r : List ℕ). 91 ∷ (p.digits ++ (93 ∷ r))) (f ∙ ap (λ (r : List ℕ). space ++ r) t.whole)))))
+    a ∙ ap (λ (r : List ℕ). 32 ∷ (name ++ (45 ∷ r))) (b
+    ∙ ap (λ (r : List ℕ). digits ++ r) (c
+    ∙ ap (λ (r : List ℕ). gap ++ r) (d
+    ∙ ap (λ (r : List ℕ). column ++ r) (p.whole
+    ∙ ap (λ (r : List ℕ). 91 ∷ (p.digits ++ (93 ∷ r))) (f ∙ ap (λ (r : List ℕ). space ++ r) t.whole)))))
 
-head_from : (line pid pid_gap group bracket clock : List ℕ) (processor : ℕ × List ℕ) (stamp : ℕ × ℕ × List ℕ) (parts : HeadParts) →
+head_from : (line pid pid_gap group bracket clock : List ℕ) (processor : ℕ × List ℕ) (stamp : ℕ × ℕ
+    × List ℕ) (parts : HeadParts) →
     (name : List ℕ) × (length name ≡ 15) × (line ≡ 32 ∷ (name ++ (45 ∷ pid))) →
     (digits : List ℕ) × IsNumeral digits × (pid ≡ digits ++ pid_gap) →
     (gap : List ℕ) × IsGap gap × (pid_gap ≡ gap ++ group) →
@@ -60,7 +74,8 @@ head_from : (line pid pid_gap group bracket clock : List ℕ) (processor : ℕ �
     TakesClock clock stamp.0 stamp.1 stamp.2 →
     parts_found processor.0 stamp.0 stamp.1 stamp.2 ≡ Some parts →
     TakesHead line parts
-head_from line pid pid_gap group bracket clock processor stamp parts (name, width, a) (digits, numeral, b) (gap, gap_form, c) (column, column_form, d) p (space, space_form, f) t e =
+head_from line pid pid_gap group bracket clock processor stamp parts (name, width, a) (digits, numeral, b)
+    (gap, gap_form, c) (column, column_form, d) p (space, space_form, f) t e =
     subst (λ (x : HeadParts). TakesHead line x) (same_Some _ parts e) (record {
       cpu = value_of p.digits;
       seconds = t.exact_seconds;
@@ -83,7 +98,8 @@ head_from line pid pid_gap group bracket clock processor stamp parts (name, widt
         flags_form = t.flags_form;
         time = t.time;
         time_form = t.form;
-        whole = regrouped line pid pid_gap group bracket clock name digits gap column space processor stamp a b c d p f t;
+        whole = regrouped line pid pid_gap group bracket clock name digits gap column space processor stamp a b c d p f
+            t;
       };
       cpu_is = p.value_is;
       seconds_are = t.seconds_are;
@@ -100,5 +116,7 @@ head_taken line parts e =
     bind_elim (after_run is_space processor.1) _ parts e (λ clock space e.
     bind_elim (or_else (stamp_at clock) (flagged_stamp_at clock)) _ parts e (λ stamp time e.
     head_from line pid pid_gap group bracket clock processor stamp parts
-    (name_taken line pid name) (run_taken is_digit pid pid_gap digits) (run_taken is_space pid_gap group gap) (group_taken group bracket column)
-    (processor_taken bracket processor.0 processor.1 number) (run_taken is_space processor.1 clock space) (clock_taken clock stamp time) e)))))))
+    (name_taken line pid name) (run_taken is_digit pid pid_gap digits) (run_taken is_space pid_gap group gap)
+    (group_taken group bracket column)
+    (processor_taken bracket processor.0 processor.1 number) (run_taken is_space processor.1 clock space)
+    (clock_taken clock stamp time) e)))))))

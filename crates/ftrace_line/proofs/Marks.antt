@@ -1,5 +1,6 @@
 -- The four marks, both ways: no mark stands in front of another.
-use Rattle.std.proofs.Common.{◌≡◌, ◌≤◌, ℕ, Bool, true, false, cond, List, ◌++◌, length, Option, Some, None, refl, ap, arith, length-append}
+use Rattle.std.proofs.Common.{◌≡◌, ◌≤◌, ℕ, Bool, true, false, cond, List, ◌++◌, length, Option, Some, None, refl, ap}
+use Rattle.std.proofs.Common.{arith, length-append}
 use Rattle.ftrace_line.specs.declared.kinds.Which.{Which}
 use Rattle.ftrace_line.specs.declared.kinds.Which.TheVariants.{Switch, Wakeup, WakeupNew, MigrateTask}
 use Rattle.std.proofs.lemmas.Option.{same_Some}
@@ -25,8 +26,10 @@ fields_again WakeupNew rest = refl
 fields_again MigrateTask rest = refl
 
 -- a choice that gave this kind was made by its mark, or later
-by_mark : (text : List ℕ) (which found : Which) (later : Option Which) → (later ≡ Some found → begins_with (mark_of found) text ≡ true) →
-    (b : Bool) → begins_with (mark_of which) text ≡ b → cond b (Some which) later ≡ Some found → begins_with (mark_of found) text ≡ true
+by_mark : (text : List ℕ) (which found : Which) (later : Option Which)
+    → (later ≡ Some found → begins_with (mark_of found) text ≡ true) →
+    (b : Bool) → begins_with (mark_of which) text ≡ b → cond b (Some which) later ≡ Some found
+    → begins_with (mark_of found) text ≡ true
 by_mark text which found later on true there e = rw (← same_Some which found e) there
 by_mark text which found later on false there e = on e
 
@@ -44,16 +47,25 @@ mark_there text which e =
     (begins_with (mark_of Switch) text) refl e
 
 -- it stands behind its mark
-pub mark_taken : (text : List ℕ) (which : Which) → kind_at text ≡ Some which → text ≡ mark_of which ++ fields_of which text
+pub mark_taken : (text : List ℕ) (which : Which) → kind_at text ≡ Some which → text ≡ mark_of which
+    ++ fields_of which text
 mark_taken text which e = front_then_rest (mark_of which) text (mark_there text which e)
 
 -- and is as long as its mark, or longer
 pub mark_within : (text : List ℕ) (which : Which) → kind_at text ≡ Some which → length (mark_of which) ≤ length text
-mark_within text which e = omega (arith, ap length (mark_taken text which e), length-append (mark_of which) (fields_of which text))
+mark_within text which e = omega (
+  arith,
+  ap length (mark_taken text which e),
+  length-append (mark_of which)
+      (fields_of which text),
+)
 
 -- a text without a mark is another event's
-pub unmarked_again : (text : List ℕ) → ((which : Which) (rest : List ℕ) → text ≡ mark_of which ++ rest → ⊥) → kind_at text ≡ None
-unmarked_again text none = none_from (kind_at text) (λ which e. none which (fields_of which text) (mark_taken text which e))
+pub unmarked_again : (text : List ℕ) → ((which : Which) (rest : List ℕ) → text ≡ mark_of which ++ rest → ⊥)
+    → kind_at text ≡ None
+unmarked_again text none = none_from (kind_at text)
+    (λ which e. none which (fields_of which text) (mark_taken text which e))
 
-pub unmarked_taken : (text : List ℕ) → kind_at text ≡ None → (which : Which) (rest : List ℕ) → text ≡ mark_of which ++ rest → ⊥
+pub unmarked_taken : (text : List ℕ) → kind_at text ≡ None → (which : Which) (rest : List ℕ) → text ≡ mark_of which
+    ++ rest → ⊥
 unmarked_taken text e which rest whole = let found = mark_again which rest in cc

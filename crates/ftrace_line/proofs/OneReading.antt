@@ -1,6 +1,7 @@
 -- A line's meaning, both ways. The kinds of line differ in their first byte, so at most one kind fits; a head is read
 -- in one way; and a bounded number is in range where the number itself is.
-use Rattle.std.proofs.Common.{◌≡◌, ℕ, ◌<◌, ◌≤◌, ◌&&◌, ◌⊎◌, false, leb, List, min, None, Result, Ok, Err, refl, sym, ◌∙◌, inl, inr, arith}
+use Rattle.std.proofs.Common.{◌≡◌, ℕ, ◌<◌, ◌≤◌, ◌&&◌, ◌⊎◌, false, leb, List, min, None, Result, Ok, Err, refl, sym, ◌∙◌}
+use Rattle.std.proofs.Common.{inl, inr, arith}
 use Rattle.std.proofs.lemmas.Bool.{and_left, and_right, le-leb, lt-leb, false_from_ne_true}
 use Rattle.cfs_model.specs.Limits.{greatest_processor, greatest_seconds}
 use Rattle.text_parts.specs.Lines.{is_comment, IsComment}
@@ -9,7 +10,8 @@ use Rattle.ftrace_line.specs.declared.fault.LineFault.{LineFault}
 use Rattle.ftrace_line.specs.declared.fault.LineFault.TheVariants.{BadHead, NumberRange}
 use Rattle.text_parts.specs.Numerals.{many}
 use Rattle.ftrace_line.specs.Head.{IsHead}
-use Rattle.ftrace_line.specs.Line.{LineView, comment, lost, other, sched, IsLost, IsEventLine, IsSched, IsOther, IsHeadOutOfRange, IsHeadless, LineAnswer}
+use Rattle.ftrace_line.specs.Line.{LineView, comment, lost, other, sched, IsLost, IsEventLine, IsSched, IsOther}
+use Rattle.ftrace_line.specs.Line.{IsHeadOutOfRange, IsHeadless, LineAnswer}
 use Rattle.text_parts.specs.Reading.{after_text}
 use Rattle.ftrace_line.specs.Meaning.{after_loss, is_end, kind_at, event_meaning, head_at, head_meaning, meaning_of}
 use Rattle.text_parts.proofs.Runs.{none_from}
@@ -39,34 +41,55 @@ head_decides : (line : List ℕ) (cpu seconds nanoseconds : ℕ) (text : List �
     meaning_of line ≡ head_meaning (parts_found (min cpu many) (min seconds many) nanoseconds text)
 unfolding meaning_of
 head_decides line cpu seconds nanoseconds text h =
-    rw (head_is_no_comment line cpu seconds nanoseconds text h, head_is_no_loss line cpu seconds nanoseconds text h, head_again line cpu seconds nanoseconds text h) refl
+    rw (
+      head_is_no_comment line cpu seconds nanoseconds text h,
+      head_is_no_loss line cpu seconds nanoseconds text h,
+      head_again line cpu seconds nanoseconds text h,
+    ) refl
 
 -- ---- what is so is answered
 
 event_only : (line : List ℕ) (cpu time : ℕ) (text : List ℕ) (e : IsEventLine line cpu time text) →
-    meaning_of line ≡ Ok (event_meaning (record { cpu = cpu; seconds = e.seconds; nanoseconds = e.nanoseconds; text = text }) (kind_at text))
+    meaning_of line ≡ Ok (event_meaning (record {
+      cpu = cpu;
+      seconds = e.seconds;
+      nanoseconds = e.nanoseconds;
+      text =
+          text;
+    }) (kind_at text))
 event_only line cpu time text e =
     let low_cpu : cpu ≤ greatest_processor = e.cpu_in_range in
     let low_seconds : e.seconds ≤ greatest_seconds = e.seconds_in_range in
     let cpu_same : min cpu many ≡ cpu = omega arith in
     let seconds_same : min e.seconds many ≡ e.seconds = omega arith in
-    head_decides line cpu e.seconds e.nanoseconds text e.head ∙ rw (cpu_same, seconds_same, le-leb cpu greatest_processor low_cpu, le-leb e.seconds greatest_seconds low_seconds) refl
+    head_decides line cpu e.seconds e.nanoseconds text e.head
+    ∙ rw (
+      cpu_same,
+      seconds_same,
+      le-leb cpu greatest_processor low_cpu,
+      le-leb e.seconds greatest_seconds
+          low_seconds,
+    ) refl
 
 sched_only : (line : List ℕ) (cpu time : ℕ) (which : Which) (rest : List ℕ) → IsSched line cpu time which rest →
     meaning_of line ≡ Ok (sched cpu time which rest)
 sched_only line cpu time which rest s =
-    event_only line cpu time s.text s.event ∙ rw (s.marked, mark_again which rest, fields_again which rest, s.event.time_is) refl
+    event_only line cpu time s.text s.event
+    ∙ rw (s.marked, mark_again which rest, fields_again which rest, s.event.time_is) refl
 
 other_only : (line : List ℕ) → IsOther line → meaning_of line ≡ Ok other
 other_only line o = event_only line o.cpu o.time o.text o.event ∙ rw (unmarked_again o.text o.unmarked) refl
 
 beyond_test : (cpu seconds : ℕ) → (greatest_processor < cpu) ⊎ (greatest_seconds < seconds) →
     (leb (min cpu many) greatest_processor && leb (min seconds many) greatest_seconds) ≡ false
-beyond_test cpu seconds (inl high) = and_left (leb (min cpu many) greatest_processor) (leb (min seconds many) greatest_seconds) (lt-leb (min cpu many) greatest_processor (omega arith))
-beyond_test cpu seconds (inr high) = and_right (leb (min cpu many) greatest_processor) (leb (min seconds many) greatest_seconds) (lt-leb (min seconds many) greatest_seconds (omega arith))
+beyond_test cpu seconds (inl high) = and_left (leb (min cpu many) greatest_processor)
+    (leb (min seconds many) greatest_seconds) (lt-leb (min cpu many) greatest_processor (omega arith))
+beyond_test cpu seconds (inr high) = and_right (leb (min cpu many) greatest_processor)
+    (leb (min seconds many) greatest_seconds) (lt-leb (min seconds many) greatest_seconds (omega arith))
 
 beyond_only : (line : List ℕ) → IsHeadOutOfRange line → meaning_of line ≡ Err NumberRange
-beyond_only line b = head_decides line b.cpu b.seconds b.nanoseconds b.text b.head ∙ rw (beyond_test b.cpu b.seconds b.beyond) refl
+beyond_only line b = head_decides line b.cpu b.seconds b.nanoseconds b.text b.head
+    ∙ rw (beyond_test b.cpu b.seconds b.beyond) refl
 
 headless_only : (line : List ℕ) → IsHeadless line → meaning_of line ≡ Err BadHead
 unfolding meaning_of
@@ -75,7 +98,8 @@ headless_only line h =
     let present : is_end (after_loss line) ≡ false =
     false_from_ne_true (is_end (after_loss line)) (λ e. h.no_loss (lost_taken line (end_is (after_loss line) e))) in
     let none : head_at line ≡ None =
-    none_from (head_at line) (λ parts e. let t : TakesHead line parts = head_taken line parts e in h.no_head t.cpu t.seconds parts.nanoseconds parts.text t.head) in
+    none_from (head_at line) (λ parts e. let t : TakesHead line parts = head_taken line parts e in
+    h.no_head t.cpu t.seconds parts.nanoseconds parts.text t.head) in
     rw (plain, present, none) refl
 
 comment_only : (line : List ℕ) → IsComment line → meaning_of line ≡ Ok comment

@@ -9,7 +9,8 @@ use Rattle.ftrace_line.specs.Line.{LineView, LineAnswer}
 -- the line means what it means, or is bad for the cause that it is bad for, whatever follows it
 pub record IsSettled (line : List ℕ) : Type 0 where
   pub some : 0 < length line
-  pub same : (answer : Result LineView LineFault) (more : List ℕ) → LineAnswer line answer → LineAnswer (line ++ more) answer
+  pub same : (answer : Result LineView LineFault) (more : List ℕ) → LineAnswer line answer
+      → LineAnswer (line ++ more) answer
 
 -- seventeen bytes or more that have not the shape of an event's line, a space, a name of fifteen bytes and a `-`, nor
 -- that of a notice of lost events

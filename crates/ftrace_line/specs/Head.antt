@@ -13,7 +13,8 @@ is_group_byte byte = is_digit byte || (is_space byte || byte == 45)
 abbrev pub IsThreadGroup : List ℕ → Type 0
 IsThreadGroup text =
     (text ≡ [])
-    ⊎ ((group gap : List ℕ) × IsRunOf is_group_byte group × IsGap gap × (text ≡ joined (codes "(" ∷ group ∷ codes ")" ∷ gap ∷ [])))
+    ⊎ ((group gap : List ℕ) × IsRunOf is_group_byte group × IsGap gap
+    × (text ≡ joined (codes "(" ∷ group ∷ codes ")" ∷ gap ∷ [])))
 
 -- the bytes of a word of flags: all but spaces and `:`
 abbrev pub is_flag : ℕ → Bool

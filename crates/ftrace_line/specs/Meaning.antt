@@ -1,6 +1,7 @@
 -- How a line is read from left to right: its head, the words on lost events, the event's mark. Nothing here is to be
 -- believed: it is proved to give the one reading that `Line` states.
-use Rattle.std.specs.Prelude.{ℕ, ◌+◌, ◌*◌, ◌&&◌, ◌==◌, Bool, true, false, List, [], ◌∷◌, codes, length, drop, nat_le, nat_lt, Option, None, Some, Result, Ok, Err, slice_index, if◌then◌else◌}
+use Rattle.std.specs.Prelude.{ℕ, ◌+◌, ◌*◌, ◌&&◌, ◌==◌, Bool, true, false, List, [], ◌∷◌, codes, length, drop, nat_le}
+use Rattle.std.specs.Prelude.{nat_lt, Option, None, Some, Result, Ok, Err, slice_index, if◌then◌else◌}
 use Rattle.std.specs.List.{prefix_len}
 use Rattle.ftrace_line.specs.declared.kinds.Which.{Which}
 use Rattle.ftrace_line.specs.declared.kinds.Which.TheVariants.{Switch, Wakeup, WakeupNew, MigrateTask}
@@ -17,7 +18,8 @@ use Rattle.text_parts.specs.Reading.{◌>>=◌, or_else, after_text, after_run, 
 -- what follows the space, the name and the `-`
 unfoldable pub after_name : List ℕ → Option (List ℕ)
 after_name line =
-    if nat_lt 16 (length line) && (slice_index line 0 == 32 && slice_index line 16 == 45) then Some (drop 17 line) else None
+    if nat_lt 16 (length line) && (slice_index line 0 == 32 && slice_index line 16 == 45) then Some (drop 17 line)
+    else None
 
 -- what follows a thread group in its brackets
 unfoldable pub after_brackets : List ℕ → Option (List ℕ)
@@ -102,7 +104,8 @@ fields_of which text = drop (length (mark_of which)) text
 -- the meaning of a line of this kind
 abbrev pub event_meaning : HeadParts → Option Which → LineView
 event_meaning head None = other
-event_meaning head (Some which) = sched head.cpu (head.seconds * nanoseconds_per_second + head.nanoseconds) which (fields_of which head.text)
+event_meaning head (Some which) = sched head.cpu (head.seconds * nanoseconds_per_second + head.nanoseconds) which
+    (fields_of which head.text)
 
 -- the meaning of a line with this head, if it has one
 abbrev pub head_meaning : Option HeadParts → Result LineView LineFault

@@ -2,7 +2,8 @@ ghost use Rattle.std.specs.Prelude.{◌≡◌, ◌≤◌, ◌∷◌, [], length,
 ghost use Rattle.std.specs.List.{prefix_len};
 ghost use Rattle.ftrace_line.specs.Head.{is_group_byte, is_flag};
 ghost use Rattle.text_parts.specs.Reading.{Gives, or_else, after_text, after_run};
-ghost use Rattle.ftrace_line.specs.Meaning.{after_name, after_brackets, after_group, processor_at, stamp_at, flagged_stamp_at, head_at};
+ghost use Rattle.ftrace_line.specs.Meaning.{after_name, after_brackets, after_group, processor_at, stamp_at};
+ghost use Rattle.ftrace_line.specs.Meaning.{flagged_stamp_at, head_at};
 
 use text_parts::numerals::{is_digit_byte, number_at};
 use text_parts::pieces::{after_byte, after_digits, after_gap, beyond};
@@ -22,7 +23,13 @@ pub(crate) struct HeadParts<'a> {
 #[tactic(auto, unfolding(crate::specs::Meaning::head_at))]
 pub(crate) fn head_at(line: &[u8]) -> Option<HeadParts<'_>>
     ensures { Gives
-        (λ head. record { cpu = head.cpu; seconds = head.time.seconds; nanoseconds = head.time.nanoseconds; text = head.text.now })
+        (λ head. record {
+          cpu = head.cpu;
+          seconds = head.time.seconds;
+          nanoseconds = head.time.nanoseconds;
+          text =
+              head.text.now;
+        })
         result (head_at line.now) }
 {
     let pid = after_name(line)?;

@@ -13,8 +13,8 @@ use text_parts::pieces::{after_digits, after_front, begins_with};
 
 /// What a line of a trace means. The line is given without its line feed.
 ///
-/// The format is ftrace's plain one: a comment is empty or begins with `#`; a line of lost events is `CPU:0 [LOST EVENTS]`
-/// or `CPU:0 [LOST 12 EVENTS]`; an event stands behind a head.
+/// The format is ftrace's plain one: a comment is empty or begins with `#`; a line of lost events is `CPU:0 [LOST
+/// EVENTS]` or `CPU:0 [LOST 12 EVENTS]`; an event stands behind a head.
 pub fn read_line<'a>(line: &'a [u8]) -> Result<Line<'a>, LineFault>
     ensures answers { LineAnswer line.now (line_answer_view result) }
     ensures bad { IsErrOf result LineFault.BadHead ↔ IsHeadless line.now }

@@ -1,5 +1,5 @@
-//! Makes calls that a script disturbs: `hostile_calls CALL TRACE COMPANION` makes one on a recording and prints its answers,
-//! and `hostile_calls cuts STEP TRACE COMPANION [OPTIONS]` runs the audit on the beginnings of both texts.
+//! Makes calls that a script disturbs: `hostile_calls CALL TRACE COMPANION` makes one on a recording and prints its
+//! answers, and `hostile_calls cuts STEP TRACE COMPANION [OPTIONS]` runs the audit on the beginnings of both texts.
 #![tactic(auto)]
 
 mod calls;

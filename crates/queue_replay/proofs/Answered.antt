@@ -1,5 +1,6 @@
 -- What a runqueue answers of a pid, and what the part says.
-use Rattle.std.proofs.Common.{◌≡◌, ◌≢◌, ◌↔◌, ℕ, zero, suc, Bool, true, false, not, IsTrue, Option, Some, None, is_none, is_some, option_map, ℤ, pos, ◌-ℤ◌, ◌≤ℤ◌, refl, sym, ap, ◌∙◌, subst, arith}
+use Rattle.std.proofs.Common.{◌≡◌, ◌≢◌, ◌↔◌, ℕ, zero, suc, Bool, true, false, not, IsTrue, Option, Some, None, is_none}
+use Rattle.std.proofs.Common.{is_some, option_map, ℤ, pos, ◌-ℤ◌, ◌≤ℤ◌, refl, sym, ap, ◌∙◌, subst, arith}
 use Rattle.std.specs.Int.{int_max}
 use Rattle.std.proofs.lemmas.Int.{ints, clamps}
 use Rattle.std.proofs.lemmas.Bool.{false≢true, not-true, not_from_false}
@@ -16,11 +17,13 @@ use Rattle.runqueue.specs.Tasks.{entity_of}
 use Rattle.runqueue.proofs.Parts.{its_place}
 
 -- the task of a pid as the part has it
-pub entity_told : (task : Option Task) (t : Task) (o : Option Entity) → task ≡ Some t → option_map entity_of task ≡ o → Some (entity_of t) ≡ o
+pub entity_told : (task : Option Task) (t : Task) (o : Option Entity) → task ≡ Some t → option_map entity_of task ≡ o
+    → Some (entity_of t) ≡ o
 entity_told task t o is e = sym (ap (option_map entity_of) is) ∙ e
 
 -- a task of this pid, where one has it
-pub some_task : (part : Part) (pid : ℕ) (t : Task) (P : Entity → Type 0) (b : Bool) → Some (entity_of t) ≡ part.tasks pid
+pub some_task : (part : Part) (pid : ℕ) (t : Task) (P : Entity → Type 0) (b : Bool)
+    → Some (entity_of t) ≡ part.tasks pid
     → (IsTrue b ↔ P (entity_of t)) → (IsTrue b ↔ ((s : Entity) × (part.tasks pid ≡ Some s) × P s))
 some_task part pid t P b e same = (
   (λ h. (entity_of t, sym e, same.0 h)),
@@ -36,9 +39,11 @@ other_nice part pid t nice b e same = (
 )
 
 -- a task outside its wakeup's bounds
-pub outside : (part : Part) (credit : ℕ) (floor v : ℤ) (pid : ℕ) (t : Task) (b : Bool) → Some (entity_of t) ≡ part.tasks pid → t.place ≡ Rest
+pub outside : (part : Part) (credit : ℕ) (floor v : ℤ) (pid : ℕ) (t : Task) (b : Bool)
+    → Some (entity_of t) ≡ part.tasks pid → t.place ≡ Rest
     → (IsTrue b ↔ IsInWakeBounds credit floor t.v v)
-    → (IsTrue (not b) ↔ ((s : Entity) × (part.tasks pid ≡ Some s) × (s.place ≡ Rest) × (¬ IsInWakeBounds credit floor s.runtime v)))
+    → (IsTrue (not b) ↔ ((s : Entity) × (part.tasks pid ≡ Some s) × (s.place ≡ Rest)
+    × (¬ IsInWakeBounds credit floor s.runtime v)))
 outside part credit floor v pid t b e rests same = (
   (λ h. (entity_of t, sym e, rests, λ k. false≢true (sym (not-true b h) ∙ same.1 k))),
   (λ h. not_from_false b (false_or b (λ k. h.3 (subst (λ (s : Entity). IsInWakeBounds credit floor s.runtime v)
@@ -50,7 +55,8 @@ outside part credit floor v pid t b e rests same = (
     false_or false f = refl
 
 -- pid 0 is what runs where nobody does
-pub is_runner : (part : Part) (runner : Option Task) → IsTheRunner part runner → (pid : ℕ) → pid ≡ 0 → (b : Bool) → b ≡ is_none runner
+pub is_runner : (part : Part) (runner : Option Task) → IsTheRunner part runner → (pid : ℕ) → pid ≡ 0 → (b : Bool)
+    → b ≡ is_none runner
     → (IsTrue b ↔ IsRunner part pid)
 is_runner part runner ran (suc n) e b same = absurd (omega (arith, e))
 is_runner part None nobody zero e b same = ((λ h. nobody), (λ h. same))
@@ -59,7 +65,8 @@ is_runner part (Some t) ran zero e b same = (
   (λ nobody. absurd (nobody t.pid (ap its_place ran.0 ∙ ap Some ran.1))),
 )
 
-pub task_runs : (part : Part) (pid : ℕ) → pid ≢ 0 → (b : Bool) → (IsTrue b ↔ IsIn part Run pid) → (IsTrue b ↔ IsRunner part pid)
+pub task_runs : (part : Part) (pid : ℕ) → pid ≢ 0 → (b : Bool) → (IsTrue b ↔ IsIn part Run pid)
+    → (IsTrue b ↔ IsRunner part pid)
 task_runs part zero ne b same = absurd (ne refl)
 task_runs part (suc n) ne b same = same
 
@@ -80,9 +87,15 @@ in_bounds credit floor own v b from to same = (
 )
 
 -- whether nobody runs beside a waiting task
-pub idles : (part : Part) (runner : Option Task) (v : ℤ) → IsTheRunner part runner → is_some runner ≡ false → IsLeastWaiting part v → IsIdlePart part
+pub idles : (part : Part) (runner : Option Task) (v : ℤ) → IsTheRunner part runner → is_some runner ≡ false
+    → IsLeastWaiting part v → IsIdlePart part
 idles part (Some t) v ran none w = absurd cc
-idles part None v nobody none w = record { nobody_runs = nobody; pid = w.pid; waits = ap its_place w.stands ∙ ap Some w.waits }
+idles part None v nobody none w = record {
+  nobody_runs = nobody;
+  pid = w.pid;
+  waits = ap its_place w.stands
+      ∙ ap Some w.waits;
+}
 
 pub busy : (part : Part) (runner : Option Task) → IsTheRunner part runner → is_some runner ≡ true → ¬ IsIdlePart part
 busy part None nobody some idle = absurd cc

@@ -1,5 +1,6 @@
 -- The tallies after a charge: the runner's alone has grown.
-use Rattle.std.proofs.Common.{◌≡◌, ℕ, ◌-◌, eqb, List, [], ◌∷◌, map, Option, Some, None, option_map, refl, sym, ap, ◌∙◌, inl, inr}
+use Rattle.std.proofs.Common.{◌≡◌, ℕ, ◌-◌, eqb, List, [], ◌∷◌, map, Option, Some, None, option_map, refl, sym, ap, ◌∙◌}
+use Rattle.std.proofs.Common.{inl, inr}
 use Rattle.std.proofs.lemmas.Bool.{eq-eqb, ne_eqb, cond-true, cond-false, cases_eq}
 use Rattle.replay_model.specs.Noted.{charged_tally, charged_tallies, tallies_after_run}
 use Rattle.replay_model.specs.Part.{Part, Entity, cost_in}
@@ -21,7 +22,8 @@ map_none f e [] = refl
 map_none f e (x ∷ xs) = ap (λ y. y ∷ map f xs) (e x) ∙ ap (λ l. x ∷ l) (map_none f e xs)
 
 -- a tally of one who doesn't run stays
-unrun : (part : Part) (time : ℕ) (o : Option Entity) (tally : Tally) → (option_map (λ (s : Entity). s.place) o ≡ Some Run → ⊥)
+unrun : (part : Part) (time : ℕ) (o : Option Entity) (tally : Tally)
+    → (option_map (λ (s : Entity). s.place) o ≡ Some Run → ⊥)
     → charged_tally part time o tally ≡ tally
 unrun part time None tally ne = refl
 unrun part time (Some s) tally ne = go s.place refl
@@ -32,7 +34,8 @@ unrun part time (Some s) tally ne = go s.place refl
     go Rest e = ap (λ q. tallies_after_run q (time - part.mark) (cost_in part time s) tally) e
 
 one_tally : (part : Part) (time : ℕ) (t : Task) → IsTheRunner part (Some t) → (tally : Tally)
-    → charged_tally part time (part.tasks tally.pid) tally ≡ ran_tally t.pid (time - part.mark) (cost_of (time - part.mark) t) tally
+    → charged_tally part time (part.tasks tally.pid) tally ≡ ran_tally t.pid (time - part.mark)
+    (cost_of (time - part.mark) t) tally
 one_tally part time t ran tally =
     elim (cases_eq tally.pid t.pid) [
       | inl same ↦ ap (λ o. charged_tally part time o tally) (ap part.tasks same ∙ ran.0)

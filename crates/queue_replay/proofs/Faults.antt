@@ -17,12 +17,14 @@ use Rattle.runqueue.specs.Queue.{runqueue_view}
 use Rattle.queue_replay.specs.declared.replay_state.ReplayState.{ReplayState}
 
 -- a fault of another kind has no deadline
-pub no_deadline : (kind : Kind) (slack : ℕ) (since : Option ℕ) → kind ≢ IdleTooLong → None ≡ deadline_of kind slack since
+pub no_deadline : (kind : Kind) (slack : ℕ) (since : Option ℕ) → kind ≢ IdleTooLong
+    → None ≡ deadline_of kind slack since
 no_deadline IdleTooLong slack since ne = absurd (ne refl)
 no_deadline _ slack since ne = refl
 
 -- a step that fails
-pub failed : (knobs : Settings) (cpu : ℕ) (before : ReplayStateView) (needed : Settings) (step : Step) (kind : Kind) (pid : ℕ) (deadline : Option ℕ) (mid : ReplayStateView) (new : ReplayState)
+pub failed : (knobs : Settings) (cpu : ℕ) (before : ReplayStateView) (needed : Settings) (step : Step) (kind : Kind)
+    (pid : ℕ) (deadline : Option ℕ) (mid : ReplayStateView) (new : ReplayState)
     → FailsTest knobs cpu before step kind pid → deadline ≡ deadline_of kind knobs.slack before.since → mid ≡ before
     → replay_state_view new ≡ with_fault mid (record { line = step.line; kind = kind; pid = pid; deadline = deadline })
     → IsStepped knobs cpu before needed step new
@@ -31,13 +33,16 @@ failed knobs cpu before needed step kind pid deadline mid new fails is same note
       kind = kind;
       pid = pid;
       fails = fails;
-      result = noted ∙ ap (λ (s : ReplayStateView). with_fault s (record { line = step.line; kind = kind; pid = pid; deadline = deadline })) same
+      result = noted ∙ ap (λ (s : ReplayStateView). with_fault s
+          (record { line = step.line; kind = kind; pid = pid; deadline = deadline })) same
           ∙ ap (λ d. with_fault before (record { line = step.line; kind = kind; pid = pid; deadline = d })) is;
     })
 
 -- a step that passes
-pub passed : (knobs : Settings) (cpu : ℕ) (old between new : ReplayState) (step : Step) → IsPassed knobs cpu old step between
-    → new ≡ record between { made = old.made + 1 } → IsStepped knobs cpu (replay_state_view old) (needs_view old.needs) step new
+pub passed : (knobs : Settings) (cpu : ℕ) (old between new : ReplayState) (step : Step)
+    → IsPassed knobs cpu old step between
+    → new ≡ record between { made = old.made + 1 }
+    → IsStepped knobs cpu (replay_state_view old) (needs_view old.needs) step new
 passed knobs cpu old between new step p e =
     subst (λ (c : ReplayState). IsStepped knobs cpu (replay_state_view old) (needs_view old.needs) step c) (sym e)
     (inl (p.passes, record { fault = ap (λ x. x.fault) p.passes.1.passes.page; within = p.within }))
@@ -46,7 +51,8 @@ passed knobs cpu old between new step p e =
 pub undone_state : (old new : ReplayState) → IsUndone old new → replay_state_view new ≡ replay_state_view old
 undone_state old new g =
     ap (λ (p : Part). record { part = p; since = new.since; page = page_draft_view new.draft }) g.part
-    ∙ ap (λ (o : Option ℕ). record { part = runqueue_view old.queue; since = o; page = page_draft_view new.draft }) g.since
+    ∙ ap (λ (o : Option ℕ). record { part = runqueue_view old.queue; since = o; page = page_draft_view new.draft })
+    g.since
     ∙ ap (λ (p : PageView). record { part = runqueue_view old.queue; since = old.since; page = p }) g.noted
 
 pub undone_going : (old new : ReplayState) → IsUndone old new → IsGoing old → IsGoing new
@@ -54,7 +60,8 @@ undone_going old new g h =
     let W : ℕ → List Tally → Type 0 = λ n l. All (IsWithin n) l in
     record {
       fault = ap (λ p. p.fault) g.noted ∙ h.fault;
-      within = subst (λ n. W n new.draft.tallies.list.items) (sym g.made) (subst (W old.made) (sym (ap (λ p. p.tallies) g.noted)) h.within);
+      within = subst (λ n. W n new.draft.tallies.list.items) (sym g.made)
+          (subst (W old.made) (sym (ap (λ p. p.tallies) g.noted)) h.within);
     }
 
 pub undone_both : (old mid new : ReplayState) → IsUndone old mid → IsUndone mid new → IsUndone old new

@@ -1,5 +1,6 @@
 -- How far the tallies have grown after a step.
-use Rattle.std.proofs.Common.{◌≡◌, ℕ, zero, suc, ◌+◌, ◌*◌, ◌^◌, ◌-◌, ◌<◌, ◌≤◌, Bool, true, false, cond, eqb, List, [], ◌∷◌, ◌++◌, All, map, Option, Some, None, IfSome, sym, subst, arith, inl, inr}
+use Rattle.std.proofs.Common.{◌≡◌, ℕ, zero, suc, ◌+◌, ◌*◌, ◌^◌, ◌-◌, ◌<◌, ◌≤◌, Bool, true, false, cond, eqb, List, []}
+use Rattle.std.proofs.Common.{◌∷◌, ◌++◌, All, map, Option, Some, None, IfSome, sym, subst, arith, inl, inr}
 use Rattle.std.specs.List.{list_any}
 use Rattle.std.proofs.lemmas.Bool.{cases_lt}
 use Rattle.std.proofs.lemmas.List.Elements.{All-map, All-weaker, All-push}
@@ -23,22 +24,28 @@ IsRan steps tally = (tally.ran ≤ (steps + 1) * 2 ^ 64) × (tally.charged ≤ (
 kept_ran : (steps : ℕ) (tally : Tally) → IsWithin steps tally → IsRan steps tally
 kept_ran steps tally w = (let h = w.0 in omega arith, let h = w.1 in omega arith, w.2)
 
-ran_ran : (steps pid time cost : ℕ) (tally : Tally) → time ≤ 2 ^ 64 → cost ≤ 2 ^ 64 → IsWithin steps tally → IsRan steps (ran_tally pid time cost tally)
+ran_ran : (steps pid time cost : ℕ) (tally : Tally) → time ≤ 2 ^ 64 → cost ≤ 2 ^ 64 → IsWithin steps tally
+    → IsRan steps (ran_tally pid time cost tally)
 ran_ran steps pid time cost tally short cheap w = go (eqb tally.pid pid)
   where
-    go : (b : Bool) → IsRan steps (cond b (record tally { ran = tally.ran + time; charged = tally.charged + cost }) tally)
+    go : (b : Bool) → IsRan steps (cond b
+        (record tally { ran = tally.ran + time; charged = tally.charged + cost }) tally)
     go true = (let h = w.0 in omega arith, let h = w.1 in omega arith, w.2)
     go false = kept_ran steps tally w
 
-pub stretched_ran : (steps time : ℕ) (runner : Option Task) (tallies : List Tally) → time ≤ 2 ^ 64 → IfSome runner (λ t. cost_of time t ≤ greatest)
+pub stretched_ran : (steps time : ℕ) (runner : Option Task) (tallies : List Tally) → time ≤ 2 ^ 64
+    → IfSome runner (λ t. cost_of time t ≤ greatest)
     → All (IsWithin steps) tallies → All (IsRan steps) (stretched runner time tallies)
-stretched_ran steps time None tallies short fits w = All-weaker (IsWithin steps) (IsRan steps) (kept_ran steps) tallies w
+stretched_ran steps time None tallies short fits w =
+    All-weaker (IsWithin steps) (IsRan steps) (kept_ran steps) tallies w
 stretched_ran steps time (Some t) tallies short fits w =
     All-map (IsRan steps) (ran_tally t.pid time (cost_of time t)) tallies
     (All-weaker (IsWithin steps) (λ tally. IsRan steps (ran_tally t.pid time (cost_of time t) tally))
-    (λ tally h. ran_ran steps t.pid time (cost_of time t) tally short (let k : cost_of time t ≤ greatest = fits in omega arith) h) tallies w)
+    (λ tally h. ran_ran steps t.pid time (cost_of time t) tally short
+    (let k : cost_of time t ≤ greatest = fits in omega arith) h) tallies w)
 
-pub ran_picks : (steps : ℕ) (tallies : List Tally) → All (IsRan steps) tallies → All (λ tally. tally.picks ≤ steps) tallies
+pub ran_picks : (steps : ℕ) (tallies : List Tally) → All (IsRan steps) tallies
+    → All (λ tally. tally.picks ≤ steps) tallies
 ran_picks steps tallies w = All-weaker (IsRan steps) (λ tally. tally.picks ≤ steps) (λ tally h. h.2) tallies w
 
 ran_within : (steps : ℕ) (tally : Tally) → IsRan steps tally → IsWithin (steps + 1) tally
@@ -54,25 +61,30 @@ pick_within steps pid tally w = go (eqb tally.pid pid)
 all_within : (steps : ℕ) (tallies : List Tally) → All (IsRan steps) tallies → All (IsWithin (steps + 1)) tallies
 all_within steps tallies w = All-weaker (IsRan steps) (IsWithin (steps + 1)) (ran_within steps) tallies w
 
-with_within : (steps pid : ℕ) (tallies : List Tally) → All (IsRan steps) tallies → All (IsWithin (steps + 1)) (with_tally pid tallies)
+with_within : (steps pid : ℕ) (tallies : List Tally) → All (IsRan steps) tallies
+    → All (IsWithin (steps + 1)) (with_tally pid tallies)
 with_within steps pid tallies w = go (list_any (λ tally. eqb tally.pid pid) tallies)
   where
     go : (b : Bool) → All (IsWithin (steps + 1)) (cond b tallies (tallies ++ new_tally pid ∷ []))
     go true = all_within steps tallies w
-    go false = All-push (IsWithin (steps + 1)) tallies (new_tally pid) (all_within steps tallies w) (omega arith, omega arith, omega arith)
+    go false = All-push (IsWithin (steps + 1)) tallies (new_tally pid) (all_within steps tallies w)
+        (omega arith, omega arith, omega arith)
 
-pub tallied_within : (steps : ℕ) (deed : Deed) (tallies : List Tally) → All (IsRan steps) tallies → All (IsWithin (steps + 1)) (tallied deed tallies)
+pub tallied_within : (steps : ℕ) (deed : Deed) (tallies : List Tally) → All (IsRan steps) tallies
+    → All (IsWithin (steps + 1)) (tallied deed tallies)
 tallied_within steps (Switch prev prev_nice way zero next_nice) tallies w = all_within steps tallies w
 tallied_within steps (Switch prev prev_nice way (suc n) next_nice) tallies w =
     All-map (IsWithin (steps + 1)) (picked_tally (suc n)) tallies
-    (All-weaker (IsRan steps) (λ tally. IsWithin (steps + 1) (picked_tally (suc n) tally)) (pick_within steps (suc n)) tallies w)
+    (All-weaker (IsRan steps) (λ tally. IsWithin (steps + 1) (picked_tally (suc n) tally))
+    (pick_within steps (suc n)) tallies w)
 tallied_within steps (Wake pid nice) tallies w = all_within steps tallies w
 tallied_within steps (Born pid nice idle) tallies w = with_within steps pid tallies w
 tallied_within steps (Leave pid nice dest) tallies w = all_within steps tallies w
 tallied_within steps (Arrive pid nice orig idle) tallies w = with_within steps pid tallies w
 
 -- where nobody is out of range, the runner's charge fits
-runner_fits : (part : Part) (time : ℕ) → ((pid : ℕ) → ¬ IsOutOfRange part time pid) → (runner : Option Task) → IsTheRunner part runner
+runner_fits : (part : Part) (time : ℕ) → ((pid : ℕ) → ¬ IsOutOfRange part time pid) → (runner : Option Task)
+    → IsTheRunner part runner
     → IfSome runner (λ t. cost_of (time - part.mark) t ≤ greatest)
 runner_fits part time in_range None ran = tt
 runner_fits part time in_range (Some t) ran =
@@ -82,7 +94,8 @@ runner_fits part time in_range (Some t) ran =
     ]
 
 -- the runner's stretch, and what is picked and noted after it
-pub noted_ran : (part : Part) (time ran steps : ℕ) → ((pid : ℕ) → ¬ IsOutOfRange part time pid) → ran ≡ time - part.mark → ran < 2 ^ 64
+pub noted_ran : (part : Part) (time ran steps : ℕ) → ((pid : ℕ) → ¬ IsOutOfRange part time pid) → ran ≡ time - part.mark
+    → ran < 2 ^ 64
     → (runner : Option Task) → IsTheRunner part runner → (tallies : List Tally) → All (IsWithin steps) tallies
     → IfSome runner (λ t. cost_of ran t ≤ greatest) × All (IsRan steps) (stretched runner ran tallies)
 noted_ran part time ran steps in_range is short runner e tallies w =
@@ -92,4 +105,5 @@ noted_ran part time ran steps in_range is short runner e tallies w =
 
 -- at the start nobody has run
 pub new_within : (tasks : List Task) → All (IsWithin 0) (map (λ t. new_tally t.pid) tasks)
-new_within tasks = All-map (IsWithin 0) (λ (t : Task). new_tally t.pid) tasks (λ k d h. (omega arith, omega arith, omega arith))
+new_within tasks = All-map (IsWithin 0) (λ (t : Task). new_tally t.pid) tasks
+    (λ k d h. (omega arith, omega arith, omega arith))

@@ -1,5 +1,6 @@
 -- What a pick's lead, a deed and a step need, and the needs of one step more.
-use Rattle.std.proofs.Common.{◌≡◌, ◌≢◌, ℕ, zero, suc, ◌+◌, ◌<◌, ◌≤◌, List, [], ◌∷◌, ◌++◌, length, take, get_or, Option, Some, None, inl, inr, ℤ, pos, ◌+ℤ◌, ◌≤ℤ◌, ◌<ℤ◌, refl, sym, ap, ◌∙◌, subst, arith}
+use Rattle.std.proofs.Common.{◌≡◌, ◌≢◌, ℕ, zero, suc, ◌+◌, ◌<◌, ◌≤◌, List, [], ◌∷◌, ◌++◌, length, take, get_or, Option}
+use Rattle.std.proofs.Common.{Some, None, inl, inr, ℤ, pos, ◌+ℤ◌, ◌≤ℤ◌, ◌<ℤ◌, refl, sym, ap, ◌∙◌, subst, arith}
 use Rattle.std.proofs.lemmas.Int.{ints}
 use Rattle.std.proofs.lemmas.List.{take_more}
 use Rattle.std.proofs.lemmas.Option.{same_Some}
@@ -10,7 +11,8 @@ use Rattle.cfs_model.specs.declared.task.Place.{Place}
 use Rattle.cfs_model.specs.declared.task.Place.TheVariants.{Wait}
 use Rattle.replay_model.specs.ClaimTests.{IsNextNotWaiting}
 use Rattle.replay_model.specs.Deeds.{part_after_prev}
-use Rattle.replay_model.specs.Needs.{AllPassNeeding, AreStepNeeds, IsBirthNeed, IsExcess, IsLeastWaiting, IsPickNeed, IsWakeNeed, PassesNeeding, idle_need, only_slack}
+use Rattle.replay_model.specs.Needs.{AllPassNeeding, AreStepNeeds, IsBirthNeed, IsExcess, IsLeastWaiting, IsPickNeed}
+use Rattle.replay_model.specs.Needs.{IsWakeNeed, PassesNeeding, idle_need, only_slack}
 use Rattle.replay_model.specs.Page.{ReplayStateView}
 use Rattle.replay_model.specs.Part.{Part, Entity, IsIn, place_in}
 use Rattle.replay_model.specs.declared.step.Deed.{Deed}
@@ -25,7 +27,8 @@ use Rattle.runqueue.proofs.Parts.{its_place}
 use Rattle.queue_replay.proofs.Passed.{next_stays}
 
 -- the next task leads by more than the granularity
-pub over_lead : (granularity next lead : ℕ) (own : Option Entity) (part : Part) → granularity < lead → IsLead own part next lead
+pub over_lead : (granularity next lead : ℕ) (own : Option Entity) (part : Part) → granularity < lead
+    → IsLead own part next lead
     → IsAboveGranularity granularity own part next next
 over_lead granularity zero lead own part k h = absurd (omega (arith, h, k))
 over_lead granularity (suc n) lead own part k h = go own h.0 h.1 h.2
@@ -33,7 +36,8 @@ over_lead granularity (suc n) lead own part k h = go own h.0 h.1 h.2
     beyond : (s : Entity) (v : ℤ) → IsLeastWaiting part v → IsExcess s.runtime v lead
         → IsAboveGranularity granularity (Some s) part (suc n) (suc n)
     beyond s v w (inl e) = let f = e.1 in absurd (omega (arith, f, k))
-    beyond s v w (inr e) = let r = w.runtime in ((s, w.task, w.pid, refl, w.stands, w.waits, omega (arith, ints, r, e, k)), refl)
+    beyond s v w (inr e) = let r = w.runtime in
+        ((s, w.task, w.pid, refl, w.stands, w.waits, omega (arith, ints, r, e, k)), refl)
 
     go : (o : Option Entity) (least : Option ℤ) → IsLeastIfWaiting part least → IsAbove o least lead
         → IsAboveGranularity granularity o part (suc n) (suc n)
@@ -42,7 +46,8 @@ over_lead granularity (suc n) lead own part k h = go own h.0 h.1 h.2
     go (Some s) None w a = absurd (omega (arith, a, k))
 
 -- it leads by no more
-pub in_lead : (granularity next lead : ℕ) (own : Option Entity) (part : Part) → lead ≤ granularity → IsLead own part next lead
+pub in_lead : (granularity next lead : ℕ) (own : Option Entity) (part : Part) → lead ≤ granularity
+    → IsLead own part next lead
     → (pid : ℕ) → ¬ IsAboveGranularity granularity own part next pid
 in_lead granularity zero lead own part k h pid a = a
 in_lead granularity (suc n) lead own part k h pid a = go own h.0 h.1 h.2 a
@@ -58,7 +63,8 @@ in_lead granularity (suc n) lead own part k h pid a = go own h.0 h.1 h.2 a
     go (Some s) (Some v) w x b =
         let t = b.0.1 in
         let same : b.0.0 ≡ s = sym (same_Some s b.0.0 b.0.3) in
-        let low : (t.runtime +ℤ pos granularity) <ℤ s.runtime = subst (λ (y : Entity). (t.runtime +ℤ pos granularity) <ℤ y.runtime) same b.0.6 in
+        let low : (t.runtime +ℤ pos granularity) <ℤ s.runtime =
+        subst (λ (y : Entity). (t.runtime +ℤ pos granularity) <ℤ y.runtime) same b.0.6 in
         let least = w.least b.0.2 t b.0.4 b.0.5 in
         let high = near s v x in
         absurd (omega (arith, ints, low, least, high))
@@ -71,10 +77,12 @@ waits_there o h = elim (place_or o Wait) [
 ]
 
 -- a pick's lead is what it needs
-pub pick_needs_lead : (part : Part) (prev : ℕ) (prev_nice : ℤ) (way : Way) (next : ℕ) (next_nice : ℤ) (own : Option Entity) (need : ℕ)
+pub pick_needs_lead : (part : Part) (prev : ℕ) (prev_nice : ℤ) (way : Way) (next : ℕ) (next_nice : ℤ)
+    (own : Option Entity) (need : ℕ)
     → (next ≢ 0 → own ≡ part.tasks next) → prev ≢ next
     → ((pid : ℕ) → ¬ IsNextNotWaiting part (Switch prev prev_nice way next next_nice) pid)
-    → IsLead own (part_after_prev part prev way) next need → IsPickNeed part (Switch prev prev_nice way next next_nice) need
+    → IsLead own (part_after_prev part prev way) next need
+    → IsPickNeed part (Switch prev prev_nice way next next_nice) need
 pick_needs_lead part prev prev_nice way zero next_nice own need o two waits h = h
 pick_needs_lead part prev prev_nice way (suc n) next_nice own need o two waits h =
     go lead.0 lead.1 lead.2
@@ -97,7 +105,8 @@ pick_needs_lead part prev prev_nice way (suc n) next_nice own need o two waits h
     go None nobody x = absurd (nobody (suc n) (ap its_place (next_stays part prev way (suc n) two) ∙ there))
 
 -- a step's needs, from its deed's and from the time for which the processor had idled
-pub needs_of_step : (since : Option ℕ) (found : Part) (step : Step) (need idle : ℕ) → IsNeed found step.deed step.claim need
+pub needs_of_step : (since : Option ℕ) (found : Part) (step : Step) (need idle : ℕ)
+    → IsNeed found step.deed step.claim need
     → idle ≡ idle_need since step.time → AreStepNeeds since found step (step_needs step.deed need idle)
 needs_of_step since found step need idle n i = record {
   granularity = of_pick step.deed n;
@@ -106,21 +115,24 @@ needs_of_step since found step need idle n i = record {
   slack = of_idling step.deed ∙ i;
 }
   where
-    of_pick : (deed : Deed) → IsNeed found deed step.claim need → IsPickNeed found deed (step_needs deed need idle).granularity
+    of_pick : (deed : Deed) → IsNeed found deed step.claim need
+        → IsPickNeed found deed (step_needs deed need idle).granularity
     of_pick (Switch prev prev_nice way next next_nice) h = h
     of_pick (Wake pid nice) h = refl
     of_pick (Born pid nice idles) h = refl
     of_pick (Leave pid nice dest) h = refl
     of_pick (Arrive pid nice orig idles) h = refl
 
-    of_wake : (deed : Deed) → IsNeed found deed step.claim need → IsWakeNeed found deed step.claim (step_needs deed need idle).credit
+    of_wake : (deed : Deed) → IsNeed found deed step.claim need
+        → IsWakeNeed found deed step.claim (step_needs deed need idle).credit
     of_wake (Switch prev prev_nice way next next_nice) h = refl
     of_wake (Wake pid nice) h = h
     of_wake (Born pid nice idles) h = refl
     of_wake (Leave pid nice dest) h = refl
     of_wake (Arrive pid nice orig idles) h = refl
 
-    of_birth : (deed : Deed) → IsNeed found deed step.claim need → IsBirthNeed found deed step.claim (step_needs deed need idle).debit
+    of_birth : (deed : Deed) → IsNeed found deed step.claim need
+        → IsBirthNeed found deed step.claim (step_needs deed need idle).debit
     of_birth (Switch prev prev_nice way next next_nice) h = refl
     of_birth (Wake pid nice) h = refl
     of_birth (Born pid nice idles) h = h
@@ -135,7 +147,8 @@ needs_of_step since found step need idle n i = record {
     of_idling (Arrive pid nice orig idles) = refl
 
 -- settings that agree in each of the four are the same
-same_settings : (x y : Settings) → x.granularity ≡ y.granularity → x.credit ≡ y.credit → x.debit ≡ y.debit → x.slack ≡ y.slack → x ≡ y
+same_settings : (x y : Settings) → x.granularity ≡ y.granularity → x.credit ≡ y.credit → x.debit ≡ y.debit
+    → x.slack ≡ y.slack → x ≡ y
 same_settings x y g c d s =
     ap (λ n. record { granularity = n; credit = x.credit; debit = x.debit; slack = x.slack }) g
     ∙ ap (λ n. record { granularity = y.granularity; credit = n; debit = x.debit; slack = x.slack }) c
@@ -144,14 +157,17 @@ same_settings x y g c d s =
 
 -- the larger of settings and of those that let nothing pass, in either order
 larger_none : (here : Settings) → larger (only_slack 0) here ≡ larger here (only_slack 0)
-larger_none here = same_settings (larger (only_slack 0) here) (larger here (only_slack 0)) (omega arith) (omega arith) (omega arith) (omega arith)
+larger_none here = same_settings (larger (only_slack 0) here) (larger here (only_slack 0)) (omega arith) (omega arith)
+    (omega arith) (omega arith)
 
 -- the larger of three settings, whichever two come first
 larger_of_three : (x y z : Settings) → larger (larger x y) z ≡ larger x (larger y z)
-larger_of_three x y z = same_settings (larger (larger x y) z) (larger x (larger y z)) (omega arith) (omega arith) (omega arith) (omega arith)
+larger_of_three x y z = same_settings (larger (larger x y) z) (larger x (larger y z)) (omega arith) (omega arith)
+    (omega arith) (omega arith)
 
 -- one more step
-needing_push : (knobs : Settings) (cpu : ℕ) (before : ReplayStateView) (steps : List Step) (between : ReplayStateView) (needed : Settings)
+needing_push : (knobs : Settings) (cpu : ℕ) (before : ReplayStateView) (steps : List Step) (between : ReplayStateView)
+    (needed : Settings)
     (step : Step) (after : ReplayStateView) (here : Settings)
     → AllPassNeeding knobs cpu before steps between needed → PassesNeeding knobs cpu between step after here
     → AllPassNeeding knobs cpu before (steps ++ step ∷ []) after (larger needed here)
@@ -172,13 +188,17 @@ needing_push knobs cpu before (first ∷ steps) between needed step after here r
   ap (λ n. larger n here) r.5 ∙ larger_of_three r.1 r.2 here,
 )
 
-pub needing_more : (knobs : Settings) (cpu : ℕ) (start : ReplayStateView) (steps : List Step) (made : ℕ) (between : ReplayStateView)
+pub needing_more : (knobs : Settings) (cpu : ℕ) (start : ReplayStateView) (steps : List Step) (made : ℕ)
+    (between : ReplayStateView)
     (needed : Settings) (step : Step) (after : ReplayStateView) (needs : Settings)
-    → made < length steps → step ≡ get_or steps made step → AllPassNeeding knobs cpu start (take made steps) between needed
-    → PassesRaising knobs cpu between needed step after needs → AllPassNeeding knobs cpu start (take (made + 1) steps) after needs
+    → made < length steps → step ≡ get_or steps made step
+    → AllPassNeeding knobs cpu start (take made steps) between needed
+    → PassesRaising knobs cpu between needed step after needs
+    → AllPassNeeding knobs cpu start (take (made + 1) steps) after needs
 needing_more knobs cpu start steps made between needed step after needs within is r p =
     let more : AllPassNeeding knobs cpu start (take made steps ++ step ∷ []) after needs
     = subst (λ n. AllPassNeeding knobs cpu start (take made steps ++ step ∷ []) after n) (sym p.2)
     (needing_push knobs cpu start (take made steps) between needed step after p.0 r p.1) in
-    let e : take (made + 1) steps ≡ take made steps ++ step ∷ [] = take_more steps made step within ∙ ap (λ x. take made steps ++ x ∷ []) (sym is) in
+    let e : take (made + 1) steps ≡ take made steps ++ step ∷ [] = take_more steps made step within
+    ∙ ap (λ x. take made steps ++ x ∷ []) (sym is) in
     subst (λ l. AllPassNeeding knobs cpu start l after needs) (sym e) more

@@ -23,14 +23,16 @@ same_page p q a b c d e f g =
     ∙ ap (λ (x : List LifeEvent). record q { deaths = x; tallies = p.tallies }) f
     ∙ ap (λ (x : List Tally). record q { tallies = x }) g
 
-left_noted : (found : Part) (step : Step) (deed : Deed) → if_left deed (ticket_by found step deed) ≡ left_by found step deed
+left_noted : (found : Part) (step : Step) (deed : Deed)
+    → if_left deed (ticket_by found step deed) ≡ left_by found step deed
 left_noted found step (Switch prev prev_nice way next next_nice) = refl
 left_noted found step (Wake pid nice) = refl
 left_noted found step (Born pid nice idle) = refl
 left_noted found step (Leave pid nice dest) = refl
 left_noted found step (Arrive pid nice orig idle) = refl
 
-came_noted : (found : Part) (step : Step) (deed : Deed) → if_came deed (ticket_by found step deed) ≡ came_by found step deed
+came_noted : (found : Part) (step : Step) (deed : Deed)
+    → if_came deed (ticket_by found step deed) ≡ came_by found step deed
 came_noted found step (Switch prev prev_nice way next next_nice) = refl
 came_noted found step (Wake pid nice) = refl
 came_noted found step (Born pid nice idle) = refl
@@ -65,9 +67,11 @@ page_is old mid new part found step ticket none same tallies is n =
     n.line
     (n.fault ∙ same.fault ∙ none)
     (n.left ∙ ap (λ l. l.items ++ if_left step.deed ticket) same.left
-    ∙ ap (λ t. old.left.items ++ if_left step.deed t) is ∙ ap (λ l. old.left.items ++ l) (left_noted found step step.deed))
+    ∙ ap (λ t. old.left.items ++ if_left step.deed t) is
+    ∙ ap (λ l. old.left.items ++ l) (left_noted found step step.deed))
     (n.came ∙ ap (λ l. l.items ++ if_came step.deed ticket) same.came
-    ∙ ap (λ t. old.came.items ++ if_came step.deed t) is ∙ ap (λ l. old.came.items ++ l) (came_noted found step step.deed))
+    ∙ ap (λ t. old.came.items ++ if_came step.deed t) is
+    ∙ ap (λ l. old.came.items ++ l) (came_noted found step step.deed))
     (n.births ∙ ap (λ l. l.items ++ births_of step.line step.deed) same.births)
     (n.deaths ∙ ap (λ l. l.items ++ deaths_of step.line step.deed) same.deaths)
     (n.tallies ∙ ap (tallied step.deed) tallies)

@@ -1,5 +1,6 @@
 -- What a deed can rely on, once its tests have passed, and the tests of a switch's pick.
-use Rattle.std.proofs.Common.{◌≡◌, ◌≢◌, ℕ, zero, suc, Bool, IsSome, Option, Some, None, is_some, option_map, ℤ, refl, sym, ap, subst}
+use Rattle.std.proofs.Common.{◌≡◌, ◌≢◌, ℕ, zero, suc, Bool, IsSome, Option, Some, None, is_some, option_map, ℤ, refl}
+use Rattle.std.proofs.Common.{sym, ap, subst}
 use Rattle.replay_model.specs.Deeds.{part_after_prev, woken, wakes}
 use Rattle.replay_model.specs.Part.{Part, Entity}
 use Rattle.replay_model.specs.ClaimTests.{IsClaimMissing}
@@ -55,22 +56,27 @@ pub ran_prev : (part : Part) (prev : ℕ) (prev_nice : ℤ) (way : Way) (next : 
 ran_prev part prev prev_nice way next next_nice none not = none prev (not, refl)
 
 -- the next task of a switch stands as it did, once the previous one has gone its way
-pub next_stays : (part : Part) (prev : ℕ) (way : Way) (next : ℕ) → prev ≢ next → (part_after_prev part prev way).tasks next ≡ part.tasks next
+pub next_stays : (part : Part) (prev : ℕ) (way : Way) (next : ℕ) → prev ≢ next
+    → (part_after_prev part prev way).tasks next ≡ part.tasks next
 next_stays part zero way next ne = refl
 next_stays part (suc n) Stays next ne = put-other part.tasks (suc n) _ next (λ e. ne (sym e))
 next_stays part (suc n) Sleeps next ne = put-other part.tasks (suc n) _ next (λ e. ne (sym e))
 next_stays part (suc n) Ends next ne = put-other part.tasks (suc n) None next (λ e. ne (sym e))
 
 -- the tests of a switch's pick, on the part that its previous task has left
-pub pick_tests_same : (knobs : Settings) (part : Part) (prev : ℕ) (prev_nice : ℤ) (way : Way) (next : ℕ) (next_nice : ℤ) (own : Option Entity)
+pub pick_tests_same : (knobs : Settings) (part : Part) (prev : ℕ) (prev_nice : ℤ) (way : Way) (next : ℕ) (next_nice : ℤ)
+    (own : Option Entity)
     → (next ≢ 0 → own ≡ part.tasks next)
-    → (found : Option FailedTest) → IsFirst found (moved_tests knobs.granularity own (part_after_prev part prev way) next)
+    → (found : Option FailedTest) → IsFirst found
+    (moved_tests knobs.granularity own (part_after_prev part prev way) next)
     → IsFirst found (pick_tests knobs part (Switch prev prev_nice way next next_nice))
 pick_tests_same knobs part prev prev_nice way next next_nice own o found h =
     go next o h
   where
-    go : (n : ℕ) → (n ≢ 0 → own ≡ part.tasks n) → IsFirst found (moved_tests knobs.granularity own (part_after_prev part prev way) n)
+    go : (n : ℕ) → (n ≢ 0 → own ≡ part.tasks n)
+        → IsFirst found (moved_tests knobs.granularity own (part_after_prev part prev way) n)
         → IsFirst found (pick_tests knobs part (Switch prev prev_nice way n next_nice))
     go zero o h = h
     go (suc n) o h =
-        subst (λ (x : Option Entity). IsFirst found (moved_tests knobs.granularity x (part_after_prev part prev way) (suc n))) (o (λ e. cc)) h
+        subst (λ (x : Option Entity). IsFirst found
+        (moved_tests knobs.granularity x (part_after_prev part prev way) (suc n))) (o (λ e. cc)) h

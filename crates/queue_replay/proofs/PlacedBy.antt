@@ -1,5 +1,7 @@
 -- A list whose elements are found by a map from their pids: what is changed for one pid is changed at one place.
-use Rattle.std.proofs.Common.{◌≡◌, ◌≢◌, ℕ, zero, suc, ◌<◌, Bool, true, false, List, [], ◌∷◌, ◌++◌, length, map, set, get_or, All, Some, None, Result, Ok, Err, OnOk, OnErr, refl, sym, ap, ◌∙◌, subst, arith, inl, inr, vec_len, vec_capacity, Vec}
+use Rattle.std.proofs.Common.{◌≡◌, ◌≢◌, ℕ, zero, suc, ◌<◌, Bool, true, false, List, [], ◌∷◌, ◌++◌, length, map, set}
+use Rattle.std.proofs.Common.{get_or, All, Some, None, Result, Ok, Err, OnOk, OnErr, refl, sym, ap, ◌∙◌, subst, arith}
+use Rattle.std.proofs.Common.{inl, inr, vec_len, vec_capacity, Vec}
 use Rattle.std.specs.BTreeMap.{BTreeMap, get, is_at, Updates, IsUnchanged}
 use Rattle.std.specs.Map.{lookup}
 use Rattle.std.specs.Ordering.{nat_cmp, is_eq}
@@ -17,23 +19,28 @@ use Rattle.runqueue.proofs.Standings.{other_key}
 pub set_one : {X : Type 0} (f : X → X) (xs : List X) (i : ℕ) (d : X) → i < length xs
     → ((k : ℕ) → k < length xs → k ≢ i → f (get_or xs k d) ≡ get_or xs k d) → map f xs ≡ set xs i (f (get_or xs i d))
 set_one f [] i d h others = absurd (omega arith)
-set_one f (x ∷ xs) zero d h others = ap (λ l. f x ∷ l) (same xs (λ k w. others (suc k) (omega arith) (λ e. absurd (omega arith))))
+set_one f (x ∷ xs) zero d h others = ap (λ l. f x ∷ l)
+    (same xs (λ k w. others (suc k) (omega arith) (λ e. absurd (omega arith))))
   where
     same : (l : List _) → ((k : ℕ) → k < length l → f (get_or l k d) ≡ get_or l k d) → map f l ≡ l
     same [] e = refl
-    same (y ∷ l) e = ap (λ z. z ∷ map f l) (e zero (omega arith)) ∙ ap (λ m. y ∷ m) (same l (λ k w. e (suc k) (omega arith)))
+    same (y ∷ l) e = ap (λ z. z ∷ map f l) (e zero (omega arith))
+        ∙ ap (λ m. y ∷ m) (same l (λ k w. e (suc k) (omega arith)))
 set_one f (x ∷ xs) (suc i) d h others =
     ap (λ y. y ∷ map f xs) (others zero (omega arith) (λ e. absurd (omega arith)))
     ∙ ap (λ l. x ∷ l) (set_one f xs i d (omega arith) (λ k w ne. others (suc k) (omega arith) (λ e. ne (omega arith))))
 
 -- what leaves each as it is changes nothing
-pub set_none : {X : Type 0} (P : X → Type 0) (f : X → X) (xs : List X) → ((x : X) → P x → f x ≡ x) → All P xs → map f xs ≡ xs
+pub set_none : {X : Type 0} (P : X → Type 0) (f : X → X) (xs : List X) → ((x : X) → P x → f x ≡ x) → All P xs
+    → map f xs ≡ xs
 set_none P f [] same each = refl
 set_none P f (x ∷ xs) same each =
-    ap (λ y. y ∷ map f xs) (same x (All-head P x xs each)) ∙ ap (λ l. x ∷ l) (set_none P f xs same (All-tail P x xs each))
+    ap (λ y. y ∷ map f xs) (same x (All-head P x xs each))
+    ∙ ap (λ l. x ∷ l) (set_none P f xs same (All-tail P x xs each))
 
 -- an insertion, refused or not, leaves the other keys as they are
-pub same_others : {V E : Type 0} (r : Result V E) (k v : ℕ) (m n : BTreeMap ℕ ℕ) → OnOk r (Updates nat_cmp m n k (Some v)) → OnErr r (IsUnchanged m n)
+pub same_others : {V E : Type 0} (r : Result V E) (k v : ℕ) (m n : BTreeMap ℕ ℕ)
+    → OnOk r (Updates nat_cmp m n k (Some v)) → OnErr r (IsUnchanged m n)
     → (q : ℕ) → q ≢ k → get nat_cmp n q ≡ get nat_cmp m q
 same_others (Ok x) k v m n ok err q ne = ok.2 q (other_key k q ne)
 same_others (Err x) k v m n ok err q ne = ap (λ es. lookup (is_at (nat_cmp q)) es) err
@@ -51,17 +58,20 @@ module _ {X : Type 0} (key : X → ℕ) where
   placed_from xs places each = each
 
   -- a pid's place is its alone
-  pub only_there : (xs : List X) (places : BTreeMap ℕ ℕ) → IsPlacedBy key xs places → (i k pid : ℕ) (d : X) → i < length xs
+  pub only_there : (xs : List X) (places : BTreeMap ℕ ℕ) → IsPlacedBy key xs places → (i k pid : ℕ) (d : X)
+      → i < length xs
       → k < length xs → key (get_or xs i d) ≡ pid → key (get_or xs k d) ≡ pid → k ≡ i
   only_there xs places placed i k pid d h w here there =
-      same_Some k i (sym (at_place xs places placed k d w) ∙ ap (get nat_cmp places) (there ∙ sym here) ∙ at_place xs places placed i d h)
+      same_Some k i (sym (at_place xs places placed k d w) ∙ ap (get nat_cmp places) (there ∙ sym here)
+      ∙ at_place xs places placed i d h)
 
   -- a change for one pid, at its place
   pub changed_there : (f : X → X) (pid : ℕ) → ((t : X) → key t ≢ pid → f t ≡ t)
       → (xs : List X) (places : BTreeMap ℕ ℕ) → IsPlacedBy key xs places → (i : ℕ) (d : X) → i < length xs
       → key (get_or xs i d) ≡ pid → map f xs ≡ set xs i (f (get_or xs i d))
   changed_there f pid others xs places placed i d h here =
-      set_one f xs i d h (λ k w ne. others (get_or xs k d) (λ there. ne (only_there xs places placed i k pid d h w here there)))
+      set_one f xs i d h (λ k w ne. others (get_or xs k d)
+      (λ there. ne (only_there xs places placed i k pid d h w here there)))
 
   -- the map still tells the places after a change that keeps the pids
   pub placed_map : (f : X → X) → ((t : X) → key (f t) ≡ key t) → (xs : List X) (places : BTreeMap ℕ ℕ)
@@ -79,16 +89,21 @@ module _ {X : Type 0} (key : X → ℕ) where
   nowhere xs places placed pid other k d h e =
       other k d (ap (get nat_cmp places) (sym e) ∙ at_place xs places placed k d h) h e
 
-  pub unplaced_none : (xs : List X) (places : BTreeMap ℕ ℕ) → IsPlacedBy key xs places → (pid : ℕ) → None ≡ get nat_cmp places pid
+  pub unplaced_none : (xs : List X) (places : BTreeMap ℕ ℕ) → IsPlacedBy key xs places → (pid : ℕ)
+      → None ≡ get nat_cmp places pid
       → All (λ t. key t ≢ pid) xs
-  unplaced_none xs places placed pid none = nowhere xs places placed pid (λ i d e h same. let f : None ≡ Some i = none ∙ e in absurd cc)
+  unplaced_none xs places placed pid none = nowhere xs places placed pid (λ i d e h same. let f : None ≡ Some i = none
+      ∙ e in absurd cc)
 
-  pub nowhere_past : (xs : List X) (places : BTreeMap ℕ ℕ) → IsPlacedBy key xs places → (pid place : ℕ) → Some place ≡ get nat_cmp places pid
+  pub nowhere_past : (xs : List X) (places : BTreeMap ℕ ℕ) → IsPlacedBy key xs places → (pid place : ℕ)
+      → Some place ≡ get nat_cmp places pid
       → (place < length xs → ⊥) → All (λ t. key t ≢ pid) xs
   nowhere_past xs places placed pid place is past =
-      nowhere xs places placed pid (λ i d e h same. past (subst (λ n. n < length xs) (sym (same_Some place i (is ∙ e))) h))
+      nowhere xs places placed pid (λ i d e h same. past
+      (subst (λ n. n < length xs) (sym (same_Some place i (is ∙ e))) h))
 
-  pub nowhere_other : (xs : List X) (places : BTreeMap ℕ ℕ) → IsPlacedBy key xs places → (pid place : ℕ) → Some place ≡ get nat_cmp places pid
+  pub nowhere_other : (xs : List X) (places : BTreeMap ℕ ℕ) → IsPlacedBy key xs places → (pid place : ℕ)
+      → Some place ≡ get nat_cmp places pid
       → (t : X) → t ≡ get_or xs place t → key t ≢ pid → All (λ t. key t ≢ pid) xs
   nowhere_other xs places placed pid place is t at other =
       nowhere xs places placed pid (λ i d e h same.
@@ -96,7 +111,8 @@ module _ {X : Type 0} (key : X → ℕ) where
       let q : get_or xs i t ≡ get_or xs i d = get_or_default xs i t d h in
       other (ap key at ∙ ap (λ n. key (get_or xs n t)) p ∙ ap key q ∙ same))
 
-  pub nowhere_elsewhere : (xs : List X) (places : BTreeMap ℕ ℕ) → IsPlacedBy key xs places → (pid place : ℕ) → Some place ≡ get nat_cmp places pid
+  pub nowhere_elsewhere : (xs : List X) (places : BTreeMap ℕ ℕ) → IsPlacedBy key xs places → (pid place : ℕ)
+      → Some place ≡ get nat_cmp places pid
       → (place < length xs → (d : X) → key (get_or xs place d) ≢ pid) → All (λ t. key t ≢ pid) xs
   nowhere_elsewhere xs places placed pid place is other =
       nowhere xs places placed pid (λ i d e h same.
@@ -105,12 +121,14 @@ module _ {X : Type 0} (key : X → ℕ) where
 
   -- one element more, at the place that was kept for it
   pub room_from : {Z : Type 0} (pid : ℕ) (xs : Vec X Z) (places : BTreeMap ℕ ℕ) → vec_len xs < vec_capacity xs
-      → (All (λ t. key t ≢ pid) xs.items → get nat_cmp places pid ≡ Some (length xs.items)) → HasRoomBy key pid xs places
+      → (All (λ t. key t ≢ pid) xs.items → get nat_cmp places pid ≡ Some (length xs.items))
+      → HasRoomBy key pid xs places
   unfolding HasRoomBy
   room_from pid xs places room told = (room, told)
 
   pub room_in : {Z : Type 0} (pid : ℕ) (xs : Vec X Z) (places : BTreeMap ℕ ℕ) → HasRoomBy key pid xs places
-      → (vec_len xs < vec_capacity xs) × (All (λ t. key t ≢ pid) xs.items → get nat_cmp places pid ≡ Some (length xs.items))
+      → (vec_len xs < vec_capacity xs) × (All (λ t. key t ≢ pid) xs.items
+      → get nat_cmp places pid ≡ Some (length xs.items))
   unfolding HasRoomBy
   room_in pid xs places room = room
 
@@ -128,7 +146,8 @@ module _ {X : Type 0} (key : X → ℕ) where
 
   -- a place is kept for a pid that has no element
   pub placed_kept : (xs : List X) (places new : BTreeMap ℕ ℕ) → IsPlacedBy key xs places → (pid : ℕ)
-      → All (λ t. key t ≢ pid) xs → ((q : ℕ) → q ≢ pid → get nat_cmp new q ≡ get nat_cmp places q) → IsPlacedBy key xs new
+      → All (λ t. key t ≢ pid) xs → ((q : ℕ) → q ≢ pid → get nat_cmp new q ≡ get nat_cmp places q)
+      → IsPlacedBy key xs new
   placed_kept xs places new placed pid none same =
       placed_from xs new (λ i d h. same (key (get_or xs i d)) (none i d h) ∙ at_place xs places placed i d h)
 
@@ -136,8 +155,10 @@ module _ {X : Type 0} (key : X → ℕ) where
   placed_none places = placed_from [] places (λ i d h. absurd (omega (arith, h)))
 
   -- the room stays where a change keeps the pids
-  pub room_map : {Z : Type 0} (pid : ℕ) (old new : Vec X Z) (places : BTreeMap ℕ ℕ) (f : X → X) → ((t : X) → key (f t) ≡ key t)
-      → new.items ≡ map f old.items → vec_len new ≡ vec_len old → vec_capacity new ≡ vec_capacity old → HasRoomBy key pid old places
+  pub room_map : {Z : Type 0} (pid : ℕ) (old new : Vec X Z) (places : BTreeMap ℕ ℕ) (f : X → X)
+      → ((t : X) → key (f t) ≡ key t)
+      → new.items ≡ map f old.items → vec_len new ≡ vec_len old → vec_capacity new ≡ vec_capacity old
+      → HasRoomBy key pid old places
       → HasRoomBy key pid new places
   room_map pid old new places f keeps e len same room =
       let r = room_in pid old places room in
@@ -145,5 +166,6 @@ module _ {X : Type 0} (key : X → ℕ) where
       room_from pid new places (let h = r.0 in omega (arith, len, same, h)) (λ none.
       r.1 (λ k d h there.
       none k d (omega (arith, n, h))
-      (ap (λ (l : List X). key (get_or l k d)) e ∙ ap key (get_or-map f old.items k d d h) ∙ keeps (get_or old.items k d) ∙ there))
+      (ap (λ (l : List X). key (get_or l k d)) e ∙ ap key (get_or-map f old.items k d d h)
+      ∙ keeps (get_or old.items k d) ∙ there))
       ∙ ap Some (sym n))

@@ -1,5 +1,6 @@
 -- What becomes of a step whose line changes a nice value.
-use Rattle.std.proofs.Common.{◌≡◌, ◌≢◌, ℕ, Option, Some, None, option_map, Result, IfOk, ℤ, inl, inr, refl, sym, ap, ◌∙◌, subst}
+use Rattle.std.proofs.Common.{◌≡◌, ◌≢◌, ℕ, Option, Some, None, option_map, Result, IfOk, ℤ, inl, inr, refl, sym, ap}
+use Rattle.std.proofs.Common.{◌∙◌, subst}
 use Rattle.cfs_model.specs.Settings.{Settings}
 use Rattle.cfs_model.specs.declared.kind.Kind.TheVariants.{Strange}
 use Rattle.cfs_model.specs.declared.nice_line.NiceLine.{NiceLine}
@@ -17,22 +18,27 @@ abbrev changed : ℤ → Entity → Entity
 changed nice s = record s { nice = nice }
 
 -- the change of a pid that doesn't stand here is the first test that a step fails
-pub strange_first : (knobs : Settings) (cpu : ℕ) (part : Part) (step : Step) (change : NiceLine) (after : Part) → step.nice ≡ Some change
+pub strange_first : (knobs : Settings) (cpu : ℕ) (part : Part) (step : Step) (change : NiceLine) (after : Part)
+    → step.nice ≡ Some change
     → part.tasks change.pid ≡ None
     → IsTried knobs cpu (reniced (Some change) part) step after (Failed (record { kind = Strange; pid = change.pid }))
 strange_first knobs cpu part step change after says none =
     let gone : (reniced (Some change) part).tasks change.pid ≡ None =
-    put-at part.tasks change.pid (option_map (changed change.nice) (part.tasks change.pid)) change.pid refl ∙ ap (option_map (changed change.nice)) none in
+    put-at part.tasks change.pid (option_map (changed change.nice) (part.tasks change.pid)) change.pid refl
+    ∙ ap (option_map (changed change.nice)) none in
     inl (subst (λ o. IsStrangeNice (reniced (Some change) part) o change.pid) (sym says) (gone, refl), refl)
 
 -- a step without a change is its deed
-pub deed_alone : {E : Type 0} (knobs : Settings) (cpu : ℕ) (part : Part) (step : Step) (after : Part) (result : Result Outcome E) → step.nice ≡ None
-    → IfOk result (IsDeedTried knobs cpu part step after) → IfOk result (IsTried knobs cpu (reniced step.nice part) step after)
+pub deed_alone : {E : Type 0} (knobs : Settings) (cpu : ℕ) (part : Part) (step : Step) (after : Part)
+    (result : Result Outcome E) → step.nice ≡ None
+    → IfOk result (IsDeedTried knobs cpu part step after)
+    → IfOk result (IsTried knobs cpu (reniced step.nice part) step after)
 deed_alone knobs cpu part step after result says h =
     subst (λ n. IfOk result (IsTried knobs cpu (reniced n part) (record step { nice = n }) after)) (sym says) h
 
 -- a step whose change is of one who stands here goes by its deed
-pub deed_after : (knobs : Settings) (cpu : ℕ) (part : Part) (step : Step) (change : NiceLine) (after : Part) (outcome : Outcome) → step.nice ≡ Some change
+pub deed_after : (knobs : Settings) (cpu : ℕ) (part : Part) (step : Step) (change : NiceLine) (after : Part)
+    (outcome : Outcome) → step.nice ≡ Some change
     → part.tasks change.pid ≢ None → IsDeedTried knobs cpu (reniced (Some change) part) step after outcome
     → IsTried knobs cpu (reniced (Some change) part) step after outcome
 deed_after knobs cpu part step change after outcome says stands h =
@@ -44,11 +50,14 @@ deed_after knobs cpu part step change after outcome says stands h =
 
     not_strange : (pid : ℕ) → ¬ IsStrangeNice (reniced (Some change) part) step.nice pid
     not_strange pid i =
-        let j : IsStrangeNice (reniced (Some change) part) (Some change) pid = subst (λ o. IsStrangeNice (reniced (Some change) part) o pid) says i in
+        let j : IsStrangeNice (reniced (Some change) part) (Some change) pid =
+        subst (λ o. IsStrangeNice (reniced (Some change) part) o pid) says i in
         stands (kept (part.tasks change.pid)
-        (sym (put-at part.tasks change.pid (option_map (changed change.nice) (part.tasks change.pid)) change.pid refl) ∙ j.0))
+        (sym (put-at part.tasks change.pid (option_map (changed change.nice) (part.tasks change.pid)) change.pid refl)
+        ∙ j.0))
 
-    go : (o : Outcome) → IsDeedTried knobs cpu (reniced (Some change) part) step after o → IsTried knobs cpu (reniced (Some change) part) step after o
+    go : (o : Outcome) → IsDeedTried knobs cpu (reniced (Some change) part) step after o
+        → IsTried knobs cpu (reniced (Some change) part) step after o
     go (Made deed) i = ((not_strange, i.0.1), i.1, i.2, i.3)
     go (Failed failed) (inl i) = absurd i.0
     go (Failed failed) (inr i) = inr (not_strange, i.1)

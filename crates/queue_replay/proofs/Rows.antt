@@ -28,7 +28,8 @@ end : Widens [] []
 end = record { first = λ found h. h }
 
 -- a test that holds of no pid
-skip : {less more : List Test} {test : Test} → ((pid : ℕ) → ¬ test.holds pid) → Widens less more → Widens less (test ∷ more)
+skip : {less more : List Test} {test : Test} → ((pid : ℕ) → ¬ test.holds pid) → Widens less more
+    → Widens less (test ∷ more)
 skip {less} {more} {test} none w = record { first = go }
   where
     go : (found : Option FailedTest) → IsFirst found less → IsFirst found (test ∷ more)
@@ -46,48 +47,106 @@ keep {less} {more} {test} w = record { first = go }
 
 -- the ordered list, for a deed and its claim
 abbrev pub all_tests : Settings → ℕ → Part → Deed → Option Claim → List Test
-all_tests knobs cpu part deed claim = late_tests knobs cpu part (record { line = 0; time = 0; deed = deed; claim = claim; nice = None })
+all_tests knobs cpu part deed claim = late_tests knobs cpu part
+    (record { line = 0; time = 0; deed = deed; claim = claim; nice = None })
 
 -- a switch
-pub switch_row : (knobs : Settings) (cpu : ℕ) (part : Part) (prev : ℕ) (prev_nice : ℤ) (way : Way) (next : ℕ) (next_nice : ℤ) (claim : Option Claim)
-    → Widens (switch_tests knobs part (Switch prev prev_nice way next next_nice) claim) (all_tests knobs cpu part (Switch prev prev_nice way next next_nice) claim)
-switch_row knobs cpu part prev prev_nice way next next_nice None = skip (λ p h. h) (skip (λ p h. h) (keep (keep (skip (λ p h. h) (skip (λ p h. h) (skip (λ p h. h) (keep (keep (keep (keep (keep (skip (λ p h. h) (skip (λ p h. h) (keep (keep (keep end))))))))))))))))
-switch_row knobs cpu part prev prev_nice way next next_nice (Some c) = skip (λ p h. h) (skip (λ p h. h) (keep (keep (skip (λ p h. h) (skip (λ p h. h) (skip (λ p h. h) (keep (keep (keep (keep (keep (skip (λ p h. h) (skip (λ p h. h) (keep (keep (keep end))))))))))))))))
+pub switch_row : (knobs : Settings) (cpu : ℕ) (part : Part) (prev : ℕ) (prev_nice : ℤ) (way : Way) (next : ℕ)
+    (next_nice : ℤ) (claim : Option Claim)
+    → Widens (switch_tests knobs part (Switch prev prev_nice way next next_nice) claim)
+    (all_tests knobs cpu part (Switch prev prev_nice way next next_nice) claim)
+switch_row knobs cpu part prev prev_nice way next next_nice None =
+    skip (λ p h. h) (skip (λ p h. h) (keep
+    (keep (skip (λ p h. h) (skip (λ p h. h)
+    (skip (λ p h. h) (keep
+    (keep (keep (keep (keep (skip (λ p h. h) (skip (λ p h. h) (keep (keep (keep end))))))))))))))))
+switch_row knobs cpu part prev prev_nice way next next_nice (Some c) =
+    skip (λ p h. h) (skip (λ p h. h) (keep
+    (keep (skip (λ p h. h) (skip (λ p h. h)
+    (skip (λ p h. h) (keep
+    (keep (keep (keep (keep (skip (λ p h. h) (skip (λ p h. h) (keep (keep (keep end))))))))))))))))
 
 -- a wakeup
 pub wake_row : (knobs : Settings) (cpu : ℕ) (part : Part) (pid : ℕ) (nice : ℤ) (claim : Option Claim)
     → Widens (wake_tests knobs.credit part (Wake pid nice) claim) (all_tests knobs cpu part (Wake pid nice) claim)
-wake_row knobs cpu part pid nice None = skip (λ p h. h) (skip (λ p h. h) (skip (λ p h. h) (skip (λ p h. h) (keep (skip (λ p h. h) (skip (λ p h. h) (keep (keep (keep (keep (skip (λ p h. h) (keep (skip (λ p h. h) (skip (λ p h. h) (skip (λ p h. h) (skip (λ p h. h) end))))))))))))))))
-wake_row knobs cpu part pid nice (Some c) = skip (λ p h. h) (skip (λ p h. h) (skip (λ p h. h) (skip (λ p h. h) (keep (skip (λ p h. h) (skip (λ p h. h) (keep (keep (keep (keep (skip (λ p h. h) (keep (skip (λ p h. h) (skip (λ p h. h) (skip (λ p h. h) (skip (λ p h. h) end))))))))))))))))
+wake_row knobs cpu part pid nice None = skip (λ p h. h)
+    (skip (λ p h. h) (skip (λ p h. h) (skip (λ p h. h)
+    (keep (skip (λ p h. h) (skip (λ p h. h)
+    (keep (keep (keep (keep (skip (λ p h. h)
+    (keep (skip (λ p h. h) (skip (λ p h. h) (skip (λ p h. h) (skip (λ p h. h) end))))))))))))))))
+wake_row knobs cpu part pid nice (Some c) =
+    skip (λ p h. h) (skip (λ p h. h) (skip (λ p h. h)
+    (skip (λ p h. h) (keep (skip (λ p h. h)
+    (skip (λ p h. h) (keep
+    (keep (keep (keep (skip (λ p h. h) (keep
+    (skip (λ p h. h) (skip (λ p h. h) (skip (λ p h. h) (skip (λ p h. h) end))))))))))))))))
 
 -- a birth
 pub birth_row : (knobs : Settings) (cpu : ℕ) (part : Part) (pid : ℕ) (nice : ℤ) (idle : Bool) (claim : Option Claim)
-    → Widens (birth_tests knobs.debit part (Born pid nice idle) claim) (all_tests knobs cpu part (Born pid nice idle) claim)
-birth_row knobs cpu part pid nice idle None = skip (λ p h. h) (skip (λ p h. h) (skip (λ p h. h) (skip (λ p h. h) (skip (λ p h. h) (keep (skip (λ p h. h) (skip (λ p h. h) (keep (skip (λ p h. h) (keep (skip (λ p h. h) (skip (λ p h. h) (keep (skip (λ p h. h) (skip (λ p h. h) (skip (λ p h. h) end))))))))))))))))
-birth_row knobs cpu part pid nice idle (Some c) = skip (λ p h. h) (skip (λ p h. h) (skip (λ p h. h) (skip (λ p h. h) (skip (λ p h. h) (keep (skip (λ p h. h) (skip (λ p h. h) (keep (skip (λ p h. let e : Some pid ≡ None = h.0 in absurd cc) (keep (skip (λ p h. h) (skip (λ p h. h) (keep (skip (λ p h. h) (skip (λ p h. h) (skip (λ p h. h) end))))))))))))))))
+    → Widens (birth_tests knobs.debit part (Born pid nice idle) claim)
+    (all_tests knobs cpu part (Born pid nice idle) claim)
+birth_row knobs cpu part pid nice idle None =
+    skip (λ p h. h) (skip (λ p h. h) (skip (λ p h. h)
+    (skip (λ p h. h) (skip (λ p h. h) (keep
+    (skip (λ p h. h) (skip (λ p h. h) (keep
+    (skip (λ p h. h) (keep (skip (λ p h. h)
+    (skip (λ p h. h) (keep (skip (λ p h. h) (skip (λ p h. h) (skip (λ p h. h) end))))))))))))))))
+birth_row knobs cpu part pid nice idle (Some c) =
+    skip (λ p h. h) (skip (λ p h. h) (skip (λ p h. h)
+    (skip (λ p h. h) (skip (λ p h. h) (keep
+    (skip (λ p h. h) (skip (λ p h. h) (keep
+    (skip (λ p h. let e : Some pid ≡ None = h.0 in absurd cc)
+    (keep (skip (λ p h. h) (skip (λ p h. h) (keep (skip (λ p h. h) (skip (λ p h. h) (skip (λ p h. h) end))))))))))))))))
 
 -- a task that leaves
 pub leave_row : (knobs : Settings) (cpu : ℕ) (part : Part) (pid : ℕ) (nice : ℤ) (dest : ℕ) (claim : Option Claim)
     → Widens (leave_tests cpu part (Leave pid nice dest)) (all_tests knobs cpu part (Leave pid nice dest) claim)
-leave_row knobs cpu part pid nice dest None = skip (λ p h. h) (keep (skip (λ p h. h) (skip (λ p h. h) (keep (skip (λ p h. h) (keep (keep (skip (λ p h. let e : None ≡ Some p = h.0 in absurd cc) (skip (λ p h. h) (skip (λ p h. h) (skip (λ p h. h) (skip (λ p h. h) (skip (λ p h. h) (skip (λ p h. h) (skip (λ p h. h) (skip (λ p h. h) end))))))))))))))))
-leave_row knobs cpu part pid nice dest (Some c) = skip (λ p h. h) (keep (skip (λ p h. h) (skip (λ p h. h) (keep (skip (λ p h. h) (keep (keep (skip (λ p h. let e : None ≡ Some p = h.0 in absurd cc) (skip (λ p h. h) (skip (λ p h. let e : None ≡ Some h.0.0 = h.0.1 in absurd cc) (skip (λ p h. h) (skip (λ p h. h) (skip (λ p h. h) (skip (λ p h. h) (skip (λ p h. h) (skip (λ p h. h) end))))))))))))))))
+leave_row knobs cpu part pid nice dest None =
+    skip (λ p h. h) (keep (skip (λ p h. h)
+    (skip (λ p h. h) (keep (skip (λ p h. h)
+    (keep (keep (skip (λ p h. let e : None ≡ Some p = h.0 in absurd cc)
+    (skip (λ p h. h) (skip (λ p h. h) (skip (λ p h. h)
+    (skip (λ p h. h) (skip (λ p h. h) (skip (λ p h. h) (skip (λ p h. h) (skip (λ p h. h) end))))))))))))))))
+leave_row knobs cpu part pid nice dest (Some c) =
+    skip (λ p h. h) (keep (skip (λ p h. h)
+    (skip (λ p h. h) (keep (skip (λ p h. h)
+    (keep (keep (skip (λ p h. let e : None ≡ Some p = h.0 in absurd cc)
+    (skip (λ p h. h) (skip (λ p h. let e : None ≡ Some h.0.0 = h.0.1 in absurd cc)
+    (skip (λ p h. h) (skip (λ p h. h) (skip (λ p h. h)
+    (skip (λ p h. h) (skip (λ p h. h) (skip (λ p h. h) end))))))))))))))))
 
 -- a task that comes
-pub arrival_row : (knobs : Settings) (cpu : ℕ) (part : Part) (pid : ℕ) (nice : ℤ) (orig : ℕ) (idle : Bool) (claim : Option Claim)
-    → Widens (arrival_tests part (Arrive pid nice orig idle) claim) (all_tests knobs cpu part (Arrive pid nice orig idle) claim)
-arrival_row knobs cpu part pid nice orig idle None = skip (λ p h. h) (skip (λ p h. h) (skip (λ p h. h) (skip (λ p h. h) (skip (λ p h. h) (keep (skip (λ p h. h) (skip (λ p h. h) (keep (skip (λ p h. h) (keep (skip (λ p h. h) (skip (λ p h. h) (skip (λ p h. h) (skip (λ p h. h) (skip (λ p h. h) (skip (λ p h. h) end))))))))))))))))
-arrival_row knobs cpu part pid nice orig idle (Some c) = skip (λ p h. h) (skip (λ p h. h) (skip (λ p h. h) (skip (λ p h. h) (skip (λ p h. h) (keep (skip (λ p h. h) (skip (λ p h. h) (keep (skip (λ p h. let e : Some pid ≡ None = h.0 in absurd cc) (keep (skip (λ p h. h) (skip (λ p h. h) (skip (λ p h. h) (skip (λ p h. h) (skip (λ p h. h) (skip (λ p h. h) end))))))))))))))))
+pub arrival_row : (knobs : Settings) (cpu : ℕ) (part : Part) (pid : ℕ) (nice : ℤ) (orig : ℕ) (idle : Bool)
+    (claim : Option Claim)
+    → Widens (arrival_tests part (Arrive pid nice orig idle) claim)
+    (all_tests knobs cpu part (Arrive pid nice orig idle) claim)
+arrival_row knobs cpu part pid nice orig idle None =
+    skip (λ p h. h) (skip (λ p h. h) (skip (λ p h. h)
+    (skip (λ p h. h) (skip (λ p h. h) (keep
+    (skip (λ p h. h) (skip (λ p h. h) (keep
+    (skip (λ p h. h) (keep (skip (λ p h. h)
+    (skip (λ p h. h) (skip (λ p h. h) (skip (λ p h. h) (skip (λ p h. h) (skip (λ p h. h) end))))))))))))))))
+arrival_row knobs cpu part pid nice orig idle (Some c) =
+    skip (λ p h. h) (skip (λ p h. h) (skip (λ p h. h)
+    (skip (λ p h. h) (skip (λ p h. h) (keep
+    (skip (λ p h. h) (skip (λ p h. h) (keep
+    (skip (λ p h. let e : Some pid ≡ None = h.0 in absurd cc)
+    (keep (skip (λ p h. h) (skip (λ p h. h)
+    (skip (λ p h. h) (skip (λ p h. h) (skip (λ p h. h) (skip (λ p h. h) end))))))))))))))))
 
 -- a step's deed, by its row
-module _ (knobs : Settings) (cpu : ℕ) (part : Part) (step : Step) (deed : Deed) (claim : Option Claim) (tests : List Test)
+module _ (knobs : Settings) (cpu : ℕ) (part : Part) (step : Step) (deed : Deed) (claim : Option Claim)
+    (tests : List Test)
     (row : Widens tests (all_tests knobs cpu part deed claim)) (is : step.deed ≡ deed) (says : step.claim ≡ claim) where
-  among : (found : Option FailedTest) → IsFirst found tests → IsFirst found (late_tests knobs cpu part (record step { nice = None }))
+  among : (found : Option FailedTest) → IsFirst found tests
+      → IsFirst found (late_tests knobs cpu part (record step { nice = None }))
   among found h =
       subst (λ (d : Deed). IsFirst found (all_tests knobs cpu part d step.claim)) (sym is)
       (subst (λ (c : Option Claim). IsFirst found (all_tests knobs cpu part deed c)) (sym says) (row.first found h))
 
   -- it fails
-  pub fails : (after : Part) (failed : FailedTest) → IsFirst (Some failed) tests → IsDeedTried knobs cpu part step after (Failed failed)
+  pub fails : (after : Part) (failed : FailedTest) → IsFirst (Some failed) tests
+      → IsDeedTried knobs cpu part step after (Failed failed)
   fails after failed h = among (Some failed) h
 
   -- it passes
@@ -108,11 +167,37 @@ abbrev AreLater : List Test → Type 0
 AreLater [] = ⊤
 AreLater (test ∷ tests) = (test.kind ≢ IdleTooLong) × AreLater tests
 
-later_kind : (tests : List Test) → AreLater tests → (kind : Kind) (pid : ℕ) → FirstHolds tests kind pid → kind ≢ IdleTooLong
+later_kind : (tests : List Test) → AreLater tests → (kind : Kind) (pid : ℕ) → FirstHolds tests kind pid
+    → kind ≢ IdleTooLong
 later_kind [] all kind pid h = absurd h
 later_kind (test ∷ tests) all kind pid (inl h) = λ e. all.0 (sym h.1 ∙ e)
 later_kind (test ∷ tests) all kind pid (inr h) = later_kind tests all.1 kind pid h.1
 
-pub is_later : (knobs : Settings) (cpu : ℕ) (part : Part) (step : Step) (kind : Kind) (pid : ℕ) → FirstHolds (late_tests knobs cpu part step) kind pid
+pub is_later : (knobs : Settings) (cpu : ℕ) (part : Part) (step : Step) (kind : Kind) (pid : ℕ)
+    → FirstHolds (late_tests knobs cpu part step) kind pid
     → kind ≢ IdleTooLong
-is_later knobs cpu part step = later_kind (late_tests knobs cpu part step) (λ e. cc, (λ e. cc, (λ e. cc, (λ e. cc, (λ e. cc, (λ e. cc, (λ e. cc, (λ e. cc, (λ e. cc, (λ e. cc, (λ e. cc, (λ e. cc, (λ e. cc, (λ e. cc, (λ e. cc, (λ e. cc, (λ e. cc, tt)))))))))))))))))
+is_later knobs cpu part step = later_kind (late_tests knobs cpu part step) (
+  λ e. cc,
+  (
+    λ e. cc,
+    (
+      λ e. cc,
+      (
+        λ e. cc,
+        (
+          λ e. cc,
+          (
+            λ e. cc,
+            (
+              λ e. cc,
+              (
+                λ e. cc,
+                (λ e. cc, (λ e. cc, (λ e. cc, (λ e. cc, (λ e. cc, (λ e. cc, (λ e. cc, (λ e. cc, (λ e. cc, tt))))))))),
+              ),
+            ),
+          ),
+        ),
+      ),
+    ),
+  ),
+)

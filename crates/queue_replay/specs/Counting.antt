@@ -45,9 +45,11 @@ if_came _ ticket = []
 abbrev pub HasDraftRoom : Deed → PageDraft → Type 0
 HasDraftRoom (Switch prev prev_nice way next next_nice) draft = vec_len draft.deaths < vec_capacity draft.deaths
 HasDraftRoom (Wake pid nice) draft = ⊤
-HasDraftRoom (Born pid nice idle) draft = (vec_len draft.births < vec_capacity draft.births) × HasTallyRoom pid draft.tallies.list draft.tallies.places
+HasDraftRoom (Born pid nice idle) draft = (vec_len draft.births < vec_capacity draft.births)
+    × HasTallyRoom pid draft.tallies.list draft.tallies.places
 HasDraftRoom (Leave pid nice dest) draft = vec_len draft.left < vec_capacity draft.left
-HasDraftRoom (Arrive pid nice orig idle) draft = (vec_len draft.came < vec_capacity draft.came) × HasTallyRoom pid draft.tallies.list draft.tallies.places
+HasDraftRoom (Arrive pid nice orig idle) draft = (vec_len draft.came < vec_capacity draft.came)
+    × HasTallyRoom pid draft.tallies.list draft.tallies.places
 
 -- the tallies after the runner, if there is one, ran for so long
 abbrev pub stretched : Option Task → ℕ → List Tally → List Tally

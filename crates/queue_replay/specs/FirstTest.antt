@@ -1,5 +1,5 @@
--- What a test answers: the pid of which it holds, or none. What tests in their order answer: the first that holds, by its
--- kind and its pid, or none (this project's profile).
+-- What a test answers: the pid of which it holds, or none. What tests in their order answer: the first that holds, by
+-- its kind and its pid, or none (this project's profile).
 use Rattle.std.specs.Prelude.{ℕ, Option, Some, None, List}
 use Rattle.replay_model.specs.Tests.{Test, NoneHolds, FirstHolds}
 use Rattle.queue_replay.specs.declared.failed_test.FailedTest.{FailedTest}

@@ -1,5 +1,6 @@
 -- How far a replay has gone along its stream (this project's profile).
-use Rattle.std.specs.Prelude.{◌≡◌, ℕ, ◌+◌, ◌-◌, ◌<◌, ◌≤◌, min, nat_lt, if◌then◌else◌, Option, Some, None, IsSome, length, take}
+use Rattle.std.specs.Prelude.{◌≡◌, ℕ, ◌+◌, ◌-◌, ◌<◌, ◌≤◌, min, nat_lt, if◌then◌else◌, Option, Some, None, IsSome}
+use Rattle.std.specs.Prelude.{length, take}
 use Rattle.cfs_model.specs.Settings.{Settings}
 use Rattle.replay_model.specs.Cut.{StreamView}
 use Rattle.replay_model.specs.Needs.{AllPassNeeding}
@@ -22,12 +23,14 @@ pub record IsUnderWay (stream : StreamView) (knobs : Settings) (state : ReplaySt
   pub start : ReplayStateView
   pub is_start : IsStartOf stream start
   pub replay : IsReplay knobs stream.cpu start (take state.made stream.steps) (replay_state_view state)
-  pub needing : AllPassNeeding knobs stream.cpu start (take state.made stream.steps) (replay_state_view state) (needs_view state.needs)
+  pub needing : AllPassNeeding knobs stream.cpu start (take state.made stream.steps) (replay_state_view state)
+      (needs_view state.needs)
   pub going : IsGoing state
 
--- the part of a processor, and since when it has idled beside a waiting task, after the first steps of its stream's replay; a
--- step that fails changes neither
-pub record IsPartAfter (stream : StreamView) (knobs : Settings) (made : ℕ) (part : Part) (since : Option ℕ) : Type 0 where
+-- the part of a processor, and since when it has idled beside a waiting task, after the first steps of its stream's
+-- replay; a step that fails changes neither
+pub record IsPartAfter (stream : StreamView) (knobs : Settings) (made : ℕ) (part : Part)
+    (since : Option ℕ) : Type 0 where
   pub start : ReplayStateView
   pub is_start : IsStartOf stream start
   pub end : ReplayStateView
@@ -53,7 +56,8 @@ abbrev pub IsFaultless : StreamView → Settings → ℕ → Type 0
 IsFaultless stream knobs made = (page : PageView) × IsPageOf stream knobs made page × (page.fault ≡ None)
 
 -- a replay that had this page after so many steps went on for at most so many more
-pub record GoesOn (stream : StreamView) (knobs : Settings) (from : ℕ) (before : PageView) (steps made : ℕ) (after : PageView)
+pub record GoesOn (stream : StreamView) (knobs : Settings) (from : ℕ) (before : PageView) (steps made : ℕ)
+    (after : PageView)
     : Type 0 where
   -- a fault ends it: nothing changes any more
   pub faulted : IsSome before.fault → (made ≡ from) × (after ≡ before)

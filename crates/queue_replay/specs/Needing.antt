@@ -19,7 +19,8 @@ needs_view n = record { granularity = n.granularity; credit = n.credit; debit = 
 
 -- what a deed needs of the one setting that it asks for; a task that leaves or comes asks for none
 abbrev pub IsNeed : Part → Deed → Option Claim → ℕ → Type 0
-IsNeed part (Switch prev prev_nice way next next_nice) claim need = IsPickNeed part (Switch prev prev_nice way next next_nice) need
+IsNeed part (Switch prev prev_nice way next next_nice) claim need =
+    IsPickNeed part (Switch prev prev_nice way next next_nice) need
 IsNeed part (Wake pid nice) claim need = IsWakeNeed part (Wake pid nice) claim need
 IsNeed part (Born pid nice idle) claim need = IsBirthNeed part (Born pid nice idle) claim need
 IsNeed part (Leave pid nice dest) claim need = need ≡ 0

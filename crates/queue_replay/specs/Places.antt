@@ -10,14 +10,16 @@ unfoldable pub IsPlacedBy : {X : Type 0} → (X → ℕ) → List X → BTreeMap
 IsPlacedBy {X} pid_of xs places =
     (place : ℕ) (d : X) → place < length xs → get nat_cmp places (pid_of (get_or xs place d)) ≡ Some place
 
-IsPlacedBy-prop : {X : Type 0} (pid_of : X → ℕ) (xs : List X) (places : BTreeMap ℕ ℕ) → IsProp (IsPlacedBy pid_of xs places)
+IsPlacedBy-prop : {X : Type 0} (pid_of : X → ℕ) (xs : List X) (places : BTreeMap ℕ ℕ)
+    → IsProp (IsPlacedBy pid_of xs places)
 unfolding IsPlacedBy
 IsPlacedBy-prop pid_of xs places = Prim.hlevel props
 
 -- there is room for an element of the pid at the list's end, if it has none
 unfoldable pub HasRoomBy : {X Z : Type 0} → (X → ℕ) → ℕ → Vec X Z → BTreeMap ℕ ℕ → Type 0
 HasRoomBy pid_of pid xs places =
-    (vec_len xs < vec_capacity xs) × (All (λ x. pid_of x ≢ pid) xs.items → get nat_cmp places pid ≡ Some (length xs.items))
+    (vec_len xs < vec_capacity xs) × (All (λ x. pid_of x ≢ pid) xs.items
+    → get nat_cmp places pid ≡ Some (length xs.items))
 
 -- the same of tallies
 abbrev pub IsPlaced : List Tally → BTreeMap ℕ ℕ → Type 0

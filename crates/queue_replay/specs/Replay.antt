@@ -11,6 +11,6 @@ pub record ReplayView : Type 0 where
   pub made : ℕ
   -- what its page would show
   pub page : PageView
-  -- where all steps were made and none failed, what they need of each setting, and the processor that idles at the record's
-  -- last time (HasNeeds); else nothing is said of it
+  -- where all steps were made and none failed, what they need of each setting, and the processor that idles at the
+  -- record's last time (HasNeeds); else nothing is said of it
   pub needs : Settings

@@ -10,7 +10,12 @@ use Rattle.queue_replay.specs.Stretches.{IsWithin}
 use Rattle.queue_replay.specs.declared.replay_state.ReplayState.{ReplayState}
 
 abbrev pub replay_state_view : ReplayState → ReplayStateView
-replay_state_view state = record { part = runqueue_view state.queue; since = state.since; page = page_draft_view state.draft }
+replay_state_view state = record {
+  part = runqueue_view state.queue;
+  since = state.since;
+  page =
+      page_draft_view state.draft;
+}
 
 -- no step has failed so far
 pub record IsGoing (state : ReplayState) : Type 0 where
@@ -19,7 +24,8 @@ pub record IsGoing (state : ReplayState) : Type 0 where
 
 -- the step passed, and was noted
 pub record IsPassed (knobs : Settings) (cpu : ℕ) (old : ReplayState) (step : Step) (new : ReplayState) : Type 0 where
-  pub passes : PassesRaising knobs cpu (replay_state_view old) (needs_view old.needs) step (replay_state_view new) (needs_view new.needs)
+  pub passes : PassesRaising knobs cpu (replay_state_view old) (needs_view old.needs) step (replay_state_view new)
+      (needs_view new.needs)
   pub within : All (IsWithin (old.made + 1)) new.draft.tallies.list.items
 
 -- a step was made, which passed, or failed

@@ -2,10 +2,12 @@
 -- becomes of a step whose processor is charged and lifted, and has the nice value that its line changes (this project's
 -- profile).
 use Rattle.std.specs.Prelude.{◌≡◌, ◌≢◌, ℕ, ⊤, Option, Some, None, Result, Ok, Err, List, [], ◌∷◌}
-use Rattle.replay_model.specs.ClaimTests.{claimant, IsClaimMissing, IsWrongPutBack, IsWakeOutside, IsForkOutside, IsNextNotWaiting, IsIdleBesideWaiting, IsNotLeast}
+use Rattle.replay_model.specs.ClaimTests.{claimant, IsClaimMissing, IsWrongPutBack, IsWakeOutside, IsForkOutside}
+use Rattle.replay_model.specs.ClaimTests.{IsNextNotWaiting, IsIdleBesideWaiting, IsNotLeast}
 use Rattle.replay_model.specs.Deeds.{after_deed}
 use Rattle.replay_model.specs.Part.{Part, Entity}
-use Rattle.replay_model.specs.QueueTests.{IsMoveHome, IsSelfSwitch, IsPrevNotRunning, IsStrange, IsAlready, IsMoveRunning, IsWrongPrio}
+use Rattle.replay_model.specs.QueueTests.{IsMoveHome, IsSelfSwitch, IsPrevNotRunning, IsStrange, IsAlready}
+use Rattle.replay_model.specs.QueueTests.{IsMoveRunning, IsWrongPrio}
 use Rattle.replay_model.specs.Tests.{Test, NoneHolds, FirstHolds, late_tests}
 use Rattle.replay_model.specs.declared.step.Deed.{Deed}
 use Rattle.replay_model.specs.declared.step.Deed.TheVariants.{Switch}

@@ -1,5 +1,6 @@
 ghost use Rattle.std.specs.Prelude.{◌≡◌, ◌≢◌, ℕ, Bool, ℤ, IsTrue, ◌↔◌, Option, Some, pos, ◌-ℤ◌, ◌≤ℤ◌};
-ghost use Rattle.replay_model.specs.ClaimTests.{if_resting, IsClaimMissing, IsInWakeBounds, IsWakeOutside, IsInForkBounds, IsForkOutside};
+ghost use Rattle.replay_model.specs.ClaimTests.{if_resting, IsClaimMissing, IsInWakeBounds, IsWakeOutside};
+ghost use Rattle.replay_model.specs.ClaimTests.{IsInForkBounds, IsForkOutside};
 ghost use Rattle.replay_model.specs.Part.{Part, Entity, place_in};
 ghost use Rattle.replay_model.specs.declared.step.Deed.TheVariants.{Wake, Born, Arrive};
 ghost use Rattle.cfs_model.specs.declared.task.Place.TheVariants.{Rest};
@@ -40,7 +41,8 @@ pub(crate) fn claim_missing(needed: Option<u32>, claim: Option<Claim>) -> Option
 
 /// A task comes, and the line has no claim.
 pub(crate) fn arrival_claim_missing(pid: u32, claim: Option<Claim>) -> Option<u32>
-    ensures { (part : Part) (nice : ℤ) (orig : ℕ) (idle : Bool) → Decides result (IsClaimMissing part (Arrive pid nice orig idle) claim) }
+    ensures { (part : Part) (nice : ℤ) (orig : ℕ) (idle : Bool)
+        → Decides result (IsClaimMissing part (Arrive pid nice orig idle) claim) }
 {
     match claim {
         Some(_) => None,
@@ -98,7 +100,8 @@ pub(crate) fn fork_outside(
     claim: Option<Claim>,
     debit: u64,
 ) -> Option<u32>
-    ensures { (nice : ℤ) (idle : Bool) → Decides result (IsForkOutside debit (runqueue_view queue.now) (Born pid nice idle) claim) }
+    ensures { (nice : ℤ) (idle : Bool) → Decides result
+        (IsForkOutside debit (runqueue_view queue.now) (Born pid nice idle) claim) }
 {
     let claim = claim?;
     if is_in_fork_bounds(queue.floor(), claim, debit) {
@@ -120,7 +123,8 @@ pub(crate) fn idle_beside_waiting(least: Option<i64>, next: u32) -> Option<u32>
 
 /// The next task leads the least of those who wait by more than the granularity; both in virtual nanoseconds.
 pub(crate) fn not_least(next: u32, lead: u64, granularity: u64) -> Option<u32>
-    ensures { (own : Option Entity) (part : Part) → IsLead own part next lead → Decides result (IsAboveGranularity granularity own part next) }
+    ensures { (own : Option Entity) (part : Part) → IsLead own part next lead
+        → Decides result (IsAboveGranularity granularity own part next) }
 {
     if granularity < lead { Some(next) } else { None }
 }
@@ -139,7 +143,8 @@ pub(crate) fn is_at_other(task: Option<Task>, claim: Claim) -> bool
 /// The task rests here, and is claimed outside the bounds of its wakeup.
 fn rests_outside(queue: &Runqueue, claim: Claim, credit: u64, task: Option<Task>) -> bool
     ensures { let part = runqueue_view queue.now in (pid : ℕ) → IsTaskAt part pid task
-        → (IsTrue result ↔ ((s : Entity) × (part.tasks pid ≡ Some s) × (s.place ≡ Rest) × (¬ IsInWakeBounds credit part.floor s.runtime claim.v))) }
+        → (IsTrue result ↔ ((s : Entity) × (part.tasks pid ≡ Some s) × (s.place ≡ Rest)
+        × (¬ IsInWakeBounds credit part.floor s.runtime claim.v))) }
 {
     match task {
         Some(task) => task.place == Place::Rest

@@ -36,8 +36,8 @@ macro_rules! moves {
     };
 }
 
-/// A step's deed is tried on a runqueue as it finds it: the moves that it makes, or the first test that it fails. Where a
-/// test fails, or memory is wanted, nothing changes.
+/// A step's deed is tried on a runqueue as it finds it: the moves that it makes, or the first test that it fails. Where
+/// a test fails, or memory is wanted, nothing changes.
 pub(crate) fn try_deed(
     queue: &mut Runqueue,
     cpu: u32,
@@ -84,7 +84,8 @@ fn try_switch(
     knobs: Knobs,
 ) -> Result<Outcome, Memory>
     requires { step.now.deed ≡ switch_deed switch.now }
-    ensures tried { (cpu : ℕ) → IfOk result (IsDeedTried knobs cpu (runqueue_view queue.old) step.now (runqueue_view queue.new)) }
+    ensures tried { (cpu : ℕ) → IfOk result
+        (IsDeedTried knobs cpu (runqueue_view queue.old) step.now (runqueue_view queue.new)) }
     ensures same { HoldsUnmade result queue.old queue.new }
 {
     let prev = queue.switch_task(switch.prev);
@@ -112,7 +113,8 @@ fn try_wake(
     knobs: Knobs,
 ) -> Result<Outcome, Memory>
     requires { step.now.deed ≡ Wake pid nice }
-    ensures tried { (cpu : ℕ) → IfOk result (IsDeedTried knobs cpu (runqueue_view queue.old) step.now (runqueue_view queue.new)) }
+    ensures tried { (cpu : ℕ) → IfOk result
+        (IsDeedTried knobs cpu (runqueue_view queue.old) step.now (runqueue_view queue.new)) }
     ensures same { HoldsUnmade result queue.old queue.new }
 {
     let task = queue.task_at(pid);
@@ -166,7 +168,8 @@ fn try_leave(
     dest: u32,
 ) -> Result<Outcome, Memory>
     requires { step.now.deed ≡ Leave pid nice dest }
-    ensures tried { (knobs : Settings) → IfOk result (IsDeedTried knobs cpu (runqueue_view queue.old) step.now (runqueue_view queue.new)) }
+    ensures tried { (knobs : Settings) → IfOk result
+        (IsDeedTried knobs cpu (runqueue_view queue.old) step.now (runqueue_view queue.new)) }
     ensures same { HoldsUnmade result queue.old queue.new }
 {
     let task = queue.task_at(pid);
@@ -187,7 +190,8 @@ fn try_arrival(
     idle: bool,
 ) -> Result<Outcome, Memory>
     requires { (orig : ℕ) × (step.now.deed ≡ Arrive pid nice orig idle) }
-    ensures tried { (knobs : Settings) → IfOk result (IsDeedTried knobs cpu (runqueue_view queue.old) step.now (runqueue_view queue.new)) }
+    ensures tried { (knobs : Settings) → IfOk result
+        (IsDeedTried knobs cpu (runqueue_view queue.old) step.now (runqueue_view queue.new)) }
     ensures same { HoldsUnmade result queue.old queue.new }
 {
     let task = queue.task_at(pid);

@@ -5,8 +5,8 @@ ghost use Rattle.queue_replay.specs.Needing.{needs_view, step_needs};
 
 use replay_model::Deed;
 
-/// What steps need of each setting, in nanoseconds, those of virtual runtimes virtual ones: the least settings under which
-/// they pass.
+/// What steps need of each setting, in nanoseconds, those of virtual runtimes virtual ones: the least settings under
+/// which they pass.
 #[derive(Clone, Copy, Debug, PartialEq, Eq)]
 pub struct Needs {
     /// How far above the least virtual runtime a task was picked.

@@ -60,8 +60,8 @@ impl Page {
         let _stream = &self.stream;
     }
 
-    /// What its steps need of each setting, and the processor that idles at the record's last time; where a step failed,
-    /// or some are left, nothing is said of them.
+    /// What its steps need of each setting, and the processor that idles at the record's last time; where a step
+    /// failed, or some are left, nothing is said of them.
     pub fn needs(&self) -> Needs
         ensures { needs_view result ≡ self.now.needs }
     {

@@ -1,4 +1,5 @@
-ghost use Rattle.std.specs.Prelude.{◌≡◌, ℕ, ℤ, ◌+◌, ◌-◌, ◌^◌, ◌<◌, ◌≤◌, [], ◌∷◌, ◌++◌, All, IfSome, OnOk, vec_len, vec_capacity};
+ghost use Rattle.std.specs.Prelude.{◌≡◌, ℕ, ℤ, ◌+◌, ◌-◌, ◌^◌, ◌<◌, ◌≤◌, [], ◌∷◌, ◌++◌, All, IfSome, OnOk, vec_len};
+ghost use Rattle.std.specs.Prelude.{vec_capacity};
 ghost use Rattle.cfs_model.specs.Charge.{greatest};
 ghost use Rattle.replay_model.specs.Noted.{births_of, deaths_of, tallied};
 ghost use Rattle.replay_model.specs.declared.step.Deed.{Deed as DeedOf};
@@ -84,7 +85,9 @@ impl PageDraft {
         requires within { All (IsWithin steps) self.old.tallies.list.items }
         ensures tallies { self.new.tallies.list.items ≡ stretched runner time self.old.tallies.list.items }
         ensures room { (deed : DeedOf) → HasDraftRoom deed self.old → HasDraftRoom deed self.new }
-        ensures same { (self.new.line ≡ self.old.line) × (self.new.fault ≡ self.old.fault) × (self.new.left ≡ self.old.left) × (self.new.came ≡ self.old.came) × (self.new.births ≡ self.old.births) × (self.new.deaths ≡ self.old.deaths) }
+        ensures same { (self.new.line ≡ self.old.line) × (self.new.fault ≡ self.old.fault)
+            × (self.new.left ≡ self.old.left) × (self.new.came ≡ self.old.came) × (self.new.births ≡ self.old.births)
+            × (self.new.deaths ≡ self.old.deaths) }
     {
         if let Some(task) = runner {
             self.tallies.add_stretch(task, time, steps);
@@ -147,8 +150,11 @@ impl PageDraft {
     /// Notes the death of a switch's previous task, if it ends.
     fn note_end(&mut self, line: u32, prev: u32, way: Way)
         requires { vec_len self.old.deaths < vec_capacity self.old.deaths }
-        ensures deaths { (prev_nice : ℤ) (next : ℕ) (next_nice : ℤ) → self.new.deaths.items ≡ self.old.deaths.items ++ deaths_of line (Switch prev prev_nice way next next_nice) }
-        ensures same { (self.new.line ≡ self.old.line) × (self.new.fault ≡ self.old.fault) × (self.new.left ≡ self.old.left) × (self.new.came ≡ self.old.came) × (self.new.births ≡ self.old.births) × (self.new.tallies ≡ self.old.tallies) }
+        ensures deaths { (prev_nice : ℤ) (next : ℕ) (next_nice : ℤ) → self.new.deaths.items ≡ self.old.deaths.items
+            ++ deaths_of line (Switch prev prev_nice way next next_nice) }
+        ensures same { (self.new.line ≡ self.old.line) × (self.new.fault ≡ self.old.fault)
+            × (self.new.left ≡ self.old.left) × (self.new.came ≡ self.old.came) × (self.new.births ≡ self.old.births)
+            × (self.new.tallies ≡ self.old.tallies) }
     {
         match way {
             Way::Stays | Way::Sleeps => {}

@@ -17,7 +17,8 @@ pub(crate) fn try_step(
     step: &Step,
     knobs: Knobs,
 ) -> Result<Outcome, Memory>
-    ensures tried { IfOk result (IsTried knobs cpu (reniced step.now.nice (runqueue_view queue.old)) step.now (runqueue_view queue.new)) }
+    ensures tried { IfOk result (IsTried knobs cpu (reniced step.now.nice (runqueue_view queue.old)) step.now
+        (runqueue_view queue.new)) }
     ensures same { HoldsUnmade result queue.old queue.new }
 {
     match step.nice {
@@ -35,7 +36,8 @@ fn try_reniced(
     knobs: Knobs,
 ) -> Result<Outcome, Memory>
     requires { step.now.nice ≡ Some change }
-    ensures tried { IfOk result (IsTried knobs cpu (reniced (Some change) (runqueue_view queue.old)) step.now (runqueue_view queue.new)) }
+    ensures tried { IfOk result (IsTried knobs cpu (reniced (Some change) (runqueue_view queue.old)) step.now
+        (runqueue_view queue.new)) }
     ensures same { HoldsUnmade result queue.old queue.new }
 {
     let pid = change.pid;

@@ -33,7 +33,14 @@ impl Model for Replay {
 
     ghost Value = { ReplayView };
 
-    ghost view = { λ replay. record { stream = stream_view replay.stream; knobs = replay.knobs; made = replay.state.made; page = page_draft_view replay.state.draft; needs = needs_view replay.state.needs } };
+    ghost view = { λ replay. record {
+      stream = stream_view replay.stream;
+      knobs = replay.knobs;
+      made =
+          replay.state.made;
+      page = page_draft_view replay.state.draft;
+      needs = needs_view replay.state.needs;
+    } };
 
     ghost invariant = { λ replay. IsAt (stream_view replay.stream) replay.knobs replay.state };
 }
@@ -65,9 +72,12 @@ impl Replay {
         ensures stream { self.new.stream ≡ self.old.stream }
         ensures knobs { self.new.knobs ≡ self.old.knobs }
         ensures page { IsPageOf self.new.stream self.new.knobs self.new.made self.new.page }
-        ensures state { IfOk result (λ answer. answer ≡ state_of self.new.page.fault self.new.made (length self.new.stream.steps)) }
-        ensures made { OnOk result (GoesOn self.old.stream self.old.knobs self.old.made self.old.page steps self.new.made self.new.page) }
-        ensures memory { OnErr result (IsCut self.old.stream self.old.knobs self.old.made steps self.new.made self.new.page) }
+        ensures state { IfOk result (λ answer. answer ≡ state_of self.new.page.fault self.new.made
+            (length self.new.stream.steps)) }
+        ensures made { OnOk result (GoesOn self.old.stream self.old.knobs self.old.made self.old.page steps
+            self.new.made self.new.page) }
+        ensures memory { OnErr result (IsCut self.old.stream self.old.knobs self.old.made steps self.new.made
+            self.new.page) }
     {
         make_steps(&self.stream, self.knobs, &mut self.state, steps)?;
         Ok(self.state())
@@ -90,7 +100,8 @@ impl Replay {
 
     /// Who stands at the processor, after the steps made; a step that failed changed nothing.
     pub fn runqueue(&self) -> &Runqueue
-        ensures { (since : Option ℕ) × IsPartAfter self.now.stream self.now.knobs self.now.made (runqueue_view result.now) since }
+        ensures { (since : Option ℕ) × IsPartAfter self.now.stream self.now.knobs self.now.made
+            (runqueue_view result.now) since }
     {
         &self.state.queue
     }

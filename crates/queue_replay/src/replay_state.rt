@@ -1,4 +1,5 @@
-ghost use Rattle.std.specs.Prelude.{◌≡◌, ◌≢◌, ℕ, ◌+◌, ◌-◌, ◌^◌, ◌<◌, Some, None, MatchOption, IfSome, IfOk, OnOk, OnErr};
+ghost use Rattle.std.specs.Prelude.{◌≡◌, ◌≢◌, ℕ, ◌+◌, ◌-◌, ◌^◌, ◌<◌, Some, None, MatchOption, IfSome, IfOk, OnOk};
+ghost use Rattle.std.specs.Prelude.{OnErr};
 ghost use Rattle.replay_model.specs.Needs.{idle_need};
 ghost use Rattle.replay_model.specs.Page.{FailsTest, IsSince, deadline_of, with_fault};
 ghost use Rattle.replay_model.specs.QueueTests.{IsIdleTooLong};
@@ -36,8 +37,10 @@ impl ReplayState {
         requires going { IsGoing self.old }
         requires few { self.old.made < 2 ^ 64 - 1 }
         ensures made { OnOk result (self.new.made ≡ self.old.made + 1) }
-        ensures stepped { OnOk result (IsStepped knobs cpu (replay_state_view self.old) (needs_view self.old.needs) step.now self.new) }
-        ensures memory { OnErr result (IsGoing self.new × (replay_state_view self.new ≡ replay_state_view self.old) × (self.new.made ≡ self.old.made) × (self.new.needs ≡ self.old.needs)) }
+        ensures stepped { OnOk result (IsStepped knobs cpu (replay_state_view self.old)
+            (needs_view self.old.needs) step.now self.new) }
+        ensures memory { OnErr result (IsGoing self.new × (replay_state_view self.new ≡ replay_state_view self.old)
+            × (self.new.made ≡ self.old.made) × (self.new.needs ≡ self.old.needs)) }
     {
         self.draft.make_room(step.deed)?;
         self.test_step(cpu, step, knobs)
@@ -49,7 +52,8 @@ impl ReplayState {
         requires few { self.old.made < 2 ^ 64 - 1 }
         requires draft { HasDraftRoom step.now.deed self.old.draft }
         ensures made { OnOk result (self.new.made ≡ self.old.made + 1) }
-        ensures stepped { OnOk result (IsStepped knobs cpu (replay_state_view self.old) (needs_view self.old.needs) step.now self.new) }
+        ensures stepped { OnOk result (IsStepped knobs cpu (replay_state_view self.old)
+            (needs_view self.old.needs) step.now self.new) }
         ensures memory { OnErr result (IsUndone self.old self.new) }
     {
         if let Some(deadline) = idle_deadline(self.since, step.time, knobs.slack()) {
@@ -73,7 +77,8 @@ impl ReplayState {
     fn fail(&mut self, line: u32, failed: FailedTest, deadline: Option<u64>)
         requires { self.old.made < 2 ^ 64 - 1 }
         ensures made { self.new.made ≡ self.old.made + 1 }
-        ensures noted { replay_state_view self.new ≡ with_fault (replay_state_view self.old) (record { line = line; kind = failed.kind; pid = failed.pid; deadline = deadline }) }
+        ensures noted { replay_state_view self.new ≡ with_fault (replay_state_view self.old)
+            (record { line = line; kind = failed.kind; pid = failed.pid; deadline = deadline }) }
     {
         self.draft.fault = Some(StepFault {
             line,
@@ -93,7 +98,8 @@ impl ReplayState {
         requires in_time { (pid : ℕ) → IsIdleTooLong knobs.slack self.old.since step.now.time pid → ⊥ }
         ensures made { self.new.made ≡ self.old.made }
         ensures passes { IfOk result (λ found. found ≡ None → IsPassed knobs cpu self.old step.now self.new) }
-        ensures fails { IfOk result (λ found. IfSome found (λ failed. FailsTest knobs cpu (replay_state_view self.old) step.now failed.kind failed.pid)) }
+        ensures fails { IfOk result (λ found. IfSome found
+            (λ failed. FailsTest knobs cpu (replay_state_view self.old) step.now failed.kind failed.pid)) }
         ensures later { IfOk result (λ found. IfSome found (λ failed. failed.kind ≢ IdleTooLong)) }
         ensures undone { IfOk result (λ found. found ≢ None → IsUndone self.old self.new) }
         ensures memory { OnErr result (IsUndone self.old self.new) }

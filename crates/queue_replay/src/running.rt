@@ -28,8 +28,10 @@ pub(crate) fn make_steps(
 ) -> Result<(), Memory>
     requires { IsAt (stream_view stream.now) knobs state.old }
     ensures at { IsAt (stream_view stream.now) knobs state.new }
-    ensures made { OnOk result (GoesOn (stream_view stream.now) knobs state.old.made (page_draft_view state.old.draft) steps state.new.made (page_draft_view state.new.draft)) }
-    ensures memory { OnErr result (IsCut (stream_view stream.now) knobs state.old.made steps state.new.made (page_draft_view state.new.draft)) }
+    ensures made { OnOk result (GoesOn (stream_view stream.now) knobs state.old.made
+        (page_draft_view state.old.draft) steps state.new.made (page_draft_view state.new.draft)) }
+    ensures memory { OnErr result (IsCut (stream_view stream.now) knobs state.old.made steps state.new.made
+        (page_draft_view state.new.draft)) }
 {
     let mut left = steps;
     while left > 0 {
@@ -44,8 +46,10 @@ pub(crate) fn make_steps(
 
 /// Steps are left, and none has failed.
 fn is_going(stream: &Stream, state: &ReplayState) -> bool
-    ensures going { result ≡ true → (state.now.draft.fault ≡ None) × (state.now.made < length (stream_view stream.now).steps) }
-    ensures over { result ≡ false → IsSome state.now.draft.fault ⊎ (length (stream_view stream.now).steps ≤ state.now.made) }
+    ensures going { result ≡ true → (state.now.draft.fault ≡ None)
+        × (state.now.made < length (stream_view stream.now).steps) }
+    ensures over { result ≡ false → IsSome state.now.draft.fault
+        ⊎ (length (stream_view stream.now).steps ≤ state.now.made) }
 {
     state.draft.fault.is_none() && state.made < stream.steps().len()
 }
@@ -57,7 +61,8 @@ fn advance(stream: &Stream, knobs: Knobs, state: &mut ReplayState) -> Result<(),
     requires left { state.old.made < length (stream_view stream.now).steps }
     ensures at { IsAt (stream_view stream.now) knobs state.new }
     ensures made { OnOk result (state.new.made ≡ state.old.made + 1) }
-    ensures memory { OnErr result ((state.new.made ≡ state.old.made) × (page_draft_view state.new.draft ≡ page_draft_view state.old.draft)) }
+    ensures memory { OnErr result ((state.new.made ≡ state.old.made)
+        × (page_draft_view state.new.draft ≡ page_draft_view state.old.draft)) }
 {
     let step = &stream.steps()[state.made];
     state.step(stream.cpu(), step, knobs)?;
@@ -71,10 +76,13 @@ fn advance(stream: &Stream, knobs: Knobs, state: &mut ReplayState) -> Result<(),
 /// long.
 fn end_test(stream: &Stream, knobs: Knobs, state: &mut ReplayState)
     ensures made { state.new.made ≡ state.old.made }
-    ensures needs { state.old.draft.fault ≡ None → needs_view state.new.needs ≡ larger (needs_view state.old.needs) (only_slack (idle_need state.old.since (stream_view stream.now).last_time)) }
+    ensures needs { state.old.draft.fault ≡ None
+        → needs_view state.new.needs ≡ larger (needs_view state.old.needs)
+        (only_slack (idle_need state.old.since (stream_view stream.now).last_time)) }
     ensures part { runqueue_view state.new.queue ≡ runqueue_view state.old.queue }
     ensures since { state.new.since ≡ state.old.since }
-    ensures page { page_draft_view state.new.draft ≡ end_page knobs.slack (stream_view stream.now) state.old.since state.old.draft.fault (page_draft_view state.old.draft) }
+    ensures page { page_draft_view state.new.draft ≡ end_page knobs.slack
+        (stream_view stream.now) state.old.since state.old.draft.fault (page_draft_view state.old.draft) }
 {
     if state.draft.fault.is_some() {
         return;

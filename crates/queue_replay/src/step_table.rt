@@ -6,7 +6,8 @@ ghost use Rattle.replay_model.specs.declared.step.Deed.TheVariants.{Wake, Born, 
 ghost use Rattle.queue_replay.specs.FirstTest.{FindsFirst, IsFirst};
 ghost use Rattle.queue_replay.specs.Picks.{IsLead};
 ghost use Rattle.runqueue.specs.Queue.{runqueue_view, IsLeastIfWaiting, IsSwitchTask, IsTaskAt};
-ghost use Rattle.queue_replay.specs.Rows.{arrival_tests, birth_tests, leave_tests, moved_tests, pick_tests, switch_deed, switch_tests, wake_tests};
+ghost use Rattle.queue_replay.specs.Rows.{arrival_tests, birth_tests, leave_tests, moved_tests, pick_tests};
+ghost use Rattle.queue_replay.specs.Rows.{switch_deed, switch_tests, wake_tests};
 
 use crate::claim_tests::{
     arrival_claim_missing, claim_extra, claim_missing, claim_pid, fork_outside,
@@ -41,9 +42,12 @@ pub(crate) fn first_switch_test(
 ) -> Option<FailedTest>
     requires prev { IsSwitchTask (runqueue_view queue.now) switch.now.prev prev.now }
     requires next { IsSwitchTask (runqueue_view queue.now) switch.now.next next.now }
-    ensures runner { result ≡ None → (pid : ℕ) → IsPrevNotRunning (runqueue_view queue.now) (switch_deed switch.now) pid → ⊥ }
+    ensures runner { result ≡ None → (pid : ℕ) → IsPrevNotRunning (runqueue_view queue.now) (switch_deed switch.now) pid
+        → ⊥ }
     ensures two { result ≡ None → switch.now.prev ≢ switch.now.next }
-    ensures first { (knobs : Settings) → FindsFirst result (pick_tests knobs (runqueue_view queue.now) (switch_deed switch.now)) (switch_tests knobs (runqueue_view queue.now) (switch_deed switch.now) claim) }
+    ensures first { (knobs : Settings) → FindsFirst result
+        (pick_tests knobs (runqueue_view queue.now) (switch_deed switch.now))
+        (switch_tests knobs (runqueue_view queue.now) (switch_deed switch.now) claim) }
 {
     let needed = switch.claimant();
     guard!(
@@ -59,8 +63,8 @@ pub(crate) fn first_switch_test(
     None
 }
 
-/// A switch's pick: the first test that it fails. Once the previous task has gone its way, the least of those who wait has
-/// this virtual runtime, and the next task, as it stands, leads it by so many virtual nanoseconds.
+/// A switch's pick: the first test that it fails. Once the previous task has gone its way, the least of those who wait
+/// has this virtual runtime, and the next task, as it stands, leads it by so many virtual nanoseconds.
 pub(crate) fn first_pick_test(
     least: Option<i64>,
     next: u32,
@@ -110,7 +114,8 @@ pub(crate) fn first_birth_test(
     knobs: Knobs,
 ) -> Option<FailedTest>
     requires { IsTaskAt (runqueue_view queue.now) pid task.now }
-    ensures { (nice : ℤ) (idle : Bool) → IsFirst result (birth_tests knobs.debit (runqueue_view queue.now) (Born pid nice idle) claim) }
+    ensures { (nice : ℤ) (idle : Bool) → IsFirst result
+        (birth_tests knobs.debit (runqueue_view queue.now) (Born pid nice idle) claim) }
 {
     let needed = Some(pid);
     guard!(

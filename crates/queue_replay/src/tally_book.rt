@@ -1,4 +1,5 @@
-ghost use Rattle.std.specs.Prelude.{◌≡◌, ◌≢◌, ℕ, ◌-◌, ◌^◌, ◌<◌, ◌≤◌, true, false, None, Some, IfOk, OnOk, OnErr, [], map, get_or, length, All};
+ghost use Rattle.std.specs.Prelude.{◌≡◌, ◌≢◌, ℕ, ◌-◌, ◌^◌, ◌<◌, ◌≤◌, true, false, None, Some, IfOk, OnOk, OnErr, []};
+ghost use Rattle.std.specs.Prelude.{map, get_or, length, All};
 ghost use Rattle.cfs_model.specs.Charge.{greatest};
 ghost use Rattle.replay_model.specs.Noted.{new_tally, with_tally};
 ghost use Rattle.replay_model.specs.declared.page.Tally.{Tally as TallyOf};
@@ -77,7 +78,8 @@ impl TallyBook {
 
     /// Where in the list the tally of the pid is, if it has one.
     pub fn place_of(&self, pid: u32) -> Option<usize>
-        ensures found { (place : ℕ) → result ≡ Some place → (place < length self.now.list.items) × ((d : TallyOf) → (get_or self.now.list.items place d).pid ≡ pid) }
+        ensures found { (place : ℕ) → result ≡ Some place → (place < length self.now.list.items)
+            × ((d : TallyOf) → (get_or self.now.list.items place d).pid ≡ pid) }
         ensures none { result ≡ None → All (λ tally. tally.pid ≢ pid) self.now.list.items }
     {
         if self.is_at(self.recent, pid) {
@@ -93,8 +95,10 @@ impl TallyBook {
 
     /// Whether the tally at this place of the list is that of the pid.
     fn is_at(&self, place: usize, pid: u32) -> bool
-        ensures here { result ≡ true → (place < length self.now.list.items) × ((d : TallyOf) → (get_or self.now.list.items place d).pid ≡ pid) }
-        ensures elsewhere { result ≡ false → place < length self.now.list.items → (d : TallyOf) → (get_or self.now.list.items place d).pid ≢ pid }
+        ensures here { result ≡ true → (place < length self.now.list.items)
+            × ((d : TallyOf) → (get_or self.now.list.items place d).pid ≡ pid) }
+        ensures elsewhere { result ≡ false → place < length self.now.list.items → (d : TallyOf)
+            → (get_or self.now.list.items place d).pid ≢ pid }
     {
         place < self.list.len() && self.list[place].pid == pid
     }
@@ -117,7 +121,8 @@ impl TallyBook {
         requires few { steps < 2 ^ 64 - 1 }
         requires within { All (IsWithin steps) self.old.list.items }
         ensures tallies { self.new.list.items ≡ map (ran_tally task.pid time (cost_of time task)) self.old.list.items }
-        ensures room { (pid : ℕ) → HasTallyRoom pid self.old.list self.old.places → HasTallyRoom pid self.new.list self.new.places }
+        ensures room { (pid : ℕ) → HasTallyRoom pid self.old.list self.old.places
+            → HasTallyRoom pid self.new.list self.new.places }
     {
         let pid = task.pid;
         let cost = cost_of(task, time);

@@ -1,5 +1,6 @@
-//! Times the readers on a file, `reading_bench events|trace|trace_wide|companion|companion_wide FILE ROUNDS`, and the audit
-//! of a recording, by stages and whole, in one thread and in several, `reading_bench stages TRACE COMPANION ROUNDS`.
+//! Times the readers on a file, `reading_bench events|trace|trace_wide|companion|companion_wide FILE ROUNDS`, and the
+//! audit of a recording, by stages and whole, in one thread and in several, `reading_bench stages TRACE COMPANION
+//! ROUNDS`.
 #![tactic(auto)]
 
 mod counting_gate;

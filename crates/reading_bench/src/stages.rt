@@ -1,5 +1,5 @@
-//! The stages of an audit, each ended for all processors before the next begins, in one thread and in several; and whole
-//! audits. What is closed is the book of a crew, as `audit` closes it.
+//! The stages of an audit, each ended for all processors before the next begins, in one thread and in several; and
+//! whole audits. What is closed is the book of a crew, as `audit` closes it.
 
 use crate::counting_gate::CountingGate;
 use crate::seat::Seat;

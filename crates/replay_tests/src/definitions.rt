@@ -35,7 +35,8 @@ fn charges_are_rounded_down_and_end_at_the_greatest(rt: HostRuntime) {
     wants(&rt, &mischarged(), &None);
 }
 
-/// By nice value the weight of a fair task, told twice, and that of a task of the idle policy, where there is such a value.
+/// By nice value the weight of a fair task, told twice, and that of a task of the idle policy, where there is such a
+/// value.
 static WEIGHTS: [(i32, Option<(u32, u32, u32)>); 7] = [
     (-21, None),
     (-20, Some((88_761, 88_761, 3))),

@@ -1,5 +1,5 @@
-//! Recordings with tasks of the idle policy, each with the first fault of processor 0, but those that are worked rows; and
-//! what arrivals and tickets have of a policy.
+//! Recordings with tasks of the idle policy, each with the first fault of processor 0, but those that are worked rows;
+//! and what arrivals and tickets have of a policy.
 
 use crate::answers::wants;
 use crate::calls::{refusal_of, stream_at, tickets_at, zero};
@@ -70,8 +70,8 @@ fn a_task_of_the_idle_policy_is_charged_at_its_own_weight(rt: HostRuntime) -> Re
     Ok(())
 }
 
-// 101 goes from processor 0 to processor 1 three times, and is born at processor 0 before the second and the third; then 102
-// goes, of which nothing was said before.
+// 101 goes from processor 0 to processor 1 three times, and is born at processor 0 before the second and the third;
+// then 102 goes, of which nothing was said before.
 const MOVES: &[u8] =
     b"            t101-101     [000] d..2.   100.000000: sched_migrate_task: comm=t101 pid=101 prio=120 orig_cpu=0 dest_cpu=1\n            t101-101     [000] d..2.   100.000000: sched_wakeup_new: comm=t101 pid=101 prio=120 target_cpu=000\n            t101-101     [000] d..2.   100.000000: sched_migrate_task: comm=t101 pid=101 prio=120 orig_cpu=0 dest_cpu=1\n            t101-101     [000] d..2.   100.000000: sched_wakeup_new: comm=t101 pid=101 prio=120 target_cpu=000\n            t101-101     [000] d..2.   100.000000: sched_migrate_task: comm=t101 pid=101 prio=120 orig_cpu=0 dest_cpu=1\n            t102-102     [000] d..2.   100.000000: sched_migrate_task: comm=t102 pid=102 prio=120 orig_cpu=0 dest_cpu=1\n";
 

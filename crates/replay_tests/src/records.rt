@@ -86,7 +86,8 @@ fn joining_tests_each_thing_over_the_whole(rt: HostRuntime) -> Result<(), Fail> 
     Ok(())
 }
 
-/// A record's number of processors, its start, its last time and line; and how many events, claims, tasks and floors it has.
+/// A record's number of processors, its start, its last time and line; and how many events, claims, tasks and floors it
+/// has.
 type Told = ((u32, u64, u64, u32), (usize, usize, usize, usize));
 
 fn told(record: &Record) -> Told {
@@ -132,7 +133,8 @@ fn without_events_the_last_time_is_the_start(rt: HostRuntime) -> Result<(), Fail
     Ok(())
 }
 
-/// A stream's only step, and how many tasks it begins with; and its processor, its floor, its start, its last time and line.
+/// A stream's only step, and how many tasks it begins with; and its processor, its floor, its start, its last time and
+/// line.
 type Seen = ((Option<Step>, usize), (u32, i64, u64, u64, u32));
 
 fn seen(stream: &Stream) -> Seen {

@@ -51,8 +51,8 @@ fn the_first_fault_is_found_however_the_steps_are_cut(rt: HostRuntime) -> Result
     Ok(())
 }
 
-/// What a page shows: the steps made, the line of the last that passed and the tag; the only birth and the only tally, and
-/// how many tasks left, came and ended.
+/// What a page shows: the steps made, the line of the last that passed and the tag; the only birth and the only tally,
+/// and how many tasks left, came and ended.
 type Shown = ((usize, u32, Tag), (Option<LifeEvent>, Option<Tally>, usize));
 
 fn shown(page: &Page) -> Shown {

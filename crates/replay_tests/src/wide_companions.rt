@@ -14,8 +14,8 @@ const HEAD: &[u8] = b"cfs-companion 2\ncpus 1\nstart 100.000000\nfloor 0 0\ntask
 
 const FIRST: &[u8] = b"at 1 101 0\n";
 
-/// A companion's claims and changes of nice values as several threads read it: how many there are, and whether one thread
-/// reads the same.
+/// A companion's claims and changes of nice values as several threads read it: how many there are, and whether one
+/// thread reads the same.
 type Reading = (usize, usize, bool);
 
 /// How a companion compares with its reading in one thread.

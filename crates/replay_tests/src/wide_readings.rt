@@ -52,8 +52,8 @@ fn fault_of<R: Threads + Sync>(
     Ok(read_trace_wide(rt, alloc, &text).err())
 }
 
-/// A trace's events as several threads read it: how many there are, the line and time of the last, and whether one thread
-/// reads the same.
+/// A trace's events as several threads read it: how many there are, the line and time of the last, and whether one
+/// thread reads the same.
 type Reading = (usize, Option<(u32, u64)>, bool);
 
 fn line_and_time(event: Option<&Entry>) -> Option<(u32, u64)> {

@@ -7,7 +7,8 @@ use Rattle.cfs_model.specs.declared.task.Task.{Task}
 use Rattle.runqueue.specs.Tasks.{cost_of, charged_task, CanBeCharged}
 
 -- a task that is charged above the greatest can't be
-pub too_far : (delta : ℕ) (t : Task) (weight : ℕ) (cost : ℤ) → weight ≡ task_weight t.nice t.idle → cost ≡ pos (charge_of delta weight)
+pub too_far : (delta : ℕ) (t : Task) (weight : ℕ) (cost : ℤ) → weight ≡ task_weight t.nice t.idle
+    → cost ≡ pos (charge_of delta weight)
     → (pos greatest -ℤ cost) <ℤ t.v → CanBeCharged delta t → ⊥
 too_far delta t weight cost weighs costs far can =
     let c : cost ≡ pos (cost_of delta t) = costs ∙ ap (λ w. pos (charge_of delta w)) weighs in
@@ -15,7 +16,8 @@ too_far delta t weight cost weighs costs far can =
     absurd (omega (arith, ints))
 
 -- one that isn't can be, and is
-pub near_enough : (delta : ℕ) (t : Task) (weight : ℕ) (cost v : ℤ) → weight ≡ task_weight t.nice t.idle → charge_of delta weight ≤ greatest
+pub near_enough : (delta : ℕ) (t : Task) (weight : ℕ) (cost v : ℤ) → weight ≡ task_weight t.nice t.idle
+    → charge_of delta weight ≤ greatest
     → cost ≡ pos (charge_of delta weight) → t.v ≤ℤ (pos greatest -ℤ cost) → v ≡ t.v +ℤ cost
     → CanBeCharged delta t × (record t { v = v } ≡ charged_task delta t)
 near_enough delta t weight cost v weighs small costs near is =

@@ -1,5 +1,5 @@
--- The least of those who wait once who runs has gone its way: one who is put back counts among them, and nobody else comes
--- or goes.
+-- The least of those who wait once who runs has gone its way: one who is put back counts among them, and nobody else
+-- comes or goes.
 use Rattle.std.proofs.Common.{◌≡◌, ◌≢◌, ℕ, Option, Some, None, option_map, ℤ, ◌≤ℤ◌, inl, inr, refl, sym, ap, ◌∙◌, subst}
 use Rattle.std.proofs.lemmas.Bool.{cases_eq}
 use Rattle.std.proofs.lemmas.Option.{same_Some}
@@ -20,7 +20,8 @@ use Rattle.runqueue.proofs.Parts.{its_place}
 
 -- where nobody runs those who are queued wait
 least_waits : (part : Part) (o : Option ℤ) → NobodyIn part Run → IsLeastQueued part o → IsLeastIfWaiting part o
-least_waits part None nobody none = λ pid i. let s = task_in part Wait pid i in none pid s.0 s.1 (wait_queued s.0.place s.2)
+least_waits part None nobody none = λ pid i. let s = task_in part Wait pid i in
+    none pid s.0 s.1 (wait_queued s.0.place s.2)
 least_waits part (Some v) nobody h = record {
   pid = h.pid;
   task = h.task;
@@ -34,7 +35,8 @@ least_waits part (Some v) nobody h = record {
 }
 
 -- the runner goes to another place, or is gone
-module _ (part : Part) (t : Task) (ran : IsTheRunner part (Some t)) (pid : ℕ) (own : pid ≡ t.pid) (s : Option Entity) where
+module _ (part : Part) (t : Task) (ran : IsTheRunner part (Some t)) (pid : ℕ) (own : pid ≡ t.pid)
+    (s : Option Entity) where
   abbrev moved : Part
   moved = with_entity part pid s
 
@@ -48,7 +50,8 @@ module _ (part : Part) (t : Task) (ran : IsTheRunner part (Some t)) (pid : ℕ) 
   away other ne = put-other part.tasks pid s other ne
 
   -- it waits
-  put_back : (o : Option ℤ) → s ≡ Some (record (entity_of t) { place = Wait }) → IsLeastQueued part o → IsLeastIfWaiting moved o
+  put_back : (o : Option ℤ) → s ≡ Some (record (entity_of t) { place = Wait }) → IsLeastQueued part o
+      → IsLeastIfWaiting moved o
   put_back None is none = absurd (none pid (entity_of t) there (run_queued t.place ran.1))
   put_back (Some v) is h =
       elim (cases_eq h.pid pid) [
@@ -57,7 +60,8 @@ module _ (part : Part) (t : Task) (ran : IsTheRunner part (Some t)) (pid : ℕ) 
           task = record (entity_of t) { place = Wait };
           stands = here ∙ is;
           waits = refl;
-          runtime = ap (λ (x : Entity). x.runtime) (same_Some (entity_of t) h.task (sym there ∙ ap part.tasks (sym same) ∙ h.stands)) ∙ h.runtime;
+          runtime = ap (λ (x : Entity). x.runtime)
+              (same_Some (entity_of t) h.task (sym there ∙ ap part.tasks (sym same) ∙ h.stands)) ∙ h.runtime;
           least = each;
         }
         | inr other ↦ record {
@@ -83,7 +87,8 @@ module _ (part : Part) (t : Task) (ran : IsTheRunner part (Some t)) (pid : ℕ) 
           ]
 
   -- it doesn't
-  put_away : (o : Option ℤ) → ((x : Entity) → s ≡ Some x → x.place ≢ Wait) → IsLeastIfWaiting part o → IsLeastIfWaiting moved o
+  put_away : (o : Option ℤ) → ((x : Entity) → s ≡ Some x → x.place ≢ Wait) → IsLeastIfWaiting part o
+      → IsLeastIfWaiting moved o
   put_away None ne none = λ q i.
       let x = task_in moved Wait q i in
       elim (cases_eq q pid) [
@@ -104,30 +109,36 @@ module _ (part : Part) (t : Task) (ran : IsTheRunner part (Some t)) (pid : ℕ) 
     where
       apart : w.pid ≢ pid
       apart same =
-          let e : entity_of t ≡ w.task = same_Some (entity_of t) w.task (sym there ∙ ap part.tasks (sym same) ∙ w.stands) in
+          let e : entity_of t ≡ w.task = same_Some (entity_of t) w.task (sym there ∙ ap part.tasks (sym same)
+          ∙ w.stands) in
           let f : Run ≡ Wait = sym ran.1 ∙ ap (λ (x : Entity). x.place) e ∙ w.waits in
           absurd cc
 
 pub stays_least : (part : Part) (runner : Option Task) → IsTheRunner part runner → (o : Option ℤ) → IsLeastQueued part o
     → (prev : ℕ) → ((IsRunner part prev → ⊥) → ⊥) → IsLeastIfWaiting (part_after_prev part prev Stays) o
-stays_least part None nobody o h prev r = subst (λ (p : Part). IsLeastIfWaiting p o) (idle_prev part nobody Stays prev r) (least_waits part o nobody h)
+stays_least part None nobody o h prev r =
+    subst (λ (p : Part). IsLeastIfWaiting p o) (idle_prev part nobody Stays prev r) (least_waits part o nobody h)
 stays_least part (Some t) ran o h prev r =
     let p = prev_is part t ran prev r in
     subst (λ (x : Part). IsLeastIfWaiting x o) (after_stays part prev p.0)
     (put_back part t ran prev p.1 (option_map (λ (s : Entity). record s { place = Wait }) (part.tasks prev)) o
     (ap (option_map (λ (s : Entity). record s { place = Wait })) (there part t ran prev p.1 None)) h)
 
-pub leaves_least : (part : Part) (runner : Option Task) → IsTheRunner part runner → (way : Way) → way ≢ Stays → (o : Option ℤ) → IsLeastIfWaiting part o
+pub leaves_least : (part : Part) (runner : Option Task) → IsTheRunner part runner → (way : Way) → way ≢ Stays
+    → (o : Option ℤ) → IsLeastIfWaiting part o
     → (prev : ℕ) → ((IsRunner part prev → ⊥) → ⊥) → IsLeastIfWaiting (part_after_prev part prev way) o
-leaves_least part None nobody way ne o h prev r = subst (λ (p : Part). IsLeastIfWaiting p o) (idle_prev part nobody way prev r) h
+leaves_least part None nobody way ne o h prev r =
+    subst (λ (p : Part). IsLeastIfWaiting p o) (idle_prev part nobody way prev r) h
 leaves_least part (Some t) ran Stays ne o h prev r = absurd (ne refl)
 leaves_least part (Some t) ran Sleeps ne o h prev r =
     let p = prev_is part t ran prev r in
     subst (λ (x : Part). IsLeastIfWaiting x o) (after_sleeps part prev p.0)
     (put_away part t ran prev p.1 (option_map (λ (s : Entity). record s { place = Rest }) (part.tasks prev)) o
     (λ x e w.
-    let f : Some (record (entity_of t) { place = Rest }) ≡ Some x = sym (ap (option_map (λ (s : Entity). record s { place = Rest })) (there part t ran prev p.1 None)) ∙ e in
-    let g : Rest ≡ Wait = ap (λ (y : Entity). y.place) (same_Some (record (entity_of t) { place = Rest }) x f) ∙ w in absurd cc) h)
+    let f : Some (record (entity_of t) { place = Rest }) ≡ Some x =
+    sym (ap (option_map (λ (s : Entity). record s { place = Rest })) (there part t ran prev p.1 None)) ∙ e in
+    let g : Rest ≡ Wait = ap (λ (y : Entity). y.place) (same_Some (record (entity_of t) { place = Rest }) x f)
+    ∙ w in absurd cc) h)
 leaves_least part (Some t) ran Ends ne o h prev r =
     let p = prev_is part t ran prev r in
     subst (λ (x : Part). IsLeastIfWaiting x o) (after_ends part prev p.0)

@@ -1,5 +1,7 @@
 -- Charging who runs and raising the floor is the charge and the lift of the part.
-use Rattle.std.proofs.Common.{◌≡◌, ◌≢◌, ℕ, ◌-◌, ◌<◌, ◌≤◌, false, IsTrue, List, [], ◌∷◌, length, Option, Some, None, option_map, ℤ, pos, ◌+ℤ◌, ◌≤ℤ◌, ◌<ℤ◌, ◌⊎◌, inl, inr, refl, sym, ap, ◌∙◌, subst, true≢false, arith}
+use Rattle.std.proofs.Common.{◌≡◌, ◌≢◌, ℕ, ◌-◌, ◌<◌, ◌≤◌, false, IsTrue, List, [], ◌∷◌, length, Option, Some, None}
+use Rattle.std.proofs.Common.{option_map, ℤ, pos, ◌+ℤ◌, ◌≤ℤ◌, ◌<ℤ◌, ◌⊎◌, inl, inr, refl, sym, ap, ◌∙◌, subst}
+use Rattle.std.proofs.Common.{true≢false, arith}
 use Rattle.std.specs.BTreeMap.{BTreeMap, is_at}
 use Rattle.std.specs.BTreeSet.{BTreeSet, contains, IsLowerBound, btree_set_len}
 use Rattle.std.specs.Int.{int_min}
@@ -15,30 +17,35 @@ use Rattle.std.proofs.lemmas.Option.{same_Some}
 use Rattle.cfs_model.specs.Charge.{greatest}
 use Rattle.cfs_model.specs.Machine.{put}
 use Rattle.replay_model.specs.Needs.{IsLeastWaiting}
-use Rattle.replay_model.specs.Part.{Part, Entity, NobodyIn, charged_part, charged_in, cost_in, runtime_after, IsLeastHere}
+use Rattle.replay_model.specs.Part.{Part, Entity, NobodyIn, charged_part, charged_in, cost_in, runtime_after}
+use Rattle.replay_model.specs.Part.{IsLeastHere}
 use Rattle.replay_model.specs.QueueTests.{IsOutOfRange}
 use Rattle.cfs_model.specs.declared.task.Place.{Place}
 use Rattle.cfs_model.specs.declared.task.Place.TheVariants.{Run, Wait, Rest}
 use Rattle.cfs_model.specs.declared.task.Task.{Task}
 use Rattle.runqueue.specs.Queue.{IsTheRunner, IsLeastIfWaiting, IsLeastQueued}
-use Rattle.runqueue.specs.Standing.{by_runtime, listed, standing, runtime_if, waiting_runtime, IsOnlyRunner, IsQueue, waiting_task}
+use Rattle.runqueue.specs.Standing.{by_runtime, listed, standing, runtime_if, waiting_runtime, IsOnlyRunner, IsQueue}
+use Rattle.runqueue.specs.Standing.{waiting_task}
 use Rattle.runqueue.specs.declared.waiting_task.WaitingTask.{WaitingTask}
 use Rattle.runqueue.specs.Tasks.{cost_of, charged_task, CanBeCharged, entity_of}
 use Rattle.cfs_model.proofs.Moves.{put-other}
 use Rattle.runqueue.proofs.Parts.{part_with, its_place, same_tasks, put-at}
-use Rattle.runqueue.proofs.Standings.{queue_is, waiting_in, only_in, listed_in, listed_none, listed_some, is_listed, waits_where, the_runner, stays, only_runs, only_none, waiting_none, lower_runtime}
+use Rattle.runqueue.proofs.Standings.{queue_is, waiting_in, only_in, listed_in, listed_none, listed_some, is_listed}
+use Rattle.runqueue.proofs.Standings.{waits_where, the_runner, stays, only_runs, only_none, waiting_none, lower_runtime}
 
 -- nobody stands in an empty map, and nobody waits in an empty set
 pub empty_queue : (m : BTreeMap ℕ Task) (a : BTreeSet WaitingTask) → m.entries ≡ [] → a.keys ≡ [] → IsQueue None m a
 empty_queue m a e f =
-    let none : (q : ℕ) → listed m q ≡ None = λ q. ap (λ (es : List (ℕ × Task)). option_map entity_of (lookup (is_at (nat_cmp q)) es)) e in
+    let none : (q : ℕ) → listed m q ≡ None =
+    λ q. ap (λ (es : List (ℕ × Task)). option_map entity_of (lookup (is_at (nat_cmp q)) es)) e in
     queue_is None m a
     (waiting_none (listed m) a none (λ k. ap (list_any (is_at (by_runtime k))) f))
     (only_none (listed m) (λ q i. let h : None ≡ Some Run = sym (ap its_place (none q)) ∙ i in cc))
     (listed_none m)
 
 -- one who waits
-waits_is : (o : Option Entity) (v : ℤ) → waiting_runtime o ≡ Some v → (s : Entity) × (o ≡ Some s) × (s.place ≡ Wait) × (s.runtime ≡ v)
+waits_is : (o : Option Entity) (v : ℤ) → waiting_runtime o ≡ Some v → (s : Entity) × (o ≡ Some s) × (s.place ≡ Wait)
+    × (s.runtime ≡ v)
 waits_is None v e = cc
 waits_is (Some s) v e = let h = go s.place e in (s, refl, h.0, h.1)
   where
@@ -57,9 +64,11 @@ no_keys a none k = go a.keys none
     go [] h = refl
     go (x ∷ xs) h = absurd (h (omega arith))
 
-module _ (runner : Option Task) (m : BTreeMap ℕ Task) (a : BTreeSet WaitingTask) (floor : ℤ) (mark : ℕ) (kept : IsQueue runner m a) where
+module _ (runner : Option Task) (m : BTreeMap ℕ Task) (a : BTreeSet WaitingTask) (floor : ℤ) (mark : ℕ)
+    (kept : IsQueue runner m a) where
   -- the first of the set is the least of those who wait
-  pub least_is : (k : WaitingTask) → IsTrue (contains by_runtime a k) → IsLowerBound by_runtime a k → IsLeastWaiting (part_with (standing runner m) floor mark) k.v
+  pub least_is : (k : WaitingTask) → IsTrue (contains by_runtime a k) → IsLowerBound by_runtime a k
+      → IsLeastWaiting (part_with (standing runner m) floor mark) k.v
   least_is k member least =
       let at = waits_where (standing runner m) a (waiting_in runner m a kept) in
       let w = waits_is (standing runner m k.pid) k.v ((at k.v k.pid).0 member) in
@@ -69,7 +78,9 @@ module _ (runner : Option Task) (m : BTreeMap ℕ Task) (a : BTreeSet WaitingTas
         stands = w.1;
         waits = w.2;
         runtime = w.3;
-        least = λ other s e waits. lower_runtime k.v s.runtime k.pid other (least (waiting_task s.runtime other) ((at s.runtime other).1 (waiting_is (standing runner m other) s e waits)));
+        least = λ other s e waits. lower_runtime k.v s.runtime k.pid other
+            (least (waiting_task s.runtime other)
+            ((at s.runtime other).1 (waiting_is (standing runner m other) s e waits)));
       }
 
   -- where the set is empty nobody waits
@@ -80,7 +91,8 @@ module _ (runner : Option Task) (m : BTreeMap ℕ Task) (a : BTreeSet WaitingTas
       go : (o : Option Entity) → standing runner m pid ≡ o → its_place o ≡ Some Wait → ⊥
       go None e i = cc
       go (Some s) e i =
-          let h = (waits_where (standing runner m) a (waiting_in runner m a kept) s.runtime pid).1 (waiting_is (standing runner m pid) s e (same_Some s.place Wait i)) in
+          let h = (waits_where (standing runner m) a (waiting_in runner m a kept) s.runtime pid).1
+          (waiting_is (standing runner m pid) s e (same_Some s.place Wait i)) in
           true≢false (sym h ∙ no_keys a none (waiting_task s.runtime pid))
 
 -- who is queued runs or waits
@@ -96,12 +108,14 @@ pub wait_queued : (p : Place) → p ≡ Wait → p ≢ Rest
 wait_queued p e f = let g : Wait ≡ Rest = sym e ∙ f in cc
 
 -- the runner's virtual runtime is that of each who runs
-runner_only : (part : Part) (t : Task) → IsTheRunner part (Some t) → (pid : ℕ) (s : Entity) → part.tasks pid ≡ Some s → s.place ≡ Run → s.runtime ≡ t.v
+runner_only : (part : Part) (t : Task) → IsTheRunner part (Some t) → (pid : ℕ) (s : Entity) → part.tasks pid ≡ Some s
+    → s.place ≡ Run → s.runtime ≡ t.v
 runner_only part t r pid s e runs =
     let p : pid ≡ t.pid = r.2 pid (ap its_place e ∙ ap Some runs) in
     ap (λ (x : Entity). x.runtime) (same_Some s (entity_of t) (sym e ∙ ap part.tasks p ∙ r.0))
 
-pub least_with_runner : (part : Part) (t : Task) (v : ℤ) → IsTheRunner part (Some t) → IsLeastWaiting part v → IsLeastHere part (int_min v t.v)
+pub least_with_runner : (part : Part) (t : Task) (v : ℤ) → IsTheRunner part (Some t) → IsLeastWaiting part v
+    → IsLeastHere part (int_min v t.v)
 least_with_runner part t v r w =
     elim (cases_ℤ v t.v) [
       | inl below ↦ record {
@@ -130,7 +144,8 @@ least_with_runner part t v r w =
         go Equal h = inl (omega (arith, ints, h))
         go Greater h = inr h
 
-    each : (other : ℕ) (s : Entity) → part.tasks other ≡ Some s → (s.place ≡ Run) ⊎ (s.place ≡ Wait) → int_min v t.v ≤ℤ s.runtime
+    each : (other : ℕ) (s : Entity) → part.tasks other ≡ Some s → (s.place ≡ Run) ⊎ (s.place ≡ Wait)
+        → int_min v t.v ≤ℤ s.runtime
     each other s e (inl runs) = let h = runner_only part t r other s e runs in omega (arith, ints, clamps, h)
     each other s e (inr waits) = let h = w.least other s e waits in omega (arith, ints, clamps, h)
 
@@ -148,7 +163,8 @@ least_of_runner part t r nobody = record {
     each other s e (inl runs) = let h = runner_only part t r other s e runs in omega (arith, ints, h)
     each other s e (inr waits) = absurd (nobody other (ap its_place e ∙ ap Some waits))
 
-pub least_without_runner : (part : Part) (o : Option ℤ) → IsTheRunner part None → IsLeastIfWaiting part o → IsLeastQueued part o
+pub least_without_runner : (part : Part) (o : Option ℤ) → IsTheRunner part None → IsLeastIfWaiting part o
+    → IsLeastQueued part o
 least_without_runner part None nobody none = λ pid s e q. each pid s e (queued s.place q)
   where
     each : (pid : ℕ) (s : Entity) → part.tasks pid ≡ Some s → (s.place ≡ Run) ⊎ (s.place ≡ Wait) → ⊥
@@ -168,7 +184,8 @@ least_without_runner part (Some v) nobody w = record {
     each pid s e (inr waits) = w.least pid s e waits
 
 -- one who doesn't run isn't charged
-uncharged : (part : Part) (time : ℕ) (o : Option Entity) → (its_place o ≡ Some Run → ⊥) → o ≡ option_map (charged_in part time) o
+uncharged : (part : Part) (time : ℕ) (o : Option Entity) → (its_place o ≡ Some Run → ⊥)
+    → o ≡ option_map (charged_in part time) o
 uncharged part time None ne = refl
 uncharged part time (Some s) ne = ap Some (go s.place (λ e. ne (ap Some e)))
   where
@@ -178,11 +195,13 @@ uncharged part time (Some s) ne = ap Some (go s.place (λ e. ne (ap Some e)))
     go Rest ne = refl
 
 -- nobody runs
-module _ (runner : Option Task) (m : BTreeMap ℕ Task) (a : BTreeSet WaitingTask) (floor : ℤ) (mark time : ℕ) (kept : IsQueue runner m a) (none : runner ≡ None) where
+module _ (runner : Option Task) (m : BTreeMap ℕ Task) (a : BTreeSet WaitingTask) (floor : ℤ) (mark time : ℕ)
+    (kept : IsQueue runner m a) (none : runner ≡ None) where
   nobody : NobodyIn (part_with (standing runner m) floor mark) Run
   nobody = subst (IsTheRunner (part_with (standing runner m) floor mark)) none (the_runner runner m a floor mark kept)
 
-  pub idle_charged : part_with (standing runner m) floor time ≡ charged_part (part_with (standing runner m) floor mark) time
+  pub idle_charged : part_with (standing runner m) floor time ≡ charged_part
+      (part_with (standing runner m) floor mark) time
   idle_charged =
       same_tasks (standing runner m) (charged_part (part_with (standing runner m) floor mark) time).tasks floor time
       (λ q. uncharged (part_with (standing runner m) floor mark) time (standing runner m q) (nobody q))
@@ -191,19 +210,24 @@ module _ (runner : Option Task) (m : BTreeMap ℕ Task) (a : BTreeSet WaitingTas
   idle_in_range pid o = nobody pid (ap its_place o.stands ∙ ap Some o.runs)
 
 -- somebody runs
-module _ (runner : Option Task) (m : BTreeMap ℕ Task) (a : BTreeSet WaitingTask) (floor : ℤ) (mark time : ℕ) (kept : IsQueue runner m a) (t : Task) (is : runner ≡ Some t) where
+module _ (runner : Option Task) (m : BTreeMap ℕ Task) (a : BTreeSet WaitingTask) (floor : ℤ) (mark time : ℕ)
+    (kept : IsQueue runner m a) (t : Task) (is : runner ≡ Some t) where
   ran : IsTheRunner (part_with (standing runner m) floor mark) (Some t)
   ran = subst (IsTheRunner (part_with (standing runner m) floor mark)) is (the_runner runner m a floor mark kept)
 
-  pub fits_in_range : CanBeCharged (time - mark) t → (pid : ℕ) → ¬ IsOutOfRange (part_with (standing runner m) floor mark) time pid
+  pub fits_in_range : CanBeCharged (time - mark) t → (pid : ℕ)
+      → ¬ IsOutOfRange (part_with (standing runner m) floor mark) time pid
   fits_in_range can pid o =
       let p : pid ≡ t.pid = ran.2 pid (ap its_place o.stands ∙ ap Some o.runs) in
       let e : o.task ≡ entity_of t = same_Some o.task (entity_of t) (sym o.stands ∙ ap (standing runner m) p ∙ ran.0) in
       let far : (greatest < cost_of (time - mark) t) ⊎ (pos greatest <ℤ (t.v +ℤ pos (cost_of (time - mark) t)))
-      = subst (λ (s : Entity). (greatest < cost_in (part_with (standing runner m) floor mark) time s) ⊎ (pos greatest <ℤ (s.runtime +ℤ pos (cost_in (part_with (standing runner m) floor mark) time s)))) e o.above in
+      = subst (λ (s : Entity). (greatest < cost_in (part_with (standing runner m) floor mark) time s)
+      ⊎ (pos greatest <ℤ (s.runtime +ℤ pos (cost_in (part_with (standing runner m) floor mark) time s)))) e
+      o.above in
       elim far [ inl h ↦ absurd (omega (arith, can.0, h)) | inr h ↦ absurd (omega (arith, ints, can.1, h)) ]
 
-  pub above_range : (CanBeCharged (time - mark) t → ⊥) → IsOutOfRange (part_with (standing runner m) floor mark) time t.pid
+  pub above_range : (CanBeCharged (time - mark) t → ⊥)
+      → IsOutOfRange (part_with (standing runner m) floor mark) time t.pid
   above_range cannot = record {
     task = entity_of t;
     stands = ran.0;
@@ -214,9 +238,11 @@ module _ (runner : Option Task) (m : BTreeMap ℕ Task) (a : BTreeSet WaitingTas
       far : ((greatest < cost_of (time - mark) t) ⊎ (cost_of (time - mark) t ≤ greatest))
           → (greatest < cost_of (time - mark) t) ⊎ (pos greatest <ℤ (t.v +ℤ pos (cost_of (time - mark) t)))
       far (inl h) = inl h
-      far (inr h) = inr (let c : ((t.v +ℤ pos (cost_of (time - mark) t)) ≤ℤ pos greatest) → ⊥ = λ n. cannot (h, n) in grind (arith, ints, c))
+      far (inr h) = inr (let c : ((t.v +ℤ pos (cost_of (time - mark) t)) ≤ℤ pos greatest)
+          → ⊥ = λ n. cannot (h, n) in grind (arith, ints, c))
 
-  charged_standing : (q : ℕ) → standing (Some (charged_task (time - mark) t)) m q ≡ put (standing runner m) t.pid (Some (entity_of (charged_task (time - mark) t))) q
+  charged_standing : (q : ℕ) → standing (Some (charged_task (time - mark) t)) m q ≡ put (standing runner m) t.pid
+      (Some (entity_of (charged_task (time - mark) t))) q
   charged_standing q =
       elim (cases_eq q t.pid) [
         | inl same ↦ put-at (listed m) t.pid (Some (entity_of (charged_task (time - mark) t))) q same
@@ -231,19 +257,26 @@ module _ (runner : Option Task) (m : BTreeMap ℕ Task) (a : BTreeSet WaitingTas
       let new : Task = charged_task (time - mark) t in
       let has = is_listed runner m (listed_in runner m a kept) t is in
       queue_is (Some (charged_task (time - mark) t)) m a
-      (stays (standing runner m) (standing (Some (charged_task (time - mark) t)) m) t.pid (Some (entity_of (charged_task (time - mark) t))) charged_standing a (waiting_in runner m a kept)
-      (ap (λ p. runtime_if p (charged_task (time - mark) t).v) ran.1 ∙ sym (ap waiting_runtime ran.0 ∙ ap (λ p. runtime_if p t.v) ran.1)))
-      (only_runs (standing runner m) (standing (Some (charged_task (time - mark) t)) m) t.pid (Some (entity_of (charged_task (time - mark) t))) charged_standing t (charged_task (time - mark) t) refl refl
+      (stays (standing runner m) (standing (Some (charged_task (time - mark) t)) m) t.pid
+      (Some (entity_of (charged_task (time - mark) t))) charged_standing a (waiting_in runner m a kept)
+      (ap (λ p. runtime_if p (charged_task (time - mark) t).v) ran.1
+      ∙ sym (ap waiting_runtime ran.0 ∙ ap (λ p. runtime_if p t.v) ran.1)))
+      (only_runs (standing runner m) (standing (Some (charged_task (time - mark) t)) m) t.pid
+      (Some (entity_of (charged_task (time - mark) t))) charged_standing t (charged_task (time - mark) t) refl refl
       (subst (λ r. IsOnlyRunner (standing runner m) r) is (only_in runner m a kept)))
       (listed_some m (charged_task (time - mark) t) has.0 has.1)
 
-  pub charged_is : part_with (standing (Some (charged_task (time - mark) t)) m) floor time ≡ charged_part (part_with (standing runner m) floor mark) time
+  pub charged_is : part_with (standing (Some (charged_task (time - mark) t)) m) floor time ≡ charged_part
+      (part_with (standing runner m) floor mark) time
   charged_is =
-      same_tasks (standing (Some (charged_task (time - mark) t)) m) (charged_part (part_with (standing runner m) floor mark) time).tasks floor time (λ q.
+      same_tasks (standing (Some (charged_task (time - mark) t)) m)
+      (charged_part (part_with (standing runner m) floor mark) time).tasks floor time (λ q.
       charged_standing q ∙ elim (cases_eq q t.pid) [
         | inl same ↦ put-at (standing runner m) t.pid (Some (entity_of (charged_task (time - mark) t))) q same
-            ∙ ap (λ p. Some (record (entity_of t) { runtime = runtime_after p (cost_of (time - mark) t) t.v })) (sym ran.1 ∙ refl) ∙ refl
-            ∙ sym (ap (option_map (charged_in (part_with (standing runner m) floor mark) time)) (ap (standing runner m) same ∙ ran.0))
+            ∙ ap (λ p. Some (record (entity_of t) { runtime = runtime_after p (cost_of (time - mark) t) t.v }))
+            (sym ran.1 ∙ refl) ∙ refl
+            ∙ sym (ap (option_map (charged_in (part_with (standing runner m) floor mark) time))
+            (ap (standing runner m) same ∙ ran.0))
         | inr other ↦ put-other (standing runner m) t.pid (Some (entity_of (charged_task (time - mark) t))) q other
             ∙ uncharged (part_with (standing runner m) floor mark) time (standing runner m q) (λ i. other (ran.2 q i))
       ])

@@ -1,5 +1,6 @@
 -- What another nice value of one task makes of the runqueue, and of the part that it stands for.
-use Rattle.std.proofs.Common.{◌≡◌, ◌≢◌, ℕ, Bool, true, false, cond, eqb, IsSome, Option, Some, None, option_map, ◌⊎◌, ℤ, inl, inr, refl, sym, ap, ◌∙◌, subst}
+use Rattle.std.proofs.Common.{◌≡◌, ◌≢◌, ℕ, Bool, true, false, cond, eqb, IsSome, Option, Some, None, option_map, ◌⊎◌, ℤ}
+use Rattle.std.proofs.Common.{inl, inr, refl, sym, ap, ◌∙◌, subst}
 use Rattle.std.specs.BTreeMap.{BTreeMap, get, Updates}
 use Rattle.std.specs.BTreeSet.{BTreeSet, contains}
 use Rattle.std.specs.Ordering.{nat_cmp}
@@ -9,13 +10,15 @@ use Rattle.cfs_model.specs.declared.task.Task.{Task}
 use Rattle.replay_model.specs.Deeds.{with_entity}
 use Rattle.replay_model.specs.Part.{Part, Entity}
 use Rattle.runqueue.specs.Queue.{HoldsSame, IsReniced, nice_listed}
-use Rattle.runqueue.specs.Standing.{by_runtime, HasNice, IsOnlyRunner, IsQueue, IsRunnerListed, listed, standing, waiting_runtime, reniced_task, waiting_task}
+use Rattle.runqueue.specs.Standing.{by_runtime, HasNice, IsOnlyRunner, IsQueue, IsRunnerListed, listed, standing}
+use Rattle.runqueue.specs.Standing.{waiting_runtime, reniced_task, waiting_task}
 use Rattle.runqueue.specs.Tasks.{entity_of}
 use Rattle.runqueue.specs.declared.runqueue.Runqueue.{Runqueue}
 use Rattle.runqueue.specs.declared.waiting_task.WaitingTask.{WaitingTask}
 use Rattle.cfs_model.proofs.Moves.{put-other}
 use Rattle.runqueue.proofs.Parts.{part_with, its_place, put-at, same_tasks, written_over}
-use Rattle.runqueue.proofs.Standings.{is_listed, listed_in, listed_none, listed_some, map_at, map_other, only_in, queue_is, stays, waiting_in}
+use Rattle.runqueue.proofs.Standings.{is_listed, listed_in, listed_none, listed_some, map_at, map_other, only_in}
+use Rattle.runqueue.proofs.Standings.{queue_is, stays, waiting_in}
 
 -- a task with another nice value
 abbrev changed : ℤ → Entity → Entity
@@ -25,7 +28,8 @@ changed nice s = record s { nice = nice }
 pub written : (m n : BTreeMap ℕ Task) (pid : ℕ) (nice : ℤ) (t : Task) → get nat_cmp m pid ≡ Some t
     → Updates nat_cmp m n pid (Some (record t { nice = nice })) → HasNice pid nice m n
 written m n pid nice t is u = record {
-  here = map_at m n pid (Some (record t { nice = nice })) u ∙ sym (ap (option_map (λ (x : Task). record x { nice = nice })) is);
+  here = map_at m n pid (Some (record t { nice = nice })) u
+      ∙ sym (ap (option_map (λ (x : Task). record x { nice = nice })) is);
   there = map_other m n pid (Some (record t { nice = nice })) u;
 }
 
@@ -40,12 +44,14 @@ written_back l m n pid nice before h back was q =
     ]
   where
     go : (o : Option Task) → Some before ≡ option_map (λ (t : Task). t.nice) o
-        → option_map (λ (t : Task). record t { nice = before }) (option_map (λ (t : Task). record t { nice = nice }) o) ≡ o
+        → option_map (λ (t : Task). record t { nice = before })
+        (option_map (λ (t : Task). record t { nice = nice }) o) ≡ o
     go None e = cc
     go (Some t) e = let same : before ≡ t.nice = cc in ap (λ (x : ℤ). Some (record t { nice = x })) same
 
 -- nobody of a pid stands here that the map has no entry of
-pub nobody_listed : (runner : Option Task) (m : BTreeMap ℕ Task) (a : BTreeSet WaitingTask) → IsQueue runner m a → (pid : ℕ) → get nat_cmp m pid ≡ None
+pub nobody_listed : (runner : Option Task) (m : BTreeMap ℕ Task) (a : BTreeSet WaitingTask) → IsQueue runner m a
+    → (pid : ℕ) → get nat_cmp m pid ≡ None
     → standing runner m pid ≡ None
 nobody_listed None m a kept pid none = ap (option_map entity_of) none
 nobody_listed (Some t) m a kept pid none =
@@ -54,7 +60,8 @@ nobody_listed (Some t) m a kept pid none =
           let has : IsSome (get nat_cmp m t.pid) = (is_listed (Some t) m (listed_in (Some t) m a kept) t refl).1 in
           let gone : get nat_cmp m t.pid ≡ None = ap (get nat_cmp m) own ∙ none in
           absurd (go (get nat_cmp m t.pid) has gone)
-      | inr other ↦ put-other (listed m) t.pid (Some (entity_of t)) pid (λ e. other (sym e)) ∙ ap (option_map entity_of) none
+      | inr other ↦ put-other (listed m) t.pid (Some (entity_of t)) pid (λ e. other (sym e))
+          ∙ ap (option_map entity_of) none
     ]
   where
     go : (o : Option Task) → IsSome o → o ≡ None → ⊥
@@ -72,7 +79,8 @@ module _ (m n : BTreeMap ℕ Task) (pid : ℕ) (nice : ℤ) (h : HasNice pid nic
   listed_here =
       ap (option_map entity_of) h.here ∙ go (get nat_cmp m pid)
     where
-      go : (o : Option Task) → option_map entity_of (option_map (λ (t : Task). record t { nice = nice }) o) ≡ option_map (changed nice) (option_map entity_of o)
+      go : (o : Option Task) → option_map entity_of (option_map (λ (t : Task). record t { nice = nice }) o) ≡ option_map
+          (changed nice) (option_map entity_of o)
       go None = refl
       go (Some t) = refl
 
@@ -90,13 +98,16 @@ module _ (m n : BTreeMap ℕ Task) (pid : ℕ) (nice : ℤ) (h : HasNice pid nic
       ≡ put (standing runner m) pid (option_map (changed nice) (standing runner m pid)) q
   renices None q =
       elim (cases_eq q pid) [
-        | inl same ↦ ap (listed n) same ∙ listed_here ∙ sym (put-at (listed m) pid (option_map (changed nice) (listed m pid)) q same)
-        | inr other ↦ listed_there q other ∙ sym (put-other (listed m) pid (option_map (changed nice) (listed m pid)) q other)
+        | inl same ↦ ap (listed n) same ∙ listed_here
+            ∙ sym (put-at (listed m) pid (option_map (changed nice) (listed m pid)) q same)
+        | inr other ↦ listed_there q other
+            ∙ sym (put-other (listed m) pid (option_map (changed nice) (listed m pid)) q other)
       ]
   renices (Some t) q =
       elim (cases_eq t.pid pid) [
         | inl own ↦ ap (λ (u : Task). standing (Some u) n q) (changed_own t own) ∙ its_own own (cases_eq q pid)
-        | inr other ↦ ap (λ (u : Task). standing (Some u) n q) (changed_other t other) ∙ another other (cases_eq q t.pid) (cases_eq q pid)
+        | inr other ↦ ap (λ (u : Task). standing (Some u) n q) (changed_other t other)
+            ∙ another other (cases_eq q t.pid) (cases_eq q pid)
       ]
     where
       its_own : t.pid ≡ pid → (q ≡ pid) ⊎ (q ≡ pid → ⊥) → standing (Some (record t { nice = nice })) n q
@@ -114,30 +125,38 @@ module _ (m n : BTreeMap ℕ Task) (pid : ℕ) (nice : ℤ) (h : HasNice pid nic
           ≡ put (standing (Some t) m) pid (option_map (changed nice) (standing (Some t) m pid)) q
       another other (inl is) at =
           put-at (listed n) t.pid (Some (entity_of t)) q is ∙ sym (put-at (listed m) t.pid (Some (entity_of t)) q is)
-          ∙ sym (put-other (standing (Some t) m) pid (option_map (changed nice) (standing (Some t) m pid)) q (λ e. other (sym is ∙ e)))
+          ∙ sym (put-other (standing (Some t) m) pid (option_map (changed nice) (standing (Some t) m pid)) q
+          (λ e. other (sym is ∙ e)))
       another other (inr ne) (inl same) =
           put-other (listed n) t.pid (Some (entity_of t)) q ne ∙ ap (listed n) same ∙ listed_here
-          ∙ ap (option_map (changed nice)) (sym (put-other (listed m) t.pid (Some (entity_of t)) pid (λ e. other (sym e))))
+          ∙ ap (option_map (changed nice))
+          (sym (put-other (listed m) t.pid (Some (entity_of t)) pid (λ e. other (sym e))))
           ∙ sym (put-at (standing (Some t) m) pid (option_map (changed nice) (standing (Some t) m pid)) q same)
       another other (inr ne) (inr away) =
           put-other (listed n) t.pid (Some (entity_of t)) q ne ∙ listed_there q away
           ∙ sym (put-other (listed m) t.pid (Some (entity_of t)) q ne)
           ∙ sym (put-other (standing (Some t) m) pid (option_map (changed nice) (standing (Some t) m pid)) q away)
 
-  pub reniced_part : (runner : Option Task) (floor : ℤ) (mark : ℕ) → part_with (standing (option_map (reniced_task pid nice) runner) n) floor mark
-      ≡ with_entity (part_with (standing runner m) floor mark) pid (option_map (λ (s : Entity). record s { nice = nice }) (standing runner m pid))
+  pub reniced_part : (runner : Option Task) (floor : ℤ) (mark : ℕ)
+      → part_with (standing (option_map (reniced_task pid nice) runner) n) floor mark
+      ≡ with_entity (part_with (standing runner m) floor mark) pid
+      (option_map (λ (s : Entity). record s { nice = nice }) (standing runner m pid))
   reniced_part runner floor mark =
-      same_tasks (standing (option_map (reniced_task pid nice) runner) n) (put (standing runner m) pid (option_map (changed nice) (standing runner m pid)))
+      same_tasks (standing (option_map (reniced_task pid nice) runner) n)
+      (put (standing runner m) pid (option_map (changed nice) (standing runner m pid)))
       floor mark (renices runner)
 
   -- each stands where it did
-  places : (runner : Option Task) (q : ℕ) → its_place (standing (option_map (reniced_task pid nice) runner) n q) ≡ its_place (standing runner m q)
+  places : (runner : Option Task) (q : ℕ)
+      → its_place (standing (option_map (reniced_task pid nice) runner) n q) ≡ its_place (standing runner m q)
   places runner q =
       ap its_place (renices runner q)
       ∙ elim (cases_eq q pid) [
-        | inl same ↦ ap its_place (put-at (standing runner m) pid (option_map (changed nice) (standing runner m pid)) q same)
+        | inl same ↦ ap its_place (put-at (standing runner m) pid
+            (option_map (changed nice) (standing runner m pid)) q same)
             ∙ go (standing runner m pid) ∙ ap (λ k. its_place (standing runner m k)) (sym same)
-        | inr other ↦ ap its_place (put-other (standing runner m) pid (option_map (changed nice) (standing runner m pid)) q other)
+        | inr other ↦ ap its_place (put-other (standing runner m) pid
+            (option_map (changed nice) (standing runner m pid)) q other)
       ]
     where
       go : (o : Option Entity) → its_place (option_map (changed nice) o) ≡ its_place o
@@ -171,25 +190,31 @@ module _ (m n : BTreeMap ℕ Task) (pid : ℕ) (nice : ℤ) (h : HasNice pid nic
       go (Some t) i = refl
 
   only_it : (runner : Option Task) → IsOnlyRunner (standing runner m) runner
-      → IsOnlyRunner (standing (option_map (reniced_task pid nice) runner) n) (option_map (reniced_task pid nice) runner)
+      → IsOnlyRunner (standing (option_map (reniced_task pid nice) runner) n)
+      (option_map (reniced_task pid nice) runner)
   unfolding IsOnlyRunner
   only_it runner only q i =
       pids runner ∙ only q (sym (places runner q) ∙ i)
     where
-      pids : (r : Option Task) → option_map (λ t. t.pid) (option_map (reniced_task pid nice) r) ≡ option_map (λ t. t.pid) r
+      pids : (r : Option Task) → option_map (λ t. t.pid) (option_map (reniced_task pid nice) r) ≡ option_map
+          (λ t. t.pid) r
       pids None = refl
       pids (Some t) = ap Some (own_pid t)
 
-  has_entry : (runner : Option Task) → IsRunnerListed runner m → IsRunnerListed (option_map (reniced_task pid nice) runner) n
+  has_entry : (runner : Option Task) → IsRunnerListed runner m
+      → IsRunnerListed (option_map (reniced_task pid nice) runner) n
   has_entry None has = listed_none n
   has_entry (Some t) has =
       let l = is_listed (Some t) m has t refl in
-      listed_some n (reniced_task pid nice t) (own_place t ∙ l.0) (subst (λ k. IsSome (get nat_cmp n k)) (sym (own_pid t)) (entry_kept t.pid l.1))
+      listed_some n (reniced_task pid nice t) (own_place t ∙ l.0)
+      (subst (λ k. IsSome (get nat_cmp n k)) (sym (own_pid t)) (entry_kept t.pid l.1))
 
-  pub reniced_queue : (runner : Option Task) (a : BTreeSet WaitingTask) → IsQueue runner m a → IsQueue (option_map (reniced_task pid nice) runner) n a
+  pub reniced_queue : (runner : Option Task) (a : BTreeSet WaitingTask) → IsQueue runner m a
+      → IsQueue (option_map (reniced_task pid nice) runner) n a
   reniced_queue runner a kept =
       queue_is (option_map (reniced_task pid nice) runner) n a
-      (stays (standing runner m) (standing (option_map (reniced_task pid nice) runner) n) pid (option_map (changed nice) (standing runner m pid)) (renices runner)
+      (stays (standing runner m) (standing (option_map (reniced_task pid nice) runner) n) pid
+      (option_map (changed nice) (standing runner m pid)) (renices runner)
       a (waiting_in runner m a kept) (go (standing runner m pid)))
       (only_it runner (only_in runner m a kept))
       (has_entry runner (listed_in runner m a kept))
@@ -210,7 +235,8 @@ module _ (m n : BTreeMap ℕ Task) (pid : ℕ) (nice : ℤ) (h : HasNice pid nic
   stands_listed None has none = listed_stands has none
   stands_listed (Some t) has none =
       elim (cases_eq pid t.pid) [
-        | inl own ↦ let e : Some (entity_of t) ≡ None = sym (put-at (listed m) t.pid (Some (entity_of t)) pid own) ∙ none in absurd cc
+        | inl own ↦ let e : Some (entity_of t) ≡ None = sym (put-at (listed m) t.pid (Some (entity_of t)) pid own)
+            ∙ none in absurd cc
         | inr other ↦ listed_stands has (sym (put-other (listed m) t.pid (Some (entity_of t)) pid other) ∙ none)
       ]
 
@@ -222,11 +248,16 @@ holds_both a b c g h = record {
 }
 
 -- a change of a nice value that is taken back
-pub renice_undone : (a b c d : Runqueue) (pid : ℕ) (nice before : ℤ) → IsReniced pid nice a b → HoldsSame b c → IsReniced pid before c d
+pub renice_undone : (a b c d : Runqueue) (pid : ℕ) (nice before : ℤ) → IsReniced pid nice a b → HoldsSame b c
+    → IsReniced pid before c d
     → Some before ≡ nice_listed a pid → HoldsSame a d
 renice_undone a b c d pid nice before g same h was = record {
   tasks = written_back a.tasks c.tasks d.tasks pid nice before
-      (record { here = same.tasks pid ∙ g.listed.here; there = λ q ne. same.tasks q ∙ g.listed.there q ne }) h.listed was;
+      (record {
+        here = same.tasks pid ∙ g.listed.here;
+        there = λ q ne. same.tasks q
+            ∙ g.listed.there q ne;
+      }) h.listed was;
   waiting = λ v q. ap (λ w. contains by_runtime w (waiting_task v q)) h.waiting ∙ same.waiting v q
       ∙ ap (λ w. contains by_runtime w (waiting_task v q)) g.waiting;
 }

@@ -1,5 +1,6 @@
 -- What an entry that is written or taken out makes of who stands, and of those who wait.
-use Rattle.std.proofs.Common.{◌≡◌, ◌≢◌, ◌↔◌, ℕ, Bool, true, false, IsTrue, IsSome, Option, Some, None, option_map, ℤ, pos, ◌≤ℤ◌, ◌<ℤ◌, ◌⊎◌, inl, inr, refl, sym, ap, ◌∙◌, subst, true≢false, arith}
+use Rattle.std.proofs.Common.{◌≡◌, ◌≢◌, ◌↔◌, ℕ, Bool, true, false, IsTrue, IsSome, Option, Some, None, option_map, ℤ}
+use Rattle.std.proofs.Common.{pos, ◌≤ℤ◌, ◌<ℤ◌, ◌⊎◌, inl, inr, refl, sym, ap, ◌∙◌, subst, true≢false, arith}
 use Rattle.std.specs.BTreeMap.{BTreeMap, get, Updates}
 use Rattle.std.specs.BTreeSet as set
 use Rattle.std.specs.BTreeSet.{BTreeSet, contains}
@@ -17,7 +18,8 @@ use Rattle.cfs_model.specs.declared.task.Place.{Place}
 use Rattle.cfs_model.specs.declared.task.Place.TheVariants.{Run, Wait, Rest}
 use Rattle.cfs_model.specs.declared.task.Task.{Task}
 use Rattle.runqueue.specs.Queue.{IsTheRunner}
-use Rattle.runqueue.specs.Standing.{by_runtime, listed, standing, runtime_if, waiting_runtime, IsWaitingSet, IsOnlyRunner, IsRunnerListed, IsQueue, waiting_task}
+use Rattle.runqueue.specs.Standing.{by_runtime, listed, standing, runtime_if, waiting_runtime, IsWaitingSet}
+use Rattle.runqueue.specs.Standing.{IsOnlyRunner, IsRunnerListed, IsQueue, waiting_task}
 use Rattle.runqueue.specs.declared.waiting_task.WaitingTask.{WaitingTask}
 use Rattle.runqueue.specs.Tasks.{entity_of}
 use Rattle.cfs_model.proofs.Moves.{put-same, put-other}
@@ -39,36 +41,43 @@ other_key k q ne = go (is_eq (nat_cmp k q)) refl
 -- pairs that the order takes for one are one
 pub exact_runtimes : (x y : WaitingTask) → is_eq (by_runtime x y) ≡ true → x ≡ y
 exact_runtimes x y e =
-    ap (λ p. waiting_task p.0 p.1) (exact_pairs int_cmp nat_cmp exact_signed exact_unsigned (x.v, x.pid) (y.v, y.pid) (from_is_eq (by_runtime x y) e))
+    ap (λ p. waiting_task p.0 p.1) (exact_pairs int_cmp nat_cmp exact_signed exact_unsigned (x.v, x.pid) (y.v, y.pid)
+    (from_is_eq (by_runtime x y) e))
 
 other_pair : (x y : WaitingTask) → x ≢ y → is_eq (by_runtime x y) ≡ false
 other_pair x y ne =
     elim (cases_Bool (is_eq (by_runtime x y))) [ inl yes' ↦ absurd (ne (exact_runtimes x y yes')) | inr no' ↦ no' ]
 
 -- a pair that isn't below another has no lesser virtual runtime
-pub lower_runtime : (v w : ℤ) (pid other : ℕ) → is_gt (by_runtime (waiting_task v pid) (waiting_task w other)) ≡ false → v ≤ℤ w
+pub lower_runtime : (v w : ℤ) (pid other : ℕ) → is_gt (by_runtime (waiting_task v pid) (waiting_task w other)) ≡ false
+    → v ≤ℤ w
 lower_runtime v w pid other e = go (int_cmp v w) (int_ranked v w (int_cmp v w) refl) e
   where
-    go : (o : Ordering) → MatchOrdering o (v <ℤ w) (v ≡ w) (w <ℤ v) → is_gt (ordering_then o (nat_cmp pid other)) ≡ false → v ≤ℤ w
+    go : (o : Ordering) → MatchOrdering o (v <ℤ w) (v ≡ w) (w <ℤ v)
+        → is_gt (ordering_then o (nat_cmp pid other)) ≡ false → v ≤ℤ w
     go Less h e = omega (arith, ints, h)
     go Equal h e = omega (arith, ints, h)
     go Greater h e = absurd cc
 
 -- the parts of what the type keeps
-pub queue_is : (runner : Option Task) (m : BTreeMap ℕ Task) (s : BTreeSet WaitingTask) → IsWaitingSet (standing runner m) s
+pub queue_is : (runner : Option Task) (m : BTreeMap ℕ Task) (s : BTreeSet WaitingTask)
+    → IsWaitingSet (standing runner m) s
     → IsOnlyRunner (standing runner m) runner → IsRunnerListed runner m → IsQueue runner m s
 unfolding IsQueue
 queue_is runner m s waiting only has = (waiting, only, has)
 
-pub waiting_in : (runner : Option Task) (m : BTreeMap ℕ Task) (s : BTreeSet WaitingTask) → IsQueue runner m s → IsWaitingSet (standing runner m) s
+pub waiting_in : (runner : Option Task) (m : BTreeMap ℕ Task) (s : BTreeSet WaitingTask) → IsQueue runner m s
+    → IsWaitingSet (standing runner m) s
 unfolding IsQueue
 waiting_in runner m s kept = kept.0
 
-pub only_in : (runner : Option Task) (m : BTreeMap ℕ Task) (s : BTreeSet WaitingTask) → IsQueue runner m s → IsOnlyRunner (standing runner m) runner
+pub only_in : (runner : Option Task) (m : BTreeMap ℕ Task) (s : BTreeSet WaitingTask) → IsQueue runner m s
+    → IsOnlyRunner (standing runner m) runner
 unfolding IsQueue
 only_in runner m s kept = kept.1
 
-pub listed_in : (runner : Option Task) (m : BTreeMap ℕ Task) (s : BTreeSet WaitingTask) → IsQueue runner m s → IsRunnerListed runner m
+pub listed_in : (runner : Option Task) (m : BTreeMap ℕ Task) (s : BTreeSet WaitingTask) → IsQueue runner m s
+    → IsRunnerListed runner m
 unfolding IsQueue
 listed_in runner m s kept = kept.2
 
@@ -86,14 +95,16 @@ pub listed_none : (m : BTreeMap ℕ Task) → IsRunnerListed None m
 unfolding IsRunnerListed
 listed_none m t e = absurd cc
 
-pub listed_some : (m : BTreeMap ℕ Task) (t : Task) → t.place ≡ Run → IsSome (get nat_cmp m t.pid) → IsRunnerListed (Some t) m
+pub listed_some : (m : BTreeMap ℕ Task) (t : Task) → t.place ≡ Run → IsSome (get nat_cmp m t.pid)
+    → IsRunnerListed (Some t) m
 unfolding IsRunnerListed
 listed_some m t runs has u e =
     let same : t ≡ u = same_Some t u e in
     let P : Task → Type 0 = λ x. (x.place ≡ Run) × IsSome (get nat_cmp m x.pid) in
     subst P same (runs, has)
 
-pub runs_alone : (f : ℕ → Option Entity) (runner : Option Task) → IsOnlyRunner f runner → (pid : ℕ) → its_place (f pid) ≡ Some Run
+pub runs_alone : (f : ℕ → Option Entity) (runner : Option Task) → IsOnlyRunner f runner → (pid : ℕ)
+    → its_place (f pid) ≡ Some Run
     → option_map (λ t. t.pid) runner ≡ Some pid
 unfolding IsOnlyRunner
 runs_alone f runner h = h
@@ -102,7 +113,8 @@ pub only_none : (f : ℕ → Option Entity) → ((q : ℕ) → its_place (f q) �
 unfolding IsOnlyRunner
 only_none f nobody q i = absurd (nobody q i)
 
-pub waiting_none : (f : ℕ → Option Entity) (s : BTreeSet WaitingTask) → ((q : ℕ) → f q ≡ None) → ((k : WaitingTask) → contains by_runtime s k ≡ false)
+pub waiting_none : (f : ℕ → Option Entity) (s : BTreeSet WaitingTask) → ((q : ℕ) → f q ≡ None)
+    → ((k : WaitingTask) → contains by_runtime s k ≡ false)
     → IsWaitingSet f s
 unfolding IsWaitingSet
 waiting_none f s nobody none v q = (
@@ -111,7 +123,8 @@ waiting_none f s nobody none v q = (
 )
 
 -- who runs here
-pub the_runner : (runner : Option Task) (m : BTreeMap ℕ Task) (s : BTreeSet WaitingTask) (floor : ℤ) (mark : ℕ) → IsQueue runner m s
+pub the_runner : (runner : Option Task) (m : BTreeMap ℕ Task) (s : BTreeSet WaitingTask) (floor : ℤ) (mark : ℕ)
+    → IsQueue runner m s
     → IsTheRunner (record { tasks = standing runner m; floor = floor; mark = mark }) runner
 the_runner None m s floor mark kept =
     λ pid i. let e : None ≡ Some pid = runs_alone (standing None m) None (only_in None m s kept) pid i in absurd cc
@@ -122,19 +135,23 @@ the_runner (Some t) m s floor mark kept = (
 )
 
 -- nobody runs where the runqueue has no runner
-pub no_runner : (runner : Option Task) (m : BTreeMap ℕ Task) (s : BTreeSet WaitingTask) (floor : ℤ) (mark : ℕ) → IsQueue runner m s
+pub no_runner : (runner : Option Task) (m : BTreeMap ℕ Task) (s : BTreeSet WaitingTask) (floor : ℤ) (mark : ℕ)
+    → IsQueue runner m s
     → NobodyIn (record { tasks = standing runner m; floor = floor; mark = mark }) Run → runner ≡ None
 no_runner None m s floor mark kept nobody = refl
 no_runner (Some t) m s floor mark kept nobody =
     let ran = the_runner (Some t) m s floor mark kept in absurd (nobody t.pid (ap its_place ran.0 ∙ ap Some ran.1))
 
-pub nobody_runs : (runner : Option Task) (m : BTreeMap ℕ Task) (s : BTreeSet WaitingTask) (floor : ℤ) (mark : ℕ) → IsQueue runner m s
+pub nobody_runs : (runner : Option Task) (m : BTreeMap ℕ Task) (s : BTreeSet WaitingTask) (floor : ℤ) (mark : ℕ)
+    → IsQueue runner m s
     → runner ≡ None → NobodyIn (record { tasks = standing runner m; floor = floor; mark = mark }) Run
 nobody_runs runner m s floor mark kept none =
-    subst (IsTheRunner (record { tasks = standing runner m; floor = floor; mark = mark })) none (the_runner runner m s floor mark kept)
+    subst (IsTheRunner (record { tasks = standing runner m; floor = floor; mark = mark })) none
+    (the_runner runner m s floor mark kept)
 
 -- a pid that doesn't run isn't the runner's
-pub runner_apart : (runner : Option Task) (m : BTreeMap ℕ Task) (s : BTreeSet WaitingTask) → IsQueue runner m s → (pid : ℕ)
+pub runner_apart : (runner : Option Task) (m : BTreeMap ℕ Task) (s : BTreeSet WaitingTask) → IsQueue runner m s
+    → (pid : ℕ)
     → (its_place (standing runner m pid) ≡ Some Run → ⊥) → (t : Task) → runner ≡ Some t → t.pid ≢ pid
 runner_apart None m s kept pid ne t e same = cc
 runner_apart (Some u) m s kept pid ne t e same =
@@ -143,7 +160,8 @@ runner_apart (Some u) m s kept pid ne t e same =
     ne (ap its_place (ap (standing (Some u) m) (sym up) ∙ r.0) ∙ ap Some r.1)
 
 -- another pid than the runner's stands as the map has it
-pub standing_listed : (runner : Option Task) (m : BTreeMap ℕ Task) (pid : ℕ) → ((t : Task) → runner ≡ Some t → t.pid ≢ pid)
+pub standing_listed : (runner : Option Task) (m : BTreeMap ℕ Task) (pid : ℕ)
+    → ((t : Task) → runner ≡ Some t → t.pid ≢ pid)
     → standing runner m pid ≡ listed m pid
 standing_listed None m pid apart = refl
 standing_listed (Some t) m pid apart = put-other (listed m) t.pid (Some (entity_of t)) pid (λ e. apart t refl (sym e))
@@ -187,10 +205,14 @@ pub put_away : (t : Task) (m n : BTreeMap ℕ Task) (w : Option Task) → Update
 put_away t m n w u q =
     listed_put m n t.pid w u q ∙ again (cases_eq q t.pid)
   where
-    again : (q ≡ t.pid) ⊎ (q ≡ t.pid → ⊥) → put (listed m) t.pid (option_map entity_of w) q ≡ put (put (listed m) t.pid (Some (entity_of t))) t.pid (option_map entity_of w) q
-    again (inl same) = put-at (listed m) t.pid _ q same ∙ sym (put-at (put (listed m) t.pid (Some (entity_of t))) t.pid _ q same)
+    again : (q ≡ t.pid) ⊎ (q ≡ t.pid → ⊥)
+        → put (listed m) t.pid (option_map entity_of w) q ≡ put (put (listed m) t.pid (Some (entity_of t))) t.pid
+        (option_map entity_of w) q
+    again (inl same) = put-at (listed m) t.pid _ q same
+        ∙ sym (put-at (put (listed m) t.pid (Some (entity_of t))) t.pid _ q same)
     again (inr other) =
-        put-under (listed m) (put (listed m) t.pid (Some (entity_of t))) t.pid _ q (sym (put-other (listed m) t.pid (Some (entity_of t)) q other))
+        put-under (listed m) (put (listed m) t.pid (Some (entity_of t))) t.pid _ q
+        (sym (put-other (listed m) t.pid (Some (entity_of t)) q other))
 
 -- the map has the runner's entry, whatever other is written or taken out
 pub listed_kept : (runner : Option Task) (m n : BTreeMap ℕ Task) (k : ℕ) (w : Option Task) → Updates nat_cmp m n k w
@@ -213,24 +235,30 @@ module _ (f g : ℕ → Option Entity) (pid : ℕ) (s : Option Entity) (is : (q 
   there : (q : ℕ) → q ≢ pid → g q ≡ f q
   there q ne = is q ∙ put-other f pid s q ne
 
-  same_pair : (a b : BTreeSet WaitingTask) (w : ℤ) (q : ℕ) → contains by_runtime b (waiting_task w q) ≡ contains by_runtime a (waiting_task w q) → g q ≡ f q
+  same_pair : (a b : BTreeSet WaitingTask) (w : ℤ) (q : ℕ)
+      → contains by_runtime b (waiting_task w q) ≡ contains by_runtime a (waiting_task w q) → g q ≡ f q
       → (IsTrue (contains by_runtime a (waiting_task w q)) ↔ (waiting_runtime (f q) ≡ Some w))
       → (IsTrue (contains by_runtime b (waiting_task w q)) ↔ (waiting_runtime (g q) ≡ Some w))
   same_pair a b w q e h i =
       ((λ x. ap waiting_runtime h ∙ i.0 (sym e ∙ x)), (λ x. e ∙ i.1 (sym (ap waiting_runtime h) ∙ x)))
 
-  by_pid : (a b : BTreeSet WaitingTask) (v : ℤ) (kept : Bool) → IsWaitingSet f a → set.Updates by_runtime a b (waiting_task v pid) kept
-      → ((w : ℤ) → IsTrue (contains by_runtime b (waiting_task w pid)) ↔ (waiting_runtime (g pid) ≡ Some w)) → IsWaitingSet g b
+  by_pid : (a b : BTreeSet WaitingTask) (v : ℤ) (kept : Bool) → IsWaitingSet f a
+      → set.Updates by_runtime a b (waiting_task v pid) kept
+      → ((w : ℤ) → IsTrue (contains by_runtime b (waiting_task w pid)) ↔ (waiting_runtime (g pid) ≡ Some w))
+      → IsWaitingSet g b
   unfolding IsWaitingSet
   by_pid a b v kept old u at w q =
       elim (cases_eq q pid) [
-        | inl same ↦ subst (λ x. IsTrue (contains by_runtime b (waiting_task w x)) ↔ (waiting_runtime (g x) ≡ Some w)) (sym same) (at w)
+        | inl same ↦ subst (λ x. IsTrue (contains by_runtime b (waiting_task w x))
+            ↔ (waiting_runtime (g x) ≡ Some w)) (sym same) (at w)
         | inr other ↦ same_pair a b w q
-            (u.2 (waiting_task w q) (other_pair (waiting_task v pid) (waiting_task w q) (λ e. other (sym (ap (λ x. x.pid) e))))) (there q other) (old w q)
+            (u.2 (waiting_task w q) (other_pair (waiting_task v pid) (waiting_task w q)
+            (λ e. other (sym (ap (λ x. x.pid) e))))) (there q other) (old w q)
       ]
 
   -- it waits, and didn't before
-  pub joins : (a b : BTreeSet WaitingTask) (v : ℤ) → IsWaitingSet f a → set.Updates by_runtime a b (waiting_task v pid) true
+  pub joins : (a b : BTreeSet WaitingTask) (v : ℤ) → IsWaitingSet f a
+      → set.Updates by_runtime a b (waiting_task v pid) true
       → waiting_runtime (f pid) ≡ None → waiting_runtime s ≡ Some v → IsWaitingSet g b
   joins a b v old u none new = by_pid a b v true old u (λ w. (forth w, back w))
     where
@@ -245,11 +273,13 @@ module _ (f g : ℕ → Option Entity) (pid : ℕ) (s : Option Entity) (is : (q 
           elim (cases_Bool (is_eq (by_runtime (waiting_task v pid) (waiting_task w pid)))) [
             | inl same ↦ is_v ∙ ap (λ x. Some x.v) (exact_runtimes (waiting_task v pid) (waiting_task w pid) same)
             | inr other ↦
-                let e : None ≡ Some w = sym none ∙ (waits_where f a old w pid).0 (sym (u.2 (waiting_task w pid) other) ∙ h) in absurd cc
+                let e : None ≡ Some w = sym none
+                ∙ (waits_where f a old w pid).0 (sym (u.2 (waiting_task w pid) other) ∙ h) in absurd cc
           ]
 
   -- it doesn't wait, and may have before
-  pub parts : (a b : BTreeSet WaitingTask) (v : ℤ) → IsWaitingSet f a → set.Updates by_runtime a b (waiting_task v pid) false
+  pub parts : (a b : BTreeSet WaitingTask) (v : ℤ) → IsWaitingSet f a
+      → set.Updates by_runtime a b (waiting_task v pid) false
       → ((w : ℤ) → waiting_runtime (f pid) ≡ Some w → w ≡ v) → waiting_runtime s ≡ None → IsWaitingSet g b
   parts a b v old u own none = by_pid a b v false old u (λ w. (forth w, back w))
     where
@@ -262,19 +292,23 @@ module _ (f g : ℕ → Option Entity) (pid : ℕ) (s : Option Entity) (is : (q 
       forth : (w : ℤ) → IsTrue (contains by_runtime b (waiting_task w pid)) → waiting_runtime (g pid) ≡ Some w
       forth w h =
           elim (cases_Bool (is_eq (by_runtime (waiting_task v pid) (waiting_task w pid)))) [
-            | inl same ↦ absurd (not_v w (sym (ap (λ x. x.v) (exact_runtimes (waiting_task v pid) (waiting_task w pid) same))) h)
-            | inr other ↦ absurd (not_v w (own w ((waits_where f a old w pid).0 (sym (u.2 (waiting_task w pid) other) ∙ h))) h)
+            | inl same ↦ absurd (not_v w
+                (sym (ap (λ x. x.v) (exact_runtimes (waiting_task v pid) (waiting_task w pid) same))) h)
+            | inr other ↦ absurd (not_v w
+                (own w ((waits_where f a old w pid).0 (sym (u.2 (waiting_task w pid) other) ∙ h))) h)
           ]
 
   -- it waits as before, or doesn't
-  pub stays : (a : BTreeSet WaitingTask) → IsWaitingSet f a → waiting_runtime s ≡ waiting_runtime (f pid) → IsWaitingSet g a
+  pub stays : (a : BTreeSet WaitingTask) → IsWaitingSet f a → waiting_runtime s ≡ waiting_runtime (f pid)
+      → IsWaitingSet g a
   unfolding IsWaitingSet
   stays a old same w q =
       elim (cases_eq q pid) [
-        | inl e ↦ subst (λ x. IsTrue (contains by_runtime a (waiting_task w x)) ↔ (waiting_runtime (g x) ≡ Some w)) (sym e) (
-          (λ x. ap waiting_runtime here ∙ same ∙ (old w pid).0 x),
-          (λ x. (old w pid).1 (sym same ∙ sym (ap waiting_runtime here) ∙ x)),
-        )
+        | inl e ↦ subst (λ x. IsTrue (contains by_runtime a (waiting_task w x))
+            ↔ (waiting_runtime (g x) ≡ Some w)) (sym e) (
+              (λ x. ap waiting_runtime here ∙ same ∙ (old w pid).0 x),
+              (λ x. (old w pid).1 (sym same ∙ sym (ap waiting_runtime here) ∙ x)),
+            )
         | inr other ↦ same_pair a a w q refl (there q other) (old w q)
       ]
 
@@ -288,7 +322,8 @@ module _ (f g : ℕ → Option Entity) (pid : ℕ) (s : Option Entity) (is : (q 
       ]
 
   -- it ran, and doesn't
-  pub only_left : (t : Task) → t.pid ≡ pid → IsOnlyRunner f (Some t) → (its_place s ≡ Some Run → ⊥) → IsOnlyRunner g None
+  pub only_left : (t : Task) → t.pid ≡ pid → IsOnlyRunner f (Some t) → (its_place s ≡ Some Run → ⊥)
+      → IsOnlyRunner g None
   unfolding IsOnlyRunner
   only_left t e only ne q i =
       elim (cases_eq q pid) [
@@ -315,13 +350,17 @@ module _ (f g : ℕ → Option Entity) (pid : ℕ) (s : Option Entity) (is : (q 
       ]
 
 -- maps and sets that hold the same
-pub standing_same : (runner : Option Task) (m n : BTreeMap ℕ Task) → ((q : ℕ) → get nat_cmp n q ≡ get nat_cmp m q) → (q : ℕ)
+pub standing_same : (runner : Option Task) (m n : BTreeMap ℕ Task) → ((q : ℕ) → get nat_cmp n q ≡ get nat_cmp m q)
+    → (q : ℕ)
     → standing runner n q ≡ standing runner m q
 standing_same None m n same q = ap (option_map entity_of) (same q)
-standing_same (Some t) m n same q = put-under (listed n) (listed m) t.pid (Some (entity_of t)) q (ap (option_map entity_of) (same q))
+standing_same (Some t) m n same q = put-under (listed n) (listed m) t.pid (Some (entity_of t)) q
+    (ap (option_map entity_of) (same q))
 
-pub same_queue : (runner : Option Task) (m n : BTreeMap ℕ Task) (a b : BTreeSet WaitingTask) → ((q : ℕ) → get nat_cmp n q ≡ get nat_cmp m q)
-    → ((v : ℤ) (q : ℕ) → contains by_runtime b (waiting_task v q) ≡ contains by_runtime a (waiting_task v q)) → IsQueue runner m a → IsQueue runner n b
+pub same_queue : (runner : Option Task) (m n : BTreeMap ℕ Task) (a b : BTreeSet WaitingTask)
+    → ((q : ℕ) → get nat_cmp n q ≡ get nat_cmp m q)
+    → ((v : ℤ) (q : ℕ) → contains by_runtime b (waiting_task v q) ≡ contains by_runtime a (waiting_task v q))
+    → IsQueue runner m a → IsQueue runner n b
 unfolding IsQueue IsWaitingSet IsOnlyRunner IsRunnerListed
 same_queue runner m n a b same also kept =
     let s = standing_same runner m n same in (

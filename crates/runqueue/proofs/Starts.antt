@@ -1,5 +1,6 @@
 -- A runqueue at the start, task by task: the pids rise, and at most one of the tasks runs.
-use Rattle.std.proofs.Common.{◌≡◌, ℕ, ◌+◌, ◌<◌, Bool, false, eqb, List, [], ◌∷◌, ◌++◌, length, take, get_or, All, Some, None, option_map, ℤ, inl, inr, refl, sym, ap, ◌∙◌, subst, arith}
+use Rattle.std.proofs.Common.{◌≡◌, ℕ, ◌+◌, ◌<◌, Bool, false, eqb, List, [], ◌∷◌, ◌++◌, length, take, get_or, All, Some}
+use Rattle.std.proofs.Common.{None, option_map, ℤ, inl, inr, refl, sym, ap, ◌∙◌, subst, arith}
 use Rattle.std.specs.List.{find, AllPairs}
 use Rattle.std.proofs.lemmas.Bool.{ne_eqb, cond-false}
 use Rattle.std.proofs.lemmas.List.{get_or-take, get_or_default, length-take-le, take_more}
@@ -28,7 +29,8 @@ module _ (tasks : List Task) (i : ℕ) (t : Task) (within : i < length tasks) (i
       find_none (λ u. eqb u.pid t.pid) (take i tasks) (λ k d h.
       let n : length (take i tasks) ≡ i = length-take-le i tasks (omega (arith, within)) in
       let below : k < i = omega (arith, n, h) in
-      let e : get_or (take i tasks) k d ≡ get_or tasks k t = get_or-take i tasks k d below ∙ get_or_default tasks k d t (omega (arith, below, within)) in
+      let e : get_or (take i tasks) k d ≡ get_or tasks k t = get_or-take i tasks k d below
+      ∙ get_or_default tasks k d t (omega (arith, below, within)) in
       ne_eqb _ _ (λ f.
       let r : (get_or tasks k t).pid < (get_or tasks i t).pid = rise k i t below within in
       let g : (get_or tasks k t).pid ≡ t.pid = sym (ap (λ (x : Task). x.pid) e) ∙ f in
@@ -39,7 +41,8 @@ module _ (tasks : List Task) (i : ℕ) (t : Task) (within : i < length tasks) (i
   pub before_idle : AllPairs (λ t u. t.place ≡ Run → u.place ≡ Run → ⊥) tasks → t.place ≡ Run → (floor : ℤ) (mark : ℕ)
       → (part : Part) → part ≡ start_part (take i tasks) floor mark → NobodyIn part Run
   before_idle one runs floor mark part same pid ran =
-      let s : its_place (stands (take i tasks) pid) ≡ Some Run = sym (ap (λ (p : Part). its_place (p.tasks pid)) same) ∙ ran in
+      let s : its_place (stands (take i tasks) pid) ≡ Some Run = sym (ap (λ (p : Part). its_place (p.tasks pid)) same)
+      ∙ ran in
       elim (option_cases (task_of (take i tasks) pid)) [
         | inl none ↦ let f : None ≡ Some Run = sym (ap (λ o. its_place (option_map entity_of o)) none) ∙ s in absurd cc
         | inr some ↦
@@ -47,7 +50,8 @@ module _ (tasks : List Task) (i : ℕ) (t : Task) (within : i < length tasks) (i
             let n : length (take i tasks) ≡ i = length-take-le i tasks (omega (arith, within)) in
             let below : c.0 < i = (let h = c.1 in omega (arith, n, h)) in
             let e : get_or tasks c.0 t ≡ some.0 =
-            get_or_default tasks c.0 t some.0 (omega (arith, below, within)) ∙ sym (get_or-take i tasks c.0 some.0 below) ∙ c.2 in
+            get_or_default tasks c.0 t some.0 (omega (arith, below, within))
+            ∙ sym (get_or-take i tasks c.0 some.0 below) ∙ c.2 in
             let there : some.0.place ≡ Run =
             same_Some some.0.place Run (sym (ap (λ o. its_place (option_map entity_of o)) some.1) ∙ s) in
             let R : Task → Type 0 = λ x. x.place ≡ Run in
@@ -56,8 +60,10 @@ module _ (tasks : List Task) (i : ℕ) (t : Task) (within : i < length tasks) (i
 
   -- one task more
   pub one_task_more : RisesByPid tasks → (floor : ℤ) (mark : ℕ)
-      → with_entity (start_part (take i tasks) floor mark) t.pid (Some (entity_of t)) ≡ start_part (take (i + 1) tasks) floor mark
+      → with_entity (start_part (take i tasks) floor mark) t.pid (Some (entity_of t)) ≡ start_part
+      (take (i + 1) tasks) floor mark
   one_task_more rise floor mark =
-      sym (same_tasks (stands (take i tasks ++ t ∷ [])) (put (stands (take i tasks)) t.pid (Some (entity_of t))) floor mark
+      sym (same_tasks (stands (take i tasks ++ t ∷ []))
+      (put (stands (take i tasks)) t.pid (Some (entity_of t))) floor mark
       (stands_pushed (take i tasks) t (before_none rise)))
       ∙ ap (λ l. start_part l floor mark) (ap (λ x. take i tasks ++ x ∷ []) is ∙ sym (take_more tasks i t within))

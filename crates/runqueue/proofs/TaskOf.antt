@@ -1,5 +1,6 @@
 -- The task of a pid in a list of tasks, and what the list says of a pid.
-use Rattle.std.proofs.Common.{◌≡◌, ◌≢◌, ℕ, zero, suc, eqb, List, [], ◌∷◌, ◌++◌, Contains, Option, Some, None, option_map, ◌⊎◌, refl, sym, inl, inr, ap, ◌∙◌, subst, arith}
+use Rattle.std.proofs.Common.{◌≡◌, ◌≢◌, ℕ, zero, suc, eqb, List, [], ◌∷◌, ◌++◌, Contains, Option, Some, None}
+use Rattle.std.proofs.Common.{option_map, ◌⊎◌, refl, sym, inl, inr, ap, ◌∙◌, subst, arith}
 use Rattle.std.proofs.lemmas.Bool.{eq-eqb, ne_eqb, cond-true, cond-false, cases_eq}
 use Rattle.std.proofs.lemmas.Option.{same_Some}
 use Rattle.cfs_model.specs.Machine.{put}
@@ -21,7 +22,8 @@ pub task_of-pid : (tasks : List Task) (pid : ℕ) (t : Task) → task_of tasks p
 task_of-pid [] pid t e = cc
 task_of-pid (x ∷ xs) pid t e =
     elim (cases_eq x.pid pid) [
-      | inl same ↦ let f = sym (task_of-first x xs pid same) ∙ e in let g = same_Some x t f in subst (λ (u : Task). u.pid ≡ pid) g same
+      | inl same ↦ let f = sym (task_of-first x xs pid same)
+          ∙ e in let g = same_Some x t f in subst (λ (u : Task). u.pid ≡ pid) g same
       | inr other ↦ task_of-pid xs pid t (sym (task_of-later x xs pid other) ∙ e)
     ]
 
@@ -48,7 +50,8 @@ task_of-pushed [] t e = task_of-first t [] t.pid refl
 task_of-pushed (x ∷ xs) t e =
     elim (cases_eq x.pid t.pid) [
       | inl same ↦ let f : Some x ≡ None = sym (task_of-first x xs t.pid same) ∙ e in absurd cc
-      | inr other ↦ task_of-later x (xs ++ t ∷ []) t.pid other ∙ task_of-pushed xs t (sym (task_of-later x xs t.pid other) ∙ e)
+      | inr other ↦ task_of-later x (xs ++ t ∷ []) t.pid other
+          ∙ task_of-pushed xs t (sym (task_of-later x xs t.pid other) ∙ e)
     ]
 
 pub stands_pushed : (tasks : List Task) (t : Task) → task_of tasks t.pid ≡ None → (q : ℕ)
@@ -56,8 +59,10 @@ pub stands_pushed : (tasks : List Task) (t : Task) → task_of tasks t.pid ≡ N
 stands_pushed tasks t e q =
     elim (cases_eq q t.pid) [
       | inl same ↦ subst (λ x. stands (tasks ++ t ∷ []) x ≡ put (stands tasks) t.pid (Some (entity_of t)) x) (sym same)
-          (ap (option_map entity_of) (task_of-pushed tasks t e) ∙ sym (put-same (stands tasks) t.pid (Some (entity_of t))))
-      | inr other ↦ ap (option_map entity_of) (task_of-push tasks t q other) ∙ sym (put-other (stands tasks) t.pid _ q other)
+          (ap (option_map entity_of) (task_of-pushed tasks t e)
+          ∙ sym (put-same (stands tasks) t.pid (Some (entity_of t))))
+      | inr other ↦ ap (option_map entity_of) (task_of-push tasks t q other)
+          ∙ sym (put-other (stands tasks) t.pid _ q other)
     ]
 
 -- the task of a pid is in the list
@@ -66,5 +71,6 @@ contains [] pid t e = cc
 contains (x ∷ xs) pid t e =
     elim (cases_eq x.pid pid) [
       | inl same ↦ (zero, omega arith, same_Some x t (sym (task_of-first x xs pid same) ∙ e))
-      | inr other ↦ let c = contains xs pid t (sym (task_of-later x xs pid other) ∙ e) in (suc c.0, (let h = c.1 in omega arith), c.2)
+      | inr other ↦ let c = contains xs pid t (sym (task_of-later x xs pid other) ∙ e) in
+          (suc c.0, (let h = c.1 in omega arith), c.2)
     ]

@@ -1,5 +1,5 @@
--- Who stands at a processor: who runs, kept by itself, everybody by pid, and those who wait in their order (this project's
--- profile).
+-- Who stands at a processor: who runs, kept by itself, everybody by pid, and those who wait in their order (this
+-- project's profile).
 use Rattle.std.specs.Prelude.{◌≡◌, ◌≢◌, ℕ, ◌==◌, if◌then◌else◌, ◌↔◌, IsTrue, IsSome, Option, Some, None, option_map, ℤ}
 use Rattle.std.specs.BTreeMap.{BTreeMap, get}
 use Rattle.std.specs.BTreeSet.{BTreeSet, contains}

@@ -148,8 +148,8 @@ impl Runqueue {
         }
     }
 
-    /// The task of this pid, as it stands here, waits at the claimed virtual runtime, if it rests. Where memory is wanted
-    /// nothing changes.
+    /// The task of this pid, as it stands here, waits at the claimed virtual runtime, if it rests. Where memory is
+    /// wanted nothing changes.
     pub fn wake(&mut self, pid: u32, task: Option<Task>, claim: Claim) -> Result<(), Memory>
         requires { IsTaskAt (runqueue_view self.old) pid task }
         ensures part { OnOk result (runqueue_view self.new ≡ wakes (runqueue_view self.old) pid (Some claim)) }

@@ -1,7 +1,8 @@
 ghost use Rattle.std.specs.Prelude.{◌≡◌, ℕ, option_map};
 ghost use Rattle.replay_model.specs.Deeds.{part_after_prev};
 ghost use Rattle.replay_model.specs.QueueTests.{IsRunner};
-ghost use Rattle.runqueue.specs.Queue.{IsLeastIfWaiting, IsLeastQueued, IsSwitchTask, IsTaskAt, IsTheRunner, runqueue_view};
+ghost use Rattle.runqueue.specs.Queue.{IsLeastIfWaiting, IsLeastQueued, IsSwitchTask, IsTaskAt, IsTheRunner};
+ghost use Rattle.runqueue.specs.Queue.{runqueue_view};
 ghost use Rattle.runqueue.specs.Standing.{IsWaitingSet, listed};
 ghost use Rattle.runqueue.specs.Tasks.{entity_of};
 

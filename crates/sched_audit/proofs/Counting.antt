@@ -8,6 +8,8 @@ pub one_more-below : (calls counter : ℕ) → calls ≡ counter → counter < 2
 one_more-below calls counter same below = omega arith
 
 -- a write that took some byte didn't take nothing
-pub took_some : (before after : Bool) (count : ℕ) (bytes : List ℕ) → 0 < count → after ≡ (before || ((count == 0) && nat_lt 0 (length bytes))) → after ≡ before
+pub took_some : (before after : Bool) (count : ℕ) (bytes : List ℕ) → 0 < count
+    → after ≡ (before || ((count == 0) && nat_lt 0 (length bytes))) → after ≡ before
 took_some true after count bytes some told = told
-took_some false after count bytes some told = told ∙ ap (λ none. none && nat_lt 0 (length bytes)) (ne_eqb count 0 (λ none. omega arith))
+took_some false after count bytes some told = told
+    ∙ ap (λ none. none && nat_lt 0 (length bytes)) (ne_eqb count 0 (λ none. omega arith))

@@ -1,5 +1,7 @@
 -- Of a line whose end hasn't come yet enough is held, and at its end the reader has read the whole line.
-use Rattle.std.proofs.Common.{◌≡◌, ℕ, suc, ◌+◌, ◌-◌, ◌<◌, ◌≤◌, Bool, true, false, List, [], ◌∷◌, ◌++◌, length, take, drop, Option, inl, inr, refl, sym, ap, ◌∙◌, subst, arith, append_assoc, append-nil, length-append, length-drop, add-one, one-add, Result, Ok, Err}
+use Rattle.std.proofs.Common.{◌≡◌, ℕ, suc, ◌+◌, ◌-◌, ◌<◌, ◌≤◌, Bool, true, false, List, [], ◌∷◌, ◌++◌, length, take}
+use Rattle.std.proofs.Common.{drop, Option, inl, inr, refl, sym, ap, ◌∙◌, subst, arith, append_assoc, append-nil}
+use Rattle.std.proofs.Common.{length-append, length-drop, add-one, one-add, Result, Ok, Err}
 use Rattle.std.proofs.KnownBytes.{Consumes-trans}
 use Rattle.std.specs.Prelude.{IfOk}
 use Rattle.std.specs.Bool.{OnTrue}
@@ -36,8 +38,10 @@ line_unfed (b ∷ c ∷ line) some e =
     let p = or_parts (is_line_feed b) (list_any is_line_feed (c ∷ line)) e in
     lines_of_more b (c ∷ line) p.0 ∙ ap (with_front b) (line_unfed (c ∷ line) (omega arith) p.1)
 
-pub none_in_front : (front more : List ℕ) → list_any is_line_feed (front ++ more) ≡ false → list_any is_line_feed front ≡ false
-none_in_front front more e = (or_parts (list_any is_line_feed front) (list_any is_line_feed more) (sym (list_any-append is_line_feed front more) ∙ e)).0
+pub none_in_front : (front more : List ℕ) → list_any is_line_feed (front ++ more) ≡ false
+    → list_any is_line_feed front ≡ false
+none_in_front front more e = (or_parts (list_any is_line_feed front) (list_any is_line_feed more)
+    (sym (list_any-append is_line_feed front more) ∙ e)).0
 
 pub none_in_both : (front more : List ℕ) → list_any is_line_feed front ≡ false → list_any is_line_feed more ≡ false
     → list_any is_line_feed (front ++ more) ≡ false
@@ -45,10 +49,12 @@ none_in_both front more e f = list_any-append is_line_feed front more ∙ rw (e,
 
 -- ---- the first line feed of a text
 
-before_cons : (b : ℕ) (s : List ℕ) → is_line_feed b ≡ false → before_first is_line_feed (b ∷ s) ≡ b ∷ before_first is_line_feed s
+before_cons : (b : ℕ) (s : List ℕ) → is_line_feed b ≡ false
+    → before_first is_line_feed (b ∷ s) ≡ b ∷ before_first is_line_feed s
 before_cons b s e = rw (e, one-add) refl
 
-after_cons : (b : ℕ) (s : List ℕ) → is_line_feed b ≡ false → after_first is_line_feed (b ∷ s) ≡ after_first is_line_feed s
+after_cons : (b : ℕ) (s : List ℕ) → is_line_feed b ≡ false
+    → after_first is_line_feed (b ∷ s) ≡ after_first is_line_feed s
 after_cons b s e = rw (e, add-one, one-add, add-one) refl
 
 before_at : (b : ℕ) (s : List ℕ) → is_line_feed b ≡ true → before_first is_line_feed (b ∷ s) ≡ []
@@ -78,7 +84,8 @@ all_before [] le = refl
 all_before (b ∷ s) le =
     elim (cases_Bool (is_line_feed b)) [
       | inl e ↦ absurd (omega (arith, le, ap length (before_at b s e)))
-      | inr e ↦ before_cons b s e ∙ ap (λ (t : List ℕ). b ∷ t) (all_before s (omega (arith, le, ap length (before_cons b s e))))
+      | inr e ↦ before_cons b s e ∙ ap (λ (t : List ℕ). b ∷ t)
+          (all_before s (omega (arith, le, ap length (before_cons b s e))))
     ]
 
 pub feed_behind : (s : List ℕ) → length (before_first is_line_feed s) < length s
@@ -88,9 +95,13 @@ feed_behind (b ∷ s) lt =
     elim (cases_Bool (is_line_feed b)) [
       | inl e ↦ rw (before_at b s e) (ap (λ c. c ∷ s) (eqb-true b 10 e))
       | inr e ↦
-          let shorter : length (before_first is_line_feed s) < length s = omega (arith, lt, ap length (before_cons b s e)) in
-          let up : length (before_first is_line_feed s) + 1 ≡ suc (length (before_first is_line_feed s)) = omega arith in
-          rw (before_cons b s e, add-one) (ap (λ (t : List ℕ). b ∷ t) (feed_behind s shorter ∙ ap (λ n. before_first is_line_feed s ++ 10 ∷ drop n s) up))
+          let shorter : length (before_first is_line_feed s) < length s =
+          omega (arith, lt, ap length (before_cons b s e)) in
+          let up : length (before_first is_line_feed s) + 1 ≡ suc (length (before_first is_line_feed s)) =
+          omega arith in
+          rw (before_cons b s e, add-one)
+          (ap (λ (t : List ℕ). b ∷ t) (feed_behind s shorter
+          ∙ ap (λ n. before_first is_line_feed s ++ 10 ∷ drop n s) up))
     ]
 
 -- ---- what is held
@@ -127,9 +138,11 @@ settled_held true front more e enough = enough
 settled_held false front more e enough = absurd cc
 
 -- of a line that isn't settled all is held
-pub open_line : (bytes : List ℕ) (held : Held) (line : List ℕ) → IsHeld bytes held line → held.settled ≡ false → line ≡ take held.length bytes
+pub open_line : (bytes : List ℕ) (held : Held) (line : List ℕ) → IsHeld bytes held line → held.settled ≡ false
+    → line ≡ take held.length bytes
 open_line bytes held line h e =
-    h.parts ∙ ap (λ (more : List ℕ). take held.length bytes ++ more) (all_held held.settled (take held.length bytes) h.more e h.enough)
+    h.parts ∙ ap (λ (more : List ℕ). take held.length bytes ++ more)
+    (all_held held.settled (take held.length bytes) h.more e h.enough)
     ∙ append-nil (take held.length bytes)
 
 -- more of a settled line has come
@@ -142,18 +155,21 @@ held_longer bytes held line new h e none = record {
   enough = again held.settled e h.enough;
 }
   where
-    again : (settled : Bool) → settled ≡ true → AreEnough settled (take held.length bytes) h.more → AreEnough settled (take held.length bytes) (h.more ++ new)
+    again : (settled : Bool) → settled ≡ true → AreEnough settled (take held.length bytes) h.more
+        → AreEnough settled (take held.length bytes) (h.more ++ new)
     again true e enough = enough
     again false e enough = absurd cc
 
 -- a law that what is read of a settled line is read of the line
 abbrev pub ReadsSettled : Type 0
 ReadsSettled =
-    (reader : TraceReader) (lines : List (List ℕ)) (front more : List ℕ) → IsSettled front → HasRead reader (lines ++ front ∷ [])
+    (reader : TraceReader) (lines : List (List ℕ)) (front more : List ℕ) → IsSettled front
+    → HasRead reader (lines ++ front ∷ [])
     → HasRead reader (lines ++ (front ++ more) ∷ [])
 
 -- a line of which enough was held, at the end of the text
-pub held_read : ReadsSettled → (reader : TraceReader) (lines : List (List ℕ)) (bytes : List ℕ) (held : Held) (line : List ℕ) → IsHeld bytes held line
+pub held_read : ReadsSettled → (reader : TraceReader) (lines : List (List ℕ)) (bytes : List ℕ) (held : Held)
+    (line : List ℕ) → IsHeld bytes held line
     → HasRead reader (lines ++ lines_of (take held.length bytes)) → HasRead reader (lines ++ lines_of line)
 held_read law reader lines bytes held line h read =
     elim (cases_Bool held.settled) [
@@ -163,22 +179,28 @@ held_read law reader lines bytes held line h read =
           let one = none_in_front front h.more (subst (λ l. list_any is_line_feed l ≡ false) h.parts h.one) in
           let whole : List ℕ = front ++ h.more in
           let some : 0 < length whole = omega (arith, is.some, length-append front h.more) in
-          let long = law reader lines front h.more is (subst (λ ls. HasRead reader (lines ++ ls)) (line_unfed front is.some one) read) in
+          let long = law reader lines front h.more is
+          (subst (λ ls. HasRead reader (lines ++ ls)) (line_unfed front is.some one) read) in
           subst (λ l. HasRead reader (lines ++ lines_of l)) (sym h.parts)
-          (subst (λ ls. HasRead reader (lines ++ ls)) (sym (line_unfed whole some (subst (λ l. list_any is_line_feed l ≡ false) h.parts h.one))) long)
-      | inr open_yet ↦ subst (λ l. HasRead reader (lines ++ lines_of l)) (sym (open_line bytes held line h open_yet)) read
+          (subst (λ ls. HasRead reader (lines ++ ls))
+          (sym (line_unfed whole some (subst (λ l. list_any is_line_feed l ≡ false) h.parts h.one))) long)
+      | inr open_yet ↦ subst (λ l. HasRead reader (lines ++ lines_of l))
+          (sym (open_line bytes held line h open_yet)) read
     ]
 
 -- and where its line feed has come
-pub settled_read : ReadsSettled → (reader : TraceReader) (lines : List (List ℕ)) (bytes : List ℕ) (held : Held) (line piece : List ℕ) → IsHeld bytes held line
-    → held.settled ≡ true → list_any is_line_feed piece ≡ false → HasRead reader (lines ++ lines_of (take held.length bytes))
+pub settled_read : ReadsSettled → (reader : TraceReader) (lines : List (List ℕ)) (bytes : List ℕ) (held : Held)
+    (line piece : List ℕ) → IsHeld bytes held line
+    → held.settled ≡ true → list_any is_line_feed piece ≡ false
+    → HasRead reader (lines ++ lines_of (take held.length bytes))
     → HasRead reader (lines ++ lines_of ((line ++ piece) ++ 10 ∷ []))
 settled_read law reader lines bytes held line piece h holds none read =
     let longer = held_longer bytes held line piece h holds none in
     let front : List ℕ = take held.length bytes in
     let is = settled_held held.settled front h.more holds h.enough in
     let one = none_in_front front h.more (subst (λ l. list_any is_line_feed l ≡ false) h.parts h.one) in
-    let long = law reader lines front longer.more is (subst (λ ls. HasRead reader (lines ++ ls)) (line_unfed front is.some one) read) in
+    let long = law reader lines front longer.more is
+    (subst (λ ls. HasRead reader (lines ++ ls)) (line_unfed front is.some one) read) in
     subst (λ ls. HasRead reader (lines ++ ls)) (sym (line_fed (line ++ piece) longer.one))
     (subst (λ l. HasRead reader (lines ++ l ∷ [])) (sym longer.parts) long)
 
@@ -199,13 +221,15 @@ passes_settled law old mid new line piece rest bytes next read on =
         sym (append_assoc line piece (10 ∷ rest)) ∙ sym (append_assoc (line ++ piece) (10 ∷ []) rest)
             ∙ ap (λ (r : List ℕ). first ++ r) on.passes.1 ∙ sym (append_assoc first whole on.line),
         whole_and_whole first whole ends on.passes.2,
-        λ lines has. subst (HasRead new) (append_assoc lines (lines_of first) (lines_of whole) ∙ ap (λ ls. lines ++ ls) (sym (law first whole ends)))
+        λ lines has. subst (HasRead new) (append_assoc lines (lines_of first) (lines_of whole)
+            ∙ ap (λ ls. lines ++ ls) (sym (law first whole ends)))
             (on.passes.3 (lines ++ lines_of first) (read lines has)),
       );
     }
 
 -- what is held stays, where the bytes before its end do
-pub held_same : (old new : List ℕ) (held : Held) (line : List ℕ) → take held.length new ≡ take held.length old → IsHeld old held line → IsHeld new held line
+pub held_same : (old new : List ℕ) (held : Held) (line : List ℕ) → take held.length new ≡ take held.length old
+    → IsHeld old held line → IsHeld new held line
 held_same old new held line same h = record {
   more = h.more;
   parts = h.parts ∙ ap (λ (front : List ℕ). front ++ h.more) (sym same);
@@ -214,13 +238,20 @@ held_same old new held line same h = record {
 }
 
 -- the line goes on to the end of the new bytes
-pub passes_longer : (reader : TraceReader) (bytes : List ℕ) (held : Held) (line new : List ℕ) → IsHeld bytes held line → held.settled ≡ true
+pub passes_longer : (reader : TraceReader) (bytes : List ℕ) (held : Held) (line new : List ℕ) → IsHeld bytes held line
+    → held.settled ≡ true
     → list_any is_line_feed new ≡ false → PassesOn reader reader (line ++ new) bytes held
 passes_longer reader bytes held line new h holds none =
-    record { line = line ++ new; is_held = held_longer bytes held line new h holds none; passes = passes_none reader (line ++ new) }
+    record {
+      line = line ++ new;
+      is_held = held_longer bytes held line new h holds none;
+      passes =
+          passes_none reader (line ++ new);
+    }
 
 -- nothing more was consumed at the end
-pub agrees_at_end : (left before after : Option (List ℕ)) (done new : List ℕ) (count : ℕ) → Consumes left before done → Consumes before after (take count new)
+pub agrees_at_end : (left before after : Option (List ℕ)) (done new : List ℕ) (count : ℕ) → Consumes left before done
+    → Consumes before after (take count new)
     → count ≡ 0 → IsAtEnd after → Agrees left done
 agrees_at_end left before after done new count consumed more none end =
     subst (Agrees left) (ap (λ n. done ++ take n new) none ∙ append-nil done)
@@ -228,26 +259,35 @@ agrees_at_end left before after done new count consumed more none end =
 
 -- ---- the bytes that are left behind whole lines
 
-pub new_bytes : (bytes : List ℕ) (filled count : ℕ) → take (filled + count - filled) (drop filled bytes) ≡ take count (drop filled bytes)
-new_bytes bytes filled count = ap (λ n. take n (drop filled bytes)) (let e : filled + count - filled ≡ count = omega arith in e)
+pub new_bytes : (bytes : List ℕ) (filled count : ℕ)
+    → take (filled + count - filled) (drop filled bytes) ≡ take count (drop filled bytes)
+new_bytes bytes filled count = ap (λ n. take n (drop filled bytes))
+    (let e : filled + count - filled ≡ count = omega arith in e)
 
 -- none of them ends a line, where no line ended among the new ones
-pub none_left : (bytes : List ℕ) (filled count whole : ℕ) → whole ≡ 0 → list_any is_line_feed (take filled bytes) ≡ false
+pub none_left : (bytes : List ℕ) (filled count whole : ℕ) → whole ≡ 0
+    → list_any is_line_feed (take filled bytes) ≡ false
     → list_any is_line_feed (drop whole (take (filled + count - filled) (drop filled bytes))) ≡ false
     → list_any is_line_feed (take (filled + count) bytes) ≡ false
 none_left bytes filled count whole zero none rest =
     let new : List ℕ = take (filled + count - filled) (drop filled bytes) in
-    let behind : drop whole new ≡ take count (drop filled bytes) = ap (λ n. drop n new) zero ∙ drop_at [] new 0 refl ∙ new_bytes bytes filled count in
+    let behind : drop whole new ≡ take count (drop filled bytes) = ap (λ n. drop n new) zero ∙ drop_at [] new 0 refl
+    ∙ new_bytes bytes filled count in
     subst (λ (t : List ℕ). list_any is_line_feed t ≡ false) (sym (take-add filled count bytes))
-    (none_in_both (take filled bytes) (take count (drop filled bytes)) none (subst (λ (t : List ℕ). list_any is_line_feed t ≡ false) behind rest))
+    (none_in_both (take filled bytes) (take count (drop filled bytes)) none
+    (subst (λ (t : List ℕ). list_any is_line_feed t ≡ false) behind rest))
 
 -- none of them ends a line, behind the last that did
-pub none_behind : (bytes left : List ℕ) (filled count whole : ℕ) → whole ≤ count → left ≡ take (count - whole) (drop (filled + whole) bytes)
-    → list_any is_line_feed (drop whole (take (filled + count - filled) (drop filled bytes))) ≡ false → list_any is_line_feed left ≡ false
+pub none_behind : (bytes left : List ℕ) (filled count whole : ℕ) → whole ≤ count
+    → left ≡ take (count - whole) (drop (filled + whole) bytes)
+    → list_any is_line_feed (drop whole (take (filled + count - filled) (drop filled bytes))) ≡ false
+    → list_any is_line_feed left ≡ false
 none_behind bytes left filled count whole within is rest =
     let behind : drop whole (take (filled + count - filled) (drop filled bytes)) ≡ left =
-    ap (drop whole) (new_bytes bytes filled count ∙ ap (λ n. take n (drop filled bytes)) (let e : count ≡ whole + (count - whole) = omega (arith, within) in e))
-    ∙ drop-take whole (count - whole) (drop filled bytes) ∙ ap (take (count - whole)) (drop-drop whole filled bytes) ∙ sym is in
+    ap (drop whole) (new_bytes bytes filled count
+    ∙ ap (λ n. take n (drop filled bytes)) (let e : count ≡ whole + (count - whole) = omega (arith, within) in e))
+    ∙ drop-take whole (count - whole) (drop filled bytes) ∙ ap (take (count - whole)) (drop-drop whole filled bytes)
+    ∙ sym is in
     subst (λ (t : List ℕ). list_any is_line_feed t ≡ false) behind rest
 
 -- ---- the new bytes behind a settled line
@@ -260,7 +300,8 @@ behind_feed bytes moved filled count width within is =
     ap (λ n. take n moved) (let e : 0 + (count - (width + 1)) ≡ count - (width + 1) = omega arith in e) ∙ is
     ∙ ap (take (count - (width + 1))) (sym (drop-drop (width + 1) filled bytes))
     ∙ sym (drop-take (width + 1) (count - (width + 1)) (drop filled bytes))
-    ∙ ap (λ n. drop (width + 1) (take n (drop filled bytes))) (let e : (width + 1) + (count - (width + 1)) ≡ count = omega (arith, within) in e)
+    ∙ ap (λ n. drop (width + 1) (take n (drop filled bytes)))
+    (let e : (width + 1) + (count - (width + 1)) ≡ count = omega (arith, within) in e)
 
 -- the new bytes are those before their first line feed, it, and what is left
 pub cut_at_first_feed : (new piece rest : List ℕ) → piece ≡ before_first is_line_feed new → length piece < length new
@@ -268,12 +309,15 @@ pub cut_at_first_feed : (new piece rest : List ℕ) → piece ≡ before_first i
 cut_at_first_feed new piece rest is lt behind =
     let before : List ℕ = before_first is_line_feed new in
     let same : length piece ≡ length before = ap length is in
-    feed_behind new (omega (arith, lt, same)) ∙ ap (λ (t : List ℕ). before ++ 10 ∷ t) (ap (λ n. drop (n + 1) new) (sym same) ∙ sym behind)
+    feed_behind new (omega (arith, lt, same))
+    ∙ ap (λ (t : List ℕ). before ++ 10 ∷ t) (ap (λ n. drop (n + 1) new) (sym same) ∙ sym behind)
     ∙ ap (λ (t : List ℕ). t ++ 10 ∷ rest) (sym is)
 
 -- whole lines were read, and all of the line behind them is held
-pub passes_open : (old new : TraceReader) (text items seen : List ℕ) (next : Held) (left : ℕ) → PassesWhole old new text (take left items)
-    → list_any is_line_feed (take left items) ≡ false → left ≤ length items → seen ≡ items → next.length ≡ length (take left seen)
+pub passes_open : (old new : TraceReader) (text items seen : List ℕ) (next : Held) (left : ℕ)
+    → PassesWhole old new text (take left items)
+    → list_any is_line_feed (take left items) ≡ false → left ≤ length items → seen ≡ items
+    → next.length ≡ length (take left seen)
     → OnTrue next.settled (IsSettled (take left seen)) → PassesOn old new text items next
 passes_open old new text items seen next left passes none within is size settled =
     let cut : take left seen ≡ take left items = ap (take left) is in
@@ -292,41 +336,58 @@ if_ok P Q (Ok x) weaker holds = weaker x holds
 if_ok P Q (Err e) weaker holds = holds
 
 -- of a line that isn't settled the whole lines are read
-pub reads_open : (old new : TraceReader) (items after : List ℕ) (held : Held) (count : ℕ) {E : Type 0} (answer : Result Held E) → held.settled ≡ false
-    → IfOk answer (λ next. list_any is_line_feed (take held.length items) ≡ false → PassesOn old new (take (held.length + count) items) after next)
-    → IfOk answer (λ next. (line : List ℕ) → IsHeld items held line → PassesOn old new (line ++ take count (drop held.length items)) after next)
+pub reads_open : (old new : TraceReader) (items after : List ℕ) (held : Held) (count : ℕ) {E : Type 0}
+    (answer : Result Held E) → held.settled ≡ false
+    → IfOk answer (λ next. list_any is_line_feed (take held.length items) ≡ false
+    → PassesOn old new (take (held.length + count) items) after next)
+    → IfOk answer (λ next. (line : List ℕ) → IsHeld items held line
+    → PassesOn old new (line ++ take count (drop held.length items)) after next)
 reads_open old new items after held count answer e passed =
-    if_ok (λ next. list_any is_line_feed (take held.length items) ≡ false → PassesOn old new (take (held.length + count) items) after next)
-    (λ next. (line : List ℕ) → IsHeld items held line → PassesOn old new (line ++ take count (drop held.length items)) after next) answer
+    if_ok (λ next. list_any is_line_feed (take held.length items) ≡ false
+    → PassesOn old new (take (held.length + count) items) after next)
+    (λ next. (line : List ℕ) → IsHeld items held line
+    → PassesOn old new (line ++ take count (drop held.length items)) after next) answer
     (λ next passes line h.
     let same = open_line items held line h e in
-    subst (λ (t : List ℕ). PassesOn old new t after next) (take-add held.length count items ∙ ap (λ (l : List ℕ). l ++ take count (drop held.length items)) (sym same))
+    subst (λ (t : List ℕ). PassesOn old new t after next) (take-add held.length count items
+    ∙ ap (λ (l : List ℕ). l ++ take count (drop held.length items)) (sym same))
     (passes (subst (λ (l : List ℕ). list_any is_line_feed l ≡ false) same h.one))) passed
 
 -- no line feed is among the new bytes
-pub no_feed : (new piece : List ℕ) → piece ≡ before_first is_line_feed new → length new ≤ length piece → list_any is_line_feed new ≡ false
+pub no_feed : (new piece : List ℕ) → piece ≡ before_first is_line_feed new → length new ≤ length piece
+    → list_any is_line_feed new ≡ false
 no_feed new piece is le =
     let all = all_before new (omega (arith, le, ap length is)) in
     subst (λ (t : List ℕ). list_any is_line_feed t ≡ false) all (no_feed_before new)
 
 -- a settled line ends among the new bytes, and the whole lines behind it are read
-pub reads_settled : ReadsSettled → ((text more : List ℕ) → IsWhole text → lines_of (text ++ more) ≡ lines_of text ++ lines_of more)
-    → (old mid new : TraceReader) (items moved after piece : List ℕ) (held : Held) (count : ℕ) {E : Type 0} (answer : Result Held E) → held.settled ≡ true
-    → held.length + count ≤ length items → piece ≡ before_first is_line_feed (take count (drop held.length items)) → length piece < count
+pub reads_settled : ReadsSettled → ((text more : List ℕ) → IsWhole text → lines_of (text ++ more) ≡ lines_of text
+    ++ lines_of more)
+    → (old mid new : TraceReader) (items moved after piece : List ℕ) (held : Held) (count : ℕ) {E : Type 0}
+    (answer : Result Held E) → held.settled ≡ true
+    → held.length + count ≤ length items → piece ≡ before_first is_line_feed (take count (drop held.length items))
+    → length piece < count
     → ((lines : List (List ℕ)) → HasRead old lines → HasRead mid (lines ++ lines_of (take held.length items)))
-    → take (count - (length piece + 1)) moved ≡ take (count - (length piece + 1)) (drop (held.length + (length piece + 1)) items)
-    → IfOk answer (λ next. list_any is_line_feed (take 0 moved) ≡ false → PassesOn mid new (take (0 + (count - (length piece + 1))) moved) after next)
-    → IfOk answer (λ next. (line : List ℕ) → IsHeld items held line → PassesOn old new (line ++ take count (drop held.length items)) after next)
+    → take (count - (length piece + 1)) moved ≡ take (count - (length piece + 1))
+    (drop (held.length + (length piece + 1)) items)
+    → IfOk answer (λ next. list_any is_line_feed (take 0 moved) ≡ false
+    → PassesOn mid new (take (0 + (count - (length piece + 1))) moved) after next)
+    → IfOk answer (λ next. (line : List ℕ) → IsHeld items held line
+    → PassesOn old new (line ++ take count (drop held.length items)) after next)
 reads_settled law whole_law old mid new items moved after piece held count answer e fits is lt read moves passed =
     let bytes : List ℕ = take count (drop held.length items) in
     let rest : List ℕ = drop (length piece + 1) bytes in
-    let size : length bytes ≡ count = length-take-le count (drop held.length items) (omega (arith, fits, length-drop held.length items)) in
+    let size : length bytes ≡ count = length-take-le count (drop held.length items)
+    (omega (arith, fits, length-drop held.length items)) in
     let parts : bytes ≡ piece ++ 10 ∷ rest = cut_at_first_feed bytes piece rest is (omega (arith, lt, size)) refl in
-    let none : list_any is_line_feed piece ≡ false = subst (λ (t : List ℕ). list_any is_line_feed t ≡ false) (sym is) (no_feed_before bytes) in
-    if_ok (λ next. list_any is_line_feed (take 0 moved) ≡ false → PassesOn mid new (take (0 + (count - (length piece + 1))) moved) after next)
+    let none : list_any is_line_feed piece ≡ false =
+    subst (λ (t : List ℕ). list_any is_line_feed t ≡ false) (sym is) (no_feed_before bytes) in
+    if_ok (λ next. list_any is_line_feed (take 0 moved) ≡ false
+    → PassesOn mid new (take (0 + (count - (length piece + 1))) moved) after next)
     (λ next. (line : List ℕ) → IsHeld items held line → PassesOn old new (line ++ bytes) after next) answer
     (λ next passes line h.
     subst (λ (t : List ℕ). PassesOn old new (line ++ t) after next) (sym parts)
     (passes_settled whole_law old mid new line piece rest after next
     (λ lines has. settled_read law mid lines items held line piece h e none (read lines has))
-    (subst (λ (t : List ℕ). PassesOn mid new t after next) (behind_feed items moved held.length count (length piece) lt moves) (passes refl)))) passed
+    (subst (λ (t : List ℕ). PassesOn mid new t after next)
+    (behind_feed items moved held.length count (length piece) lt moves) (passes refl)))) passed

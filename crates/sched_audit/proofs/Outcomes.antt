@@ -8,7 +8,8 @@ use Rattle.sched_audit.specs.Answer.{IsAnswer}
 use Rattle.sched_audit.specs.Texts.{IsTexts}
 
 -- an answer that is this error
-pub error_is : {A : Type 0} (answer : Result A Refused) (refused : Refused) → IsErrAnd answer (λ e. e ≡ refused) → answer ≡ Err refused
+pub error_is : {A : Type 0} (answer : Result A Refused) (refused : Refused) → IsErrAnd answer (λ e. e ≡ refused)
+    → answer ≡ Err refused
 error_is (Ok judged) refused is = absurd is
 error_is (Err e) refused is = ap Err is
 

@@ -1,5 +1,5 @@
--- What two texts come to: the headline (this project's profile). What the texts mean is said by Texts; what a verdict on
--- their record says, and what its least settings are, by ticket_book.
+-- What two texts come to: the headline (this project's profile). What the texts mean is said by Texts; what a verdict
+-- on their record says, and what its least settings are, by ticket_book.
 use Rattle.std.specs.Prelude.{ℕ, ⊤, List, Result, Ok, Err}
 use Rattle.sched_record.specs.Record.{RecordView}
 use Rattle.sched_audit.specs.Texts.{IsRecordOf, IsRefused}

@@ -18,7 +18,11 @@ use Rattle.sched_record.specs.declared.cause.TraceCause.TheVariants as traces
 use Rattle.sched_record.specs.declared.joining.JoinCause.{JoinCause}
 use Rattle.sched_record.specs.declared.joining.JoinCause.TheVariants as joins
 use Rattle.sched_audit.specs.declared.cause.Cause.{Cause}
-use Rattle.sched_audit.specs.declared.cause.Cause.TheVariants.{BadHead, NumberRange, LostEvents, BadFields, RealTime, PrioRange, IdleNamed, TimeBack, TooManyLines, Version, Group, BadLine, Order, TwiceNamed, TwiceRunning, LineOrder, NoTask, Short, CpuOutside, StartLate, ClaimNoEvent}
+use Rattle.sched_audit.specs.declared.cause.Cause.TheVariants.{BadHead, NumberRange, LostEvents, BadFields, RealTime}
+use Rattle.sched_audit.specs.declared.cause.Cause.TheVariants.{PrioRange, IdleNamed, TimeBack, TooManyLines, Version}
+use Rattle.sched_audit.specs.declared.cause.Cause.TheVariants.{Group, BadLine, Order, TwiceNamed, TwiceRunning}
+use Rattle.sched_audit.specs.declared.cause.Cause.TheVariants.{LineOrder, NoTask, Short, CpuOutside, StartLate}
+use Rattle.sched_audit.specs.declared.cause.Cause.TheVariants.{ClaimNoEvent}
 
 -- of a line of the trace
 abbrev pub line_cause : LineFault → Cause

@@ -1,5 +1,5 @@
--- The command line (this project's format). How words go to arguments and options is clap's: its `matches_of` says, for a
--- command and the words, which values each argument has.
+-- The command line (this project's format). How words go to arguments and options is clap's: its `matches_of` says, for
+-- a command and the words, which values each argument has.
 use Rattle.std.specs.Prelude.{◌≡◌, ℕ, Bool, IsTrue, List, None, Some, true, false, codes}
 use Rattle.std.specs.Option.{option_map_or}
 use Rattle.std.specs.Str.{bytes_eq}
@@ -70,8 +70,8 @@ pub record HasNoSetting (rows : List Row) : Type 0 where
   pub debit : first_of (codes "debit-ns") rows ≡ None
   pub slack : first_of (codes "slack-ns") rows ≡ None
 
--- the request has the two names, the settings and the flags of these values, and no setting is given beside the flag of the
--- least ones
+-- the request has the two names, the settings and the flags of these values, and no setting is given beside the flag of
+-- the least ones
 pub record IsRequestOf (rows : List Row) (request : Request) : Type 0 where
   pub trace : first_of (codes "TRACE") rows ≡ Some request.trace.now
   pub companion : first_of (codes "COMPANION") rows ≡ Some request.companion.now

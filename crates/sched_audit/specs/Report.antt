@@ -4,7 +4,11 @@ use Rattle.std.specs.List.{concat}
 use Rattle.sched_audit.specs.declared.source.Source.{Source}
 use Rattle.sched_audit.specs.declared.source.Source.TheVariants.{Trace, Companion, Join}
 use Rattle.sched_audit.specs.declared.cause.Cause.{Cause}
-use Rattle.sched_audit.specs.declared.cause.Cause.TheVariants.{BadHead, NumberRange, LostEvents, BadFields, RealTime, PrioRange, IdleNamed, TimeBack, TooManyLines, Version, Group, BadLine, Order, TwiceNamed, TwiceRunning, LineOrder, NoTask, Short, CpuOutside, StartLate, ClaimNoEvent}
+use Rattle.sched_audit.specs.declared.cause.Cause.TheVariants.{BadHead, NumberRange, LostEvents, BadFields, RealTime}
+use Rattle.sched_audit.specs.declared.cause.Cause.TheVariants.{PrioRange, IdleNamed, TimeBack, TooManyLines, Version}
+use Rattle.sched_audit.specs.declared.cause.Cause.TheVariants.{Group, BadLine, Order, TwiceNamed, TwiceRunning}
+use Rattle.sched_audit.specs.declared.cause.Cause.TheVariants.{LineOrder, NoTask, Short, CpuOutside, StartLate}
+use Rattle.sched_audit.specs.declared.cause.Cause.TheVariants.{ClaimNoEvent}
 use Rattle.sched_audit.specs.declared.outcome.Outcome.{Outcome}
 use Rattle.sched_audit.specs.declared.outcome.Outcome.TheVariants.{Judged, Text}
 use Rattle.cfs_model.specs.Kinds.{name_of, text_of}
@@ -65,7 +69,8 @@ tally_line t =
 -- a run, and how often each thing happened in it
 abbrev pub count_lines : SummaryView → List ℕ
 count_lines summary =
-    line_of (codes "run") ++ (count_line (codes "events") summary.events ++ (count_line (codes "switches") summary.switches
+    line_of (codes "run") ++ (count_line (codes "events") summary.events
+    ++ (count_line (codes "switches") summary.switches
     ++ (count_line (codes "migrations") summary.migrations ++ (count_line (codes "births") summary.births
     ++ count_line (codes "deaths") summary.deaths))))
 
@@ -90,7 +95,8 @@ fault_line f =
 -- the line of a refusal
 abbrev pub refusal_line : Source → ℕ → Cause → List ℕ
 refusal_line source line cause =
-    line_of (codes "refused " ++ (source_word source ++ (codes " line " ++ (decimal line ++ (codes " " ++ cause_word cause)))))
+    line_of (codes "refused " ++ (source_word source
+    ++ (codes " line " ++ (decimal line ++ (codes " " ++ cause_word cause)))))
 
 -- each setting, in nanoseconds, by the name of its option
 abbrev pub setting_lines : Settings → List ℕ

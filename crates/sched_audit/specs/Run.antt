@@ -1,5 +1,6 @@
 -- A run over two inputs and one output: what it writes, and what it answers (this project's profile).
-use Rattle.std.specs.Prelude.{◌≡◌, ◌≢◌, ◌≤◌, ℕ, Bool, true, false, List, [], ◌++◌, take, Option, Result, IfOk, IfErr, OnOk, IsErrOf}
+use Rattle.std.specs.Prelude.{◌≡◌, ◌≢◌, ◌≤◌, ℕ, Bool, true, false, List, [], ◌++◌, take, Option, Result, IfOk, IfErr}
+use Rattle.std.specs.Prelude.{OnOk, IsErrOf}
 use Rattle.std.specs.List.{list_any}
 use Rattle.std.specs.Io.KnownBytes.{Appends, IsAtEnd, Keeps}
 use Rattle.replay_model.specs.declared.first_fault.FirstFault.{FirstFault}
@@ -66,8 +67,8 @@ IsKept is_of companion (Text source line cause) (Companion bytes) = Agrees compa
 IsKept is_of companion (Judged judged) (Companion bytes) = ⊥
 IsKept is_of companion (Text source line cause) (Record joined) = ⊥
 
--- of an input: the bytes that it gave from the call's beginning on and those that it has left, where they are known; the
--- reads made of it, whether one failed, and whether it has ended
+-- of an input: the bytes that it gave from the call's beginning on and those that it has left, where they are known;
+-- the reads made of it, whether one failed, and whether it has ended
 pub record Input : Type 0 where
   pub gave : Option (List ℕ)
   pub left : Option (List ℕ)

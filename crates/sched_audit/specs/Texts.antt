@@ -1,5 +1,5 @@
--- What two texts mean together, and what refuses them (this project's profile). What each means by itself is said by the
--- crates that read them.
+-- What two texts mean together, and what refuses them (this project's profile). What each means by itself is said by
+-- the crates that read them.
 use Rattle.std.specs.Prelude.{◌≡◌, ℕ, List, Result, Ok, Err}
 use Rattle.cfs_model.specs.declared.act.Entry.{Entry}
 use Rattle.companion_file.specs.Companion.{CompanionView, CompanionAnswer}
@@ -16,8 +16,8 @@ use Rattle.sched_audit.specs.declared.refused.Refused.TheVariants as refusals
 use Rattle.sched_audit.specs.declared.source.Source.{Source}
 use Rattle.sched_audit.specs.declared.source.Source.TheVariants.{Trace, Companion, Join}
 
--- both texts can be read, and these are the trace's events and the companion's start, policies, claims and changes of nice
--- values
+-- both texts can be read, and these are the trace's events and the companion's start, policies, claims and changes of
+-- nice values
 pub record AreBothRead (trace companion : List ℕ) (events : List Entry) (start : CompanionView) : Type 0 where
   pub trace_means : TraceAnswer trace (Ok events)
   pub companion_means : CompanionAnswer companion (Ok start)

@@ -1,4 +1,5 @@
-ghost use Rattle.std.specs.Prelude.{◌≡◌, ◌+◌, ◌-◌, ◌<◌, ◌≤◌, ◌⊎◌, ◌++◌, ℕ, List, true, false, IfOk, IfErr, OnOk, take, drop, length, vec_len};
+ghost use Rattle.std.specs.Prelude.{◌≡◌, ◌+◌, ◌-◌, ◌<◌, ◌≤◌, ◌⊎◌, ◌++◌, ℕ, List, true, false, IfOk, IfErr, OnOk, take};
+ghost use Rattle.std.specs.Prelude.{drop, length, vec_len};
 ghost use Rattle.std.specs.Bool.{OnTrue};
 ghost use Rattle.std.specs.List.{list_any};
 ghost use Rattle.std.specs.Io.KnownBytes.{IsAtEnd};
@@ -24,9 +25,9 @@ struct Held {
     settled: bool,
 }
 
-/// Reads the lines that an input still gives, as they come: only the beginning of a line is held over from read to read,
-/// and no more of it once it is settled what the line says. Where a read fails, or the most reads don't reach the end,
-/// `ReadTrace`.
+/// Reads the lines that an input still gives, as they come: only the beginning of a line is held over from read to
+/// read, and no more of it once it is settled what the line says. Where a read fails, or the most reads don't reach the
+/// end, `ReadTrace`.
 pub(crate) fn read_lines<F: Feed>(alloc: Global, feed: &mut F) -> Result<TraceReader, Fault>
     requires { F.calls feed.old ≡ 0 }
     ensures all { IfOk result (λ reader. IsReadFrom reader (F.left feed.old)) }
@@ -85,8 +86,8 @@ fn read_on(
     read_open(reader, bytes, 0, count - end)
 }
 
-/// Reads a settled line of which so many bytes are held, now that it ends with so many of the new bytes, and moves those
-/// that follow to the front.
+/// Reads a settled line of which so many bytes are held, now that it ends with so many of the new bytes, and moves
+/// those that follow to the front.
 fn end_settled(
     reader: &mut TraceReader,
     bytes: &mut Vec<u8>,
@@ -97,8 +98,10 @@ fn end_settled(
     requires fits { held + count ≤ vec_len bytes.old }
     requires within { end ≤ count }
     ensures length { vec_len bytes.new ≡ vec_len bytes.old }
-    ensures read { OnOk result ((lines : List (List ℕ)) → HasRead reader.old lines → HasRead reader.new (lines ++ lines_of (take held bytes.old.items))) }
-    ensures moved { OnOk result (take (count - end) bytes.new.items ≡ take (count - end) (drop (held + end) bytes.old.items)) }
+    ensures read { OnOk result ((lines : List (List ℕ)) → HasRead reader.old lines
+        → HasRead reader.new (lines ++ lines_of (take held bytes.old.items))) }
+    ensures moved { OnOk result (take (count - end) bytes.new.items ≡ take (count - end)
+        (drop (held + end) bytes.old.items)) }
 {
     reader.read(&bytes[..held])?;
     bytes.copy_within(held + end..held + count, 0);
@@ -134,8 +137,8 @@ fn held_of(line: &[u8]) -> Held
     }
 }
 
-/// Reads the whole lines of what is filled, of which the last so many bytes are new, moves the beginning of a line behind
-/// them to the front, and says how long that is.
+/// Reads the whole lines of what is filled, of which the last so many bytes are new, moves the beginning of a line
+/// behind them to the front, and says how long that is.
 fn read_whole(
     reader: &mut TraceReader,
     bytes: &mut Vec<u8>,
@@ -144,8 +147,10 @@ fn read_whole(
 ) -> Result<usize, Memory>
     requires { filled + count ≤ vec_len bytes.old }
     ensures length { vec_len bytes.new ≡ vec_len bytes.old }
-    ensures passed { IfOk result (λ left. PassesWhole reader.old reader.new (take (filled + count) bytes.old.items) (take left bytes.new.items)) }
-    ensures one { IfOk result (λ left. list_any is_line_feed (take filled bytes.old.items) ≡ false → list_any is_line_feed (take left bytes.new.items) ≡ false) }
+    ensures passed { IfOk result (λ left. PassesWhole reader.old reader.new (take (filled + count) bytes.old.items)
+        (take left bytes.new.items)) }
+    ensures one { IfOk result (λ left. list_any is_line_feed (take filled bytes.old.items) ≡ false
+        → list_any is_line_feed (take left bytes.new.items) ≡ false) }
     ensures within { IfOk result (λ left. left ≤ filled + count) }
 {
     let end = filled + count;

@@ -1,5 +1,6 @@
 -- Values of digits, read from the left.
-use Rattle.std.proofs.Common.{◌≡◌, ℕ, ◌+◌, ◌*◌, ◌^◌, ◌<◌, ◌≤◌, ◌-◌, ◌%◌, min, true, false, leb, List, length, get_or, take, drop, refl, sym, ap, ◌∙◌, arith, add-one, pow-suc}
+use Rattle.std.proofs.Common.{◌≡◌, ℕ, ◌+◌, ◌*◌, ◌^◌, ◌<◌, ◌≤◌, ◌-◌, ◌%◌, min, true, false, leb, List, length, get_or}
+use Rattle.std.proofs.Common.{take, drop, refl, sym, ap, ◌∙◌, arith, add-one, pow-suc}
 use Rattle.std.specs.List.{prefix_len, take_while}
 use Rattle.std.proofs.Math.Nat.{pow-le-pow_right, mod-eq_of_lt}
 use Rattle.std.proofs.lemmas.Bool.{and_parts, leb-true}
@@ -29,16 +30,19 @@ pub record PlainMore (s : List ℕ) (i value : ℕ) : Type 0 where
   pub below : value * 10 + (get_or s i 0 - 48) < 10 ^ (i + 1)
   pub fits : value * 10 + (get_or s i 0 - 48) < 10 ^ 18
 
-pub plain_more : (s : List ℕ) (i value : ℕ) → i < length s → i < 18 → is_digit (get_or s i 0) ≡ true → value ≡ value_of (take i s) → value < 10 ^ i → PlainMore s i value
+pub plain_more : (s : List ℕ) (i value : ℕ) → i < length s → i < 18 → is_digit (get_or s i 0) ≡ true
+    → value ≡ value_of (take i s) → value < 10 ^ i → PlainMore s i value
 plain_more s i value lt few digit so_far below =
     let power : 10 ^ (i + 1) ≡ 10 ^ i * 10 = ap (λ n. 10 ^ n) (add-one i) ∙ pow-suc 10 i in
-    let nine : get_or s i 0 ≤ 57 = leb-true (get_or s i 0) 57 (and_parts (leb 48 (get_or s i 0)) (leb (get_or s i 0) 57) digit).1 in
+    let nine : get_or s i 0 ≤ 57 = leb-true (get_or s i 0) 57
+    (and_parts (leb 48 (get_or s i 0)) (leb (get_or s i 0) 57) digit).1 in
     let next : value * 10 + (get_or s i 0 - 48) < 10 ^ (i + 1) = omega (arith, power) in
     let most : 10 ^ (i + 1) ≤ 10 ^ 18 = pow-le-pow_right {n = 10} (omega arith) {i = i + 1} {j = 18} (omega arith) in
     record { value_is = omega (arith, value_of_more s i lt); below = next; fits = omega (arith, most) }
 
 -- the value of few digits is below the bound
-pub plain_value : (s : List ℕ) (k value : ℕ) → k ≤ 18 → value ≡ value_of (take k s) → value < 10 ^ k → value ≡ min (value_of (take k s)) many
+pub plain_value : (s : List ℕ) (k value : ℕ) → k ≤ 18 → value ≡ value_of (take k s) → value < 10 ^ k
+    → value ≡ min (value_of (take k s)) many
 plain_value s k value few so_far below =
     let most : 10 ^ k ≤ 10 ^ 18 = pow-le-pow_right {n = 10} (omega arith) {i = k} {j = 18} few in
     omega (arith, most)
@@ -48,11 +52,14 @@ pub record WrappedMore (s : List ℕ) (i next : ℕ) : Type 0 where
   pub value_is : next ≡ value_of (take (i + 1) s)
   pub below : next < 10 ^ (i + 1)
 
-pub wrapped_more : (s : List ℕ) (i value digit : ℕ) → i < length s → is_digit (get_or s i 0) ≡ true → digit ≡ get_or s i 0 - 48 →
+pub wrapped_more : (s : List ℕ) (i value digit : ℕ) → i < length s → is_digit (get_or s i 0) ≡ true
+    → digit ≡ get_or s i 0 - 48 →
     (i ≤ 18 → value ≡ value_of (take i s)) → (i ≤ 18 → value < 10 ^ i) → i + 1 ≤ 18 →
     WrappedMore s i ((value * 10 % 18446744073709551616 + digit) % 18446744073709551616)
 wrapped_more s i value digit lt is digit_is so_far below few =
-    let more : PlainMore s i value = plain_more s i value lt (omega arith) is (so_far (omega arith)) (below (omega arith)) in
+    let more : PlainMore s i value = plain_more s i value lt (omega arith) is (so_far (omega arith))
+    (below (omega arith)) in
     let product : value * 10 % 18446744073709551616 ≡ value * 10 = mod-eq_of_lt (omega (arith, more.fits)) in
-    let sum : (value * 10 + (get_or s i 0 - 48)) % 18446744073709551616 ≡ value * 10 + (get_or s i 0 - 48) = mod-eq_of_lt (omega (arith, more.fits)) in
+    let sum : (value * 10 + (get_or s i 0 - 48)) % 18446744073709551616 ≡ value * 10 + (get_or s i 0 - 48) =
+    mod-eq_of_lt (omega (arith, more.fits)) in
     rw (product, digit_is, sum) (record { value_is = more.value_is; below = more.below })

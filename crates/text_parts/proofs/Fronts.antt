@@ -1,5 +1,6 @@
 -- Bytes at the front of a text, compared one by one: they stand there where all are the same.
-use Rattle.std.proofs.Common.{◌≡◌, ℕ, zero, suc, ◌+◌, ◌<◌, Bool, true, false, eqb, List, [], ◌∷◌, ◌++◌, length, take, drop, get_or, Some, None, refl, sym, ap, ◌∙◌, arith}
+use Rattle.std.proofs.Common.{◌≡◌, ℕ, zero, suc, ◌+◌, ◌<◌, Bool, true, false, eqb, List, [], ◌∷◌, ◌++◌, length, take}
+use Rattle.std.proofs.Common.{drop, get_or, Some, None, refl, sym, ap, ◌∙◌, arith}
 use Rattle.std.specs.Prelude.{bytes_eq, ◌&&◌}
 use Rattle.std.proofs.lemmas.Bool.{false_from_ne_true, false≢true}
 use Rattle.std.proofs.lemmas.List.{take_at, take-append-drop, take-append-le}
@@ -27,17 +28,20 @@ front_missing front s e =
     no_text front s (λ rest whole. let there = begins_own front rest in let same = ap (begins_with front) whole in cc)
 
 -- a text that differs so far from its front doesn't begin with it
-pub differs_so_far : (front s : List ℕ) (place : ℕ) → place < length front → bytes_eq (take place s) (take place front) ≡ false → begins_with front s ≡ false
+pub differs_so_far : (front s : List ℕ) (place : ℕ) → place < length front
+    → bytes_eq (take place s) (take place front) ≡ false → begins_with front s ≡ false
 differs_so_far front s place within e =
     false_from_ne_true (begins_with front s) (λ all.
     let cut : take place s ≡ take place front =
     ap (take place) (front_then_rest front s all) ∙ take-append-le place front (drop (length front) s) (omega arith) in
-    let same : bytes_eq (take place s) (take place front) ≡ true = (bytes_eq-Decides (take place s) (take place front)).1 cut in
+    let same : bytes_eq (take place s) (take place front) ≡ true =
+    (bytes_eq-Decides (take place s) (take place front)).1 cut in
     false≢true (sym e ∙ same))
 
 -- one more byte
 pub same_more : (xs ys : List ℕ) (place : ℕ) → place < length xs → place < length ys →
-    bytes_eq (take (place + 1) xs) (take (place + 1) ys) ≡ (bytes_eq (take place xs) (take place ys) && eqb (get_or xs place 0) (get_or ys place 0))
+    bytes_eq (take (place + 1) xs) (take (place + 1) ys)
+    ≡ (bytes_eq (take place xs) (take place ys) && eqb (get_or xs place 0) (get_or ys place 0))
 same_more [] ys place lt lu = absurd (omega arith)
 same_more (x ∷ xs) [] place lt lu = absurd (omega arith)
 same_more (x ∷ xs) (y ∷ ys) zero lt lu = by_test (eqb x y)
@@ -47,7 +51,8 @@ same_more (x ∷ xs) (y ∷ ys) zero lt lu = by_test (eqb x y)
     by_test false = refl
 same_more (x ∷ xs) (y ∷ ys) (suc place) lt lu =
     let up : suc place + 1 ≡ suc (place + 1) = omega arith in
-    rw (up, same_more xs ys place (omega arith) (omega arith)) (by_test (eqb x y) (bytes_eq (take place xs) (take place ys)) (eqb (get_or xs place 0) (get_or ys place 0)))
+    rw (up, same_more xs ys place (omega arith) (omega arith))
+    (by_test (eqb x y) (bytes_eq (take place xs) (take place ys)) (eqb (get_or xs place 0) (get_or ys place 0)))
   where
     by_test : (a b c : Bool) → (a && (b && c)) ≡ ((a && b) && c)
     by_test true b c = refl

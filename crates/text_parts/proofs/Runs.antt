@@ -1,6 +1,7 @@
 -- The primitives of reading, both ways: what was taken is so, and what is so is taken. A run ends where a byte that
 -- doesn't pass follows it, so it is the longest front that passes.
-use Rattle.std.proofs.Common.{◌≡◌, ℕ, ◌<◌, ◌≤◌, ◌==◌, Bool, true, false, cond, eqb, List, [], ◌∷◌, ◌++◌, length, drop, min, Option, Some, None, refl, sym, ap, inl, inr, arith, one-add}
+use Rattle.std.proofs.Common.{◌≡◌, ℕ, ◌<◌, ◌≤◌, ◌==◌, Bool, true, false, cond, eqb, List, [], ◌∷◌, ◌++◌, length, drop}
+use Rattle.std.proofs.Common.{min, Option, Some, None, refl, sym, ap, inl, inr, arith, one-add}
 use Rattle.std.specs.Prelude.{IsTrue, ◌≢◌}
 use Rattle.std.specs.List.{prefix_len, list_all, take_while}
 use Rattle.std.proofs.lemmas.Bool.{cases_Bool, and_parts, and_from, eqb-true, eqb-false, eq-eqb, ne_eqb}
@@ -45,7 +46,8 @@ guard_some true x y e = absurd cc
 guard_some false x y e = (refl, e)
 
 -- what was read to the end of a text leaves nothing
-pub at_end_taken : {A : Type 0} (rest : List ℕ) (made read : A) → if_at_end rest made ≡ Some read → (rest ≡ []) × (made ≡ read)
+pub at_end_taken : {A : Type 0} (rest : List ℕ) (made read : A) → if_at_end rest made ≡ Some read → (rest ≡ [])
+    × (made ≡ read)
 at_end_taken rest made read e =
     elim (cases_Bool (eqb (length rest) 0)) [
       | inl end ↦
@@ -137,7 +139,8 @@ pub record DigitsInFront (digits rest text : List ℕ) : Type 0 where
   pub value_is : front_value text ≡ min (value_of digits) many
   pub rest_is : drop (prefix_len is_digit text) text ≡ rest
 
-pub digits_in_front : (digits rest : List ℕ) → IsNumeral digits → Stops is_digit rest → DigitsInFront digits rest (digits ++ rest)
+pub digits_in_front : (digits rest : List ℕ) → IsNumeral digits → Stops is_digit rest
+    → DigitsInFront digits rest (digits ++ rest)
 digits_in_front digits rest numeral stops =
     let len = prefix_len-run is_digit digits rest numeral.all stops in
     record {
@@ -159,10 +162,12 @@ pub record TakesNumeral (s : List ℕ) (value : ℕ) (rest : List ℕ) : Type 0 
   pub value_is : value ≡ min (value_of (take_while is_digit s)) many
   pub whole : s ≡ take_while is_digit s ++ rest
 
-pub numeral_taken : (s : List ℕ) (value : ℕ) (rest : List ℕ) → numeral_at s ≡ Some (value, rest) → TakesNumeral s value rest
+pub numeral_taken : (s : List ℕ) (value : ℕ) (rest : List ℕ) → numeral_at s ≡ Some (value, rest)
+    → TakesNumeral s value rest
 unfolding numeral_at
 numeral_taken s value rest e =
-    let g = guard_some (prefix_len is_digit s == 0) (Some (front_value s, drop (prefix_len is_digit s) s)) (value, rest) e in
+    let g = guard_some (prefix_len is_digit s == 0) (Some (front_value s, drop (prefix_len is_digit s) s))
+    (value, rest) e in
     let some : 0 < prefix_len is_digit s = omega (arith, eqb-false (prefix_len is_digit s) 0 g.0) in
     let found : (front_value s, drop (prefix_len is_digit s) s) ≡ (value, rest) =
     same_Some (front_value s, drop (prefix_len is_digit s) s) (value, rest) g.1 in

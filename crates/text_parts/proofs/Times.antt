@@ -1,5 +1,7 @@
 -- A time at the front of a text: what was taken is a time, and a time that no digit follows is taken.
-use Rattle.std.proofs.Common.{◌≡◌, ℕ, suc, ◌+◌, ◌*◌, ◌^◌, ◌-◌, ◌<◌, ◌≤◌, eqb, leb, List, [], ◌∷◌, ◌++◌, length, drop, fold, min, Option, Some, None, refl, sym, ap, subst, ◌∙◌, inl, inr, arith, add-one, pow-suc, zero-add, append_assoc, codes}
+use Rattle.std.proofs.Common.{◌≡◌, ℕ, suc, ◌+◌, ◌*◌, ◌^◌, ◌-◌, ◌<◌, ◌≤◌, eqb, leb, List, [], ◌∷◌, ◌++◌, length, drop}
+use Rattle.std.proofs.Common.{fold, min, Option, Some, None, refl, sym, ap, subst, ◌∙◌, inl, inr, arith, add-one}
+use Rattle.std.proofs.Common.{pow-suc, zero-add, append_assoc, codes}
 use Rattle.std.specs.Prelude.{IsTrue}
 use Rattle.std.specs.List.{prefix_len, list_all, take_while}
 use Rattle.std.proofs.lemmas.Bool.{cases_Bool, and_parts, leb-true, eqb-true}
@@ -7,7 +9,8 @@ use Rattle.std.proofs.lemmas.Option.{same_Some}
 use Rattle.text_parts.specs.Numerals.{is_digit, value_of, many, IsNumeral}
 use Rattle.text_parts.specs.Time.{IsFraction, IsTime}
 use Rattle.text_parts.specs.Reading.{◌>>=◌, after_text, numeral_at, front_value, nanoseconds_of, time_at}
-use Rattle.text_parts.proofs.Runs.{Stops, digits_in_front, numeral_again, numeral_taken, TakesNumeral, text_taken, text_again, bind_some, run_passes, front_and_rest, length_front}
+use Rattle.text_parts.proofs.Runs.{Stops, digits_in_front, numeral_again, numeral_taken, TakesNumeral, text_taken}
+use Rattle.text_parts.proofs.Runs.{text_again, bind_some, run_passes, front_and_rest, length_front}
 
 value_below_from : (k v : ℕ) (s : List ℕ) → v < 10 ^ k → IsTrue (list_all is_digit s) →
     fold (λ value digit. value * 10 + (digit - 48)) v s < 10 ^ (k + length s)
@@ -29,11 +32,13 @@ fraction_nanoseconds : (digits : List ℕ) (nanoseconds : ℕ) → IsNumeral dig
     nanoseconds_of (length digits) (min (value_of digits) many) ≡ Some nanoseconds
 unfolding nanoseconds_of
 fraction_nanoseconds digits nanoseconds numeral (inl six) =
-    let below : value_of digits < 10 ^ 6 = subst (λ n. value_of digits < 10 ^ n) six.0 (value_below digits numeral.all) in
+    let below : value_of digits < 10 ^ 6 =
+    subst (λ n. value_of digits < 10 ^ n) six.0 (value_below digits numeral.all) in
     let same : min (value_of digits) many ≡ value_of digits = omega arith in
     rw (six.0, same, six.1) refl
 fraction_nanoseconds digits nanoseconds numeral (inr nine) =
-    let below : value_of digits < 10 ^ 9 = subst (λ n. value_of digits < 10 ^ n) nine.0 (value_below digits numeral.all) in
+    let below : value_of digits < 10 ^ 9 =
+    subst (λ n. value_of digits < 10 ^ n) nine.0 (value_below digits numeral.all) in
     let same : min (value_of digits) many ≡ value_of digits = omega arith in
     rw (nine.0, same, nine.1) refl
 
@@ -44,7 +49,8 @@ is_fraction digits nanoseconds all e =
     elim (cases_Bool (eqb (length digits) 6)) [
       | inl six ↦
           let six_of : length digits ≡ 6 = eqb-true (length digits) 6 six in
-          let below : value_of digits < 10 ^ 6 = subst (λ n. value_of digits < 10 ^ n) six_of (value_below digits all) in
+          let below : value_of digits < 10 ^ 6 =
+          subst (λ n. value_of digits < 10 ^ n) six_of (value_below digits all) in
           let found : Some (min (value_of digits) many * 1000) ≡ Some nanoseconds = rw six at e in
           let same = same_Some (min (value_of digits) many * 1000) nanoseconds found in
           inl (six_of, omega arith)
@@ -52,7 +58,8 @@ is_fraction digits nanoseconds all e =
           elim (cases_Bool (eqb (length digits) 9)) [
             | inl nine ↦
                 let nine_of : length digits ≡ 9 = eqb-true (length digits) 9 nine in
-                let below : value_of digits < 10 ^ 9 = subst (λ n. value_of digits < 10 ^ n) nine_of (value_below digits all) in
+                let below : value_of digits < 10 ^ 9 =
+                subst (λ n. value_of digits < 10 ^ n) nine_of (value_below digits all) in
                 let found : Some (min (value_of digits) many) ≡ Some nanoseconds = rw (other, nine) at e in
                 let same = same_Some (min (value_of digits) many) nanoseconds found in
                 inr (nine_of, omega arith)
@@ -80,7 +87,8 @@ time_from s text fraction seconds nanoseconds w point found =
     let rest = drop (prefix_len is_digit fraction) fraction in
     let found_there : nanoseconds_of (length digits) (min (value_of digits) many) ≡ Some nanoseconds =
     rw (length_front is_digit fraction) found in
-    let form : IsFraction digits nanoseconds = is_fraction digits nanoseconds (run_passes is_digit fraction) found_there in
+    let form : IsFraction digits nanoseconds =
+    is_fraction digits nanoseconds (run_passes is_digit fraction) found_there in
     let some : 0 < length digits = fraction_some digits nanoseconds form in
     let whole_digits = take_while is_digit s in
     record {
@@ -96,7 +104,9 @@ time_from s text fraction seconds nanoseconds w point found =
         whole = refl;
       };
       seconds_are = w.value_is;
-      whole = w.whole ∙ ap (λ (t : List ℕ). whole_digits ++ t) (point ∙ ap (λ (t : List ℕ). 46 ∷ t) (front_and_rest is_digit fraction)) ∙ sym (append_assoc whole_digits (46 ∷ digits) rest);
+      whole = w.whole ∙ ap (λ (t : List ℕ). whole_digits ++ t) (point
+          ∙ ap (λ (t : List ℕ). 46 ∷ t) (front_and_rest is_digit fraction))
+          ∙ sym (append_assoc whole_digits (46 ∷ digits) rest);
     }
 
 -- what is left to do behind the point, and behind the seconds
@@ -104,7 +114,8 @@ abbrev with_fraction : ℕ → List ℕ → ℕ → Option (ℕ × ℕ × List �
 with_fraction whole fraction nanoseconds = Some (whole, nanoseconds, drop (prefix_len is_digit fraction) fraction)
 
 abbrev behind_point : ℕ → List ℕ → Option (ℕ × ℕ × List ℕ)
-behind_point whole fraction = nanoseconds_of (prefix_len is_digit fraction) (front_value fraction) >>= with_fraction whole fraction
+behind_point whole fraction = nanoseconds_of (prefix_len is_digit fraction)
+    (front_value fraction) >>= with_fraction whole fraction
 
 abbrev behind_seconds : ℕ × List ℕ → Option (ℕ × ℕ × List ℕ)
 behind_seconds whole = after_text (codes ".") whole.1 >>= behind_point whole.0
@@ -114,8 +125,11 @@ time_behind_point : (s text fraction : List ℕ) (whole seconds nanoseconds : �
     behind_point whole fraction ≡ Some (seconds, nanoseconds, rest) → TakesTime s seconds nanoseconds rest
 time_behind_point s text fraction whole seconds nanoseconds rest w point e =
     let n =
-    bind_some (nanoseconds_of (prefix_len is_digit fraction) (front_value fraction)) (with_fraction whole fraction) (seconds, nanoseconds, rest) e in
-    subst (λ (t : ℕ × ℕ × List ℕ). TakesTime s t.0 t.1 t.2) (same_Some (whole, n.0, drop (prefix_len is_digit fraction) fraction) (seconds, nanoseconds, rest) n.2) (time_from s text fraction whole n.0 w point n.1)
+    bind_some (nanoseconds_of (prefix_len is_digit fraction) (front_value fraction)) (with_fraction whole fraction)
+    (seconds, nanoseconds, rest) e in
+    subst (λ (t : ℕ × ℕ × List ℕ). TakesTime s t.0 t.1 t.2)
+    (same_Some (whole, n.0, drop (prefix_len is_digit fraction) fraction) (seconds, nanoseconds, rest) n.2)
+    (time_from s text fraction whole n.0 w point n.1)
 
 time_behind_seconds : (s : List ℕ) (whole : ℕ) (text : List ℕ) (seconds nanoseconds : ℕ) (rest : List ℕ) →
     TakesNumeral s whole text → behind_seconds (whole, text) ≡ Some (seconds, nanoseconds, rest) →
@@ -138,4 +152,14 @@ time_again time seconds nanoseconds rest t stops =
     let regrouped : time ++ rest ≡ t.whole_digits ++ (46 ∷ (t.fraction_digits ++ rest)) =
     ap (λ (w : List ℕ). w ++ rest) t.whole ∙ append_assoc t.whole_digits (46 ∷ t.fraction_digits) rest in
     let fraction = digits_in_front t.fraction_digits rest t.fraction_numeral stops in
-    rw (regrouped, numeral_again t.whole_digits (46 ∷ (t.fraction_digits ++ rest)) t.whole_numeral refl, text_again (codes ".") (t.fraction_digits ++ rest), fraction.value_is, fraction.rest_is, fraction.length_is, fraction_nanoseconds t.fraction_digits nanoseconds t.fraction_numeral t.fraction_value, t.whole_value) refl
+    rw (
+      regrouped,
+      numeral_again t.whole_digits (46 ∷ (t.fraction_digits ++ rest)) t.whole_numeral refl,
+      text_again
+          (codes ".") (t.fraction_digits ++ rest),
+      fraction.value_is,
+      fraction.rest_is,
+      fraction.length_is,
+      fraction_nanoseconds t.fraction_digits nanoseconds t.fraction_numeral t.fraction_value,
+      t.whole_value,
+    ) refl

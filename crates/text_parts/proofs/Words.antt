@@ -20,7 +20,8 @@ pub time_from_word : (w : List ℕ) (seconds nanoseconds : ℕ) (rest : List ℕ
     (exact : ℕ) × IsTime w exact nanoseconds × (seconds ≡ min exact many)
 time_from_word w seconds nanoseconds rest e end =
     let t = time_taken w seconds nanoseconds rest e in
-    let whole : t.time ≡ w = sym (t.whole ∙ ap (λ (s : List ℕ). t.time ++ s) (nothing_left rest end) ∙ append-nil t.time) in
+    let whole : t.time ≡ w = sym (t.whole ∙ ap (λ (s : List ℕ). t.time ++ s) (nothing_left rest end)
+    ∙ append-nil t.time) in
     (t.exact_seconds, subst (λ s. IsTime s t.exact_seconds nanoseconds) whole t.form, t.seconds_are)
 
 -- a word is one time at most

@@ -1,6 +1,7 @@
 -- Reading from the front of a text: what a part takes, and what it leaves. Nothing here is to be believed: it is proved
 -- to give the one reading that `Time`, and the relations of the crates above, state.
-use Rattle.std.specs.Prelude.{◌≡◌, ℕ, ◌*◌, ◌==◌, Bool, List, [], ◌∷◌, codes, length, take_while, drop, min, Option, None, Some, if◌then◌else◌}
+use Rattle.std.specs.Prelude.{◌≡◌, ℕ, ◌*◌, ◌==◌, Bool, List, [], ◌∷◌, codes, length, take_while, drop, min, Option}
+use Rattle.std.specs.Prelude.{None, Some, if◌then◌else◌}
 use Rattle.std.specs.List.{prefix_len}
 use Rattle.text_parts.specs.Numerals.{is_digit, value_of, many}
 
@@ -40,7 +41,8 @@ front_value text = min (value_of (take_while is_digit text)) many
 
 -- the value of one or more digits, and what follows them
 unfoldable pub numeral_at : List ℕ → Option (ℕ × List ℕ)
-numeral_at text = if prefix_len is_digit text == 0 then None else Some (front_value text, drop (prefix_len is_digit text) text)
+numeral_at text = if prefix_len is_digit text == 0 then None
+    else Some (front_value text, drop (prefix_len is_digit text) text)
 
 -- the nanoseconds of so many digits behind the point
 unfoldable pub nanoseconds_of : ℕ → ℕ → Option ℕ

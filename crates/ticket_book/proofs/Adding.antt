@@ -1,5 +1,6 @@
 -- Tallies that are added to the sums of their tasks, one after the other.
-use Rattle.std.proofs.Common.{◌≡◌, ◌≢◌, ℕ, ◌+◌, ◌<◌, ◌==◌, if◌then◌else◌, eqb, List, [], ◌∷◌, ◌++◌, length, map, set, take, drop, get_or, All, refl, sym, ap, ◌∙◌, subst, arith}
+use Rattle.std.proofs.Common.{◌≡◌, ◌≢◌, ℕ, ◌+◌, ◌<◌, ◌==◌, if◌then◌else◌, eqb, List, [], ◌∷◌, ◌++◌, length, map, set}
+use Rattle.std.proofs.Common.{take, drop, get_or, All, refl, sym, ap, ◌∙◌, subst, arith}
 use Rattle.std.specs.BTreeMap.{BTreeMap}
 use Rattle.std.specs.List.{sum_by}
 use Rattle.std.proofs.lemmas.Bool.{cond-false, ne_eqb}
@@ -25,7 +26,8 @@ same_tally a b pid ran charged picks = λ i. record { pid = pid i; ran = ran i; 
 -- a tally says nothing of another task
 others_stay : (tally sum : Tally) → sum.pid ≢ tally.pid → with_tallies (tally ∷ []) sum ≡ sum
 others_stay tally sum ne =
-    same_tally (with_tallies (tally ∷ []) sum) sum refl (same (λ t. t.ran)) (same (λ t. t.charged)) (same (λ t. t.picks))
+    same_tally (with_tallies (tally ∷ []) sum) sum refl (same (λ t. t.ran)) (same (λ t. t.charged))
+    (same (λ t. t.picks))
   where
     same : (amount : Tally → ℕ) → amount sum + sum_by (amount_for amount sum.pid) (tally ∷ []) ≡ amount sum
     same amount =
@@ -43,20 +45,25 @@ both_added xs ys sum =
     same_tally (with_tallies ys (with_tallies xs sum)) (with_tallies (xs ++ ys) sum) refl
     (same (λ t. t.ran)) (same (λ t. t.charged)) (same (λ t. t.picks))
   where
-    same : (amount : Tally → ℕ) → (amount sum + sum_by (amount_for amount sum.pid) xs) + sum_by (amount_for amount sum.pid) ys
+    same : (amount : Tally → ℕ) → (amount sum + sum_by (amount_for amount sum.pid) xs) + sum_by
+        (amount_for amount sum.pid) ys
         ≡ amount sum + sum_by (amount_for amount sum.pid) (xs ++ ys)
     same amount = let e = sum_by-append (amount_for amount sum.pid) xs ys in omega (arith, e)
 
 -- where the sum with all of them fits, so does that with the first
-part_fits : (xs ys : List Tally) (sum : Tally) → FitsTally (with_tallies (xs ++ ys) sum) → FitsTally (with_tallies xs sum)
+part_fits : (xs ys : List Tally) (sum : Tally) → FitsTally (with_tallies (xs ++ ys) sum)
+    → FitsTally (with_tallies xs sum)
 part_fits xs ys sum fits = record {
   ran = (let f = fits.ran in let e = sum_by-append (amount_for (λ t. t.ran) sum.pid) xs ys in omega (arith, e, f));
-  charged = (let f = fits.charged in let e = sum_by-append (amount_for (λ t. t.charged) sum.pid) xs ys in omega (arith, e, f));
-  picks = (let f = fits.picks in let e = sum_by-append (amount_for (λ t. t.picks) sum.pid) xs ys in omega (arith, e, f));
+  charged = (let f = fits.charged in let e = sum_by-append (amount_for (λ t. t.charged) sum.pid) xs ys in
+      omega (arith, e, f));
+  picks = (let f = fits.picks in let e = sum_by-append (amount_for (λ t. t.picks) sum.pid) xs ys in
+      omega (arith, e, f));
 }
 
 -- the same of a list of sums
-maps_add : (xs ys : List Tally) (sums : List Tally) → map (with_tallies ys) (map (with_tallies xs) sums) ≡ map (with_tallies (xs ++ ys)) sums
+maps_add : (xs ys : List Tally) (sums : List Tally)
+    → map (with_tallies ys) (map (with_tallies xs) sums) ≡ map (with_tallies (xs ++ ys)) sums
 maps_add xs ys [] = refl
 maps_add xs ys (sum ∷ sums) =
     ap (λ t. t ∷ map (with_tallies ys) (map (with_tallies xs) sums)) (both_added xs ys sum)
@@ -74,11 +81,13 @@ add_more xs ys old sums now before is = is ∙ ap (map (with_tallies ys)) before
 
 -- where the sums with all tallies fit, so do those with some more of them than were added
 pub more_fit : (xs ys zs old sums : List Tally) → sums ≡ map (with_tallies xs) old
-    → All (λ sum. FitsTally (with_tallies ((xs ++ ys) ++ zs) sum)) old → All (λ sum. FitsTally (with_tallies ys sum)) sums
+    → All (λ sum. FitsTally (with_tallies ((xs ++ ys) ++ zs) sum)) old
+    → All (λ sum. FitsTally (with_tallies ys sum)) sums
 more_fit xs ys zs old sums before fits =
     subst (All (λ sum. FitsTally (with_tallies ys sum))) (sym before)
     (All-map (λ sum. FitsTally (with_tallies ys sum)) (with_tallies xs) old
-    (All-weaker (λ sum. FitsTally (with_tallies ((xs ++ ys) ++ zs) sum)) (λ sum. FitsTally (with_tallies ys (with_tallies xs sum)))
+    (All-weaker (λ sum. FitsTally (with_tallies ((xs ++ ys) ++ zs) sum))
+    (λ sum. FitsTally (with_tallies ys (with_tallies xs sum)))
     (λ sum all. subst FitsTally (sym (both_added xs ys sum)) (part_fits (xs ++ ys) zs sum all)) old fits))
 
 -- along a list of tallies
@@ -104,11 +113,13 @@ module _ (sums : List Tally) (places : BTreeMap ℕ ℕ) (placed : IsPlaced sums
       → x ≡ with_tallies (tally ∷ []) (get_or sums place d) → set sums place x ≡ map (with_tallies (tally ∷ [])) sums
   added_there place d x h here is =
       ap (set sums place) is
-      ∙ sym (changed_there pid_of (with_tallies (tally ∷ [])) tally.pid (others_stay tally) sums places placed place d h here)
+      ∙ sym (changed_there pid_of (with_tallies (tally ∷ [])) tally.pid
+      (others_stay tally) sums places placed place d h here)
 
   pub added_placed : IsPlaced (map (with_tallies (tally ∷ [])) sums) places
   added_placed = placed_map pid_of (with_tallies (tally ∷ [])) (λ sum. refl) sums places placed
 
 pub added_nowhere : (sums : List Tally) (tally : Tally) → All (λ sum. sum.pid ≢ tally.pid) sums
     → sums ≡ map (with_tallies (tally ∷ [])) sums
-added_nowhere sums tally none = sym (set_none (λ sum. sum.pid ≢ tally.pid) (with_tallies (tally ∷ [])) sums (others_stay tally) none)
+added_nowhere sums tally none = sym (set_none (λ sum. sum.pid ≢ tally.pid) (with_tallies (tally ∷ [])) sums
+    (others_stay tally) none)

@@ -1,13 +1,15 @@
 -- The places of a book: what a page that is put at an empty one changes. Only its own line can become the least, since
 -- an empty place has the greatest line of all.
-use Rattle.std.proofs.Common.{◌≡◌, ℕ, zero, suc, ◌<◌, ◌≤◌, min, List, [], ◌∷◌, length, set, replicate, Option, Some, None, refl, sym, ap, ◌∙◌, arith, inl, inr, ◌⊎◌, ◌≢◌}
+use Rattle.std.proofs.Common.{◌≡◌, ℕ, zero, suc, ◌<◌, ◌≤◌, min, List, [], ◌∷◌, length, set, replicate, Option, Some}
+use Rattle.std.proofs.Common.{None, refl, sym, ap, ◌∙◌, arith, inl, inr, ◌⊎◌, ◌≢◌}
 use Rattle.std.specs.Prelude.{slice_get}
 use Rattle.std.proofs.lemmas.Bool.{cases_eq}
 use Rattle.std.proofs.lemmas.List.{get_or-set_same, get_or-set_other, length-replicate, length-set}
 use Rattle.std.proofs.lemmas.Option.{slice_get_within, none-some, same_Some}
 use Rattle.cfs_model.specs.Limits.{most_processors}
 use Rattle.queue_replay.specs.Replay.{ReplayView}
-use Rattle.ticket_book.specs.Book.{IsBook, line_of_fault, least_line, no_fault, place_line, page_at, refusal_at, post_refusal}
+use Rattle.ticket_book.specs.Book.{IsBook, line_of_fault, least_line, no_fault, place_line, page_at, refusal_at}
+use Rattle.ticket_book.specs.Book.{post_refusal}
 
 room_at : (found : Option (Option ReplayView)) → None ≡ refusal_at found → found ≡ Some None
 room_at None e = absurd cc
@@ -15,7 +17,8 @@ room_at (Some (Some page)) e = absurd cc
 room_at (Some None) e = refl
 
 -- a page that isn't refused finds an empty place
-pub room : (places : List (Option ReplayView)) (cpu : ℕ) → None ≡ post_refusal places cpu → slice_get places cpu ≡ Some None
+pub room : (places : List (Option ReplayView)) (cpu : ℕ) → None ≡ post_refusal places cpu
+    → slice_get places cpu ≡ Some None
 room places cpu e = room_at (slice_get places cpu) e
 
 pub least_of_empty : (n : ℕ) → least_line (replicate n None) ≡ no_fault
@@ -36,7 +39,8 @@ least_put (place ∷ places) zero page e =
     omega (arith, least_within places, empty)
 least_put (place ∷ places) (suc cpu) page e = omega (arith, least_put places cpu page e)
 
-own_place_put : (places : List (Option ReplayView)) (cpu : ℕ) (page : ReplayView) → cpu < length places → page.stream.cpu ≡ cpu
+own_place_put : (places : List (Option ReplayView)) (cpu : ℕ) (page : ReplayView) → cpu < length places
+    → page.stream.cpu ≡ cpu
     → ((other : ℕ) (p : ReplayView) → page_at places other ≡ Some p → p.stream.cpu ≡ other)
     → (other : ℕ) (p : ReplayView) → page_at (set places cpu (Some page)) other ≡ Some p → p.stream.cpu ≡ other
 own_place_put places cpu page h is own other p e = go (cases_eq other cpu)
@@ -60,7 +64,8 @@ book_put places least cpu page book empty is =
       some = let some = book.some in omega (arith, some, same);
       at_most = let most = book.at_most in omega (arith, most, same);
       own = own_place_put places cpu page h is book.own;
-      least_is = ap (λ line. min line (line_of_fault page.page.fault)) book.least_is ∙ sym (least_put places cpu page empty);
+      least_is = ap (λ line. min line (line_of_fault page.page.fault)) book.least_is
+          ∙ sym (least_put places cpu page empty);
     }
 
 pub no_page_there : (cpus cpu : ℕ) → page_at (replicate cpus None) cpu ≡ None

@@ -1,6 +1,7 @@
 -- The pages that auditors leave suffice: the least line of a fault on the pages only falls, so a line that was told is
 -- never before it, and in the end it is the least of all.
-use Rattle.std.proofs.Common.{◌≡◌, ℕ, zero, suc, ◌<◌, ◌≤◌, nat_lt, if◌then◌else◌, Bool, true, false, IsSome, List, [], ◌∷◌, length, set, Option, Some, None, refl, sym, ap, ◌∙◌, subst, arith, inl, inr, ◌⊎◌}
+use Rattle.std.proofs.Common.{◌≡◌, ℕ, zero, suc, ◌<◌, ◌≤◌, nat_lt, if◌then◌else◌, Bool, true, false, IsSome, List, []}
+use Rattle.std.proofs.Common.{◌∷◌, length, set, Option, Some, None, refl, sym, ap, ◌∙◌, subst, arith, inl, inr, ◌⊎◌}
 use Rattle.std.specs.Prelude.{slice_get}
 use Rattle.std.proofs.lemmas.Bool.{cases_lt, false≢true}
 use Rattle.std.proofs.lemmas.List.{get_or-set_same, get_or-set_other, length-replicate, length-set}
@@ -23,7 +24,8 @@ use Rattle.ticket_book.proofs.BookPlaces.{least_of_empty, least_put, least_withi
 -- a page that was posted: its own auditor's, as far as it may stop with this least line
 record IsKept (knobs : Settings) (r : RecordView) (cpu least : ℕ) (page : ReplayView) : Type 0 where
   own : IsOwnPageOf knobs r cpu page
-  far : IsSome page.page.fault ⊎ (length page.stream.steps ≤ page.made) ⊎ ((least < no_fault) × (least ≤ page.page.line))
+  far : IsSome page.page.fault ⊎ (length page.stream.steps ≤ page.made)
+      ⊎ ((least < no_fault) × (least ≤ page.page.line))
 
 -- what each state of the core keeps
 record KeepsCore (knobs : Settings) (r : RecordView) (core : Core) : Type 0 where
@@ -70,13 +72,15 @@ module _ (knobs : Settings) (r : RecordView) (core : Core) (k : KeepsCore knobs 
     count = k.count;
     each = k.each;
     told = λ other. elim (same_or_not other cpu) [
-      | inl e ↦ (let is = ap (put core.told cpu (least_line core.places)) e ∙ put-same core.told cpu (least_line core.places) in
+      | inl e ↦ (let is = ap (put core.told cpu (least_line core.places)) e
+          ∙ put-same core.told cpu (least_line core.places) in
           omega (arith, is))
       | inr ne ↦ (let is = put-other core.told cpu (least_line core.places) other ne in let low = k.told other in
           omega (arith, is, low))
     ];
     at_most = λ other. elim (same_or_not other cpu) [
-      | inl e ↦ (let is = ap (put core.told cpu (least_line core.places)) e ∙ put-same core.told cpu (least_line core.places) in
+      | inl e ↦ (let is = ap (put core.told cpu (least_line core.places)) e
+          ∙ put-same core.told cpu (least_line core.places) in
           let most = least_within core.places in omega (arith, is, most))
       | inr ne ↦ (let is = put-other core.told cpu (least_line core.places) other ne in let most = k.at_most other in
           omega (arith, is, most))
@@ -120,12 +124,15 @@ module _ (knobs : Settings) (r : RecordView) (core : Core) (k : KeepsCore knobs 
           → IsKept knobs r other (least_line (set core.places cpu (Some page))) p
       each_more other p e = elim (same_or_not other cpu) [
         | inl same ↦ (let here : page_at (set core.places cpu (Some page)) other ≡ Some page =
-            ap (page_at (set core.places cpu (Some page))) same ∙ get_or-set_same core.places cpu (Some page) None within in
+            ap (page_at (set core.places cpu (Some page))) same
+            ∙ get_or-set_same core.places cpu (Some page) None within in
             let is : page ≡ p = same_Some page p (sym here ∙ e) in
             subst (λ (q : ReplayView). IsKept knobs r other (least_line (set core.places cpu (Some page))) q) is
             (subst (λ n. IsKept knobs r n (least_line (set core.places cpu (Some page))) page) (sym same)
-            (kept_lower knobs r cpu (least_line core.places) (least_line (set core.places cpu (Some page))) page lower fresh)))
-        | inr ne ↦ kept_lower knobs r other (least_line core.places) (least_line (set core.places cpu (Some page))) p lower
+            (kept_lower knobs r cpu (least_line core.places)
+            (least_line (set core.places cpu (Some page))) page lower fresh)))
+        | inr ne ↦ kept_lower knobs r other (least_line core.places)
+            (least_line (set core.places cpu (Some page))) p lower
             (k.each other p (sym (get_or-set_other core.places cpu other (Some page) None ne) ∙ e))
       ]
 
@@ -145,7 +152,8 @@ record IsAttained (places : List (Option ReplayView)) : Type 0 where
   stands : page_at places cpu ≡ Some page
   line : line_of_fault page.page.fault ≡ least_line places
 
-attained_later : (place : Option ReplayView) (places : List (Option ReplayView)) → least_line places ≡ least_line (place ∷ places)
+attained_later : (place : Option ReplayView) (places : List (Option ReplayView))
+    → least_line places ≡ least_line (place ∷ places)
     → IsAttained places → IsAttained (place ∷ places)
 attained_later place places e a = record {
   cpu = suc a.cpu;

@@ -1,5 +1,6 @@
 -- Events that are counted by what they do.
-use Rattle.std.proofs.Common.{◌≡◌, ℕ, ◌+◌, ◌<◌, ◌≤◌, Bool, cond, List, [], ◌∷◌, length, take, get_or, refl, sym, ap, ◌∙◌, arith}
+use Rattle.std.proofs.Common.{◌≡◌, ℕ, ◌+◌, ◌<◌, ◌≤◌, Bool, cond, List, [], ◌∷◌, length, take, get_or, refl, sym, ap}
+use Rattle.std.proofs.Common.{◌∙◌, arith}
 use Rattle.std.specs.List.{count_by}
 use Rattle.std.proofs.lemmas.List.{length-take-le}
 use Rattle.std.proofs.lemmas.List.Sums.{count_by-le-length, sum_by-cons, sum_by_more}
@@ -12,7 +13,8 @@ use Rattle.replay_model.specs.Summary.{how_many, is_birth, is_death, is_migratio
 use Rattle.ticket_book.specs.EventCounts.{AreCountsBelow, counts_of, with_event}
 use Rattle.ticket_book.specs.declared.event_counts.EventCounts.{EventCounts}
 
-same_counts : (a b : EventCounts) → a.switches ≡ b.switches → a.migrations ≡ b.migrations → a.births ≡ b.births → a.deaths ≡ b.deaths
+same_counts : (a b : EventCounts) → a.switches ≡ b.switches → a.migrations ≡ b.migrations → a.births ≡ b.births
+    → a.deaths ≡ b.deaths
     → a ≡ b
 same_counts a b switches migrations births deaths =
     λ i. record { switches = switches i; migrations = migrations i; births = births i; deaths = deaths i }
@@ -32,7 +34,8 @@ count_more events i event within is =
         ∙ sym (sum_by_more (λ (e : Entry). cond (does e.act) 1 0) events i event within)
 
 -- no count is above the number of events
-pub counts_below : (events : List Entry) (i bound : ℕ) → i < length events → length events ≤ bound → AreCountsBelow bound (counts_of (take i events))
+pub counts_below : (events : List Entry) (i bound : ℕ) → i < length events → length events ≤ bound
+    → AreCountsBelow bound (counts_of (take i events))
 counts_below events i bound within most = record {
   switches = below is_switch;
   migrations = below is_migration;
@@ -47,7 +50,8 @@ counts_below events i bound within most = record {
         omega (arith, few, n, within, most)
 
 -- the counts among events with what is said on their lines
-pub count_claimed : (does : Act → Bool) (claims : List Claim) (nices : List NiceLine) (policy : Entry → Bool) (events : List Entry)
+pub count_claimed : (does : Act → Bool) (claims : List Claim) (nices : List NiceLine) (policy : Entry
+    → Bool) (events : List Entry)
     → count_by (λ (e : Entry). does e.act) events ≡ how_many does (claimed claims nices policy events)
 count_claimed does claims nices policy [] = refl
 count_claimed does claims nices policy (event ∷ events) =

@@ -9,7 +9,8 @@ record IsPushed {X : Type 0} (xs front : List X) (x : X) : Type 0 where
   last_is : x ≡ get_or xs (length front) x
   within : length front < length xs
 
-pushed : {X : Type 0} (xs front : List X) (x : X) → front ++ x ∷ [] ≡ take (length (front ++ x ∷ [])) xs → IsPushed xs front x
+pushed : {X : Type 0} (xs front : List X) (x : X) → front ++ x ∷ [] ≡ take (length (front ++ x ∷ [])) xs
+    → IsPushed xs front x
 pushed {X} xs front x e =
     let count = length_push front x in
     let cut = ap length e ∙ length-take (length (front ++ x ∷ [])) xs in

@@ -1,5 +1,6 @@
 -- Deadlines along a list of pages: the first, and the lowest processor that is late.
-use Rattle.std.proofs.Common.{◌≡◌, ℕ, ◌+◌, ◌<◌, true, false, Option, Some, None, List, length, get_or, refl, sym, ap, ◌∙◌, subst, below_more, arith}
+use Rattle.std.proofs.Common.{◌≡◌, ℕ, ◌+◌, ◌<◌, true, false, Option, Some, None, List, length, get_or, refl, sym, ap}
+use Rattle.std.proofs.Common.{◌∙◌, subst, below_more, arith}
 use Rattle.std.proofs.lemmas.Bool.{ltb-false, le-ltb}
 use Rattle.queue_replay.specs.Replay.{ReplayView}
 use Rattle.sched_record.specs.Join.{lesser_of}
@@ -26,17 +27,20 @@ pub one_deadline : (pages : List ReplayView) (first : Option ℕ) (k : ℕ) (pag
 one_deadline pages first k page h e before =
     below_more _ _
     (λ cpu lt. from_earlier first (deadline_on page.page) (deadline_on (view_at pages cpu)) (before cpu lt))
-    (subst (λ view. IsFrom (lesser_of first (deadline_on page.page)) (deadline_on view)) (sym (view_here pages k page h e))
+    (subst (λ view. IsFrom (lesser_of first (deadline_on page.page)) (deadline_on view))
+    (sym (view_here pages k page h e))
     (from_other first (deadline_on page.page)))
 
 -- one more page that isn't late
-pub one_in_time : (pages : List ReplayView) (time k : ℕ) (page : ReplayView) → k < length pages → page ≡ get_or pages k page
+pub one_in_time : (pages : List ReplayView) (time k : ℕ) (page : ReplayView) → k < length pages
+    → page ≡ get_or pages k page
     → is_past time (deadline_on page.page) ≡ false → NoneLate pages time k → NoneLate pages time (k + 1)
 one_in_time pages time k page h e late before =
     below_more _ _ before (ap (λ view. is_past time (deadline_on view)) (view_here pages k page h e) ∙ late)
 
 -- the first that is
-pub first_late : (pages : List ReplayView) (time k : ℕ) (page : ReplayView) → k < length pages → page ≡ get_or pages k page
+pub first_late : (pages : List ReplayView) (time k : ℕ) (page : ReplayView) → k < length pages
+    → page ≡ get_or pages k page
     → is_past time (deadline_on page.page) ≡ true → NoneLate pages time k → IsFirstLate pages time k
 first_late pages time k page h e late before = record {
   within = h;

@@ -1,5 +1,6 @@
 -- One more event followed, with what the record says of it.
-use Rattle.std.proofs.Common.{◌≡◌, ℕ, Bool, ◌+◌, ◌<◌, List, [], ◌∷◌, ◌++◌, length, get_or, take, drop, Option, sym, ap, ◌∙◌, subst}
+use Rattle.std.proofs.Common.{◌≡◌, ℕ, Bool, ◌+◌, ◌<◌, List, [], ◌∷◌, ◌++◌, length, get_or, take, drop, Option, sym, ap}
+use Rattle.std.proofs.Common.{◌∙◌, subst}
 use Rattle.std.proofs.Math.Seq.{take-append_seam}
 use Rattle.std.proofs.lemmas.List.{map-append, take_more}
 use Rattle.cfs_model.specs.Claimed.{Claimed, claim_at, claimed, nice_at, with_claim}
@@ -17,17 +18,21 @@ lent_back cursors before n count =
     ap (λ k. take k (cursors ++ drop (length cursors) before)) (sym count)
     ∙ take-append_seam cursors (drop (length cursors) before)
 
-pub followed_one_more : (places : List (Option ReplayView)) (before after : List Cursor) (claims : List Claim) (nices : List NiceLine)
-    (policy : Entry → Bool) (events : List Entry) (i : ℕ) (event : Entry) (claim : Option Claim) (nice : Option NiceLine) (idle : Bool)
+pub followed_one_more : (places : List (Option ReplayView)) (before after : List Cursor) (claims : List Claim)
+    (nices : List NiceLine)
+    (policy : Entry → Bool) (events : List Entry) (i : ℕ) (event : Entry) (claim : Option Claim)
+    (nice : Option NiceLine) (idle : Bool)
     → i < length events → event ≡ get_or events i event
     → claim ≡ claim_at claims event.line → nice ≡ nice_at nices event.line → idle ≡ policy event
     → ((dealt : List Claimed) → AreFollowed places before dealt
     → AreFollowed places after (dealt ++ record { entry = event; claim = claim; nice = nice; idle = idle } ∷ []))
     → AreFollowed places before (claimed claims nices policy (take i events))
     → AreFollowed places after (claimed claims nices policy (take (i + 1) events))
-followed_one_more places before after claims nices policy events i event claim nice idle lt is is_claim is_nice is_idle follows followed =
+followed_one_more places before after claims nices policy events i event claim nice idle lt is is_claim is_nice is_idle
+    follows followed =
     let dealt = claimed claims nices policy (take i events) in
-    let said_of : Option Claim → Option NiceLine → Bool → Claimed = λ c n b. record { entry = event; claim = c; nice = n; idle = b } in
+    let said_of : Option Claim → Option NiceLine → Bool
+    → Claimed = λ c n b. record { entry = event; claim = c; nice = n; idle = b } in
     let said : said_of claim nice idle ≡ with_claim claims nices policy event =
     λ j. said_of (is_claim j) (is_nice j) (is_idle j) in
     let more : dealt ++ with_claim claims nices policy event ∷ [] ≡ claimed claims nices policy (take (i + 1) events) =

@@ -1,5 +1,6 @@
 -- How many events a record can have and how late they are, so that no sum over them is too great.
-use Rattle.std.proofs.Common.{◌≡◌, ℕ, Bool, zero, suc, ◌*◌, ◌-◌, ◌^◌, ◌<◌, ◌≤◌, List, [], ◌∷◌, length, get_or, All, inl, inr, ap, arith}
+use Rattle.std.proofs.Common.{◌≡◌, ℕ, Bool, zero, suc, ◌*◌, ◌-◌, ◌^◌, ◌<◌, ◌≤◌, List, [], ◌∷◌, length, get_or, All, inl}
+use Rattle.std.proofs.Common.{inr, ap, arith}
 use Rattle.std.specs.List.{AllByRecursion, AllPairs}
 use Rattle.std.specs.Option.{option_map_or}
 use Rattle.std.proofs.Math.Nat.{mul-le-mul}
@@ -16,7 +17,8 @@ use Rattle.ticket_book.specs.Tallying.{FitsTally}
 
 -- what never falls along the events is greatest at the last
 pub last_greatest : (amount : Entry → ℕ) (events : List Entry) (none : ℕ) → AllPairs (λ a b. amount a ≤ amount b) events
-    → (k : ℕ) (d : Entry) → k < length events → amount (get_or events k d) ≤ option_map_or amount (last_event events) none
+    → (k : ℕ) (d : Entry) → k < length events
+    → amount (get_or events k d) ≤ option_map_or amount (last_event events) none
 last_greatest amount events none rise k d h =
     let last : option_map_or amount (last_event events) none ≡ amount (get_or events (length events - 1) d) =
     ap (λ found. option_map_or amount found none) (slice_get-get_or events (length events - 1) d (omega arith)) in

@@ -1,7 +1,9 @@
--- Pages are gathered processor by processor, each from its place in the book where it suffices there, else made again. The
--- places of later processors are as they were. A page of the book that has a fault suffices, so it is among those gathered:
--- a page that stopped at the least line of a fault on the book's suffices beside them.
-use Rattle.std.proofs.Common.{◌≡◌, ◌≢◌, ℕ, zero, suc, ◌+◌, ◌<◌, ◌≤◌, nat_lt, if◌then◌else◌, Bool, true, false, IsSome, List, [], ◌∷◌, ◌++◌, length, Option, Some, None, refl, sym, ap, ◌∙◌, subst, arith, add-one, inl, inr, ◌⊎◌}
+-- Pages are gathered processor by processor, each from its place in the book where it suffices there, else made again.
+-- The places of later processors are as they were. A page of the book that has a fault suffices, so it is among those
+-- gathered: a page that stopped at the least line of a fault on the book's suffices beside them.
+use Rattle.std.proofs.Common.{◌≡◌, ◌≢◌, ℕ, zero, suc, ◌+◌, ◌<◌, ◌≤◌, nat_lt, if◌then◌else◌, Bool, true, false, IsSome}
+use Rattle.std.proofs.Common.{List, [], ◌∷◌, ◌++◌, length, Option, Some, None, refl, sym, ap, ◌∙◌, subst, arith}
+use Rattle.std.proofs.Common.{add-one, inl, inr, ◌⊎◌}
 use Rattle.std.specs.Prelude.{slice_get}
 use Rattle.std.proofs.lemmas.Bool.{cases_lt, false≢true, le-ltb, ltb-false}
 use Rattle.std.proofs.lemmas.List.{length_push}
@@ -25,7 +27,8 @@ use Rattle.ticket_book.specs.Whole.{AreSufficient, IsWholePageOf, SufficesBeside
 
 module _ (knobs : Settings) (r : RecordView) (places : List (Option ReplayView)) where
   -- what the code tests is what the definition says, where the least line is the one that was found
-  enough_reaches : (least : Option ℕ) (reached : Reached) → IsLeastFaultLine knobs r places r.cpus least → IsEnough least reached
+  enough_reaches : (least : Option ℕ) (reached : Reached) → IsLeastFaultLine knobs r places r.cpus least
+      → IsEnough least reached
       → ReachesEnough knobs r places reached
   enough_reaches least Done is h = tt
   enough_reaches least (Faulted line) is h = tt
@@ -43,7 +46,8 @@ module _ (knobs : Settings) (r : RecordView) (places : List (Option ReplayView))
       omega (arith, first, past)
 
   pub reliable_suffices : (own : Bool) (least : Option ℕ) (cpu : ℕ) (page : ReplayView)
-      → IsLeastFaultLine knobs r places r.cpus least → IsToldOwn knobs r cpu (Some page) own → IsReliable own least (Some page)
+      → IsLeastFaultLine knobs r places r.cpus least → IsToldOwn knobs r cpu (Some page) own
+      → IsReliable own least (Some page)
       → SufficesFor knobs r places cpu page
   reliable_suffices own least cpu page is told h = record {
     own = told.0 h.0;
@@ -51,7 +55,8 @@ module _ (knobs : Settings) (r : RecordView) (places : List (Option ReplayView))
   }
 
   pub suffices_reliable : (own : Bool) (least : Option ℕ) (cpu : ℕ) (place : Option ReplayView)
-      → IsLeastFaultLine knobs r places r.cpus least → IsToldOwn knobs r cpu place own → Suffices knobs r places cpu place
+      → IsLeastFaultLine knobs r places r.cpus least → IsToldOwn knobs r cpu place own
+      → Suffices knobs r places cpu place
       → IsReliable own least place
   suffices_reliable own least cpu None is told h = h
   suffices_reliable own least cpu (Some page) is told h =
@@ -63,9 +68,11 @@ module _ (knobs : Settings) (r : RecordView) (places : List (Option ReplayView))
   whole_reaches (Some fault) line made steps h = tt
   whole_reaches None line made steps (inl some) = absurd (false≢true some)
   whole_reaches None line made steps (inr all) =
-      subst (λ (b : Bool). ReachesEnough knobs r places (if b then Stopped line else Done)) (sym (le-ltb made steps all)) tt
+      subst (λ (b : Bool). ReachesEnough knobs r places (if b then Stopped line else Done))
+      (sym (le-ltb made steps all)) tt
 
-  pub whole_suffices : (cpu : ℕ) (page : ReplayView) → IsWholePageOf knobs r cpu page → SufficesFor knobs r places cpu page
+  pub whole_suffices : (cpu : ℕ) (page : ReplayView) → IsWholePageOf knobs r cpu page
+      → SufficesFor knobs r places cpu page
   whole_suffices cpu page w = record {
     own = record { stream = w.stream; knobs_are = w.knobs_are };
     enough = whole_reaches page.page.fault page.page.line page.made (length page.stream.steps)
@@ -73,7 +80,8 @@ module _ (knobs : Settings) (r : RecordView) (places : List (Option ReplayView))
   }
 
   -- how a page suffices
-  reaches_how : (o : Option StepFault) (line made steps : ℕ) → ReachesEnough knobs r places (reached_at o line made steps)
+  reaches_how : (o : Option StepFault) (line made steps : ℕ)
+      → ReachesEnough knobs r places (reached_at o line made steps)
       → IsSome o ⊎ (steps ≤ made) ⊎ ((least : ℕ) × IsLeastFault knobs r places least × (least ≤ line))
   reaches_how (Some fault) line made steps h = inl refl
   reaches_how None line made steps h = go (nat_lt made steps) refl h
@@ -91,18 +99,21 @@ module _ (knobs : Settings) (r : RecordView) (places : List (Option ReplayView))
       → SufficesFor knobs r places cpu f.page
   fault_suffices cpu line place f = record {
     own = f.own;
-    enough = subst (λ o. ReachesEnough knobs r places (reached_at o f.page.page.line f.page.made (length f.page.stream.steps)))
+    enough = subst (λ o. ReachesEnough knobs r places
+        (reached_at o f.page.page.line f.page.made (length f.page.stream.steps)))
         (sym f.is_fault) tt;
   }
 
 -- a page that was gathered: it suffices, and is the page of the steps made
-pub record IsGathered (knobs : Settings) (r : RecordView) (places : List (Option ReplayView)) (cpu : ℕ) (page : ReplayView)
+pub record IsGathered (knobs : Settings) (r : RecordView) (places : List (Option ReplayView)) (cpu : ℕ)
+    (page : ReplayView)
     : Type 0 where
   pub suffices : SufficesFor knobs r places cpu page
   pub is_page : IsPageOf page.stream page.knobs page.made page.page
 
 -- so many processors have their page, of what is left of a book's places; and so many of the pages were made again
-pub record AreGathered (knobs : Settings) (r : RecordView) (places left : List (Option ReplayView)) (pages : List ReplayView) (cpu remade : ℕ)
+pub record AreGathered (knobs : Settings) (r : RecordView) (places left : List (Option ReplayView))
+    (pages : List ReplayView) (cpu remade : ℕ)
     : Type 0 where
   pub count : length pages ≡ cpu
   pub each : (other : ℕ) (page : ReplayView) → slice_get pages other ≡ Some page → IsGathered knobs r places other page
@@ -113,7 +124,8 @@ pub record AreGathered (knobs : Settings) (r : RecordView) (places left : List (
   pub remade_are : AreRemadeBelow knobs r places cpu remade
   pub few : remade ≤ cpu
 
-pub none_gathered : (knobs : Settings) (r : RecordView) (places : List (Option ReplayView)) → AreGathered knobs r places places [] 0 0
+pub none_gathered : (knobs : Settings) (r : RecordView) (places : List (Option ReplayView))
+    → AreGathered knobs r places places [] 0 0
 none_gathered knobs r places = record {
   count = refl;
   each = λ other page e. absurd cc;
@@ -123,7 +135,8 @@ none_gathered knobs r places = record {
   few = omega arith;
 }
 
-pub push_before : {X : Type 0} (xs : List X) (x : X) (i : ℕ) → i < length xs → slice_get (xs ++ x ∷ []) i ≡ slice_get xs i
+pub push_before : {X : Type 0} (xs : List X) (x : X) (i : ℕ) → i < length xs
+    → slice_get (xs ++ x ∷ []) i ≡ slice_get xs i
 push_before [] x i h = absurd (omega arith)
 push_before (y ∷ ys) x zero h = refl
 push_before (y ∷ ys) x (suc i) h = push_before ys x i (omega arith)
@@ -133,10 +146,12 @@ push_last [] x = refl
 push_last (y ∷ ys) x = push_last ys x
 
 -- one more page, of the next processor
-module _ (knobs : Settings) (r : RecordView) (places left after : List (Option ReplayView)) (pages : List ReplayView) (cpu remade : ℕ) (page : ReplayView)
+module _ (knobs : Settings) (r : RecordView) (places left after : List (Option ReplayView)) (pages : List ReplayView)
+    (cpu remade : ℕ) (page : ReplayView)
     (gathered : AreGathered knobs r places left pages cpu remade) (is : IsGathered knobs r places cpu page)
     (others : (other : ℕ) → other ≢ cpu → page_at after other ≡ page_at left other) where
-  each_more : (other : ℕ) (p : ReplayView) → slice_get (pages ++ page ∷ []) other ≡ Some p → IsGathered knobs r places other p
+  each_more : (other : ℕ) (p : ReplayView) → slice_get (pages ++ page ∷ []) other ≡ Some p
+      → IsGathered knobs r places other p
   each_more other p e = go (cases_lt other (length pages))
     where
       go : (other < length pages) ⊎ (length pages ≤ other) → IsGathered knobs r places other p
@@ -146,7 +161,8 @@ module _ (knobs : Settings) (r : RecordView) (places left after : List (Option R
           let pushed = length_push pages page in
           let within = slice_get_within (pages ++ page ∷ []) other p e in
           let last : length pages ≡ other = omega (arith, ge, pushed, within) in
-          let same : page ≡ p = same_Some page p (sym (push_last pages page) ∙ ap (slice_get (pages ++ page ∷ [])) last ∙ e) in
+          let same : page ≡ p = same_Some page p (sym (push_last pages page) ∙ ap (slice_get (pages ++ page ∷ [])) last
+          ∙ e) in
           subst (λ (q : ReplayView). IsGathered knobs r places other q) same
           (subst (λ n. IsGathered knobs r places n page) (sym count ∙ last) is)
 
@@ -182,7 +198,8 @@ module _ (knobs : Settings) (r : RecordView) (places left after : List (Option R
   }
 
   -- the place's own, which suffices
-  pub gathered_one : page_at left cpu ≡ Some page → AreGathered knobs r places after (pages ++ page ∷ []) (cpu + 1) remade
+  pub gathered_one : page_at left cpu ≡ Some page
+      → AreGathered knobs r places after (pages ++ page ∷ []) (cpu + 1) remade
   gathered_one here =
       let stands : page_at places cpu ≡ Some page = sym (gathered.left_are cpu (omega arith)) ∙ here in
       let suffices : Suffices knobs r places cpu (page_at places cpu) =
@@ -200,20 +217,23 @@ module _ (knobs : Settings) (r : RecordView) (places left after : List (Option R
       (inr (short, (remade, add-one remade, gathered.remade_are))) (let few = gathered.few in omega (arith, few))
 
 -- the page at a place of a list
-view_is : (pages : List ReplayView) (cpu : ℕ) (page : ReplayView) → slice_get pages cpu ≡ Some page → view_at pages cpu ≡ page.page
+view_is : (pages : List ReplayView) (cpu : ℕ) (page : ReplayView) → slice_get pages cpu ≡ Some page
+    → view_at pages cpu ≡ page.page
 view_is [] cpu page e = absurd cc
 view_is (p ∷ pages) zero page e = ap (λ (q : ReplayView). q.page) (same_Some p page e)
 view_is (p ∷ pages) (suc cpu) page e = view_is pages cpu page e
 
 -- the pages of all processors suffice beside each other
-pub all_gathered : (knobs : Settings) (r : RecordView) (places left : List (Option ReplayView)) (pages : List ReplayView)
+pub all_gathered : (knobs : Settings) (r : RecordView) (places left : List (Option ReplayView))
+    (pages : List ReplayView)
     (remade : ℕ) → AreGathered knobs r places left pages r.cpus remade → AreSufficient knobs r pages
 all_gathered knobs r places left pages remade g = record {
   count = g.count;
   each = λ cpu page e. beside cpu page (g.each cpu page e);
 }
   where
-    faulted : (line least : ℕ) → IsLeastFault knobs r places least → least ≤ line → HasFaultBy (view_at pages) (length pages) line
+    faulted : (line least : ℕ) → IsLeastFault knobs r places least → least ≤ line
+        → HasFaultBy (view_at pages) (length pages) line
     faulted line least first past =
         let f = first.there in
         let there = g.kept first.cpu f.page first.within f.stands
@@ -234,7 +254,8 @@ all_gathered knobs r places left pages remade g = record {
       enough = elim (reaches_how knobs r places page.page.fault page.page.line page.made (length page.stream.steps)
           h.suffices.enough) [
             | inl some ↦ inl some
-            | inr (inl all) ↦ inr (inl (subst (λ (s : StreamView). length s.steps ≤ page.made) h.suffices.own.stream all))
+            | inr (inl all) ↦ inr (inl (subst
+                (λ (s : StreamView). length s.steps ≤ page.made) h.suffices.own.stream all))
             | inr (inr past) ↦ inr (inr (faulted page.page.line past.0 past.1 past.2))
           ];
     }

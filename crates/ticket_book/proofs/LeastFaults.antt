@@ -1,5 +1,6 @@
 -- The least line of a fault on the record's own pages of the processors below a number, with one more processor's.
-use Rattle.std.proofs.Common.{◌≡◌, ℕ, ◌+◌, ◌<◌, ◌≤◌, min, IfNone, IfSome, List, Option, Some, None, sym, ap, ◌∙◌, subst, arith, inl, inr}
+use Rattle.std.proofs.Common.{◌≡◌, ℕ, ◌+◌, ◌<◌, ◌≤◌, min, IfNone, IfSome, List, Option, Some, None, sym, ap, ◌∙◌, subst}
+use Rattle.std.proofs.Common.{arith, inl, inr}
 use Rattle.std.proofs.lemmas.Bool.{cases_lt}
 use Rattle.std.proofs.lemmas.Option.{same_Some}
 use Rattle.cfs_model.specs.Settings.{Settings}
@@ -46,7 +47,8 @@ module _ (knobs : Settings) (r : RecordView) (places : List (Option ReplayView))
   }
 
   -- the next processor's line, where none before it has a lesser
-  next_least : (cpu line : ℕ) → At cpu line → ((other : ℕ) → other < cpu → (lesser : ℕ) → At other lesser → line ≤ lesser)
+  next_least : (cpu line : ℕ) → At cpu line
+      → ((other : ℕ) → other < cpu → (lesser : ℕ) → At other lesser → line ≤ lesser)
       → IsLeastFaultBelow knobs r places (cpu + 1) line
   next_least cpu line f before = record {
     cpu = cpu;
@@ -68,12 +70,14 @@ module _ (knobs : Settings) (r : RecordView) (places : List (Option ReplayView))
     | inl lt ↦
         (let same : line ≡ min least line = omega (arith, lt) in
         subst (IsLeastFaultBelow knobs r places (cpu + 1)) same
-        (next_least cpu line found (λ other k lesser f. (let low = l.least other lesser k f in omega (arith, low, lt)))))
+        (next_least cpu line found (λ other k lesser f. (let low = l.least other lesser k f in
+        omega (arith, low, lt)))))
     | inr le ↦
         (let same : least ≡ min least line = omega (arith, le) in
         subst (IsLeastFaultBelow knobs r places (cpu + 1)) same
         (still_least cpu least l (λ lesser f. (let is = one_line cpu line lesser found f in omega (arith, is, le)))))
   ]
 
-pub none_below_first : (knobs : Settings) (r : RecordView) (places : List (Option ReplayView)) → IsLeastFaultLine knobs r places 0 None
+pub none_below_first : (knobs : Settings) (r : RecordView) (places : List (Option ReplayView))
+    → IsLeastFaultLine knobs r places 0 None
 none_below_first knobs r places = none_yet knobs r places

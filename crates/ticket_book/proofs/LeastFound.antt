@@ -59,7 +59,8 @@ module _ (r : RecordView) (pages : List ReplayView) (sufficient : AreSufficient 
         let fault : page.page.fault ≡ None = ap (λ (v : PageView). v.fault) (sym p.2) ∙ whole.0 in
         let all : length page.stream.steps ≤ page.made =
         subst (λ (s : StreamView). length s.steps ≤ page.made) (sym own.stream) whole.1 in
-        subst (λ n. IsPageNeeding (cut_of r cpu) greatest_settings (view_at pages cpu) n) (sym (needs_there pages cpu page p.1))
+        subst (λ n. IsPageNeeding (cut_of r cpu) greatest_settings (view_at pages cpu) n)
+        (sym (needs_there pages cpu page p.1))
         (subst (λ v. IsPageNeeding (cut_of r cpu) greatest_settings v page.needs) (sym p.2)
         (subst (λ s. IsPageNeeding s greatest_settings page.page page.needs) own.stream
         (subst (λ k. IsPageNeeding page.stream k page.page page.needs) own.knobs_are (have cpu page p.1 fault all))))

@@ -1,5 +1,6 @@
 -- A set of pids that takes one in or out, as a function of pids: as the roll puts one.
-use Rattle.std.proofs.Common.{◌≡◌, ◌≢◌, ℕ, zero, suc, ℤ, nat_eq, Bool, true, false, cond, Option, Some, None, is_some, inl, inr, List, [], ◌∷◌, ◌++◌, refl, sym, ap, ◌∙◌, arith}
+use Rattle.std.proofs.Common.{◌≡◌, ◌≢◌, ℕ, zero, suc, ℤ, nat_eq, Bool, true, false, cond, Option, Some, None, is_some}
+use Rattle.std.proofs.Common.{inl, inr, List, [], ◌∷◌, ◌++◌, refl, sym, ap, ◌∙◌, arith}
 use Rattle.std.specs.Option.{option_or}
 use Rattle.std.specs.Ordering.{nat_cmp, is_eq}
 use Rattle.std.proofs.lemmas.Bool.{eq-eqb, ne_eqb}
@@ -66,7 +67,8 @@ one_named tasks t before after h k q =
 pub roll_ends : (alive : ℕ → Bool) (act : Act) (cpu prev : ℕ) (pn : ℤ) (way : Way) (next : ℕ) (nn : ℤ)
     → act ≡ Switch cpu prev pn way next nn → way ≡ Ends → prev ≢ 0
     → (q : ℕ) → put alive prev false q ≡ roll_after alive act q
-roll_ends alive act cpu prev pn way next nn is ends ne q = go prev ne ∙ ap (λ w. roll_after alive (Switch cpu prev pn w next nn) q) (sym ends)
+roll_ends alive act cpu prev pn way next nn is ends ne q = go prev ne
+    ∙ ap (λ w. roll_after alive (Switch cpu prev pn w next nn) q) (sym ends)
     ∙ ap (λ a. roll_after alive a q) (sym is)
   where
     go : (prev : ℕ) → prev ≢ 0 → put alive prev false q ≡ roll_after alive (Switch cpu prev pn Ends next nn) q

@@ -1,5 +1,6 @@
 -- Tasks that are named one after the other: there is one tally for each, in the order in which they were named first.
-use Rattle.std.proofs.Common.{◌≡◌, ◌≢◌, ℕ, ◌+◌, ◌<◌, Bool, true, false, not, ◌||◌, cond, eqb, List, [], ◌∷◌, ◌++◌, length, map, take, get_or, inl, inr, refl, sym, ap, ◌∙◌, append_assoc}
+use Rattle.std.proofs.Common.{◌≡◌, ◌≢◌, ℕ, ◌+◌, ◌<◌, Bool, true, false, not, ◌||◌, cond, eqb, List, [], ◌∷◌, ◌++◌}
+use Rattle.std.proofs.Common.{length, map, take, get_or, inl, inr, refl, sym, ap, ◌∙◌, append_assoc}
 use Rattle.std.specs.Prelude.{filter}
 use Rattle.std.specs.List.{list_any}
 use Rattle.std.proofs.lemmas.Bool.{eq-eqb, ne_eqb}
@@ -24,7 +25,8 @@ both_named xs ys sums now after first second =
     second ∙ ap (with_named ys) first ∙ sym (fold-append (λ named pid. with_tally pid named) sums xs ys)
 
 -- one more, along a list
-pub one_more_named : {X : Type 0} (pid_of : X → ℕ) (xs : List X) (i : ℕ) (x : X) (sums now after : List Tally) → i < length xs
+pub one_more_named : {X : Type 0} (pid_of : X → ℕ) (xs : List X) (i : ℕ) (x : X) (sums now after : List Tally)
+    → i < length xs
     → x ≡ get_or xs i x → now ≡ with_named (map pid_of (take i xs)) sums → after ≡ with_tally (pid_of x) now
     → after ≡ with_named (map pid_of (take (i + 1) xs)) sums
 one_more_named pid_of xs i x sums now after within is first second =
@@ -44,7 +46,8 @@ births_more events i event within is =
 pub births_claimed : (claims : List Claim) (nices : List NiceLine) (policy : Entry → Bool) (events : List Entry)
     → births_in events ≡ born_in (claimed claims nices policy events)
 births_claimed claims nices policy [] = refl
-births_claimed claims nices policy (event ∷ events) = ap (λ pids. born_by event.act ++ pids) (births_claimed claims nices policy events)
+births_claimed claims nices policy (event ∷ events) = ap (λ pids. born_by event.act
+    ++ pids) (births_claimed claims nices policy events)
 
 -- whether a pid is among some
 abbrev pub names_pid : List ℕ → ℕ → Bool
@@ -84,7 +87,8 @@ but_other false pids x pid ne =
     filter-append (λ other. not (eqb other x)) pids (pid ∷ [])
     ∙ ap (λ b. but x pids ++ cond (not b) (pid ∷ []) []) (ne_eqb pid x (λ e. ne (sym e)))
 
-cons_or : (b : Bool) (x pid : ℕ) (pids : List ℕ) → x ∷ cond b pids (pids ++ pid ∷ []) ≡ cond b (x ∷ pids) (x ∷ pids ++ pid ∷ [])
+cons_or : (b : Bool) (x pid : ℕ) (pids : List ℕ)
+    → x ∷ cond b pids (pids ++ pid ∷ []) ≡ cond b (x ∷ pids) (x ∷ pids ++ pid ∷ [])
 cons_or true x pid pids = refl
 cons_or false x pid pids = refl
 
@@ -95,23 +99,28 @@ each_once_push [] pid = refl
 each_once_push (x ∷ xs) pid = elim (same_or_not x pid) [
   | inl same ↦ ap (λ pids. x ∷ but x pids) (each_once_push xs pid)
       ∙ ap (λ pids. x ∷ pids) (but_at (names_pid xs pid) (each_once xs) x pid same)
-      ∙ ap (λ b. cond (b || names_pid xs pid) (each_once (x ∷ xs)) (each_once (x ∷ xs) ++ pid ∷ [])) (sym (eq-eqb x pid same))
+      ∙ ap (λ b. cond (b || names_pid xs pid) (each_once (x ∷ xs)) (each_once (x ∷ xs) ++ pid ∷ []))
+      (sym (eq-eqb x pid same))
   | inr ne ↦ ap (λ pids. x ∷ but x pids) (each_once_push xs pid)
       ∙ ap (λ pids. x ∷ pids) (but_other (names_pid xs pid) (each_once xs) x pid ne)
       ∙ cons_or (names_pid xs pid) x pid (but x (each_once xs))
-      ∙ ap (λ b. cond (b || names_pid xs pid) (each_once (x ∷ xs)) (each_once (x ∷ xs) ++ pid ∷ [])) (sym (ne_eqb x pid ne))
+      ∙ ap (λ b. cond (b || names_pid xs pid) (each_once (x ∷ xs)) (each_once (x ∷ xs) ++ pid ∷ []))
+      (sym (ne_eqb x pid ne))
 ]
 
-names_tally : (pids : List ℕ) (pid : ℕ) → list_any (λ (tally : Tally). eqb tally.pid pid) (map new_tally pids) ≡ names_pid pids pid
+names_tally : (pids : List ℕ) (pid : ℕ) → list_any (λ (tally : Tally). eqb tally.pid pid)
+    (map new_tally pids) ≡ names_pid pids pid
 names_tally [] pid = refl
 names_tally (x ∷ xs) pid = ap (λ b. eqb x pid || b) (names_tally xs pid)
 
 map_or : (b : Bool) (pids : List ℕ) (pid : ℕ)
-    → cond b (map new_tally pids) (map new_tally pids ++ new_tally pid ∷ []) ≡ map new_tally (cond b pids (pids ++ pid ∷ []))
+    → cond b (map new_tally pids) (map new_tally pids ++ new_tally pid ∷ []) ≡ map new_tally
+    (cond b pids (pids ++ pid ∷ []))
 map_or true pids pid = refl
 map_or false pids pid = sym (map-append new_tally pids (pid ∷ []))
 
-tally_once : (pids : List ℕ) (pid : ℕ) → with_tally pid (map new_tally (each_once pids)) ≡ map new_tally (each_once (pids ++ pid ∷ []))
+tally_once : (pids : List ℕ) (pid : ℕ) → with_tally pid (map new_tally (each_once pids)) ≡ map new_tally
+    (each_once (pids ++ pid ∷ []))
 tally_once pids pid =
     ap (λ b. cond b (map new_tally (each_once pids)) (map new_tally (each_once pids) ++ new_tally pid ∷ []))
     (names_tally (each_once pids) pid ∙ has_once pids pid)
@@ -125,8 +134,10 @@ named_once xs (y ∷ ys) =
     ∙ ap (λ pids. map new_tally (each_once pids)) (append_assoc xs (y ∷ []) ys)
 
 -- the tasks that the start names, and then those that are born
-pub all_named : (tasks : List Task) (claims : List Claim) (nices : List NiceLine) (policy : Entry → Bool) (events : List Entry)
-    (none named all : List Tally) → none ≡ [] → named ≡ with_named (map (λ task. task.pid) tasks) none → all ≡ with_named (births_in events) named
+pub all_named : (tasks : List Task) (claims : List Claim) (nices : List NiceLine) (policy : Entry
+    → Bool) (events : List Entry)
+    (none named all : List Tally) → none ≡ [] → named ≡ with_named (map (λ task. task.pid) tasks) none
+    → all ≡ with_named (births_in events) named
     → all ≡ map new_tally (tasks_of_run tasks (claimed claims nices policy events))
 all_named tasks claims nices policy events none named all empty first second =
     let pids : List ℕ = map (λ (task : Task). task.pid) tasks in

@@ -1,6 +1,8 @@
--- What is told of a book's places: one place more, a book whose pages are all the record's own, and the line of a fault at
--- one place.
-use Rattle.std.proofs.Common.{◌≡◌, ℕ, zero, suc, ◌<◌, ◌≤◌, Bool, true, false, IsTrue, IfNone, IfSome, List, [], ◌∷◌, ◌++◌, length, get_or, replicate, Option, Some, None, refl, sym, ap, ◌∙◌, subst, arith, inl, inr, ◌⊎◌}
+-- What is told of a book's places: one place more, a book whose pages are all the record's own, and the line of a fault
+-- at one place.
+use Rattle.std.proofs.Common.{◌≡◌, ℕ, zero, suc, ◌<◌, ◌≤◌, Bool, true, false, IsTrue, IfNone, IfSome, List, [], ◌∷◌}
+use Rattle.std.proofs.Common.{◌++◌, length, get_or, replicate, Option, Some, None, refl, sym, ap, ◌∙◌, subst, arith}
+use Rattle.std.proofs.Common.{inl, inr, ◌⊎◌}
 use Rattle.std.specs.Prelude.{option_map, slice_get}
 use Rattle.std.proofs.lemmas.Bool.{cases_lt, false≢true}
 use Rattle.std.proofs.lemmas.List.{length_push}
@@ -22,7 +24,8 @@ true_at (suc n) (suc cpu) own e = true_at n cpu own e
 
 module _ (knobs : Settings) (r : RecordView) (places : List (Option ReplayView)) where
   pub told_more : (owns : List Bool) (own : Bool) → AreToldOwn knobs r places owns
-      → IsToldOwn knobs r (length owns) (page_at places (length owns)) own → AreToldOwn knobs r places (owns ++ own ∷ [])
+      → IsToldOwn knobs r (length owns) (page_at places (length owns)) own
+      → AreToldOwn knobs r places (owns ++ own ∷ [])
   told_more owns own told here cpu b e = go (cases_lt cpu (length owns))
     where
       go : (cpu < length owns) ⊎ (length owns ≤ cpu) → IsToldOwn knobs r cpu (page_at places cpu) b
@@ -31,12 +34,14 @@ module _ (knobs : Settings) (r : RecordView) (places : List (Option ReplayView))
           let pushed = length_push owns own in
           let within = slice_get_within (owns ++ own ∷ []) cpu b e in
           let last : length owns ≡ cpu = omega (arith, ge, pushed, within) in
-          let same : own ≡ b = same_Some own b (sym (push_last owns own) ∙ ap (slice_get (owns ++ own ∷ [])) last ∙ e) in
+          let same : own ≡ b = same_Some own b (sym (push_last owns own) ∙ ap (slice_get (owns ++ own ∷ [])) last
+          ∙ e) in
           subst (λ (n : ℕ). IsToldOwn knobs r n (page_at places n) b) last
           (subst (λ (o : Bool). IsToldOwn knobs r (length owns) (page_at places (length owns)) o) same here)
 
   -- of the page that stands at a place
-  pub told_at : (owns : List Bool) (cpu : ℕ) (place : Option ReplayView) → AreToldOwn knobs r places owns → cpu < length owns
+  pub told_at : (owns : List Bool) (cpu : ℕ) (place : Option ReplayView) → AreToldOwn knobs r places owns
+      → cpu < length owns
       → place ≡ page_at places cpu → IsToldOwn knobs r cpu place (get_or owns cpu false)
   told_at owns cpu place told within is =
       subst (λ (p : Option ReplayView). IsToldOwn knobs r cpu p (get_or owns cpu false)) (sym is)
@@ -54,13 +59,15 @@ module _ (knobs : Settings) (r : RecordView) (cpu : ℕ) where
       → IfNone (own_line own place) ((line : ℕ) → ¬ HasFaultAt knobs r cpu place line)
   line_none own None told = λ line f. absurd (none-some f.page f.stands)
   line_none false (Some page) told = λ line f.
-      absurd (false≢true (told.1 (subst (λ (p : ReplayView). IsOwnPageOf knobs r cpu p) (sym (same_Some page f.page f.stands)) f.own)))
+      absurd (false≢true (told.1 (subst (λ (p : ReplayView). IsOwnPageOf knobs r cpu p)
+      (sym (same_Some page f.page f.stands)) f.own)))
   line_none true (Some page) told = go page.page.fault refl
     where
       go : (o : Option StepFault) → page.page.fault ≡ o
           → IfNone (option_map (λ fault. fault.line) o) ((line : ℕ) → ¬ HasFaultAt knobs r cpu (Some page) line)
       go None is = λ line f.
-          absurd (none-some f.fault (sym is ∙ ap (λ (p : ReplayView). p.page.fault) (same_Some page f.page f.stands) ∙ f.is_fault))
+          absurd (none-some f.fault (sym is ∙ ap (λ (p : ReplayView). p.page.fault) (same_Some page f.page f.stands)
+          ∙ f.is_fault))
       go (Some fault) is = tt
 
   pub line_some : (own : Bool) (place : Option ReplayView) → IsToldOwn knobs r cpu place own

@@ -1,5 +1,6 @@
 -- The tallies of a list of pages, added page after page.
-use Rattle.std.proofs.Common.{◌≡◌, ℕ, zero, suc, ◌+◌, ◌<◌, ◌≤◌, List, [], ◌∷◌, ◌++◌, length, map, get_or, All, inl, inr, refl, sym, ap, ◌∙◌, subst, append_assoc, arith}
+use Rattle.std.proofs.Common.{◌≡◌, ℕ, zero, suc, ◌+◌, ◌<◌, ◌≤◌, List, [], ◌∷◌, ◌++◌, length, map, get_or, All, inl, inr}
+use Rattle.std.proofs.Common.{refl, sym, ap, ◌∙◌, subst, append_assoc, arith}
 use Rattle.std.proofs.lemmas.Bool.{cases_lt}
 use Rattle.std.proofs.lemmas.List.{append-nil}
 use Rattle.std.proofs.lemmas.List.Elements.{All-map, All-weaker}
@@ -22,21 +23,24 @@ below_front pages few (suc many) h = elim (cases_lt few (suc many)) [
   | inl below ↦
       let front = below_front pages few many (omega arith) in (
         front.0 ++ (pages many).tallies,
-        sym (append_assoc (tallies_below pages few) front.0 (pages many).tallies) ∙ ap (λ l. l ++ (pages many).tallies) front.1,
+        sym (append_assoc (tallies_below pages few) front.0 (pages many).tallies)
+            ∙ ap (λ l. l ++ (pages many).tallies) front.1,
       )
   | inr above ↦
       let all : few ≡ suc many = omega arith in
       ([], append-nil (tallies_below pages few) ∙ ap (tallies_below pages) all)
 ]
 
-module _ (pages : List ReplayView) (i : ℕ) (page : ReplayView) (within : i < length pages) (is : page ≡ get_or pages i page)
+module _ (pages : List ReplayView) (i : ℕ) (page : ReplayView) (within : i < length pages)
+    (is : page ≡ get_or pages i page)
     (tallies : List Tally) (are : tallies ≡ page.page.tallies) (old sums : List Tally)
     (before : sums ≡ map (with_tallies (tallies_below (view_at pages) i)) old) where
   -- one page more
   more_below : tallies_below (view_at pages) i ++ tallies ≡ tallies_below (view_at pages) (i + 1)
   more_below =
       let next : suc i ≡ i + 1 = omega arith in
-      ap (λ l. tallies_below (view_at pages) i ++ l) (are ∙ ap (λ view. view.tallies) (sym (view_here pages i page within is)))
+      ap (λ l. tallies_below (view_at pages) i ++ l) (are
+      ∙ ap (λ view. view.tallies) (sym (view_here pages i page within is)))
       ∙ ap (tallies_below (view_at pages)) next
 
   pub page_fits : All (λ sum. FitsTally (with_tallies (tallies_below (view_at pages) (length pages)) sum)) old
@@ -44,7 +48,8 @@ module _ (pages : List ReplayView) (i : ℕ) (page : ReplayView) (within : i < l
   page_fits fits =
       let front = below_front (view_at pages) (i + 1) (length pages) (omega arith) in
       more_fit (tallies_below (view_at pages) i) tallies front.0 old sums before
-      (subst (λ l. All (λ sum. FitsTally (with_tallies l sum)) old) (sym (ap (λ l. l ++ front.0) more_below ∙ front.1)) fits)
+      (subst (λ l. All (λ sum. FitsTally (with_tallies l sum)) old)
+      (sym (ap (λ l. l ++ front.0) more_below ∙ front.1)) fits)
 
   pub page_added : (now : List Tally) → now ≡ map (with_tallies tallies) sums
       → now ≡ map (with_tallies (tallies_below (view_at pages) (i + 1))) old
@@ -55,7 +60,8 @@ module _ (pages : List ReplayView) (i : ℕ) (page : ReplayView) (within : i < l
 -- what some tallies say of a task that has done nothing yet
 total_added : (tallies : List Tally) (pid : ℕ) → with_tallies tallies (new_tally pid) ≡ total_of tallies pid
 total_added tallies pid =
-    same_tally (with_tallies tallies (new_tally pid)) (total_of tallies pid) refl (omega arith) (omega arith) (omega arith)
+    same_tally (with_tallies tallies (new_tally pid)) (total_of tallies pid) refl (omega arith) (omega arith)
+    (omega arith)
 
 pub totals_fit : (tallies : List Tally) (pids : List ℕ) → All (λ pid. FitsTally (total_of tallies pid)) pids
     → All (λ sum. FitsTally (with_tallies tallies sum)) (map new_tally pids)
@@ -64,7 +70,8 @@ totals_fit tallies pids fits =
     (All-weaker (λ pid. FitsTally (total_of tallies pid)) (λ pid. FitsTally (with_tallies tallies (new_tally pid)))
     (λ pid fit. subst FitsTally (sym (total_added tallies pid)) fit) pids fits)
 
-pub totals_added : (tallies : List Tally) (pids : List ℕ) → map (with_tallies tallies) (map new_tally pids) ≡ map (total_of tallies) pids
+pub totals_added : (tallies : List Tally) (pids : List ℕ)
+    → map (with_tallies tallies) (map new_tally pids) ≡ map (total_of tallies) pids
 totals_added tallies [] = refl
 totals_added tallies (pid ∷ pids) =
     ap (λ t. t ∷ map (with_tallies tallies) (map new_tally pids)) (total_added tallies pid)

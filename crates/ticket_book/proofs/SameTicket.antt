@@ -12,7 +12,15 @@ use Rattle.replay_model.specs.contracts.page.TicketPartialEq.TheImpl as ticket_e
 ticket_decides : (a b : Ticket) → Decides ((ticket_eq.ghosts).eq a b) (a ≡ b)
 ticket_decides a b =
     Decides-like _
-    (λ h i. record { line = h.0 i; pid = h.1.0 i; nice = h.1.1.0 i; idle = h.1.1.1.0 i; place = h.1.1.1.1.0 i; offset = h.1.1.1.1.1 i })
+    (λ h i. record {
+      line = h.0 i;
+      pid = h.1.0 i;
+      nice = h.1.1.0 i;
+      idle = h.1.1.1.0 i;
+      place = h.1.1.1.1.0 i;
+      offset =
+          h.1.1.1.1.1 i;
+    })
     (λ e. (cc, (cc, (cc, (cc, (cc, cc))))))
     (Decides-and _ _ (Decides-eqb a.line b.line) (Decides-and _ _ (Decides-eqb a.pid b.pid)
     (Decides-and _ _ (Decides-int_eq a.nice b.nice) (Decides-and _ _ (booleans_Decides a.idle b.idle)

@@ -1,6 +1,8 @@
 -- What the walk's answer at one event says in the words of the closing: by what the event does, and whether a page's
 -- fault is of it.
-use Rattle.std.proofs.Common.{◌≡◌, ◌≢◌, ℕ, ◌<◌, nat_eq, Bool, true, false, ◌||◌, cond, Option, Some, None, is_none, option_and_then, MatchOption, ℤ, inl, inr, List, [], ◌∷◌, length, refl, sym, ap, ◌∙◌, subst, ◌&&◌, true≢false}
+use Rattle.std.proofs.Common.{◌≡◌, ◌≢◌, ℕ, ◌<◌, nat_eq, Bool, true, false, ◌||◌, cond, Option, Some, None, is_none}
+use Rattle.std.proofs.Common.{option_and_then, MatchOption, ℤ, inl, inr, List, [], ◌∷◌, length, refl, sym, ap, ◌∙◌}
+use Rattle.std.proofs.Common.{subst, ◌&&◌, true≢false}
 use Rattle.std.specs.List.{AllByRecursion, list_any}
 use Rattle.std.specs.Option.{option_or}
 use Rattle.std.proofs.lemmas.Bool.{eqb-true, eq-eqb, ltb-true, lt-ltb}
@@ -32,7 +34,8 @@ failed_says event cpu line page on = go page.fault refl
 
     late : (fault : StepFault) (d : Option ℕ) → fault.deadline ≡ d → (b : Bool) → nat_eq fault.line line ≡ b
         → page.fault ≡ Some fault
-        → MatchOption (cond (is_none d && b) (Some (record { line = line; cpu = cpu; pid = fault.pid; kind = fault.kind })) None)
+        → MatchOption (cond (is_none d && b)
+        (Some (record { line = line; cpu = cpu; pid = fault.pid; kind = fault.kind })) None)
         (¬ FailsHere event (Some fault)) (λ found. IsPageCause event cpu page (cause_view found))
     late fault (Some d) is b at has = λ here. some_none d (sym is ∙ here.0)
     late fault None is true at has = record {
@@ -74,7 +77,8 @@ module _ (pages : ℕ → PageView) (alive : ℕ → Bool) (event : Claimed) whe
 
   -- an answer on an act, as the answer on what the act is
   abbrev pub Answers : Act → Option FirstFault → Type 0
-  Answers act o = MatchOption o (AllowAct pages alive event) (λ found. IsActCauseOf pages alive event act (cause_view found))
+  Answers act o = MatchOption o (AllowAct pages alive event)
+      (λ found. IsActCauseOf pages alive event act (cause_view found))
 
   module _ (line : ℕ) (on : event.entry.line ≡ line) where
     pub switch_said : (act : Act) (cpu prev : ℕ) (pn : ℤ) (way : Way) (next : ℕ) (nn : ℤ) → event.entry.act ≡ act
@@ -102,7 +106,8 @@ module _ (pages : ℕ → PageView) (alive : ℕ → Bool) (event : Claimed) whe
     pub birth_said : (act : Act) (cpu pid : ℕ) (nice : ℤ) → event.entry.act ≡ act → act ≡ Born cpu pid nice
         → Answers act (option_or (failed_on cpu line (pages cpu).fault) (born_twice_on cpu pid line (alive pid)))
     birth_said act cpu pid nice does is =
-        subst (λ a. Answers a (option_or (failed_on cpu line (pages cpu).fault) (born_twice_on cpu pid line (alive pid)))) (sym is)
+        subst (λ a. Answers a (option_or (failed_on cpu line (pages cpu).fault)
+        (born_twice_on cpu pid line (alive pid)))) (sym is)
         (go (failed_on cpu line (pages cpu).fault) (failed_says event cpu line (pages cpu) on) (alive pid) refl)
       where
         go : (o : Option FirstFault) → MatchOption o (¬ FailsHere event (pages cpu).fault)
@@ -114,11 +119,13 @@ module _ (pages : ℕ → PageView) (alive : ℕ → Bool) (event : Claimed) whe
 
     pub shift_said : (act : Act) (orig dest pid : ℕ) (nice : ℤ) → event.entry.act ≡ act → act ≡ Shift orig dest pid nice
         → (o : Option FirstFault)
-        → MatchOption o (AllowShift pages orig dest event) (λ found. IsShiftCause pages orig dest pid event (cause_view found))
+        → MatchOption o (AllowShift pages orig dest event)
+        (λ found. IsShiftCause pages orig dest pid event (cause_view found))
         → Answers act o
     shift_said act orig dest pid nice does is None h =
         allow act does (subst (λ a. AllByRecursion (λ cpu. ¬ FailsHere event (pages cpu).fault) (touched a)) (sym is)
-        (h.leaves, (h.comes, tt))) (subst (TicketsAgree pages event.entry.line) (sym is) h.agree) (subst (BirthIsNew alive) (sym is) tt)
+        (h.leaves, (h.comes, tt))) (subst (TicketsAgree pages event.entry.line) (sym is) h.agree)
+        (subst (BirthIsNew alive) (sym is) tt)
     shift_said act orig dest pid nice does is (Some found) h =
         subst (λ a. IsActCauseOf pages alive event a (cause_view found)) (sym is) h
 

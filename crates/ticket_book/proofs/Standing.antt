@@ -1,5 +1,6 @@
 -- Where a walk stands: places that move on still stand before the line, and before each later one.
-use Rattle.std.proofs.Common.{◌≡◌, ℕ, ◌<◌, ◌≤◌, List, length, take, inl, inr, sym, ap, ◌∙◌, subst, arith, get_or-set_same, get_or-set_other}
+use Rattle.std.proofs.Common.{◌≡◌, ℕ, ◌<◌, ◌≤◌, List, length, take, inl, inr, sym, ap, ◌∙◌, subst, arith}
+use Rattle.std.proofs.Common.{get_or-set_same, get_or-set_other}
 use Rattle.std.specs.Prelude.{slice_index}
 use Rattle.std.proofs.Math.ListN.{length-set}
 use Rattle.cfs_model.proofs.Moves.{same_or_not}
@@ -26,7 +27,8 @@ one_moved tickets pages line cpu before after behind within passes =
         | inl e ↦ subst (λ c. AreBelow line (take (slice_index after c) (tickets (view_at pages c)))) (sym e)
             (subst (λ n. AreBelow line (take n (tickets (view_at pages cpu)))) (sym same) passes.passed)
         | inr ne ↦ subst (λ n. AreBelow line (take n (tickets (view_at pages other))))
-            (sym (ap (λ xs. slice_index xs other) passes.moved ∙ get_or-set_other before cpu other place 0 ne)) (behind.below other h)
+            (sym (ap (λ xs. slice_index xs other) passes.moved ∙ get_or-set_other before cpu other place 0 ne))
+            (behind.below other h)
       ];
     }
 

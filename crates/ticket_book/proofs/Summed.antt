@@ -19,7 +19,8 @@ use Rattle.ticket_book.proofs.Counting.{count_claimed}
 use Rattle.ticket_book.proofs.Naming.{all_named}
 use Rattle.ticket_book.proofs.PagesAdded.{totals_added}
 
-module _ (r : RecordView) (tasks : List Task) (events : List Entry) (are_tasks : tasks ≡ r.tasks) (are_events : events ≡ r.events) where
+module _ (r : RecordView) (tasks : List Task) (events : List Entry) (are_tasks : tasks ≡ r.tasks)
+    (are_events : events ≡ r.events) where
   -- the sums of a record's tasks, before any tally is added
   pub tasks_named : (none named all : List Tally) → none ≡ [] → named ≡ with_named (map (λ task. task.pid) tasks) none
       → all ≡ with_named (births_in events) named → all ≡ map new_tally (tasks_of_run r.tasks (events_of r))

@@ -1,8 +1,10 @@
--- The tasks of a processor, compared one by one with those of the record that stand there: while all were equal, the first
--- ones are those of the tasks walked. Where one differs, no later task mends it.
-use Rattle.std.proofs.Common.{◌≡◌, ◌≢◌, ℕ, ◌+◌, ◌<◌, ◌≤◌, List, [], ◌∷◌, ◌++◌, length, take, drop, get_or, Bool, true, false, cond, eqb, not, refl, sym, ap, ◌∙◌, arith}
+-- The tasks of a processor, compared one by one with those of the record that stand there: while all were equal, the
+-- first ones are those of the tasks walked. Where one differs, no later task mends it.
+use Rattle.std.proofs.Common.{◌≡◌, ◌≢◌, ℕ, ◌+◌, ◌<◌, ◌≤◌, List, [], ◌∷◌, ◌++◌, length, take, drop, get_or, Bool, true}
+use Rattle.std.proofs.Common.{false, cond, eqb, not, refl, sym, ap, ◌∙◌, arith}
 use Rattle.std.proofs.lemmas.Bool.Decides.{Decides-at, Decides-not}
-use Rattle.std.proofs.lemmas.List.{append-nil, get_or_append_left, get_or_push, length-append, length_push, take-append-drop, take_more}
+use Rattle.std.proofs.lemmas.List.{append-nil, get_or_append_left, get_or_push, length-append, length_push}
+use Rattle.std.proofs.lemmas.List.{take-append-drop, take_more}
 use Rattle.std.proofs.lemmas.List.Elements.{filter-append}
 use Rattle.cfs_model.specs.declared.task.Task.{Task}
 use Rattle.cfs_model.specs.contracts.task.TaskPartialEq.TheImpl as task_eq
@@ -19,10 +21,12 @@ pub same_task : (a b : Task) (r : Bool) → r ≡ not ((task_eq.ghosts).eq a b) 
 same_task a b r is e = (task_decides a b).0 (true_of_not ((task_eq.ghosts).eq a b) (sym is ∙ e))
 
 pub other_task : (a b : Task) (r : Bool) → r ≡ not ((task_eq.ghosts).eq a b) → r ≡ true → a ≢ b
-other_task a b r is e = (Decides-at r (not ((task_eq.ghosts).eq a b)) is (Decides-not ((task_eq.ghosts).eq a b) (task_decides a b))).0 e
+other_task a b r is e = (Decides-at r (not ((task_eq.ghosts).eq a b)) is
+    (Decides-not ((task_eq.ghosts).eq a b) (task_decides a b))).0 e
 
 -- one more task, which stands there or doesn't
-pub tasks_more : (cpu : ℕ) (tasks : List Task) (i : ℕ) (task : Task) (b : Bool) → i < length tasks → task ≡ get_or tasks i task
+pub tasks_more : (cpu : ℕ) (tasks : List Task) (i : ℕ) (task : Task) (b : Bool) → i < length tasks
+    → task ≡ get_or tasks i task
     → eqb task.cpu cpu ≡ b → tasks_at cpu (take (i + 1) tasks) ≡ tasks_at cpu (take i tasks) ++ cond b (task ∷ []) []
 tasks_more cpu tasks i task b h is here =
     ap (tasks_at cpu) (take_more tasks i task h ∙ ap (λ t. take i tasks ++ t ∷ []) (sym is))
@@ -30,7 +34,8 @@ tasks_more cpu tasks i task b h is here =
     ∙ ap (λ c. tasks_at cpu (take i tasks) ++ cond c (task ∷ []) []) here
 
 -- one that differs, or that is one too many
-pub tasks_differ : (cpu : ℕ) (tasks here : List Task) (i place : ℕ) (task : Task) → i < length tasks → task ≡ get_or tasks i task
+pub tasks_differ : (cpu : ℕ) (tasks here : List Task) (i place : ℕ) (task : Task) → i < length tasks
+    → task ≡ get_or tasks i task
     → eqb task.cpu cpu ≡ true → place ≡ length (tasks_at cpu (take i tasks))
     → (place < length here → get_or here place task ≡ task → ⊥) → here ≢ tasks_at cpu tasks
 tasks_differ cpu tasks here i place task h is stands count differs same =
@@ -54,8 +59,10 @@ pub record HasWalked (cpu : ℕ) (tasks here : List Task) (place : ℕ) : Type 0
   pub same : tasks_at cpu tasks ≡ take place here
 
 -- one that stands there, and is the same
-pub walked_here : (cpu : ℕ) (tasks here : List Task) (i place : ℕ) (task : Task) → i < length tasks → task ≡ get_or tasks i task
-    → eqb task.cpu cpu ≡ true → HasWalked cpu (take i tasks) here place → place < length here → get_or here place task ≡ task
+pub walked_here : (cpu : ℕ) (tasks here : List Task) (i place : ℕ) (task : Task) → i < length tasks
+    → task ≡ get_or tasks i task
+    → eqb task.cpu cpu ≡ true → HasWalked cpu (take i tasks) here place → place < length here
+    → get_or here place task ≡ task
     → HasWalked cpu (take (i + 1) tasks) here (place + 1)
 walked_here cpu tasks here i place task h is stands walked more equal =
     let front = tasks_at cpu (take i tasks) in
@@ -64,7 +71,8 @@ walked_here cpu tasks here i place task h is stands walked more equal =
     record { within = omega (arith, more); count = next.0 ∙ ap length (sym push); same = push ∙ next.1 }
 
 -- one that stands elsewhere
-pub walked_past : (cpu : ℕ) (tasks here : List Task) (i place : ℕ) (task : Task) → i < length tasks → task ≡ get_or tasks i task
+pub walked_past : (cpu : ℕ) (tasks here : List Task) (i place : ℕ) (task : Task) → i < length tasks
+    → task ≡ get_or tasks i task
     → eqb task.cpu cpu ≡ false → HasWalked cpu (take i tasks) here place → HasWalked cpu (take (i + 1) tasks) here place
 walked_past cpu tasks here i place task h is stands walked =
     let same = tasks_more cpu tasks i task false h is stands ∙ append-nil (tasks_at cpu (take i tasks)) in

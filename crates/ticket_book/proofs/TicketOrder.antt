@@ -1,6 +1,7 @@
 -- The lines of the tickets on a page never fall: each step that passes adds at most one, of its own line, and the lines
 -- of a stream's steps rise.
-use Rattle.std.proofs.Common.{◌≡◌, ℕ, zero, suc, ◌+◌, ◌<◌, ◌≤◌, nat_lt, nat_le, Bool, true, false, cond, Option, Some, None, inl, inr, List, [], ◌∷◌, ◌++◌, length, take, All, refl, sym, ap, ◌∙◌, subst, arith}
+use Rattle.std.proofs.Common.{◌≡◌, ℕ, zero, suc, ◌+◌, ◌<◌, ◌≤◌, nat_lt, nat_le, Bool, true, false, cond, Option, Some}
+use Rattle.std.proofs.Common.{None, inl, inr, List, [], ◌∷◌, ◌++◌, length, take, All, refl, sym, ap, ◌∙◌, subst, arith}
 use Rattle.std.specs.Prelude.{slice_get}
 use Rattle.std.specs.List.{AllByRecursion, AllPairs}
 use Rattle.std.proofs.lemmas.List.Elements.{All-from_recursion}
@@ -9,7 +10,8 @@ use Rattle.replay_model.specs.Cut.{StreamView}
 use Rattle.replay_model.specs.Noted.{PageView}
 use Rattle.replay_model.specs.Page.{ReplayStateView, IsStartOf, IsReplayStep, IsReplay, IsPageOf, end_page}
 use Rattle.replay_model.specs.Part.{Part}
-use Rattle.replay_model.proofs.TicketLines.{IsTickets, all_append, all_map, came_of, came_tickets, left_of, left_tickets}
+use Rattle.replay_model.proofs.TicketLines.{IsTickets, all_append, all_map, came_of, came_tickets, left_of}
+use Rattle.replay_model.proofs.TicketLines.{left_tickets}
 use Rattle.cfs_model.specs.declared.kind.Kind.TheVariants.{IdleTooLong}
 use Rattle.replay_model.specs.declared.page.StepFault.{StepFault}
 use Rattle.replay_model.specs.declared.page.Ticket.{Ticket}
@@ -37,17 +39,20 @@ StepsFrom line (step ∷ steps) = (line ≤ step.line) × StepsFrom step.line st
 rise_one : (line : ℕ) (ts : List Ticket) → AllByRecursion (λ (t : Ticket). t.line ≡ line) ts → LinesNeverFall ts
 rise_one line [] each = tt
 rise_one line (t ∷ ts) each = (
-  all_map (λ u. u.line ≡ line) (λ u. t.line ≤ u.line) (λ u e. let here : t.line ≡ line = each.0 in omega arith) ts each.1,
+  all_map (λ u. u.line ≡ line) (λ u. t.line ≤ u.line) (λ u e. let here : t.line ≡ line = each.0 in
+      omega arith) ts each.1,
   rise_one line ts each.1,
 )
 
 -- tickets of a line not below theirs, behind
-rise_append : (low line : ℕ) (xs ys : List Ticket) → LinesNeverFall xs → AllByRecursion (λ (t : Ticket). t.line ≤ low) xs
+rise_append : (low line : ℕ) (xs ys : List Ticket) → LinesNeverFall xs
+    → AllByRecursion (λ (t : Ticket). t.line ≤ low) xs
     → AllByRecursion (λ (t : Ticket). t.line ≡ line) ys → low ≤ line → LinesNeverFall (xs ++ ys)
 rise_append low line [] ys rise each same le = rise_one line ys same
 rise_append low line (x ∷ xs) ys rise each same le = (
   all_append (λ u. x.line ≤ u.line) xs ys rise.0
-      (all_map (λ u. u.line ≡ line) (λ u. x.line ≤ u.line) (λ u e. let here : x.line ≤ low = each.0 in omega arith) ys same),
+      (all_map (λ u. u.line ≡ line) (λ u. x.line ≤ u.line) (λ u e. let here : x.line ≤ low = each.0 in
+      omega arith) ys same),
   rise_append low line xs ys rise.1 each.1 same le,
 )
 
@@ -94,7 +99,8 @@ module _ (tickets : PageView → List Ticket) (by : Part → Step → List Ticke
       subst (λ (s : ReplayStateView). Keep step.line s.page) (sym same) (keep_later line step.line before.page le keep)
   one_step knobs cpu line None before step after le (inr fails) keep =
       subst (λ (s : ReplayStateView). Keep step.line s.page) (sym fails.result)
-      (subst (λ ts. LinesNeverFall ts × AllByRecursion (λ (t : Ticket). t.line ≤ step.line) ts) (sym (kept before.page _))
+      (subst (λ ts. LinesNeverFall ts × AllByRecursion (λ (t : Ticket). t.line ≤ step.line) ts)
+      (sym (kept before.page _))
       (keep_later line step.line before.page le keep))
   one_step knobs cpu line None before step after le (inl passes) keep =
       let grown = ap tickets passes.page ∙ is.grows before.page before.part passes.found step in
@@ -103,11 +109,14 @@ module _ (tickets : PageView → List Ticket) (by : Part → Step → List Ticke
         rise_append line step.line (tickets before.page) (by passes.found step) keep.0 keep.1 same le,
         all_append (λ t. t.line ≤ step.line) (tickets before.page) (by passes.found step)
             (keep_later line step.line before.page le keep).1
-            (all_map (λ t. t.line ≡ step.line) (λ t. t.line ≤ step.line) (λ t e. omega arith) (by passes.found step) same),
+            (all_map (λ t. t.line ≡ step.line) (λ t. t.line ≤ step.line) (λ t e. omega arith)
+            (by passes.found step) same),
       )
 
-  rise_by_steps : (knobs : Settings) (cpu line : ℕ) (before : ReplayStateView) (steps : List Step) (end : ReplayStateView)
-      → StepsFrom line steps → IsReplay knobs cpu before steps end → Keep line before.page → LinesNeverFall (tickets end.page)
+  rise_by_steps : (knobs : Settings) (cpu line : ℕ) (before : ReplayStateView) (steps : List Step)
+      (end : ReplayStateView)
+      → StepsFrom line steps → IsReplay knobs cpu before steps end → Keep line before.page
+      → LinesNeverFall (tickets end.page)
   rise_by_steps knobs cpu line before [] end from replay keep =
       subst (λ (s : ReplayStateView). LinesNeverFall (tickets s.page)) (sym replay) keep.0
   rise_by_steps knobs cpu line before (step ∷ steps) end from replay keep =
@@ -122,7 +131,15 @@ module _ (tickets : PageView → List Ticket) (by : Part → Step → List Ticke
   end_kept slack stream (Some since) None page = go (nat_lt (since + slack) stream.last_time)
     where
       go : (b : Bool) → tickets (cond b
-          (record page { fault = Some (record { line = stream.last_line; kind = IdleTooLong; pid = 0; deadline = Some (since + slack) }) })
+          (record page {
+            fault = Some (record {
+              line = stream.last_line;
+              kind = IdleTooLong;
+              pid = 0;
+              deadline =
+                  Some (since + slack);
+            });
+          })
           page) ≡ tickets page
       go true = kept page _
       go false = refl
@@ -133,21 +150,25 @@ module _ (tickets : PageView → List Ticket) (by : Part → Step → List Ticke
       → IsPageOf stream knobs made page → LinesNeverFall (tickets page)
   rise_on stream knobs made page from none start is_page =
       let risen = rise_by_steps knobs stream.cpu 0 is_page.start (take made stream.steps) is_page.end
-      (steps_take made 0 stream.steps from) is_page.replay (none is_page.start.page (start is_page.start is_page.is_start)) in
+      (steps_take made 0 stream.steps from) is_page.replay
+      (none is_page.start.page (start is_page.start is_page.is_start)) in
       subst LinesNeverFall (sym (ap tickets is_page.result ∙ go (nat_le (length stream.steps) made))) risen
     where
-      go : (b : Bool) → tickets (cond b (end_page knobs.slack stream is_page.end.since is_page.end.page.fault is_page.end.page)
+      go : (b : Bool) → tickets
+          (cond b (end_page knobs.slack stream is_page.end.since is_page.end.page.fault is_page.end.page)
           is_page.end.page) ≡ tickets is_page.end.page
       go true = end_kept knobs.slack stream is_page.end.since is_page.end.page.fault is_page.end.page
       go false = refl
 
-  rise_of : (page : ReplayView) → IsPageInOrder page → ((s : ReplayStateView) → IsStartOf page.stream s → tickets s.page ≡ [])
+  rise_of : (page : ReplayView) → IsPageInOrder page
+      → ((s : ReplayStateView) → IsStartOf page.stream s → tickets s.page ≡ [])
       → AllPairs (λ t u. t.line ≤ u.line) (tickets page.page)
   rise_of page own start =
       pairs_from (tickets page.page)
       (rise_on page.stream page.knobs page.made page.page
       (steps_from 0 page.stream.steps (λ k d lt. omega arith) own.lines)
-      (λ view none. subst (λ ts. LinesNeverFall ts × AllByRecursion (λ (t : Ticket). t.line ≤ 0) ts) (sym none) (tt, tt)) start own.is_page)
+      (λ view none. subst (λ ts. LinesNeverFall ts × AllByRecursion (λ (t : Ticket). t.line ≤ 0) ts) (sym none)
+      (tt, tt)) start own.is_page)
 
 -- each of the pages is the page of its stream
 abbrev pub ArePagesInOrder : List ReplayView → Type 0
@@ -157,16 +178,20 @@ others : (page : ReplayView) (pages : List ReplayView) → ArePagesInOrder (page
 others page pages own cpu p is = own (suc cpu) p is
 
 -- those that left, and those that came
-all_left : (pages : List ReplayView) → ArePagesInOrder pages → (cpu : ℕ) → AllPairs (λ t u. t.line ≤ u.line) (view_at pages cpu).left
+all_left : (pages : List ReplayView) → ArePagesInOrder pages → (cpu : ℕ)
+    → AllPairs (λ t u. t.line ≤ u.line) (view_at pages cpu).left
 all_left [] own cpu = λ i j d lt within. absurd (omega arith)
 all_left (page ∷ pages) own zero =
-    rise_of (λ view. view.left) left_of left_tickets (λ view o. refl) page (own 0 page refl) (λ s start. ap (λ view. view.left) start.page)
+    rise_of (λ view. view.left) left_of left_tickets (λ view o. refl) page (own 0 page refl)
+    (λ s start. ap (λ view. view.left) start.page)
 all_left (page ∷ pages) own (suc cpu) = all_left pages (others page pages own) cpu
 
-all_came : (pages : List ReplayView) → ArePagesInOrder pages → (cpu : ℕ) → AllPairs (λ t u. t.line ≤ u.line) (view_at pages cpu).came
+all_came : (pages : List ReplayView) → ArePagesInOrder pages → (cpu : ℕ)
+    → AllPairs (λ t u. t.line ≤ u.line) (view_at pages cpu).came
 all_came [] own cpu = λ i j d lt within. absurd (omega arith)
 all_came (page ∷ pages) own zero =
-    rise_of (λ view. view.came) came_of came_tickets (λ view o. refl) page (own 0 page refl) (λ s start. ap (λ view. view.came) start.page)
+    rise_of (λ view. view.came) came_of came_tickets (λ view o. refl) page (own 0 page refl)
+    (λ s start. ap (λ view. view.came) start.page)
 all_came (page ∷ pages) own (suc cpu) = all_came pages (others page pages own) cpu
 
 pub own_tickets_rise : (pages : List ReplayView) → ArePagesInOrder pages → TicketsRise pages

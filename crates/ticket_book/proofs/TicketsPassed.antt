@@ -1,5 +1,6 @@
 -- Of tickets whose lines rise, the ticket of a line is at the first place that isn't below it.
-use Rattle.std.proofs.Common.{◌≡◌, ℕ, zero, suc, ◌+◌, ◌-◌, ◌<◌, ◌≤◌, cond, inl, inr, ◌⊎◌, Some, None, List, [], ◌∷◌, length, get_or, min, take, drop, refl, sym, ap, subst, ◌∙◌, suc-le-suc, arith}
+use Rattle.std.proofs.Common.{◌≡◌, ℕ, zero, suc, ◌+◌, ◌-◌, ◌<◌, ◌≤◌, cond, inl, inr, ◌⊎◌, Some, None, List, [], ◌∷◌}
+use Rattle.std.proofs.Common.{length, get_or, min, take, drop, refl, sym, ap, subst, ◌∙◌, suc-le-suc, arith}
 use Rattle.std.specs.Prelude.{All, nat_lt, slice_get}
 use Rattle.std.specs.List.{AllPairs, prefix_len}
 use Rattle.std.proofs.lemmas.Bool.{eq-eqb, ne_eqb, cases_lt, ltb-true, ltb-false}
@@ -44,12 +45,14 @@ first_looked_at ts from = min from (length ts)
 
 -- what stands before a place that moved on past tickets below the line
 pub passed_to : (line : ℕ) (ts : List Ticket) (from place : ℕ) → AreBelow line (take from ts)
-    → place ≡ first_looked_at ts from + prefix_len (λ (t : Ticket). nat_lt t.line line) (drop (first_looked_at ts from) ts)
+    → place ≡ first_looked_at ts from + prefix_len (λ (t : Ticket). nat_lt t.line line)
+    (drop (first_looked_at ts from) ts)
     → AreBelow line (take place ts)
 passed_to line ts from place before is k d h =
     let size = length-take place ts in
     let within : k < place = omega (arith, size, h) in
-    subst (λ (t : Ticket). t.line < line) (sym (get_or-take place ts k d within)) (go (cases_lt k (first_looked_at ts from)))
+    subst (λ (t : Ticket). t.line < line) (sym (get_or-take place ts k d within))
+    (go (cases_lt k (first_looked_at ts from)))
   where
     go : (k < first_looked_at ts from) ⊎ (first_looked_at ts from ≤ k) → (get_or ts k d).line < line
     go (inl early) =
@@ -59,9 +62,11 @@ passed_to line ts from place before is k d h =
         subst (λ (t : Ticket). t.line < line) (get_or-take from ts k d less) (before k d short)
     go (inr late) =
         let size = length-take place ts in
-        let below : k - first_looked_at ts from < prefix_len (λ (t : Ticket). nat_lt t.line line) (drop (first_looked_at ts from) ts) =
+        let below : k - first_looked_at ts from < prefix_len (λ (t : Ticket). nat_lt t.line line)
+        (drop (first_looked_at ts from) ts) =
         omega (arith, is, late, h, size) in
-        let passes = prefix_len_passes (λ (t : Ticket). nat_lt t.line line) (drop (first_looked_at ts from) ts) (k - first_looked_at ts from) d below in
+        let passes = prefix_len_passes (λ (t : Ticket). nat_lt t.line line) (drop (first_looked_at ts from) ts)
+        (k - first_looked_at ts from) d below in
         let e : first_looked_at ts from + (k - first_looked_at ts from) ≡ k = omega (arith, late) in
         subst (λ (t : Ticket). t.line < line)
         (get_or-drop (first_looked_at ts from) ts (k - first_looked_at ts from) d ∙ ap (λ i. get_or ts i d) e)
@@ -69,14 +74,17 @@ passed_to line ts from place before is k d h =
 
 -- and what stands there isn't below it
 pub stops_at : (line : ℕ) (ts : List Ticket) (from place : ℕ)
-    → place ≡ first_looked_at ts from + prefix_len (λ (t : Ticket). nat_lt t.line line) (drop (first_looked_at ts from) ts)
+    → place ≡ first_looked_at ts from + prefix_len (λ (t : Ticket). nat_lt t.line line)
+    (drop (first_looked_at ts from) ts)
     → (d : Ticket) → place < length ts → line ≤ (get_or ts place d).line
 stops_at line ts from place is d h =
     let size = length-drop (first_looked_at ts from) ts in
-    let within : prefix_len (λ (t : Ticket). nat_lt t.line line) (drop (first_looked_at ts from) ts) < length (drop (first_looked_at ts from) ts) =
+    let within : prefix_len (λ (t : Ticket). nat_lt t.line line) (drop (first_looked_at ts from) ts) < length
+    (drop (first_looked_at ts from) ts) =
     omega (arith, is, h, size) in
     let stops = prefix_len_stops (λ (t : Ticket). nat_lt t.line line) (drop (first_looked_at ts from) ts) d within in
     subst (λ (t : Ticket). line ≤ t.line)
-    (get_or-drop (first_looked_at ts from) ts (prefix_len (λ (t : Ticket). nat_lt t.line line) (drop (first_looked_at ts from) ts)) d
+    (get_or-drop (first_looked_at ts from) ts
+    (prefix_len (λ (t : Ticket). nat_lt t.line line) (drop (first_looked_at ts from) ts)) d
     ∙ ap (λ i. get_or ts i d) (sym is))
     (ltb-false _ _ stops)

@@ -1,5 +1,6 @@
 -- What pages that suffice tell of a record is the verdict on it.
-use Rattle.std.proofs.Common.{◌≡◌, ℕ, zero, suc, ◌^◌, ◌<◌, ◌≤◌, Some, IsSome, ◌⊎◌, List, [], ◌∷◌, length, get_or, All, refl, sym, subst, arith}
+use Rattle.std.proofs.Common.{◌≡◌, ℕ, zero, suc, ◌^◌, ◌<◌, ◌≤◌, Some, IsSome, ◌⊎◌, List, [], ◌∷◌, length, get_or, All}
+use Rattle.std.proofs.Common.{refl, sym, subst, arith}
 use Rattle.std.specs.Prelude.{slice_get}
 use Rattle.std.specs.List.{AllPairs}
 use Rattle.std.proofs.lemmas.List.{length-map}
@@ -85,9 +86,11 @@ module _ (knobs : Settings) (r : RecordView) (pages : List ReplayView) (sufficie
   pub fault_is_verdict : PagesTellFault → IsRecordInOrder r → (fault : FirstFault)
       → Tell (view_at pages) (length pages) r.tasks (events_of r) (Some fault) → IsVerdict knobs r (Fault fault)
   fault_is_verdict faults o fault tell =
-      subst (λ n. IsFirstFault knobs r.start (start_machine r.start r.floors r.tasks) (events_of r) n (cause_view fault))
+      subst (λ n. IsFirstFault knobs r.start (start_machine r.start r.floors r.tasks) (events_of r) n
+      (cause_view fault))
       tell.line_is
-      (faults knobs r.start r.floors r.tasks (events_of r) tell.before tell.rest tell.event (length pages) (view_at pages)
+      (faults knobs r.start r.floors r.tasks (events_of r) tell.before tell.rest tell.event (length pages)
+      (view_at pages)
       (cause_view fault) (in_record o) all_suffice tell.whole tell.nothing tell.why)
 
   module _ (o : IsRecordInOrder r)
@@ -102,7 +105,8 @@ module _ (knobs : Settings) (r : RecordView) (pages : List ReplayView) (sufficie
         (in_record o) all_suffice nothing)
 
     -- and no sum of their tallies is too great
-    pub sums_fit : PagesAddUp → TalliesBounded → (last_time last_line : ℕ) → last_time ≡ record_last_time r → last_time < 2 ^ 64
+    pub sums_fit : PagesAddUp → TalliesBounded → (last_time last_line : ℕ) → last_time ≡ record_last_time r
+        → last_time < 2 ^ 64
         → last_line ≡ record_last_line r → last_line < 2 ^ 32 → (pids : List ℕ)
         → All (λ pid. FitsTally (total_of (tallies_below (view_at pages) (length pages)) pid)) pids
     sums_fit add_up bounded last_time last_line time_is time line_is line pids k d h =
@@ -116,7 +120,8 @@ module _ (knobs : Settings) (r : RecordView) (pages : List ReplayView) (sufficie
         omega (arith, n, few, line_is, line)) time
         (bounded knobs r.start r.floors r.tasks (events_of r) last_time pid (in_record o).is_start
         (times_below r.claims r.nices (policy_of r) r.events last_time
-        (λ j e w. let below = last_greatest (λ (event : Entry). event.time) r.events r.start o.events.never_falls j e w in
+        (λ j e w. let below = last_greatest
+        (λ (event : Entry). event.time) r.events r.start o.events.never_falls j e w in
         omega (arith, below, time_is))) added.0))
 
   -- the tickets on each page are in the order of their lines
@@ -125,6 +130,8 @@ module _ (knobs : Settings) (r : RecordView) (pages : List ReplayView) (sufficie
       own_tickets_rise pages
       (λ cpu page is. record {
         is_page = (sufficient.each cpu page is).is_page;
-        lines = subst (λ (s : StreamView). AllPairs (λ a b. a.line < b.line) s.steps) (sym (sufficient.each cpu page is).stream)
-            (share_of_record r cpu o (let h = slice_get_within pages cpu page is in let n = sufficient.count in omega arith)).lines_rise;
+        lines = subst (λ (s : StreamView). AllPairs (λ a b. a.line < b.line) s.steps)
+            (sym (sufficient.each cpu page is).stream)
+            (share_of_record r cpu o (let h = slice_get_within pages cpu page is in let n = sufficient.count in
+            omega arith)).lines_rise;
       })

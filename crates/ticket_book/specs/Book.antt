@@ -1,5 +1,6 @@
 -- A book of pages, as contracts see it (this project's profile).
-use Rattle.std.specs.Prelude.{◌≡◌, ℕ, ◌<◌, ◌≤◌, min, Option, Some, None, Result, Ok, Err, List, [], ◌∷◌, length, slice_get, slice_index_or}
+use Rattle.std.specs.Prelude.{◌≡◌, ℕ, ◌<◌, ◌≤◌, min, Option, Some, None, Result, Ok, Err, List, [], ◌∷◌, length}
+use Rattle.std.specs.Prelude.{slice_get, slice_index_or}
 use Rattle.cfs_model.specs.Limits.{most_processors}
 use Rattle.replay_model.specs.declared.page.StepFault.{StepFault}
 use Rattle.queue_replay.specs.Replay.{ReplayView}

@@ -1,6 +1,7 @@
 -- What the auditors of a record do with one book, atomic step after atomic step, in whatever order (this project's
 -- profile). Each asks as often as it likes, and then posts its page.
-use Rattle.std.specs.Prelude.{◌≡◌, ◌≢◌, ℕ, ◌<◌, ◌≤◌, ◌⊎◌, Option, Some, None, IsSome, List, [], ◌∷◌, length, replicate, slice_set}
+use Rattle.std.specs.Prelude.{◌≡◌, ◌≢◌, ℕ, ◌<◌, ◌≤◌, ◌⊎◌, Option, Some, None, IsSome, List, [], ◌∷◌, length, replicate}
+use Rattle.std.specs.Prelude.{slice_set}
 use Rattle.cfs_model.specs.Machine.{put}
 use Rattle.cfs_model.specs.Settings.{Settings}
 use Rattle.replay_model.specs.Page.{IsPageOf}

@@ -7,8 +7,8 @@ use Rattle.ticket_book.specs.Verdict.{IsFaulty}
 use Rattle.ticket_book.specs.declared.least_settings.LeastSettings.{LeastSettings}
 use Rattle.ticket_book.specs.declared.least_settings.LeastSettings.TheVariants.{Found, Fault}
 
--- of a record: the least settings at which its events are a run; or the first line up to which they are one at no settings
--- in range, and what is wrong there at the greatest
+-- of a record: the least settings at which its events are a run; or the first line up to which they are one at no
+-- settings in range, and what is wrong there at the greatest
 abbrev pub IsLeastAnswer : RecordView → LeastSettings → Type 0
 IsLeastAnswer r (Found knobs) = AreLeast r.start (start_machine r.start r.floors r.tasks) (events_of r) knobs
 IsLeastAnswer r (Fault fault) =

@@ -1,5 +1,6 @@
 -- Which of a book's pages are the record's own (this project's profile).
-use Rattle.std.specs.Prelude.{◌≡◌, ◌↔◌, ℕ, Bool, IsTrue, ⊤, if◌then◌else◌, Option, Some, None, List, option_map, slice_get}
+use Rattle.std.specs.Prelude.{◌≡◌, ◌↔◌, ℕ, Bool, IsTrue, ⊤, if◌then◌else◌, Option, Some, None, List, option_map}
+use Rattle.std.specs.Prelude.{slice_get}
 use Rattle.cfs_model.specs.Settings.{Settings}
 use Rattle.queue_replay.specs.Replay.{ReplayView}
 use Rattle.sched_record.specs.Record.{RecordView}
@@ -10,8 +11,8 @@ use Rattle.ticket_book.specs.Whole.{IsOwnPageOf}
 abbrev pub AreOwn : Settings → RecordView → List (Option ReplayView) → Type 0
 AreOwn knobs r places = (cpu : ℕ) (page : ReplayView) → page_at places cpu ≡ Some page → IsOwnPageOf knobs r cpu page
 
--- the word on the page at a place is right: it is true just where that page is the record's own; where there is no page any
--- word is
+-- the word on the page at a place is right: it is true just where that page is the record's own; where there is no page
+-- any word is
 abbrev pub IsToldOwn : Settings → RecordView → ℕ → Option ReplayView → Bool → Type 0
 IsToldOwn knobs r cpu None own = ⊤
 IsToldOwn knobs r cpu (Some page) own = IsTrue own ↔ IsOwnPageOf knobs r cpu page

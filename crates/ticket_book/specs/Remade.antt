@@ -10,9 +10,10 @@ use Rattle.sched_record.specs.Record.{RecordView}
 use Rattle.ticket_book.specs.Book.{page_at}
 use Rattle.ticket_book.specs.Whole.{IsOwnPageOf}
 
--- at a processor's place stands a page of the record's stream for the processor, with these settings, and with a fault at
--- this line
-pub record HasFaultAt (knobs : Settings) (r : RecordView) (cpu : ℕ) (place : Option ReplayView) (line : ℕ) : Type 0 where
+-- at a processor's place stands a page of the record's stream for the processor, with these settings, and with a fault
+-- at this line
+pub record HasFaultAt (knobs : Settings) (r : RecordView) (cpu : ℕ) (place : Option ReplayView)
+    (line : ℕ) : Type 0 where
   pub page : ReplayView
   pub stands : place ≡ Some page
   pub own : IsOwnPageOf knobs r cpu page
@@ -43,8 +44,8 @@ ReachesEnough knobs r places Done = ⊤
 ReachesEnough knobs r places (Faulted line) = ⊤
 ReachesEnough knobs r places (Stopped line) = (least : ℕ) × IsLeastFault knobs r places least × (least ≤ line)
 
--- a page suffices for a processor of the record: it is of the record's stream for the processor, with these settings, and
--- it got far enough
+-- a page suffices for a processor of the record: it is of the record's stream for the processor, with these settings,
+-- and it got far enough
 pub record SufficesFor (knobs : Settings) (r : RecordView) (places : List (Option ReplayView)) (cpu : ℕ)
     (page : ReplayView) : Type 0 where
   pub own : IsOwnPageOf knobs r cpu page

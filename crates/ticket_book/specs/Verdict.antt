@@ -11,8 +11,8 @@ use Rattle.ticket_book.specs.SummaryView.{summary_view}
 use Rattle.ticket_book.specs.declared.verdict.Verdict.{Verdict}
 use Rattle.ticket_book.specs.declared.verdict.Verdict.TheVariants.{Run, Fault}
 
--- the record's events, with the claims and the changes of nice values on their lines and the policies of the tasks that they
--- bear or move, are a run of the scheduler from the record's start state, and this is the summary of that run
+-- the record's events, with the claims and the changes of nice values on their lines and the policies of the tasks that
+-- they bear or move, are a run of the scheduler from the record's start state, and this is the summary of that run
 abbrev pub IsScheduled : Settings → RecordView → SummaryView → Type 0
 IsScheduled knobs r summary =
     IsSummary knobs r.start (start_machine r.start r.floors r.tasks) r.tasks (events_of r) summary
@@ -23,8 +23,8 @@ IsFaulty knobs r fault =
     IsFirstFault knobs r.start (start_machine r.start r.floors r.tasks) (events_of r) fault.line
     (record { cpu = fault.cpu; pid = fault.pid; kind = fault.kind })
 
--- a verdict on a record: yes means that it is a run, and tells what the run did; a fault names the first line up to which
--- the events are none, and what is wrong there
+-- a verdict on a record: yes means that it is a run, and tells what the run did; a fault names the first line up to
+-- which the events are none, and what is wrong there
 abbrev pub IsVerdict : Settings → RecordView → Verdict → Type 0
 IsVerdict knobs r (Run summary) = IsScheduled knobs r (summary_view summary)
 IsVerdict knobs r (Fault fault) = IsFaulty knobs r fault

@@ -1,5 +1,6 @@
 -- A walk along a record's events (this project's profile).
-use Rattle.std.specs.Prelude.{◌≡◌, ℕ, ◌<◌, ◌≤◌, ◌==◌, ◌&&◌, ◌≢◌, ◌⊎◌, Bool, if◌then◌else◌, is_none, Option, Some, None, List, AllPairs, length, slice_index, take}
+use Rattle.std.specs.Prelude.{◌≡◌, ℕ, ◌<◌, ◌≤◌, ◌==◌, ◌&&◌, ◌≢◌, ◌⊎◌, Bool, if◌then◌else◌, is_none, Option, Some, None}
+use Rattle.std.specs.Prelude.{List, AllPairs, length, slice_index, take}
 use Rattle.cfs_model.specs.Claimed.{Claimed}
 use Rattle.cfs_model.specs.declared.kind.Kind.TheVariants.{BornTwice, TicketUnequal}
 use Rattle.replay_model.specs.Cause.{FaultCause}
@@ -21,7 +22,8 @@ pub record TicketsRise (pages : List ReplayView) : Type 0 where
   pub came : (cpu : ℕ) → AllPairs (λ t u. t.line ≤ u.line) (view_at pages cpu).came
 
 -- a place in each processor's tickets: those before it are of lines below this one
-pub record AreBehind (tickets : PageView → List Ticket) (pages : List ReplayView) (line : ℕ) (places : List ℕ) : Type 0 where
+pub record AreBehind (tickets : PageView → List Ticket) (pages : List ReplayView) (line : ℕ)
+    (places : List ℕ) : Type 0 where
   pub count : length places ≡ length pages
   pub below : (cpu : ℕ) → cpu < length pages
       → AreBelow line (take (slice_index places cpu) (tickets (view_at pages cpu)))

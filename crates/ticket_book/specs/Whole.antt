@@ -21,8 +21,8 @@ pub record IsWholePageOf (knobs : Settings) (r : RecordView) (cpu : ℕ) (page :
   pub is_page : IsPageOf page.stream page.knobs page.made page.page
   pub whole : IsSome page.page.fault ⊎ (length (cut_of r cpu).steps ≤ page.made)
 
--- the page is of the record's stream for a processor, with these settings, and its replay went to its first fault, to the
--- end, or to the line of a fault on one of some pages or past it
+-- the page is of the record's stream for a processor, with these settings, and its replay went to its first fault, to
+-- the end, or to the line of a fault on one of some pages or past it
 pub record SufficesBeside (knobs : Settings) (r : RecordView) (pages : List ReplayView) (cpu : ℕ) (page : ReplayView)
     : Type 0 where
   pub stream : page.stream ≡ cut_of r cpu

@@ -89,8 +89,10 @@ impl Book {
     /// The book may have been made for another number of processors.
     pub fn close(self, joined: &Record, knobs: Knobs) -> Result<Closed, Memory>
         ensures verdict { IfOk result (λ closed. IsVerdict knobs (record_view joined.now) closed.verdict) }
-        ensures remade { IfOk result (λ closed. AreRemade knobs (record_view joined.now) (book_view self) closed.remade) }
-        ensures nothing_remade { IfOk result (λ closed. AreLeft knobs (record_view joined.now) (book_view self) → closed.remade ≡ 0) }
+        ensures remade { IfOk result (λ closed. AreRemade knobs (record_view joined.now)
+            (book_view self) closed.remade) }
+        ensures nothing_remade { IfOk result (λ closed. AreLeft knobs (record_view joined.now) (book_view self)
+            → closed.remade ≡ 0) }
     {
         let alloc = *self.places.allocator();
         let (pages, remade) = sufficing_pages(alloc, self, joined, knobs)?;
@@ -98,13 +100,15 @@ impl Book {
         Ok(Closed { verdict, remade })
     }
 
-    /// The verdict on a record, for a book whose pages are all of the record's own streams, with these settings. None is
-    /// compared with the record: those that got far enough are relied on, and the others are made again.
+    /// The verdict on a record, for a book whose pages are all of the record's own streams, with these settings. None
+    /// is compared with the record: those that got far enough are relied on, and the others are made again.
     pub fn close_own(self, joined: &Record, knobs: Knobs) -> Result<Closed, Memory>
         requires own { AreOwn knobs (record_view joined.now) (book_view self) }
         ensures verdict { IfOk result (λ closed. IsVerdict knobs (record_view joined.now) closed.verdict) }
-        ensures remade { IfOk result (λ closed. AreRemade knobs (record_view joined.now) (book_view self) closed.remade) }
-        ensures nothing_remade { IfOk result (λ closed. AreLeft knobs (record_view joined.now) (book_view self) → closed.remade ≡ 0) }
+        ensures remade { IfOk result (λ closed. AreRemade knobs (record_view joined.now)
+            (book_view self) closed.remade) }
+        ensures nothing_remade { IfOk result (λ closed. AreLeft knobs (record_view joined.now) (book_view self)
+            → closed.remade ≡ 0) }
         ensures few { IfOk result (λ closed. closed.remade ≤ (record_view joined.now).cpus) }
     {
         let alloc = *self.places.allocator();
@@ -115,13 +119,15 @@ impl Book {
         })
     }
 
-    /// The least settings of a record, for a book whose pages are all of the record's own streams, at the greatest settings:
-    /// those that got far enough are relied on, and the others are made again, as `close_own` does.
+    /// The least settings of a record, for a book whose pages are all of the record's own streams, at the greatest
+    /// settings: those that got far enough are relied on, and the others are made again, as `close_own` does.
     pub fn close_least(self, joined: &Record) -> Result<ClosedLeast, Memory>
         requires own { AreOwn greatest_settings (record_view joined.now) (book_view self) }
         ensures least { IfOk result (λ closed. IsLeastAnswer (record_view joined.now) closed.least) }
-        ensures remade { IfOk result (λ closed. AreRemade greatest_settings (record_view joined.now) (book_view self) closed.remade) }
-        ensures nothing_remade { IfOk result (λ closed. AreLeft greatest_settings (record_view joined.now) (book_view self) → closed.remade ≡ 0) }
+        ensures remade { IfOk result (λ closed. AreRemade greatest_settings (record_view joined.now)
+            (book_view self) closed.remade) }
+        ensures nothing_remade { IfOk result
+            (λ closed. AreLeft greatest_settings (record_view joined.now) (book_view self) → closed.remade ≡ 0) }
         ensures few { IfOk result (λ closed. closed.remade ≤ (record_view joined.now).cpus) }
     {
         let alloc = *self.places.allocator();

@@ -23,7 +23,8 @@ pub(crate) fn cursors_of(
     joined: &Record,
 ) -> Result<Vec<Cursor>, Memory>
     ensures count { IfOk result (λ cursors. vec_len cursors ≡ (record_view joined.now).cpus) }
-    ensures followed { IfOk result (λ cursors. AreFollowed places.now cursors.items (events_of (record_view joined.now))) }
+    ensures followed { IfOk result (λ cursors. AreFollowed places.now cursors.items
+        (events_of (record_view joined.now))) }
 {
     let mut cursors = Vec::from_elem(alloc, Cursor::At(0), joined.cpus() as usize)?;
     let mut claim_place = 0;
@@ -39,8 +40,8 @@ pub(crate) fn cursors_of(
     Ok(cursors)
 }
 
-/// Deals one more event, with the claim and the change of a nice value on its line, and the policy of the task that it bears
-/// or moves.
+/// Deals one more event, with the claim and the change of a nice value on its line, and the policy of the task that it
+/// bears or moves.
 fn follow(
     cursors: &mut [Cursor],
     places: &[Option<Page>],

@@ -33,8 +33,8 @@ pub(crate) fn own_places(
     Ok(own)
 }
 
-/// Whether the page at a processor's place is of the record's stream for it, with these settings. The cursor is that of the
-/// page's stream, with all events dealt.
+/// Whether the page at a processor's place is of the record's stream for it, with these settings. The cursor is that of
+/// the page's stream, with all events dealt.
 fn is_own_at(
     places: &[Option<Page>],
     joined: &Record,
@@ -43,7 +43,8 @@ fn is_own_at(
     cursor: Cursor,
 ) -> bool
     requires below { cpu < (record_view joined.now).cpus }
-    requires followed { IsCursor (steps_in (page_at places.now cpu)) (cut_of (record_view joined.now) cpu).steps cursor }
+    requires followed { IsCursor (steps_in (page_at places.now cpu))
+        (cut_of (record_view joined.now) cpu).steps cursor }
     ensures { IsToldOwn knobs (record_view joined.now) cpu (page_at places.now cpu) result }
 {
     match places.get(cpu as usize) {

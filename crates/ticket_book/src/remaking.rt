@@ -1,4 +1,5 @@
-//! A page for each processor on which a verdict can rest: of a book's pages those that suffice, and the others made again.
+//! A page for each processor on which a verdict can rest: of a book's pages those that suffice, and the others made
+//! again.
 ghost use Rattle.std.specs.Prelude.{◌≡◌, ◌≢◌, ℕ, None, Some, ◌<◌, ◌≤◌, IfOk, IfSome, length};
 ghost use Rattle.replay_model.specs.Page.{IsPageOf};
 ghost use Rattle.sched_record.specs.Record.{record_view};
@@ -28,7 +29,8 @@ pub(crate) fn sufficing_pages(
 ) -> Result<(Vec<Page>, u32), Memory>
     ensures suffice { IfOk result (λ made. AreSufficient knobs (record_view joined.now) made.0.items) }
     ensures remade { IfOk result (λ made. AreRemade knobs (record_view joined.now) (book_view book) made.1) }
-    ensures nothing_remade { IfOk result (λ made. AreLeft knobs (record_view joined.now) (book_view book) → made.1 ≡ 0) }
+    ensures nothing_remade { IfOk result (λ made. AreLeft knobs (record_view joined.now) (book_view book)
+        → made.1 ≡ 0) }
 {
     let places = book.into_places();
     let own = own_places(alloc, &places, joined, knobs)?;
@@ -45,7 +47,8 @@ pub(crate) fn sufficing_own_pages(
     requires own { AreOwn knobs (record_view joined.now) (book_view book) }
     ensures suffice { IfOk result (λ made. AreSufficient knobs (record_view joined.now) made.0.items) }
     ensures remade { IfOk result (λ made. AreRemade knobs (record_view joined.now) (book_view book) made.1) }
-    ensures nothing_remade { IfOk result (λ made. AreLeft knobs (record_view joined.now) (book_view book) → made.1 ≡ 0) }
+    ensures nothing_remade { IfOk result (λ made. AreLeft knobs (record_view joined.now) (book_view book)
+        → made.1 ≡ 0) }
     ensures few { IfOk result (λ made. made.1 ≤ (record_view joined.now).cpus) }
 {
     let own = Vec::from_elem(alloc, true, joined.cpus() as usize)?;
@@ -98,8 +101,8 @@ fn take_page(places: &mut [Option<Page>], cpu: u32) -> Option<Page>
     }
 }
 
-/// The page from a place, where a verdict can rest on it beside the least line of a fault. It is told whether the page is
-/// the record's own.
+/// The page from a place, where a verdict can rest on it beside the least line of a fault. It is told whether the page
+/// is the record's own.
 fn relied_on(place: Option<Page>, own: bool, least: Option<u64>) -> Option<Page>
     ensures reliable { IfSome result (λ page. IsReliable own least (Some page)) }
     ensures is_page { IfSome result (λ page. IsPageOf page.stream page.knobs page.made page.page) }

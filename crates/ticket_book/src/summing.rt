@@ -77,8 +77,10 @@ fn name_born(act: Act, sums: &mut TallyBook) -> Result<(), Memory>
 
 /// Adds the tallies on the pages, page after page.
 fn add_pages(pages: &[Page], sums: &mut TallyBook)
-    requires { All (λ sum. FitsTally (with_tallies (tallies_below (view_at pages.now) (length pages.now)) sum)) sums.old.list.items }
-    ensures { sums.new.list.items ≡ map (with_tallies (tallies_below (view_at pages.now) (length pages.now))) sums.old.list.items }
+    requires { All (λ sum. FitsTally (with_tallies (tallies_below (view_at pages.now) (length pages.now)) sum))
+        sums.old.list.items }
+    ensures { sums.new.list.items ≡ map (with_tallies (tallies_below (view_at pages.now) (length pages.now)))
+        sums.old.list.items }
 {
     for page in pages {
         add_all(sums, page.tallies());

@@ -1,4 +1,5 @@
-ghost use Rattle.std.specs.Prelude.{◌≡◌, ◌+◌, ◌<◌, ◌≤◌, nat_lt, AllPairs, IfOk, drop, length, min, replicate, slice_get, slice_index, take};
+ghost use Rattle.std.specs.Prelude.{◌≡◌, ◌+◌, ◌<◌, ◌≤◌, nat_lt, AllPairs, IfOk, drop, length, min, replicate};
+ghost use Rattle.std.specs.Prelude.{slice_get, slice_index, take};
 ghost use Rattle.std.specs.List.{prefix_len};
 ghost use Rattle.replay_model.specs.Tickets.{ticket_at};
 ghost use Rattle.ticket_book.specs.TicketPlaces.{AreBelow, PassesTo, if_of_line};
@@ -48,7 +49,8 @@ impl TicketPlaces {
 
 /// The first place from a place on whose ticket isn't below a line.
 fn place_past(tickets: &[Ticket], from: usize, line: u32) -> usize
-    ensures { result ≡ min from (length tickets.now) + prefix_len (λ t. nat_lt t.line line) (drop (min from (length tickets.now)) tickets.now) }
+    ensures { result ≡ min from (length tickets.now) + prefix_len (λ t. nat_lt t.line line)
+        (drop (min from (length tickets.now)) tickets.now) }
 {
     let start = from.min(tickets.len());
     start + count_below(&tickets[start..], line)

@@ -52,7 +52,8 @@ impl Walk {
         requires stands { StandsAt pages.now event.now.line self.old }
         ensures said { (said : Claimed) → said.entry ≡ event.now → MatchOption result
             (Allow (view_at pages.now) (length pages.now) (alive_view self.old.alive) said)
-            (λ fault. IsCauseOf (view_at pages.now) (length pages.now) (alive_view self.old.alive) said (cause_view fault)) }
+            (λ fault. IsCauseOf (view_at pages.now) (length pages.now) (alive_view self.old.alive) said
+            (cause_view fault)) }
         ensures line { IfSome result (λ fault. fault.line ≡ event.now.line) }
         ensures stands { StandsAt pages.now event.now.line self.new }
         ensures alive { self.new.alive ≡ self.old.alive }
@@ -159,8 +160,10 @@ impl Walk {
         requires dest { dest < length pages.now }
         requires rise { TicketsRise pages.now }
         requires stands { StandsAt pages.now line self.old }
-        ensures differ { OnTrue result (ticket_at line (view_at pages.now orig).left ≢ ticket_at line (view_at pages.now dest).came) }
-        ensures same { OnFalse result (ticket_at line (view_at pages.now orig).left ≡ ticket_at line (view_at pages.now dest).came) }
+        ensures differ { OnTrue result (ticket_at line (view_at pages.now orig).left ≢ ticket_at line
+            (view_at pages.now dest).came) }
+        ensures same { OnFalse result (ticket_at line (view_at pages.now orig).left ≡ ticket_at line
+            (view_at pages.now dest).came) }
         ensures stands { StandsAt pages.now line self.new }
         ensures alive { self.new.alive ≡ self.old.alive }
     {
@@ -173,7 +176,8 @@ impl Walk {
 
     /// Goes past an event.
     pub(crate) fn pass(&mut self, act: Act) -> Result<(), Memory>
-        ensures alive { OnOk result ((pid : ℕ) → alive_view self.new.alive pid ≡ roll_after (alive_view self.old.alive) act pid) }
+        ensures alive { OnOk result ((pid : ℕ)
+            → alive_view self.new.alive pid ≡ roll_after (alive_view self.old.alive) act pid) }
         ensures deadline { self.new.deadline ≡ self.old.deadline }
         ensures left { self.new.left ≡ self.old.left }
         ensures came { self.new.came ≡ self.old.came }

@@ -40,7 +40,8 @@ type Answer = (Tag, Result<u64, PostFault>);
 /// A page that comes to a book: its processor, who brings it, how far it reached, and what the book answers.
 type Coming = (u32, Bringer, Reached, Result<u64, PostFault>);
 
-/// A book of so many processors, the pages that come to it one after another, and how many are made again where it is closed.
+/// A book of so many processors, the pages that come to it one after another, and how many are made again where it is
+/// closed.
 pub(crate) struct Case {
     pub cpus: u32,
     pub comings: &'static [Coming],
@@ -222,8 +223,8 @@ fn book_of(alloc: Global, first: &Recording, second: &Recording) -> Result<Book,
     Ok(book)
 }
 
-/// Ends the test where a book with the whole pages of two recordings is closed otherwise on a third than with its fault and
-/// so many pages made again.
+/// Ends the test where a book with the whole pages of two recordings is closed otherwise on a third than with its fault
+/// and so many pages made again.
 pub(crate) fn wants_remade<R: Abort>(
     rt: &R,
     alloc: Global,

@@ -1,5 +1,5 @@
-//! The calls that tests make of the crates below, each in a function of its own that promises nothing and most with plain
-//! values: what their clauses say stands before no test, which is then proved in seconds.
+//! The calls that tests make of the crates below, each in a function of its own that promises nothing and most with
+//! plain values: what their clauses say stands before no test, which is then proved in seconds.
 
 use crate::answers::wants_about;
 use crate::machines::{Lines, Recording};

@@ -1,5 +1,5 @@
-//! Tasks of the idle policy that migrate: what they are charged where they come to, and which pages of other companions a
-//! verdict relies on.
+//! Tasks of the idle policy that migrate: what they are charged where they come to, and which pages of other companions
+//! a verdict relies on.
 
 use crate::books::wants_remade;
 use crate::calls::{MaybeFault, wants_alone};
@@ -98,8 +98,8 @@ fn the_idle_policy_is_kept_at_a_migration(rt: HostRuntime) -> Result<(), Fail> {
     Ok(())
 }
 
-// In the last four rows the page of the migration's origin is by one companion and that of its destination by another, and
-// they have tickets of two policies: no two honest pages do.
+// In the last four rows the page of the migration's origin is by one companion and that of its destination by another,
+// and they have tickets of two policies: no two honest pages do.
 #[test]
 fn a_page_with_other_policies_is_made_again(rt: HostRuntime) -> Result<(), Fail> {
     for (orig, dest, recording, remade) in [
@@ -118,8 +118,8 @@ fn a_page_with_other_policies_is_made_again(rt: HostRuntime) -> Result<(), Fail>
     Ok(())
 }
 
-/// 101, which stands at processor 0, is born at processor 2 too, and then goes from processor 0 to processor 1: it leaves with
-/// the policy of the start, and comes with that of the birth.
+/// 101, which stands at processor 0, is born at processor 2 too, and then goes from processor 0 to processor 1: it
+/// leaves with the policy of the start, and comes with that of the birth.
 static BORN_TWICE: Recording = Recording {
     name: "born twice",
     lines: &[

@@ -1,6 +1,6 @@
 //! Tests of what no clause says of several processors: verdicts on worked recordings, books with pages in any order and
-//! with pages that aren't honest, auditors that wait for each other, that come in each order, that stop, and that come in
-//! crowds.
+//! with pages that aren't honest, auditors that wait for each other, that come in each order, that stop, and that come
+//! in crowds.
 #![tactic(auto)]
 
 #[cfg(test)]

@@ -46,7 +46,8 @@ pub(crate) static TWO_FAULTS_FIRST_LINE_NAMED: Recording = Recording {
     fault: Some((4, 0, 201, Kind::PrevNotRunning)),
 };
 
-/// 102 waits at processor 1, which idles to 0.1 ms; its own next event is at line 100, and 0 goes on at lines 20, 50, 80.
+/// 102 waits at processor 1, which idles to 0.1 ms; its own next event is at line 100, and 0 goes on at lines 20, 50,
+/// 80.
 pub(crate) static IDLE_FAULT_AT_LINE_OF_OTHER_PROCESSOR: Recording = Recording {
     name: "idle fault at line of other processor",
     lines: &[
@@ -338,8 +339,8 @@ pub(crate) static TEN_THOUSAND_WAKEUPS: Recording = Recording {
     fault: None,
 };
 
-/// At line 1 processor 0 switches away from a task that doesn't run there; then processor 1's task is woken for more than
-/// two stretches, of which its auditor makes one.
+/// At line 1 processor 0 switches away from a task that doesn't run there; then processor 1's task is woken for more
+/// than two stretches, of which its auditor makes one.
 pub(crate) static FAULT_BEFORE_TEN_THOUSAND_WAKEUPS: Recording = Recording {
     name: "fault before ten thousand wakeups",
     lines: &[

@@ -1,4 +1,5 @@
-//! Two auditors that wait for each other: they run at once, and hold no lock while they replay, in every call that audits.
+//! Two auditors that wait for each other: they run at once, and hold no lock while they replay, in every call that
+//! audits.
 
 use crate::answers::wants_about;
 use crate::calls::{MaybeFault, Told, companion_of, fault_of, gathered, told_together, trace_of};

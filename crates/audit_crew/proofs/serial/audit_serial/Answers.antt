@@ -19,11 +19,13 @@ loop-cpu-preserved c =
     }
 
 -- where the loop ends the pages of all processors are posted
-all_posted : (c : After-loop-cpu) → let r = record_view c.args.joined.now in AreFirst c.args.knobs r (book_view c.loop-cpu.book) r.cpus
+all_posted : (c : After-loop-cpu) → let r = record_view c.args.joined.now in
+    AreFirst c.args.knobs r (book_view c.loop-cpu.book) r.cpus
 all_posted c =
     let r = record_view c.args.joined.now in
     let all : c.loop-cpu.cpu ≡ r.cpus =
-    (let not_below = c.loop-cpu-test.false in let at_most = c.loop-cpu.auto.cpu-end in let end = c.cpus-cpu-end.ensures in
+    (let not_below = c.loop-cpu-test.false in let at_most = c.loop-cpu.auto.cpu-end in let end =
+    c.cpus-cpu-end.ensures in
     omega (arith, not_below, at_most, end)) in
     subst (AreFirst c.args.knobs r (book_view c.loop-cpu.book)) all c.loop-cpu.invariant.posted
 
@@ -37,4 +39,7 @@ returns-clause-nothing_remade c =
 
 pub close_own-requires : goal.close_own-requires
 close_own-requires c =
-    record { own = first_are_own c.args.knobs (record_view c.args.joined.now) (book_view c.loop-cpu.book) (all_posted c) }
+    record {
+      own = first_are_own c.args.knobs (record_view c.args.joined.now) (book_view c.loop-cpu.book)
+          (all_posted c);
+    }

@@ -13,7 +13,8 @@ new-requires-2 g c =
     let empty : Option ReplayView = None in
     record {
       places =
-          ap length c.in_ok-new.ensures ∙ length-replicate c.cpus-cpus.result empty ∙ c.cpus-cpus.ensures ∙ sym (ap (λ (r : RecordView). r.cpus) c.requires.joined);
+          ap length c.in_ok-new.ensures ∙ length-replicate c.cpus-cpus.result empty ∙ c.cpus-cpus.ensures
+          ∙ sym (ap (λ (r : RecordView). r.cpus) c.requires.joined);
       own = subst (AreOwn _ _) (sym c.in_ok-new.ensures) (none_own _ _ c.cpus-cpus.result);
       counted = ap filled c.in_ok-new.ensures ∙ none_filled c.cpus-cpus.result ∙ sym c.open-posts.ensures.total;
     }

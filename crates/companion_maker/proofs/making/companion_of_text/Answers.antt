@@ -17,6 +17,7 @@ returns-in_err-read_trace-clause-made c =
 pub returns-clause-made : goal.returns-clause-made
 returns-clause-made c =
     λ events answer inside.
-    let same = same_events (trace_view c.in_ok-read_trace.field-0) events (c.in_ok-read_trace.ensures.only (Ok events) answer) in
+    let same = same_events (trace_view c.in_ok-read_trace.field-0) events
+    (c.in_ok-read_trace.ensures.only (Ok events) answer) in
     let All-inside : List Entry → Type 0 = λ list. All (IsInside most_processors) list in
     c.make_companion.ensures.made (subst All-inside (sym same) inside)

@@ -20,7 +20,8 @@ record Told (line : List ℕ) (answer : Result Line LineFault) : Type 0 where
   bad : IsErrOf answer BadHead ↔ IsHeadless line
   range : IsErrOf answer NumberRange ↔ IsHeadOutOfRange line
 
-fault_seen : (answer : Result Line LineFault) (fault : LineFault) → line_answer_view answer ≡ Err fault → answer ≡ Err fault
+fault_seen : (answer : Result Line LineFault) (fault : LineFault) → line_answer_view answer ≡ Err fault
+    → answer ≡ Err fault
 fault_seen (Ok line) fault e = absurd cc
 fault_seen (Err found) fault e = cc
 
@@ -75,6 +76,12 @@ pub returns : goal.returns
 unfolding meaning_of
 returns c =
     let head = c.in-Some.head in
-    let event : Sched = record { cpu = head.cpu; which = c.in-Some-kind_of.which; time = head.time.seconds * nanoseconds_per_second + head.time.nanoseconds; rest = c.fields_of.result } in
+    let event : Sched = record {
+      cpu = head.cpu;
+      which = c.in-Some-kind_of.which;
+      time =
+          head.time.seconds * nanoseconds_per_second + head.time.nanoseconds;
+      rest = c.fields_of.result;
+    } in
     let t = told c.args.line.now (Ok (line_variants.Sched event)) (search rules) in
     record { answers = t.answers; bad = t.bad; range = t.range }

@@ -10,5 +10,7 @@ pub returns : goal.returns
 returns c =
     let whole : to_z w64 (of_z w64 c.args.floor) ≡ c.args.floor = search rules in
     in_bounds c.args.credit c.args.floor c.args.task.v c.args.claim.v c.reaches_credit.result
-    (omega (arith, ints, c.if-claim-task.false)) (omega (arith, ints, clamps, c.max.ensures.value, c.if-claim-max.false))
-    (subst (λ (f : ℤ). IsTrue c.reaches_credit.result ↔ ((f -ℤ pos c.args.credit) ≤ℤ c.args.claim.v)) whole c.reaches_credit.ensures)
+    (omega (arith, ints, c.if-claim-task.false))
+    (omega (arith, ints, clamps, c.max.ensures.value, c.if-claim-max.false))
+    (subst (λ (f : ℤ). IsTrue c.reaches_credit.result
+    ↔ ((f -ℤ pos c.args.credit) ≤ℤ c.args.claim.v)) whole c.reaches_credit.ensures)

@@ -15,7 +15,8 @@ returns-in-Some-clause-tried c knobs =
     let step = c.args.step.now in
     let deed = Arrive c.args.pid c.args.nice c.requires.0 c.args.idle in
     fails knobs c.args.cpu part step deed step.claim (arrival_tests part deed step.claim)
-    (arrival_row knobs c.args.cpu part c.args.pid c.args.nice c.requires.0 c.args.idle step.claim) c.requires.1 refl part c.in-Some.failed
+    (arrival_row knobs c.args.cpu part c.args.pid c.args.nice c.requires.0 c.args.idle step.claim) c.requires.1 refl
+    part c.in-Some.failed
     (c.in-Some.ensures part c.args.nice c.requires.0 c.args.idle c.task_at-task.ensures)
 
 pub add-requires-clause-apart : goal.add-requires-clause-apart
@@ -43,8 +44,10 @@ returns-clause-tried c knobs =
     passes knobs c.args.cpu part step deed step.claim (arrival_tests part deed step.claim)
     (arrival_row knobs c.args.cpu part pid nice c.requires.0 idle step.claim) c.requires.1 refl _ _
     (c.in_default.ensures part nice c.requires.0 idle c.task_at-task.ensures)
-    (c.in_ok-add-in-Some-claim.ensures.part ∙ ap (λ p. with_entity part p (Some (entity_of task.result))) task.ensures.pid
+    (c.in_ok-add-in-Some-claim.ensures.part
+    ∙ ap (λ p. with_entity part p (Some (entity_of task.result))) task.ensures.pid
     ∙ ap (λ (s : Entity). with_entity part pid (Some s)) task.ensures.entity
-    ∙ ap (λ p. with_entity part pid (Some (record { place = p; nice = nice; idle = idle; runtime = claim.v }))) c.place_of.ensures
+    ∙ ap (λ p. with_entity part pid (Some (record { place = p; nice = nice; idle = idle; runtime = claim.v })))
+    c.place_of.ensures
     ∙ ap (after_deed part deed) (sym c.in-Some-claim.is))
     (c.came_ticket-ticket.ensures ∙ ap (came_ticket part step.line pid nice idle) (sym c.in-Some-claim.is)) refl

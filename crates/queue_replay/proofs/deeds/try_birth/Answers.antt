@@ -18,7 +18,8 @@ returns-in-Some-clause-tried c =
     let step = c.args.step.now in
     let deed = Born c.args.pid c.args.nice c.args.idle in
     fails c.args.knobs c.args.cpu part step deed step.claim (birth_tests c.args.knobs.debit part deed step.claim)
-    (birth_row c.args.knobs c.args.cpu part c.args.pid c.args.nice c.args.idle step.claim) c.requires refl part c.in-Some.failed
+    (birth_row c.args.knobs c.args.cpu part c.args.pid c.args.nice c.args.idle step.claim) c.requires refl part
+    c.in-Some.failed
     (c.in-Some.ensures c.args.nice c.args.idle)
 
 pub add-requires-clause-apart : goal.add-requires-clause-apart
@@ -27,7 +28,8 @@ add-requires-clause-apart c =
     ap part.tasks c.claimed_task.ensures.pid ∙ is_apart part c.args.pid (c.in_default.ensures c.args.nice c.args.idle).0
 
 pub unreachable-requires : goal.unreachable-requires
-unreachable-requires c = birth_claimed c.args.pid c.args.step.now.claim (c.in_default.ensures c.args.nice c.args.idle).1.0 c.in-None.is
+unreachable-requires c = birth_claimed c.args.pid c.args.step.now.claim
+    (c.in_default.ensures c.args.nice c.args.idle).1.0 c.in-None.is
 
 pub returns-clause-tried : goal.returns-clause-tried
 returns-clause-tried c =
@@ -42,10 +44,14 @@ returns-clause-tried c =
     let floor : to_z w64 (of_z w64 c.floor.result) ≡ c.floor.result = search rules in
     let task = c.claimed_task in
     passes c.args.knobs c.args.cpu part step deed step.claim (birth_tests c.args.knobs.debit part deed step.claim)
-    (birth_row c.args.knobs c.args.cpu part pid nice idle step.claim) c.requires refl _ _ (c.in_default.ensures nice idle)
-    (c.in_ok-add-in-Some-claim.ensures.part ∙ ap (λ p. with_entity part p (Some (entity_of task.result))) task.ensures.pid
+    (birth_row c.args.knobs c.args.cpu part pid nice idle step.claim) c.requires refl _ _
+    (c.in_default.ensures nice idle)
+    (c.in_ok-add-in-Some-claim.ensures.part
+    ∙ ap (λ p. with_entity part p (Some (entity_of task.result))) task.ensures.pid
     ∙ ap (λ (s : Entity). with_entity part pid (Some s)) task.ensures.entity
     ∙ ap (after_deed part deed) (sym c.in-Some-claim.is))
     refl
     (subst (λ (x : Option Claim). IsNeed part deed x c.excess-need.result) (sym c.in-Some-claim.is)
-    (subst (λ v. IsExcess v part.floor c.excess-need.result) at (subst (λ v. IsExcess (to_z w64 (of_z w64 claim.v)) v c.excess-need.result) (floor ∙ c.floor.ensures) c.excess-need.ensures)))
+    (subst (λ v. IsExcess v part.floor c.excess-need.result) at
+    (subst (λ v. IsExcess (to_z w64 (of_z w64 claim.v)) v c.excess-need.result) (floor
+    ∙ c.floor.ensures) c.excess-need.ensures)))

@@ -15,8 +15,10 @@ returns-in-Some-clause-tried c cpu =
     let part = runqueue_view c.args.queue.now in
     let step = c.args.step.now in
     let s = c.args.switch.now in
-    fails c.args.knobs cpu part step (switch_deed s) step.claim (switch_tests c.args.knobs part (switch_deed s) step.claim)
-    (switch_row c.args.knobs cpu part s.prev s.prev_nice s.way s.next s.next_nice step.claim) c.requires refl part c.in-Some.failed
+    fails c.args.knobs cpu part step (switch_deed s) step.claim
+    (switch_tests c.args.knobs part (switch_deed s) step.claim)
+    (switch_row c.args.knobs cpu part s.prev s.prev_nice s.way s.next s.next_nice step.claim) c.requires refl part
+    c.in-Some.failed
     (c.in-Some.ensures.first c.args.knobs)
 
 pub returns-in-Some-first_pick_test-clause-tried : goal.returns-in-Some-first_pick_test-clause-tried
@@ -26,12 +28,16 @@ returns-in-Some-first_pick_test-clause-tried c cpu =
     let s = c.args.switch.now in
     let moved = part_after_prev part s.prev s.way in
     let own = option_map entity_of c.switch_task-next.result in
-    let least = c.least_after-least.ensures s.prev (ran_prev part s.prev s.prev_nice s.way s.next s.next_nice (c.in_default.ensures.runner refl)) in
+    let least = c.least_after-least.ensures s.prev
+    (ran_prev part s.prev s.prev_nice s.way s.next s.next_nice (c.in_default.ensures.runner refl)) in
     let failed = c.in-Some-first_pick_test.failed in
-    fails c.args.knobs cpu part step (switch_deed s) step.claim (switch_tests c.args.knobs part (switch_deed s) step.claim)
-    (switch_row c.args.knobs cpu part s.prev s.prev_nice s.way s.next s.next_nice step.claim) c.requires refl part failed
+    fails c.args.knobs cpu part step (switch_deed s) step.claim
+    (switch_tests c.args.knobs part (switch_deed s) step.claim)
+    (switch_row c.args.knobs cpu part s.prev s.prev_nice s.way s.next s.next_nice step.claim) c.requires refl part
+    failed
     (c.in_default.ensures.first c.args.knobs (Some failed)
-    (pick_tests_same c.args.knobs part s.prev s.prev_nice s.way s.next s.next_nice own c.switch_task-next.ensures (Some failed)
+    (pick_tests_same c.args.knobs part s.prev s.prev_nice s.way s.next s.next_nice own c.switch_task-next.ensures
+    (Some failed)
     (c.in-Some-first_pick_test.ensures own moved least (c.lead-need.ensures moved least))))
 
 pub set_next-requires-clause-task : goal.set_next-requires-clause-task
@@ -56,8 +62,10 @@ returns-clause-tried c cpu =
     = c.in_default.ensures.first c.args.knobs None
     (pick_tests_same c.args.knobs part s.prev s.prev_nice s.way s.next s.next_nice own c.switch_task-next.ensures None
     (c.in_default-first_pick_test.ensures own moved least lead)) in
-    passes c.args.knobs cpu part step (switch_deed s) step.claim (switch_tests c.args.knobs part (switch_deed s) step.claim)
+    passes c.args.knobs cpu part step (switch_deed s) step.claim
+    (switch_tests c.args.knobs part (switch_deed s) step.claim)
     (switch_row c.args.knobs cpu part s.prev s.prev_nice s.way s.next s.next_nice step.claim) c.requires refl _ _ first
-    (c.set_next.ensures ∙ ap (λ (p : Part). part_after_next p s.next) (c.in_ok-put_prev.ensures.part s.prev runner)) refl
+    (c.set_next.ensures ∙ ap (λ (p : Part). part_after_next p s.next) (c.in_ok-put_prev.ensures.part s.prev runner))
+    refl
     (pick_needs_lead part s.prev s.prev_nice s.way s.next s.next_nice own c.lead-need.result c.switch_task-next.ensures
     (c.in_default.ensures.two refl) first.1.1.1.1.1.1.1.0 lead)

@@ -16,7 +16,8 @@ returns-in-Some-clause-tried c cpu =
     let step = c.args.step.now in
     let deed = Wake c.args.pid c.args.nice in
     fails c.args.knobs cpu part step deed step.claim (wake_tests c.args.knobs.credit part deed step.claim)
-    (wake_row c.args.knobs cpu part c.args.pid c.args.nice step.claim) c.requires refl part c.in-Some.failed c.in-Some.ensures
+    (wake_row c.args.knobs cpu part c.args.pid c.args.nice step.claim) c.requires refl part c.in-Some.failed
+    c.in-Some.ensures
 
 pub returns-in_default-claim-clause-tried : goal.returns-in_default-claim-clause-tried
 returns-in_default-claim-clause-tried c cpu =
@@ -40,4 +41,6 @@ returns-clause-tried c cpu =
     (wake_row c.args.knobs cpu part c.args.pid c.args.nice step.claim) c.requires refl _ _ c.in_default.ensures
     (c.in_ok-wake.ensures.part ∙ ap (after_deed part deed) (sym c.in-Some-claim.is)) refl
     (subst (λ (x : Option Claim). IsNeed part deed x c.excess-need.result) (sym c.in-Some-claim.is)
-    (subst (λ v. IsExcess part.floor v c.excess-need.result) at (subst (λ v. IsExcess v (to_z w64 (of_z w64 claim.v)) c.excess-need.result) (floor ∙ c.floor.ensures) c.excess-need.ensures)))
+    (subst (λ v. IsExcess part.floor v c.excess-need.result) at
+    (subst (λ v. IsExcess v (to_z w64 (of_z w64 claim.v)) c.excess-need.result) (floor
+    ∙ c.floor.ensures) c.excess-need.ensures)))

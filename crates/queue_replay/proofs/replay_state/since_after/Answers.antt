@@ -11,4 +11,8 @@ returns-then-is_some c =
 pub returns-in-Some : goal.returns-in-Some
 returns-in-Some c =
     let none : is_some c.runner.result ≡ false = search rules in
-    inl (idles (runqueue_view c.args.queue.now) c.runner.result _ c.runner.ensures none c.in-Some.ensures, ap Some c.unwrap_or.ensures)
+    inl (
+      idles (runqueue_view c.args.queue.now) c.runner.result _ c.runner.ensures none c.in-Some.ensures,
+      ap Some
+          c.unwrap_or.ensures,
+    )

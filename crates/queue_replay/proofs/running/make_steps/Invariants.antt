@@ -5,7 +5,8 @@ use Rattle.sched_record.specs.Stream.{stream_view}
 
 abbrev pub invariant-loop-left : goal.invariant-loop-left
 invariant-loop-left l =
-    IsRunning (stream_view l.stream) l.knobs l.fn.state.made (page_draft_view l.fn.state.draft) l.fn.steps l.left l.state
+    IsRunning (stream_view l.stream) l.knobs l.fn.state.made
+    (page_draft_view l.fn.state.draft) l.fn.steps l.left l.state
 
 abbrev pub decreases-loop-left : goal.decreases-loop-left
 decreases-loop-left l = l.left

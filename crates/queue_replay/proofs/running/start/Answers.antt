@@ -17,8 +17,11 @@ returns-clause-at c =
       | then-is_empty w ↦
           let z = eqb-true (length c.steps.result.now) 0 (sym c.is_empty.ensures ∙ w.if-is_empty.true) in
           subst (IsAt s c.args.knobs) (sym w.state-is)
-          (at_end s c.args.knobs first w.end_test.new.state r (e.made ∙ sym z ∙ n) w.end_test.ensures.made w.end_test.ensures.part w.end_test.ensures.since w.end_test.ensures.page w.end_test.ensures.needs)
+          (at_end s c.args.knobs first w.end_test.new.state r (e.made ∙ sym z
+          ∙ n) w.end_test.ensures.made w.end_test.ensures.part w.end_test.ensures.since w.end_test.ensures.page
+          w.end_test.ensures.needs)
       | else-is_empty w ↦
           let z = eqb-false (length c.steps.result.now) 0 (sym c.is_empty.ensures ∙ w.if-is_empty.false) in
-          subst (IsAt s c.args.knobs) (sym w.state-is) (at_middle s c.args.knobs first r (let m = e.made in omega (arith, z, n)))
+          subst (IsAt s c.args.knobs) (sym w.state-is)
+          (at_middle s c.args.knobs first r (let m = e.made in omega (arith, z, n)))
     ]

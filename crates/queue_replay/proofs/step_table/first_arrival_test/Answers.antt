@@ -5,10 +5,19 @@ pub returns-in-Some : goal.returns-in-Some
 returns-in-Some c part nice orig idle at = inl (c.in-Some.ensures part at, refl)
 
 pub returns-in-Some-arrival_claim_missing : goal.returns-in-Some-arrival_claim_missing
-returns-in-Some-arrival_claim_missing c part nice orig idle at = inr (c.in_default.ensures part at, inl (c.in-Some-arrival_claim_missing.ensures part nice orig idle, refl))
+returns-in-Some-arrival_claim_missing c part nice orig idle at =
+    inr (c.in_default.ensures part at, inl (c.in-Some-arrival_claim_missing.ensures part nice orig idle, refl))
 
 pub returns-in-Some-claim_pid : goal.returns-in-Some-claim_pid
-returns-in-Some-claim_pid c part nice orig idle at = inr (c.in_default.ensures part at, inr (c.in_default-arrival_claim_missing.ensures part nice orig idle, inl (c.in-Some-claim_pid.ensures, refl)))
+returns-in-Some-claim_pid c part nice orig idle at =
+    inr (
+      c.in_default.ensures part at,
+      inr
+          (c.in_default-arrival_claim_missing.ensures part nice orig idle, inl (c.in-Some-claim_pid.ensures, refl)),
+    )
 
 pub returns : goal.returns
-returns c part nice orig idle at = (c.in_default.ensures part at, (c.in_default-arrival_claim_missing.ensures part nice orig idle, (c.in_default-claim_pid.ensures, tt)))
+returns c part nice orig idle at = (
+  c.in_default.ensures part at,
+  (c.in_default-arrival_claim_missing.ensures part nice orig idle, (c.in_default-claim_pid.ensures, tt)),
+)

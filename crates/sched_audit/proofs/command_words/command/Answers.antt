@@ -10,13 +10,17 @@ versioned a = on_top (λ s. record s { has_version = true }) a
 
 pub returns : goal.returns
 returns c =
-    let start = ap app_of_fields c.in_ok-bin_name.ensures.0 ∙ (ap app_of_fields c.about.ensures ∙ (ap app_of_fields c.version.ensures ∙ ap versioned c.new.ensures.app)) in
+    let start = ap app_of_fields c.in_ok-bin_name.ensures.0
+    ∙ (ap app_of_fields c.about.ensures ∙ (ap app_of_fields c.version.ensures ∙ ap versioned c.new.ensures.app)) in
     let trace = c.in_ok-arg.ensures.shape c.name.ensures.local ∙ ap₂ with_rule start c.name.ensures.rule in
     let companion = c.in_ok-arg-2.ensures.shape c.name-2.ensures.local ∙ ap₂ with_rule trace c.name-2.ensures.rule in
-    let granularity = c.in_ok-arg-3.ensures.shape c.setting.ensures.local ∙ ap₂ with_rule companion c.setting.ensures.rule in
-    let credit = c.in_ok-arg-4.ensures.shape c.setting-2.ensures.local ∙ ap₂ with_rule granularity c.setting-2.ensures.rule in
+    let granularity = c.in_ok-arg-3.ensures.shape c.setting.ensures.local
+    ∙ ap₂ with_rule companion c.setting.ensures.rule in
+    let credit = c.in_ok-arg-4.ensures.shape c.setting-2.ensures.local
+    ∙ ap₂ with_rule granularity c.setting-2.ensures.rule in
     let debit = c.in_ok-arg-5.ensures.shape c.setting-3.ensures.local ∙ ap₂ with_rule credit c.setting-3.ensures.rule in
     let slack = c.in_ok-arg-6.ensures.shape c.setting-4.ensures.local ∙ ap₂ with_rule debit c.setting-4.ensures.rule in
-    let least = c.in_ok-arg-7.ensures.shape c.in_ok-lone_flag.ensures.local ∙ ap₂ with_rule slack c.in_ok-lone_flag.ensures.rule in
+    let least = c.in_ok-arg-7.ensures.shape c.in_ok-lone_flag.ensures.local
+    ∙ ap₂ with_rule slack c.in_ok-lone_flag.ensures.rule in
     IfOk-weaker c.arg-8.result _ _
     (λ command added. added.shape c.flag.ensures.local ∙ ap₂ with_rule least c.flag.ensures.rule) c.arg-8.ensures

@@ -28,5 +28,6 @@ pub returns-in-Ok : goal.returns-in-Ok
 returns-in-Ok c =
     let f = found_of c.args.matches.now in
     c.unwrap_or.ensures
-    ∙ (read_or_false (one_text f c.args.id.now) c.in-Ok.given (λ e. search (c.in-Ok.ensures.none e)) c.in-Ok.ensures.value
+    ∙ (read_or_false (one_text f c.args.id.now) c.in-Ok.given
+    (λ e. search (c.in-Ok.ensures.none e)) c.in-Ok.ensures.value
     ∙ ap (λ (o : Option (List ℕ)). option_map_or is_true o false) (one_text-rows f c.args.id.now))

@@ -20,6 +20,8 @@ read_or G gives (Some t) None default none value = absurd (value t refl)
 pub returns-in-Ok : goal.returns-in-Ok
 returns-in-Ok c =
     let f = found_of c.args.matches.now in
-    c.unwrap_or.ensures ∙ (read_or (λ bs r. ParsesUnsigned 64 10 bs r × ExplainsUnsignedError 10 bs r × HasUnsignedDigitsIfOk bs r)
-    (λ t n h. h.0.1) (one_text f c.args.id.now) c.in-Ok.number c.args.default (λ e. search (c.in-Ok.ensures.none e)) c.in-Ok.ensures.value
+    c.unwrap_or.ensures ∙ (read_or (λ bs r. ParsesUnsigned 64 10 bs r × ExplainsUnsignedError 10 bs r
+    × HasUnsignedDigitsIfOk bs r)
+    (λ t n h. h.0.1) (one_text f c.args.id.now) c.in-Ok.number c.args.default
+    (λ e. search (c.in-Ok.ensures.none e)) c.in-Ok.ensures.value
     ∙ ap (λ (o : Option (List ℕ)). option_map_or number_of o c.args.default) (one_text-rows f c.args.id.now))

@@ -19,5 +19,10 @@ returns c =
     let all = behind (string_bytes c.args.text.now) (string_bytes c.writeln.new.self) end
     granularity (credit ++ (debit ++ slack)) c.in_ok-writeln.ensures.bytes from_credit in
     let same : granularity ++ (credit ++ (debit ++ slack)) ≡ setting_lines c.args.knobs =
-    rw (c.granularity-granularity.ensures.same, c.credit-credit.ensures.same, c.debit-debit.ensures.same, c.slack-slack.ensures.same) refl in
+    rw (
+      c.granularity-granularity.ensures.same,
+      c.credit-credit.ensures.same,
+      c.debit-debit.ensures.same,
+      c.slack-slack.ensures.same,
+    ) refl in
     all ∙ ap (λ (lines : List ℕ). string_bytes c.args.text.now ++ lines) same

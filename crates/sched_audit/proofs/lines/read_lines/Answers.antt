@@ -31,11 +31,13 @@ returns-then-count-eq0-clause-all g c =
     let read = c.in_ok-count.ensures in
     let is_held = held_same c.loop.bytes.items items held before.line read.front before.is_held in (
       before.done ++ before.line,
-      agrees_at_end _ _ _ (before.done ++ before.line) (drop held.length items) c.in_ok-count.count before.read read.read c.if-count-eq0.true
+      agrees_at_end _ _ _ (before.done ++ before.line)
+          (drop held.length items) c.in_ok-count.count before.read read.read c.if-count-eq0.true
           (read.end c.if-count-eq0.true),
       subst (HasRead c.read.new.self) (sym (c.lines_after_whole.ensures before.done before.line before.whole))
           (held_read c.settled_line.ensures c.read.new.self (lines_of before.done) items held before.line is_held
-          (subst (λ more. HasRead c.read.new.self (lines_of before.done ++ lines_of (take held.length more))) c.deref.ensures.value
+          (subst (λ more. HasRead c.read.new.self (lines_of before.done
+          ++ lines_of (take held.length more))) c.deref.ensures.value
           (c.in_ok-read.ensures.read (lines_of before.done) before.has_read))),
     )
 
@@ -46,11 +48,13 @@ loop-preserved g c =
     let count = c.in_ok-count.count in
     let items = c.read_chunk.new.bytes.items in
     let read = c.in_ok-count.ensures in
-    let on = c.in_ok-held.ensures.passed before.line (held_same c.loop.bytes.items items held before.line read.front before.is_held) in
+    let on = c.in_ok-held.ensures.passed before.line
+    (held_same c.loop.bytes.items items held before.line read.front before.is_held) in
     let whole = on.passes.0 in
     let new = take count (drop held.length items) in
     record {
-      within = let fits = read.fits in let left = c.in_ok-held.ensures.within in let same = c.in_ok-held.ensures.length in omega (arith, fits, left, same);
+      within = let fits = read.fits in let left = c.in_ok-held.ensures.within in let same =
+          c.in_ok-held.ensures.length in omega (arith, fits, left, same);
       counted = read.counted ∙ one_more-below _ _ before.counted c.loop-test.true;
       heard = read.heard ∙ before.heard;
       unended = read.ended ∙ ne_eqb count 0 c.if-count-eq0.false;
@@ -60,6 +64,7 @@ loop-preserved g c =
           (on.passes.3 (lines_of before.done) before.has_read);
       line = on.line;
       is_held = on.is_held;
-      read = subst (Consumes _ _) (append_assoc before.done before.line new ∙ ap (λ bytes. before.done ++ bytes) on.passes.1 ∙ sym (append_assoc before.done whole on.line))
+      read = subst (Consumes _ _) (append_assoc before.done before.line new
+          ∙ ap (λ bytes. before.done ++ bytes) on.passes.1 ∙ sym (append_assoc before.done whole on.line))
           (Consumes-trans _ _ _ _ _ before.read read.read);
     }

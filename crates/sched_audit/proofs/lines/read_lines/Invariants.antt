@@ -1,5 +1,5 @@
--- What was consumed is whole lines, which were read, and a line of which enough is held; a call a turn, and none has failed or
--- ended.
+-- What was consumed is whole lines, which were read, and a line of which enough is held; a call a turn, and none has
+-- failed or ended.
 use Rattle.std.proofs.Common.{◌≡◌, ◌≤◌, false, ◌++◌, List, ℕ, vec_len}
 use Rattle.std.specs.Io.KnownBytes.{Consumes}
 use Rattle.text_parts.specs.Lines.{lines_of, IsWhole}

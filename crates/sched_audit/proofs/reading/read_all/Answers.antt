@@ -17,6 +17,7 @@ loop-preserved g c =
       counted = read.counted ∙ one_more-below _ _ before.counted c.loop-test.true;
       heard = read.heard ∙ before.heard;
       unended = read.ended ∙ ne_eqb count 0 c.if-count-eq0.false;
-      read = subst (Consumes _ _) (sym (take-add filled count items ∙ ap (λ front. front ++ take count (drop filled items)) read.front))
+      read = subst (Consumes _ _) (sym (take-add filled count items
+          ∙ ap (λ front. front ++ take count (drop filled items)) read.front))
           (Consumes-trans _ _ _ _ _ before.read read.read);
     }

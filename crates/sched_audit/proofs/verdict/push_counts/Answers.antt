@@ -21,4 +21,5 @@ returns c =
     let from_events = behind (string_bytes c.writeln.new.self) (string_bytes c.writeln-2.new.self) end
     events (switches ++ (migrations ++ (births ++ deaths))) c.in_ok-writeln-2.ensures.bytes from_switches in
     behind (string_bytes c.args.text.now) (string_bytes c.writeln.new.self) end
-    (line_of (codes "run")) (events ++ (switches ++ (migrations ++ (births ++ deaths)))) c.in_ok-writeln.ensures.bytes from_events
+    (line_of (codes "run")) (events ++ (switches ++ (migrations ++ (births ++ deaths)))) c.in_ok-writeln.ensures.bytes
+    from_events

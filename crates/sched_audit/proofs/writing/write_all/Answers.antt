@@ -5,9 +5,11 @@ use Rattle.sched_audit.proofs.Counting.{took_some}
 use Rattle.sched_audit.proofs.writing.write_all.Goals as goal
 
 -- what was taken goes from the front of the rest to the end of what is done
-moved : (all done rest : List ℕ) (n : ℕ) → all ≡ done ++ rest → all ≡ (done ++ take n rest) ++ take (length rest - n) (drop n rest)
+moved : (all done rest : List ℕ) (n : ℕ) → all ≡ done ++ rest → all ≡ (done ++ take n rest)
+    ++ take (length rest - n) (drop n rest)
 moved all done rest n split =
-    split ∙ ap (λ tail. done ++ tail) (sym (take-append-drop n rest)) ∙ sym (append_assoc done (take n rest) (drop n rest))
+    split ∙ ap (λ tail. done ++ tail) (sym (take-append-drop n rest))
+    ∙ sym (append_assoc done (take n rest) (drop n rest))
     ∙ ap (λ tail. (done ++ take n rest) ++ tail) (sym (take_rest rest n))
 
 pub loop-rest-preserved : goal.loop-rest-preserved

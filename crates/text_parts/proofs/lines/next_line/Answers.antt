@@ -12,7 +12,8 @@ returns-in-Some c =
     let cut : CutsLine text (take k text) (drop 1 (drop k text)) =
     cut_at_feed text k c.in-Some.ensures.0.high c.in-Some.ensures.0.before c.in-Some.ensures.1 in
     let line : c.split_at.result.0.now ≡ take k text = c.split_at.ensures.front in
-    let rest : take (length back - 1) (drop 1 back) ≡ drop 1 (drop k text) = take_rest back 1 ∙ ap (drop 1) c.split_at.ensures.back in
+    let rest : take (length back - 1) (drop 1 back) ≡ drop 1 (drop k text) = take_rest back 1
+    ∙ ap (drop 1) c.split_at.ensures.back in
     rw (line, rest) (record { line = cut.line_is; rest = cut.rest_is; lines = cut.lines_are; shorter = cut.shorter })
 
 pub returns-in-None : goal.returns-in-None

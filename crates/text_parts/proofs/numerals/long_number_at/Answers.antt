@@ -11,5 +11,6 @@ returns-clause-below c =
     let front = take_while is_digit text in
     let count = c.long_digit_count-digits.ensures.count in
     let below : value_of front < 10 ^ length front = value_below front (run_passes is_digit text) in
-    let value : c.number_of.result ≡ min (value_of front) many = c.number_of.ensures ∙ ap (λ n. min (value_of (take n text)) many) count in
+    let value : c.number_of.result ≡ min (value_of front) many = c.number_of.ensures
+    ∙ ap (λ n. min (value_of (take n text)) many) count in
     subst (λ n. c.number_of.result < 10 ^ n) (length_front is_digit text ∙ sym count) (omega arith)

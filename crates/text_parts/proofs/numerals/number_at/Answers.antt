@@ -13,7 +13,8 @@ loop-digits-preserved c =
     let i = c.loop-digits.invariant in
     let lt : k < length text = omega (arith, c.loop-digits-test.true) in
     let is : is_digit (get_or text k 0) ≡ true = sym c.is_digit_byte.ensures ∙ c.if-is_digit_byte.true in
-    let more = wrapped_more text k c.loop-digits.value c.from-digit.result lt is (c.from-digit.ensures ∙ c.saturating_sub.ensures) i.value i.below in
+    let more = wrapped_more text k c.loop-digits.value c.from-digit.result lt is (c.from-digit.ensures
+    ∙ c.saturating_sub.ensures) i.value i.below in
     record {
       within = omega arith;
       passed = search rules;
@@ -35,7 +36,8 @@ returns c =
     let ends : EndsAt text k = digits_end text k i.within i.passed stops in
     record {
       digits = ends.length_is;
-      value = plain_value text k c.loop-digits.value few (i.value few) (i.below few) ∙ ap (λ s. min (value_of s) many) ends.front_is;
+      value = plain_value text k c.loop-digits.value few (i.value few) (i.below few)
+          ∙ ap (λ s. min (value_of s) many) ends.front_is;
       rest = take_rest text k ∙ ends.rest_is;
       below = i.below few;
     }

@@ -8,4 +8,5 @@ pub returns-then-begins_with : goal.returns-then-begins_with
 returns-then-begins_with c =
     let front = c.args.front.now in
     let text = c.args.text.now in
-    front_there front text (sym c.begins_with.ensures ∙ c.if-begins_with.true) ∙ ap Some (sym (take_rest text (length front)))
+    front_there front text (sym c.begins_with.ensures ∙ c.if-begins_with.true)
+    ∙ ap Some (sym (take_rest text (length front)))

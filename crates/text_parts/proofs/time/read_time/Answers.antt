@@ -13,7 +13,8 @@ pub returns-then-is_empty : goal.returns-then-is_empty
 returns-then-is_empty c =
     let time = c.in_ok-time.time in
     record {
-      reads = time_from_word c.args.word.now time.seconds time.nanoseconds c.in_ok-time.rest.now c.in_ok-time.ensures (sym c.if-is_empty.ensures);
+      reads = time_from_word c.args.word.now time.seconds time.nanoseconds c.in_ok-time.rest.now c.in_ok-time.ensures
+          (sym c.if-is_empty.ensures);
       only = one_time c.args.word.now time.seconds time.nanoseconds c.in_ok-time.rest.now c.in_ok-time.ensures;
     }
 
@@ -21,5 +22,6 @@ pub returns-else-is_empty : goal.returns-else-is_empty
 returns-else-is_empty c =
     let time = c.in_ok-time.time in
     let none =
-    no_time_word c.args.word.now time.seconds time.nanoseconds c.in_ok-time.rest.now c.in_ok-time.ensures (sym c.if-is_empty.ensures) in
+    no_time_word c.args.word.now time.seconds time.nanoseconds c.in_ok-time.rest.now c.in_ok-time.ensures
+    (sym c.if-is_empty.ensures) in
     record { reads = none; only = λ s n time. absurd (none s n time) }

@@ -25,7 +25,8 @@ summary_by-requires c =
     let nothing = subst (Tell (view_at pages) (length pages) r.tasks (events_of r)) c.in-None.is
     c.in_ok-fault.ensures in
     sums_fit c.args.knobs r pages c.requires order
-    nothing c.tallying.ensures.totals c.tallying.ensures.bounded c.last_time.result c.last_line.result c.last_time.ensures
+    nothing c.tallying.ensures.totals c.tallying.ensures.bounded c.last_time.result c.last_line.result
+    c.last_time.ensures
     c.last_time.type_inv c.last_line.ensures c.last_line.type_inv (tasks_of_run r.tasks (events_of r))
 
 pub returns-in_ok-summary_by-in-None : goal.returns-in_ok-summary_by-in-None

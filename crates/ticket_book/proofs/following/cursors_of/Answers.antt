@@ -13,7 +13,8 @@ returns-clause-followed c =
     let r = record_view c.args.joined.now in
     let count = ap length c.events-event-items.ensures in
     let all : length r.events ≤ c.loop-index.index = let end = c.loop-index-test.false in omega (arith, count, end) in
-    subst (λ (events : List Entry). AreFollowed c.args.places.now c.loop-index.cursors.items (claimed r.claims r.nices (policy_of r) events))
+    subst (λ (events : List Entry). AreFollowed c.args.places.now c.loop-index.cursors.items
+    (claimed r.claims r.nices (policy_of r) events))
     (take_all c.loop-index.index r.events all) c.loop-index.invariant.followed
 
 pub loop-index-preserved : goal.loop-index-preserved
@@ -36,9 +37,13 @@ loop-index-preserved c =
       count = search rules;
       claims = search rules;
       nices = search rules;
-      followed = subst (λ cs. AreFollowed places cs (claimed r.claims r.nices (policy_of r) (take (c.loop-index.index + 1) r.events)))
+      followed = subst (λ cs. AreFollowed places cs
+          (claimed r.claims r.nices (policy_of r) (take (c.loop-index.index + 1) r.events)))
           (sym (lent_back after before c.loop-index.cursors.len count))
-          (followed_one_more places c.deref_mut.result.now after r.claims r.nices (policy_of r) r.events c.loop-index.index event _ _ _
+          (followed_one_more places c.deref_mut.result.now after r.claims r.nices
+          (policy_of r) r.events c.loop-index.index event _ _ _
           (omega (arith, within, total)) is claim nice idle c.follow.ensures
-          (subst (λ cs. AreFollowed places cs (claimed r.claims r.nices (policy_of r) (take c.loop-index.index r.events))) (sym lent) c.loop-index.invariant.followed));
+          (subst (λ cs. AreFollowed places cs
+          (claimed r.claims r.nices (policy_of r) (take c.loop-index.index r.events)))
+          (sym lent) c.loop-index.invariant.followed));
     }

@@ -12,5 +12,6 @@ invariant-loop-index l = record {
   claims : IsClaimPlace (record_view l.joined) l.index l.claim_place;
   nices : IsNicePlace (record_view l.joined) l.index l.nice_place;
   followed : AreFollowed l.places l.cursors.items
-      (claimed (record_view l.joined).claims (record_view l.joined).nices (policy_of (record_view l.joined)) (take l.index (record_view l.joined).events));
+      (claimed (record_view l.joined).claims (record_view l.joined).nices (policy_of (record_view l.joined))
+      (take l.index (record_view l.joined).events));
 }

@@ -9,7 +9,8 @@ loop-page-init c = record { largest_is = refl; have = λ cpu page below at. absu
 pub loop-page-preserved : goal.loop-page-preserved
 loop-page-preserved c =
     one_larger c.args.pages.now c.loop-page.page-index c.page-item.result c.loop-page-test.true c.page-item.is
-    c.replayed.ensures.needs (needs_view c.loop-page.largest) (needs_view c.larger-largest.result) (needs_view c.needs.result)
+    c.replayed.ensures.needs (needs_view c.loop-page.largest) (needs_view c.larger-largest.result)
+    (needs_view c.needs.result)
     c.needs.ensures c.larger-largest.ensures c.loop-page.invariant
 
 pub returns : goal.returns

@@ -13,7 +13,8 @@ use Rattle.ticket_book.proofs.least_closing.least_on.Goals.{After-largest_needs}
 
 pub told_by-requires-clause-rise : goal.told_by-requires-clause-rise
 told_by-requires-clause-rise c =
-    tickets_rise greatest_settings (record_view c.args.joined.now) c.args.pages.now c.requires c.args.joined.now.in_order
+    tickets_rise greatest_settings (record_view c.args.joined.now) c.args.pages.now c.requires
+    c.args.joined.now.in_order
 
 pub returns-in-Some : goal.returns-in-Some
 returns-in-Some c =
@@ -36,7 +37,8 @@ knobs_of-requires c =
     let r = record_view c.args.joined.now in
     let pages = c.args.pages.now in
     subst AreInRange (sym c.largest_needs.ensures.largest)
-    (in_range r pages c.requires c.args.joined.now.in_order (nothing c) c.largest_needs.ensures.have c.closing.ensures.done
+    (in_range r pages c.requires c.args.joined.now.in_order
+    (nothing c) c.largest_needs.ensures.have c.closing.ensures.done
     c.needs.ensures.pages c.closing.ensures.run)
 
 pub returns-in-None : goal.returns-in-None

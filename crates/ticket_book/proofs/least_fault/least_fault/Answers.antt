@@ -16,7 +16,8 @@ loop-cpu-preserved c = λ knobs r told.
     let here = told cpu _ (slice_get-get_or c.args.own.now cpu _ c.loop-cpu-test.true) in
     let none = subst (λ o. IfNone o ((line : ℕ) → ¬ HasFaultAt knobs r cpu place line)) (sym c.fault_at.ensures)
     (line_none knobs r cpu _ place here) in
-    let some = subst (λ o. IfSome o (HasFaultAt knobs r cpu place)) (sym c.fault_at.ensures) (line_some knobs r cpu _ place here) in
+    let some = subst (λ o. IfSome o (HasFaultAt knobs r cpu place)) (sym c.fault_at.ensures)
+    (line_some knobs r cpu _ place here) in
     subst (IsLeastFaultLine knobs r places (cpu + 1)) (sym c.lesser-least.ensures)
     (least_more knobs r places cpu c.loop-cpu.least c.fault_at.result (c.loop-cpu.invariant knobs r told) none some)
 

@@ -6,4 +6,5 @@ use Rattle.ticket_book.proofs.least_fault.least_fault.Given as goal
 
 abbrev pub invariant-loop-cpu : goal.invariant-loop-cpu
 invariant-loop-cpu l =
-    (knobs : Settings) (r : RecordView) → AreToldOwn knobs r l.places l.own → IsLeastFaultLine knobs r l.places l.cpu l.least
+    (knobs : Settings) (r : RecordView) → AreToldOwn knobs r l.places l.own
+    → IsLeastFaultLine knobs r l.places l.cpu l.least

@@ -3,7 +3,9 @@ use Rattle.std.proofs.lemmas.Bool.{eq-eqb, ne_eqb}
 use Rattle.std.proofs.lemmas.List.{get_or_default}
 use Rattle.ticket_book.proofs.Tasks.{HasWalked, other_task, same_task, tasks_differ, walked_here, walked_past}
 use Rattle.ticket_book.proofs.relying.are_tasks_at.Goals as goal
-use Rattle.ticket_book.proofs.relying.are_tasks_at.Goals.{then-place-here-via-then-place-here, then-place-here-via-else-place-here+then-ne, then-task-cpu+else-place-here+else-ne, else-task-cpu}
+use Rattle.ticket_book.proofs.relying.are_tasks_at.Goals.{then-place-here-via-then-place-here}
+use Rattle.ticket_book.proofs.relying.are_tasks_at.Goals.{then-place-here-via-else-place-here+then-ne}
+use Rattle.ticket_book.proofs.relying.are_tasks_at.Goals.{then-task-cpu+else-place-here+else-ne, else-task-cpu}
 
 pub returns-then-place-here : goal.returns-then-place-here
 returns-then-place-here c =
@@ -14,8 +16,11 @@ returns-then-place-here c =
     tasks_differ c.args.cpu c.args.tasks.now here c.loop-task.task-index place task c.loop-task-test.true c.task-item.is
     (eq-eqb task.cpu c.args.cpu c.if-task-cpu.true) c.loop-task.invariant.count in
     elim c.then-place-here.branch [
-      | then-place-here-via-then-place-here w ↦
-          (λ f. absurd cc, λ same. absurd (differ (λ more e. let all = w.if-place-here.true in omega (arith, more, all)) same))
+      | then-place-here-via-then-place-here w ↦ (
+        λ f. absurd cc,
+        λ same. absurd
+            (differ (λ more e. let all = w.if-place-here.true in omega (arith, more, all)) same),
+      )
       | then-place-here-via-else-place-here+then-ne w ↦ (
         λ f. absurd cc,
         λ same. absurd (differ (λ more e.
@@ -32,11 +37,13 @@ loop-task-preserved c =
     let place = c.loop-task.place in
     let task = c.task-item.result in
     let before = c.loop-task.invariant in
-    let walked : HasWalked c.args.cpu (take i tasks) here place = record { within = before.within; count = before.count; same = before.same } in
+    let walked : HasWalked c.args.cpu (take i tasks) here place =
+    record { within = before.within; count = before.count; same = before.same } in
     let after : HasWalked c.args.cpu (take (i + 1) tasks) here c.if-task-cpu.place =
     elim c.if-task-cpu.branch [
       | then-task-cpu+else-place-here+else-ne w ↦
-          (let more : place < length here = let low = before.within in let not_all = w.if-place-here.false in omega (arith, low, not_all) in
+          (let more : place < length here = let low = before.within in let not_all = w.if-place-here.false in
+          omega (arith, low, not_all) in
           let equal = sym (get_or_default here place w.index-here-place.result task more) ∙ sym w.index-here-place.is
           ∙ same_task w.index-here-place.result task w.ne.result w.ne.ensures w.if-ne.false in
           subst (HasWalked c.args.cpu (take (i + 1) tasks) here) (sym w.place-is)

@@ -6,7 +6,8 @@ use Rattle.ticket_book.specs.Relying.{IsLeastFaultLine}
 use Rattle.ticket_book.specs.Remade.{AreRemadeBelow, Suffices}
 use Rattle.ticket_book.proofs.CoreKept.{nothing_remade}
 use Rattle.ticket_book.proofs.CoreKept.{nothing_remade}
-use Rattle.ticket_book.proofs.Gathering.{AreGathered, IsGathered, all_gathered, gathered_one, made_one, reliable_suffices, suffices_reliable, whole_suffices}
+use Rattle.ticket_book.proofs.Gathering.{AreGathered, IsGathered, all_gathered, gathered_one, made_one}
+use Rattle.ticket_book.proofs.Gathering.{reliable_suffices, suffices_reliable, whole_suffices}
 use Rattle.ticket_book.proofs.Owned.{told_at}
 use Rattle.ticket_book.proofs.remaking.gathered_pages.Goals as goal
 use Rattle.ticket_book.proofs.remaking.gathered_pages.Goals.{in-Some, in-None+in_ok-page-in-None}
@@ -46,7 +47,8 @@ loop-cpu-preserved c =
             is_page = relied.is_page;
           } in
           rw (pages, w.remade-is)
-          (gathered_one knobs r places left c.take_page-place.new.places c.loop-cpu.pages.items cpu c.loop-cpu.remade page c.loop-cpu.invariant
+          (gathered_one knobs r places left c.take_page-place.new.places c.loop-cpu.pages.items cpu c.loop-cpu.remade
+          page c.loop-cpu.invariant
           is taken.others (sym taken.page ∙ relied.same)))
       | in-None+in_ok-page-in-None w ↦
           (let page = w.in_ok-page-in-None.page in
@@ -58,7 +60,8 @@ loop-cpu-preserved c =
           let is : IsGathered knobs r places cpu page =
           record { suffices = whole_suffices knobs r places cpu page whole; is_page = whole.is_page } in
           rw (pages, w.remade-is)
-          (made_one knobs r places left c.take_page-place.new.places c.loop-cpu.pages.items cpu c.loop-cpu.remade page c.loop-cpu.invariant
+          (made_one knobs r places left c.take_page-place.new.places c.loop-cpu.pages.items cpu c.loop-cpu.remade page
+          c.loop-cpu.invariant
           is taken.others lacks))
     ]
 
@@ -72,7 +75,8 @@ returns-clause-suffice c =
     let all = c.loop-cpu-test.false in
     let same : c.loop-cpu.cpu ≡ r.cpus = omega (arith, count, most, all) in
     all_gathered knobs r places c.loop-cpu.left c.loop-cpu.pages.items c.loop-cpu.remade
-    (subst (λ n. AreGathered knobs r places c.loop-cpu.left c.loop-cpu.pages.items n c.loop-cpu.remade) same c.loop-cpu.invariant)
+    (subst (λ n. AreGathered knobs r places c.loop-cpu.left c.loop-cpu.pages.items n c.loop-cpu.remade) same
+    c.loop-cpu.invariant)
 
 pub returns-clause-nothing_remade : goal.returns-clause-nothing_remade
 returns-clause-nothing_remade c =

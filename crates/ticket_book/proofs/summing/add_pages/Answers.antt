@@ -12,7 +12,8 @@ loop-page-init c = sym (add_none c.args.sums.now.list.items)
 pub add_all-requires : goal.add_all-requires
 add_all-requires c =
     page_fits c.args.pages.now c.loop-page.page-index c.page-item.result c.loop-page-test.true c.page-item.is
-    c.tallies.result.now c.tallies.ensures c.args.sums.now.list.items c.loop-page.sums.list.items c.loop-page.invariant c.requires
+    c.tallies.result.now c.tallies.ensures c.args.sums.now.list.items c.loop-page.sums.list.items c.loop-page.invariant
+    c.requires
 
 pub loop-page-preserved : goal.loop-page-preserved
 loop-page-preserved c =

@@ -20,9 +20,11 @@ loop-event-preserved c =
     record {
       counted = c.with-counts.ensures ∙ ap (with_event event) c.loop-event.invariant.counted
           ∙ count_more events i event c.loop-event-test.true c.event-item.is;
-      named = both_named (births_in (take i events)) (born_by event.act) c.args.sums.now.list.items c.loop-event.sums.list.items
+      named = both_named (births_in (take i events))
+          (born_by event.act) c.args.sums.now.list.items c.loop-event.sums.list.items
           c.name_born.new.sums.list.items c.loop-event.invariant.named c.in_ok-name_born.ensures
-          ∙ ap (λ pids. with_named pids c.args.sums.now.list.items) (births_more events i event c.loop-event-test.true c.event-item.is);
+          ∙ ap (λ pids. with_named pids c.args.sums.now.list.items)
+          (births_more events i event c.loop-event-test.true c.event-item.is);
     }
 
 pub returns : goal.returns
@@ -30,5 +32,6 @@ returns c =
     let all = take_all c.loop-event.event-index c.args.events.now c.loop-event-test.false in
     record {
       counts = c.loop-event.invariant.counted ∙ ap counts_of all;
-      named = c.loop-event.invariant.named ∙ ap (λ events. with_named (births_in events) c.args.sums.now.list.items) all;
+      named = c.loop-event.invariant.named
+          ∙ ap (λ events. with_named (births_in events) c.args.sums.now.list.items) all;
     }

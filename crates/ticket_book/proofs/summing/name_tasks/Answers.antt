@@ -7,7 +7,8 @@ use Rattle.ticket_book.proofs.summing.name_tasks.Goals as goal
 
 pub loop-task-preserved : goal.loop-task-preserved
 loop-task-preserved c =
-    one_more_named (λ (task : Task). task.pid) c.args.tasks.now c.loop-task.task-index c.task-item.result c.args.sums.now.list.items
+    one_more_named (λ (task : Task). task.pid) c.args.tasks.now c.loop-task.task-index c.task-item.result
+    c.args.sums.now.list.items
     c.loop-task.sums.list.items c.name.new.self.list.items c.loop-task-test.true c.task-item.is c.loop-task.invariant
     c.in_ok-name.ensures.named
 

@@ -15,7 +15,8 @@ add_pages-requires c =
     let r = record_view c.args.joined.now in
     let tallies = tallies_below (view_at c.args.pages.now) (length c.args.pages.now) in
     let named : c.count_events.new.sums.list.items ≡ map new_tally (tasks_of_run r.tasks (events_of r)) =
-    tasks_named r c.tasks.result.now c.events-events.result.now c.tasks.ensures c.events-events.ensures c.new-sums.result.list.items
+    tasks_named r c.tasks.result.now c.events-events.result.now c.tasks.ensures c.events-events.ensures
+    c.new-sums.result.list.items
     c.name_tasks.new.sums.list.items c.count_events.new.sums.list.items c.new-sums.ensures c.in_ok-name_tasks.ensures
     c.in_ok-counts.ensures.named in
     subst (All (λ sum. FitsTally (with_tallies tallies sum))) (sym named)
@@ -26,7 +27,8 @@ returns c =
     let r = record_view c.args.joined.now in
     let tallies = tallies_below (view_at c.args.pages.now) (length c.args.pages.now) in
     let named : c.count_events.new.sums.list.items ≡ map new_tally (tasks_of_run r.tasks (events_of r)) =
-    tasks_named r c.tasks.result.now c.events-events.result.now c.tasks.ensures c.events-events.ensures c.new-sums.result.list.items
+    tasks_named r c.tasks.result.now c.events-events.result.now c.tasks.ensures c.events-events.ensures
+    c.new-sums.result.list.items
     c.name_tasks.new.sums.list.items c.count_events.new.sums.list.items c.new-sums.ensures c.in_ok-name_tasks.ensures
     c.in_ok-counts.ensures.named in
     summary_is_of r c.tasks.result.now c.events-events.result.now c.tasks.ensures c.events-events.ensures tallies

@@ -10,7 +10,8 @@ invariant_of-sums c =
     let f = c.place_of.ensures.found c.in-Some.place c.in-Some.is in
     record {
       placed = subst (λ l. IsPlaced l sums.places)
-          (sym (added_there sums.list.items sums.places sums.placed c.args.tally c.in-Some.place c.index_mut.result.now c.add_to.new.sum f.0 (f.1 _)
+          (sym (added_there sums.list.items sums.places sums.placed c.args.tally c.in-Some.place c.index_mut.result.now
+          c.add_to.new.sum f.0 (f.1 _)
           (c.add_to.ensures ∙ ap (with_tallies (c.args.tally ∷ [])) c.index_mut.ensures.value)))
           (added_placed sums.list.items sums.places sums.placed c.args.tally);
     }
@@ -19,7 +20,8 @@ pub returns-in-Some : goal.returns-in-Some
 returns-in-Some c =
     let sums = c.args.sums.now in
     let f = c.place_of.ensures.found c.in-Some.place c.in-Some.is in
-    added_there sums.list.items sums.places sums.placed c.args.tally c.in-Some.place c.index_mut.result.now c.add_to.new.sum f.0 (f.1 _)
+    added_there sums.list.items sums.places sums.placed c.args.tally c.in-Some.place c.index_mut.result.now
+    c.add_to.new.sum f.0 (f.1 _)
     (c.add_to.ensures ∙ ap (with_tallies (c.args.tally ∷ [])) c.index_mut.ensures.value)
 
 pub returns-in_default : goal.returns-in_default

@@ -10,12 +10,14 @@ loop-tally-init c = sym (add_none c.args.sums.now.list.items)
 
 pub add-requires : goal.add-requires
 add-requires c =
-    one_fits c.args.tallies.now c.args.sums.now.list.items c.loop-tally.sums.list.items c.loop-tally.tally-index (new_tally 0)
+    one_fits c.args.tallies.now c.args.sums.now.list.items c.loop-tally.sums.list.items c.loop-tally.tally-index
+    (new_tally 0)
     c.loop-tally-test.true c.loop-tally.invariant c.requires
 
 pub loop-tally-preserved : goal.loop-tally-preserved
 loop-tally-preserved c =
-    one_added c.args.tallies.now c.args.sums.now.list.items c.loop-tally.sums.list.items c.loop-tally.tally-index (new_tally 0)
+    one_added c.args.tallies.now c.args.sums.now.list.items c.loop-tally.sums.list.items c.loop-tally.tally-index
+    (new_tally 0)
     c.loop-tally-test.true c.loop-tally.invariant c.add.new.sums.list.items c.add.ensures
 
 pub returns : goal.returns

@@ -11,10 +11,12 @@ invariant_of-self g c =
     let begun = c.in-Ok.begun in
     let own : IsOwnReplay g.L.CrewLedger.knobs g.L.CrewLedger.joined begun.replay =
     subst (λ (r : RecordView). IsOwnReplay g.L.CrewLedger.knobs r begun.replay) (sym c.requires.joined)
-    (subst (λ (k : Settings). IsOwnReplay k (record_view c.args.joined.now) begun.replay) (sym c.requires.knobs) c.in-Ok.ensures) in
+    (subst (λ (k : Settings). IsOwnReplay k (record_view c.args.joined.now) begun.replay)
+    (sym c.requires.knobs) c.in-Ok.ensures) in
     record {
       part = c.args.self.now.part;
       counted = c.args.self.now.counted;
       free = λ going. c.requires.free;
-      own = λ other same. subst (λ (u : Underway). IsOwnReplay g.L.CrewLedger.knobs g.L.CrewLedger.joined u.replay) (same_Some begun other same) own;
+      own = λ other same. subst (λ (u : Underway). IsOwnReplay g.L.CrewLedger.knobs g.L.CrewLedger.joined u.replay)
+          (same_Some begun other same) own;
     }

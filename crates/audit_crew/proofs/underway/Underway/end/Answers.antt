@@ -10,7 +10,8 @@ returns-in-Ok-clause-posted g c =
     let told = g.S.ReservedShelf.told c.post.new.self in
     let through : IsThrough page told =
     subst (IsThrough page) (sym c.post.ensures.told)
-    (subst (λ r. IsThrough r (g.S.ReservedShelf.told c.go_through.new.shelf)) (sym c.page.ensures.same) c.in_ok-go_through.ensures.through) in
+    (subst (λ r. IsThrough r (g.S.ReservedShelf.told c.go_through.new.shelf))
+    (sym c.page.ensures.same) c.in_ok-go_through.ensures.through) in
     let stream : page.stream ≡ c.args.self.replay.stream =
     ap (λ (r : ReplayView). r.stream) c.page.ensures.same ∙ c.in_ok-go_through.ensures.stream in
     let knobs : page.knobs ≡ c.args.self.replay.knobs =
@@ -18,7 +19,8 @@ returns-in-Ok-clause-posted g c =
       tag_of page,
       c.in-Ok.ensures.added,
       subst (λ s. IsTagOf s c.args.self.replay.knobs told (tag_of page)) stream
-          (subst (λ k. IsTagOf page.stream k told (tag_of page)) knobs (tag_through page told c.page.ensures.is_page through)),
+          (subst (λ k. IsTagOf page.stream k told (tag_of page)) knobs
+          (tag_through page told c.page.ensures.is_page through)),
     )
 
 pub post-requires-clause-taken : goal.post-requires-clause-taken

@@ -20,15 +20,29 @@ pub returns-in-Ok-Failed-clause-fails : goal.returns-in-Ok-Failed-clause-fails
 returns-in-Ok-Failed-clause-fails c =
     let l = c.in_default.ensures in
     let lifted = runqueue_view c.lift.new.self in
-    let T : Outcome → Type 0 = λ o. IsTried c.args.knobs c.args.cpu (reniced c.args.step.now.nice lifted) c.args.step.now (runqueue_view c.try_step.new.queue) o in
-    inr (reniced c.args.step.now.nice lifted, (c.requires.in_time, (l.in_range, tt)), record { lifted = lifted; is_lifted = l.lifted; is_reniced = refl }, subst T c.in-Ok-Failed.field-0-is c.in-Ok-Failed.ensures.tried)
+    let T : Outcome → Type 0 = λ o. IsTried c.args.knobs c.args.cpu
+    (reniced c.args.step.now.nice lifted) c.args.step.now (runqueue_view c.try_step.new.queue) o in
+    inr (
+      reniced c.args.step.now.nice lifted,
+      (c.requires.in_time, (l.in_range, tt)),
+      record {
+        lifted =
+            lifted;
+        is_lifted = l.lifted;
+        is_reniced =
+            refl;
+      },
+      subst T c.in-Ok-Failed.field-0-is c.in-Ok-Failed.ensures.tried,
+    )
 
 pub returns-in-Ok-Failed-clause-later : goal.returns-in-Ok-Failed-clause-later
 returns-in-Ok-Failed-clause-later c =
     let lifted = runqueue_view c.lift.new.self in
     let failed = c.in-Ok-Failed.failed in
-    let T : Outcome → Type 0 = λ o. IsTried c.args.knobs c.args.cpu (reniced c.args.step.now.nice lifted) c.args.step.now (runqueue_view c.try_step.new.queue) o in
-    is_later c.args.knobs c.args.cpu (reniced c.args.step.now.nice lifted) c.args.step.now failed.kind failed.pid (subst T c.in-Ok-Failed.field-0-is c.in-Ok-Failed.ensures.tried)
+    let T : Outcome → Type 0 = λ o. IsTried c.args.knobs c.args.cpu
+    (reniced c.args.step.now.nice lifted) c.args.step.now (runqueue_view c.try_step.new.queue) o in
+    is_later c.args.knobs c.args.cpu (reniced c.args.step.now.nice lifted) c.args.step.now failed.kind failed.pid
+    (subst T c.in-Ok-Failed.field-0-is c.in-Ok-Failed.ensures.tried)
 
 pub restore-requires : goal.restore-requires
 restore-requires c =
@@ -36,13 +50,18 @@ restore-requires c =
     let S : Outcome → Type 0 = λ o. HoldsUnmade {E = Memory} (Ok o) c.lift.new.self c.try_step.new.queue in (
       q,
       c.unlifted-before.ensures,
-      holds_both q c.lift.new.self c.try_step.new.queue c.lift.ensures.same (subst S c.in-Ok-Failed.field-0-is c.in-Ok-Failed.ensures.same),
+      holds_both q c.lift.new.self c.try_step.new.queue c.lift.ensures.same
+          (subst S c.in-Ok-Failed.field-0-is c.in-Ok-Failed.ensures.same),
     )
 
 pub restore-requires-in-Err-try_step : goal.restore-requires-in-Err-try_step
 restore-requires-in-Err-try_step c =
-    let q = c.args.self.now.queue in
-    (q, c.unlifted-before.ensures, holds_both q c.lift.new.self c.try_step.new.queue c.lift.ensures.same c.in-Err-try_step.ensures.same)
+    let q = c.args.self.now.queue in (
+      q,
+      c.unlifted-before.ensures,
+      holds_both q c.lift.new.self c.try_step.new.queue c.lift.ensures.same
+          c.in-Err-try_step.ensures.same,
+    )
 
 pub note_stretch-requires-clause-fits : goal.note_stretch-requires-clause-fits
 note_stretch-requires-clause-fits c =
@@ -50,7 +69,8 @@ note_stretch-requires-clause-fits c =
     let q = old.queue in
     let step = c.args.step.now in
     (noted_ran (runqueue_view q) step.time c.saturating_sub-time.result old.made c.in_default.ensures.in_range
-    (c.saturating_sub-time.ensures ∙ ap (λ n. step.time - n) c.mark.ensures) c.saturating_sub-time.type_inv c.runner-runner.result
+    (c.saturating_sub-time.ensures ∙ ap (λ n. step.time - n) c.mark.ensures) c.saturating_sub-time.type_inv
+    c.runner-runner.result
     c.runner-runner.ensures
     old.draft.tallies.list.items c.requires.going.within).0
 
@@ -60,7 +80,8 @@ note-requires-clause-within c =
     let q = old.queue in
     let step = c.args.step.now in
     let ran = (noted_ran (runqueue_view q) step.time c.saturating_sub-time.result old.made c.in_default.ensures.in_range
-    (c.saturating_sub-time.ensures ∙ ap (λ n. step.time - n) c.mark.ensures) c.saturating_sub-time.type_inv c.runner-runner.result
+    (c.saturating_sub-time.ensures ∙ ap (λ n. step.time - n) c.mark.ensures) c.saturating_sub-time.type_inv
+    c.runner-runner.result
     c.runner-runner.ensures
     old.draft.tallies.list.items c.requires.going.within).1 in
     let P : List Tally → Type 0 = λ l. All (IsRan old.made) l in
@@ -73,14 +94,16 @@ returns-clause-passes c _ =
     let step = c.args.step.now in
     let lifted = runqueue_view c.lift.new.self in
     let l = c.in_default.ensures in
-    let T : Outcome → Type 0 = λ o. IsTried c.args.knobs c.args.cpu (reniced step.nice lifted) step (runqueue_view c.try_step.new.queue) o in
+    let T : Outcome → Type 0 = λ o. IsTried c.args.knobs c.args.cpu (reniced step.nice lifted) step
+    (runqueue_view c.try_step.new.queue) o in
     let tried = subst T c.in-Ok-Made.field-0-is c.in-Ok-Made.ensures.tried in
     let deed = c.in-Ok-Made.deed in
     let needs = step_needs step.deed deed.need c.idled_time-idled.result in
     let mid = c.note_stretch.new.self in
     let s = c.note_stretch.ensures.same in
     let ran = (noted_ran (runqueue_view q) step.time c.saturating_sub-time.result old.made c.in_default.ensures.in_range
-    (c.saturating_sub-time.ensures ∙ ap (λ n. step.time - n) c.mark.ensures) c.saturating_sub-time.type_inv c.runner-runner.result
+    (c.saturating_sub-time.ensures ∙ ap (λ n. step.time - n) c.mark.ensures) c.saturating_sub-time.type_inv
+    c.runner-runner.result
     c.runner-runner.ensures
     old.draft.tallies.list.items c.requires.going.within).1 in
     let P : List Tally → Type 0 = λ x. All (IsRan old.made) x in
@@ -99,7 +122,8 @@ returns-clause-passes c _ =
             };
             part = tried.1;
             since = c.since_after-self.ensures;
-            page = page_is old.draft mid c.note.new.self (runqueue_view q) (reniced step.nice lifted) step c.in-Ok-Made.deed.ticket c.requires.going.fault
+            page = page_is old.draft mid c.note.new.self (runqueue_view q)
+                (reniced step.nice lifted) step c.in-Ok-Made.deed.ticket c.requires.going.fault
                 (record { line = s.0; fault = s.1; left = s.2; came = s.3; births = s.4; deaths = s.5 })
                 (c.note_stretch.ensures.tallies
                 ∙ ap (λ n. stretched c.runner-runner.result n old.draft.tallies.list.items)
@@ -118,9 +142,11 @@ returns-clause-passes c _ =
                   tallies = n.tallies;
                 });
           };
-          needs_are = needs_of_step old.since (reniced step.nice lifted) step deed.need c.idled_time-idled.result tried.3 c.idled_time-idled.ensures;
+          needs_are = needs_of_step old.since
+              (reniced step.nice lifted) step deed.need c.idled_time-idled.result tried.3 c.idled_time-idled.ensures;
         },
         c.raise.ensures,
       );
-      within = subst W (sym c.note.ensures.tallies) (tallied_within old.made step.deed mid.tallies.list.items (subst P (sym c.note_stretch.ensures.tallies) ran));
+      within = subst W (sym c.note.ensures.tallies)
+          (tallied_within old.made step.deed mid.tallies.list.items (subst P (sym c.note_stretch.ensures.tallies) ran));
     }

@@ -14,8 +14,11 @@ returns-in-Some-found-clause-stepped c =
     let b = c.in-Some-found.failed in
     let is = c.in-Some-found.is in
     let e = c.in_ok-found.ensures in
-    let F : Option FailedTest → Type 0 = λ o. IfSome o (λ f. FailsTest c.args.knobs c.args.cpu (replay_state_view old) c.args.step.now f.kind f.pid) in
+    let F : Option FailedTest → Type 0 =
+    λ o. IfSome o (λ f. FailsTest c.args.knobs c.args.cpu (replay_state_view old) c.args.step.now f.kind f.pid) in
     let K : Option FailedTest → Type 0 = λ o. IfSome o (λ f. f.kind ≢ IdleTooLong) in
-    failed c.args.knobs c.args.cpu (replay_state_view old) (needs_view old.needs) c.args.step.now b.kind b.pid None (replay_state_view c.pass.new.self) c.fail-in-Some-found.new.self
-    (subst F is e.fails) (no_deadline b.kind c.args.knobs.slack old.since (subst K is e.later)) (undone_state old c.pass.new.self (e.undone (λ same. let f = sym is ∙ same in cc)))
+    failed c.args.knobs c.args.cpu (replay_state_view old) (needs_view old.needs) c.args.step.now b.kind b.pid None
+    (replay_state_view c.pass.new.self) c.fail-in-Some-found.new.self
+    (subst F is e.fails) (no_deadline b.kind c.args.knobs.slack old.since (subst K is e.later))
+    (undone_state old c.pass.new.self (e.undone (λ same. let f = sym is ∙ same in cc)))
     c.fail-in-Some-found.ensures.noted

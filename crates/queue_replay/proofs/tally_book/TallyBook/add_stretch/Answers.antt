@@ -11,8 +11,10 @@ invariant_of-self c =
     let f = c.place_of.ensures.found c.in-Some.place c.in-Some.is in
     record {
       placed = subst (λ l. IsPlaced l book.places)
-          (sym (ran_there book.list.items book.places book.placed c.args.task.pid c.args.time c.cost_of-cost.result c.in-Some.place c.index_mut.result.now c.add_run.new.tally f.0 (f.1 _)
-          (c.add_run.ensures ∙ ap (ran_tally c.args.task.pid c.args.time c.cost_of-cost.result) c.index_mut.ensures.value)))
+          (sym (ran_there book.list.items book.places book.placed c.args.task.pid c.args.time c.cost_of-cost.result
+          c.in-Some.place c.index_mut.result.now c.add_run.new.tally f.0 (f.1 _)
+          (c.add_run.ensures ∙ ap (ran_tally c.args.task.pid c.args.time c.cost_of-cost.result)
+          c.index_mut.ensures.value)))
           (ran_placed book.list.items book.places book.placed c.args.task.pid c.args.time c.cost_of-cost.result);
     }
 
@@ -20,7 +22,8 @@ pub returns-in-Some-clause-tallies : goal.returns-in-Some-clause-tallies
 returns-in-Some-clause-tallies c =
     let book = c.args.self.now in
     let f = c.place_of.ensures.found c.in-Some.place c.in-Some.is in
-    ran_there book.list.items book.places book.placed c.args.task.pid c.args.time c.cost_of-cost.result c.in-Some.place c.index_mut.result.now c.add_run.new.tally f.0 (f.1 _)
+    ran_there book.list.items book.places book.placed c.args.task.pid c.args.time c.cost_of-cost.result c.in-Some.place
+    c.index_mut.result.now c.add_run.new.tally f.0 (f.1 _)
     (c.add_run.ensures ∙ ap (ran_tally c.args.task.pid c.args.time c.cost_of-cost.result) c.index_mut.ensures.value)
     ∙ ap (λ (n : ℕ). map (ran_tally c.args.task.pid c.args.time n) book.list.items) c.cost_of-cost.ensures
 
@@ -29,10 +32,12 @@ returns-in-Some-clause-room c pid room =
     let book = c.args.self.now in
     let f = c.place_of.ensures.found c.in-Some.place c.in-Some.is in
     room_ran pid book.list _ book.places c.args.task.pid c.args.time c.cost_of-cost.result
-    (ran_there book.list.items book.places book.placed c.args.task.pid c.args.time c.cost_of-cost.result c.in-Some.place c.index_mut.result.now c.add_run.new.tally f.0 (f.1 _)
+    (ran_there book.list.items book.places book.placed c.args.task.pid c.args.time c.cost_of-cost.result c.in-Some.place
+    c.index_mut.result.now c.add_run.new.tally f.0 (f.1 _)
     (c.add_run.ensures ∙ ap (ran_tally c.args.task.pid c.args.time c.cost_of-cost.result) c.index_mut.ensures.value))
     refl refl room
 
 pub returns-in_default-clause-tallies : goal.returns-in_default-clause-tallies
 returns-in_default-clause-tallies c =
-    ran_nowhere c.args.self.now.list.items c.args.task.pid c.args.time (cost_of c.args.time c.args.task) (c.place_of.ensures.none c.in_default.is)
+    ran_nowhere c.args.self.now.list.items c.args.task.pid c.args.time (cost_of c.args.time c.args.task)
+    (c.place_of.ensures.none c.in_default.is)

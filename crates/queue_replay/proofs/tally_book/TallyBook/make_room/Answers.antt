@@ -12,14 +12,17 @@ invariant_of-self-in-None c =
     let e = c.in_ok-reserve.ensures.items in
     let placed : IsPlaced items book.places = subst (λ l. IsPlaced l book.places) (sym e) book.placed in
     record {
-      placed = placed_kept (λ (tally : Tally). tally.pid) items book.places c.insert.new.self placed c.args.pid (c.place_of.ensures.none c.in-None.is)
-          (same_others c.insert.result c.args.pid c.len-place.result book.places c.insert.new.self c.insert.ensures.updates c.insert.ensures.err);
+      placed = placed_kept (λ (tally : Tally). tally.pid) items book.places c.insert.new.self placed c.args.pid
+          (c.place_of.ensures.none c.in-None.is)
+          (same_others c.insert.result c.args.pid c.len-place.result book.places c.insert.new.self
+          c.insert.ensures.updates c.insert.ensures.err);
     }
 
 pub returns-in_ok-insert-in-None-clause-room : goal.returns-in_ok-insert-in-None-clause-room
 returns-in_ok-insert-in-None-clause-room c =
     let n : c.len-place.result ≡ length c.reserve.new.self.items = search rules in
-    room_from (λ (tally : Tally). tally.pid) c.args.pid c.reserve.new.self c.insert.new.self (search rules) (λ none. c.in_ok-insert-in-None.ensures.updates.1 ∙ ap Some n)
+    room_from (λ (tally : Tally). tally.pid) c.args.pid c.reserve.new.self c.insert.new.self (search rules)
+    (λ none. c.in_ok-insert-in-None.ensures.updates.1 ∙ ap Some n)
 
 pub returns-in-Some-clause-room : goal.returns-in-Some-clause-room
 returns-in-Some-clause-room c =

@@ -7,4 +7,7 @@ use Rattle.queue_replay.proofs.tally_book.TallyBook.new.Goals as goal
 pub invariant_of-result : goal.invariant_of-result
 invariant_of-result c =
     let e : c.new.result.items ≡ [] = search rules in
-    record { placed = subst (λ l. IsPlaced l c.new-2.result) (sym e) (placed_none (λ (tally : Tally). tally.pid) c.new-2.result) }
+    record {
+      placed = subst (λ l. IsPlaced l c.new-2.result) (sym e)
+          (placed_none (λ (tally : Tally). tally.pid) c.new-2.result);
+    }

@@ -26,7 +26,10 @@ invariant_of-self-in-Ok c =
     let P : ℕ → Type 0 = λ d. CanBeCharged d t × (after ≡ charged_task d t) in
     let f = subst P c.saturating_sub.ensures c.in-Ok.ensures.fits in
     let K : Task → Type 0 = λ u. IsQueue (Some u) q.tasks q.waiting in
-    record { kept = subst K (sym f.1) (charged_queue q.runner q.tasks q.waiting q.floor q.mark c.args.time q.kept t c.in-Some.is) }
+    record {
+      kept = subst K (sym f.1) (charged_queue q.runner q.tasks q.waiting q.floor q.mark c.args.time q.kept t
+          c.in-Some.is);
+    }
 
 pub returns-in-Ok-clause-in_range : goal.returns-in-Ok-clause-in_range
 returns-in-Ok-clause-in_range c =
@@ -42,7 +45,8 @@ returns-in-Ok-clause-charged c =
     let after = c.in-Ok.after in
     let P : ℕ → Type 0 = λ d. after ≡ charged_task d t in
     let K : Task → Type 0 = λ u.
-    (let p : Part = record { tasks = standing (Some u) q.tasks; floor = q.floor; mark = c.args.time } in p ≡ charged_part (runqueue_view q) c.args.time) in
+    (let p : Part = record { tasks = standing (Some u) q.tasks; floor = q.floor; mark = c.args.time } in
+    p ≡ charged_part (runqueue_view q) c.args.time) in
     subst K (sym (subst P c.saturating_sub.ensures c.in-Ok.ensures.fits.1))
     (charged_is q.runner q.tasks q.waiting q.floor q.mark c.args.time q.kept t c.in-Some.is)
 

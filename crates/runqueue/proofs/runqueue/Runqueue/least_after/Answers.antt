@@ -10,8 +10,11 @@ use Rattle.runqueue.proofs.runqueue.Runqueue.least_after.Goals as goal
 pub returns-in-Stays : goal.returns-in-Stays
 returns-in-Stays c prev r =
     let q = c.args.self.now in
-    subst (λ (w : Way). IsLeastIfWaiting (part_after_prev (runqueue_view q) prev w) c.least_queued.result) (sym c.in-Stays.is)
-    (stays_least (runqueue_view q) q.runner (the_runner q.runner q.tasks q.waiting q.floor q.mark q.kept) c.least_queued.result c.least_queued.ensures prev r)
+    subst (λ (w : Way). IsLeastIfWaiting (part_after_prev (runqueue_view q) prev w) c.least_queued.result)
+    (sym c.in-Stays.is)
+    (stays_least (runqueue_view q) q.runner
+    (the_runner q.runner q.tasks q.waiting q.floor q.mark q.kept) c.least_queued.result c.least_queued.ensures prev
+    r)
 
 pub returns-in-Sleeps : goal.returns-in-Sleeps
 returns-in-Sleeps c prev r =

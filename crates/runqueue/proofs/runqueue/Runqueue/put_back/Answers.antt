@@ -17,14 +17,17 @@ invariant_of-self-2 c =
     let t = c.args.runner in
     let whole : to_z w64 (of_z w64 t.v) ≡ t.v = search rules in
     record {
-      kept = back_queue q.tasks c.write_over.new.tasks q.waiting t (kept_runner q.runner q.tasks q.waiting (Some t) q.kept c.requires) _ c.write_over.ensures
-          c.insert.new.self (subst (λ (v : ℤ). set.Updates by_runtime q.waiting c.insert.new.self (waiting_task v t.pid) true) whole c.in_ok-insert.ensures.updates) refl;
+      kept = back_queue q.tasks c.write_over.new.tasks q.waiting t
+          (kept_runner q.runner q.tasks q.waiting (Some t) q.kept c.requires) _ c.write_over.ensures
+          c.insert.new.self (subst (λ (v : ℤ). set.Updates by_runtime q.waiting c.insert.new.self
+          (waiting_task v t.pid) true) whole c.in_ok-insert.ensures.updates) refl;
     }
 
 pub returns-clause-part : goal.returns-clause-part
 returns-clause-part c =
     let q = c.args.self.now in
-    runner_leaves q.runner q.tasks c.write_over.new.tasks q.waiting c.args.runner q.kept c.requires _ c.write_over.ensures q.floor q.mark Stays refl
+    runner_leaves q.runner q.tasks c.write_over.new.tasks q.waiting c.args.runner q.kept c.requires _
+    c.write_over.ensures q.floor q.mark Stays refl
 
 pub returns-clause-nobody : goal.returns-clause-nobody
 returns-clause-nobody c =
@@ -32,6 +35,8 @@ returns-clause-nobody c =
     let t = c.args.runner in
     let whole : to_z w64 (of_z w64 t.v) ≡ t.v = search rules in
     nobody_runs None c.write_over.new.tasks c.insert.new.self q.floor q.mark
-    (back_queue q.tasks c.write_over.new.tasks q.waiting t (kept_runner q.runner q.tasks q.waiting (Some t) q.kept c.requires) _ c.write_over.ensures
-    c.insert.new.self (subst (λ (v : ℤ). set.Updates by_runtime q.waiting c.insert.new.self (waiting_task v t.pid) true) whole c.in_ok-insert.ensures.updates) refl)
+    (back_queue q.tasks c.write_over.new.tasks q.waiting t
+    (kept_runner q.runner q.tasks q.waiting (Some t) q.kept c.requires) _ c.write_over.ensures
+    c.insert.new.self (subst (λ (v : ℤ). set.Updates by_runtime q.waiting c.insert.new.self (waiting_task v t.pid) true)
+    whole c.in_ok-insert.ensures.updates) refl)
     refl

@@ -24,8 +24,11 @@ invariant_of-self c =
     let pid = c.args.pid in
     let nice = c.args.nice in
     record {
-      kept = subst (λ (r : Option Task). IsQueue r c.write_over.new.tasks c.args.self.now.waiting) (sym c.reniced_runner-self.ensures)
-          (reniced_queue q.tasks n pid nice (written q.tasks n pid nice c.in_ok-task.field-0.now (sym c.in_ok-task.ensures.value) c.write_over.ensures)
+      kept = subst (λ (r : Option Task). IsQueue r c.write_over.new.tasks c.args.self.now.waiting)
+          (sym c.reniced_runner-self.ensures)
+          (reniced_queue q.tasks n pid nice
+          (written q.tasks n pid nice c.in_ok-task.field-0.now
+          (sym c.in_ok-task.ensures.value) c.write_over.ensures)
           q.runner q.waiting q.kept);
     }
 
@@ -35,8 +38,10 @@ returns-clause-part c =
     let n = c.write_over.new.tasks in
     let pid = c.args.pid in
     let nice = c.args.nice in
-    ap (λ (r : Option Task). part_with (standing r c.write_over.new.tasks) c.args.self.now.floor c.args.self.now.mark) c.reniced_runner-self.ensures
-    ∙ reniced_part q.tasks n pid nice (written q.tasks n pid nice c.in_ok-task.field-0.now (sym c.in_ok-task.ensures.value) c.write_over.ensures)
+    ap (λ (r : Option Task). part_with (standing r c.write_over.new.tasks) c.args.self.now.floor c.args.self.now.mark)
+    c.reniced_runner-self.ensures
+    ∙ reniced_part q.tasks n pid nice (written q.tasks n pid nice c.in_ok-task.field-0.now
+    (sym c.in_ok-task.ensures.value) c.write_over.ensures)
     q.runner q.floor q.mark
 
 pub returns-clause-stands : goal.returns-clause-stands
@@ -45,5 +50,6 @@ returns-clause-stands c some =
     let n = c.write_over.new.tasks in
     let pid = c.args.pid in
     let nice = c.args.nice in
-    stands_listed q.tasks n pid nice (written q.tasks n pid nice c.in_ok-task.field-0.now (sym c.in_ok-task.ensures.value) c.write_over.ensures)
+    stands_listed q.tasks n pid nice (written q.tasks n pid nice c.in_ok-task.field-0.now
+    (sym c.in_ok-task.ensures.value) c.write_over.ensures)
     q.runner (λ e. let f = c.in_ok-task.ensures.value ∙ e in cc)

@@ -20,4 +20,5 @@ returns c q is same =
     let now = c.args.self.now in
     let before = c.args.before in
     let whole : to_z w64 (of_z w64 before.floor) ≡ before.floor = search rules in
-    restored_part q.runner before.runner q.tasks now.tasks q.floor (to_z w64 (of_z w64 before.floor)) q.mark before.mark is.runner (whole ∙ is.floor) is.mark same.tasks
+    restored_part q.runner before.runner q.tasks now.tasks q.floor
+    (to_z w64 (of_z w64 before.floor)) q.mark before.mark is.runner (whole ∙ is.floor) is.mark same.tasks

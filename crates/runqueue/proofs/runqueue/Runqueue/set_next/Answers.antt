@@ -1,4 +1,5 @@
-use Rattle.std.proofs.Common.{◌≡◌, ℤ, false, sym, ap, ◌∙◌, subst, refl, rules, Some, None, Option, option_map, to_z, of_z, w64}
+use Rattle.std.proofs.Common.{◌≡◌, ℤ, false, sym, ap, ◌∙◌, subst, refl, rules, Some, None, Option, option_map, to_z}
+use Rattle.std.proofs.Common.{of_z, w64}
 use Rattle.std.specs.BTreeSet as set
 use Rattle.cfs_model.specs.declared.task.Place.TheVariants.{Run}
 use Rattle.cfs_model.specs.declared.task.Task.{Task}
@@ -20,8 +21,10 @@ invariant_of-self c =
     sym (ap (option_map entity_of) c.in-Some.is) ∙ c.requires.task c.if-next-eq-IDLE_PID.false
     ∙ ap (λ (r : Option Task). standing r q.tasks c.args.next) none in
     record {
-      kept = next_queue q.tasks q.waiting c.remove.new.self t _ (kept_runner q.runner q.tasks q.waiting None q.kept none) (sym has)
-          (subst (λ (v : ℤ). set.Updates by_runtime q.waiting c.remove.new.self (waiting_task v c.args.next) false) whole c.remove.ensures.updates) refl;
+      kept = next_queue q.tasks q.waiting c.remove.new.self t _
+          (kept_runner q.runner q.tasks q.waiting None q.kept none) (sym has)
+          (subst (λ (v : ℤ). set.Updates by_runtime q.waiting c.remove.new.self (waiting_task v c.args.next) false)
+          whole c.remove.ensures.updates) refl;
     }
 
 pub returns-in-Some : goal.returns-in-Some
@@ -32,9 +35,18 @@ returns-in-Some c =
     let has : Some (entity_of t) ≡ standing None q.tasks c.args.next =
     sym (ap (option_map entity_of) c.in-Some.is) ∙ c.requires.task c.if-next-eq-IDLE_PID.false
     ∙ ap (λ (r : Option Task). standing r q.tasks c.args.next) none in
-    next_standing q.tasks t (record { pid = c.args.next; nice = t.nice; idle = t.idle; cpu = t.cpu; place = Run; v = t.v }) q.floor q.mark (sym has) c.if-next-eq-IDLE_PID.false
+    next_standing q.tasks t (record {
+      pid = c.args.next;
+      nice = t.nice;
+      idle = t.idle;
+      cpu = t.cpu;
+      place = Run;
+      v =
+          t.v;
+    }) q.floor q.mark (sym has) c.if-next-eq-IDLE_PID.false
     refl
-    ∙ ap (λ (r : Option Task). part_after_next (record { tasks = standing r q.tasks; floor = q.floor; mark = q.mark }) c.args.next) (sym none)
+    ∙ ap (λ (r : Option Task). part_after_next
+    (record { tasks = standing r q.tasks; floor = q.floor; mark = q.mark }) c.args.next) (sym none)
 
 pub returns-in_default : goal.returns-in_default
 returns-in_default c =
@@ -44,5 +56,6 @@ returns-in_default c =
     ap (λ (r : Option Task). standing r q.tasks c.args.next) (sym none)
     ∙ sym (c.requires.task c.if-next-eq-IDLE_PID.false) ∙ ap (option_map entity_of) c.in_default.is in
     let P : Option Task → Type 0 = λ r.
-    (let p : Part = record { tasks = standing r q.tasks; floor = q.floor; mark = q.mark } in p ≡ part_after_next p c.args.next) in
+    (let p : Part = record { tasks = standing r q.tasks; floor = q.floor; mark = q.mark } in
+    p ≡ part_after_next p c.args.next) in
     subst P (sym none) (no_next q.tasks c.args.next q.floor q.mark e c.if-next-eq-IDLE_PID.false)

@@ -12,5 +12,6 @@ loop-task-preserved c = λ q.
     let t = c.task-item.result in
     let more : take (i + 1) tasks ≡ take i tasks ++ t ∷ [] =
     take_more tasks i t c.loop-task-test.true ∙ ap (λ u. take i tasks ++ u ∷ []) (sym c.task-item.is) in
-    one_named (take i tasks) t (alive_view (record { pids = c.loop-task.pids })) (alive_view (record { pids = c.insert.new.self }))
+    one_named (take i tasks) t (alive_view (record { pids = c.loop-task.pids }))
+    (alive_view (record { pids = c.insert.new.self }))
     c.loop-task.invariant c.in_ok-insert.ensures.updates.0 q ∙ ap (λ ts. named ts q) (sym more)

@@ -8,4 +8,7 @@ invariant_of-result c =
     let all : c.loop-cpu._cpu ≡ c.args.cpus = omega arith in
     let places : c.loop-cpu.places.items ≡ replicate c.args.cpus None =
     c.loop-cpu.invariant ∙ ap (λ n. replicate n None) all in
-    record { kept = subst (λ items. IsBook items no_fault) (sym places) (empty_book c.args.cpus c.requires.some c.requires.at_most) }
+    record {
+      kept = subst (λ items. IsBook items no_fault) (sym places)
+          (empty_book c.args.cpus c.requires.some c.requires.at_most);
+    }

@@ -14,5 +14,6 @@ invariant_of-self c =
     let own = sym (c.cpu-cpu.ensures ∙ ap (λ (s : StreamView). s.cpu) c.stream.ensures) in
     record {
       kept = subst (IsBook (set places cpu (Some page))) (sym line)
-          (book_put places c.args.self.now.least cpu page c.args.self.now.kept (room places cpu c.in_default.ensures) own);
+          (book_put places c.args.self.now.least cpu page c.args.self.now.kept
+          (room places cpu c.in_default.ensures) own);
     }

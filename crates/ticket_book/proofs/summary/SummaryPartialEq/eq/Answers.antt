@@ -6,4 +6,5 @@ use Rattle.ticket_book.proofs.summary.SummaryPartialEq.eq.Goals as goal
 
 pub returns-then-self-other-5-clause-exact : goal.returns-then-self-other-5-clause-exact
 returns-then-self-other-5-clause-exact c =
-    Decides-at _ _ (search rules) (is_same_summary_decides (summary_view c.args.self.now) (summary_view c.args.other.now))
+    Decides-at _ _ (search rules) (is_same_summary_decides (summary_view c.args.self.now)
+    (summary_view c.args.other.now))

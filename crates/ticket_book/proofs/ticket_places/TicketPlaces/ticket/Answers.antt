@@ -9,7 +9,8 @@ returns c =
     let ts = c.args.tickets.now in
     let items = c.self.inside.items.items in
     let place = c.place_past-place.result in
-    let bound : c.args.cpu < length items = subst (λ xs. c.args.cpu < length xs) (sym c.self.view_is) c.requires.in_bounds in
+    let bound : c.args.cpu < length items =
+    subst (λ xs. c.args.cpu < length xs) (sym c.self.view_is) c.requires.in_bounds in
     let from : c.index.result.now ≡ get_or c.args.self.now c.args.cpu 0 = c.index.ensures
     ∙ get_or_default items c.args.cpu c.index.result.now 0 bound ∙ ap (λ xs. get_or xs c.args.cpu 0) c.self.view_is in
     let before : AreBelow c.args.line (take c.index.result.now ts) =
@@ -19,5 +20,10 @@ returns c =
       found = c.ticket_on.ensures
           ∙ ticket_here c.args.line ts place c.requires.rise passed
           (stops_at c.args.line ts c.index.result.now place c.place_past-place.ensures);
-      passes = record { place = place; moved = ap (λ xs. slice_set xs c.args.cpu place) c.self.view_is; passed = passed };
+      passes = record {
+        place = place;
+        moved = ap (λ xs. slice_set xs c.args.cpu place) c.self.view_is;
+        passed =
+            passed;
+      };
     }

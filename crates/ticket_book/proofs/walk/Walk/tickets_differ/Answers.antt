@@ -67,10 +67,14 @@ returns-clause-stands c =
     (sym (view_here c.args.pages.now c.args.dest c.index-pages-dest.result c.requires.dest c.index-pages-dest.is)) in
     record {
       deadline = c.requires.stands.deadline;
-      left = one_moved (λ page. page.left) c.args.pages.now c.args.line c.args.orig c.args.self.now.left c.ticket-leaves.new.self
+      left = one_moved (λ page. page.left) c.args.pages.now c.args.line c.args.orig c.args.self.now.left
+          c.ticket-leaves.new.self
           c.requires.stands.left c.requires.orig
-          (subst (λ ts. PassesTo c.args.orig c.args.line ts c.args.self.now.left c.ticket-leaves.new.self) left_here c.ticket-leaves.ensures.passes);
-      came = one_moved (λ page. page.came) c.args.pages.now c.args.line c.args.dest c.args.self.now.came c.ticket-comes.new.self
+          (subst (λ ts. PassesTo c.args.orig c.args.line ts c.args.self.now.left c.ticket-leaves.new.self) left_here
+          c.ticket-leaves.ensures.passes);
+      came = one_moved (λ page. page.came) c.args.pages.now c.args.line c.args.dest c.args.self.now.came
+          c.ticket-comes.new.self
           c.requires.stands.came c.requires.dest
-          (subst (λ ts. PassesTo c.args.dest c.args.line ts c.args.self.now.came c.ticket-comes.new.self) came_here c.ticket-comes.ensures.passes);
+          (subst (λ ts. PassesTo c.args.dest c.args.line ts c.args.self.now.came c.ticket-comes.new.self) came_here
+          c.ticket-comes.ensures.passes);
     }

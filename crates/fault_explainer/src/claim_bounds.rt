@@ -46,7 +46,7 @@ fn fork_bounds(scene: &Scene) -> Bounds {
 
 /// A claim that isn't there, or is of the wrong sort.
 pub(crate) fn push_claim_missing(text: &mut String, scene: &Scene) -> Result<(), AllocError> {
-    push_need(text, scene.event.pid(), scene.event.act)?;
+    push_need(text, scene.event.act.subject(), scene.event.act)?;
     match scene.event.ends() {
         Some(_) => push_moved(text, scene),
         None => push_by_the_rules(text, scene),
@@ -67,7 +67,12 @@ fn push_need(text: &mut String, pid: u32, act: Act) -> Result<(), AllocError> {
 /// What a task is claimed at by the rules that is put back, woken or born.
 fn push_by_the_rules(text: &mut String, scene: &Scene) -> Result<(), AllocError> {
     match claim_bounds(scene) {
-        Some(bounds) => push_claim_bounds(text, scene.event.line, scene.event.pid(), bounds),
+        Some(bounds) => push_claim_bounds(
+            text,
+            scene.event.line,
+            scene.event.act.subject(),
+            bounds,
+        ),
         None => Ok(()),
     }
 }
@@ -102,7 +107,7 @@ fn push_claim_bounds(
 
 /// What a migrated task is claimed at by the rules.
 fn push_moved(text: &mut String, scene: &Scene) -> Result<(), AllocError> {
-    let pid = scene.event.pid();
+    let pid = scene.event.act.subject();
     match (scene.task(pid), &scene.there) {
         (Some(task), Some(there)) => {
             let v = offset(task.v, &scene.here).saturating_add(i128::from(there.queue.floor()));
@@ -153,7 +158,11 @@ pub(crate) fn push_claim_extra(text: &mut String, scene: &Scene) -> Result<(), A
             way: Way::Ends,
             ..
         } => push_goes(text, prev, "ends"),
-        _ => push_stays(text, scene.event.pid(), scene.task(scene.event.pid())),
+        _ => push_stays(
+            text,
+            scene.event.act.subject(),
+            scene.task(scene.event.act.subject()),
+        ),
     }
 }
 
@@ -179,7 +188,7 @@ fn push_stays(text: &mut String, pid: u32, task: Option<Task>) -> Result<(), All
 /// A claim of another task.
 pub(crate) fn push_claim_pid(text: &mut String, scene: &Scene) -> Result<(), AllocError> {
     let claimed = scene.fault.pid;
-    let pid = scene.event.pid();
+    let pid = scene.event.act.subject();
     writeln!(
         text,
         "# the claim is of pid {claimed}; the event needs one of pid {pid}"

@@ -42,19 +42,11 @@ impl Event {
 
     /// The processors of a migration from one to another: its origin and its destination.
     pub(crate) fn ends(&self) -> Option<(u32, u32)> {
-        let act = self.act;
-        match act {
-            Act::Shift { orig, dest, .. } if orig != dest => Some((orig, dest)),
-            _ => None,
-        }
-    }
-
-    /// The task that it wakes, bears or moves, or the previous one of a switch.
-    pub(crate) fn pid(&self) -> u32 {
-        let act = self.act;
-        match act {
-            Act::Switch { prev, .. } => prev,
-            Act::Wake { pid, .. } | Act::Born { pid, .. } | Act::Shift { pid, .. } => pid,
+        let (home, dest) = self.act.ends();
+        if home != dest {
+            Some((home, dest))
+        } else {
+            None
         }
     }
 }

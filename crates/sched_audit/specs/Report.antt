@@ -12,7 +12,8 @@ use Rattle.sched_audit.specs.declared.cause.Cause.TheVariants.{ClaimNoEvent}
 use Rattle.sched_audit.specs.declared.outcome.Outcome.{Outcome}
 use Rattle.sched_audit.specs.declared.outcome.Outcome.TheVariants.{Judged, Text}
 use Rattle.cfs_model.specs.Kinds.{name_of, text_of}
-use Rattle.cfs_model.specs.Settings.{Settings}
+use Rattle.cfs_model.specs.Settings.{Settings, all_settings, name_of_setting, value_at}
+use Rattle.cfs_model.specs.declared.setting.Setting.{Setting}
 use Rattle.cfs_model.specs.declared.kind.Kind.{Kind}
 use Rattle.replay_model.specs.declared.first_fault.FirstFault.{FirstFault}
 use Rattle.replay_model.specs.declared.page.Tally.{Tally}
@@ -98,12 +99,17 @@ refusal_line source line cause =
     line_of (codes "refused " ++ (source_word source
     ++ (codes " line " ++ (decimal line ++ (codes " " ++ cause_word cause)))))
 
--- each setting, in nanoseconds, by the name of its option
+-- a setting, in nanoseconds, by the name of its option
+abbrev pub setting_line : Settings → Setting → List ℕ
+setting_line knobs which = count_line (codes "least " ++ name_of_setting which) (value_at knobs which)
+
+-- each of these settings
+abbrev pub lines_of_settings : Settings → List Setting → List ℕ
+lines_of_settings knobs settings = concat (map (setting_line knobs) settings)
+
+-- each setting
 abbrev pub setting_lines : Settings → List ℕ
-setting_lines knobs =
-    count_line (codes "least granularity-ns") knobs.granularity
-    ++ (count_line (codes "least credit-ns") knobs.credit
-    ++ (count_line (codes "least debit-ns") knobs.debit ++ count_line (codes "least slack-ns") knobs.slack))
+setting_lines knobs = lines_of_settings knobs all_settings
 
 -- what is written for a verdict
 abbrev pub verdict_lines : Verdict → List ℕ

@@ -4,12 +4,13 @@ ghost use Rattle.std.specs.Bool.{OnTrue};
 ghost use Rattle.std.specs.Prelude.{◌≡◌, IfOk, IfSome, None, false, map};
 ghost use Rattle.clap.specs.Walk.{first_of};
 ghost use Rattle.clap.specs.Words.{app_of, found_of, rows_of, rule_of};
-ghost use Rattle.cfs_model.specs.Settings.{AreInRange};
-ghost use Rattle.sched_audit.specs.CommandLine.{HasNoSetting, IsAskedBy, IsRequestOf, audit_app, flag_rule, is_flagged};
-ghost use Rattle.sched_audit.specs.CommandLine.{lone_flag_rule, name_rule, setting_of, setting_rule, settings_of};
+ghost use Rattle.cfs_model.specs.Settings.{AreInRange, all_settings, settings_by};
+ghost use Rattle.sched_audit.specs.CommandLine.{HasNoSetting, HaveNone, IsAskedBy, IsRequestOf, audit_app};
+ghost use Rattle.sched_audit.specs.CommandLine.{beside_none, flag_rule, is_flagged, lone_flag_rule};
+ghost use Rattle.sched_audit.specs.CommandLine.{name_rule, setting_of, setting_rule, with_settings};
 
 use crate::Request;
-use cfs_model::{GREATEST_SETTING, Knobs};
+use cfs_model::{GREATEST_SETTING, Knobs, Setting};
 use clap::error::ErrorKind;
 use clap::{Arg, ArgAction, ArgMatches, Command, Error, value_parser};
 use std::alloc::{AllocError, Global};
@@ -31,11 +32,11 @@ pub fn command_line<'a, S: AsStr>(alloc: Global, words: &'a [S]) -> Result<Reque
     }
 }
 
-/// The two names, the four settings, the two flags, and what clap adds: help and the version.
+/// The two names, the settings, the two flags, and what clap adds: help and the version.
 fn command<'a>(alloc: Global) -> Result<Command<'a>, AllocError>
     ensures { IfOk result (λ command. app_of command ≡ audit_app) }
 {
-    Command::new(alloc, "sched_audit")
+    let named = Command::new(alloc, "sched_audit")
         .version("0.1.0")
         .about("Judges a recorded CFS schedule: a run, or its first fault")
         .bin_name("sched_audit")?
@@ -44,27 +45,8 @@ fn command<'a>(alloc: Global) -> Result<Command<'a>, AllocError>
             alloc,
             "COMPANION",
             "The start, and the claimed virtual runtimes",
-        ))?
-        .arg(setting(
-            alloc,
-            "granularity-ns",
-            "How far above the least a picked task may be [default: 1000000]",
-        ))?
-        .arg(setting(
-            alloc,
-            "credit-ns",
-            "How far below the floor a woken task may be placed [default: 3000000]",
-        ))?
-        .arg(setting(
-            alloc,
-            "debit-ns",
-            "How far above the floor a new task may be placed [default: 3000000]",
-        ))?
-        .arg(setting(
-            alloc,
-            "slack-ns",
-            "How long a processor may idle beside a waiting task [default: 100000]",
-        ))?
+        ))?;
+    with_settings(alloc, named, &Setting::ALL)?
         .arg(lone_flag(
             alloc,
             "least",
@@ -77,6 +59,21 @@ fn command<'a>(alloc: Global) -> Result<Command<'a>, AllocError>
         ))
 }
 
+/// The command with an option for each of these settings.
+fn with_settings<'a>(
+    alloc: Global,
+    command: Command<'a>,
+    settings: &[Setting],
+) -> Result<Command<'a>, AllocError>
+    ensures { IfOk result (λ more. app_of more ≡ with_settings settings.now (app_of command.entry)) }
+{
+    let mut more = command;
+    for setting in settings {
+        more = more.arg(option_of(alloc, *setting))?;
+    }
+    Ok(more)
+}
+
 /// A file's name, which has to be there.
 fn name<'a>(alloc: Global, id: &'a str, help: &'a str) -> Arg<'a>
     ensures rule { rule_of result ≡ name_rule id.now }
@@ -85,13 +82,15 @@ fn name<'a>(alloc: Global, id: &'a str, help: &'a str) -> Arg<'a>
     Arg::new(alloc, id).required(true).help(help)
 }
 
-/// An option with a number of nanoseconds.
-fn setting<'a>(alloc: Global, id: &'a str, help: &'a str) -> Arg<'a>
-    ensures rule { rule_of result ≡ setting_rule id.now }
+/// A setting's option, with a number of nanoseconds.
+fn option_of(alloc: Global, setting: Setting) -> Arg<'static>
+    ensures rule { rule_of result ≡ setting_rule setting }
     ensures local { result.global ≡ false }
 {
-    Arg::new(alloc, id)
-        .long(id)
+    let name = setting.name();
+    let help = setting.help();
+    Arg::new(alloc, name)
+        .long(name)
         .value_name("N")
         .value_parser(value_parser!(u64).range(0..=GREATEST_SETTING as i64))
         .help(help)
@@ -109,15 +108,27 @@ fn flag<'a>(alloc: Global, id: &'a str, help: &'a str) -> Arg<'a>
 }
 
 /// A flag that doesn't go with any of the settings.
-fn lone_flag<'a>(alloc: Global, id: &'a str, help: &'a str) -> Result<Arg<'a>, AllocError>
+fn lone_flag(
+    alloc: Global,
+    id: &'static str,
+    help: &'static str,
+) -> Result<Arg<'static>, AllocError>
     ensures rule { IfOk result (λ flag. rule_of flag ≡ lone_flag_rule id.now) }
     ensures local { IfOk result (λ flag. flag.global ≡ false) }
 {
-    flag(alloc, id, help)
-        .conflicts_with("granularity-ns")?
-        .conflicts_with("credit-ns")?
-        .conflicts_with("debit-ns")?
-        .conflicts_with("slack-ns")
+    beside_none(flag(alloc, id, help), &Setting::ALL)
+}
+
+/// A flag that doesn't go with any of these settings either.
+fn beside_none(flag: Arg<'static>, settings: &[Setting]) -> Result<Arg<'static>, AllocError>
+    ensures rule { IfOk result (λ lone. rule_of lone ≡ beside_none settings.now (rule_of flag.entry)) }
+    ensures local { IfOk result (λ lone. lone.global ≡ flag.entry.global) }
+{
+    let mut lone = flag;
+    for setting in settings {
+        lone = lone.conflicts_with(setting.name())?;
+    }
+    Ok(lone)
 }
 
 /// The names, the settings and the flags that the values are; None where one has no sense, or where a setting is given
@@ -142,10 +153,19 @@ fn request_of<'a>(matches: &ArgMatches<'a>) -> Option<Request<'a>>
 fn has_no_setting(matches: &ArgMatches<'_>) -> bool
     ensures { OnTrue result (HasNoSetting (rows_of (found_of matches.now))) }
 {
-    is_absent(matches, "granularity-ns")
-        && is_absent(matches, "credit-ns")
-        && is_absent(matches, "debit-ns")
-        && is_absent(matches, "slack-ns")
+    have_none(matches, &Setting::ALL)
+}
+
+/// Whether none of these settings is given.
+fn have_none(matches: &ArgMatches<'_>, settings: &[Setting]) -> bool
+    ensures { OnTrue result (HaveNone (rows_of (found_of matches.now)) settings.now) }
+{
+    for setting in settings {
+        if !is_absent(matches, setting.name()) {
+            return false;
+        }
+    }
+    true
 }
 
 /// Whether an option isn't given.
@@ -157,24 +177,23 @@ fn is_absent(matches: &ArgMatches<'_>, id: &str) -> bool
 
 /// The settings that the values are; None where one has no sense.
 fn knobs_of(matches: &ArgMatches<'_>) -> Option<Knobs>
-    ensures same { IfSome result (λ knobs. knobs ≡ settings_of (rows_of (found_of matches.now))) }
-    ensures in_range { IfSome result (λ _. AreInRange (settings_of (rows_of (found_of matches.now)))) }
+    ensures same { IfSome result (λ knobs. knobs ≡ settings_by (setting_of (rows_of (found_of matches.now)))) }
+    ensures in_range { IfSome result (λ _. AreInRange (settings_by (setting_of (rows_of (found_of matches.now))))) }
 {
-    let standard = Knobs::standard();
     Knobs::new(
-        number_of(matches, "granularity-ns", standard.granularity())?,
-        number_of(matches, "credit-ns", standard.credit())?,
-        number_of(matches, "debit-ns", standard.debit())?,
-        number_of(matches, "slack-ns", standard.slack())?,
+        number_of(matches, Setting::Granularity)?,
+        number_of(matches, Setting::Credit)?,
+        number_of(matches, Setting::Debit)?,
+        number_of(matches, Setting::Slack)?,
     )
 }
 
-/// An option's number, or this where it isn't given; None where it is no number.
-fn number_of(matches: &ArgMatches<'_>, id: &str, default: u64) -> Option<u64>
-    ensures { IfSome result (λ number. number ≡ setting_of id.now default (rows_of (found_of matches.now))) }
+/// A setting's number, or its default where its option isn't given; None where it is no number.
+fn number_of(matches: &ArgMatches<'_>, setting: Setting) -> Option<u64>
+    ensures { IfSome result (λ number. number ≡ setting_of (rows_of (found_of matches.now)) setting) }
 {
-    match matches.try_get_one::<u64>(id) {
-        Ok(number) => Some(number.unwrap_or(default)),
+    match matches.try_get_one::<u64>(setting.name()) {
+        Ok(number) => Some(number.unwrap_or(setting.standard())),
         Err(_) => None,
     }
 }

@@ -1,10 +1,10 @@
 //! Least settings, as a search over two texts tells them.
 ghost use Rattle.std.specs.Prelude.{◌≡◌, ◌++◌, OnOk, string_bytes};
-ghost use Rattle.sched_audit.specs.Report.{setting_lines};
+ghost use Rattle.sched_audit.specs.Report.{lines_of_settings, setting_lines};
 
 use crate::reporting::push_fault;
 use crate::{Judgement, LeastSettings};
-use cfs_model::{Knobs, Memory};
+use cfs_model::{Knobs, Memory, Setting};
 use replay_model::FirstFault;
 use sched_record::Record;
 use std::alloc::AllocError;
@@ -51,13 +51,17 @@ impl Judgement for LeastSettings {
 fn push_settings(text: &mut String, knobs: Knobs) -> Result<(), AllocError>
     ensures { OnOk result (string_bytes text.new ≡ string_bytes text.old ++ setting_lines knobs) }
 {
-    let granularity = knobs.granularity();
-    let credit = knobs.credit();
-    let debit = knobs.debit();
-    let slack = knobs.slack();
-    writeln!(text, "least granularity-ns {granularity}")?;
-    writeln!(text, "least credit-ns {credit}")?;
-    writeln!(text, "least debit-ns {debit}")?;
-    writeln!(text, "least slack-ns {slack}")?;
+    push_each(text, knobs, &Setting::ALL)
+}
+
+/// Writes each of these settings.
+fn push_each(text: &mut String, knobs: Knobs, settings: &[Setting]) -> Result<(), AllocError>
+    ensures { OnOk result (string_bytes text.new ≡ string_bytes text.old ++ lines_of_settings knobs settings.now) }
+{
+    for setting in settings {
+        let name = setting.name();
+        let value = knobs.get(*setting);
+        writeln!(text, "least {name} {value}")?;
+    }
     Ok(())
 }

@@ -3,6 +3,8 @@ use Rattle.std.proofs.Common.{◌∙◌, ap, ap₂, true}
 use Rattle.std.proofs.lemmas.Result.{IfOk-weaker}
 use Rattle.clap.specs.Words.{App, with_rule}
 use Rattle.clap.specs.Simple.{app_of_fields, on_top}
+use Rattle.cfs_model.specs.Settings.{all_settings}
+use Rattle.sched_audit.specs.CommandLine.{with_settings}
 use Rattle.sched_audit.proofs.command_words.command.Goals as goal
 
 abbrev versioned : App → App
@@ -13,14 +15,9 @@ returns c =
     let start = ap app_of_fields c.in_ok-bin_name.ensures.0
     ∙ (ap app_of_fields c.about.ensures ∙ (ap app_of_fields c.version.ensures ∙ ap versioned c.new.ensures.app)) in
     let trace = c.in_ok-arg.ensures.shape c.name.ensures.local ∙ ap₂ with_rule start c.name.ensures.rule in
-    let companion = c.in_ok-arg-2.ensures.shape c.name-2.ensures.local ∙ ap₂ with_rule trace c.name-2.ensures.rule in
-    let granularity = c.in_ok-arg-3.ensures.shape c.setting.ensures.local
-    ∙ ap₂ with_rule companion c.setting.ensures.rule in
-    let credit = c.in_ok-arg-4.ensures.shape c.setting-2.ensures.local
-    ∙ ap₂ with_rule granularity c.setting-2.ensures.rule in
-    let debit = c.in_ok-arg-5.ensures.shape c.setting-3.ensures.local ∙ ap₂ with_rule credit c.setting-3.ensures.rule in
-    let slack = c.in_ok-arg-6.ensures.shape c.setting-4.ensures.local ∙ ap₂ with_rule debit c.setting-4.ensures.rule in
-    let least = c.in_ok-arg-7.ensures.shape c.in_ok-lone_flag.ensures.local
-    ∙ ap₂ with_rule slack c.in_ok-lone_flag.ensures.rule in
-    IfOk-weaker c.arg-8.result _ _
-    (λ command added. added.shape c.flag.ensures.local ∙ ap₂ with_rule least c.flag.ensures.rule) c.arg-8.ensures
+    let companion = c.in_ok-named.ensures.shape c.name-2.ensures.local ∙ ap₂ with_rule trace c.name-2.ensures.rule in
+    let settings = c.in_ok-with_settings.ensures ∙ ap (with_settings all_settings) companion in
+    let least = c.in_ok-arg-2.ensures.shape c.in_ok-lone_flag.ensures.local
+    ∙ ap₂ with_rule settings c.in_ok-lone_flag.ensures.rule in
+    IfOk-weaker c.arg-4.result _ _
+    (λ command added. added.shape c.flag.ensures.local ∙ ap₂ with_rule least c.flag.ensures.rule) c.arg-4.ensures

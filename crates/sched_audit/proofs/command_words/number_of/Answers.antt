@@ -1,9 +1,10 @@
 -- The text that is read is the one that the parse gives the option; what clap's reader makes of it is its number.
-use Rattle.std.proofs.Common.{ℕ, List, ◌≡◌, ◌∙◌, Option, None, Some, Result, Ok, ap, refl}
+use Rattle.std.proofs.Common.{ℕ, List, ◌≡◌, ◌∙◌, Option, None, Some, Result, Ok, ap, ap₂, refl}
 use Rattle.std.specs.Prelude.{unwrap_or}
 use Rattle.std.specs.Option.{option_map_or}
 use Rattle.std.specs.Str.Parse.{ParsesUnsigned, ExplainsUnsignedError, HasUnsignedDigitsIfOk}
-use Rattle.clap.specs.Words.{TriesOne, found_of, one_text}
+use Rattle.clap.specs.Words.{TriesOne, found_of, one_text, rows_of}
+use Rattle.clap.specs.Walk.{one_of}
 use Rattle.clap.proofs.WalkLemmas.{one_text-rows}
 use Rattle.sched_audit.specs.CommandLine.{number_of}
 use Rattle.sched_audit.proofs.command_words.number_of.Goals as goal
@@ -20,8 +21,13 @@ read_or G gives (Some t) None default none value = absurd (value t refl)
 pub returns-in-Ok : goal.returns-in-Ok
 returns-in-Ok c =
     let f = found_of c.args.matches.now in
-    c.unwrap_or.ensures ∙ (read_or (λ bs r. ParsesUnsigned 64 10 bs r × ExplainsUnsignedError 10 bs r
-    × HasUnsignedDigitsIfOk bs r)
-    (λ t n h. h.0.1) (one_text f c.args.id.now) c.in-Ok.number c.args.default
-    (λ e. search (c.in-Ok.ensures.none e)) c.in-Ok.ensures.value
-    ∙ ap (λ (o : Option (List ℕ)). option_map_or number_of o c.args.default) (one_text-rows f c.args.id.now))
+    let id = c.name.result.now in
+    let default = c.standard.result in
+    let told = read_or (λ bs r. ParsesUnsigned 64 10 bs r × ExplainsUnsignedError 10 bs r × HasUnsignedDigitsIfOk bs r)
+    (λ t n h. h.0.1) (one_text f id) c.in-Ok.number default
+    (λ e. search (c.in-Ok.ensures.none e)) c.in-Ok.ensures.value in
+    c.unwrap_or.ensures
+    ∙ (told
+    ∙ (ap (λ (o : Option (List ℕ)). option_map_or number_of o default) (one_text-rows f id)
+    ∙ ap₂ (λ (name : List ℕ) (other : ℕ). option_map_or number_of (one_of name (rows_of f)) other) c.name.ensures
+    c.standard.ensures))

@@ -1,6 +1,9 @@
+ghost use Rattle.std.specs.Prelude.{◌≡◌};
+ghost use Rattle.make_companion.specs.Codes.{code_of_ending};
+
 /// How the program ends.
 #[derive(Clone, Copy, Debug, PartialEq, Eq)]
-pub(crate) enum Ending {
+pub enum Ending {
     /// The companion was written, or help or the version was printed.
     Told,
     /// The trace gives no companion; the reason was printed.
@@ -17,7 +20,9 @@ pub(crate) enum Ending {
 
 impl Ending {
     /// The exit status: those of `sched_audit`.
-    pub(crate) fn code(self) -> u8 {
+    pub fn code(self) -> u8
+        ensures { result ≡ code_of_ending self }
+    {
         match self {
             Ending::Told => 0,
             Ending::Refused => 2,

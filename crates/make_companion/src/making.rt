@@ -1,3 +1,4 @@
+use crate::cause_word::CauseWord;
 use crate::command::{Request, command_line};
 use crate::ending::Ending;
 use clap::Error;
@@ -9,7 +10,7 @@ use std::rt::{Env, Files};
 use std::{env, fs, io};
 
 /// Does what the command line says.
-pub(crate) fn obey<R: Env + Files + Print + Eprint + AllocGlobal>(rt: &R, alloc: Global) -> Ending {
+pub fn obey<R: Env + Files + Print + Eprint + AllocGlobal>(rt: &R, alloc: Global) -> Ending {
     let words = match words_of(rt, alloc) {
         Ok(words) => words,
         Err(error) if error.kind() == ErrorKind::OutOfMemory => return Ending::Memory,
@@ -53,7 +54,8 @@ fn make<R: Files + Print + Eprint + AllocGlobal>(
             }
         }
         Err(NotMade::Trace { line, cause }) => {
-            let _ = eprintln!(rt; "make_companion: refused trace line {line} {cause:?}");
+            let word = CauseWord(cause);
+            let _ = eprintln!(rt; "make_companion: refused trace line {line} {word}");
             Ending::Refused
         }
         Err(NotMade::CpuOutside { line }) => {

@@ -2,3 +2,4 @@ mod InTurn
 mod Owned
 mod Pages
 mod Reached
+mod Started

@@ -3,6 +3,7 @@ ghost use Rattle.std.specs.Prelude.{◌≡◌, ◌≤◌, length, IfOk};
 ghost use Rattle.audit_crew.specs.Filled.{filled};
 ghost use Rattle.sched_record.specs.Record.{record_view};
 ghost use Rattle.ticket_book.specs.BookView.{book_view};
+ghost use Rattle.ticket_book.specs.OneVerdict.{IsOneVerdict};
 ghost use Rattle.ticket_book.specs.Own.{AreOwn};
 ghost use Rattle.ticket_book.specs.Verdict.{IsVerdict};
 
@@ -16,7 +17,7 @@ use std::marker::Brand;
 use std::sync::ledger::Blank;
 use std::sync::{Mutex, Wait};
 use std::thread::Threads;
-use ticket_book::{Book, Closed};
+use ticket_book::{Book, Closed, one_verdict};
 
 /// The audit of a record by a crew: its auditors' pages in one book, which is then closed.
 pub fn audit<R: Threads + Wait + Sync, G: Gate>(
@@ -27,8 +28,11 @@ pub fn audit<R: Threads + Wait + Sync, G: Gate>(
     gate: &G,
 ) -> Result<Closed, Memory>
     ensures verdict { IfOk result (λ closed. IsVerdict knobs (record_view joined.now) closed.verdict) }
+    // It tells what every verdict on the record tells, and so what `audit_serial` does.
+    ensures one { IfOk result (λ closed. IsOneVerdict knobs (record_view joined.now) closed.verdict) }
     ensures remade { IfOk result (λ closed. closed.remade ≤ (record_view joined.now).cpus) }
 {
+    one_verdict();
     crew(rt, alloc, joined, knobs, gate)?
         .book
         .close_own(joined, knobs)

@@ -1,5 +1,8 @@
 mod Counting
 mod Holding
+mod Lawful
+mod OneOf
 mod Outcomes
 mod Passing
+mod Starts
 mod Written

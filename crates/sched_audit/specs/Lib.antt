@@ -6,3 +6,5 @@ pub mod Report
 pub mod Known
 pub mod Run
 pub mod CommandLine
+pub mod OneOutcome
+pub mod LawsOfAYes

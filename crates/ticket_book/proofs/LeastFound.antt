@@ -19,7 +19,7 @@ use Rattle.sched_record.specs.Stream.{cut_of}
 use Rattle.ticket_book.specs.LeastAnswer.{IsLeastAnswer}
 use Rattle.ticket_book.specs.NeedsOfPages.{HaveNeeds, needs_at}
 use Rattle.ticket_book.specs.SaidEvents.{events_of}
-use Rattle.ticket_book.specs.Told.{Tell, cause_view, view_at}
+use Rattle.ticket_book.specs.Told.{Tell, view_at}
 use Rattle.ticket_book.specs.Whole.{AreSufficient}
 use Rattle.ticket_book.proofs.LargestNeeds.{needs_there}
 use Rattle.ticket_book.proofs.Verdicts.{fault_is_verdict, in_record, page_there, suffices_among}
@@ -32,11 +32,8 @@ module _ (r : RecordView) (pages : List ReplayView) (sufficient : AreSufficient 
   pub bad_of : PagesTellFault → FaultIsFirstBad → GreatestTellBadAtAll → (fault : FirstFault)
       → Tell (view_at pages) (length pages) r.tasks (events_of r) (Some fault) → IsLeastAnswer r (Fault fault)
   bad_of faults first_bad at_all fault tell =
-      let first = fault_is_verdict greatest_settings r pages sufficient faults o fault tell in (
-        at_all r.start (start_machine r.start r.floors r.tasks) (events_of r) fault.line
-            (first_bad greatest_settings r.start r.floors r.tasks (events_of r) fault.line (cause_view fault) first),
-        first,
-      )
+      let first = fault_is_verdict greatest_settings r pages sufficient faults first_bad o fault tell in
+      (at_all r.start (start_machine r.start r.floors r.tasks) (events_of r) fault.line first.line, first)
 
   module _ (nothing : SayNothing (view_at pages) (length pages) r.tasks (events_of r)) (have : HaveNeeds pages)
       (done : SilentPagesAreDone) where

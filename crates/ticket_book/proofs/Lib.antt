@@ -13,6 +13,7 @@ mod LeastFaults
 mod LeastFound
 mod Living
 mod Naming
+mod OneAnswer
 mod Owned
 mod Counting
 mod PagesAdded
@@ -28,3 +29,4 @@ mod TicketsPassed
 mod Verdicts
 mod Views
 mod Walked
+mod WholeLeft

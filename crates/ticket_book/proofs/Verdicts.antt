@@ -12,6 +12,7 @@ use Rattle.cfs_model.specs.Start.{start_machine}
 use Rattle.replay_model.specs.Cause.{IsFirstFault}
 use Rattle.replay_laws.specs.Sufficing.{HasFaultBy, SufficesAmong}
 use Rattle.replay_laws.specs.Closing.{PagesTellFault}
+use Rattle.replay_laws.specs.FirstFaults.{FaultIsFirstBad}
 use Rattle.replay_laws.specs.Telling.{SayNothing}
 use Rattle.replay_model.specs.Record.{IsRecord}
 use Rattle.replay_model.specs.Cut.{StreamView}
@@ -30,14 +31,14 @@ use Rattle.ticket_book.specs.SaidEvents.{events_of}
 use Rattle.ticket_book.specs.SummaryView.{summary_view}
 use Rattle.ticket_book.specs.Tallying.{FitsTally}
 use Rattle.ticket_book.specs.Told.{Tell, cause_view, view_at}
-use Rattle.ticket_book.specs.Verdict.{IsScheduled, IsVerdict}
+use Rattle.ticket_book.specs.Verdict.{IsFaulty, IsScheduled, IsVerdict}
 use Rattle.ticket_book.specs.Walk.{TicketsRise}
 use Rattle.ticket_book.specs.Whole.{AreSufficient, SufficesBeside}
 use Rattle.ticket_book.proofs.Extent.{bounds_fit, events_few, last_greatest, times_below}
 use Rattle.ticket_book.proofs.TicketOrder.{own_tickets_rise}
 use Rattle.replay_model.specs.declared.first_fault.FirstFault.{FirstFault}
 use Rattle.ticket_book.specs.declared.summary.Summary.{Summary}
-use Rattle.ticket_book.specs.declared.verdict.Verdict.TheVariants.{Run, Fault}
+use Rattle.ticket_book.specs.declared.verdict.Verdict.TheVariants.{Run}
 
 -- what a record keeps, as the laws of the replays take it
 pub record_in_order : (r : RecordView) → IsRecordInOrder r
@@ -83,15 +84,20 @@ module _ (knobs : Settings) (r : RecordView) (pages : List ReplayView) (sufficie
   in_record o = subst (IsRecord r.start r.floors r.tasks (events_of r)) (sym sufficient.count) (record_in_order r o)
 
   -- what they say first is what is wrong
-  pub fault_is_verdict : PagesTellFault → IsRecordInOrder r → (fault : FirstFault)
-      → Tell (view_at pages) (length pages) r.tasks (events_of r) (Some fault) → IsVerdict knobs r (Fault fault)
-  fault_is_verdict faults o fault tell =
+  pub fault_is_verdict : PagesTellFault → FaultIsFirstBad → IsRecordInOrder r → (fault : FirstFault)
+      → Tell (view_at pages) (length pages) r.tasks (events_of r) (Some fault) → IsFaulty knobs r fault
+  fault_is_verdict faults first_bad o fault tell =
+      let first =
       subst (λ n. IsFirstFault knobs r.start (start_machine r.start r.floors r.tasks) (events_of r) n
       (cause_view fault))
       tell.line_is
       (faults knobs r.start r.floors r.tasks (events_of r) tell.before tell.rest tell.event (length pages)
       (view_at pages)
-      (cause_view fault) (in_record o) all_suffice tell.whole tell.nothing tell.why)
+      (cause_view fault) (in_record o) all_suffice tell.whole tell.nothing tell.why) in
+      record {
+        line = first_bad knobs r.start r.floors r.tasks (events_of r) fault.line (cause_view fault) first;
+        cause = first;
+      }
 
   module _ (o : IsRecordInOrder r)
       (nothing : SayNothing (view_at pages) (length pages) r.tasks (events_of r)) where

@@ -10,6 +10,8 @@ pub mod SaidEvents
 pub mod Alive
 pub mod Idling
 pub mod LeastAnswer
+pub mod Left
+pub mod OneVerdict
 pub mod Own
 pub mod Naming
 pub mod NeedsOfPages

@@ -1,5 +1,6 @@
 -- The verdict on a record: the headline (this project's profile). What a run is, is said by cfs_model; what its summary
 -- is, and what is wrong with the first event up to which the events are none, by replay_model.
+use Rattle.cfs_model.specs.Run.{IsFirstBad}
 use Rattle.cfs_model.specs.Settings.{Settings}
 use Rattle.cfs_model.specs.Start.{start_machine}
 use Rattle.replay_model.specs.Cause.{IsFirstFault}
@@ -17,11 +18,12 @@ abbrev pub IsScheduled : Settings → RecordView → SummaryView → Type 0
 IsScheduled knobs r summary =
     IsSummary knobs r.start (start_machine r.start r.floors r.tasks) r.tasks (events_of r) summary
 
--- the record's events are none from the fault's line on, which is the first, and the fault tells what is wrong there
-abbrev pub IsFaulty : Settings → RecordView → FirstFault → Type 0
-IsFaulty knobs r fault =
-    IsFirstFault knobs r.start (start_machine r.start r.floors r.tasks) (events_of r) fault.line
-    (record { cpu = fault.cpu; pid = fault.pid; kind = fault.kind })
+-- the fault's line is the first up to which the record's events are no run, and the fault tells what is wrong there;
+-- the line stands by itself, in the words of a run alone
+pub record IsFaulty (knobs : Settings) (r : RecordView) (fault : FirstFault) : Type 0 where
+  pub line : IsFirstBad knobs r.start (start_machine r.start r.floors r.tasks) (events_of r) fault.line
+  pub cause : IsFirstFault knobs r.start (start_machine r.start r.floors r.tasks) (events_of r) fault.line
+      (record { cpu = fault.cpu; pid = fault.pid; kind = fault.kind })
 
 -- a verdict on a record: yes means that it is a run, and tells what the run did; a fault names the first line up to
 -- which the events are none, and what is wrong there

@@ -11,7 +11,7 @@ use crate::summing::summary_by;
 use crate::walk::Walk;
 use cfs_model::{Knobs, Memory};
 use queue_replay::Page;
-use replay_laws::closing;
+use replay_laws::{closing, first_faults};
 use replay_model::FirstFault;
 use sched_record::Record;
 use std::alloc::Global;
@@ -29,7 +29,10 @@ pub(crate) fn verdict_on(
 {
     closing();
     match told_by(alloc, pages, joined)? {
-        Some(fault) => Ok(Verdict::Fault(fault)),
+        Some(fault) => {
+            first_faults();
+            Ok(Verdict::Fault(fault))
+        }
         None => {
             tallying();
             // No sum is too great: no time is above the last, and there are no more events than lines.

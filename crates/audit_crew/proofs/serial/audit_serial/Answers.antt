@@ -3,6 +3,7 @@ use Rattle.std.proofs.lemmas.Result.{IfOk-weaker}
 use Rattle.sched_record.specs.Record.{record_view}
 use Rattle.ticket_book.specs.BookView.{book_view}
 use Rattle.audit_crew.proofs.InTurn.{AreFirst, first_are_own, no_page_remade, one_more_page}
+use Rattle.audit_crew.proofs.Started.{start_of}
 use Rattle.audit_crew.proofs.serial.audit_serial.Goals as goal
 use Rattle.audit_crew.proofs.serial.audit_serial.Goals.{After-loop-cpu}
 
@@ -36,6 +37,14 @@ returns-clause-nothing_remade c =
     (λ closed remade. no_page_remade c.args.knobs r (book_view c.loop-cpu.book) closed.remade
     (all_posted (goal.at.returns-clause-nothing_remade c).After-loop-cpu) remade)
     c.close_own.ensures.remade
+
+pub returns-clause-one : goal.returns-clause-one
+returns-clause-one c =
+    let r = record_view c.args.joined.now in
+    IfOk-weaker c.close_own.result _ _
+    (λ closed verdict. c.one_verdict.ensures c.args.knobs r closed.verdict
+    (start_of r c.args.joined.now.in_order) verdict)
+    c.close_own.ensures.verdict
 
 pub close_own-requires : goal.close_own-requires
 close_own-requires c =

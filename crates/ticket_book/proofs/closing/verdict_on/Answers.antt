@@ -14,7 +14,9 @@ pub returns-in-Some : goal.returns-in-Some
 returns-in-Some c =
     let r = record_view c.args.joined.now in
     let pages = c.args.pages.now in
-    fault_is_verdict c.args.knobs r pages c.requires c.closing.ensures.fault c.args.joined.now.in_order c.in-Some.fault
+    fault_is_verdict c.args.knobs r pages c.requires c.closing.ensures.fault c.first_faults.ensures.first_bad
+    c.args.joined.now.in_order
+    c.in-Some.fault
     (subst (Tell (view_at pages) (length pages) r.tasks (events_of r)) c.in-Some.is c.in_ok-fault.ensures)
 
 pub summary_by-requires : goal.summary_by-requires

@@ -45,7 +45,11 @@ pub returns-in-None : goal.returns-in-None
 returns-in-None c =
     let r = record_view c.args.joined.now in
     let pages = c.args.pages.now in
-    subst (AreLeast r.start (start_machine r.start r.floors r.tasks) (events_of r))
-    (sym (c.knobs_of.ensures ∙ c.largest_needs.ensures.largest))
-    (least_of r pages c.requires c.args.joined.now.in_order (nothing (goal.at.returns-in-None c).After-largest_needs)
-    c.largest_needs.ensures.have c.closing.ensures.done c.needs.ensures.pages)
+    let quiet = nothing (goal.at.returns-in-None c).After-largest_needs in
+    subst (λ knobs. AreLeast r.start (start_machine r.start r.floors r.tasks) (events_of r) knobs × AreInRange knobs)
+    (sym (c.knobs_of.ensures ∙ c.largest_needs.ensures.largest)) (
+      least_of r pages c.requires c.args.joined.now.in_order quiet c.largest_needs.ensures.have c.closing.ensures.done
+          c.needs.ensures.pages,
+      in_range r pages c.requires c.args.joined.now.in_order quiet c.largest_needs.ensures.have c.closing.ensures.done
+          c.needs.ensures.pages c.closing.ensures.run,
+    )

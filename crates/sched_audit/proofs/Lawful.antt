@@ -1,0 +1,167 @@
+-- Each step of a run from a start in order is lawful.
+use Rattle.std.proofs.Common.{◌≡◌, ◌≢◌, ℕ, suc, zero, ◌-◌, ◌*◌, ◌/◌, Bool, true, false, if◌then◌else◌, IsTrue}
+use Rattle.std.proofs.Common.{Option, Some, ℤ, pos, ◌+ℤ◌, List, [], ◌∷◌, inl, inr, refl, sym, ap, ◌∙◌, subst}
+use Rattle.std.specs.Prelude.{⊤}
+use Rattle.std.proofs.lemmas.Bool.{false≢true}
+use Rattle.cfs_model.proofs.Moves.{pair_cases, put-other, same_or_not}
+use Rattle.cfs_model.specs.Claimed.{Claimed}
+use Rattle.cfs_model.specs.Laws.{StartInOrder, StepKeepsOrder}
+use Rattle.cfs_model.specs.Lifted.{IsLifted, charged, charged_runtime, cost_at}
+use Rattle.cfs_model.specs.Machine.{Machine, Stands, put_pair, with_floor}
+use Rattle.cfs_model.specs.Nice.{task_weight}
+use Rattle.cfs_model.specs.Order.{IsInOrder}
+use Rattle.cfs_model.specs.Run.{AreSteps}
+use Rattle.cfs_model.specs.Settings.{Settings}
+use Rattle.cfs_model.specs.Start.{start_machine}
+use Rattle.cfs_model.specs.Step.{Changes, IsStep, after_prev}
+use Rattle.cfs_model.specs.Touch.{touched}
+use Rattle.cfs_model.specs.declared.act.Act.{Act}
+use Rattle.cfs_model.specs.declared.act.Act.TheVariants.{Switch, Wake, Born, Shift}
+use Rattle.cfs_model.specs.declared.claim.Claim.{Claim}
+use Rattle.cfs_model.specs.declared.task.Place.TheVariants.{Run, Wait}
+use Rattle.ticket_book.specs.SaidEvents.{events_of}
+use Rattle.sched_audit.specs.LawsOfAYes.{AreLawful, IsAmong, IsLawful, IsOrderly, IsPickedWithin}
+use Rattle.sched_audit.specs.LawsOfAYes.{TextsStartOrderly, YesIsLawful}
+use Rattle.sched_audit.proofs.Starts.{start_of_texts}
+
+pub orderly_of : (m : Machine) → IsInOrder m → IsOrderly m
+orderly_of m o = record {
+  one_processor = λ pid cpu other a b. (o.one_place pid Run Run cpu other a b).1;
+  one_queue = λ pid cpu other a b. (o.one_place pid Wait Wait cpu other a b).1;
+  not_both = λ pid cpu other a b. (let same = (o.one_place pid Run Wait cpu other a b).0 in cc);
+  one_runs = o.one_runs;
+}
+
+-- a choice that is settled
+if_so : {A : Type 0} (b : Bool) (x y : A) → IsTrue b → (if b then x else y) ≡ x
+if_so true x y h = refl
+if_so false x y h = absurd (false≢true h)
+
+if_not : {A : Type 0} (b : Bool) (x y : A) → ¬ IsTrue b → (if b then x else y) ≡ y
+if_not true x y h = absurd (h refl)
+if_not false x y h = refl
+
+-- what who runs has behind a charge
+charged_is : (m : Machine) (cpu time pid : ℕ) (nice v : ℤ) → m.nice pid ≡ Some nice → m.runtime pid ≡ Some v
+    → charged_runtime m cpu time pid ≡ Some (v +ℤ pos (cost_at m cpu time nice (m.idle pid)))
+charged_is m cpu time pid nice v e f = rw (e, f) refl
+
+-- the processors differ
+abbrev AreApart : List ℕ → Type 0
+AreApart [] = ⊤
+AreApart (cpu ∷ cpus) = (¬ IsAmong cpu cpus) × AreApart cpus
+
+-- the machine behind the first of some lifts
+abbrev first_lift : ℕ → ℕ → Machine → ℤ → Machine
+first_lift time cpu before floor = with_floor (charged before cpu time) cpu floor
+
+others_stay : (time : ℕ) (cpus : List ℕ) (before after : Machine) → IsLifted time cpus before after → (pid : ℕ)
+    → ((cpu : ℕ) → IsAmong cpu cpus → ¬ Stands before Run cpu pid) → after.runtime pid ≡ before.runtime pid
+others_stay time [] before after l pid none = ap (λ (m : Machine). m.runtime pid) l
+others_stay time (one ∷ cpus) before after l pid none =
+    let rest = subst (λ b. IsLifted time cpus b after) l.1.result l.2 in
+    others_stay time cpus (first_lift time one before l.1.floor) after rest pid (λ cpu h. none cpu (inr h))
+    ∙ if_not (before.running one pid) (charged_runtime before one time pid) (before.runtime pid) (none one (inl refl))
+
+-- a task runs on one processor alone
+abbrev RunsOnce : Machine → Type 0
+RunsOnce m = (pid cpu other : ℕ) → Stands m Run cpu pid → Stands m Run other pid → cpu ≡ other
+
+quotients : (time : ℕ) (cpus : List ℕ) (before after : Machine) → AreApart cpus → RunsOnce before
+    → IsLifted time cpus before after → (cpu pid : ℕ) (nice v : ℤ) → IsAmong cpu cpus → Stands before Run cpu pid
+    → before.nice pid ≡ Some nice → before.runtime pid ≡ Some v
+    → after.runtime pid ≡ Some (v +ℤ pos ((time - before.mark cpu) * 1024 / task_weight nice (before.idle pid)))
+quotients time [] before after apart once l cpu pid nice v among runs e f = absurd among
+quotients time (one ∷ cpus) before after apart once l cpu pid nice v (inl same) runs e f =
+    let rest = subst (λ b. IsLifted time cpus b after) l.1.result l.2 in
+    let here : Stands before Run one pid = subst (λ n. Stands before Run n pid) same runs in
+    let charge : after.runtime pid ≡ Some (v +ℤ pos (cost_at before one time nice (before.idle pid))) =
+    others_stay time cpus (first_lift time one before l.1.floor) after rest pid
+    (λ other h at. apart.0 (subst (λ n. IsAmong n cpus) (once pid other one at here) h))
+    ∙ if_so (before.running one pid) (charged_runtime before one time pid) (before.runtime pid) here
+    ∙ charged_is before one time pid nice v e f in
+    subst (λ n. after.runtime pid
+    ≡ Some (v +ℤ pos ((time - before.mark n) * 1024 / task_weight nice (before.idle pid))))
+    (sym same) charge
+quotients time (one ∷ cpus) before after apart once l cpu pid nice v (inr among) runs e f =
+    let rest = subst (λ b. IsLifted time cpus b after) l.1.result l.2 in
+    let other : cpu ≢ one = (λ same. apart.0 (subst (λ n. IsAmong n cpus) same among)) in
+    let elsewhere : ¬ Stands before Run one pid = (λ at. other (once pid cpu one runs at)) in
+    let kept = if_not (before.running one pid) (charged_runtime before one time pid) (before.runtime pid) elsewhere
+    ∙ f in
+    subst (λ n. after.runtime pid ≡ Some (v +ℤ pos ((time - n) * 1024 / task_weight nice (before.idle pid))))
+    (put-other before.mark one time cpu other)
+    (quotients time cpus (first_lift time one before l.1.floor) after apart.1 once rest cpu pid nice v among runs e
+    kept)
+
+-- the processors that an event touches differ
+touched_apart : (knobs : Settings) (m : Machine) (act : Act) (claim : Option Claim) (idle : Bool) (after : Machine)
+    → Changes knobs m act claim idle after → AreApart (touched act)
+touched_apart knobs m (Switch cpu prev prev_nice way next next_nice) claim idle after c = ((λ h. h), tt)
+touched_apart knobs m (Wake cpu pid nice) claim idle after c = ((λ h. h), tt)
+touched_apart knobs m (Born cpu pid nice) claim idle after c = ((λ h. h), tt)
+touched_apart knobs m (Shift orig dest pid nice) claim idle after c =
+    ((λ h. elim h [ inl same ↦ c.differ same | inr wrong ↦ wrong ]), ((λ h. h), tt))
+
+-- the next task is in the one set and not in the other
+now_runs : (m : Machine) (cpu pid : ℕ) → IsTrue (put_pair m.running cpu pid true cpu pid)
+now_runs m cpu pid = elim (pair_cases m.running cpu pid true cpu pid) [
+  | inl h ↦ h.2
+  | inr h ↦ absurd (h.0 (refl, refl))
+]
+
+waited : (m : Machine) (cpu pid other : ℕ) → IsTrue (put_pair m.waiting cpu pid false cpu other)
+    → IsTrue (m.waiting cpu other)
+waited m cpu pid other waits = elim (pair_cases m.waiting cpu pid false cpu other) [
+  | inl h ↦ absurd (false≢true (sym h.2 ∙ waits))
+  | inr h ↦ sym h.1 ∙ waits
+]
+
+pick_of : (knobs : Settings) (m : Machine) (act : Act) (claim : Option Claim) (idle : Bool) (after : Machine)
+    → Changes knobs m act claim idle after → IsPickedWithin knobs.granularity act after
+pick_of knobs m (Switch cpu prev prev_nice way zero next_nice) claim idle after c = tt
+pick_of knobs m (Switch cpu prev prev_nice way (suc n) next_nice) claim idle after c =
+    let found = after_prev m cpu prev way in
+    subst (λ a. IsPickedWithin knobs.granularity (Switch cpu prev prev_nice way (suc n) next_nice) a) (sym c.result) (
+      now_runs found cpu (suc n),
+      (c.pick.0, c.pick.1, (λ other w waits is. c.pick.3 other w (waited found cpu (suc n) other waits) is)),
+    )
+pick_of knobs m (Wake cpu pid nice) claim idle after c = tt
+pick_of knobs m (Born cpu pid nice) claim idle after c = tt
+pick_of knobs m (Shift orig dest pid nice) claim idle after c = tt
+
+-- a step from a machine in order
+lawful_step : StepKeepsOrder → (knobs : Settings) (before : Machine) (event : Claimed) (after : Machine)
+    → IsInOrder before → IsStep knobs before event after → IsLawful knobs before event after
+lawful_step keeps knobs before event after o s = record {
+  lifted = s.lifted;
+  is_lifted = s.is_lifted;
+  charges = record {
+    quotient = quotients event.entry.time (touched event.entry.act) before s.lifted
+        (touched_apart knobs s.found event.entry.act event.claim event.idle after s.changes)
+        (orderly_of before o).one_processor s.is_lifted;
+    others = others_stay event.entry.time (touched event.entry.act) before s.lifted s.is_lifted;
+  };
+  pick = pick_of knobs s.found event.entry.act event.claim event.idle after s.changes;
+  orderly = orderly_of after (keeps knobs before event after o s);
+}
+
+lawful_steps : StepKeepsOrder → (knobs : Settings) (before : Machine) (events : List Claimed) (states : List Machine)
+    → IsInOrder before → AreSteps knobs before events states → AreLawful knobs before events states
+lawful_steps keeps knobs before [] [] o s = tt
+lawful_steps keeps knobs before [] (m ∷ states) o s = absurd s
+lawful_steps keeps knobs before (event ∷ events) [] o s = absurd s
+lawful_steps keeps knobs before (event ∷ events) (after ∷ states) o s = (
+  lawful_step keeps knobs before event after o s.0,
+  lawful_steps keeps knobs after events states (keeps knobs before event after o s.0) s.1,
+)
+
+pub texts_start_orderly : StartInOrder → TextsStartOrderly
+texts_start_orderly starts trace companion r is =
+    orderly_of (start_machine r.start r.floors r.tasks)
+    (starts r.start r.floors r.tasks (start_of_texts trace companion r is))
+
+pub yes_is_lawful : StepKeepsOrder → StartInOrder → YesIsLawful
+yes_is_lawful keeps starts knobs trace companion r summary is scheduled =
+    lawful_steps keeps knobs (start_machine r.start r.floors r.tasks) (events_of r) scheduled.run.states
+    (starts r.start r.floors r.tasks (start_of_texts trace companion r is)) scheduled.run.steps

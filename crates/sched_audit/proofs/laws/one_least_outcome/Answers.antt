@@ -1,0 +1,12 @@
+use Rattle.std.proofs.Common.{refl}
+use Rattle.ticket_book.specs.LeastAnswer.{IsLeastAnswer}
+use Rattle.sched_audit.specs.OneOutcome.{least_view}
+use Rattle.sched_audit.specs.Report.{least_fault, least_lines}
+use Rattle.sched_audit.proofs.OneOf.{one_by_view, same_outcome}
+use Rattle.sched_audit.proofs.laws.one_least_outcome.Goals as goal
+
+pub returns : goal.returns
+returns c trace companion one other p q =
+    one_by_view least_view least_lines least_fault least_lines least_fault (λ least. refl) (λ least. refl) one other
+    (same_outcome trace companion c.one_trace_answer.ensures c.one_companion_answer.ensures c.one_record_answer.ensures
+    IsLeastAnswer least_view (λ r a b start x y. c.one_least_answer.ensures r a b start x y) one other p q)

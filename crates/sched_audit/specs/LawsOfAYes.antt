@@ -1,0 +1,76 @@
+-- What a yes says of each moment of the run (this project's profile): no task runs on two processors or waits in two
+-- queues, each charge is the quotient of the time by the weight, rounded down, and each pick is within the granularity.
+use Rattle.std.specs.Prelude.{◌≡◌, ℕ, suc, ◌-◌, ◌*◌, ◌/◌, ◌⊎◌, ⊤, Some, List, [], ◌∷◌, ℤ, pos, ◌+ℤ◌, ◌≤ℤ◌}
+use Rattle.cfs_model.specs.Claimed.{Claimed}
+use Rattle.cfs_model.specs.Lifted.{IsLifted}
+use Rattle.cfs_model.specs.Machine.{Machine, Stands}
+use Rattle.cfs_model.specs.Nice.{task_weight}
+use Rattle.cfs_model.specs.Settings.{Settings}
+use Rattle.cfs_model.specs.Start.{start_machine}
+use Rattle.cfs_model.specs.Touch.{touched}
+use Rattle.cfs_model.specs.declared.act.Act.{Act}
+use Rattle.cfs_model.specs.declared.act.Act.TheVariants.{Switch}
+use Rattle.cfs_model.specs.declared.task.Place.TheVariants.{Run, Wait}
+use Rattle.sched_record.specs.Record.{RecordView}
+use Rattle.ticket_book.specs.SaidEvents.{events_of}
+use Rattle.ticket_book.specs.SummaryView.{SummaryView}
+use Rattle.ticket_book.specs.Verdict.{IsScheduled}
+use Rattle.sched_audit.specs.Texts.{IsRecordOf}
+
+-- no task runs on two processors, waits in two queues, or runs and waits; and no two tasks run on one processor
+pub record IsOrderly (m : Machine) : Type 0 where
+  pub one_processor : (pid cpu other : ℕ) → Stands m Run cpu pid → Stands m Run other pid → cpu ≡ other
+  pub one_queue : (pid cpu other : ℕ) → Stands m Wait cpu pid → Stands m Wait other pid → cpu ≡ other
+  pub not_both : (pid cpu other : ℕ) → Stands m Run cpu pid → ¬ Stands m Wait other pid
+  pub one_runs : (cpu pid other : ℕ) → Stands m Run cpu pid → Stands m Run cpu other → pid ≡ other
+
+-- the processor is one of these
+abbrev pub IsAmong : ℕ → List ℕ → Type 0
+IsAmong cpu [] = ⊥
+IsAmong cpu (one ∷ cpus) = (cpu ≡ one) ⊎ IsAmong cpu cpus
+
+-- at a time, who runs at one of these processors is charged for the time since the last charge there: this times 1024,
+-- divided by the task's weight, rounded down; and nobody else is charged
+pub record AreCharged (time : ℕ) (cpus : List ℕ) (before after : Machine) : Type 0 where
+  pub quotient : (cpu pid : ℕ) (nice v : ℤ) → IsAmong cpu cpus → Stands before Run cpu pid
+      → before.nice pid ≡ Some nice → before.runtime pid ≡ Some v
+      → after.runtime pid ≡ Some (v +ℤ pos ((time - before.mark cpu) * 1024 / task_weight nice (before.idle pid)))
+  pub others : (pid : ℕ) → ((cpu : ℕ) → IsAmong cpu cpus → ¬ Stands before Run cpu pid)
+      → after.runtime pid ≡ before.runtime pid
+
+-- behind a switch to a task it runs there, with a virtual runtime at most the granularity above that of each task that
+-- waits there
+abbrev pub IsPickedWithin : ℕ → Act → Machine → Type 0
+IsPickedWithin granularity (Switch cpu prev prev_nice way (suc n) next_nice) after =
+    Stands after Run cpu (suc n)
+    × ((v : ℤ) × (after.runtime (suc n) ≡ Some v)
+    × ((other : ℕ) (w : ℤ) → Stands after Wait cpu other → after.runtime other ≡ Some w
+    → v ≤ℤ (w +ℤ pos granularity)))
+IsPickedWithin granularity _ after = ⊤
+
+-- of a step: the charges between the machine before it and the one that its event's time leads to, the pick, and the
+-- machine behind it
+pub record IsLawful (knobs : Settings) (before : Machine) (event : Claimed) (after : Machine) : Type 0 where
+  pub lifted : Machine
+  pub is_lifted : IsLifted event.entry.time (touched event.entry.act) before lifted
+  pub charges : AreCharged event.entry.time (touched event.entry.act) before lifted
+  pub pick : IsPickedWithin knobs.granularity event.entry.act after
+  pub orderly : IsOrderly after
+
+-- each step is
+abbrev pub AreLawful : Settings → Machine → List Claimed → List Machine → Type 0
+AreLawful knobs before [] [] = ⊤
+AreLawful knobs before (event ∷ events) (after ∷ states) = IsLawful knobs before event after
+    × AreLawful knobs after events states
+AreLawful knobs before _ _ = ⊥
+
+-- the record of two texts starts so that no task is in two places
+abbrev pub TextsStartOrderly : Type 0
+TextsStartOrderly = (trace companion : List ℕ) (r : RecordView) → IsRecordOf trace companion r
+    → IsOrderly (start_machine r.start r.floors r.tasks)
+
+-- and where it is scheduled, each step of its run is lawful
+abbrev pub YesIsLawful : Type 0
+YesIsLawful = (knobs : Settings) (trace companion : List ℕ) (r : RecordView) (summary : SummaryView)
+    → IsRecordOf trace companion r → (scheduled : IsScheduled knobs r summary)
+    → AreLawful knobs (start_machine r.start r.floors r.tasks) (events_of r) scheduled.run.states

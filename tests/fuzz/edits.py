@@ -17,11 +17,13 @@ PID = re.compile(rb"(?<= pid=)\d+|(?<=_pid=)\d+")
 
 # At each limit of a number in the two formats, and one beyond.
 LIMITS = [limit + beyond for beyond in (-1, 0, 1) for limit in (
-    1, 63, 64, 100, 139, 140, 999, 65_535, MOST_PID, 2**31, 2**32 - 1, 2**53, MOST_SETTING, 2**62, 2**63, 2**64, 10**40)]
+    1, 63, 64, 100, 139, 140, 999, 65_535, MOST_PID, 2**31, 2**32 - 1, 2**53, MOST_SETTING, 2**62,
+    2**63, 2**64, 10**40)]
 BLOCKS = (2**16, 2**17)
 BYTES = b"\n\n  \t\r\0\xff#:=.,;+-[]()>_0919aRSXZx"
 STATES = (b"R", b"R+", b"S", b"D", b"X", b"Z", b"x", b"I", b"t", b"RX", b"S|K", b"X+", b"+", b"|", b"==>", b"", b"R S")
-EVENTS = (b"sched_switch", b"sched_wakeup", b"sched_wakeup_new", b"sched_migrate_task", b"sched_waking", b"sched_switch:")
+EVENTS = (b"sched_switch", b"sched_wakeup", b"sched_wakeup_new", b"sched_migrate_task", b"sched_waking",
+          b"sched_switch:")
 STARTS = (0, 1, 2, 3, -1, -20, -21, 19, 20, 100, 10**6, 2**62)
 PLACES = (b"run", b"wait", b"rest", b"gone")
 SORTS = (b"at", b"pass", b"nice", b"idle", b"task", b"floor")
@@ -205,7 +207,8 @@ def number_changed(rng, draft):
     if found:
         place, number = found
         value, what = int(number.group()), rng.random()
-        new = b"%d" % (value + rng.choice((-1, 1)) if what < 0.5 else rng.choice(LIMITS) if what < 0.9 else value * 1000)
+        new = b"%d" % (value + rng.choice((-1, 1)) if what < 0.5 else
+                       rng.choice(LIMITS) if what < 0.9 else value * 1000)
         lines[place] = put(lines[place], number.span(), new)
 
 
@@ -236,7 +239,8 @@ def pid_changed(rng, draft):
         return
     place, pid = found
     near = draft.trace[max(place - 3, 0):place] if rng.random() < 0.5 else draft.trace
-    others = PID.findall(rng.choice(near or draft.trace)) if rng.random() < 0.9 else [b"%d" % rng.randrange(1, MOST_PID)]
+    is_near = rng.random() < 0.9
+    others = PID.findall(rng.choice(near or draft.trace)) if is_near else [b"%d" % rng.randrange(1, MOST_PID)]
     new = rng.choice(others or [pid.group()])
     draft.trace[place] = put(draft.trace[place], pid.span(), new)
     for at, claim in draft.claims():
@@ -294,7 +298,8 @@ def birth_for_a_wakeup(rng, draft):
     found = a_line_with(rng, draft, draft.trace, re.compile(rb"sched_wakeup(_new)?(?=: )"))
     if found:
         place, event = found
-        draft.trace[place] = put(draft.trace[place], event.span(), b"sched_wakeup" + (b"" if event.group(1) else b"_new"))
+        draft.trace[place] = put(draft.trace[place], event.span(),
+                                 b"sched_wakeup" + (b"" if event.group(1) else b"_new"))
 
 
 def claim_changed(rng, draft):
@@ -319,12 +324,14 @@ def claim_changed(rng, draft):
 
 
 def nice_added(rng, draft):
-    """One more change of a nice value, mostly of a task that its line's event names, before the line's claim or behind it."""
+    """One more change of a nice value, mostly of a task that its line's event names, before the line's claim or behind
+    it."""
     line = rng.randrange(1, len(draft.trace) + 1) if draft.here is None else draft.here + 1
     events = draft.trace[line - 1:line] if rng.random() < 0.7 else draft.trace
     pids = PID.findall(rng.choice(events or draft.trace))
     after = line + (rng.random() < 0.2)
-    at = next((place for place, claim in draft.claims() if int(claim.group(2)) >= after), max(len(draft.companion) - 1, 0))
+    at = next((place for place, claim in draft.claims() if int(claim.group(2)) >= after),
+              max(len(draft.companion) - 1, 0))
     draft.companion.insert(at, b"nice %d %s %d" % (line, rng.choice(pids or [b"101"]), rng.choice(NICES)))
     if rng.random() < 0.8:
         draft.call_it(b"2")
@@ -368,7 +375,8 @@ def nice_changed(rng, draft):
 
 
 def idle_added(rng, draft):
-    """One more task of the idle policy: of the start, or born on a line; now and then one that isn't, or out of order."""
+    """One more task of the idle policy: of the start, or born on a line; now and then one that isn't, or out of
+    order."""
     births = [(place + 1, found.group(1)) for place, found in enumerate(map(BIRTH.search, draft.trace)) if found]
     tasks = [(0, found.group(1)) for found in map(TASK.match, draft.companion) if found]
     line, pid = rng.choice(births + tasks or [(0, b"101")])
@@ -379,7 +387,8 @@ def idle_added(rng, draft):
         line = rng.choice((0, 1, line + 1, line - 1 if line else 0))
     behind = [place for place, idle in draft.idles() if (int(idle.group(1)), int(idle.group(2))) > (line, int(pid))]
     behind += [place for place, _ in draft.claims()] + [max(len(draft.companion) - 1, 0)]
-    draft.companion.insert(behind[0] if rng.random() < 0.95 else place_in(rng, draft.companion), b"idle %d %s" % (line, pid))
+    draft.companion.insert(behind[0] if rng.random() < 0.95 else place_in(rng, draft.companion),
+                           b"idle %d %s" % (line, pid))
     if rng.random() < 0.9:
         draft.call_it(b"2")
 
@@ -434,13 +443,15 @@ def option_changed(rng, draft):
         at = draft.options.index(option)
         del draft.options[at:at + 2]
     value = str(rng.choice((0, 1, 999, 1000, 99_999, 100_000, 999_999, 10**6, 3 * 10**6, 10**9, MOST_SETTING)))
-    value = rng.choice((str(MOST_SETTING + 1), "-1", "", "+5", "00", str(2**64), "1e3")) if rng.random() < 0.05 else value
+    if rng.random() < 0.05:
+        value = rng.choice((str(MOST_SETTING + 1), "-1", "", "+5", "00", str(2**64), "1e3"))
     draft.options += [f"{option}={value}"] if rng.random() < 0.3 else [option, value]
 
 
 EDITS = {
     bytes_changed: 1.5, bytes_swapped: 1, text_cut: 0.5,
-    line_added: 2, comment_added: 1, block_added: 0.5, line_dropped: 2, line_moved: 1, lines_swapped: 1.5, trace_ended: 1,
+    line_added: 2, comment_added: 1, block_added: 0.5, line_dropped: 2, line_moved: 1, lines_swapped: 1.5,
+    trace_ended: 1,
     carriage_returns: 0.3,
     number_changed: 3, zeros_in_front: 1, number_from_elsewhere: 3, pid_changed: 4, time_turned: 1, later: 2,
     nanoseconds: 1,

@@ -1,11 +1,13 @@
 """Random runs of the scheduler: a machine is led by the rules of docs/RULES.md, one event after another, and each event
-is written as a line of a trace, with its claim in a companion; a companion of version 2 tells changes of nice values too,
-and which tasks are of the idle policy.  So what the report has to say of the run is known, and which settings it needs."""
+is written as a line of a trace, with its claim in a companion; a companion of version 2 tells changes of nice values
+too, and which tasks are of the idle policy.  So what the report has to say of the run is known, and which settings it
+needs."""
 
 from typing import NamedTuple
 
 # The weights of nice -20 to 19.
-WEIGHTS = (88761, 71755, 56483, 46273, 36291, 29154, 23254, 18705, 14949, 11916, 9548, 7620, 6100, 4904, 3906, 3121, 2501,
+WEIGHTS = (88761, 71755, 56483, 46273, 36291, 29154, 23254, 18705, 14949, 11916, 9548, 7620, 6100, 4904, 3906, 3121,
+           2501,
            1991, 1586, 1277, 1024, 820, 655, 526, 423, 335, 272, 215, 172, 137, 110, 87, 70, 56, 45, 36, 29, 23, 18, 15)
 # The weight of a task of the idle policy, whatever its nice value.
 IDLE_WEIGHT = 3
@@ -28,7 +30,8 @@ OTHERS = (b"#", b"", b"# CPU:0 [LOST EVENTS]", b"#" * 70)
 
 
 class Input(NamedTuple):
-    """What both auditors are called on; where they are known beforehand, the report and what is told of the least settings."""
+    """What both auditors are called on; where they are known beforehand, the report and what is told of the least
+    settings."""
 
     trace: bytes
     companion: bytes
@@ -233,7 +236,8 @@ class Machine:
             before.place = place
             self.counts[b"deaths"] += place is None
         if after:
-            self.need("--granularity-ns", after.virtual - min(task.virtual for task in waiting + [before] * bool(stays)))
+            self.need("--granularity-ns",
+                      after.virtual - min(task.virtual for task in waiting + [before] * bool(stays)))
             after.place = b"run"
             after.picks += 1
         self.counts[b"switches"] += 1
@@ -346,5 +350,6 @@ def recording(rng):
         machine.go_on()
     options = () if machine.settings == STANDARD else options_of(machine.settings)
     companion = machine.beginning + machine.idles + machine.claims
-    return Input(b"".join(line + b"\n" for line in machine.lines), b"".join(line + b"\n" for line in companion), options,
+    return Input(b"".join(line + b"\n" for line in machine.lines), b"".join(line + b"\n" for line in companion),
+                 options,
                  b"".join(machine.report()), b"".join(machine.least()))

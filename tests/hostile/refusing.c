@@ -1,7 +1,7 @@
-/* Stands before the allocator of a program (LD_PRELOAD) and refuses one of its growths: the one of the number REFUSE_AT,
- * from 1, or that one and each behind it where REFUSE_ON is set. At the first that it refuses it writes one byte to the
- * file REFUSE_TOLD, which is open. A growth is a call of malloc, calloc or realloc, whoever makes it: the program, or the C
- * library for a thread. */
+/* Stands before the allocator of a program (LD_PRELOAD) and refuses one of its growths: the one of the number
+ * REFUSE_AT, from 1, or that one and each behind it where REFUSE_ON is set. At the first that it refuses it writes one
+ * byte to the file REFUSE_TOLD, which is open. A growth is a call of malloc, calloc or realloc, whoever makes it: the
+ * program, or the C library for a thread. */
 
 typedef __SIZE_TYPE__ size;
 

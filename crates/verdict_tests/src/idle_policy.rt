@@ -46,6 +46,7 @@ static MOVES_BY_THREE: Recording = Recording {
     lines: MOVED,
     companion: &[START, WHO_MOVES, BY_THREE],
     fault: None,
+    ends: &[None, None],
 };
 
 static MOVES_BY_NICE: Recording = Recording {
@@ -53,6 +54,7 @@ static MOVES_BY_NICE: Recording = Recording {
     lines: MOVED,
     companion: &[START, WHO_MOVES, BY_NICE],
     fault: WRONG_PUT_BACK,
+    ends: &[None, Some((3, 101, Kind::WrongPutBack))],
 };
 
 static NOBODY_BY_NICE: Recording = Recording {
@@ -60,6 +62,7 @@ static NOBODY_BY_NICE: Recording = Recording {
     lines: MOVED,
     companion: &[START, BY_NICE],
     fault: None,
+    ends: &[None, None],
 };
 
 static NOBODY_BY_THREE: Recording = Recording {
@@ -67,6 +70,7 @@ static NOBODY_BY_THREE: Recording = Recording {
     lines: MOVED,
     companion: &[START, BY_THREE],
     fault: WRONG_PUT_BACK,
+    ends: &[None, Some((3, 101, Kind::WrongPutBack))],
 };
 
 static STAYS_BY_NICE: Recording = Recording {
@@ -74,6 +78,7 @@ static STAYS_BY_NICE: Recording = Recording {
     lines: MOVED,
     companion: &[START, WHO_STAYS, BY_NICE],
     fault: None,
+    ends: &[None, None],
 };
 
 static STAYS_BY_THREE: Recording = Recording {
@@ -81,18 +86,12 @@ static STAYS_BY_THREE: Recording = Recording {
     lines: MOVED,
     companion: &[START, WHO_STAYS, BY_THREE],
     fault: WRONG_PUT_BACK,
+    ends: &[None, Some((3, 101, Kind::WrongPutBack))],
 };
 
 #[test]
 fn the_idle_policy_is_kept_at_a_migration(rt: HostRuntime) -> Result<(), Fail> {
-    for recording in [
-        &MOVES_BY_THREE,
-        &MOVES_BY_NICE,
-        &NOBODY_BY_NICE,
-        &NOBODY_BY_THREE,
-        &STAYS_BY_NICE,
-        &STAYS_BY_THREE,
-    ] {
+    for recording in recordings() {
         wants_alone(&rt, rt.alloc(), recording)?;
     }
     Ok(())
@@ -138,7 +137,21 @@ static BORN_TWICE: Recording = Recording {
         "cfs-companion 2\ncpus 3\nstart 100.000000\nfloor 0 0\nfloor 1 0\nfloor 2 0\ntask 101 0 0 wait 0\nidle 0 101\nat 1 101 0\nat 2 101 0\n",
     ],
     fault: Some((1, 2, 101, Kind::BornTwice)),
+    ends: &[None, None, None],
 };
+
+/// All of them.
+pub(crate) fn recordings() -> [&'static Recording; 7] {
+    [
+        &MOVES_BY_THREE,
+        &MOVES_BY_NICE,
+        &NOBODY_BY_NICE,
+        &NOBODY_BY_THREE,
+        &STAYS_BY_NICE,
+        &STAYS_BY_THREE,
+        &BORN_TWICE,
+    ]
+}
 
 #[test]
 fn a_birth_of_a_living_task_comes_before_the_tickets_that_it_makes_unequal(

@@ -1,6 +1,6 @@
-//! Tests of what no clause says of several processors: verdicts on worked recordings, books with pages in any order and
-//! with pages that aren't honest, auditors that wait for each other, that come in each order, that stop, and that come
-//! in crowds.
+//! Tests of what no clause says of several processors: verdicts on worked recordings, replays in calls of a few steps,
+//! books with pages in any order and with pages that aren't honest, auditors that wait for each other, that come in
+//! each order, that stop, and that come in crowds.
 #![tactic(auto)]
 
 #[cfg(test)]
@@ -23,6 +23,8 @@ mod nice_changes;
 mod orders;
 #[cfg(test)]
 mod shelf;
+#[cfg(test)]
+mod stepwise;
 #[cfg(test)]
 mod stops;
 #[cfg(test)]

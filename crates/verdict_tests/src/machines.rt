@@ -1,10 +1,13 @@
-//! Recordings of several processors, with their verdicts.
+//! Recordings of one processor and of several, with their verdicts, and how the replay of each processor ends.
 
 use crate::calls::MaybeFault;
 use cfs_model::Kind;
 
 /// The lines of a trace that are no comments: from which line on each stands, and how often.
 pub(crate) type Lines = &'static [(u32, u32, &'static str)];
+
+/// The line, pid and kind of the fault with which the replay of a processor alone ends, if it has one.
+pub(crate) type End = Option<(u32, u32, Kind)>;
 
 /// A recording, and the line, processor, pid and kind of its fault, if it has one.
 pub(crate) struct Recording {
@@ -13,6 +16,8 @@ pub(crate) struct Recording {
     /// The companion, in parts.
     pub companion: &'static [&'static str],
     pub fault: MaybeFault,
+    /// The ends of its processors, from 0 on.
+    pub ends: &'static [End],
 }
 
 /// 101 goes from processor 0 to 1.
@@ -44,6 +49,10 @@ pub(crate) static TWO_FAULTS_FIRST_LINE_NAMED: Recording = Recording {
     ],
     companion: BOTH_RUN,
     fault: Some((4, 0, 201, Kind::PrevNotRunning)),
+    ends: &[
+        Some((4, 201, Kind::PrevNotRunning)),
+        Some((9, 202, Kind::PrevNotRunning)),
+    ],
 };
 
 /// 102 waits at processor 1, which idles to 0.1 ms; its own next event is at line 100, and 0 goes on at lines 20, 50,
@@ -81,6 +90,10 @@ pub(crate) static IDLE_FAULT_AT_LINE_OF_OTHER_PROCESSOR: Recording = Recording {
         "cfs-companion 1\ncpus 2\nstart 100.000000\nfloor 0 0\nfloor 1 0\ntask 101 0 0 run 0\ntask 102 0 1 wait 0\n",
     ],
     fault: Some((50, 1, 0, Kind::IdleTooLong)),
+    ends: &[
+        Some((80, 201, Kind::PrevNotRunning)),
+        Some((100, 0, Kind::IdleTooLong)),
+    ],
 };
 
 /// 101 stands nowhere, and goes from processor 0 to 1.
@@ -89,6 +102,10 @@ pub(crate) static MIGRATION_OF_UNKNOWN_TASK: Recording = Recording {
     lines: MIGRATION,
     companion: &["cfs-companion 1\ncpus 2\nstart 100.000000\nfloor 0 0\nfloor 1 0\n"],
     fault: Some((1, 0, 101, Kind::Strange)),
+    ends: &[
+        Some((1, 101, Kind::Strange)),
+        Some((1, 101, Kind::ClaimMissing)),
+    ],
 };
 
 /// 101 rests at processor 0, and goes to 1 without a claim.
@@ -99,6 +116,7 @@ pub(crate) static MIGRATION_WITHOUT_CLAIM: Recording = Recording {
         "cfs-companion 1\ncpus 2\nstart 100.000000\nfloor 0 0\nfloor 1 0\ntask 101 0 0 rest 0\n",
     ],
     fault: Some((1, 1, 101, Kind::ClaimMissing)),
+    ends: &[None, Some((1, 101, Kind::ClaimMissing))],
 };
 
 /// The same with a claim of 102.
@@ -109,6 +127,7 @@ pub(crate) static MIGRATION_CLAIM_OF_OTHER_TASK: Recording = Recording {
         "cfs-companion 1\ncpus 2\nstart 100.000000\nfloor 0 0\nfloor 1 0\ntask 101 0 0 rest 0\npass 1 102 0\n",
     ],
     fault: Some((1, 1, 102, Kind::ClaimPid)),
+    ends: &[None, Some((1, 102, Kind::ClaimPid))],
 };
 
 /// Both processors idle beside a waiting task from the start.
@@ -123,6 +142,10 @@ pub(crate) static TWO_PROCESSORS_IDLE_LOWEST_NAMED: Recording = Recording {
         "cfs-companion 1\ncpus 2\nstart 100.000000\nfloor 0 0\nfloor 1 0\ntask 101 0 0 wait 0\ntask 102 0 1 wait 0\n",
     ],
     fault: Some((1, 0, 0, Kind::IdleTooLong)),
+    ends: &[
+        Some((1, 0, Kind::IdleTooLong)),
+        Some((1, 0, Kind::IdleTooLong)),
+    ],
 };
 
 /// 101 sleeps at processor 0, and is born at 1.
@@ -144,6 +167,7 @@ pub(crate) static SLEEP_THEN_BIRTH_ELSEWHERE: Recording = Recording {
         "cfs-companion 1\ncpus 2\nstart 100.000000\nfloor 0 0\nfloor 1 0\ntask 101 0 0 run 0\nat 2 101 0\n",
     ],
     fault: Some((2, 1, 101, Kind::BornTwice)),
+    ends: &[None, None],
 };
 
 /// 101 waits 2 above the floor of processor 0, and is claimed 3 above that of 1.
@@ -154,6 +178,7 @@ pub(crate) static MIGRATION_VALUE_ONE_MORE: Recording = Recording {
         "cfs-companion 1\ncpus 2\nstart 100.000000\nfloor 0 3\nfloor 1 100\ntask 101 0 0 wait 5\ntask 102 0 0 run 3\nat 1 101 103\n",
     ],
     fault: Some((1, 1, 101, Kind::TicketUnequal)),
+    ends: &[None, None],
 };
 
 /// 101 goes from processor 0 to 0.
@@ -166,6 +191,7 @@ pub(crate) static MIGRATION_TO_OWN_PROCESSOR: Recording = Recording {
     )],
     companion: &["cfs-companion 1\ncpus 1\nstart 100.000000\nfloor 0 0\ntask 101 0 0 rest 0\n"],
     fault: Some((1, 0, 101, Kind::MoveHome)),
+    ends: &[Some((1, 101, Kind::MoveHome))],
 };
 
 /// 101 runs at processor 0, and goes to 1.
@@ -176,6 +202,7 @@ pub(crate) static MIGRATION_OF_RUNNING_TASK: Recording = Recording {
         "cfs-companion 1\ncpus 2\nstart 100.000000\nfloor 0 0\nfloor 1 0\ntask 101 0 0 run 0\npass 1 101 0\n",
     ],
     fault: Some((1, 0, 101, Kind::MoveRunning)),
+    ends: &[Some((1, 101, Kind::MoveRunning)), None],
 };
 
 /// 101 ends at processor 0, and is born at 1.
@@ -197,6 +224,7 @@ pub(crate) static DEATH_THEN_BIRTH_ELSEWHERE: Recording = Recording {
         "cfs-companion 1\ncpus 2\nstart 100.000000\nfloor 0 0\nfloor 1 0\ntask 101 0 0 run 0\nat 2 101 0\n",
     ],
     fault: None,
+    ends: &[None, None],
 };
 
 /// Three processors switch from tasks that do not run there: 2 at line 2, 0 at line 4, 1 at line 9.
@@ -223,6 +251,11 @@ pub(crate) static THREE_FAULTS_ON_THREE_PROCESSORS: Recording = Recording {
         "cfs-companion 1\ncpus 3\nstart 100.000000\nfloor 0 0\nfloor 1 0\nfloor 2 0\ntask 101 0 0 run 0\ntask 102 0 1 run 0\ntask 103 0 2 run 0\n",
     ],
     fault: Some((2, 2, 203, Kind::PrevNotRunning)),
+    ends: &[
+        Some((4, 201, Kind::PrevNotRunning)),
+        Some((9, 202, Kind::PrevNotRunning)),
+        Some((2, 203, Kind::PrevNotRunning)),
+    ],
 };
 
 /// 101 rests 5 below the floor of processor 0, and so below that of 1.
@@ -233,6 +266,7 @@ pub(crate) static MIGRATION_OF_SLEEPING_TASK: Recording = Recording {
         "cfs-companion 1\ncpus 2\nstart 100.000000\nfloor 0 0\nfloor 1 10\ntask 101 0 0 rest -5\npass 1 101 5\n",
     ],
     fault: None,
+    ends: &[None, None],
 };
 
 /// The same, claimed as one that waits.
@@ -243,6 +277,7 @@ pub(crate) static MIGRATION_OF_SLEEPING_TASK_ENQUEUED: Recording = Recording {
         "cfs-companion 1\ncpus 2\nstart 100.000000\nfloor 0 0\nfloor 1 10\ntask 101 0 0 rest -5\nat 1 101 5\n",
     ],
     fault: Some((1, 1, 101, Kind::TicketUnequal)),
+    ends: &[None, None],
 };
 
 /// 101 waits 2 above the floor of processor 0, and so above that of 1.
@@ -253,6 +288,7 @@ pub(crate) static MIGRATION_OF_WAITING_TASK: Recording = Recording {
         "cfs-companion 1\ncpus 2\nstart 100.000000\nfloor 0 3\nfloor 1 100\ntask 101 0 0 wait 5\ntask 102 0 0 run 3\nat 1 101 102\n",
     ],
     fault: None,
+    ends: &[None, None],
 };
 
 /// The same, claimed as one that rests.
@@ -263,6 +299,7 @@ pub(crate) static MIGRATION_OF_WAITING_TASK_PASSED: Recording = Recording {
         "cfs-companion 1\ncpus 2\nstart 100.000000\nfloor 0 3\nfloor 1 100\ntask 101 0 0 wait 5\ntask 102 0 0 run 3\npass 1 101 102\n",
     ],
     fault: Some((1, 1, 101, Kind::TicketUnequal)),
+    ends: &[None, None],
 };
 
 /// 101, of nice 5, runs at processor 0, sleeps, goes to 1, is woken and runs there.
@@ -299,6 +336,7 @@ pub(crate) static SUMMARY_OVER_TWO_PROCESSORS: Recording = Recording {
         "cfs-companion 1\ncpus 2\nstart 100.000000\nfloor 0 0\nfloor 1 0\ntask 101 5 0 run 0\npass 2 101 0\nat 3 101 0\n",
     ],
     fault: None,
+    ends: &[None, None],
 };
 
 /// At line 4 processor 0 switches away from a task that doesn't run there; from line 5 on processor 1's task is woken.
@@ -318,6 +356,7 @@ pub(crate) static FAULT_BEFORE_MANY_WAKEUPS: Recording = Recording {
     ],
     companion: BOTH_RUN,
     fault: Some((4, 0, 201, Kind::PrevNotRunning)),
+    ends: &[Some((4, 201, Kind::PrevNotRunning)), None],
 };
 
 /// The task of either processor is woken 5000 times: two stretches of an auditor.
@@ -337,6 +376,7 @@ pub(crate) static TEN_THOUSAND_WAKEUPS: Recording = Recording {
     ],
     companion: BOTH_RUN,
     fault: None,
+    ends: &[None, None],
 };
 
 /// At line 1 processor 0 switches away from a task that doesn't run there; then processor 1's task is woken for more
@@ -357,11 +397,86 @@ pub(crate) static FAULT_BEFORE_TEN_THOUSAND_WAKEUPS: Recording = Recording {
     ],
     companion: BOTH_RUN,
     fault: Some((1, 0, 201, Kind::PrevNotRunning)),
+    ends: &[Some((1, 201, Kind::PrevNotRunning)), None],
+};
+
+/// 101 runs 4 ms and is put back, and 102 comes.
+pub(crate) static ONE_SWITCH: Recording = Recording {
+    name: "one switch",
+    lines: &[(
+        1,
+        1,
+        "            t101-101     [000] d..2.   100.004000: sched_switch: prev_comm=t101 prev_pid=101 prev_prio=120 prev_state=R+ ==> next_comm=t102 next_pid=102 next_prio=120",
+    )],
+    companion: &[
+        "cfs-companion 1\ncpus 1\nstart 100.000000\nfloor 0 0\ntask 101 0 0 run 0\ntask 102 0 0 wait 0\nat 1 101 4000000\n",
+    ],
+    fault: None,
+    ends: &[None],
+};
+
+/// 102 rests, is woken, and waits up to the slack.
+const WAKEUP: (u32, u32, &str) = (
+    1,
+    1,
+    "            t102-102     [000] d..2.   100.001000: sched_wakeup: comm=t102 pid=102 prio=120 target_cpu=000",
+);
+
+const WOKEN: &[&str] = &[
+    "cfs-companion 1\ncpus 1\nstart 100.000000\nfloor 0 0\ntask 102 0 0 rest 0\nat 1 102 0\n",
+];
+
+pub(crate) static IDLE_AT_SLACK: Recording = Recording {
+    name: "idle at slack",
+    lines: &[
+        WAKEUP,
+        (
+            2,
+            1,
+            "          <idle>-0       [000] d..2.   100.001100: sched_switch: prev_comm=swapper/0 prev_pid=0 prev_prio=120 prev_state=R ==> next_comm=t102 next_pid=102 next_prio=120",
+        ),
+    ],
+    companion: WOKEN,
+    fault: None,
+    ends: &[None],
+};
+
+/// The same for 1 us more.
+pub(crate) static IDLE_ABOVE_SLACK: Recording = Recording {
+    name: "idle above slack",
+    lines: &[
+        WAKEUP,
+        (
+            2,
+            1,
+            "          <idle>-0       [000] d..2.   100.001101: sched_switch: prev_comm=swapper/0 prev_pid=0 prev_prio=120 prev_state=R ==> next_comm=t102 next_pid=102 next_prio=120",
+        ),
+    ],
+    companion: WOKEN,
+    fault: Some((2, 0, 0, Kind::IdleTooLong)),
+    ends: &[Some((2, 0, Kind::IdleTooLong))],
+};
+
+/// 101 is born at the credit above the floor.
+pub(crate) static BIRTH_AT_UPPER_BOUND: Recording = Recording {
+    name: "birth at upper bound",
+    lines: &[(
+        1,
+        1,
+        "            t101-101     [000] d..2.   100.000000: sched_wakeup_new: comm=t101 pid=101 prio=120 target_cpu=000",
+    )],
+    companion: &["cfs-companion 1\ncpus 1\nstart 100.000000\nfloor 0 0\nat 1 101 3000000\n"],
+    fault: None,
+    ends: &[None],
 };
 
 /// All recordings.
-pub(crate) fn recordings() -> [&'static Recording; 20] {
+pub(crate) fn recordings() -> [&'static Recording; 24] {
     [
+        &ONE_SWITCH,
+        &IDLE_AT_SLACK,
+        &IDLE_ABOVE_SLACK,
+        &BIRTH_AT_UPPER_BOUND,
         &TWO_FAULTS_FIRST_LINE_NAMED,
         &IDLE_FAULT_AT_LINE_OF_OTHER_PROCESSOR,
         &MIGRATION_OF_UNKNOWN_TASK,

@@ -75,9 +75,20 @@ fn entries_by(stretches: u64) -> Entries {
     (each, each, false)
 }
 
-/// Recordings at which each auditor makes one stretch, or two.
-fn meetings() -> [(&'static Recording, u64); 2] {
-    [(&DEATH_THEN_BIRTH_ELSEWHERE, 1), (&TEN_THOUSAND_WAKEUPS, 2)]
+/// Recordings at which each auditor makes one stretch, or two, with their reports.
+fn meetings() -> [(&'static Recording, u64, &'static str); 2] {
+    [
+        (
+            &DEATH_THEN_BIRTH_ELSEWHERE,
+            1,
+            "run\nevents 2\nswitches 1\nmigrations 0\nbirths 1\ndeaths 1\ntask 101 ran 1000000 charged 1000000 picks 0\n",
+        ),
+        (
+            &TEN_THOUSAND_WAKEUPS,
+            2,
+            "run\nevents 10000\nswitches 0\nmigrations 0\nbirths 0\ndeaths 0\ntask 101 ran 0 charged 0 picks 0\ntask 102 ran 0 charged 0 picks 0\n",
+        ),
+    ]
 }
 
 /// How many pages a crew posts that meets at a gate, and the gate's entries.
@@ -93,7 +104,7 @@ fn gathered_at<R: Threads + Wait + Clock + Sync>(
 
 #[test]
 fn auditors_of_a_crew_wait_for_each_other(rt: HostRuntime) -> Result<(), Fail> {
-    for (recording, stretches) in meetings() {
+    for (recording, stretches, _report) in meetings() {
         let answer = gathered_at(&rt, rt.alloc(), recording)?;
         wants_about(&rt, recording.name, &answer, &(2, entries_by(stretches)));
     }
@@ -113,7 +124,7 @@ fn judged_at<R: Threads + Wait + Clock + Sync>(
 
 #[test]
 fn auditors_of_a_record_wait_for_each_other(rt: HostRuntime) -> Result<(), Fail> {
-    for (recording, stretches) in meetings() {
+    for (recording, stretches, _report) in meetings() {
         let answer = judged_at(&rt, rt.alloc(), recording)?;
         let wanted = ((0, recording.fault), entries_by(stretches));
         wants_about(&rt, recording.name, &answer, &wanted);
@@ -157,7 +168,7 @@ fn texts_at<R: Threads + Wait + Clock + Sync>(
 
 #[test]
 fn auditors_of_two_texts_wait_for_each_other(rt: HostRuntime) -> Result<(), Fail> {
-    for (recording, stretches) in meetings() {
+    for (recording, stretches, _report) in meetings() {
         let answer = texts_at(&rt, rt.alloc(), recording)?;
         let wanted = (recording.fault, entries_by(stretches));
         wants_about(&rt, recording.name, &answer, &wanted);
@@ -165,24 +176,29 @@ fn auditors_of_two_texts_wait_for_each_other(rt: HostRuntime) -> Result<(), Fail
     Ok(())
 }
 
-/// What a run of two texts answers, by the standard settings.
+/// What a run answers, and whether it wrote the report.
+type Ran = (Result<Status, Fault>, bool);
+
+/// What a run of two texts comes to, by the standard settings.
 fn run_by<R: Threads + Wait + Sync, G: Gate>(
     rt: &R,
     alloc: Global,
-    trace: &[u8],
-    companion: &[u8],
+    texts: (&[u8], &[u8]),
+    report: &str,
     gate: &G,
-) -> Result<Status, Fault> {
+) -> Ran {
     let mut written = Vec::new(alloc);
-    run(
+    let answer = run(
         rt,
         alloc,
-        &mut FeedOf::new(trace),
-        &mut FeedOf::new(companion),
+        &mut FeedOf::new(texts.0),
+        &mut FeedOf::new(texts.1),
         Knobs::standard(),
         gate,
         &mut SinkOf::new(&mut written),
-    )
+    );
+    let is_report = written.as_slice() == report.as_bytes();
+    (answer, is_report)
 }
 
 /// The same where the auditors meet at a gate, and the gate's entries.
@@ -190,19 +206,20 @@ fn run_at<R: Threads + Wait + Clock + Sync>(
     rt: &R,
     alloc: Global,
     recording: &Recording,
-) -> Result<(Result<Status, Fault>, Entries), Fail> {
+    report: &str,
+) -> Result<(Ran, Entries), Fail> {
     let gate = Turnstile::new(rt);
     let trace = trace_of(alloc, recording.lines)?;
     let companion = companion_of(alloc, recording.companion)?;
-    let status = run_by(rt, alloc, &trace, &companion, &gate);
-    Ok((status, gate.entries()))
+    let ran = run_by(rt, alloc, (&trace, &companion), report, &gate);
+    Ok((ran, gate.entries()))
 }
 
 #[test]
 fn auditors_of_a_run_wait_for_each_other(rt: HostRuntime) -> Result<(), Fail> {
-    for (recording, stretches) in meetings() {
-        let answer = run_at(&rt, rt.alloc(), recording)?;
-        let wanted = (Ok(Status::Yes), entries_by(stretches));
+    for (recording, stretches, report) in meetings() {
+        let answer = run_at(&rt, rt.alloc(), recording, report)?;
+        let wanted = ((Ok(Status::Yes), true), entries_by(stretches));
         wants_about(&rt, recording.name, &answer, &wanted);
     }
     Ok(())

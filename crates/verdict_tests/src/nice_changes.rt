@@ -35,6 +35,7 @@ static TO_MINUS_FIVE: Recording = Recording {
     lines: PRINTED_FASTER,
     companion: &[START, "nice 1 101 -5\n", CLAIM],
     fault: None,
+    ends: &[None, None],
 };
 
 static TO_MINUS_FIVE_PRINTED_AS_BEFORE: Recording = Recording {
@@ -42,6 +43,7 @@ static TO_MINUS_FIVE_PRINTED_AS_BEFORE: Recording = Recording {
     lines: PRINTED_AS_BEFORE,
     companion: &[START, "nice 1 101 -5\n", CLAIM],
     fault: WRONG_PRIO,
+    ends: &[Some((1, 101, Kind::WrongPrio)), None],
 };
 
 static TO_MINUS_FOUR: Recording = Recording {
@@ -49,6 +51,7 @@ static TO_MINUS_FOUR: Recording = Recording {
     lines: PRINTED_FASTER,
     companion: &[START, "nice 1 101 -4\n", CLAIM],
     fault: WRONG_PRIO,
+    ends: &[Some((1, 101, Kind::WrongPrio)), None],
 };
 
 static UNCHANGED: Recording = Recording {
@@ -56,6 +59,7 @@ static UNCHANGED: Recording = Recording {
     lines: PRINTED_FASTER,
     companion: &[START, CLAIM],
     fault: WRONG_PRIO,
+    ends: &[Some((1, 101, Kind::WrongPrio)), None],
 };
 
 static ONE_ABOVE: Recording = Recording {
@@ -63,6 +67,7 @@ static ONE_ABOVE: Recording = Recording {
     lines: PRINTED_FASTER,
     companion: &[START, "nice 1 101 -5\n", "at 1 101 103\n"],
     fault: Some((1, 1, 101, Kind::TicketUnequal)),
+    ends: &[None, None],
 };
 
 static OF_THE_RUNNER: Recording = Recording {
@@ -70,6 +75,7 @@ static OF_THE_RUNNER: Recording = Recording {
     lines: PRINTED_AS_BEFORE,
     companion: &[START, "nice 1 102 -5\n", CLAIM],
     fault: None,
+    ends: &[None, None],
 };
 
 static AT_THE_DESTINATION: Recording = Recording {
@@ -77,11 +83,12 @@ static AT_THE_DESTINATION: Recording = Recording {
     lines: PRINTED_AS_BEFORE,
     companion: &[START, "task 103 0 1 run 100\nnice 1 103 -5\n", CLAIM],
     fault: Some((1, 0, 103, Kind::Strange)),
+    ends: &[Some((1, 103, Kind::Strange)), None],
 };
 
-#[test]
-fn a_change_at_a_migration_is_made_where_the_task_leaves(rt: HostRuntime) -> Result<(), Fail> {
-    for recording in [
+/// All of them.
+pub(crate) fn recordings() -> [&'static Recording; 7] {
+    [
         &TO_MINUS_FIVE,
         &TO_MINUS_FIVE_PRINTED_AS_BEFORE,
         &TO_MINUS_FOUR,
@@ -89,7 +96,12 @@ fn a_change_at_a_migration_is_made_where_the_task_leaves(rt: HostRuntime) -> Res
         &ONE_ABOVE,
         &OF_THE_RUNNER,
         &AT_THE_DESTINATION,
-    ] {
+    ]
+}
+
+#[test]
+fn a_change_at_a_migration_is_made_where_the_task_leaves(rt: HostRuntime) -> Result<(), Fail> {
+    for recording in recordings() {
         wants_alone(&rt, rt.alloc(), recording)?;
     }
     Ok(())

@@ -1,3 +1,4 @@
+pub mod BothVersions
 pub mod Clip
 pub mod EndedSpans
 pub mod Faults

@@ -67,7 +67,7 @@ no_two_digits : codes "cfs-companion 1" ≡ codes "cfs-companion 2" → ⊥
 no_two_digits e = other_digits (ap (λ (s : List ℕ). get_or s 14 0) e)
 
 -- a first line names one version
-one_version : (line : List ℕ) (m n : ℕ) → IsFirstLine line m → IsFirstLine line n → m ≡ n
+pub one_version : (line : List ℕ) (m n : ℕ) → IsFirstLine line m → IsFirstLine line n → m ≡ n
 one_version line m n (inl p) (inl q) = p.1 ∙ sym q.1
 one_version line m n (inl p) (inr q) = absurd (no_two_digits (sym p.0 ∙ q.0))
 one_version line m n (inr p) (inl q) = absurd (no_two_digits (sym q.0 ∙ p.0))

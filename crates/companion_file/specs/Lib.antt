@@ -9,3 +9,4 @@ pub mod Spans
 pub mod Spelling
 pub mod Statement
 pub mod Tests
+pub mod Versions

@@ -20,7 +20,7 @@ mod statement;
 pub use companion::Companion;
 pub use fault::{CompanionCause, CompanionFault};
 pub use idle_span::IdleSpan;
-pub use laws::one_companion_answer;
+pub use laws::{one_companion_answer, same_in_both_versions};
 pub use lists::{Claims, Floors, Idles, Nices, Tasks};
 pub use reading::read_companion;
 pub use reading_wide::read_companion_wide;

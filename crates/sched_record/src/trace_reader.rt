@@ -37,8 +37,7 @@ pub struct TraceReader {
 }
 
 impl TraceReader {
-    ghost use Rattle.std.specs.Prelude.{ℕ, ◌∷◌, ◌++◌, [], List, IfOk, OnOk, OnErr, IsErrOf};
-    ghost use Rattle.std.specs.Bool.{OnTrue};
+    ghost use Rattle.std.specs.Prelude.{◌↔◌, ℕ, ◌∷◌, ◌++◌, [], List, IfOk, IsTrue, OnOk, OnErr, IsErrOf};
     ghost use Rattle.text_parts.specs.Lines.{lines_of};
     ghost use Rattle.ftrace_line.specs.Front.{IsSettled};
     ghost use Rattle.sched_record.specs.declared.trace_reader.TraceReader.{TraceReader as Reader};
@@ -92,7 +91,7 @@ impl TraceReader {
     /// Whether what another reader has read stands behind what this one has, but for the numbers of its lines: no line
     /// is bad, they aren't too many, and the time doesn't fall from the last event here to the first there.
     fn takes_on(&self, later: &TraceReader) -> bool
-        ensures { OnTrue result (TakesOn self.now later.now) }
+        ensures { IsTrue result ↔ TakesOn self.now later.now }
     {
         let in_time = match later.entries.first() {
             Some(first) => self.last <= first.time,

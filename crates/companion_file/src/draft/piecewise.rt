@@ -1,5 +1,4 @@
-ghost use Rattle.std.specs.Prelude.{◌≡◌, OnOk, IfOk};
-ghost use Rattle.std.specs.Bool.{OnTrue};
+ghost use Rattle.std.specs.Prelude.{◌≡◌, ◌↔◌, OnOk, IfOk, IsTrue};
 ghost use Rattle.text_parts.specs.Lines.{lines_of};
 ghost use Rattle.companion_file.specs.Draft.{KeepsOrder};
 ghost use Rattle.companion_file.specs.Piecewise.{SaysOn, FollowsOn, ClaimsFollow, ChangesFollow, head_of, with_piece};
@@ -49,7 +48,7 @@ impl Draft {
     }
 
     fn claims_follow(&self, claims: &[Claim]) -> bool
-        ensures { OnTrue result (ClaimsFollow self.now claims.now) }
+        ensures { IsTrue result ↔ ClaimsFollow self.now claims.now }
     {
         match claims {
             [] => true,
@@ -58,7 +57,7 @@ impl Draft {
     }
 
     fn changes_follow(&self, nices: &[NiceLine]) -> bool
-        ensures { OnTrue result (ChangesFollow self.now nices.now) }
+        ensures { IsTrue result ↔ ChangesFollow self.now nices.now }
     {
         match nices {
             [] => true,
@@ -68,7 +67,7 @@ impl Draft {
 
     /// Whether a piece that was read behind the head alone says the same behind all that was said.
     fn is_followed_by(&self, later: &Draft) -> bool
-        ensures { OnTrue result (FollowsOn self.now later.now) }
+        ensures { IsTrue result ↔ FollowsOn self.now later.now }
     {
         self.version.is_some()
             && self.start.is_some()

@@ -9,6 +9,11 @@ def is_explained(number):
     return number // 10 % 8 == 4
 
 
+def without_usage(error):
+    """What stands on standard error but for the usage, which repeats the options that were given."""
+    return [line for line in error.split(b"\n") if not line.startswith(b"Usage: ")]
+
+
 def wrong_explained(plain, explained):
     """What is wrong with an answer that is explained, beside the one that isn't: the report stays first, and the status
     and standard error are its own; behind a fault or a refusal stand lines that begin with `# `, and else nothing."""
@@ -18,5 +23,6 @@ def wrong_explained(plain, explained):
         is_told = len(lines) > 1 and lines.pop() == b"" and all(line.startswith(b"# ") for line in lines)
     else:
         is_told = rest == b""
-    if (explained[0], report, explained[2]) != plain or not is_told:
+    told = explained[0], report, without_usage(explained[2])
+    if told != (plain[0], plain[1], without_usage(plain[2])) or not is_told:
         yield f"with {EXPLAIN} the program answers {explained!r}, and without {plain!r}"

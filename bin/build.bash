@@ -8,36 +8,32 @@ is_built() {
     -type f \( -name '*.rt' -o -name '*.antt' -o -name crates.txt \) -newer "$program" -print -quit)" ]
 }
 
-# The crates below the program's, lowest first. Two stand on one line where they have nothing in common below them.
+# A line for each crate below the program's, lowest first: its name, and then all crates of the tree below it.
 crates_below() {
   awk -v top="$crate" '
     function visit(name, i, count, names) {
-      if (!(name in uses) || name in within) return
-      within[name] = " " name " "
+      if (!(name in uses) || name in seen) return
+      seen[name]
       count = split(uses[name], names)
-      for (i = 1; i <= count; i++) { visit(names[i]); within[name] = within[name] within[names[i]] }
-      order[++last] = name
+      for (i = 1; i <= count; i++) { visit(names[i]); take(name, names[i]) }
+      if (name != top) print name within[name]
     }
-    function share(one, other, i, count, names) {
-      count = split(within[one], names)
-      for (i = 1; i <= count; i++) if (index(within[other], " " names[i] " ")) return 1
-      return 0
+    function take(name, other, i, count, names) {
+      count = other in uses ? split(other within[other], names) : 0
+      for (i = 1; i <= count; i++)
+        if (!index(within[name] " ", " " names[i] " ")) within[name] = within[name] " " names[i]
     }
     { sub(/#.*/, "") }
     /:/ { split($0, sides, ":"); split(sides[1], words); uses[words[1]] = sides[2] }
-    END {
-      visit(top)
-      for (i = 1; i < last; i++)
-        if (i + 1 < last && !share(order[i], order[i + 1])) print order[i], order[++i]
-        else print order[i]
-    }' "$top/crates.txt"
+    END { visit(top) }' "$top/crates.txt"
 }
 
-# Calls rt in a crate's folder, which proves that crate, and tells that it did. What it says is kept below `logs`.
+# Calls rt in a crate's folder below this one, which proves that crate, and tells that it did. What rt says is kept
+# below `logs`.
 prove() {
-  (cd "$top/crates/$1" && exec rt "$2") >"$logs/$1" 2>&1 </dev/null
+  (cd "$1/crates/$2" && exec rt "$3") >"$logs/$2" 2>&1 </dev/null
   local status=$?
-  if grep -q "^crate $1:" "$logs/$1"; then echo "$command: proved $1" >&2; fi
+  if grep -q "^crate $2:" "$logs/$2"; then echo "$command: proved $2" >&2; fi
   return $status
 }
 
@@ -47,29 +43,70 @@ tell_failure() {
   return 1
 }
 
-library() { prove "$1" lib || tell_failure "$1"; }
+# Builds the library of the first crate named; the others are all that stand below it. Two runs of rt with a crate in
+# common wait for each other, so each has a tree of its own, of links to the files of this one. What it made comes back.
+library() {
+  local tree=$beside/$1 name status
+  # Bash lets what runs beside it ignore an interrupt.
+  trap - INT
+  mkdir -p "$tree/crates" && cp "$top/crates.txt" "$tree" || return 1
+  for name; do cp -al "$top/crates/$name" "$tree/crates" || return 1; done
+  prove "$tree" "$1" lib
+  status=$?
+  rm -rf "$top/crates/$1/out"
+  [ ! -d "$tree/crates/$1/out" ] || mv "$tree/crates/$1/out" "$top/crates/$1" || status=1
+  [ $status = 0 ] || tell_failure "$1" || return 1
+  touch "$tree/done"
+}
 
-# Proves and builds the program, of which this is said. Each library below it is built by itself, from the lowest on:
-# where one is missing below a crate rt goes over all sources first, which takes it a minute at the program's.
+# Builds the libraries below the program: two for four processors, since a run of rt keeps two of them busy. Each begins
+# when those below it are there, and none behind one that failed.
+libraries() {
+  local -A below=()
+  local waiting=() later name names one most=$(($(nproc) / 2)) running=0 status=0
+  while read -r name names; do waiting+=("$name") below[$name]=$names; done < <(crates_below)
+  while :; do
+    later=()
+    for name in "${waiting[@]}"; do
+      if { [ $running = 0 ] || [ $running -lt $most ]; } && are_there ${below[$name]}; then
+        library "$name" ${below[$name]} &
+        running=$((running + 1))
+      else
+        later+=("$name")
+      fi
+    done
+    waiting=("${later[@]}")
+    [ $running -gt 0 ] || return $status
+    wait -n || { status=1 waiting=(); }
+    running=$((running - 1))
+  done
+}
+
+are_there() {
+  local name
+  for name; do [ -e "$beside/$name/done" ] || return 1; done
+}
+
+# Proves and builds the program, of which this is said. Each library below it is built by itself: where one is missing
+# below a crate rt goes over all sources first, which takes it a minute at the program's.
 build() {
   command -v rt >/dev/null || { echo "$command: the toolchain's command rt isn't on the path" >&2; exit 70; }
   echo "$command: proving and building $1" >&2
-  local logs one other
+  local logs beside
   logs=$(mktemp -d) || exit 70
+  # One build at a time in this tree. The one that was waited for may have been this program's.
+  exec 9<"$top/crates" && flock 9
+  is_built && { exec 9<&-; rm -r "$logs"; return; }
   # An older program is no sign that this build succeeds.
   rm -f "$program"
-  while read -r one other; do
-    if [ -n "$other" ]; then
-      # Side by side: nothing goes through this pipe, and an interrupt ends both.
-      library "$one" | library "$other"
-      [ "${PIPESTATUS[*]}" = "0 0" ] || exit 70
-    else
-      library "$one" || exit 70
-    fi
-  done < <(crates_below)
+  beside=$top/crates/$crate/out/beside
+  rm -rf "$beside" && mkdir -p "$beside" || exit 70
+  libraries || exit 70
+  rm -r "$beside"
   # Without words the program ends at once, by a status of its own.
-  prove "$crate" run
+  prove "$top" "$crate" run
   { [ -x "$program" ] && grep -q '^logic=proved' "$logs/$crate"; } || { tell_failure "$crate"; exit 70; }
   touch "$program"
+  exec 9<&-
   rm -r "$logs"
 }

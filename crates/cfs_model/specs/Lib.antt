@@ -4,6 +4,7 @@ pub mod Limits
 pub mod Nice
 pub mod Charge
 pub mod Settings
+pub mod Options
 pub mod Machine
 pub mod Start
 pub mod Claimed

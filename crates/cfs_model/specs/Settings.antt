@@ -1,5 +1,5 @@
 -- The settings of the profile, each in nanoseconds (this project's profile).
-use Rattle.std.specs.Prelude.{ℕ, ◌≤◌, List, [], ◌∷◌, codes}
+use Rattle.std.specs.Prelude.{ℕ, ◌≤◌, List, [], ◌∷◌}
 use Rattle.std.specs.List.{AllByRecursion}
 use Rattle.cfs_model.specs.Limits.{greatest_setting}
 use Rattle.cfs_model.specs.declared.setting.Setting.{Setting}
@@ -34,20 +34,6 @@ settings_by value = record {
   debit = value Debit;
   slack = value Slack;
 }
-
--- the name of a setting's option
-abbrev pub name_of_setting : Setting → List ℕ
-name_of_setting Granularity = codes "granularity-ns"
-name_of_setting Credit = codes "credit-ns"
-name_of_setting Debit = codes "debit-ns"
-name_of_setting Slack = codes "slack-ns"
-
--- the default of a setting
-abbrev pub standard_value : Setting → ℕ
-standard_value Granularity = 1000000
-standard_value Credit = 3000000
-standard_value Debit = 3000000
-standard_value Slack = 100000
 
 -- no setting is above the greatest value
 abbrev pub AreInRange : Settings → Type 0

@@ -1,7 +1,8 @@
 ghost use Rattle.std.specs.Prelude.{◌≡◌, ◌≤◌, ◌↔◌, IsSome, IfSome};
 ghost use Rattle.cfs_model.specs.Least.{greatest_settings};
 ghost use Rattle.cfs_model.specs.Limits.{greatest_setting};
-ghost use Rattle.cfs_model.specs.Settings.{AreInRange, Settings, settings_by, standard_value, value_at};
+ghost use Rattle.cfs_model.specs.Settings.{AreInRange, Settings, settings_by, value_at};
+ghost use Rattle.cfs_model.specs.Options.{standard_value};
 
 use crate::limits::GREATEST_SETTING;
 use crate::setting::Setting;

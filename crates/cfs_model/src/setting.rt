@@ -1,5 +1,5 @@
 ghost use Rattle.std.specs.Prelude.{◌≡◌};
-ghost use Rattle.cfs_model.specs.Settings.{name_of_setting, standard_value};
+ghost use Rattle.cfs_model.specs.Options.{name_of_setting, standard_value};
 
 use crate::kind::Kind;
 

@@ -2,7 +2,7 @@
 use Rattle.std.proofs.Common.{◌≡◌, ℕ, zero, suc, true, false, eqb, length, get_or, replicate, Some, refl}
 use Rattle.std.proofs.lemmas.Bool.{eqb-true}
 use Rattle.companion_file.specs.Earlier.{Said, has_all_floors}
-use Rattle.companion_file.specs.Reading.{IsCompanionInOrder}
+use Rattle.companion_file.specs.Order.{IsCompanionInOrder}
 use Rattle.companion_file.specs.Draft.{KeepsOrder}
 use Rattle.companion_file.proofs.Policies.{policies_agree}
 

@@ -15,7 +15,7 @@ use Rattle.companion_file.specs.Shape.{Shape, version_line, cpus_line, start_lin
 use Rattle.companion_file.specs.Shape.{nice_line, idle_line}
 use Rattle.text_parts.specs.Lines.{IsComment}
 use Rattle.companion_file.specs.Spelling.{IsSpelled}
-use Rattle.companion_file.specs.Reading.{IsTaskInLimits, IsClaimInLimits, IsNiceLineInLimits, IsIdleLineInLimits}
+use Rattle.companion_file.specs.Order.{IsTaskInLimits, IsClaimInLimits, IsNiceLineInLimits, IsIdleLineInLimits}
 use Rattle.companion_file.specs.Earlier.{Said, summed}
 use Rattle.companion_file.specs.Tests.{fault_of, tested, IsJudgedFirst, IsJudgedLater, IsJudged}
 use Rattle.companion_file.specs.Draft.{KeepsOrder, with_line}

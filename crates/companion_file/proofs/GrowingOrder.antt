@@ -20,8 +20,8 @@ use Rattle.companion_file.specs.Shape.{Shape, version_line, cpus_line, start_lin
 use Rattle.companion_file.specs.Shape.{nice_line, idle_line}
 use Rattle.companion_file.specs.Earlier.{Said, last_nice, has_all_floors, is_run, is_taken, is_task, with_policy_told}
 use Rattle.companion_file.specs.Tests.{is_pid, is_value, is_nice, is_above_claims}
-use Rattle.companion_file.specs.Reading.{IsTaskInLimits, IsClaimInLimits, IsNiceLineInLimits, IsIdleLineInLimits}
-use Rattle.companion_file.specs.Reading.{IdleRises}
+use Rattle.companion_file.specs.Order.{IsTaskInLimits, IsClaimInLimits, IsNiceLineInLimits, IsIdleLineInLimits}
+use Rattle.companion_file.specs.Order.{IdleRises}
 use Rattle.cfs_model.specs.Order.{RunApart}
 use Rattle.companion_file.proofs.KeptOrder.{Passes, value_fact, nice_fact, pid_fact}
 use Rattle.companion_file.proofs.Policies.{policies_again, task_kept, limits_kept, pairs_kept}

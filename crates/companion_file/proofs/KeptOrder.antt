@@ -8,7 +8,7 @@ use Rattle.companion_file.specs.Shape.{Shape}
 use Rattle.companion_file.specs.Earlier.{Said}
 use Rattle.companion_file.specs.Tests.{is_pid, is_value, is_nice, is_in_turn, is_in_limits, is_next, is_new, is_alone}
 use Rattle.companion_file.specs.Tests.{is_above, is_known, fault_of}
-use Rattle.companion_file.specs.Reading.{IsPid}
+use Rattle.companion_file.specs.Order.{IsPid}
 use Rattle.companion_file.proofs.Faults.{fault_turn, fault_limits, fault_next, fault_new, fault_alone, fault_above}
 use Rattle.companion_file.proofs.Faults.{fault_known}
 

@@ -14,7 +14,8 @@ use Rattle.companion_file.specs.declared.companion.Companion.{Companion}
 use Rattle.companion_file.specs.Shape.{Shape}
 use Rattle.companion_file.specs.Earlier.{summed, has_all_floors}
 use Rattle.companion_file.specs.Companion.{CompanionView, AreGood, IsFirstBadCompanionLine, IsShort, IsRead}
-use Rattle.companion_file.specs.Companion.{CompanionAnswer, IsAnswered, IsReturned, companion_view}
+use Rattle.companion_file.specs.Companion.{CompanionAnswer}
+use Rattle.companion_file.specs.Seen.{IsAnswered, IsReturned, companion_view}
 use Rattle.companion_file.proofs.GoodLines.{nothing_order}
 use Rattle.companion_file.proofs.OneAnswer.{good_once, IsBadBehind, never_good, bad_once}
 

@@ -14,7 +14,7 @@ use Rattle.cfs_model.specs.Start.{starts_idle}
 use Rattle.cfs_model.specs.declared.idle_line.IdleLine.{IdleLine}
 use Rattle.cfs_model.specs.declared.task.Task.{Task}
 use Rattle.companion_file.specs.Earlier.{is_run, is_taken, is_task, with_policy_told}
-use Rattle.companion_file.specs.Reading.{IsTaskInLimits}
+use Rattle.companion_file.specs.Order.{IsTaskInLimits}
 use Rattle.companion_file.specs.Draft.{IsTaskPlace}
 
 -- ---- a policy changes nothing else of the tasks

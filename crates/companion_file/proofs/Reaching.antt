@@ -12,10 +12,11 @@ use Rattle.companion_file.specs.declared.fault.Refusal.{Refusal}
 use Rattle.companion_file.specs.declared.fault.Refusal.TheVariants as refusals
 use Rattle.companion_file.specs.Shape.{Shape}
 use Rattle.companion_file.specs.Earlier.{Said, summed, has_all_floors}
-use Rattle.companion_file.specs.Reading.{CompanionView}
+use Rattle.companion_file.specs.Companion.{CompanionView}
 use Rattle.companion_file.specs.declared.fault.CompanionFault.TheVariants as faults
 use Rattle.companion_file.specs.Draft.{Takes, KeepsOrder, IsCompleted, fault_at, with_line}
-use Rattle.companion_file.specs.Companion.{AreGood, IsFirstBadCompanionLine, IsShort, IsRead, IsAnswered}
+use Rattle.companion_file.specs.Companion.{AreGood, IsFirstBadCompanionLine, IsShort, IsRead}
+use Rattle.companion_file.specs.Seen.{IsAnswered}
 use Rattle.companion_file.proofs.Summing.{summed-push}
 use Rattle.companion_file.proofs.GoodLines.{order_of_good, comment_after, good_line_after}
 

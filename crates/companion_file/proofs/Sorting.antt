@@ -15,7 +15,7 @@ use Rattle.std.proofs.lemmas.Map.Keys.{IsDistinct-IsPermutation, IsDistinct-from
 use Rattle.cfs_model.specs.Claimed.{is_named_idle}
 use Rattle.cfs_model.specs.declared.idle_line.IdleLine.{IdleLine}
 use Rattle.companion_file.specs.declared.idle_span.IdleSpan.{IdleSpan}
-use Rattle.companion_file.specs.Reading.{IdleRises}
+use Rattle.companion_file.specs.Order.{IdleRises}
 use Rattle.companion_file.specs.Spans.{span_of, starts_span, SpanRises, AreSpansOf}
 
 -- two spans of one pid start at one line

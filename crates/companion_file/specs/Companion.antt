@@ -1,15 +1,28 @@
 -- What a companion's text means (this project's companion format).
-use Rattle.std.specs.Prelude.{◌≡◌, ℕ, ◌+◌, true, false, List, [], ◌∷◌, ◌++◌, length, Some, Result, Ok, Err, ◌⊎◌}
+use Rattle.std.specs.Prelude.{◌≡◌, ℕ, ◌+◌, ℤ, true, false, List, [], ◌∷◌, ◌++◌, length, Some, Result, Ok, Err, ◌⊎◌}
+use Rattle.cfs_model.specs.declared.task.Task.{Task}
+use Rattle.cfs_model.specs.declared.claim.Claim.{Claim}
+use Rattle.cfs_model.specs.declared.nice_line.NiceLine.{NiceLine}
+use Rattle.cfs_model.specs.declared.idle_line.IdleLine.{IdleLine}
 use Rattle.companion_file.specs.declared.fault.CompanionCause.{CompanionCause}
 use Rattle.companion_file.specs.declared.fault.CompanionCause.TheVariants.{Short}
-use Rattle.companion_file.specs.declared.fault.CompanionFault.{CompanionFault}
-use Rattle.companion_file.specs.declared.fault.CompanionFault.TheVariants as faults
-use Rattle.companion_file.specs.declared.companion.Companion.{Companion}
 use Rattle.text_parts.specs.Lines.{lines_of, IsComment}
 use Rattle.companion_file.specs.Shape.{Shape}
 use Rattle.companion_file.specs.Earlier.{summed, has_all_floors}
 use Rattle.companion_file.specs.Tests.{IsJudged}
-pub use Rattle.companion_file.specs.Reading.{CompanionView, IsCompanionInOrder}
+
+-- what a companion says: the start state, the claims, the changes of nice values, and who is of the idle policy
+pub record CompanionView : Type 0 where
+  -- the number of processors
+  pub cpus : ℕ
+  -- the start, in nanoseconds
+  pub start : ℕ
+  -- the floor of each processor, from processor 0 on
+  pub floors : List ℤ
+  pub tasks : List Task
+  pub claims : List Claim
+  pub nices : List NiceLine
+  pub idles : List IdleLine
 
 -- after lines that said `earlier` each of these lines is a comment or good, and with them `said` is said
 abbrev pub AreGood : List Shape → List (List ℕ) → List Shape → Type 0
@@ -60,27 +73,3 @@ IsRefusedCompanion lines number cause = IsFirstBadCompanionLine lines number cau
 abbrev pub CompanionAnswer : List ℕ → Result CompanionView (ℕ × CompanionCause) → Type 0
 CompanionAnswer text (Ok r) = IsRead (lines_of text) r
 CompanionAnswer text (Err fault) = IsRefusedCompanion (lines_of text) fault.0 fault.1
-
--- a companion without where it lies in memory
-abbrev pub companion_view : Companion → CompanionView
-companion_view c = record {
-  cpus = c.cpus;
-  start = c.start;
-  floors = c.floors;
-  tasks = c.tasks;
-  claims = c.claims;
-  nices = c.nices;
-  idles = c.idles;
-}
-
--- what was returned is this answer; of want of memory nothing is said
-abbrev pub IsReturned : Result Companion CompanionFault → Result CompanionView (ℕ × CompanionCause) → Type 0
-IsReturned (Ok c) answer = answer ≡ Ok (companion_view c)
-IsReturned (Err (faults.Text line cause)) answer = answer ≡ Err (line, cause)
-IsReturned (Err faults.Memory) answer = Unit {0}
-
--- what was returned is what the text means; of want of memory nothing is said
-abbrev pub IsAnswered : List ℕ → Result Companion CompanionFault → Type 0
-IsAnswered text (Ok c) = CompanionAnswer text (Ok (companion_view c))
-IsAnswered text (Err (faults.Text line cause)) = CompanionAnswer text (Err (line, cause))
-IsAnswered text (Err faults.Memory) = Unit {0}

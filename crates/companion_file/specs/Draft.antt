@@ -16,8 +16,9 @@ use Rattle.companion_file.specs.Earlier.{Said, has_all_floors, is_taken, is_task
 use Rattle.text_parts.specs.Lines.{IsComment}
 use Rattle.cfs_model.specs.Limits.{no_line, most_processors, greatest_seconds, nanoseconds_per_second}
 use Rattle.cfs_model.specs.Charge.{IsInRange}
-use Rattle.companion_file.specs.Reading.{CompanionView, IsTaskInLimits, IsClaimInLimits, IsNiceLineInLimits}
-use Rattle.companion_file.specs.Reading.{IsIdleLineInLimits, IdleRises}
+use Rattle.companion_file.specs.Companion.{CompanionView}
+use Rattle.companion_file.specs.Order.{IsTaskInLimits, IsClaimInLimits, IsNiceLineInLimits, IsIdleLineInLimits}
+use Rattle.companion_file.specs.Order.{IdleRises}
 use Rattle.cfs_model.specs.Order.{RunApart}
 use Rattle.companion_file.specs.Tests.{fault_of, IsJudged}
 

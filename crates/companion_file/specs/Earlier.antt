@@ -56,14 +56,7 @@ idle_in _ = None
 
 -- a task of the start state with the policy that idle lines tell
 abbrev pub with_policy_told : List IdleLine → Task → Task
-with_policy_told idles task = record {
-  pid = task.pid;
-  nice = task.nice;
-  idle = is_named_idle idles no_line task.pid;
-  cpu = task.cpu;
-  place = task.place;
-  v = task.v;
-}
+with_policy_told idles task = record task { idle = is_named_idle idles no_line task.pid }
 
 -- what lines say, taken together
 pub record Said : Type 0 where

@@ -1,9 +1,10 @@
 pub mod Companion
+pub mod Seen
 pub mod Draft
 pub mod Earlier
 pub mod ShapeReading
 pub mod Piecewise
-pub mod Reading
+pub mod Order
 pub mod Shape
 pub mod Spans
 pub mod Spelling

@@ -1,5 +1,5 @@
 ghost use Rattle.std.specs.Prelude.{◌≡◌};
-ghost use Rattle.companion_file.specs.Reading.{IsCompanionInOrder};
+ghost use Rattle.companion_file.specs.Order.{IsCompanionInOrder};
 ghost use Rattle.companion_file.specs.Spans.{AreSpansOf};
 
 use crate::idle_span::IdleSpan;
@@ -137,7 +137,7 @@ impl Companion {
 impl Companion {
     ghost use Rattle.std.specs.Prelude.{◌≡◌, ◌<◌, length};
     ghost use Rattle.companion_file.specs.Spans.{ended};
-    ghost use Rattle.companion_file.specs.Companion.{companion_view};
+    ghost use Rattle.companion_file.specs.Seen.{companion_view};
 
     /// Ends the span at this place at a line of the trace.
     pub fn end_span(&mut self, place: usize, line: u32)

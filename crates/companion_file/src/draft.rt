@@ -8,7 +8,7 @@ ghost use Rattle.companion_file.specs.Earlier.{summed, has_all_floors, is_run, i
 ghost use Rattle.companion_file.specs.Tests.{is_at_start, is_in_limits};
 ghost use Rattle.companion_file.specs.Spans.{AreSpansOf};
 ghost use Rattle.companion_file.specs.Draft.{Adds, KeepsOrder, IsCompleted};
-ghost use Rattle.companion_file.specs.Companion.{companion_view};
+ghost use Rattle.companion_file.specs.Seen.{companion_view};
 
 mod piecewise;
 mod policies;

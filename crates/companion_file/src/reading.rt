@@ -2,7 +2,7 @@ ghost use Rattle.std.specs.Prelude.{◌≡◌, ℕ, ◌+◌, ◌<◌, ◌^◌, L
 ghost use Rattle.text_parts.specs.Lines.{lines_of};
 ghost use Rattle.companion_file.specs.declared.fault.CompanionCause.{CompanionCause};
 ghost use Rattle.companion_file.specs.Companion.{CompanionView, CompanionAnswer, IsRefusedCompanion, IsRead};
-ghost use Rattle.companion_file.specs.Companion.{IsAnswered, IsReturned, companion_view};
+ghost use Rattle.companion_file.specs.Seen.{IsAnswered, IsReturned, companion_view};
 
 use crate::companion::Companion;
 use crate::draft::Draft;

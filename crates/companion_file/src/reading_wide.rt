@@ -4,7 +4,7 @@ ghost use Rattle.companion_file.specs.declared.fault.CompanionCause.{CompanionCa
 ghost use Rattle.companion_file.specs.Draft.{KeepsOrder};
 ghost use Rattle.companion_file.specs.Piecewise.{AreReadApart, SaysOn, head_of};
 ghost use Rattle.companion_file.specs.Companion.{CompanionView, CompanionAnswer, IsRefusedCompanion, IsRead};
-ghost use Rattle.companion_file.specs.Companion.{IsAnswered, IsReturned, companion_view};
+ghost use Rattle.companion_file.specs.Seen.{IsAnswered, IsReturned, companion_view};
 
 use crate::companion::Companion;
 use crate::draft::Draft;

@@ -1,5 +1,5 @@
 ghost use Rattle.std.specs.Prelude.{◌≡◌, ◌<◌, length, map, AllPairs, IfOk};
-ghost use Rattle.companion_file.specs.Reading.{IdleRises};
+ghost use Rattle.companion_file.specs.Order.{IdleRises};
 ghost use Rattle.companion_file.specs.Spans.{AreSpansOf, ended, span_of};
 
 use crate::idle_span::IdleSpan;

@@ -4,7 +4,7 @@ use Rattle.cfs_model.specs.declared.act.Entry.{Entry}
 use Rattle.sched_record.specs.declared.cause.TraceCause.{TraceCause}
 use Rattle.sched_record.specs.declared.cause.TraceFault.{TraceFault}
 use Rattle.sched_record.specs.declared.cause.TraceFault.TheVariants as faults
-use Rattle.sched_record.specs.Trace.{Tells}
+use Rattle.sched_record.specs.Seen.{Tells}
 use Rattle.companion_maker.specs.declared.not_made.NotMade.TheVariants as reasons
 use Rattle.companion_maker.specs.Fitting.{reason_of}
 

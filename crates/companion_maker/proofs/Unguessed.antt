@@ -17,8 +17,7 @@ use Rattle.companion_file.specs.Tests.{fault_of, tested, IsJudged, IsJudgedFirst
 use Rattle.companion_file.specs.Draft.{with_line}
 use Rattle.companion_file.specs.Companion.{CompanionView, CompanionAnswer, AreGood, IsRead}
 use Rattle.companion_file.proofs.Summing.{summed-push}
-use Rattle.sched_record.specs.Join.{GoTogether, BeginsInTime}
-use Rattle.sched_record.specs.Kept.{IsInside}
+use Rattle.sched_record.specs.Join.{GoTogether, BeginsInTime, IsInside}
 use Rattle.companion_maker.specs.Fitting.{ReadsAndJoins}
 use Rattle.companion_maker.specs.Unguessed.{floor_words, floor_text, plain_lines, unlined, plain}
 

@@ -3,9 +3,9 @@ ghost use Rattle.std.specs.Bool.{OnTrue};
 ghost use Rattle.cfs_model.specs.declared.act.Entry.{Entry as Event};
 ghost use Rattle.cfs_model.specs.Limits.{most_processors};
 ghost use Rattle.sched_record.specs.declared.cause.TraceCause.{TraceCause};
-ghost use Rattle.sched_record.specs.Join.{IsFirstOutside};
-ghost use Rattle.sched_record.specs.Kept.{IsInside};
-ghost use Rattle.sched_record.specs.Trace.{TraceAnswer, trace_view};
+ghost use Rattle.sched_record.specs.Join.{IsFirstOutside, IsInside};
+ghost use Rattle.sched_record.specs.Trace.{TraceAnswer};
+ghost use Rattle.sched_record.specs.Seen.{trace_view};
 ghost use Rattle.companion_maker.specs.Fitting.{ReadsAndJoins, IsNotMadeFor};
 
 use crate::candidate::{Candidate, Outset, better_candidate, candidate_of};

@@ -1,7 +1,7 @@
 ghost use Rattle.std.specs.Prelude.{◌≡◌, List, All, IfOk};
 ghost use Rattle.cfs_model.specs.declared.act.Entry.{Entry};
 ghost use Rattle.cfs_model.specs.Limits.{most_processors};
-ghost use Rattle.sched_record.specs.Kept.{IsInside};
+ghost use Rattle.sched_record.specs.Join.{IsInside};
 ghost use Rattle.companion_maker.specs.Fitting.{ReadsAndJoins};
 ghost use Rattle.companion_maker.specs.Unguessed.{plain};
 

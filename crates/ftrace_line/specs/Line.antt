@@ -3,8 +3,6 @@
 use Rattle.std.specs.Prelude.{◌≡◌, ℕ, ◌+◌, ◌*◌, ◌<◌, ◌≤◌, ◌⊎◌, List, [], ◌∷◌, ◌++◌, codes, Result, Ok, Err}
 use Rattle.ftrace_line.specs.declared.kinds.Which.{Which}
 use Rattle.ftrace_line.specs.declared.kinds.Which.TheVariants.{Switch, Wakeup, WakeupNew, MigrateTask}
-use Rattle.ftrace_line.specs.declared.kinds.Line.{Line}
-use Rattle.ftrace_line.specs.declared.kinds.Line.TheVariants as line_variants
 use Rattle.ftrace_line.specs.declared.fault.LineFault.{LineFault}
 use Rattle.ftrace_line.specs.declared.fault.LineFault.TheVariants.{BadHead, NumberRange}
 use Rattle.text_parts.specs.Numerals.{IsNumeral}
@@ -20,18 +18,6 @@ pub data LineView : Type 0 where
   lost : LineView
   other : LineView
   sched : (cpu time : ℕ) (which : Which) (rest : List ℕ) → LineView
-
--- what a line as the program has it means
-abbrev pub line_view : Line → LineView
-line_view line_variants.Comment = comment
-line_view line_variants.Lost = lost
-line_view line_variants.Other = other
-line_view (line_variants.Sched event) = sched event.cpu event.time event.which event.rest.now
-
--- what an answer of the program means
-abbrev pub line_answer_view : Result Line LineFault → Result LineView LineFault
-line_answer_view (Ok line) = Ok (line_view line)
-line_answer_view (Err fault) = Err fault
 
 -- what is said of lost events: their number, or only that there were some
 abbrev pub IsLoss : List ℕ → Type 0

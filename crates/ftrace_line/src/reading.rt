@@ -1,6 +1,7 @@
 ghost use Rattle.std.specs.Prelude.{◌≡◌, ◌≤◌, length, List, ℕ, ◌↔◌, IsErrOf, Result};
 ghost use Rattle.ftrace_line.specs.declared.fault.LineFault.{LineFault as TheFault};
-ghost use Rattle.ftrace_line.specs.Line.{LineView, LineAnswer, IsHeadless, IsHeadOutOfRange, line_answer_view, mark_of};
+ghost use Rattle.ftrace_line.specs.Line.{LineView, LineAnswer, IsHeadless, IsHeadOutOfRange, mark_of};
+ghost use Rattle.ftrace_line.specs.Seen.{line_answer_view};
 ghost use Rattle.text_parts.specs.Reading.{Gives};
 ghost use Rattle.ftrace_line.specs.Meaning.{after_count, after_loss, kind_at, fields_of, is_end};
 

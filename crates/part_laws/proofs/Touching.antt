@@ -10,7 +10,8 @@ use Rattle.cfs_model.specs.Touch.{touched}
 use Rattle.cfs_model.specs.Step.{IsStep}
 use Rattle.cfs_model.specs.Order.{IsInOrder}
 use Rattle.replay_model.specs.Part.{part_of}
-use Rattle.replay_model.specs.Cut.{touches, step_at}
+use Rattle.replay_model.specs.Cut.{touches}
+use Rattle.replay_model.specs.StepAt.{step_at}
 use Rattle.part_laws.specs.TouchedParts.{PartStep}
 use Rattle.cfs_model.proofs.Moves.{same_or_not}
 use Rattle.part_laws.proofs.stepping.PartForward.{part_steps}

@@ -1,7 +1,7 @@
 -- A stream has one page by its first steps (this project's profile).
 use Rattle.std.specs.Prelude.{◌≡◌, ℕ}
 use Rattle.cfs_model.specs.Settings.{Settings}
-use Rattle.replay_model.specs.Part.{start_part, OneRunsIn}
+use Rattle.replay_model.specs.PartWords.{start_part, OneRunsIn}
 use Rattle.replay_model.specs.Cut.{StreamView}
 use Rattle.replay_model.specs.Noted.{PageView}
 use Rattle.replay_model.specs.Page.{IsPageOf}

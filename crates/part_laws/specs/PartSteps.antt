@@ -6,7 +6,7 @@ use Rattle.cfs_model.specs.Claimed.{Claimed}
 use Rattle.cfs_model.specs.Step.{IsStep}
 use Rattle.cfs_model.specs.Order.{IsInOrder}
 use Rattle.replay_model.specs.Part.{Part, part_of}
-use Rattle.replay_model.specs.Cut.{step_at}
+use Rattle.replay_model.specs.StepAt.{step_at}
 use Rattle.replay_model.specs.Record.{ClaimInRange}
 use Rattle.part_laws.specs.TouchedParts.{BornNowhere, OthersStay, PartStep, TouchesOnly}
 

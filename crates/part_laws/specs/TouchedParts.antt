@@ -5,9 +5,10 @@ use Rattle.cfs_model.specs.Machine.{Machine, Stands}
 use Rattle.cfs_model.specs.Claimed.{Claimed}
 use Rattle.cfs_model.specs.Touch.{touched}
 use Rattle.replay_model.specs.Part.{Part, part_of}
-use Rattle.replay_model.specs.Deeds.{after_deed, left_ticket, came_ticket}
+use Rattle.replay_model.specs.AfterDeed.{after_deed}
+use Rattle.replay_model.specs.Deeds.{left_ticket, came_ticket}
 use Rattle.replay_model.specs.Tests.{PassesTests}
-use Rattle.replay_model.specs.Cut.{step_at}
+use Rattle.replay_model.specs.StepAt.{step_at}
 use Rattle.cfs_model.specs.declared.act.Act.{Act}
 use Rattle.cfs_model.specs.declared.act.Act.TheVariants.{Born}
 use Rattle.cfs_model.specs.declared.task.Place.{Place}

@@ -5,7 +5,8 @@ use Rattle.std.specs.Int.{int_max}
 use Rattle.std.proofs.lemmas.Int.{ints, clamps}
 use Rattle.std.proofs.lemmas.Bool.{false≢true, not-true, not_from_false}
 use Rattle.std.proofs.lemmas.Option.{same_Some}
-use Rattle.replay_model.specs.Part.{Part, Entity, IsIn, NobodyIn, IsIdlePart}
+use Rattle.replay_model.specs.Part.{Part, Entity, IsIn, NobodyIn}
+use Rattle.replay_model.specs.PartWords.{IsIdlePart}
 use Rattle.replay_model.specs.ClaimTests.{IsInWakeBounds}
 use Rattle.replay_model.specs.Needs.{IsLeastWaiting}
 use Rattle.replay_model.specs.QueueTests.{HasOtherNice, IsRunner}

@@ -1,7 +1,8 @@
 -- What a deed can rely on, once its tests have passed, and the tests of a switch's pick.
 use Rattle.std.proofs.Common.{◌≡◌, ◌≢◌, ℕ, zero, suc, Bool, IsSome, Option, Some, None, is_some, option_map, ℤ, refl}
 use Rattle.std.proofs.Common.{sym, ap, subst}
-use Rattle.replay_model.specs.Deeds.{part_after_prev, woken, wakes}
+use Rattle.replay_model.specs.Deeds.{part_after_prev}
+use Rattle.replay_model.specs.AfterDeed.{woken, wakes}
 use Rattle.replay_model.specs.Part.{Part, Entity}
 use Rattle.replay_model.specs.ClaimTests.{IsClaimMissing}
 use Rattle.replay_model.specs.QueueTests.{IsPrevNotRunning, IsRunner}

@@ -4,7 +4,7 @@
 use Rattle.std.specs.Prelude.{◌≡◌, ◌≢◌, ℕ, ⊤, Option, Some, None, Result, Ok, Err, List, [], ◌∷◌}
 use Rattle.replay_model.specs.ClaimTests.{claimant, IsClaimMissing, IsWrongPutBack, IsWakeOutside, IsForkOutside}
 use Rattle.replay_model.specs.ClaimTests.{IsNextNotWaiting, IsIdleBesideWaiting, IsNotLeast}
-use Rattle.replay_model.specs.Deeds.{after_deed}
+use Rattle.replay_model.specs.AfterDeed.{after_deed}
 use Rattle.replay_model.specs.Part.{Part, Entity}
 use Rattle.replay_model.specs.QueueTests.{IsMoveHome, IsSelfSwitch, IsPrevNotRunning, IsStrange, IsAlready}
 use Rattle.replay_model.specs.QueueTests.{IsMoveRunning, IsWrongPrio}

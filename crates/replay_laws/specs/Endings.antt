@@ -7,7 +7,7 @@ use Rattle.cfs_model.specs.Run.{IsRun}
 use Rattle.cfs_model.specs.Order.{IsStart}
 use Rattle.replay_model.specs.Deeds.{left_ticket, came_ticket}
 use Rattle.replay_model.specs.QueueTests.{IsIdleTooLong}
-use Rattle.replay_model.specs.Cut.{step_at}
+use Rattle.replay_model.specs.StepAt.{step_at}
 use Rattle.replay_model.specs.Record.{TimesRise}
 use Rattle.replay_model.specs.Page.{ReplayStateView, PassesStep}
 use Rattle.replay_model.specs.Roll.{named, roll_of}

@@ -5,7 +5,8 @@ use Rattle.cfs_model.specs.Start.{start_machine}
 use Rattle.cfs_model.specs.Claimed.{Claimed}
 use Rattle.cfs_model.specs.Run.{IsRun}
 use Rattle.cfs_model.specs.Order.{IsStart}
-use Rattle.replay_model.specs.Cut.{touches, step_at}
+use Rattle.replay_model.specs.Cut.{touches}
+use Rattle.replay_model.specs.StepAt.{step_at}
 use Rattle.replay_model.specs.Record.{TimesRise}
 use Rattle.replay_model.specs.Page.{ReplayStateView, FailsStep}
 use Rattle.replay_laws.specs.Share.{IsShareReplay}

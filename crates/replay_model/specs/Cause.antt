@@ -11,7 +11,7 @@ use Rattle.replay_model.specs.Found.{IsFound}
 use Rattle.replay_model.specs.Deeds.{left_ticket, came_ticket}
 use Rattle.replay_model.specs.QueueTests.{IsOutOfRange}
 use Rattle.replay_model.specs.Tests.{FirstHolds, PassesTests, late_tests}
-use Rattle.replay_model.specs.Cut.{step_at}
+use Rattle.replay_model.specs.StepAt.{step_at}
 use Rattle.cfs_model.specs.declared.act.Act.{Act}
 use Rattle.cfs_model.specs.declared.act.Act.TheVariants.{Switch, Wake, Born, Shift}
 use Rattle.cfs_model.specs.declared.kind.Kind.{Kind}

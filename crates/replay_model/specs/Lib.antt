@@ -1,9 +1,12 @@
 pub mod Part
+pub mod PartWords
 pub mod Deeds
+pub mod AfterDeed
 pub mod QueueTests
 pub mod ClaimTests
 pub mod Found
 pub mod Tests
+pub mod StepAt
 pub mod Cut
 pub mod Noted
 pub mod Page

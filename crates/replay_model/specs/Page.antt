@@ -3,9 +3,10 @@ use Rattle.std.specs.Prelude.{◌≡◌, ℕ, ◌+◌, if◌then◌else◌, nat_
 use Rattle.std.specs.Prelude.{◌∷◌, map, length, take}
 use Rattle.cfs_model.specs.Limits.{no_line}
 use Rattle.cfs_model.specs.Settings.{Settings}
-use Rattle.replay_model.specs.Part.{Part, IsIdlePart, start_part}
+use Rattle.replay_model.specs.Part.{Part}
+use Rattle.replay_model.specs.PartWords.{IsIdlePart, start_part}
 use Rattle.replay_model.specs.Found.{IsFound}
-use Rattle.replay_model.specs.Deeds.{after_deed}
+use Rattle.replay_model.specs.AfterDeed.{after_deed}
 use Rattle.replay_model.specs.Tests.{FirstHolds, NoneHolds, early_tests, late_tests, PassesTests}
 use Rattle.replay_model.specs.QueueTests.{IsIdleTooLong}
 use Rattle.replay_model.specs.Cut.{StreamView}

@@ -2,15 +2,14 @@
 -- details" and "The rbtree" (a running task's virtual runtime grows by the time that it ran, scaled by its weight;
 -- min_vruntime is monotonic and follows the smallest virtual runtime of the runqueue). That only events charge, the
 -- weight of the idle policy and the rounding are this project's profile.
-use Rattle.std.specs.Prelude.{◌≡◌, ◌≢◌, ℕ, ◌==◌, ◌-◌, Bool, true, false, Option, Some, None, option_map, ℤ, pos, ◌+ℤ◌}
-use Rattle.std.specs.Prelude.{◌≤ℤ◌, ◌⊎◌, List, find}
+use Rattle.std.specs.Prelude.{◌≡◌, ◌≢◌, ℕ, ◌-◌, Bool, true, false, Option, Some, None, option_map, ℤ, pos, ◌+ℤ◌}
+use Rattle.std.specs.Prelude.{◌≤ℤ◌, ◌⊎◌}
 use Rattle.std.specs.Int.{int_max}
 use Rattle.cfs_model.specs.Charge.{charge_of}
 use Rattle.cfs_model.specs.Nice.{task_weight}
 use Rattle.cfs_model.specs.Machine.{Machine}
 use Rattle.cfs_model.specs.declared.task.Place.{Place}
 use Rattle.cfs_model.specs.declared.task.Place.TheVariants.{Run, Wait, Rest}
-use Rattle.cfs_model.specs.declared.task.Task.{Task}
 
 -- a task as it stands at the processor
 pub record Entity : Type 0 where
@@ -52,15 +51,6 @@ entity_at m cpu pid =
 abbrev pub part_of : Machine → ℕ → Part
 part_of m cpu = record { tasks = entity_at m cpu; floor = m.floor cpu; mark = m.mark cpu }
 
--- the part that a processor's tasks, floor and start time stand for
-abbrev pub start_part : List Task → ℤ → ℕ → Part
-start_part tasks floor start = record {
-  tasks = λ pid. option_map (λ t. record { place = t.place; nice = t.nice; idle = t.idle; runtime = t.v })
-      (find (λ t. t.pid == pid) tasks);
-  floor = floor;
-  mark = start;
-}
-
 -- where the pid stands here
 abbrev pub place_in : Part → ℕ → Option Place
 place_in part pid = option_map (λ s. s.place) (part.tasks pid)
@@ -72,12 +62,6 @@ IsIn part place pid = place_in part pid ≡ Some place
 -- nobody stands here in this place
 abbrev pub NobodyIn : Part → Place → Type 0
 NobodyIn part place = (pid : ℕ) → ¬ IsIn part place pid
-
--- nobody runs here, and somebody waits
-pub record IsIdlePart (part : Part) : Type 0 where
-  pub nobody_runs : NobodyIn part Run
-  pub pid : ℕ
-  pub waits : IsIn part Wait pid
 
 -- what a task is charged at a time, in virtual nanoseconds: for the time since the mark
 abbrev pub cost_in : Part → ℕ → Entity → ℕ
@@ -124,7 +108,3 @@ pub record IsLiftedPart (time : ℕ) (before after : Part) : Type 0 where
   pub floor : ℤ
   pub raised : IsRaisedHere (charged_part before time) floor
   pub result : after ≡ record (charged_part before time) { floor = floor }
-
--- at most one task runs here
-abbrev pub OneRunsIn : Part → Type 0
-OneRunsIn part = (pid other : ℕ) → IsIn part Run pid → IsIn part Run other → pid ≡ other

@@ -8,7 +8,8 @@ use Rattle.std.specs.List.{list_any}
 use Rattle.std.specs.Map.{lookup}
 use Rattle.std.specs.Ordering.{nat_cmp}
 use Rattle.std.proofs.lemmas.Bool.{cases_eq}
-use Rattle.replay_model.specs.Deeds.{with_entity, goes, part_after_prev, part_after_next, woken, wakes}
+use Rattle.replay_model.specs.Deeds.{with_entity, goes, part_after_prev}
+use Rattle.replay_model.specs.AfterDeed.{part_after_next, woken, wakes}
 use Rattle.cfs_model.specs.Machine.{put}
 use Rattle.replay_model.specs.Part.{Part, Entity}
 use Rattle.replay_model.specs.QueueTests.{IsRunner}

@@ -10,7 +10,8 @@ use Rattle.cfs_model.specs.Start.{task_of}
 use Rattle.cfs_model.specs.declared.task.Place.TheVariants.{Run}
 use Rattle.cfs_model.specs.declared.task.Task.{Task}
 use Rattle.replay_model.specs.Deeds.{with_entity}
-use Rattle.replay_model.specs.Part.{NobodyIn, Part, start_part}
+use Rattle.replay_model.specs.Part.{NobodyIn, Part}
+use Rattle.replay_model.specs.PartWords.{start_part}
 use Rattle.cfs_model.specs.Machine.{put}
 use Rattle.runqueue.specs.Tasks.{entity_of, RisesByPid}
 use Rattle.runqueue.proofs.Parts.{its_place, same_tasks}

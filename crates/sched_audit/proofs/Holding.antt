@@ -19,7 +19,7 @@ use Rattle.sched_record.specs.declared.trace_reader.TraceReader.{TraceReader}
 use Rattle.sched_audit.specs.declared.lines.Held.{Held}
 use Rattle.sched_audit.proofs.Passing.{passes_none, whole_and_whole, whole_input}
 use Rattle.sched_audit.specs.Known.{Agrees}
-use Rattle.sched_audit.specs.Run.{AreEnough, IsHeld, PassesOn, PassesWhole}
+use Rattle.sched_audit.specs.Held.{AreEnough, IsHeld, PassesOn, PassesWhole}
 
 -- ---- lines without a line feed
 

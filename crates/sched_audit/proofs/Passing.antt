@@ -11,7 +11,7 @@ use Rattle.text_parts.specs.Lines.{lines_of, IsWhole}
 use Rattle.sched_record.specs.Reader.{HasRead}
 use Rattle.sched_record.specs.declared.trace_reader.TraceReader.{TraceReader}
 use Rattle.sched_audit.specs.Known.{Agrees}
-use Rattle.sched_audit.specs.Run.{PassesWhole}
+use Rattle.sched_audit.specs.Held.{PassesWhole}
 
 -- no text has no lines
 pub lines_of_none : lines_of [] ≡ []

@@ -5,14 +5,6 @@ use Rattle.ftrace_line.specs.declared.fault.LineFault.{LineFault}
 use Rattle.ftrace_line.specs.declared.fault.LineFault.TheVariants as lines
 use Rattle.sched_event.specs.declared.fault.EventFault.{EventFault}
 use Rattle.sched_event.specs.declared.fault.EventFault.TheVariants as events
-use Rattle.companion_file.specs.declared.fault.CompanionFault.{CompanionFault}
-use Rattle.companion_file.specs.declared.fault.CompanionFault.TheVariants as companion_faults
-use Rattle.sched_record.specs.declared.cause.TraceFault.{TraceFault}
-use Rattle.sched_record.specs.declared.cause.TraceFault.TheVariants as trace_faults
-use Rattle.sched_record.specs.declared.joining.JoinFault.{JoinFault}
-use Rattle.sched_audit.specs.declared.refused.Refused.{Refused}
-use Rattle.sched_audit.specs.declared.refused.Refused.TheVariants as refusals
-use Rattle.sched_audit.specs.declared.source.Source.TheVariants.{Trace, Companion, Join}
 use Rattle.sched_record.specs.declared.cause.TraceCause.{TraceCause}
 use Rattle.sched_record.specs.declared.cause.TraceCause.TheVariants as traces
 use Rattle.sched_record.specs.declared.joining.JoinCause.{JoinCause}
@@ -63,17 +55,3 @@ abbrev pub join_cause : JoinCause → Cause
 join_cause joins.CpuOutside = CpuOutside
 join_cause joins.StartLate = StartLate
 join_cause joins.ClaimNoEvent = ClaimNoEvent
-
--- the refusal that a fault of the trace is
-abbrev pub trace_refusal : TraceFault → Refused
-trace_refusal (trace_faults.Text line cause) = refusals.Text Trace line (trace_cause cause)
-trace_refusal trace_faults.Memory = refusals.Memory
-
--- the refusal that a fault of the companion is
-abbrev pub companion_refusal : CompanionFault → Refused
-companion_refusal (companion_faults.Text line cause) = refusals.Text Companion line (companion_cause cause)
-companion_refusal companion_faults.Memory = refusals.Memory
-
--- the refusal that a fault of joining is
-abbrev pub join_refusal : JoinFault → Refused
-join_refusal fault = refusals.Text Join fault.line (join_cause fault.cause)

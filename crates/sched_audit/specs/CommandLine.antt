@@ -6,7 +6,8 @@ use Rattle.std.specs.Option.{option_map_or}
 use Rattle.std.specs.Str.{bytes_eq}
 use Rattle.std.specs.Str.Parse.{digits_value, without_leading_plus}
 use Rattle.cfs_model.specs.Limits.{greatest_setting}
-use Rattle.cfs_model.specs.Settings.{AreInRange, all_settings, name_of_setting, settings_by, standard_value}
+use Rattle.cfs_model.specs.Settings.{AreInRange, all_settings, settings_by}
+use Rattle.cfs_model.specs.Options.{name_of_setting, standard_value}
 use Rattle.cfs_model.specs.declared.setting.Setting.{Setting}
 use Rattle.clap.specs.Walk.{Row, Rule, Text, first_of, one_of}
 use Rattle.clap.specs.Simple.{App, matches_of, new_app, new_rule, on_top, with_rule}

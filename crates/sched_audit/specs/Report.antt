@@ -12,7 +12,8 @@ use Rattle.sched_audit.specs.declared.cause.Cause.TheVariants.{ClaimNoEvent}
 use Rattle.sched_audit.specs.declared.outcome.Outcome.{Outcome}
 use Rattle.sched_audit.specs.declared.outcome.Outcome.TheVariants.{Judged, Text}
 use Rattle.cfs_model.specs.Kinds.{name_of, text_of}
-use Rattle.cfs_model.specs.Settings.{Settings, all_settings, name_of_setting, value_at}
+use Rattle.cfs_model.specs.Settings.{Settings, all_settings, value_at}
+use Rattle.cfs_model.specs.Options.{name_of_setting}
 use Rattle.cfs_model.specs.declared.setting.Setting.{Setting}
 use Rattle.cfs_model.specs.declared.kind.Kind.{Kind}
 use Rattle.replay_model.specs.declared.first_fault.FirstFault.{FirstFault}

@@ -1,18 +1,15 @@
 -- What two texts mean together, and what refuses them (this project's profile). What each means by itself is said by
 -- the crates that read them.
-use Rattle.std.specs.Prelude.{◌≡◌, ℕ, List, Result, Ok, Err}
+use Rattle.std.specs.Prelude.{◌≡◌, ℕ, List, Ok, Err}
 use Rattle.cfs_model.specs.declared.act.Entry.{Entry}
 use Rattle.companion_file.specs.Companion.{CompanionView, CompanionAnswer}
 use Rattle.companion_file.specs.declared.fault.CompanionCause.{CompanionCause}
 use Rattle.sched_record.specs.Trace.{TraceAnswer}
-use Rattle.sched_record.specs.Record.{RecordView, RecordAnswer, record_view}
-use Rattle.sched_record.specs.declared.record.Record.{Record}
+use Rattle.sched_record.specs.Record.{RecordView, RecordAnswer}
 use Rattle.sched_record.specs.declared.cause.TraceCause.{TraceCause}
 use Rattle.sched_record.specs.declared.joining.JoinCause.{JoinCause}
 use Rattle.sched_audit.specs.Causes.{trace_cause, companion_cause, join_cause}
 use Rattle.sched_audit.specs.declared.cause.Cause.{Cause}
-use Rattle.sched_audit.specs.declared.refused.Refused.{Refused}
-use Rattle.sched_audit.specs.declared.refused.Refused.TheVariants as refusals
 use Rattle.sched_audit.specs.declared.source.Source.{Source}
 use Rattle.sched_audit.specs.declared.source.Source.TheVariants.{Trace, Companion, Join}
 
@@ -44,9 +41,3 @@ IsRefused trace companion Companion line cause =
     (events : List Entry) × (c : CompanionCause)
     × TraceAnswer trace (Ok events) × CompanionAnswer companion (Err (line, c)) × (cause ≡ companion_cause c)
 IsRefused trace companion Join line cause = IsJoinRefused trace companion line cause
-
--- what reading and joining both texts gives: their record, or why one is refused; of want of memory nothing is said
-abbrev pub IsTexts : List ℕ → List ℕ → Result Record Refused → Type 0
-IsTexts trace companion (Ok r) = IsRecordOf trace companion (record_view r)
-IsTexts trace companion (Err (refusals.Text source line cause)) = IsRefused trace companion source line cause
-IsTexts trace companion (Err refusals.Memory) = Unit {0}

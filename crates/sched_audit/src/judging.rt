@@ -1,7 +1,8 @@
 //! What a verdict and the least settings share: the texts are read and joined, and their record is judged.
 ghost use Rattle.std.specs.Prelude.{◌≡◌, ◌≢◌, false, ℕ, IfErr, IfOk, List, Option};
 ghost use Rattle.sched_record.specs.Record.{record_view};
-ghost use Rattle.sched_record.specs.Trace.{Tells, TraceAnswer};
+ghost use Rattle.sched_record.specs.Seen.{Tells};
+ghost use Rattle.sched_record.specs.Trace.{TraceAnswer};
 ghost use Rattle.sched_audit.specs.Answer.{IsAnswer, OutcomeAnswer};
 ghost use Rattle.sched_audit.specs.Known.{Agrees};
 ghost use Rattle.sched_audit.specs.Run.{IsKept, IsOutcomeOf, Reads, Runs, input_of, output_of};

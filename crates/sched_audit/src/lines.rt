@@ -7,7 +7,7 @@ ghost use Rattle.text_parts.specs.Lines.{is_line_feed, lines_of};
 ghost use Rattle.ftrace_line.specs.Front.{IsSettled};
 ghost use Rattle.sched_record.specs.Reader.{HasRead};
 ghost use Rattle.sched_audit.specs.Known.{IsCutShort, most_reads};
-ghost use Rattle.sched_audit.specs.Run.{IsHeld, IsReadFrom, PassesOn, PassesWhole};
+ghost use Rattle.sched_audit.specs.Held.{IsHeld, IsReadFrom, PassesOn, PassesWhole};
 
 use crate::reading::{MOST_READS, read_chunk};
 use crate::{Fault, Feed};

@@ -20,7 +20,7 @@ pub enum Refused {
 
 impl From<TraceFault> for Refused {
     ghost use Rattle.std.specs.Prelude.{◌≡◌};
-    ghost use Rattle.sched_audit.specs.Causes.{trace_refusal};
+    ghost use Rattle.sched_audit.specs.Refusals.{trace_refusal};
 
     ghost from_gives = { λ fault refused. refused ≡ trace_refusal fault };
 
@@ -38,7 +38,7 @@ impl From<TraceFault> for Refused {
 
 impl From<CompanionFault> for Refused {
     ghost use Rattle.std.specs.Prelude.{◌≡◌};
-    ghost use Rattle.sched_audit.specs.Causes.{companion_refusal};
+    ghost use Rattle.sched_audit.specs.Refusals.{companion_refusal};
 
     ghost from_gives = { λ fault refused. refused ≡ companion_refusal fault };
 
@@ -56,7 +56,7 @@ impl From<CompanionFault> for Refused {
 
 impl From<JoinFault> for Refused {
     ghost use Rattle.std.specs.Prelude.{◌≡◌};
-    ghost use Rattle.sched_audit.specs.Causes.{join_refusal};
+    ghost use Rattle.sched_audit.specs.Refusals.{join_refusal};
 
     ghost from_gives = { λ fault refused. refused ≡ join_refusal fault };
 

@@ -1,6 +1,7 @@
 ghost use Rattle.std.specs.Prelude.{ℕ, List};
-ghost use Rattle.sched_record.specs.Trace.{TraceAnswer, Tells};
-ghost use Rattle.sched_audit.specs.Texts.{IsTexts};
+ghost use Rattle.sched_record.specs.Trace.{TraceAnswer};
+ghost use Rattle.sched_record.specs.Seen.{Tells};
+ghost use Rattle.sched_audit.specs.Refusals.{IsTexts};
 
 use crate::Refused;
 use companion_file::read_companion_wide;

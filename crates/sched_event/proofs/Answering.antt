@@ -9,7 +9,8 @@ use Rattle.sched_event.specs.declared.fault.EventFault.TheVariants.{BadFields, N
 use Rattle.sched_event.specs.declared.fault.EventFault.TheVariants.{IdleNamed}
 use Rattle.sched_event.specs.Texts.{EventText, switch, wakeup, wakeup_new, migration, Reads}
 use Rattle.sched_event.specs.Ranges.{is_out_of_range, prios_of, names_idle}
-use Rattle.sched_event.specs.Event.{EventView, event_of, EventAnswer, event_view, event_answer_view}
+use Rattle.sched_event.specs.Event.{EventView, event_of, EventAnswer}
+use Rattle.sched_event.specs.Seen.{event_view, event_answer_view}
 use Rattle.sched_event.specs.Reading.{switch_at, wakeup_at, migration_at, text_at}
 use Rattle.sched_event.specs.Judging.{Judges, judged, judged_if_read, answer_at}
 use Rattle.sched_event.proofs.Switches.{switch_takes, switch_again}

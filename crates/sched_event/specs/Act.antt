@@ -1,5 +1,5 @@
 -- What an event does (the ways out of a switch are this project's profile).
-use Rattle.std.specs.Prelude.{ℕ, ◌==◌, ◌||◌, Bool, false, if◌then◌else◌, ℤ, pos, List, [], ◌∷◌}
+use Rattle.std.specs.Prelude.{ℕ, ◌==◌, ◌||◌, Bool, false, if◌then◌else◌, List, [], ◌∷◌}
 use Rattle.std.specs.List.{list_any}
 use Rattle.cfs_model.specs.Limits.{idle_pid}
 use Rattle.cfs_model.specs.declared.act.Act.{Act}
@@ -26,14 +26,10 @@ abbrev pub way_of : List ℕ → Way
 way_of state = if is_put_back state then Stays else if is_gone state then Ends else if is_runnable state then Stays else
     Sleeps
 
--- the nice value of a switch's task: 0 for the idle task
-abbrev pub nice_in_switch : ℕ → ℤ → ℤ
-nice_in_switch pid nice = if pid == idle_pid then pos 0 else nice
-
 -- what an event does: the idle task stays, whatever its state
 abbrev pub act_of : EventView → Act
-act_of (switched s) = acts.Switch s.cpu s.prev (nice_in_switch s.prev s.prev_nice)
-    (if s.prev == idle_pid then Stays else way_of s.prev_state) s.next (nice_in_switch s.next s.next_nice)
+act_of (switched s) =
+    acts.Switch s.cpu s.prev s.prev_nice (if s.prev == idle_pid then Stays else way_of s.prev_state) s.next s.next_nice
 act_of (woken w) = acts.Wake w.target w.pid w.nice
 act_of (born w) = acts.Born w.target w.pid w.nice
 act_of (migrated m) = acts.Shift m.orig m.dest m.pid m.nice

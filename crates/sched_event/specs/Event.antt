@@ -5,14 +5,13 @@ use Rattle.std.specs.List.{AllByRecursion}
 use Rattle.ftrace_line.specs.declared.kinds.Which.{Which}
 use Rattle.cfs_model.specs.Limits.{idle_pid}
 use Rattle.text_parts.specs.Numerals.{value_of}
-use Rattle.sched_event.specs.declared.event.Event.{Event}
 use Rattle.sched_event.specs.declared.fault.EventFault.{EventFault}
 use Rattle.sched_event.specs.declared.fault.EventFault.TheVariants.{BadFields, NumberRange, RealTime, PrioRange}
 use Rattle.sched_event.specs.declared.fault.EventFault.TheVariants.{IdleNamed}
 use Rattle.sched_event.specs.Texts.{Prio, EventText, switch, wakeup, wakeup_new, migration, WakeupText, Reads}
 use Rattle.sched_event.specs.Ranges.{prio_of, is_out_of_range, prios_of, IsFair, Leftmost, names_idle}
 pub use Rattle.sched_event.specs.EventView.{SwitchView, WakeupView, MigrationView, EventView, switched, woken, born}
-pub use Rattle.sched_event.specs.EventView.{migrated, switch_view, wakeup_view, migration_view, event_view}
+pub use Rattle.sched_event.specs.EventView.{migrated}
 pub use Rattle.sched_event.specs.Act.{act_of}
 
 -- the nice value that a prio stands for; the idle task's is 0, whatever is printed
@@ -49,11 +48,6 @@ event_of cpu (migration text) = migrated (record {
   orig = value_of text.orig;
   dest = value_of text.dest;
 })
-
--- what is seen of the answer for a text
-abbrev pub event_answer_view : Result Event EventFault → Result EventView EventFault
-event_answer_view (Ok event) = Ok (event_view event)
-event_answer_view (Err fault) = Err fault
 
 -- no parts make up the text
 abbrev pub HasNoReading : Which → List ℕ → Type 0

@@ -1,6 +1,7 @@
 pub mod Texts
 pub mod Ranges
 pub mod EventView
+pub mod Seen
 pub mod Act
 pub mod Event
 pub mod Reading

@@ -1,6 +1,6 @@
 ghost use Rattle.std.specs.Prelude.{◌≡◌};
-ghost use Rattle.sched_event.specs.EventView.{event_view};
-ghost use Rattle.sched_event.specs.Act.{act_of, nice_in_switch, is_put_back, is_gone, is_runnable, way_of};
+ghost use Rattle.sched_event.specs.Seen.{event_view};
+ghost use Rattle.sched_event.specs.Act.{act_of, is_put_back, is_gone, is_runnable, way_of};
 
 use cfs_model::{Act, IDLE_PID, Nice, Way};
 
@@ -52,17 +52,6 @@ pub enum Event<'a> {
     Migration(Migration<'a>),
 }
 
-/// The nice value of a switch's task: 0 for the idle task.
-fn nice_in_switch(pid: u32, nice: Nice) -> Nice
-    ensures { result ≡ nice_in_switch pid nice }
-{
-    if pid == IDLE_PID {
-        Nice::new(0).unwrap()
-    } else {
-        nice
-    }
-}
-
 /// The task was put back into the runqueue.
 fn is_put_back(state: &[u8]) -> bool
     ensures { result ≡ is_put_back state.now }
@@ -110,14 +99,14 @@ impl<'a> Event<'a> {
             Event::Switch(switch) => Act::Switch {
                 cpu: switch.cpu,
                 prev: switch.prev,
-                prev_nice: nice_in_switch(switch.prev, switch.prev_nice),
+                prev_nice: switch.prev_nice,
                 way: if switch.prev == IDLE_PID {
                     Way::Stays
                 } else {
                     way_of(switch.prev_state)
                 },
                 next: switch.next,
-                next_nice: nice_in_switch(switch.next, switch.next_nice),
+                next_nice: switch.next_nice,
             },
             Event::Wakeup(wakeup) => Act::Wake {
                 cpu: wakeup.target,

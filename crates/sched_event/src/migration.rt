@@ -1,7 +1,7 @@
 ghost use Rattle.text_parts.specs.Reading.{Gives};
 ghost use Rattle.sched_event.specs.Reading.{migration_at};
 ghost use Rattle.sched_event.specs.Judging.{Judges, migration_judged};
-ghost use Rattle.sched_event.specs.Event.{migration_view};
+ghost use Rattle.sched_event.specs.Seen.{migration_view};
 ghost use Rattle.sched_event.specs.FieldsView.{migration_fields_view};
 
 use crate::event::Migration;

@@ -1,8 +1,9 @@
 ghost use Rattle.std.specs.Prelude.{◌≡◌, ℕ, List, Result, ◌↔◌, IsErrOf};
 ghost use Rattle.ftrace_line.specs.declared.kinds.Which.{Which};
 ghost use Rattle.sched_event.specs.Texts.{EventText, Reads};
-ghost use Rattle.sched_event.specs.Event.{EventView, event_answer_view, EventAnswer, HasNoReading, HasNumberOutOfRange};
-ghost use Rattle.sched_event.specs.Event.{HasRealTimePrio, HasPrioAboveRange, NamesIdle};
+ghost use Rattle.sched_event.specs.Event.{EventView, EventAnswer, HasNoReading, HasNumberOutOfRange, HasRealTimePrio};
+ghost use Rattle.sched_event.specs.Event.{HasPrioAboveRange, NamesIdle};
+ghost use Rattle.sched_event.specs.Seen.{event_answer_view};
 ghost use Rattle.sched_event.specs.declared.fault.EventFault.{EventFault};
 
 use crate::event::Event;

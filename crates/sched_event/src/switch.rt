@@ -1,7 +1,7 @@
 ghost use Rattle.text_parts.specs.Reading.{Gives};
 ghost use Rattle.sched_event.specs.Reading.{switch_at};
 ghost use Rattle.sched_event.specs.Judging.{Judges, switch_judged};
-ghost use Rattle.sched_event.specs.Event.{switch_view};
+ghost use Rattle.sched_event.specs.Seen.{switch_view};
 ghost use Rattle.sched_event.specs.FieldsView.{switch_fields_view};
 
 use crate::event::Switch;

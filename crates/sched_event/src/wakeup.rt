@@ -1,7 +1,7 @@
 ghost use Rattle.text_parts.specs.Reading.{Gives};
 ghost use Rattle.sched_event.specs.Reading.{wakeup_at};
 ghost use Rattle.sched_event.specs.Judging.{Judges, wakeup_judged};
-ghost use Rattle.sched_event.specs.Event.{wakeup_view};
+ghost use Rattle.sched_event.specs.Seen.{wakeup_view};
 ghost use Rattle.sched_event.specs.FieldsView.{wakeup_fields_view};
 
 use crate::event::Wakeup;

@@ -6,7 +6,7 @@ use Rattle.std.proofs.lemmas.Bool.{cases_order, eq-eqb, eqb-true, and_parts}
 use Rattle.std.proofs.lemmas.List.{get_or-take, get_or_default, length-take-le}
 use Rattle.std.proofs.lemmas.List.Folds.{Any-from_list_any, list_any_at, list_any_kept, list_any_more}
 use Rattle.cfs_model.specs.declared.act.Entry.{Entry}
-use Rattle.sched_record.specs.Kept.{is_birth_line, is_birth_of}
+use Rattle.sched_record.specs.Join.{is_birth_line, is_birth_of}
 
 -- the lines of the events rise
 abbrev pub Rise : List Entry → Type 0

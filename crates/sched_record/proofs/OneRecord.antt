@@ -9,9 +9,9 @@ use Rattle.cfs_model.specs.Touch.{touched}
 use Rattle.companion_file.specs.Companion.{CompanionView}
 use Rattle.sched_record.specs.declared.joining.JoinCause.{JoinCause}
 use Rattle.sched_record.specs.declared.joining.JoinCause.TheVariants.{CpuOutside, StartLate, ClaimNoEvent}
-use Rattle.sched_record.specs.Kept.{RecordView, IsInside, NamesBirth, is_event_line}
-use Rattle.sched_record.specs.Join.{IsFirstOutside, IsBeforeStart, BeginsInTime, IsFirstStray, IsStray, Refuses}
-use Rattle.sched_record.specs.Join.{GoTogether, RecordAnswer}
+use Rattle.sched_record.specs.RecordView.{RecordView}
+use Rattle.sched_record.specs.Join.{IsInside, NamesBirth, is_event_line, IsFirstOutside, IsBeforeStart, BeginsInTime}
+use Rattle.sched_record.specs.Join.{IsFirstStray, IsStray, Refuses, GoTogether, RecordAnswer}
 use Rattle.sched_record.proofs.Splits.{one_first_split, all_at_cut}
 
 -- an event outside isn't inside

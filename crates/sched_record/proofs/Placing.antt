@@ -11,7 +11,8 @@ use Rattle.cfs_model.specs.Limits.{most_processors}
 use Rattle.cfs_model.specs.declared.act.Entry.{Entry}
 use Rattle.cfs_model.specs.declared.claim.Claim.{Claim}
 use Rattle.cfs_model.specs.declared.nice_line.NiceLine.{NiceLine}
-use Rattle.replay_model.specs.Cut.{step_at, steps_at, touches}
+use Rattle.replay_model.specs.StepAt.{step_at}
+use Rattle.replay_model.specs.Cut.{steps_at, touches}
 use Rattle.replay_model.specs.declared.step.Step.{Step}
 use Rattle.sched_record.specs.Places.{ArePlacesOf, places_at, places_touching, touches_cpu}
 use Rattle.sched_record.proofs.Lines.{enumerate_push}

@@ -15,7 +15,7 @@ use Rattle.cfs_model.specs.declared.act.Entry.{Entry}
 use Rattle.cfs_model.specs.declared.idle_line.IdleLine.{IdleLine}
 use Rattle.companion_file.specs.Spans.{AreSpansOf, starts_span}
 use Rattle.companion_file.specs.declared.idle_span.IdleSpan.{IdleSpan}
-use Rattle.sched_record.specs.Kept.{NamesBirth, is_birth_line, is_birth_of}
+use Rattle.sched_record.specs.Join.{NamesBirth, is_birth_line, is_birth_of}
 use Rattle.sched_record.specs.Policies.{EndsAtBirth, IsLastBefore, NoneBefore}
 use Rattle.sched_record.proofs.Births.{Rise, birth_at, birth_found}
 use Rattle.sched_record.proofs.Pairs.{pairs_tail}

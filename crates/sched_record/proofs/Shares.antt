@@ -10,8 +10,8 @@ use Rattle.std.proofs.lemmas.List.Elements.{All-map, All-filter, All-weaker, fil
 use Rattle.std.proofs.lemmas.Option.{slice_get-get_or}
 use Rattle.cfs_model.specs.Charge.{IsInRange}
 use Rattle.cfs_model.specs.Claimed.{claim_at, claimed, nice_at, with_claim}
-use Rattle.replay_model.specs.Cut.{claim_for, deed_at, last_line_after, last_time_of, nice_for, step_at, steps_at}
-use Rattle.replay_model.specs.Cut.{tasks_at, touches}
+use Rattle.replay_model.specs.StepAt.{claim_for, deed_at, nice_for, step_at}
+use Rattle.replay_model.specs.Cut.{last_line_after, last_time_of, steps_at, tasks_at, touches}
 use Rattle.cfs_model.specs.declared.act.Act.{Act}
 use Rattle.cfs_model.specs.declared.act.Act.TheVariants as act
 use Rattle.cfs_model.specs.declared.act.Entry.{Entry}
@@ -23,8 +23,9 @@ use Rattle.replay_model.specs.declared.step.Step.{Step}
 use Rattle.cfs_model.specs.declared.task.Place.TheVariants.{Run}
 use Rattle.cfs_model.specs.declared.task.Task.{Task}
 use Rattle.cfs_model.specs.Order.{RunApart}
-use Rattle.companion_file.specs.Reading.{IsClaimInLimits, IsNiceLineInLimits, IsTaskInLimits}
-use Rattle.sched_record.specs.Kept.{RecordView, IsRecordInOrder, IsNamed, policy_of, tasks_of}
+use Rattle.companion_file.specs.Order.{IsClaimInLimits, IsNiceLineInLimits, IsTaskInLimits}
+use Rattle.sched_record.specs.RecordView.{RecordView, policy_of}
+use Rattle.sched_record.specs.Kept.{IsRecordInOrder, IsNamed, tasks_of}
 use Rattle.sched_record.specs.Share.{IsShare, OwnsClaim, OwnsNice, cut_of, tasks_of_deed}
 use Rattle.sched_record.proofs.Pairs.{pairs_map, pairs_filter, found_in}
 

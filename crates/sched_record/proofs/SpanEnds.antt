@@ -43,7 +43,7 @@ use Rattle.cfs_model.specs.declared.idle_line.IdleLine.{IdleLine}
 use Rattle.companion_file.specs.Spans.{AreSpansOf, ended, starts_span}
 use Rattle.companion_file.specs.declared.idle_span.IdleSpan.{IdleSpan}
 use Rattle.companion_file.proofs.EndedSpans.{ended_length}
-use Rattle.sched_record.specs.Kept.{NamesBirth, is_birth_line, is_birth_of}
+use Rattle.sched_record.specs.Join.{NamesBirth, is_birth_line, is_birth_of}
 use Rattle.sched_record.specs.Policies.{EndsAtBirth, EndsLast, IsLastBefore}
 use Rattle.sched_record.proofs.Births.{birth_above, birth_at, birth_kept, birth_new, birth_so_far}
 

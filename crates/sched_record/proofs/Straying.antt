@@ -11,9 +11,10 @@ use Rattle.std.proofs.lemmas.Option.{slice_get-get_or, slice_get_past}
 use Rattle.cfs_model.specs.declared.act.Entry.{Entry}
 use Rattle.cfs_model.specs.declared.idle_line.IdleLine.{IdleLine}
 use Rattle.companion_file.specs.Companion.{CompanionView}
-use Rattle.companion_file.specs.Reading.{IdleRises}
-use Rattle.sched_record.specs.Join.{HasStrayIdle, IsLeastOf, IsStray, is_birth_there, lesser_of}
-use Rattle.sched_record.specs.Kept.{NamesBirth, is_birth_of, is_event_line}
+use Rattle.companion_file.specs.Order.{IdleRises}
+use Rattle.sched_record.specs.Join.{HasStrayIdle, IsLeastOf, IsStray, NamesBirth, is_birth_of, is_event_line}
+use Rattle.sched_record.specs.Beside.{is_birth_there}
+use Rattle.sched_record.specs.Lesser.{lesser_of}
 use Rattle.sched_record.proofs.Births.{birth_at, birth_found}
 use Rattle.sched_record.proofs.Walk.{HasPassed}
 

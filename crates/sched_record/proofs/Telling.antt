@@ -5,7 +5,8 @@ use Rattle.sched_record.specs.declared.cause.TraceCause.{TraceCause}
 use Rattle.sched_record.specs.declared.cause.TraceFault.{TraceFault}
 use Rattle.sched_record.specs.declared.cause.TraceFault.TheVariants.{Text, Memory}
 use Rattle.sched_record.specs.declared.trace.Trace.{Trace}
-use Rattle.sched_record.specs.Trace.{TraceAnswer, Tells, trace_view}
+use Rattle.sched_record.specs.Trace.{TraceAnswer}
+use Rattle.sched_record.specs.Seen.{Tells, trace_view}
 
 -- since a trace means one thing, what is told is any answer that it has
 pub tells_only : (text : List ℕ) (r : Result Trace TraceFault) (answer : Result (List Entry) (ℕ × TraceCause))

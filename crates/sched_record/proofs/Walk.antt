@@ -7,7 +7,7 @@ use Rattle.std.proofs.lemmas.Bool.{both_ways, ne_eqb, eq-eqb, cases_lt, cases_or
 use Rattle.std.proofs.lemmas.List.{get_or_default}
 use Rattle.std.proofs.lemmas.List.Folds.{list_any_none, list_any_at}
 use Rattle.cfs_model.specs.declared.act.Entry.{Entry}
-use Rattle.sched_record.specs.Kept.{is_event_line}
+use Rattle.sched_record.specs.Join.{is_event_line}
 
 -- everything before the place lies above this line
 abbrev pub AllAbove : {X : Type 0} → (X → ℕ) → List X → ℕ → ℕ → Type 0

@@ -1,7 +1,10 @@
 -- What the companion says on the events' lines, walked side by side with the events (this project's profile).
-use Rattle.std.specs.Prelude.{ℕ, ◌<◌, ◌≤◌, List, length, slice_index_or}
+use Rattle.std.specs.Prelude.{ℕ, ◌<◌, ◌≤◌, ◌==◌, Bool, false, ◌&&◌, List, length, slice_get, slice_index_or}
+use Rattle.std.specs.Option.{option_map_or}
 use Rattle.cfs_model.specs.declared.act.Entry.{Entry}
-use Rattle.sched_record.specs.Kept.{RecordView}
+use Rattle.cfs_model.specs.declared.idle_line.IdleLine.{IdleLine}
+use Rattle.sched_record.specs.Join.{is_birth_of}
+use Rattle.sched_record.specs.RecordView.{RecordView}
 
 -- a place in what stands on lines, as the walk has it at an event: what is before the place stands on lines above this
 -- event's and those of all later ones
@@ -18,3 +21,8 @@ IsClaimPlace r = IsPlaceBeside _ (λ claim. claim.line) r.claims r.events
 -- such a place in a record's changes of nice values
 abbrev pub IsNicePlace : RecordView → ℕ → ℕ → Type 0
 IsNicePlace r = IsPlaceBeside _ (λ change. change.line) r.nices r.events
+
+-- the event at the place is the birth that the idle line speaks of
+abbrev pub is_birth_there : List Entry → ℕ → IdleLine → Bool
+is_birth_there events place idle =
+    option_map_or (λ event. (event.line == idle.line) && is_birth_of idle.pid event.act) (slice_get events place) false

@@ -1,7 +1,10 @@
 -- What joining a trace and a companion gives (this project's profile).
-use Rattle.std.specs.Prelude.{◌≡◌, ℕ, ◌<◌, ◌≤◌, IsTrue, List, [], ◌∷◌, ◌++◌, ◌⊎◌, ◌==◌, Bool, false, ◌&&◌, min}
-use Rattle.std.specs.Prelude.{slice_get, Any, All, Option, Some, None, Result, Ok, Err}
-use Rattle.std.specs.Option.{option_map_or}
+use Rattle.std.specs.Prelude.{◌≡◌, ℕ, ◌<◌, ◌≤◌, IsTrue, List, [], ◌∷◌, ◌++◌, ◌⊎◌, ◌==◌, Bool, false, ◌&&◌, Any, All}
+use Rattle.std.specs.Prelude.{Option, Some, None, Result, Ok, Err}
+use Rattle.std.specs.List.{list_any}
+use Rattle.cfs_model.specs.Limits.{no_line}
+use Rattle.cfs_model.specs.declared.act.Act.{Act}
+use Rattle.cfs_model.specs.declared.act.Act.TheVariants.{Born}
 use Rattle.cfs_model.specs.declared.act.Entry.{Entry}
 use Rattle.cfs_model.specs.declared.claim.Claim.{Claim}
 use Rattle.cfs_model.specs.declared.idle_line.IdleLine.{IdleLine}
@@ -10,7 +13,28 @@ use Rattle.cfs_model.specs.Touch.{touched}
 use Rattle.companion_file.specs.Companion.{CompanionView}
 use Rattle.sched_record.specs.declared.joining.JoinCause.{JoinCause}
 use Rattle.sched_record.specs.declared.joining.JoinCause.TheVariants.{CpuOutside, StartLate, ClaimNoEvent}
-use Rattle.sched_record.specs.Kept.{RecordView, IsInside, NamesBirth, is_birth_of, is_event_line}
+use Rattle.sched_record.specs.RecordView.{RecordView}
+
+-- an event touches only processors below the count
+abbrev pub IsInside : ℕ → Entry → Type 0
+IsInside cpus event = All (λ cpu. cpu < cpus) (touched event.act)
+
+-- whether one of these events stands on this line
+abbrev pub is_event_line : List Entry → ℕ → Bool
+is_event_line events line = list_any (λ event. event.line == line) events
+
+-- whether what an event does is the birth of this pid
+abbrev pub is_birth_of : ℕ → Act → Bool
+is_birth_of pid (Born cpu born nice) = born == pid
+is_birth_of pid _ = false
+
+-- whether one of these events is a birth of this pid and stands on this line
+abbrev pub is_birth_line : List Entry → ℕ → ℕ → Bool
+is_birth_line events line pid = list_any (λ event. (event.line == line) && is_birth_of pid event.act) events
+
+-- an idle line is of the start, or stands on the line of a birth of its pid
+abbrev pub NamesBirth : List Entry → IdleLine → Type 0
+NamesBirth events idle = no_line < idle.line → IsTrue (is_birth_line events idle.line idle.pid)
 
 -- the first event that touches a processor which the companion doesn't have, by its line
 pub record IsFirstOutside (cpus : ℕ) (events : List Entry) (line : ℕ) : Type 0 where
@@ -97,14 +121,3 @@ joined_record events c = record {
 abbrev pub RecordAnswer : List Entry → CompanionView → Result RecordView (ℕ × JoinCause) → Type 0
 RecordAnswer events companion (Ok r) = GoTogether events companion × (r ≡ joined_record events companion)
 RecordAnswer events companion (Err fault) = Refuses events companion fault.0 fault.1
-
--- the lesser of the numbers that there are
-abbrev pub lesser_of : Option ℕ → Option ℕ → Option ℕ
-lesser_of None b = b
-lesser_of (Some a) None = Some a
-lesser_of (Some a) (Some b) = Some (min a b)
-
--- the event at the place is the birth that the idle line speaks of
-abbrev pub is_birth_there : List Entry → ℕ → IdleLine → Bool
-is_birth_there events place idle =
-    option_map_or (λ event. (event.line == idle.line) && is_birth_of idle.pid event.act) (slice_get events place) false

@@ -1,18 +1,14 @@
--- What a trace that was read, and a record, keep (this project's profile: the facts on which a run's definitions rest).
-use Rattle.std.specs.Prelude.{ℕ, ℤ, ◌<◌, ◌≤◌, ◌==◌, Bool, false, ◌&&◌, IsTrue, List, [], ◌∷◌, All}
-use Rattle.std.specs.List.{list_any, AllPairs}
+-- The order that each trace and each record keeps (this project's profile).
+use Rattle.std.specs.Prelude.{ℕ, ◌<◌, ◌≤◌, IsTrue, List, [], ◌∷◌, All}
+use Rattle.std.specs.List.{AllPairs}
 use Rattle.cfs_model.specs.declared.act.Act.{Act}
 use Rattle.cfs_model.specs.declared.act.Act.TheVariants.{Switch, Wake, Born, Shift}
 use Rattle.cfs_model.specs.declared.act.Entry.{Entry}
-use Rattle.cfs_model.specs.declared.claim.Claim.{Claim}
-use Rattle.cfs_model.specs.declared.idle_line.IdleLine.{IdleLine}
-use Rattle.cfs_model.specs.declared.nice_line.NiceLine.{NiceLine}
-use Rattle.cfs_model.specs.declared.task.Task.{Task}
-use Rattle.cfs_model.specs.Claimed.{policy_in}
-use Rattle.cfs_model.specs.Limits.{greatest_pid, no_line}
-use Rattle.cfs_model.specs.Start.{starts_idle}
-use Rattle.cfs_model.specs.Touch.{touched}
-use Rattle.companion_file.specs.Companion.{CompanionView, IsCompanionInOrder}
+use Rattle.cfs_model.specs.Limits.{greatest_pid}
+use Rattle.companion_file.specs.Companion.{CompanionView}
+use Rattle.companion_file.specs.Order.{IsCompanionInOrder}
+use Rattle.sched_record.specs.RecordView.{RecordView}
+use Rattle.sched_record.specs.Join.{IsInside, is_event_line, NamesBirth}
 
 -- the pids that an event prints
 abbrev pub pids_of : Act → List ℕ
@@ -40,38 +36,6 @@ pub record AreInOrder (events : List Entry) : Type 0 where
   pub never_falls : AllPairs (λ a b. a.time ≤ b.time) events
   pub named : All (λ event. IsNamed event.act) events
 
--- an event touches only processors below the count
-abbrev pub IsInside : ℕ → Entry → Type 0
-IsInside cpus event = All (λ cpu. cpu < cpus) (touched event.act)
-
--- whether one of these events stands on this line
-abbrev pub is_event_line : List Entry → ℕ → Bool
-is_event_line events line = list_any (λ event. event.line == line) events
-
--- whether what an event does is the birth of this pid
-abbrev pub is_birth_of : ℕ → Act → Bool
-is_birth_of pid (Born cpu born nice) = born == pid
-is_birth_of pid _ = false
-
--- whether one of these events is a birth of this pid and stands on this line
-abbrev pub is_birth_line : List Entry → ℕ → ℕ → Bool
-is_birth_line events line pid = list_any (λ event. (event.line == line) && is_birth_of pid event.act) events
-
--- an idle line is of the start, or stands on the line of a birth of its pid
-abbrev pub NamesBirth : List Entry → IdleLine → Type 0
-NamesBirth events idle = no_line < idle.line → IsTrue (is_birth_line events idle.line idle.pid)
-
--- a trace and a companion, joined
-pub record RecordView : Type 0 where
-  pub cpus : ℕ
-  pub start : ℕ
-  pub floors : List ℤ
-  pub tasks : List Task
-  pub events : List Entry
-  pub claims : List Claim
-  pub nices : List NiceLine
-  pub idles : List IdleLine
-
 -- the companion's part of a record
 abbrev pub companion_part : RecordView → CompanionView
 companion_part r = record {
@@ -83,10 +47,6 @@ companion_part r = record {
   nices = r.nices;
   idles = r.idles;
 }
-
--- whether the task that an event of the record bears or moves is of the idle policy
-abbrev pub policy_of : RecordView → Entry → Bool
-policy_of r = policy_in r.idles (starts_idle r.tasks) r.events
 
 -- both parts are in order, and they go together
 pub record IsRecordInOrder (r : RecordView) : Type 0 where

@@ -1,6 +1,8 @@
 pub mod Beside
 pub mod Join
+pub mod Lesser
 pub mod Kept
+pub mod RecordView
 pub mod Places
 pub mod Policies
 pub mod Record
@@ -9,5 +11,6 @@ pub mod Same
 pub mod Share
 pub mod Stream
 pub mod Trace
+pub mod Seen
 pub mod ReadLines
 pub mod Reader

@@ -6,7 +6,7 @@ use Rattle.cfs_model.specs.Limits.{no_line}
 use Rattle.cfs_model.specs.declared.act.Entry.{Entry}
 use Rattle.companion_file.specs.Spans.{ended}
 use Rattle.companion_file.specs.declared.idle_span.IdleSpan.{IdleSpan}
-use Rattle.sched_record.specs.Kept.{is_birth_line}
+use Rattle.sched_record.specs.Join.{is_birth_line}
 
 -- the span ends at the first birth of its pid behind its start, and has no end where there is no such birth
 pub record EndsAtBirth (events : List Entry) (span : IdleSpan) : Type 0 where

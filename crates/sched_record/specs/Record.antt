@@ -4,15 +4,16 @@ use Rattle.std.specs.Option.{option_map_or}
 use Rattle.cfs_model.specs.Limits.{no_line}
 use Rattle.cfs_model.specs.declared.act.Entry.{Entry}
 use Rattle.companion_file.specs.declared.companion.Companion.{Companion}
-use Rattle.companion_file.specs.Companion.{companion_view}
+use Rattle.companion_file.specs.Seen.{companion_view}
 use Rattle.sched_record.specs.declared.joining.JoinCause.{JoinCause}
 use Rattle.sched_record.specs.declared.joining.JoinFault.{JoinFault}
 use Rattle.sched_record.specs.declared.record.Record.{Record}
 use Rattle.sched_record.specs.declared.trace.Trace.{Trace}
 use Rattle.sched_record.specs.Join.{joined_record}
-use Rattle.sched_record.specs.Trace.{trace_view}
+use Rattle.sched_record.specs.Seen.{trace_view}
 pub use Rattle.sched_record.specs.Join.{RecordAnswer}
-pub use Rattle.sched_record.specs.Kept.{RecordView, IsRecordInOrder}
+pub use Rattle.sched_record.specs.RecordView.{RecordView}
+pub use Rattle.sched_record.specs.Kept.{IsRecordInOrder}
 
 -- the record, without where it lies in memory
 abbrev pub record_view : Record → RecordView

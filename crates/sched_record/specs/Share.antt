@@ -10,7 +10,7 @@ use Rattle.replay_model.specs.declared.step.Deed.{Deed}
 use Rattle.replay_model.specs.declared.step.Deed.TheVariants.{Switch, Wake, Born, Leave, Arrive}
 use Rattle.replay_model.specs.declared.step.Step.{Step}
 use Rattle.cfs_model.specs.declared.task.Place.TheVariants.{Run}
-use Rattle.sched_record.specs.Kept.{RecordView, policy_of}
+use Rattle.sched_record.specs.RecordView.{RecordView, policy_of}
 
 -- the pids of a deed that can't be the idle task's
 abbrev pub tasks_of_deed : Deed → List ℕ

@@ -6,9 +6,6 @@ use Rattle.cfs_model.specs.declared.act.Entry.{Entry}
 use Rattle.text_parts.specs.Lines.{lines_of}
 use Rattle.sched_record.specs.declared.cause.TraceCause.{TraceCause}
 use Rattle.sched_record.specs.declared.cause.TraceCause.TheVariants.{TooManyLines, Line, LostEvents, Event, TimeBack}
-use Rattle.sched_record.specs.declared.cause.TraceFault.{TraceFault}
-use Rattle.sched_record.specs.declared.cause.TraceFault.TheVariants.{Text, Memory}
-use Rattle.sched_record.specs.declared.trace.Trace.{Trace}
 use Rattle.sched_record.specs.Said.{LineSays}
 
 -- No line of these is bad, and these are their events: each line, numbered from 1, says an event or nothing, the
@@ -55,13 +52,3 @@ LinesAnswer lines (Err fault) = IsFirstBadTraceLine lines fault.0 fault.1
 -- a trace means what its lines mean
 abbrev pub TraceAnswer : List ℕ → Result (List Entry) (ℕ × TraceCause) → Type 0
 TraceAnswer text = LinesAnswer (lines_of text)
-
--- the events of a trace that was read
-abbrev pub trace_view : Trace → List Entry
-trace_view trace = trace.events
-
--- what a reading says of the trace meets the fact; want of memory says nothing of it
-abbrev pub Tells : Result Trace TraceFault → (Result (List Entry) (ℕ × TraceCause) → Type 0) → Type 0
-Tells (Ok trace) Fact = Fact (Ok (trace_view trace))
-Tells (Err (Text line cause)) Fact = Fact (Err (line, cause))
-Tells (Err Memory) Fact = Unit {0}

@@ -1,6 +1,7 @@
 ghost use Rattle.std.specs.Prelude.{◌≡◌, ◌==◌, ℕ, ◌<◌, ◌≤◌, length, pos, IfOk, slice_index_or};
 ghost use Rattle.cfs_model.specs.Claimed.{claim_at, nice_at};
-ghost use Rattle.replay_model.specs.Cut.{claim_for, deed_at as deed_here, nice_for, step_at as step_here, tasks_at};
+ghost use Rattle.replay_model.specs.StepAt.{claim_for, deed_at as deed_here, nice_for, step_at as step_here};
+ghost use Rattle.replay_model.specs.Cut.{tasks_at};
 
 use crate::lists::Steps;
 use crate::on_line::{item_on, place_from, place_near};
@@ -19,7 +20,7 @@ impl Record {
     ghost use Rattle.cfs_model.specs.declared.act.Entry.{Entry};
     ghost use Rattle.replay_model.specs.Cut.{steps_at};
     ghost use Rattle.sched_record.specs.Beside.{IsClaimPlace, IsNicePlace};
-    ghost use Rattle.sched_record.specs.Kept.{policy_of};
+    ghost use Rattle.sched_record.specs.RecordView.{policy_of};
     ghost use Rattle.sched_record.specs.Record.{record_view};
     ghost use Rattle.sched_record.specs.Stream.{cut_of, stream_view};
 

@@ -1,7 +1,8 @@
 ghost use Rattle.std.specs.Prelude.{◌≡◌, All};
 ghost use Rattle.cfs_model.specs.Limits.{no_line};
-ghost use Rattle.companion_file.specs.Companion.{companion_view};
-ghost use Rattle.sched_record.specs.Kept.{AreInOrder, NamesBirth};
+ghost use Rattle.companion_file.specs.Seen.{companion_view};
+ghost use Rattle.sched_record.specs.Kept.{AreInOrder};
+ghost use Rattle.sched_record.specs.Join.{NamesBirth};
 ghost use Rattle.sched_record.specs.Policies.{EndsAtBirth, EndsLast};
 
 use crate::policies::span_before;

@@ -2,13 +2,16 @@ ghost use Rattle.std.specs.Prelude.{◌≡◌, ◌↔◌, ℕ, ◌<◌, ◌≤�
 ghost use Rattle.std.specs.Bool.{OnFalse, OnTrue};
 ghost use Rattle.std.specs.List.{AllPairs};
 ghost use Rattle.cfs_model.specs.Touch.{touched};
-ghost use Rattle.companion_file.specs.Companion.{companion_view};
-ghost use Rattle.companion_file.specs.Reading.{IdleRises};
+ghost use Rattle.companion_file.specs.Seen.{companion_view};
+ghost use Rattle.companion_file.specs.Order.{IdleRises};
 ghost use Rattle.sched_record.specs.Join.{BeginsInTime, GoTogether, HasStrayIdle, IsBeforeStart, IsFirstOutside};
-ghost use Rattle.sched_record.specs.Join.{IsFirstStray, IsLeastOf, Refuses, is_birth_there, lesser_of};
-ghost use Rattle.sched_record.specs.Kept.{AreInOrder, IsInside, NamesBirth, is_birth_of, is_event_line};
+ghost use Rattle.sched_record.specs.Join.{IsFirstStray, IsLeastOf, Refuses, IsInside, NamesBirth, is_birth_of};
+ghost use Rattle.sched_record.specs.Join.{is_event_line};
+ghost use Rattle.sched_record.specs.Beside.{is_birth_there};
+ghost use Rattle.sched_record.specs.Lesser.{lesser_of};
+ghost use Rattle.sched_record.specs.Kept.{AreInOrder};
 ghost use Rattle.sched_record.specs.Record.{RecordAnswer, RecordView, join_answer_view};
-ghost use Rattle.sched_record.specs.Trace.{trace_view};
+ghost use Rattle.sched_record.specs.Seen.{trace_view};
 
 use crate::on_line::{OnLine, place_from};
 use crate::record::Record;

@@ -2,7 +2,8 @@ ghost use Rattle.std.specs.Prelude.{◌≡◌, ℕ, IsErrOf, List, Result};
 ghost use Rattle.cfs_model.specs.declared.act.Entry.{Entry};
 ghost use Rattle.text_parts.specs.Lines.{lines_of};
 ghost use Rattle.sched_record.specs.declared.cause.TraceCause.{TraceCause};
-ghost use Rattle.sched_record.specs.Trace.{IsFirstBadTraceLine, TraceAnswer, Tells};
+ghost use Rattle.sched_record.specs.Trace.{IsFirstBadTraceLine, TraceAnswer};
+ghost use Rattle.sched_record.specs.Seen.{Tells};
 
 use crate::cause::TraceFault;
 use crate::laws::one_trace_answer;

@@ -4,7 +4,8 @@ ghost use Rattle.cfs_model.specs.declared.act.Entry.{Entry};
 ghost use Rattle.text_parts.specs.Lines.{lines_of};
 ghost use Rattle.sched_record.specs.declared.cause.TraceCause.{TraceCause};
 ghost use Rattle.sched_record.specs.Reader.{HasRead};
-ghost use Rattle.sched_record.specs.Trace.{IsFirstBadTraceLine, TraceAnswer, Tells};
+ghost use Rattle.sched_record.specs.Trace.{IsFirstBadTraceLine, TraceAnswer};
+ghost use Rattle.sched_record.specs.Seen.{Tells};
 
 use crate::cause::TraceFault;
 use crate::laws::one_trace_answer;

@@ -1,5 +1,5 @@
 ghost use Rattle.std.specs.Prelude.{◌≡◌, All};
-ghost use Rattle.companion_file.specs.Companion.{companion_view};
+ghost use Rattle.companion_file.specs.Seen.{companion_view};
 ghost use Rattle.sched_record.specs.Join.{joined_record};
 ghost use Rattle.sched_record.specs.Kept.{IsRecordInOrder};
 ghost use Rattle.sched_record.specs.Policies.{EndsAtBirth};
@@ -22,7 +22,7 @@ pub struct Record {
 impl Record {
     ghost use Rattle.sched_record.specs.Join.{GoTogether};
     ghost use Rattle.sched_record.specs.Record.{record_view, record_last_time, record_last_line};
-    ghost use Rattle.sched_record.specs.Trace.{trace_view};
+    ghost use Rattle.sched_record.specs.Seen.{trace_view};
 
     pub(crate) fn new(trace: Trace, companion: Companion) -> Record
         requires { GoTogether (trace_view trace) (companion_view companion) }

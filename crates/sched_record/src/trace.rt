@@ -23,7 +23,7 @@ pub struct Trace {
 }
 
 impl Trace {
-    ghost use Rattle.sched_record.specs.Trace.{trace_view};
+    ghost use Rattle.sched_record.specs.Seen.{trace_view};
 
     /// A trace of these events, which stand at these places.
     pub(crate) fn new(events: Events, places: Places) -> Trace

@@ -42,7 +42,8 @@ impl TraceReader {
     ghost use Rattle.ftrace_line.specs.Front.{IsSettled};
     ghost use Rattle.sched_record.specs.declared.trace_reader.TraceReader.{TraceReader as Reader};
     ghost use Rattle.sched_record.specs.Reader.{HasRead, HasReadFront, TakesOn};
-    ghost use Rattle.sched_record.specs.Trace.{LinesAnswer, Tells};
+    ghost use Rattle.sched_record.specs.Trace.{LinesAnswer};
+    ghost use Rattle.sched_record.specs.Seen.{Tells};
 
     /// A reader of no line yet; it takes no memory.
     pub fn new(alloc: Global) -> TraceReader

@@ -5,7 +5,7 @@ use Rattle.std.specs.List.{AllByRecursion}
 use Rattle.std.proofs.lemmas.Bool.{ne_eqb}
 use Rattle.cfs_model.specs.Claimed.{Claimed}
 use Rattle.cfs_model.specs.Order.{PidsRise, IsStart}
-use Rattle.replay_model.specs.Part.{start_part}
+use Rattle.replay_model.specs.PartWords.{start_part}
 use Rattle.replay_model.specs.Cut.{tasks_at, cut}
 use Rattle.replay_model.specs.Noted.{new_tally}
 use Rattle.replay_model.specs.Page.{ReplayStateView, IsStartOf}

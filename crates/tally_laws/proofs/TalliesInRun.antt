@@ -9,7 +9,8 @@ use Rattle.cfs_model.specs.Run.{AreSteps}
 use Rattle.cfs_model.specs.Order.{IsInOrder}
 use Rattle.replay_model.specs.Part.{Part, Entity, charged_in, part_of, IsLiftedPart}
 use Rattle.replay_model.specs.Found.{IsFound}
-use Rattle.replay_model.specs.Cut.{touches, deed_at, step_at, steps_at}
+use Rattle.replay_model.specs.Cut.{touches, steps_at}
+use Rattle.replay_model.specs.StepAt.{deed_at, step_at}
 use Rattle.replay_model.specs.Noted.{charged_tallies, tallied}
 use Rattle.replay_model.specs.Page.{ReplayStateView, PassesStep, IsReplay}
 use Rattle.replay_model.specs.Summary.{picks, ran_at, charged_at}

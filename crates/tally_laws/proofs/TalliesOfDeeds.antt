@@ -6,8 +6,8 @@ use Rattle.std.proofs.lemmas.Bool.{eq-eqb, ne_eqb}
 use Rattle.cfs_model.specs.Machine.{put}
 use Rattle.replay_model.specs.Part.{Part, Entity, IsIn}
 use Rattle.replay_model.specs.ClaimTests.{IsNextNotWaiting}
-use Rattle.replay_model.specs.Deeds.{with_entity, goes, part_after_prev, part_after_next, woken, place_of_sort}
-use Rattle.replay_model.specs.Deeds.{after_deed}
+use Rattle.replay_model.specs.Deeds.{with_entity, goes, part_after_prev, place_of_sort}
+use Rattle.replay_model.specs.AfterDeed.{part_after_next, woken, after_deed}
 use Rattle.replay_model.specs.Noted.{with_tally, tallied}
 use Rattle.cfs_model.proofs.Moves.{put-same, put-other, same_or_not}
 use Rattle.replay_model.proofs.PartFacts.{task_in}

@@ -12,7 +12,8 @@ use Rattle.cfs_model.specs.Claimed.{Claimed}
 use Rattle.cfs_model.specs.Step.{Changes, IsStep}
 use Rattle.cfs_model.specs.Run.{AreSteps}
 use Rattle.cfs_model.specs.Order.{IsInOrder}
-use Rattle.replay_model.specs.Cut.{touches, deed_at, step_at, steps_at, tasks_at}
+use Rattle.replay_model.specs.Cut.{touches, steps_at, tasks_at}
+use Rattle.replay_model.specs.StepAt.{deed_at, step_at}
 use Rattle.replay_model.specs.Roll.{named, roll_after}
 use Rattle.replay_model.specs.Noted.{PageView, tallied, with_tally, new_tally}
 use Rattle.replay_model.specs.Summary.{born_by, born_in, tasks_of_run}

@@ -3,7 +3,7 @@ use Rattle.std.proofs.Common.{◌≡◌, ℕ, ◌+◌, ◌<◌, true, false, Opt
 use Rattle.std.proofs.Common.{◌∙◌, subst, below_more, arith}
 use Rattle.std.proofs.lemmas.Bool.{ltb-false, le-ltb}
 use Rattle.queue_replay.specs.Replay.{ReplayView}
-use Rattle.sched_record.specs.Join.{lesser_of}
+use Rattle.sched_record.specs.Lesser.{lesser_of}
 use Rattle.ticket_book.specs.Told.{view_at}
 use Rattle.ticket_book.specs.Idling.{IsFrom, IsFirstLate, NoneFirst, NoneLate, deadline_on, is_past}
 use Rattle.ticket_book.proofs.Views.{view_here}

@@ -5,7 +5,7 @@ use Rattle.std.proofs.lemmas.Bool.Decides.{Decides-and, Decides-at, Decides-eqb,
 use Rattle.cfs_model.specs.declared.task.Task.{Task}
 use Rattle.replay_model.specs.Cut.{StreamView, last_line_after, last_time_of, tasks_at}
 use Rattle.replay_model.specs.declared.step.Step.{Step}
-use Rattle.sched_record.specs.Kept.{policy_of}
+use Rattle.sched_record.specs.RecordView.{policy_of}
 use Rattle.sched_record.specs.Record.{RecordView, record_last_line, record_last_time}
 use Rattle.sched_record.specs.Stream.{cut_of}
 use Rattle.sched_record.proofs.Shares.{same_last_line, same_last_time}

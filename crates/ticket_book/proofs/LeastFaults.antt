@@ -6,7 +6,7 @@ use Rattle.std.proofs.lemmas.Option.{same_Some}
 use Rattle.cfs_model.specs.Settings.{Settings}
 use Rattle.replay_model.specs.declared.page.StepFault.{StepFault}
 use Rattle.queue_replay.specs.Replay.{ReplayView}
-use Rattle.sched_record.specs.Join.{lesser_of}
+use Rattle.sched_record.specs.Lesser.{lesser_of}
 use Rattle.sched_record.specs.Record.{RecordView}
 use Rattle.ticket_book.specs.Book.{page_at}
 use Rattle.ticket_book.specs.Relying.{IsLeastFaultLine}

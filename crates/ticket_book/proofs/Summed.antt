@@ -8,7 +8,7 @@ use Rattle.replay_model.specs.Noted.{new_tally}
 use Rattle.replay_model.specs.Summary.{SummaryView, is_birth, is_death, is_migration, is_switch, tasks_of_run}
 use Rattle.tally_laws.specs.Totals.{summary_by}
 use Rattle.replay_model.specs.declared.page.Tally.{Tally}
-use Rattle.sched_record.specs.Kept.{policy_of}
+use Rattle.sched_record.specs.RecordView.{policy_of}
 use Rattle.sched_record.specs.Record.{RecordView}
 use Rattle.ticket_book.specs.EventCounts.{counts_of}
 use Rattle.ticket_book.specs.Naming.{births_in, with_named}

@@ -23,7 +23,7 @@ use Rattle.tally_laws.specs.Totals.{summary_by, tallies_below, total_of}
 use Rattle.replay_model.proofs.RecordFrom.{record_from}
 use Rattle.replay_model.proofs.StartFrom.{start_from}
 use Rattle.queue_replay.specs.Replay.{ReplayView}
-use Rattle.sched_record.specs.Kept.{policy_of}
+use Rattle.sched_record.specs.RecordView.{policy_of}
 use Rattle.sched_record.proofs.Shares.{share_of_record}
 use Rattle.sched_record.specs.Record.{RecordView, IsRecordInOrder, record_last_line, record_last_time}
 use Rattle.sched_record.specs.Stream.{cut_of}

@@ -1,5 +1,5 @@
 ghost use Rattle.std.specs.Prelude.{◌≡◌};
-ghost use Rattle.sched_record.specs.Join.{lesser_of};
+ghost use Rattle.sched_record.specs.Lesser.{lesser_of};
 
 /// The lesser of two numbers, where there are any.
 pub(crate) fn lesser(one: Option<u64>, other: Option<u64>) -> Option<u64>

@@ -11,9 +11,10 @@ use Rattle.cfs_model.specs.Step.{Changes, IsMigration, IsStep}
 use Rattle.cfs_model.specs.Order.{IsInOrder}
 use Rattle.replay_model.specs.Record.{ClaimInRange}
 use Rattle.replay_model.specs.Part.{Part, part_of, IsLiftedPart}
-use Rattle.replay_model.specs.Deeds.{reniced, after_deed, left_ticket, came_ticket}
+use Rattle.replay_model.specs.Deeds.{reniced, left_ticket, came_ticket}
+use Rattle.replay_model.specs.AfterDeed.{after_deed}
 use Rattle.replay_model.specs.QueueTests.{IsOutOfRange, IsStrangeNice}
-use Rattle.replay_model.specs.Cut.{deed_at, claim_for, nice_for, step_at}
+use Rattle.replay_model.specs.StepAt.{deed_at, claim_for, nice_for, step_at}
 use Rattle.part_laws.specs.TouchedParts.{MovesBetween, RestStays}
 use Rattle.part_laws.specs.Migrations.{PartsMigrate, MachineMigrates}
 use Rattle.cfs_model.proofs.KeptOrder.{IsApart, lifted_apart}

@@ -7,7 +7,8 @@ use Rattle.cfs_model.specs.Machine.{Machine, Stands, put_pair, pairs_of, with_mo
 use Rattle.cfs_model.specs.Claimed.{ClaimSays}
 use Rattle.cfs_model.specs.Step.{MovesBy, IsMigration}
 use Rattle.replay_model.specs.Part.{Part, Entity, part_of, entity_at}
-use Rattle.replay_model.specs.Deeds.{after_deed, with_entity, place_of_sort, left_ticket, came_ticket}
+use Rattle.replay_model.specs.AfterDeed.{after_deed}
+use Rattle.replay_model.specs.Deeds.{with_entity, place_of_sort, left_ticket, came_ticket}
 use Rattle.replay_model.specs.ClaimTests.{IsClaimMissing, IsClaimExtra, IsClaimPid}
 use Rattle.cfs_model.proofs.FloorsRise.{floor-with_pairs}
 use Rattle.cfs_model.proofs.KeptOrder.{IsApart, same_sets}

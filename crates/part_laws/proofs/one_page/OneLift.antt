@@ -6,7 +6,8 @@ use Rattle.std.specs.Int.{int_max}
 use Rattle.cfs_model.specs.Settings.{Settings}
 use Rattle.replay_model.specs.Part.{Part, charged_part, IsLeastHere, IsRaisedHere, IsLiftedPart}
 use Rattle.replay_model.specs.Found.{IsFound}
-use Rattle.replay_model.specs.Deeds.{reniced, after_deed}
+use Rattle.replay_model.specs.Deeds.{reniced}
+use Rattle.replay_model.specs.AfterDeed.{after_deed}
 use Rattle.replay_model.specs.QueueTests.{IsIdleTooLong}
 use Rattle.replay_model.specs.Tests.{Test, NoneHolds, FirstHolds, early_tests, late_tests}
 use Rattle.replay_model.specs.Page.{ReplayStateView, IsSince, PassesStep, FailsTest, FailsStep}

@@ -2,13 +2,13 @@
 use Rattle.std.proofs.Common.{◌≡◌, ℕ, nat_le, cond, Option, Some, None, inl, inr, List, [], ◌∷◌, length, take, sym, ap}
 use Rattle.std.proofs.Common.{◌∙◌, subst}
 use Rattle.cfs_model.specs.Settings.{Settings}
-use Rattle.replay_model.specs.Deeds.{after_deed}
+use Rattle.replay_model.specs.AfterDeed.{after_deed}
 use Rattle.replay_model.specs.Tests.{FirstHolds, early_tests, late_tests}
 use Rattle.replay_model.specs.Cut.{StreamView}
 use Rattle.replay_model.specs.Noted.{noted}
 use Rattle.replay_model.specs.Page.{ReplayStateView, IsSince, PassesStep, FailsTest, FailsStep, deadline_of, with_fault}
 use Rattle.replay_model.specs.Page.{IsReplayStep, IsReplay, IsStartOf, end_page}
-use Rattle.replay_model.specs.Part.{OneRunsIn}
+use Rattle.replay_model.specs.PartWords.{OneRunsIn}
 use Rattle.part_laws.specs.TouchedParts.{PartStep}
 use Rattle.part_laws.specs.Pages.{OnePage}
 use Rattle.replay_model.proofs.Clear.{clear_of}

@@ -2,7 +2,8 @@
 use Rattle.std.proofs.Common.{◌≡◌, ℕ, zero, suc, Option, Some, None, option_map, inl, inr, List, [], ◌∷◌, sym, ap, ◌∙◌}
 use Rattle.std.specs.Bool.{⊤}
 use Rattle.cfs_model.specs.Settings.{Settings}
-use Rattle.replay_model.specs.Part.{Part, Entity, IsIn, OneRunsIn}
+use Rattle.replay_model.specs.Part.{Part, Entity, IsIn}
+use Rattle.replay_model.specs.PartWords.{OneRunsIn}
 use Rattle.replay_model.specs.QueueTests.{IsIdleTooLong, IsOutOfRange, IsStrangeNice, IsMoveHome, IsSelfSwitch}
 use Rattle.replay_model.specs.QueueTests.{IsPrevNotRunning, IsStrange, IsAlready, IsMoveRunning, IsWrongPrio}
 use Rattle.replay_model.specs.ClaimTests.{claimant, IsClaimMissing, IsClaimExtra, IsClaimPid, IsWrongPutBack}

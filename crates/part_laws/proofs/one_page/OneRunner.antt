@@ -2,10 +2,11 @@
 use Rattle.std.proofs.Common.{◌≡◌, ◌≢◌, ℕ, zero, suc, Bool, Option, Some, None, option_map, ℤ, ◌⊎◌, inl, inr, refl, sym}
 use Rattle.std.proofs.Common.{ap, ◌∙◌, subst}
 use Rattle.cfs_model.specs.Settings.{Settings}
-use Rattle.replay_model.specs.Part.{Part, Entity, place_in, IsIn, NobodyIn, charged_in, IsLiftedPart, OneRunsIn}
+use Rattle.replay_model.specs.Part.{Part, Entity, place_in, IsIn, NobodyIn, charged_in, IsLiftedPart}
+use Rattle.replay_model.specs.PartWords.{OneRunsIn}
 use Rattle.replay_model.specs.Found.{IsFound}
-use Rattle.replay_model.specs.Deeds.{with_entity, goes, part_after_prev, part_after_next, woken, place_of_sort}
-use Rattle.replay_model.specs.Deeds.{after_deed}
+use Rattle.replay_model.specs.Deeds.{with_entity, goes, part_after_prev, place_of_sort}
+use Rattle.replay_model.specs.AfterDeed.{part_after_next, woken, after_deed}
 use Rattle.replay_model.specs.QueueTests.{IsRunner}
 use Rattle.cfs_model.proofs.Moves.{put-same, put-other, same_or_not}
 use Rattle.replay_model.proofs.Clear.{IsClear, place_or}

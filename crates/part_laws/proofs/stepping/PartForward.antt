@@ -7,9 +7,10 @@ use Rattle.cfs_model.specs.Lifted.{charged, IsLiftedAt, IsLifted}
 use Rattle.cfs_model.specs.Reniced.{IsReniced}
 use Rattle.cfs_model.specs.Step.{Changes}
 use Rattle.replay_model.specs.Part.{part_of}
-use Rattle.replay_model.specs.Deeds.{reniced, after_deed}
+use Rattle.replay_model.specs.Deeds.{reniced}
+use Rattle.replay_model.specs.AfterDeed.{after_deed}
 use Rattle.replay_model.specs.QueueTests.{IsStrangeNice}
-use Rattle.replay_model.specs.Cut.{deed_at, claim_for, step_at}
+use Rattle.replay_model.specs.StepAt.{deed_at, claim_for, step_at}
 use Rattle.part_laws.specs.TouchedParts.{BornNowhere, OthersStay}
 use Rattle.part_laws.specs.PartSteps.{PartSteps}
 use Rattle.cfs_model.proofs.KeptOrder.{IsApart, lifted_apart}

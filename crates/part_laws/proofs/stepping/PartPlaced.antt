@@ -9,7 +9,8 @@ use Rattle.cfs_model.specs.Machine.{Machine, Stands, with_move, with_runtime, wi
 use Rattle.cfs_model.specs.Claimed.{ClaimSays}
 use Rattle.cfs_model.specs.Step.{IsWakeQueued, IsWakeResting, IsBirth}
 use Rattle.replay_model.specs.Part.{Part, Entity, part_of, entity_at, place_in}
-use Rattle.replay_model.specs.Deeds.{after_deed, with_entity, woken, wakes}
+use Rattle.replay_model.specs.AfterDeed.{after_deed, woken, wakes}
+use Rattle.replay_model.specs.Deeds.{with_entity}
 use Rattle.replay_model.specs.ClaimTests.{if_resting}
 use Rattle.cfs_model.proofs.KeptOrder.{IsApart, same_sets}
 use Rattle.cfs_model.proofs.Moves.{put-same, put-other, same_or_not, move_placed, join_placed}

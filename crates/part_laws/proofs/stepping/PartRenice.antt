@@ -8,7 +8,7 @@ use Rattle.cfs_model.specs.Reniced.{home_of, IsReniced}
 use Rattle.replay_model.specs.Part.{Part, Entity, place_by, entity_by, entity_at, part_of, place_in}
 use Rattle.replay_model.specs.Deeds.{reniced}
 use Rattle.replay_model.specs.QueueTests.{IsStrangeNice}
-use Rattle.replay_model.specs.Cut.{deed_at, nice_for}
+use Rattle.replay_model.specs.StepAt.{deed_at, nice_for}
 use Rattle.cfs_model.proofs.KeptOrder.{IsApart}
 use Rattle.cfs_model.proofs.Moves.{put-same, put-other, same_or_not}
 use Rattle.cfs_model.proofs.Renice.{reniced_is}

@@ -6,7 +6,8 @@ use Rattle.cfs_model.specs.Settings.{Settings}
 use Rattle.cfs_model.specs.Machine.{Machine, Stands, with_move, without_task, without_values}
 use Rattle.cfs_model.specs.Step.{IsCurrent, PrintsOwn, IsPutBack, after_prev, IsPick, after_next, IsSwitch}
 use Rattle.replay_model.specs.Part.{Part, part_of, entity_at, place_in, IsIn}
-use Rattle.replay_model.specs.Deeds.{part_after_prev, part_after_next, after_deed}
+use Rattle.replay_model.specs.Deeds.{part_after_prev}
+use Rattle.replay_model.specs.AfterDeed.{part_after_next, after_deed}
 use Rattle.replay_model.specs.QueueTests.{IsRunner, HasOtherNice, HasOtherPrio}
 use Rattle.cfs_model.proofs.KeptOrder.{IsApart, same_sets}
 use Rattle.cfs_model.proofs.Moves.{put-other, same_or_not, move_placed, leave_gone}

@@ -9,7 +9,8 @@ use Rattle.cfs_model.specs.Step.{IsStep}
 use Rattle.cfs_model.specs.Idle.{IdlesFrom, KeepsSlack}
 use Rattle.cfs_model.specs.Run.{AreSteps, times_of}
 use Rattle.replay_model.specs.QueueTests.{IsIdleTooLong}
-use Rattle.replay_model.specs.Cut.{step_at, steps_at, last_time_of}
+use Rattle.replay_model.specs.StepAt.{step_at}
+use Rattle.replay_model.specs.Cut.{steps_at, last_time_of}
 use Rattle.replay_model.specs.Record.{ClaimInRange, TimesRise, LinesRise}
 use Rattle.replay_model.specs.Page.{ReplayStateView, IsReplay}
 use Rattle.replay_model.specs.Roll.{roll_after, BirthsAreNew}

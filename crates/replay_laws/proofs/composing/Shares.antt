@@ -8,9 +8,10 @@ use Rattle.std.specs.List.{AllByRecursion, list_any}
 use Rattle.cfs_model.specs.Settings.{Settings}
 use Rattle.cfs_model.specs.Claimed.{Claimed}
 use Rattle.cfs_model.specs.Touch.{touched}
-use Rattle.replay_model.specs.Part.{IsIdlePart, start_part}
+use Rattle.replay_model.specs.PartWords.{IsIdlePart, start_part}
 use Rattle.replay_model.specs.QueueTests.{IsIdleTooLong}
-use Rattle.replay_model.specs.Cut.{StreamView, touches, step_at, steps_at, last_time_of, tasks_at, cut}
+use Rattle.replay_model.specs.Cut.{StreamView, touches, steps_at, last_time_of, tasks_at, cut}
+use Rattle.replay_model.specs.StepAt.{step_at}
 use Rattle.replay_model.specs.Noted.{PageView}
 use Rattle.replay_model.specs.Page.{ReplayStateView, IsReplay, IsStartOf, start_page, end_page}
 use Rattle.replay_model.specs.Record.{IsRecord}

@@ -5,7 +5,8 @@ use Rattle.cfs_model.specs.Settings.{Settings}
 use Rattle.cfs_model.specs.Claimed.{Claimed}
 use Rattle.replay_model.specs.Part.{Entity}
 use Rattle.replay_model.specs.Deeds.{left_ticket, came_ticket, place_of_sort}
-use Rattle.replay_model.specs.Cut.{deed_at, claim_for, step_at, steps_at}
+use Rattle.replay_model.specs.StepAt.{deed_at, claim_for, step_at}
+use Rattle.replay_model.specs.Cut.{steps_at}
 use Rattle.replay_model.specs.Noted.{left_by, came_by}
 use Rattle.replay_model.specs.Page.{ReplayStateView, PassesStep, IsReplay}
 use Rattle.replay_model.specs.Record.{LinesRise}

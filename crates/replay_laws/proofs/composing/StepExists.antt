@@ -11,7 +11,8 @@ use Rattle.cfs_model.specs.Touch.{touched}
 use Rattle.cfs_model.specs.Step.{IsStep}
 use Rattle.replay_model.specs.Part.{part_of}
 use Rattle.replay_model.specs.Tests.{PassesTests}
-use Rattle.replay_model.specs.Cut.{touches, step_at, steps_at}
+use Rattle.replay_model.specs.Cut.{touches, steps_at}
+use Rattle.replay_model.specs.StepAt.{step_at}
 use Rattle.replay_model.specs.Record.{ClaimInRange, LinesRise}
 use Rattle.replay_model.specs.Page.{ReplayStateView, PassesStep, IsReplay}
 use Rattle.replay_model.specs.Roll.{BirthIsNew}

@@ -10,7 +10,7 @@ use Rattle.cfs_model.specs.Run.{AreSteps, times_of, IsRun, last_of}
 use Rattle.cfs_model.specs.Order.{IsInOrder}
 use Rattle.replay_model.specs.Found.{IsFound}
 use Rattle.replay_model.specs.Deeds.{left_ticket, came_ticket}
-use Rattle.replay_model.specs.Cut.{step_at}
+use Rattle.replay_model.specs.StepAt.{step_at}
 use Rattle.replay_model.specs.Roll.{roll_after, roll_of}
 use Rattle.part_laws.specs.TouchedParts.{BornNowhere}
 use Rattle.replay_laws.specs.Endings.{IdlingEndsRun, BirthEndsRun, TicketsEndRun}

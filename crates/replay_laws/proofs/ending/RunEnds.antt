@@ -11,7 +11,7 @@ use Rattle.cfs_model.specs.Idle.{IsIdle, KeepsSlack}
 use Rattle.cfs_model.specs.Run.{AreSteps, times_of, IsRun, last_of}
 use Rattle.replay_model.specs.Part.{part_of}
 use Rattle.replay_model.specs.QueueTests.{IsIdleTooLong}
-use Rattle.replay_model.specs.Cut.{step_at}
+use Rattle.replay_model.specs.StepAt.{step_at}
 use Rattle.replay_model.specs.Cause.{SlackFails}
 use Rattle.part_laws.specs.TouchedParts.{PartStep}
 use Rattle.replay_laws.specs.FaultsEndRuns.{FaultEndsRun}

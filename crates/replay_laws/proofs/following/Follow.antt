@@ -7,9 +7,11 @@ use Rattle.cfs_model.specs.Claimed.{Claimed}
 use Rattle.cfs_model.specs.Step.{IsStep}
 use Rattle.cfs_model.specs.Idle.{IsIdle}
 use Rattle.cfs_model.specs.Order.{IsInOrder}
-use Rattle.replay_model.specs.Part.{Part, part_of, IsIdlePart}
+use Rattle.replay_model.specs.Part.{Part, part_of}
+use Rattle.replay_model.specs.PartWords.{IsIdlePart}
 use Rattle.replay_model.specs.QueueTests.{IsIdleTooLong}
-use Rattle.replay_model.specs.Cut.{touches, step_at, steps_at}
+use Rattle.replay_model.specs.Cut.{touches, steps_at}
+use Rattle.replay_model.specs.StepAt.{step_at}
 use Rattle.replay_model.specs.Noted.{noted}
 use Rattle.replay_model.specs.Page.{ReplayStateView, IsSince, PassesStep, FailsStep, IsReplayStep, IsReplay}
 use Rattle.part_laws.specs.TouchedParts.{PartStep}

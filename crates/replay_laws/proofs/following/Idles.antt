@@ -2,7 +2,8 @@
 use Rattle.std.proofs.Common.{ℕ}
 use Rattle.cfs_model.specs.Machine.{Machine}
 use Rattle.cfs_model.specs.Idle.{IsIdle}
-use Rattle.replay_model.specs.Part.{part_of, IsIdlePart}
+use Rattle.replay_model.specs.Part.{part_of}
+use Rattle.replay_model.specs.PartWords.{IsIdlePart}
 use Rattle.cfs_model.proofs.KeptOrder.{IsApart}
 use Rattle.replay_model.proofs.PartFacts.{is_in, stands_at}
 use Rattle.cfs_model.specs.declared.task.Place.TheVariants.{Run, Wait}

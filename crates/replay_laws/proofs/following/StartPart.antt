@@ -8,7 +8,8 @@ use Rattle.std.specs.Option.{option_map_or}
 use Rattle.cfs_model.specs.Machine.{Stands}
 use Rattle.cfs_model.specs.Start.{named_in, task_of, start_machine}
 use Rattle.cfs_model.specs.Order.{PidsRise, IsStart}
-use Rattle.replay_model.specs.Part.{Entity, entity_at, part_of, start_part}
+use Rattle.replay_model.specs.Part.{Entity, entity_at, part_of}
+use Rattle.replay_model.specs.PartWords.{start_part}
 use Rattle.replay_model.specs.Cut.{tasks_at}
 use Rattle.cfs_model.proofs.StartOrder.{named_task, task_named, start_in_order}
 use Rattle.cfs_model.proofs.StepOrder.{apart_of}

@@ -12,7 +12,8 @@ use Rattle.cfs_model.specs.Idle.{KeepsSlack}
 use Rattle.cfs_model.specs.Run.{AreSteps, times_of, IsRun}
 use Rattle.cfs_model.specs.Least.{AtMost, larger}
 use Rattle.replay_model.specs.Part.{part_of}
-use Rattle.replay_model.specs.Cut.{touches, step_at, steps_at, last_time_of, cut}
+use Rattle.replay_model.specs.Cut.{touches, steps_at, last_time_of, cut}
+use Rattle.replay_model.specs.StepAt.{step_at}
 use Rattle.replay_model.specs.Noted.{PageView}
 use Rattle.replay_model.specs.Page.{ReplayStateView, IsReplayStep, IsReplay}
 use Rattle.replay_model.specs.Record.{TimesRise, IsRecord}

@@ -7,9 +7,10 @@ use Rattle.cfs_model.specs.Machine.{Machine}
 use Rattle.cfs_model.specs.Claimed.{Claimed}
 use Rattle.cfs_model.specs.Order.{IsInOrder}
 use Rattle.cfs_model.specs.Run.{times_of, last_of}
-use Rattle.replay_model.specs.Part.{Part, part_of, OneRunsIn}
+use Rattle.replay_model.specs.Part.{Part, part_of}
+use Rattle.replay_model.specs.PartWords.{OneRunsIn}
 use Rattle.replay_model.specs.Tests.{FirstHolds, late_tests, PassesTests}
-use Rattle.replay_model.specs.Cut.{step_at}
+use Rattle.replay_model.specs.StepAt.{step_at}
 use Rattle.replay_model.specs.Cause.{SlackFails, FaultCause, FailsOn, FailsAt, PassesAt, IsActCause, IsIdlingCause}
 use Rattle.replay_model.specs.Cause.{IsCause}
 use Rattle.cfs_model.proofs.OneNext.{one_list}

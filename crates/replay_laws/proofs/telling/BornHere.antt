@@ -7,7 +7,7 @@ use Rattle.cfs_model.specs.Order.{IsInOrder}
 use Rattle.replay_model.specs.Part.{Part, part_of, charged_in}
 use Rattle.replay_model.specs.QueueTests.{IsAlready}
 use Rattle.replay_model.specs.Tests.{PassesTests}
-use Rattle.replay_model.specs.Cut.{deed_at, step_at}
+use Rattle.replay_model.specs.StepAt.{deed_at, step_at}
 use Rattle.cfs_model.proofs.StepOrder.{apart_of}
 use Rattle.replay_model.proofs.PartFacts.{values_of}
 use Rattle.replay_model.proofs.Clear.{clear_of}

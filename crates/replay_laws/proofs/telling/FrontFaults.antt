@@ -6,7 +6,8 @@ use Rattle.std.proofs.lemmas.Bool.{cases_lt}
 use Rattle.cfs_model.specs.Limits.{no_line}
 use Rattle.cfs_model.specs.Settings.{Settings}
 use Rattle.cfs_model.specs.Claimed.{Claimed}
-use Rattle.replay_model.specs.Cut.{touches, step_at, steps_at, last_line_after}
+use Rattle.replay_model.specs.Cut.{touches, steps_at, last_line_after}
+use Rattle.replay_model.specs.StepAt.{step_at}
 use Rattle.replay_model.specs.Noted.{PageView}
 use Rattle.replay_model.specs.Page.{ReplayStateView, IsReplay}
 use Rattle.replay_model.specs.Record.{LinesRise, IsRecord}

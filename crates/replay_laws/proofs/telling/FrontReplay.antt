@@ -4,7 +4,8 @@ use Rattle.std.proofs.Common.{◌≡◌, ℕ, Bool, true, false, Option, Some, N
 use Rattle.std.proofs.Common.{sym, ap, ◌∙◌, subst}
 use Rattle.cfs_model.specs.Settings.{Settings}
 use Rattle.cfs_model.specs.Claimed.{Claimed}
-use Rattle.replay_model.specs.Cut.{touches, step_at, steps_at}
+use Rattle.replay_model.specs.Cut.{touches, steps_at}
+use Rattle.replay_model.specs.StepAt.{step_at}
 use Rattle.replay_model.specs.Page.{ReplayStateView, PassesStep, FailsStep, deadline_of, IsReplayStep, IsReplay}
 use Rattle.replay_laws.specs.Telling.{IdlesBefore, FailsHere, ComesAfter}
 use Rattle.replay_model.proofs.Replayed.{stays_faulted}

@@ -6,7 +6,8 @@ use Rattle.std.proofs.Common.{◌∷◌, refl, sym, ap, ◌∙◌, subst, arith}
 use Rattle.cfs_model.specs.Settings.{Settings}
 use Rattle.cfs_model.specs.Claimed.{Claimed}
 use Rattle.replay_model.specs.QueueTests.{IsIdleTooLong}
-use Rattle.replay_model.specs.Cut.{touches, step_at, steps_at, last_time_of}
+use Rattle.replay_model.specs.Cut.{touches, steps_at, last_time_of}
+use Rattle.replay_model.specs.StepAt.{step_at}
 use Rattle.replay_model.specs.Record.{TimesRise}
 use Rattle.replay_model.specs.Page.{ReplayStateView, IsReplay}
 use Rattle.replay_model.proofs.Options.{no_some, same_some}

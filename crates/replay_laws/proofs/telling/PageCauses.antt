@@ -7,7 +7,8 @@ use Rattle.cfs_model.specs.Settings.{Settings}
 use Rattle.cfs_model.specs.Claimed.{Claimed}
 use Rattle.replay_model.specs.Noted.{PageView}
 use Rattle.replay_model.specs.QueueTests.{IsIdleTooLong}
-use Rattle.replay_model.specs.Cut.{touches, step_at, steps_at}
+use Rattle.replay_model.specs.Cut.{touches, steps_at}
+use Rattle.replay_model.specs.StepAt.{step_at}
 use Rattle.replay_model.specs.Page.{ReplayStateView, FailsStep, IsReplay}
 use Rattle.replay_model.specs.Record.{TimesRise, LinesRise}
 use Rattle.replay_model.specs.Cause.{FaultCause, FailsOn}

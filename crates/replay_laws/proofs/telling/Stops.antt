@@ -7,7 +7,8 @@ use Rattle.cfs_model.specs.Limits.{no_line}
 use Rattle.cfs_model.specs.Settings.{Settings}
 use Rattle.cfs_model.specs.Claimed.{Claimed}
 use Rattle.replay_model.specs.QueueTests.{IsIdleTooLong}
-use Rattle.replay_model.specs.Cut.{touches, step_at, steps_at, last_time_of, last_line_after, cut}
+use Rattle.replay_model.specs.Cut.{touches, steps_at, last_time_of, last_line_after, cut}
+use Rattle.replay_model.specs.StepAt.{step_at}
 use Rattle.replay_model.specs.Noted.{PageView}
 use Rattle.replay_model.specs.Page.{ReplayStateView, PassesStep, IsReplayStep, IsReplay, IsPageOf}
 use Rattle.replay_model.specs.Record.{LinesRise, IsRecord}

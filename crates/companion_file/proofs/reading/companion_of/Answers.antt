@@ -1,6 +1,6 @@
 use Rattle.std.proofs.Common.{length, sym, ◌∙◌, arith}
 use Rattle.std.proofs.lemmas.Bool.{eqb-true}
-use Rattle.companion_file.specs.Companion.{companion_view}
+use Rattle.companion_file.specs.Seen.{companion_view}
 use Rattle.companion_file.proofs.Reaching.{some_left, reached_line, reached_order, reached_whole, refused_companion}
 use Rattle.companion_file.proofs.Reaching.{short_answer}
 use Rattle.companion_file.proofs.reading.companion_of.Goals as goal

@@ -1,6 +1,6 @@
 use Rattle.std.proofs.Common.{◌++◌, take, drop, take-append-drop, sym, ap, ◌∙◌}
 use Rattle.text_parts.specs.Lines.{lines_of}
-use Rattle.companion_file.specs.Companion.{companion_view}
+use Rattle.companion_file.specs.Seen.{companion_view}
 use Rattle.companion_file.proofs.GoodLines.{nothing_order}
 use Rattle.companion_file.proofs.Piecewise.{order_on, said_then, read_on}
 use Rattle.companion_file.proofs.reading_wide.good_companion_of.Goals as goal

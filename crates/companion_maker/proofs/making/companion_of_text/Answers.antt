@@ -1,8 +1,8 @@
 use Rattle.std.proofs.Common.{◌≡◌, List, All, Ok, rules, subst, sym}
 use Rattle.cfs_model.specs.declared.act.Entry.{Entry}
 use Rattle.cfs_model.specs.Limits.{most_processors}
-use Rattle.sched_record.specs.Kept.{IsInside}
-use Rattle.sched_record.specs.Trace.{trace_view}
+use Rattle.sched_record.specs.Join.{IsInside}
+use Rattle.sched_record.specs.Seen.{trace_view}
 use Rattle.companion_maker.specs.declared.not_made.NotMade.TheVariants as reasons
 use Rattle.companion_maker.specs.Fitting.{reason_of}
 use Rattle.companion_maker.proofs.Told.{same_events, only_memory}

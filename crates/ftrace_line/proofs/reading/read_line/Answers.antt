@@ -6,7 +6,8 @@ use Rattle.ftrace_line.specs.declared.kinds.Line.{Line}
 use Rattle.ftrace_line.specs.declared.kinds.Line.TheVariants as line_variants
 use Rattle.ftrace_line.specs.declared.fault.LineFault.{LineFault}
 use Rattle.ftrace_line.specs.declared.fault.LineFault.TheVariants.{BadHead, NumberRange}
-use Rattle.ftrace_line.specs.Line.{LineAnswer, IsHeadless, IsHeadOutOfRange, line_answer_view}
+use Rattle.ftrace_line.specs.Line.{LineAnswer, IsHeadless, IsHeadOutOfRange}
+use Rattle.ftrace_line.specs.Seen.{line_answer_view}
 use Rattle.ftrace_line.specs.Meaning.{meaning_of}
 use Rattle.cfs_model.specs.Limits.{nanoseconds_per_second}
 use Rattle.ftrace_line.proofs.OneReading.{answer_only}

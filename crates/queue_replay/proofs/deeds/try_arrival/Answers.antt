@@ -1,5 +1,6 @@
 use Rattle.std.proofs.Common.{◌∙◌, sym, ap, refl, Some}
-use Rattle.replay_model.specs.Deeds.{after_deed, came_ticket, with_entity}
+use Rattle.replay_model.specs.AfterDeed.{after_deed}
+use Rattle.replay_model.specs.Deeds.{came_ticket, with_entity}
 use Rattle.replay_model.specs.Part.{Entity}
 use Rattle.replay_model.specs.declared.step.Deed.TheVariants.{Arrive}
 use Rattle.runqueue.specs.Queue.{runqueue_view}

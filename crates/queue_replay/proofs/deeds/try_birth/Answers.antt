@@ -1,6 +1,7 @@
 use Rattle.std.proofs.Common.{◌≡◌, ◌∙◌, sym, ap, subst, refl, rules, to_z, of_z, w64, Option, Some}
 use Rattle.cfs_model.specs.declared.claim.Claim.{Claim}
-use Rattle.replay_model.specs.Deeds.{after_deed, with_entity}
+use Rattle.replay_model.specs.AfterDeed.{after_deed}
+use Rattle.replay_model.specs.Deeds.{with_entity}
 use Rattle.replay_model.specs.Needs.{IsExcess}
 use Rattle.replay_model.specs.Part.{Entity}
 use Rattle.replay_model.specs.declared.step.Deed.TheVariants.{Born}

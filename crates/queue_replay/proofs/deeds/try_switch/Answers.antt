@@ -1,5 +1,6 @@
 use Rattle.std.proofs.Common.{◌∙◌, sym, ap, refl, Some, None, option_map}
-use Rattle.replay_model.specs.Deeds.{part_after_next, part_after_prev}
+use Rattle.replay_model.specs.AfterDeed.{part_after_next}
+use Rattle.replay_model.specs.Deeds.{part_after_prev}
 use Rattle.replay_model.specs.Part.{Part}
 use Rattle.queue_replay.specs.FirstTest.{IsFirst}
 use Rattle.queue_replay.specs.Rows.{switch_deed, switch_tests}

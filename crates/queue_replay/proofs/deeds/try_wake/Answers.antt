@@ -1,6 +1,6 @@
 use Rattle.std.proofs.Common.{◌≡◌, ◌∙◌, sym, ap, subst, refl, rules, to_z, of_z, w64, Option}
 use Rattle.cfs_model.specs.declared.claim.Claim.{Claim}
-use Rattle.replay_model.specs.Deeds.{after_deed}
+use Rattle.replay_model.specs.AfterDeed.{after_deed}
 use Rattle.replay_model.specs.Needs.{IsExcess}
 use Rattle.replay_model.specs.declared.step.Deed.TheVariants.{Wake}
 use Rattle.queue_replay.specs.Needing.{IsNeed}

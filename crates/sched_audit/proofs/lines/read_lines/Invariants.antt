@@ -4,7 +4,7 @@ use Rattle.std.proofs.Common.{◌≡◌, ◌≤◌, false, ◌++◌, List, ℕ, 
 use Rattle.std.specs.Io.KnownBytes.{Consumes}
 use Rattle.text_parts.specs.Lines.{lines_of, IsWhole}
 use Rattle.sched_record.specs.Reader.{HasRead}
-use Rattle.sched_audit.specs.Run.{IsHeld}
+use Rattle.sched_audit.specs.Held.{IsHeld}
 use Rattle.sched_audit.proofs.lines.read_lines.Given as goal
 
 abbrev pub invariant-loop : goal.invariant-loop

@@ -8,8 +8,9 @@ use Rattle.sched_event.specs.declared.event.Event.TheVariants as events
 use Rattle.sched_event.specs.declared.fault.EventFault.{EventFault}
 use Rattle.sched_event.specs.declared.fault.EventFault.TheVariants.{BadFields, NumberRange, RealTime, PrioRange}
 use Rattle.sched_event.specs.declared.fault.EventFault.TheVariants.{IdleNamed}
-use Rattle.sched_event.specs.Event.{event_view, event_answer_view, EventAnswer, HasNoReading, HasNumberOutOfRange}
-use Rattle.sched_event.specs.Event.{HasRealTimePrio, HasPrioAboveRange, NamesIdle}
+use Rattle.sched_event.specs.Seen.{event_view, event_answer_view}
+use Rattle.sched_event.specs.Event.{EventAnswer, HasNoReading, HasNumberOutOfRange, HasRealTimePrio, HasPrioAboveRange}
+use Rattle.sched_event.specs.Event.{NamesIdle}
 use Rattle.sched_event.specs.Judging.{Judges, answer_at, judged}
 use Rattle.sched_event.specs.Reading.{text_at}
 use Rattle.sched_event.proofs.Answering.{seen_answers, refused}

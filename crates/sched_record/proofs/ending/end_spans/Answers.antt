@@ -1,8 +1,9 @@
 use Rattle.std.proofs.Common.{◌+◌, take, sym, ap, ◌∙◌, subst}
 use Rattle.std.specs.Prelude.{All}
-use Rattle.companion_file.specs.Companion.{CompanionView, companion_view}
+use Rattle.companion_file.specs.Companion.{CompanionView}
+use Rattle.companion_file.specs.Seen.{companion_view}
 use Rattle.companion_file.specs.declared.companion.Companion.{Companion}
-use Rattle.sched_record.specs.Kept.{NamesBirth}
+use Rattle.sched_record.specs.Join.{NamesBirth}
 use Rattle.sched_record.specs.Policies.{EndsAtBirth}
 use Rattle.sched_record.proofs.SpanEnds.{ends_born, ends_other}
 use Rattle.sched_record.proofs.ending.end_spans.Goals as goal

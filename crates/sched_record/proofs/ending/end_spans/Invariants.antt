@@ -1,6 +1,6 @@
 use Rattle.std.proofs.Common.{◌≡◌, take}
 use Rattle.std.specs.Prelude.{All}
-use Rattle.companion_file.specs.Companion.{companion_view}
+use Rattle.companion_file.specs.Seen.{companion_view}
 use Rattle.sched_record.specs.Policies.{EndsAtBirth}
 use Rattle.sched_record.proofs.ending.end_spans.Given as goal
 

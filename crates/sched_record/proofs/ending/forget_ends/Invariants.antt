@@ -1,5 +1,5 @@
 use Rattle.std.proofs.Common.{◌≡◌, ℕ, ◌<◌, length, get_or}
-use Rattle.companion_file.specs.Companion.{companion_view}
+use Rattle.companion_file.specs.Seen.{companion_view}
 use Rattle.companion_file.specs.declared.idle_span.IdleSpan.{IdleSpan}
 use Rattle.sched_record.proofs.ending.forget_ends.Given as goal
 

@@ -1,6 +1,6 @@
 use Rattle.std.proofs.Common.{ℕ, sym, ap, ◌∙◌, subst, IsTrue, arith}
 use Rattle.cfs_model.specs.declared.act.Entry.{Entry}
-use Rattle.sched_record.specs.Kept.{is_event_line}
+use Rattle.sched_record.specs.Join.{is_event_line}
 use Rattle.sched_record.proofs.Walk.{above_here, below_end, below_other, event_line_at, no_event_line, on_events_above}
 use Rattle.sched_record.proofs.Walk.{on_events_more, passed_more}
 use Rattle.sched_record.proofs.joining.first_stray.Goals as goal

@@ -3,7 +3,7 @@ use Rattle.std.proofs.lemmas.Bool.{cases_lt}
 use Rattle.std.proofs.lemmas.List.{get_or_default}
 use Rattle.cfs_model.specs.declared.act.Entry.{Entry}
 use Rattle.cfs_model.specs.declared.idle_line.IdleLine.{IdleLine}
-use Rattle.sched_record.specs.Kept.{NamesBirth}
+use Rattle.sched_record.specs.Join.{NamesBirth}
 use Rattle.sched_record.proofs.Straying.{birth_there, least_stray_idle, no_birth_there, passed_idles}
 use Rattle.sched_record.proofs.Walk.{above_here}
 use Rattle.sched_record.proofs.joining.first_stray_idle.Goals as goal

@@ -1,7 +1,7 @@
 use Rattle.std.proofs.Common.{ℕ, ◌<◌, ◌≤◌, length, get_or}
 use Rattle.cfs_model.specs.declared.act.Entry.{Entry}
 use Rattle.cfs_model.specs.declared.idle_line.IdleLine.{IdleLine}
-use Rattle.sched_record.specs.Kept.{NamesBirth}
+use Rattle.sched_record.specs.Join.{NamesBirth}
 use Rattle.sched_record.proofs.Walk.{HasPassed}
 use Rattle.sched_record.proofs.joining.first_stray_idle.Given as goal
 

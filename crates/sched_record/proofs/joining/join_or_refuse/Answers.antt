@@ -1,5 +1,5 @@
 use Rattle.std.proofs.Common.{subst}
-use Rattle.companion_file.specs.Companion.{companion_view}
+use Rattle.companion_file.specs.Seen.{companion_view}
 use Rattle.sched_record.specs.Join.{Refuses}
 use Rattle.sched_record.proofs.joining.join_or_refuse.Goals as goal
 

@@ -4,7 +4,7 @@ use Rattle.std.proofs.lemmas.Bool.{OnFalse_at, OnTrue_at}
 use Rattle.std.proofs.lemmas.List.{take_all}
 use Rattle.std.proofs.lemmas.List.Elements.{All-more}
 use Rattle.cfs_model.specs.declared.act.Entry.{Entry}
-use Rattle.sched_record.specs.Kept.{IsInside}
+use Rattle.sched_record.specs.Join.{IsInside}
 use Rattle.sched_record.proofs.Rising.{split_at}
 use Rattle.sched_record.proofs.joining.outside_line.Goals as goal
 

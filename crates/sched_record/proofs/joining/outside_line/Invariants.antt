@@ -1,6 +1,6 @@
 use Rattle.std.proofs.Common.{take}
 use Rattle.std.specs.Prelude.{All}
-use Rattle.sched_record.specs.Kept.{IsInside}
+use Rattle.sched_record.specs.Join.{IsInside}
 use Rattle.sched_record.proofs.joining.outside_line.Given as goal
 
 abbrev pub invariant-loop-event : goal.invariant-loop-event

@@ -1,8 +1,7 @@
 use Rattle.std.proofs.Common.{rules, sym, subst}
 use Rattle.std.specs.Prelude.{All}
-use Rattle.companion_file.specs.Companion.{companion_view}
-use Rattle.sched_record.specs.Join.{BeginsInTime, IsFirstStray, Refuses}
-use Rattle.sched_record.specs.Kept.{IsInside}
+use Rattle.companion_file.specs.Seen.{companion_view}
+use Rattle.sched_record.specs.Join.{BeginsInTime, IsFirstStray, Refuses, IsInside}
 use Rattle.sched_record.specs.declared.joining.JoinFault.{JoinFault}
 use Rattle.sched_record.proofs.joining.refusal_of.Goals as goal
 

@@ -1,7 +1,7 @@
 use Rattle.std.proofs.Common.{sym, subst, ◌⊎◌}
 use Rattle.cfs_model.specs.declared.claim.Claim.{Claim}
 use Rattle.cfs_model.specs.declared.nice_line.NiceLine.{NiceLine}
-use Rattle.companion_file.specs.Companion.{companion_view}
+use Rattle.companion_file.specs.Seen.{companion_view}
 use Rattle.sched_record.specs.Join.{HasStrayClaim, HasStrayIdle, HasStrayNice, IsLeastOf, IsStray}
 use Rattle.sched_record.proofs.Straying.{claims_on_events, idles_on_births, least_found, least_of_both, least_stray}
 use Rattle.sched_record.proofs.Straying.{nices_on_events, none_found}

@@ -4,7 +4,7 @@ use Rattle.cfs_model.specs.Claimed.{claimed, with_claim}
 use Rattle.cfs_model.specs.declared.act.Entry.{Entry}
 use Rattle.replay_laws.specs.Telling.{SayNothing}
 use Rattle.replay_model.specs.Roll.{named}
-use Rattle.sched_record.specs.Kept.{policy_of}
+use Rattle.sched_record.specs.RecordView.{policy_of}
 use Rattle.sched_record.specs.Record.{record_view}
 use Rattle.ticket_book.specs.SaidEvents.{events_of}
 use Rattle.ticket_book.specs.Told.{TellFault, cause_view, view_at}

@@ -1,4 +1,4 @@
-use Rattle.sched_record.specs.Kept.{policy_of}
+use Rattle.sched_record.specs.RecordView.{policy_of}
 use Rattle.sched_record.specs.Record.{record_view}
 use Rattle.ticket_book.proofs.Walked.{HasCome}
 use Rattle.ticket_book.proofs.closing.told_by.Given as goal

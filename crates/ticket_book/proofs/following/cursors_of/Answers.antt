@@ -2,7 +2,7 @@ use Rattle.std.proofs.Common.{rules, ◌≡◌, ◌+◌, ◌≤◌, List, length
 use Rattle.std.proofs.lemmas.List.{take_all}
 use Rattle.cfs_model.specs.Claimed.{claim_at, claimed, nice_at}
 use Rattle.cfs_model.specs.declared.act.Entry.{Entry}
-use Rattle.sched_record.specs.Kept.{policy_of}
+use Rattle.sched_record.specs.RecordView.{policy_of}
 use Rattle.sched_record.specs.Record.{record_view}
 use Rattle.ticket_book.specs.Cursor.{AreFollowed}
 use Rattle.ticket_book.proofs.EventsFollowed.{followed_one_more, lent_back}

@@ -1,5 +1,5 @@
 use Rattle.std.proofs.Common.{◌≡◌, ◌+◌, ap, sym, subst, ◌∙◌, arith}
-use Rattle.sched_record.specs.Join.{lesser_of}
+use Rattle.sched_record.specs.Lesser.{lesser_of}
 use Rattle.ticket_book.specs.Idling.{NoneFirst, deadline_on}
 use Rattle.ticket_book.proofs.Deadlines.{one_deadline}
 use Rattle.ticket_book.proofs.idling.first_deadline.Goals as goal

@@ -1,5 +1,5 @@
 use Rattle.std.proofs.Common.{◌≡◌, take}
-use Rattle.replay_model.specs.Part.{start_part}
+use Rattle.replay_model.specs.PartWords.{start_part}
 use Rattle.runqueue.specs.Queue.{runqueue_view}
 use Rattle.runqueue.proofs.runqueue.Runqueue.of_tasks.Given as goal
 

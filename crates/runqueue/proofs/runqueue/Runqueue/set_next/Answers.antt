@@ -3,7 +3,7 @@ use Rattle.std.proofs.Common.{of_z, w64}
 use Rattle.std.specs.BTreeSet as set
 use Rattle.cfs_model.specs.declared.task.Place.TheVariants.{Run}
 use Rattle.cfs_model.specs.declared.task.Task.{Task}
-use Rattle.replay_model.specs.Deeds.{part_after_next}
+use Rattle.replay_model.specs.AfterDeed.{part_after_next}
 use Rattle.replay_model.specs.Part.{Part}
 use Rattle.runqueue.specs.Standing.{by_runtime, standing, waiting_task}
 use Rattle.runqueue.specs.Tasks.{entity_of}

@@ -1,7 +1,9 @@
 use Rattle.std.proofs.Common.{List, sym, subst}
 use Rattle.std.specs.Prelude.{All}
 use Rattle.cfs_model.specs.declared.act.Entry.{Entry}
-use Rattle.companion_file.specs.Companion.{CompanionView, IsCompanionInOrder, companion_view}
+use Rattle.companion_file.specs.Companion.{CompanionView}
+use Rattle.companion_file.specs.Order.{IsCompanionInOrder}
+use Rattle.companion_file.specs.Seen.{companion_view}
 use Rattle.sched_record.specs.Join.{GoTogether, joined_record}
 use Rattle.sched_record.specs.Kept.{AreInOrder, IsRecordInOrder}
 use Rattle.sched_record.specs.Policies.{EndsAtBirth}

@@ -5,10 +5,11 @@ use Rattle.cfs_model.specs.Claimed.{claimed}
 use Rattle.cfs_model.specs.declared.act.Entry.{Entry}
 use Rattle.cfs_model.specs.declared.claim.Claim.{Claim}
 use Rattle.cfs_model.specs.declared.nice_line.NiceLine.{NiceLine}
-use Rattle.replay_model.specs.Cut.{deed_at, steps_at}
-use Rattle.sched_record.specs.Kept.{policy_of}
+use Rattle.replay_model.specs.StepAt.{deed_at}
+use Rattle.replay_model.specs.Cut.{steps_at}
+use Rattle.sched_record.specs.RecordView.{policy_of}
 use Rattle.sched_record.specs.Record.{record_view}
-use Rattle.sched_record.specs.Trace.{trace_view}
+use Rattle.sched_record.specs.Seen.{trace_view}
 use Rattle.sched_record.specs.declared.trace.Trace.{Trace}
 use Rattle.sched_record.specs.Places.{places_touching, touches_cpu}
 use Rattle.sched_record.proofs.Dealt.{dealt_more}

@@ -2,7 +2,7 @@ use Rattle.std.proofs.Common.{◌≡◌, ◌≤◌, length, map, take}
 use Rattle.cfs_model.specs.declared.act.Entry.{Entry}
 use Rattle.cfs_model.specs.declared.claim.Claim.{Claim}
 use Rattle.cfs_model.specs.declared.nice_line.NiceLine.{NiceLine}
-use Rattle.sched_record.specs.Kept.{policy_of}
+use Rattle.sched_record.specs.RecordView.{policy_of}
 use Rattle.sched_record.specs.Record.{record_view}
 use Rattle.sched_record.proofs.Placing.{step_of, touching}
 use Rattle.sched_record.proofs.Walk.{HasPassed}

@@ -1,5 +1,5 @@
--- What a companion says, and the order that each companion keeps (this project's companion format).
-use Rattle.std.specs.Prelude.{◌≡◌, ℕ, ◌+◌, ◌*◌, ◌<◌, ◌≤◌, ℤ, List, length, All, AllPairs}
+-- The order that each companion keeps (this project's companion format).
+use Rattle.std.specs.Prelude.{◌≡◌, ℕ, ◌+◌, ◌*◌, ◌<◌, ◌≤◌, length, All, AllPairs}
 use Rattle.cfs_model.specs.declared.task.Task.{Task}
 use Rattle.cfs_model.specs.declared.claim.Claim.{Claim}
 use Rattle.cfs_model.specs.declared.nice_line.NiceLine.{NiceLine}
@@ -11,19 +11,7 @@ use Rattle.cfs_model.specs.Nice.{IsNice}
 use Rattle.cfs_model.specs.Order.{RunApart}
 use Rattle.cfs_model.specs.Claimed.{is_named_idle}
 use Rattle.cfs_model.specs.Start.{starts_idle}
-
--- the start state, the claims, the changes of nice values, and who is of the idle policy
-pub record CompanionView : Type 0 where
-  -- the number of processors
-  pub cpus : ℕ
-  -- the start, in nanoseconds
-  pub start : ℕ
-  -- the floor of each processor, from processor 0 on
-  pub floors : List ℤ
-  pub tasks : List Task
-  pub claims : List Claim
-  pub nices : List NiceLine
-  pub idles : List IdleLine
+use Rattle.companion_file.specs.Companion.{CompanionView}
 
 -- a pid is from 1 to the greatest
 abbrev pub IsPid : ℕ → Type 0

@@ -1,0 +1,24 @@
+-- A record: a trace and a companion, joined (this project's profile).
+use Rattle.std.specs.Prelude.{ℕ, ℤ, Bool, List}
+use Rattle.cfs_model.specs.declared.act.Entry.{Entry}
+use Rattle.cfs_model.specs.declared.claim.Claim.{Claim}
+use Rattle.cfs_model.specs.declared.idle_line.IdleLine.{IdleLine}
+use Rattle.cfs_model.specs.declared.nice_line.NiceLine.{NiceLine}
+use Rattle.cfs_model.specs.declared.task.Task.{Task}
+use Rattle.cfs_model.specs.Claimed.{policy_in}
+use Rattle.cfs_model.specs.Start.{starts_idle}
+
+-- a trace and a companion, joined
+pub record RecordView : Type 0 where
+  pub cpus : ℕ
+  pub start : ℕ
+  pub floors : List ℤ
+  pub tasks : List Task
+  pub events : List Entry
+  pub claims : List Claim
+  pub nices : List NiceLine
+  pub idles : List IdleLine
+
+-- whether the task that an event of the record bears or moves is of the idle policy
+abbrev pub policy_of : RecordView → Entry → Bool
+policy_of r = policy_in r.idles (starts_idle r.tasks) r.events

@@ -9,12 +9,14 @@ pub mod MarksMove
 pub mod MigrationExample
 pub mod MoreGenerous
 pub mod Moves
+pub mod MovedNiceExample
 pub mod NiceChangeExample
 pub mod OneNext
 pub mod Positive
 pub mod Prefix
 pub mod Range
 pub mod Renice
+pub mod RebirthExample
 pub mod StartOrder
 pub mod StepOrder
 pub mod SwitchExample

@@ -21,13 +21,13 @@ use Rattle.cfs_model.specs.declared.task.Place.{Place}
 use Rattle.cfs_model.specs.declared.task.Place.TheVariants.{Run, Wait}
 use Rattle.cfs_model.specs.declared.task.Task.{Task}
 
-abbrev task_that_waits : Task
+abbrev pub task_that_waits : Task
 task_that_waits = record { pid = 101; nice = pos 0; idle = false; cpu = 0; place = Wait; v = pos 5 }
 
-abbrev task_that_runs : Task
+abbrev pub task_that_runs : Task
 task_that_runs = record { pid = 102; nice = pos 0; idle = false; cpu = 0; place = Run; v = pos 3 }
 
-start_is : IsStart (pos 3 ∷ pos 100 ∷ []) (task_that_waits ∷ task_that_runs ∷ [])
+pub start_is : IsStart (pos 3 ∷ pos 100 ∷ []) (task_that_waits ∷ task_that_runs ∷ [])
 start_is = record {
   pids_rise = ((lit< tt, tt), (tt, tt));
   one_runs = (((λ t. let e = t.0 in cc), tt), (tt, tt));
@@ -35,7 +35,7 @@ start_is = record {
   floors_in_range = ((omega (arith, ints), omega (arith, ints)), ((omega (arith, ints), omega (arith, ints)), tt));
 }
 
-runs_one : (q : ℕ) → Stands migration_start Run 0 q → 102 ≡ q
+pub runs_one : (q : ℕ) → Stands migration_start Run 0 q → 102 ≡ q
 runs_one q h = elim (of_two task_that_waits task_that_runs Run 0 q h) [ inl x ↦ let e = x.2 in cc | inr x ↦ x.0 ]
 
 waits_one : (q : ℕ) → Stands migration_start Wait 0 q → 101 ≡ q
@@ -50,7 +50,7 @@ nobody_there place q h = elim (of_two task_that_waits task_that_runs place 1 q h
 ]
 
 -- the machine after the charge at the first processor
-abbrev after_charge : ℕ → Machine
+abbrev pub after_charge : ℕ → Machine
 after_charge time = charged migration_start 0 time
 
 -- the time, the virtual runtime of 102 after its charge, the least of both, and the value where 101 goes
@@ -58,13 +58,13 @@ module _ (time : ℕ) (v least w : ℤ) (is_v : (after_charge time).runtime 102 
     (is_w : w ≡ (pos 5 -ℤ int_max (pos 3) least) +ℤ pos 100)
     (can_charge : CanCharge migration_start 0 time) (is_least : IsLeast (after_charge time) 0 least) where
   -- the machine after the first lift, and after both
-  abbrev between : Machine
+  abbrev pub between : Machine
   between = with_floor (after_charge time) 0 (int_max (pos 3) least)
 
-  abbrev lifted : Machine
+  abbrev pub lifted : Machine
   lifted = with_floor (charged between 1 time) 1 (pos 100)
 
-  lift : IsLifted time (0 ∷ 1 ∷ []) migration_start lifted
+  pub lift : IsLifted time (0 ∷ 1 ∷ []) migration_start lifted
   unfolding put
   lift = (
     between,
@@ -143,18 +143,23 @@ least_of time v least is_v h k q w (inl x) e = below_at (after_charge time).runt
 least_of time v least is_v h k q w (inr x) e = below_at (after_charge time).runtime 101 q least (pos 5) w
     (waits_one q x) refl e k
 
+pub can_charge_now : CanCharge migration_start 0 start_time
+can_charge_now = can_charge_one migration_start 0 start_time 102 (pos 0) (pos 3) runs_one refl refl (lit≤ tt)
+    (omega (arith, ints))
+
+pub least_now : IsLeast (after_charge start_time) 0 (pos 3)
+least_now = record {
+  pid = 102;
+  queued = inl refl;
+  runtime = refl;
+  least = least_of start_time (pos 3) (pos 3) refl
+      (omega (arith, ints)) (omega (arith, ints));
+}
+
 pub migration_lem : MigrationExample
 migration_lem w =
-    migration_at start_time (pos 3) (pos 3) (pos 102) refl refl
-    (can_charge_one migration_start 0 start_time 102 (pos 0) (pos 3) runs_one refl refl (lit≤ tt) (omega (arith, ints)))
-    (record {
-      pid = 102;
-      queued = inl refl;
-      runtime = refl;
-      least = least_of start_time (pos 3) (pos 3) refl
-          (omega (arith, ints)) (omega (arith, ints));
-    })
-    w (omega (arith, ints), omega (arith, ints))
+    migration_at start_time (pos 3) (pos 3) (pos 102) refl refl can_charge_now least_now w
+    (omega (arith, ints), omega (arith, ints))
 
 pub later_lem : LaterMigrationExample
 later_lem w =

@@ -3,16 +3,19 @@
 use Rattle.std.specs.Prelude.{◌≡◌, ℕ, Bool, true, false, ◌≤◌, ℤ, pos, ◌≤ℤ◌, ◌↔◌, Some, None, List, [], ◌∷◌}
 use Rattle.cfs_model.specs.Settings.{Settings}
 use Rattle.cfs_model.specs.Machine.{Machine}
-use Rattle.cfs_model.specs.Start.{start_machine}
-use Rattle.cfs_model.specs.Claimed.{Claimed, claimed}
+use Rattle.cfs_model.specs.Start.{start_machine, starts_idle}
+use Rattle.cfs_model.specs.Claimed.{Claimed, claimed, policy_in}
 use Rattle.cfs_model.specs.Step.{IsStep}
 use Rattle.cfs_model.specs.Run.{IsRun}
 use Rattle.cfs_model.specs.declared.act.Act.TheVariants.{Switch, Wake, Born, Shift}
+use Rattle.cfs_model.specs.declared.act.Entry.{Entry}
 use Rattle.cfs_model.specs.declared.act.Way.{Way}
 use Rattle.cfs_model.specs.declared.act.Way.TheVariants.{Stays, Ends}
 use Rattle.cfs_model.specs.declared.claim.Claim.{Claim}
 use Rattle.cfs_model.specs.declared.claim.ClaimSort.TheVariants.{At}
+use Rattle.cfs_model.specs.declared.idle_line.IdleLine.{IdleLine}
 use Rattle.cfs_model.specs.declared.task.Place.TheVariants.{Run, Wait, Rest}
+use Rattle.cfs_model.specs.declared.task.Task.{Task}
 
 -- the default settings, but for the granularity
 abbrev pub standard_with : ℕ → Settings
@@ -110,6 +113,31 @@ MigrationExample = (w : ℤ) → HasStep standard migration_start (migration_eve
 abbrev pub LaterMigrationExample : Type 0
 LaterMigrationExample = (w : ℤ) → HasStep standard migration_start (migration_event 100000001000 w) ↔ (w ≡ pos 100)
 
+-- 101 moves from the first to the second, printed with a nice value, and the claim places it at w; the companion says
+-- that the nice value of a task is 5 from then on
+abbrev pub renicing_migration : ℕ → ℤ → ℤ → Claimed
+renicing_migration pid printed w = record {
+  entry = record { line = 1; time = start_time; act = Shift 0 1 101 printed };
+  claim = Some (at_claim 1 101 w);
+  nice = Some (record { line = 1; pid = pid; nice = pos 5 });
+  idle = false;
+}
+
+-- the task stands at the origin, so it prints the new value there; where it goes hangs on no nice value
+abbrev pub MovedNiceExample : Type 0
+MovedNiceExample = (printed w : ℤ)
+    → HasStep standard migration_start (renicing_migration 101 printed w) ↔ ((printed ≡ pos 5) × (w ≡ pos 102))
+
+-- the same but that 102 runs at the second
+abbrev pub away_start : Machine
+away_start = start_machine start_time (pos 3 ∷ pos 100 ∷ []) (
+    record { pid = 101; nice = pos 0; idle = false; cpu = 0; place = Wait; v = pos 5 }
+    ∷ record { pid = 102; nice = pos 0; idle = false; cpu = 1; place = Run; v = pos 3 } ∷ [])
+
+-- the nice value of a task that stands at the destination doesn't change there
+abbrev pub AwayNiceExample : Type 0
+AwayNiceExample = (printed w : ℤ) → ¬ HasStep standard away_start (renicing_migration 102 printed w)
+
 -- one processor with floor 10 ms, where 101 rests at 0
 abbrev pub wake_start : Machine
 wake_start = start_machine start_time (pos 10000000 ∷ []) (
@@ -160,6 +188,42 @@ birth_events way w = claimed (at_claim 2 101 w ∷ []) [] (λ entry. false) (
 abbrev pub BirthExample : Type 0
 BirthExample = (way : Way) (w : ℤ)
     → IsRun standard start_time birth_start (birth_events way w) ↔ ((way ≡ Ends) × (pos 0 ≤ℤ w) × (w ≤ℤ pos 3000000))
+
+-- one processor, where 101 runs at 0, of the idle policy or not, and 102 rests at 0
+abbrev pub rebirth_tasks : Bool → List Task
+rebirth_tasks idle =
+    record { pid = 101; nice = pos 0; idle = idle; cpu = 0; place = Run; v = pos 0 }
+    ∷ record { pid = 102; nice = pos 0; idle = false; cpu = 0; place = Rest; v = pos 0 } ∷ []
+
+abbrev pub rebirth_start : Bool → Machine
+rebirth_start idle = start_machine start_time (pos 0 ∷ []) (rebirth_tasks idle)
+
+-- at once 101 ends, a task of that pid is born at nice 5, and it is picked; 4 ms later 102 is woken
+abbrev pub rebirth_entries : List Entry
+rebirth_entries =
+    record { line = 1; time = start_time; act = Switch 0 101 (pos 0) Ends 0 (pos 0) }
+    ∷ record { line = 2; time = start_time; act = Born 0 101 (pos 5) }
+    ∷ record { line = 3; time = start_time; act = Switch 0 0 (pos 0) Stays 101 (pos 5) }
+    ∷ record { line = 4; time = 100004000000; act = Wake 0 102 (pos 0) } ∷ []
+
+-- the claims place the new task at 0 and 102 at w; the companion names who is of the idle policy
+abbrev pub rebirth_events : Bool → List IdleLine → ℤ → List Claimed
+rebirth_events idle idles w =
+    claimed (at_claim 2 101 (pos 0) ∷ at_claim 4 102 w ∷ []) []
+    (policy_in idles (starts_idle (rebirth_tasks idle)) rebirth_entries) rebirth_entries
+
+-- a task that is named at its birth is of the idle policy, whatever its pid was of before: 4 ms cost 1365333333, which
+-- is then the floor, and 102 is placed from 3 ms below that to it
+abbrev pub IdleBirthExample : Type 0
+IdleBirthExample = (was : Bool) (w : ℤ)
+    → IsRun standard start_time (rebirth_start was) (rebirth_events was (record { line = 2; pid = 101 } ∷ []) w)
+    ↔ ((pos 1362333333 ≤ℤ w) × (w ≤ℤ pos 1365333333))
+
+-- and one that isn't named weighs by its nice value: 4 ms at nice 5 cost 12226865
+abbrev pub RebirthExample : Type 0
+RebirthExample = (was : Bool) (w : ℤ)
+    → IsRun standard start_time (rebirth_start was) (rebirth_events was [] w)
+    ↔ ((pos 9226865 ≤ℤ w) × (w ≤ℤ pos 12226865))
 
 -- 102 is born at the second processor and placed at w, where the companion says that the nice value of a task is 5 from
 -- then on

@@ -3,6 +3,7 @@
 ghost use Rattle.cfs_model.specs.Examples.{PutBackExample, NiceExample, IdlePolicyExample, PickExample};
 ghost use Rattle.cfs_model.specs.Examples.{MigrationExample, LaterMigrationExample, WakeExample, IdleExample};
 ghost use Rattle.cfs_model.specs.Examples.{BirthExample, IdleSwitchExample, NiceChangeExample, StrangeNiceExample};
+ghost use Rattle.cfs_model.specs.Examples.{MovedNiceExample, AwayNiceExample, IdleBirthExample, RebirthExample};
 
 /// A task that stays is put back at just what it was charged, by its weight and rounded down; one of the idle policy
 /// weighs 3 whatever its nice value.
@@ -13,10 +14,12 @@ pub fn put_back_example()
 {}
 
 /// A change of a nice value takes effect between the charge at its event and what the event prints; the task that it
-/// names stands at the event's processor.
+/// names stands at the event's processor, and of a migration at the origin.
 pub fn nice_example()
     ensures changes { NiceChangeExample }
     ensures stands { StrangeNiceExample }
+    ensures moves { MovedNiceExample }
+    ensures away { AwayNiceExample }
 {}
 
 /// A picked task lies within the granularity of the least waiting one, which may be the one that was put back; and
@@ -46,4 +49,11 @@ pub fn idle_example()
 /// it.
 pub fn birth_example()
     ensures { BirthExample }
+{}
+
+/// A task is of the idle policy where the companion names it at its birth, and else it isn't, whatever the task was that
+/// had its pid before.
+pub fn policy_example()
+    ensures born { IdleBirthExample }
+    ensures reborn { RebirthExample }
 {}

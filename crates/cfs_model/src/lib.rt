@@ -20,8 +20,8 @@ mod weights;
 pub use act::{Act, Entry, Way};
 pub use claim::{Claim, ClaimSort};
 pub use examples::{
-    birth_example, idle_example, migration_example, nice_example, pick_example, put_back_example,
-    wake_example,
+    birth_example, idle_example, migration_example, nice_example, pick_example, policy_example,
+    put_back_example, wake_example,
 };
 pub use idle_line::IdleLine;
 pub use kind::Kind;

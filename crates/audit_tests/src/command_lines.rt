@@ -1,13 +1,16 @@
 //! What words make of a command line: how clap takes them is its own, so that it is shown here.
 
 use crate::answers::wants_about;
-use cfs_model::Knobs;
+use cfs_model::{Knobs, Setting};
 use clap::error::ErrorKind;
 use sched_audit::{Request, command_line};
 use std::alloc::Global;
 
-fn knobs(granularity: u64, credit: u64, debit: u64, slack: u64) -> Knobs {
-    Knobs::new(granularity, credit, debit, slack).unwrap_or(Knobs::standard())
+/// The standard settings with this value of one.
+fn knobs_with(setting: Setting, value: u64) -> Knobs {
+    Knobs::standard()
+        .with(setting, value)
+        .unwrap_or(Knobs::standard())
 }
 
 fn judged(knobs: Knobs) -> Request<'static> {
@@ -30,21 +33,20 @@ fn asked<'a>(alloc: Global, words: &'a [&'a str]) -> Result<Request<'a>, ErrorKi
 
 #[test]
 fn each_option_is_its_own_setting(rt: HostRuntime) {
-    for (option, given) in [
-        (
-            "--granularity-ns=7",
-            knobs(7, 3_000_000, 3_000_000, 100_000),
-        ),
-        ("--credit-ns=7", knobs(1_000_000, 7, 3_000_000, 100_000)),
-        ("--debit-ns=7", knobs(1_000_000, 3_000_000, 7, 100_000)),
-        ("--slack-ns=7", knobs(1_000_000, 3_000_000, 3_000_000, 7)),
-        ("--slack-ns=0", knobs(1_000_000, 3_000_000, 3_000_000, 0)),
-        ("--slack-ns=+7", knobs(1_000_000, 3_000_000, 3_000_000, 7)),
+    for (option, setting, value) in [
+        ("--granularity-ns=7", Setting::Granularity, 7),
+        ("--credit-ns=7", Setting::Credit, 7),
+        ("--debit-ns=7", Setting::Debit, 7),
+        ("--slack-ns=7", Setting::Slack, 7),
+        ("--slack-ns=0", Setting::Slack, 0),
+        ("--slack-ns=+7", Setting::Slack, 7),
         (
             "--slack-ns=1000000000000",
-            knobs(1_000_000, 3_000_000, 3_000_000, 1_000_000_000_000),
+            Setting::Slack,
+            1_000_000_000_000,
         ),
     ] {
+        let given = knobs_with(setting, value);
         for words in [
             ["sched_audit", "a", "b", option],
             ["sched_audit", "a", option, "b"],

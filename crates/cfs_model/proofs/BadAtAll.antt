@@ -1,6 +1,6 @@
 -- What is no run at the greatest settings is none at any in range, since more generous settings keep a run.
-use Rattle.std.proofs.Common.{[], ◌∷◌, ◌++◌, arith}
-use Rattle.cfs_model.specs.Settings.{Settings, AreInRange}
+use Rattle.std.proofs.Common.{ℕ, ◌≤◌, [], ◌∷◌, ◌++◌, arith}
+use Rattle.cfs_model.specs.Settings.{Settings, AreInRange, value_at}
 use Rattle.cfs_model.specs.Least.{AtMost, greatest_settings}
 use Rattle.cfs_model.specs.declared.setting.Setting.TheVariants.{Granularity, Credit, Debit, Slack}
 use Rattle.cfs_model.specs.Laws.{GreatestTellBadAtAll}
@@ -12,6 +12,13 @@ within_greatest knobs range Credit = range.1.0
 within_greatest knobs range Debit = range.1.1.0
 within_greatest knobs range Slack = range.1.1.1.0
 
+-- the greatest settings bound the range
+pub at_most_greatest : (knobs : Settings) → AtMost knobs greatest_settings → AreInRange knobs
+at_most_greatest knobs most = (most Granularity, (most Credit, (most Debit, (most Slack, tt))))
+
+at_most_itself : (n : ℕ) → n ≤ n
+at_most_itself n = omega arith
+
 pub bad_at_all : GreatestTellBadAtAll
 bad_at_all start first events line bad = record {
   before = bad.before;
@@ -19,7 +26,11 @@ bad_at_all start first events line bad = record {
   rest = bad.rest;
   whole = bad.whole;
   line_is = bad.line_is;
-  runs = (greatest_settings, (omega arith, (omega arith, (omega arith, (omega arith, tt)))), bad.runs);
+  runs = (
+    greatest_settings,
+    at_most_greatest greatest_settings (λ which. at_most_itself (value_at greatest_settings which)),
+    bad.runs,
+  );
   ends = λ knobs range run. bad.ends (run_more knobs greatest_settings start first
       (bad.before ++ bad.event ∷ []) (within_greatest knobs range) run);
 }

@@ -1,9 +1,10 @@
 -- The least settings: the lesser of two settings that make a run makes one, since a step asks for one setting alone;
 -- and what follows.
-use Rattle.std.proofs.Common.{◌≡◌, ℕ, ◌≤◌, min, ◌⊎◌, inl, inr, List, [], ◌∷◌, max, refl, sym, subst, arith}
+use Rattle.std.proofs.Common.{◌≡◌, ℕ, ◌≤◌, min, ◌⊎◌, inl, inr, List, [], ◌∷◌, max, refl, sym, ap}
+use Rattle.std.proofs.Common.{◌∙◌, subst, arith}
 use Rattle.std.proofs.lemmas.Bool.{cases_lt}
 use Rattle.std.proofs.Math.Nat.{le-max_left, le-max_right, max-le}
-use Rattle.cfs_model.specs.Settings.{Settings, settings_by, value_at}
+use Rattle.cfs_model.specs.Settings.{Settings, nothing, only, settings_by, value_at}
 use Rattle.cfs_model.specs.declared.setting.Setting.{Setting}
 use Rattle.cfs_model.specs.declared.setting.Setting.TheVariants.{Granularity, Credit, Debit, Slack}
 use Rattle.cfs_model.specs.Machine.{Machine}
@@ -52,6 +53,36 @@ pub other_below_larger : (one other : Settings) → AtMost other (larger one oth
 other_below_larger one other which =
     subst (λ n. value_at other which ≤ n) (sym (at_by (larger_value one other) which))
     (le-max_right (value_at one which) (value_at other which))
+
+-- nothing beside settings changes them in either place
+pub larger_nothing : (here : Settings) → larger nothing here ≡ larger here nothing
+larger_nothing here =
+    same_settings (larger nothing here) (larger here nothing)
+    (λ which. at_by (larger_value nothing here) which ∙ swapped (value_at nothing which) (value_at here which)
+    ∙ sym (at_by (larger_value here nothing) which))
+  where
+    swapped : (a b : ℕ) → max a b ≡ max b a
+    swapped a b = omega arith
+
+-- the larger of three settings, whichever two come first
+pub larger_of_three : (x y z : Settings) → larger (larger x y) z ≡ larger x (larger y z)
+larger_of_three x y z =
+    same_settings (larger (larger x y) z) (larger x (larger y z)) (λ which.
+    at_by (larger_value (larger x y) z) which
+    ∙ ap (λ n. max n (value_at z which)) (at_by (larger_value x y) which)
+    ∙ three (value_at x which) (value_at y which) (value_at z which)
+    ∙ ap (max (value_at x which)) (sym (at_by (larger_value y z) which))
+    ∙ sym (at_by (larger_value x (larger y z)) which))
+  where
+    three : (a b c : ℕ) → max (max a b) c ≡ max a (max b c)
+    three a b c = omega arith
+
+-- a slack alone is at most settings of which the slack is at least that
+pub slack_at_most : (slack : ℕ) (more : Settings) → slack ≤ more.slack → AtMost (only Slack slack) more
+slack_at_most slack more h Granularity = omega arith
+slack_at_most slack more h Credit = omega arith
+slack_at_most slack more h Debit = omega arith
+slack_at_most slack more h Slack = h
 
 -- what is at most something: along a chain, of the larger of two, and nothing at all
 pub at_most_trans : (less between more : Settings) → AtMost less between → AtMost between more → AtMost less more

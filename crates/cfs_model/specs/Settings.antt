@@ -35,6 +35,21 @@ settings_by value = record {
   slack = value Slack;
 }
 
+-- the same settings but for the value of one
+abbrev pub with_value : Settings → Setting → ℕ → Settings
+with_value settings Granularity value = record settings { granularity = value }
+with_value settings Credit value = record settings { credit = value }
+with_value settings Debit value = record settings { debit = value }
+with_value settings Slack value = record settings { slack = value }
+
+-- settings that let nothing pass
+abbrev pub nothing : Settings
+nothing = settings_by (λ which. 0)
+
+-- so much of one setting, and nothing of any other
+abbrev pub only : Setting → ℕ → Settings
+only setting value = with_value nothing setting value
+
 -- no setting is above the greatest value
 abbrev pub AreInRange : Settings → Type 0
 AreInRange settings = AllByRecursion (λ which. value_at settings which ≤ greatest_setting) all_settings

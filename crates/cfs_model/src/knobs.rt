@@ -1,9 +1,10 @@
 ghost use Rattle.std.specs.Prelude.{◌≡◌, ◌≤◌, ◌↔◌, IsSome, IfSome};
 ghost use Rattle.cfs_model.specs.Least.{greatest_settings};
 ghost use Rattle.cfs_model.specs.Limits.{greatest_setting};
-ghost use Rattle.cfs_model.specs.Settings.{AreInRange, Settings, settings_by, value_at};
+ghost use Rattle.cfs_model.specs.Settings.{AreInRange, Settings, settings_by, value_at, with_value};
 ghost use Rattle.cfs_model.specs.Options.{standard_value};
 
+use crate::amounts::Amounts;
 use crate::limits::GREATEST_SETTING;
 use crate::setting::Setting;
 use std::marker::Model;
@@ -11,10 +12,7 @@ use std::marker::Model;
 /// A value of each setting of the profile, in nanoseconds and at most `GREATEST_SETTING`.
 #[derive(Clone, Copy, Debug, PartialEq, Eq)]
 pub struct Knobs {
-    granularity: u64,
-    credit: u64,
-    debit: u64,
-    slack: u64,
+    amounts: Amounts,
 }
 
 impl Model for Knobs {
@@ -22,21 +20,11 @@ impl Model for Knobs {
 
     ghost Value = { Settings };
 
-    ghost view = { λ k. record { granularity = k.granularity; credit = k.credit; debit = k.debit; slack = k.slack } };
+    ghost view = { λ k. k.amounts };
 
-    ghost invariant = { λ k. AreInRange (record {
-      granularity = k.granularity;
-      credit = k.credit;
-      debit = k.debit;
-      slack = k.slack;
-    }) };
+    ghost invariant = { λ k. AreInRange k.amounts };
 
-    ghost inverse = { λ s. record {
-      granularity = s.granularity;
-      credit = s.credit;
-      debit = s.debit;
-      slack = s.slack;
-    } };
+    ghost inverse = { λ s. record { amounts = s } };
 }
 
 impl Knobs {
@@ -47,32 +35,40 @@ impl Knobs {
         ensures same { IfSome result (λ knobs. knobs
             ≡ record { granularity = granularity; credit = credit; debit = debit; slack = slack }) }
     {
-        if granularity <= GREATEST_SETTING
-            && credit <= GREATEST_SETTING
-            && debit <= GREATEST_SETTING
-            && slack <= GREATEST_SETTING
-        {
-            Some(Knobs {
-                granularity,
-                credit,
-                debit,
-                slack,
-            })
+        Knobs::of(Amounts::new(granularity, credit, debit, slack))
+    }
+
+    /// None where one of them is above `GREATEST_SETTING`.
+    pub fn of(amounts: Amounts) -> Option<Knobs>
+        ensures in_range { IsSome result ↔ AreInRange amounts }
+        ensures same { IfSome result (λ knobs. knobs ≡ amounts) }
+    {
+        if amounts.are_in_range() {
+            Some(Knobs { amounts })
         } else {
             None
         }
+    }
+
+    /// The same but for one setting. None where that is above `GREATEST_SETTING`.
+    pub fn with(self, setting: Setting, value: u64) -> Option<Knobs>
+        ensures in_range { IsSome result ↔ AreInRange (with_value self setting value) }
+        ensures same { IfSome result (λ knobs. knobs ≡ with_value self setting value) }
+    {
+        Knobs::of(self.amounts.with(setting, value))
     }
 
     /// The defaults.
     pub fn standard() -> Knobs
         ensures { result ≡ settings_by standard_value }
     {
-        Knobs {
-            granularity: Setting::Granularity.standard(),
-            credit: Setting::Credit.standard(),
-            debit: Setting::Debit.standard(),
-            slack: Setting::Slack.standard(),
-        }
+        let amounts = Amounts::new(
+            Setting::Granularity.standard(),
+            Setting::Credit.standard(),
+            Setting::Debit.standard(),
+            Setting::Slack.standard(),
+        );
+        Knobs { amounts }
     }
 
     /// Each as large as it may be.
@@ -80,10 +76,7 @@ impl Knobs {
         ensures { result ≡ greatest_settings }
     {
         Knobs {
-            granularity: GREATEST_SETTING,
-            credit: GREATEST_SETTING,
-            debit: GREATEST_SETTING,
-            slack: GREATEST_SETTING,
+            amounts: Amounts::all(GREATEST_SETTING),
         }
     }
 
@@ -92,12 +85,7 @@ impl Knobs {
         ensures same { result ≡ value_at self setting }
         ensures in_range { result ≤ greatest_setting }
     {
-        match setting {
-            Setting::Granularity => self.granularity,
-            Setting::Credit => self.credit,
-            Setting::Debit => self.debit,
-            Setting::Slack => self.slack,
-        }
+        self.amounts.get(setting)
     }
 
     /// How far above the least virtual runtime a picked task may be.
@@ -105,7 +93,7 @@ impl Knobs {
         ensures same { result ≡ self.granularity }
         ensures in_range { result ≤ greatest_setting }
     {
-        self.granularity
+        self.get(Setting::Granularity)
     }
 
     /// How far below the floor a woken task may be placed.
@@ -113,7 +101,7 @@ impl Knobs {
         ensures same { result ≡ self.credit }
         ensures in_range { result ≤ greatest_setting }
     {
-        self.credit
+        self.get(Setting::Credit)
     }
 
     /// How far above the floor a new task may be placed.
@@ -121,7 +109,7 @@ impl Knobs {
         ensures same { result ≡ self.debit }
         ensures in_range { result ≤ greatest_setting }
     {
-        self.debit
+        self.get(Setting::Debit)
     }
 
     /// How long a processor may idle beside a waiting task.
@@ -129,6 +117,6 @@ impl Knobs {
         ensures same { result ≡ self.slack }
         ensures in_range { result ≤ greatest_setting }
     {
-        self.slack
+        self.get(Setting::Slack)
     }
 }

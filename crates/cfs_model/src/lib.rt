@@ -3,6 +3,7 @@
 #![tactic(auto)]
 
 mod act;
+mod amounts;
 mod claim;
 mod examples;
 mod idle_line;
@@ -18,6 +19,7 @@ mod task;
 mod weights;
 
 pub use act::{Act, Entry, Way};
+pub use amounts::Amounts;
 pub use claim::{Claim, ClaimSort};
 pub use examples::{
     birth_example, idle_example, migration_example, nice_example, pick_example, policy_example,

@@ -229,7 +229,7 @@ impl Machine {
             _ => return Ok(()),
         };
         let floor = processor.queue.floor();
-        let low = own.max(below(floor, self.wishes.credit));
+        let low = own.max(below(floor, self.wishes.knobs.credit()));
         let high = own.max(floor);
         let v = match self.made.strategy {
             Strategy::Low => low,
@@ -270,7 +270,7 @@ impl Machine {
     /// Where a new task is placed at the processor.
     fn birth_place(&self, moment: Moment, cpu: u32) -> i64 {
         let low = self.floor(cpu);
-        let high = above(low, self.wishes.debit);
+        let high = above(low, self.wishes.knobs.debit());
         match (self.made.strategy, self.processors.get(cpu as usize)) {
             (Strategy::Picked, _) if moment.is_picked => low,
             (Strategy::Level, Some(processor)) if moment.is_picked => processor.level(low, high),

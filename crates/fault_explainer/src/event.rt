@@ -17,7 +17,9 @@ pub(crate) struct Event {
 impl Event {
     /// That of a record on a line, if there is one.
     pub(crate) fn on_line(record: &Record, line: u32) -> Option<Event> {
-        let Entry { time, act, .. } = *record.events().iter().find(|event| event.line == line)?;
+        let events = record.events();
+        let place = events.partition_point(|event| event.line < line);
+        let Entry { time, act, .. } = *events.get(place).filter(|event| event.line == line)?;
         Some(Event {
             line,
             time,

@@ -1,4 +1,4 @@
-use cfs_model::{Knobs, Memory};
+use cfs_model::{Knobs, Memory, Task};
 use queue_replay::Replay;
 use runqueue::Runqueue;
 use sched_record::Record;
@@ -35,6 +35,12 @@ impl Processor {
             Ok(replay) => Processor::after(replay, cpu, above),
             Err((_, memory)) => Err(memory),
         }
+    }
+
+    /// The task of this pid, and the processor, where it stands there.
+    pub(crate) fn place_of(&self, pid: u32) -> Option<(u32, Task)> {
+        let task = self.queue.task_at(pid)?;
+        Some((self.cpu, task))
     }
 
     /// As it is after so many steps of its replay.

@@ -35,24 +35,53 @@ impl Scene {
             Some((orig, dest)) if fault.kind != Kind::IdleTooLong => (orig, Some(dest)),
             _ => (fault.cpu, None),
         };
-        let stood = if lies_in_place(fault) {
-            stood_before(alloc, record, knobs, fault)?
-        } else {
-            None
-        };
         let here = Processor::before(alloc, record, knobs, here, fault.line)?;
         let there = match there {
             Some(cpu) => Some(Processor::before(alloc, record, knobs, cpu, fault.line)?),
             None => None,
         };
-        Ok(Scene {
+        let mut scene = Scene {
             fault,
             event,
             knobs,
             here,
             there,
-            stood,
-        })
+            stood: None,
+        };
+        if lies_in_place(fault) {
+            scene.stood = scene.stood_before(alloc, record)?;
+        }
+        Ok(scene)
+    }
+
+    /// Where the fault's task stood, at whatever processor, and how. Those that are shown are asked first, and none is
+    /// replayed again.
+    fn stood_before(&self, alloc: Global, record: &Record) -> Result<Option<(u32, Task)>, Memory> {
+        let pid = self.fault.pid;
+        let shown = self.here.place_of(pid);
+        if shown.is_some() {
+            return Ok(shown);
+        }
+        let shown = self.there.as_ref().and_then(|there| there.place_of(pid));
+        if shown.is_some() {
+            return Ok(shown);
+        }
+        for cpu in 0..record.cpus() {
+            if !self.shows(cpu) {
+                let line = self.fault.line;
+                let place =
+                    Processor::before(alloc, record, self.knobs, cpu, line)?.place_of(pid);
+                if place.is_some() {
+                    return Ok(place);
+                }
+            }
+        }
+        Ok(None)
+    }
+
+    /// Whether a processor is one of those that are shown.
+    fn shows(&self, cpu: u32) -> bool {
+        self.here.cpu == cpu || self.there.as_ref().is_some_and(|there| there.cpu == cpu)
     }
 
     /// The task as it stands at the fault's processor, or at a migration's origin.
@@ -129,22 +158,6 @@ pub(crate) fn lies_in_place(fault: FirstFault) -> bool {
                 | Kind::NextNotWaiting
                 | Kind::PrevNotRunning
         )
-}
-
-/// Where the fault's task stood, at whatever processor, and how.
-fn stood_before(
-    alloc: Global,
-    record: &Record,
-    knobs: Knobs,
-    fault: FirstFault,
-) -> Result<Option<(u32, Task)>, Memory> {
-    for cpu in 0..record.cpus() {
-        let processor = Processor::before(alloc, record, knobs, cpu, fault.line)?;
-        if let Some(task) = processor.queue.task_at(fault.pid) {
-            return Ok(Some((cpu, task)));
-        }
-    }
-    Ok(None)
 }
 
 /// Charges who runs, lifts the floor where that is asked for, and tells both.

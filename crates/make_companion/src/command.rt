@@ -1,6 +1,6 @@
 //! The command line, as clap reads it.
 
-use cfs_model::{GREATEST_SETTING, Setting};
+use cfs_model::{GREATEST_SETTING, Knobs, Setting};
 use clap::error::ErrorKind;
 use clap::{Arg, ArgMatches, Command, Error, value_parser};
 use companion_maker::{Strategy, Wishes};
@@ -32,7 +32,7 @@ pub(crate) fn command_line<'a, S: AsStr>(
 }
 
 fn command<'a>(alloc: Global) -> Result<Command<'a>, AllocError> {
-    Command::new(alloc, "make_companion")
+    let named = Command::new(alloc, "make_companion")
         .version("0.1.0")
         .about("Makes a companion for a recorded trace; sched_audit judges it")
         .bin_name("make_companion")?
@@ -48,23 +48,25 @@ fn command<'a>(alloc: Global) -> Result<Command<'a>, AllocError> {
                 .help(
                     "How tasks are placed: low, high, picked, level, or best, which tries all [default: best]",
                 ),
-        )?
-        .arg(setting(
-            alloc,
-            "credit-ns",
-            "How far below the floor a woken task may be placed [default: 3000000]",
-        ))?
-        .arg(setting(
-            alloc,
-            "debit-ns",
-            "How far above the floor a new task may be placed [default: 3000000]",
-        ))
+        )?;
+    with_settings(alloc, named)
 }
 
-/// An option with a number of nanoseconds.
-fn setting<'a>(alloc: Global, id: &'a str, help: &'a str) -> Arg<'a> {
-    Arg::new(alloc, id)
-        .long(id)
+/// The command with an option for each setting that a companion is made by.
+fn with_settings<'a>(alloc: Global, command: Command<'a>) -> Result<Command<'a>, AllocError> {
+    let mut more = command;
+    for setting in &Wishes::SETTINGS {
+        more = more.arg(option_of(alloc, *setting))?;
+    }
+    Ok(more)
+}
+
+/// A setting's option, with a number of nanoseconds.
+fn option_of(alloc: Global, setting: Setting) -> Arg<'static> {
+    let name = setting.name();
+    let help = setting.help();
+    Arg::new(alloc, name)
+        .long(name)
         .value_name("N")
         .value_parser(value_parser!(u64).range(0..=GREATEST_SETTING as i64))
         .help(help)
@@ -79,11 +81,19 @@ fn request_of<'a>(matches: &ArgMatches<'a>) -> Option<Request<'a>> {
     Some(Request {
         trace: matches.get_str("TRACE")?,
         wishes: Wishes {
-            credit: number_of(matches, Setting::Credit)?,
-            debit: number_of(matches, Setting::Debit)?,
+            knobs: knobs_of(matches)?,
             strategy,
         },
     })
+}
+
+/// The settings that the values are, the others their defaults; None where one has no sense.
+fn knobs_of(matches: &ArgMatches<'_>) -> Option<Knobs> {
+    let mut knobs = Knobs::standard();
+    for setting in &Wishes::SETTINGS {
+        knobs = knobs.with(*setting, number_of(matches, *setting)?)?;
+    }
+    Some(knobs)
 }
 
 /// A setting's number, or its default where the option isn't given; None where it is no number.

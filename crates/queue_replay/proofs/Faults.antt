@@ -11,7 +11,6 @@ use Rattle.replay_model.specs.declared.page.Tally.{Tally}
 use Rattle.replay_model.specs.declared.step.Step.{Step}
 use Rattle.queue_replay.specs.Counting.{page_draft_view}
 use Rattle.queue_replay.specs.Stretches.{IsWithin}
-use Rattle.queue_replay.specs.Needing.{needs_view}
 use Rattle.queue_replay.specs.ReplayState.{replay_state_view, IsGoing, IsPassed, IsStepped, IsUndone}
 use Rattle.runqueue.specs.Queue.{runqueue_view}
 use Rattle.queue_replay.specs.declared.replay_state.ReplayState.{ReplayState}
@@ -42,9 +41,9 @@ failed knobs cpu before needed step kind pid deadline mid new fails is same note
 pub passed : (knobs : Settings) (cpu : ℕ) (old between new : ReplayState) (step : Step)
     → IsPassed knobs cpu old step between
     → new ≡ record between { made = old.made + 1 }
-    → IsStepped knobs cpu (replay_state_view old) (needs_view old.needs) step new
+    → IsStepped knobs cpu (replay_state_view old) old.needs step new
 passed knobs cpu old between new step p e =
-    subst (λ (c : ReplayState). IsStepped knobs cpu (replay_state_view old) (needs_view old.needs) step c) (sym e)
+    subst (λ (c : ReplayState). IsStepped knobs cpu (replay_state_view old) old.needs step c) (sym e)
     (inl (p.passes, record { fault = ap (λ x. x.fault) p.passes.1.passes.page; within = p.within }))
 
 -- a step that was undone

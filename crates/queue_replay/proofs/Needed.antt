@@ -18,6 +18,7 @@ use Rattle.replay_model.specs.Part.{Part, Entity, IsIn, place_in}
 use Rattle.replay_model.specs.declared.step.Deed.{Deed}
 use Rattle.replay_model.specs.declared.step.Deed.TheVariants.{Switch, Wake, Born, Leave, Arrive}
 use Rattle.replay_model.specs.declared.step.Step.{Step}
+use Rattle.cfs_model.proofs.LeastSettings.{larger_nothing, larger_of_three}
 use Rattle.replay_model.proofs.Clear.{place_or}
 use Rattle.replay_model.proofs.PartFacts.{task_in}
 use Rattle.queue_replay.specs.Needing.{IsNeed, PassesRaising, step_needs}
@@ -146,25 +147,6 @@ needs_of_step since found step need idle n i = record {
     of_idling (Leave pid nice dest) = refl
     of_idling (Arrive pid nice orig idles) = refl
 
--- settings that agree in each of the four are the same
-same_settings : (x y : Settings) → x.granularity ≡ y.granularity → x.credit ≡ y.credit → x.debit ≡ y.debit
-    → x.slack ≡ y.slack → x ≡ y
-same_settings x y g c d s =
-    ap (λ n. record { granularity = n; credit = x.credit; debit = x.debit; slack = x.slack }) g
-    ∙ ap (λ n. record { granularity = y.granularity; credit = n; debit = x.debit; slack = x.slack }) c
-    ∙ ap (λ n. record { granularity = y.granularity; credit = y.credit; debit = n; slack = x.slack }) d
-    ∙ ap (λ n. record { granularity = y.granularity; credit = y.credit; debit = y.debit; slack = n }) s
-
--- the larger of settings and of those that let nothing pass, in either order
-larger_none : (here : Settings) → larger (only_slack 0) here ≡ larger here (only_slack 0)
-larger_none here = same_settings (larger (only_slack 0) here) (larger here (only_slack 0)) (omega arith) (omega arith)
-    (omega arith) (omega arith)
-
--- the larger of three settings, whichever two come first
-larger_of_three : (x y z : Settings) → larger (larger x y) z ≡ larger x (larger y z)
-larger_of_three x y z = same_settings (larger (larger x y) z) (larger x (larger y z)) (omega arith) (omega arith)
-    (omega arith) (omega arith)
-
 -- one more step
 needing_push : (knobs : Settings) (cpu : ℕ) (before : ReplayStateView) (steps : List Step) (between : ReplayStateView)
     (needed : Settings)
@@ -177,7 +159,7 @@ needing_push knobs cpu before [] between needed step after here r p = (
   only_slack 0,
   subst (λ x. PassesNeeding knobs cpu x step after here) r.0 p,
   (refl, refl),
-  ap (λ n. larger n here) r.1 ∙ larger_none here,
+  ap (λ n. larger n here) r.1 ∙ larger_nothing here,
 )
 needing_push knobs cpu before (first ∷ steps) between needed step after here r p = (
   r.0,

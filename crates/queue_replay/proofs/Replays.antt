@@ -16,7 +16,6 @@ use Rattle.replay_model.specs.declared.page.StepFault.{StepFault}
 use Rattle.replay_model.specs.declared.step.Step.{Step}
 use Rattle.replay_model.proofs.Replayed.{IsReplay-push}
 use Rattle.queue_replay.specs.Counting.{page_draft_view}
-use Rattle.queue_replay.specs.Needing.{needs_view}
 use Rattle.queue_replay.specs.ReplayState.{replay_state_view, IsGoing, IsStepped}
 use Rattle.queue_replay.specs.Made.{IsUnderWay, IsAt, IsFaultless, IsPartAfter, GoesOn}
 use Rattle.queue_replay.specs.declared.replay_state.ReplayState.{ReplayState}
@@ -53,16 +52,16 @@ pub record IsReached (s : StreamView) (knobs : Settings) (c : ReplayState) : Typ
   pub is_start : IsStartOf s start
   pub replay : IsReplay knobs s.cpu start (take c.made s.steps) (replay_state_view c)
   pub needing : c.draft.fault ≡ None → AllPassNeeding knobs s.cpu start (take c.made s.steps) (replay_state_view c)
-      (needs_view c.needs)
+      c.needs
   pub going : c.draft.fault ≡ None → IsGoing c
 
 pub reached_one_more : (s : StreamView) (knobs : Settings) (old new : ReplayState) (step : Step) (cpu : ℕ) → cpu ≡ s.cpu
     → IsUnderWay s knobs old
     → old.made < length s.steps → step ≡ get_or s.steps old.made step
-    → IsStepped knobs cpu (replay_state_view old) (needs_view old.needs) step new → new.made ≡ old.made + 1
+    → IsStepped knobs cpu (replay_state_view old) old.needs step new → new.made ≡ old.made + 1
     → IsReached s knobs new
 reached_one_more s knobs old new step cpu same u within is stepped made =
-    go (subst (λ n. IsStepped knobs n (replay_state_view old) (needs_view old.needs) step new) same stepped)
+    go (subst (λ n. IsStepped knobs n (replay_state_view old) old.needs step new) same stepped)
   where
     more : PassesStep knobs s.cpu (replay_state_view old) step (replay_state_view new)
         ⊎ FailsStep knobs s.cpu (replay_state_view old) step (replay_state_view new)
@@ -71,15 +70,15 @@ reached_one_more s knobs old new step cpu same u within is stepped made =
         (replay_more knobs s.cpu u.start s.steps old.made (replay_state_view old) step
         (replay_state_view new) within is u.replay u.going.fault h)
 
-    go : IsStepped knobs s.cpu (replay_state_view old) (needs_view old.needs) step new → IsReached s knobs new
+    go : IsStepped knobs s.cpu (replay_state_view old) old.needs step new → IsReached s knobs new
     go (inl p) = record {
       start = u.start;
       is_start = u.is_start;
       replay = more (inl p.0.1.passes);
       needing = λ _. subst (λ n. AllPassNeeding knobs s.cpu u.start (take n s.steps) (replay_state_view new)
-          (needs_view new.needs)) (sym made)
-          (needing_more knobs s.cpu u.start s.steps old.made (replay_state_view old) (needs_view old.needs) step
-          (replay_state_view new) (needs_view new.needs)
+          new.needs) (sym made)
+          (needing_more knobs s.cpu u.start s.steps old.made (replay_state_view old) old.needs step
+          (replay_state_view new) new.needs
           within is u.needing p.0);
       going = λ _. p.1;
     }
@@ -150,7 +149,7 @@ pub at_end : (s : StreamView) (knobs : Settings) (c after : ReplayState) → IsR
     → after.made ≡ c.made
     → runqueue_view after.queue ≡ runqueue_view c.queue → after.since ≡ c.since
     → page_draft_view after.draft ≡ end_page knobs.slack s c.since c.draft.fault (page_draft_view c.draft)
-    → (c.draft.fault ≡ None → needs_view after.needs ≡ larger (needs_view c.needs)
+    → (c.draft.fault ≡ None → after.needs ≡ larger c.needs
     (only_slack (idle_need c.since s.last_time)))
     → IsAt s knobs after
 at_end s knobs c after r last made part since noted raised = record {
@@ -182,8 +181,8 @@ at_end s knobs c after r last made part since noted raised = record {
         start = r.start;
         is_start = r.is_start;
         end = replay_state_view c;
-        of_steps = needs_view c.needs;
-        all_pass = subst (λ l. AllPassNeeding knobs s.cpu r.start l (replay_state_view c) (needs_view c.needs))
+        of_steps = c.needs;
+        all_pass = subst (λ l. AllPassNeeding knobs s.cpu r.start l (replay_state_view c) c.needs)
             (take_all c.made s.steps (omega arith)) (r.needing u.0);
         page_is = noted ∙ u.1;
         needs_are = raised u.0;
@@ -193,14 +192,14 @@ at_end s knobs c after r last made part since noted raised = record {
 
 -- a state before the first step
 pub reached_start : (s : StreamView) (knobs : Settings) (c : ReplayState) → c.made ≡ 0
-    → IsStartOf s (replay_state_view c) → IsGoing c → needs_view c.needs ≡ only_slack 0
+    → IsStartOf s (replay_state_view c) → IsGoing c → c.needs ≡ only_slack 0
     → IsReached s knobs c
 reached_start s knobs c e start going none = record {
   start = replay_state_view c;
   is_start = start;
   replay = subst (λ n. IsReplay knobs s.cpu (replay_state_view c) (take n s.steps) (replay_state_view c)) (sym e) refl;
   needing = λ _. subst (λ n. AllPassNeeding knobs s.cpu (replay_state_view c) (take n s.steps) (replay_state_view c)
-      (needs_view c.needs)) (sym e) (refl, none);
+      c.needs) (sym e) (refl, none);
   going = λ _. going;
 }
 

@@ -9,7 +9,7 @@ use Rattle.replay_model.specs.Page.{ReplayStateView, IsStartOf, IsReplay, IsPage
 use Rattle.replay_model.specs.Part.{Part}
 use Rattle.replay_model.specs.declared.page.StepFault.{StepFault}
 use Rattle.queue_replay.specs.Counting.{page_draft_view}
-use Rattle.queue_replay.specs.Needing.{HasNeeds, needs_view}
+use Rattle.queue_replay.specs.Needing.{HasNeeds}
 use Rattle.queue_replay.specs.ReplayState.{replay_state_view, IsGoing}
 use Rattle.queue_replay.specs.declared.replay_state.ReplayState.{ReplayState}
 use Rattle.queue_replay.specs.declared.state.State.{State}
@@ -24,7 +24,7 @@ pub record IsUnderWay (stream : StreamView) (knobs : Settings) (state : ReplaySt
   pub is_start : IsStartOf stream start
   pub replay : IsReplay knobs stream.cpu start (take state.made stream.steps) (replay_state_view state)
   pub needing : AllPassNeeding knobs stream.cpu start (take state.made stream.steps) (replay_state_view state)
-      (needs_view state.needs)
+      state.needs
   pub going : IsGoing state
 
 -- the part of a processor, and since when it has idled beside a waiting task, after the first steps of its stream's
@@ -43,7 +43,7 @@ pub record IsAt (stream : StreamView) (knobs : Settings) (state : ReplayState) :
   pub within : state.made ≤ length stream.steps
   pub is_part : IsPartAfter stream knobs state.made (runqueue_view state.queue) state.since
   pub is_page : IsPageOf stream knobs state.made (page_draft_view state.draft)
-  pub has_needs : HasNeeds stream knobs state.made (page_draft_view state.draft) (needs_view state.needs)
+  pub has_needs : HasNeeds stream knobs state.made (page_draft_view state.draft) state.needs
   pub under_way : state.draft.fault ≡ None → state.made < length stream.steps → IsUnderWay stream knobs state
 
 -- a replay with this page, after so many steps of so many

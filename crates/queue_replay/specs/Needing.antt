@@ -11,11 +11,6 @@ use Rattle.replay_model.specs.Part.{Part}
 use Rattle.replay_model.specs.declared.step.Deed.{Deed}
 use Rattle.replay_model.specs.declared.step.Deed.TheVariants.{Switch, Wake, Born, Leave, Arrive}
 use Rattle.replay_model.specs.declared.step.Step.{Step}
-use Rattle.queue_replay.specs.declared.needs.Needs.{Needs}
-
--- the needs as the settings that meet them
-abbrev pub needs_view : Needs → Settings
-needs_view n = record { granularity = n.granularity; credit = n.credit; debit = n.debit; slack = n.slack }
 
 -- what a deed needs of the one setting that it asks for; a task that leaves or comes asks for none
 abbrev pub IsNeed : Part → Deed → Option Claim → ℕ → Type 0

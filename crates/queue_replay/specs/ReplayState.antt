@@ -4,7 +4,7 @@ use Rattle.cfs_model.specs.Settings.{Settings}
 use Rattle.replay_model.specs.Page.{ReplayStateView, FailsStep}
 use Rattle.replay_model.specs.declared.step.Step.{Step}
 use Rattle.queue_replay.specs.Counting.{page_draft_view}
-use Rattle.queue_replay.specs.Needing.{needs_view, PassesRaising}
+use Rattle.queue_replay.specs.Needing.{PassesRaising}
 use Rattle.runqueue.specs.Queue.{runqueue_view}
 use Rattle.queue_replay.specs.Stretches.{IsWithin}
 use Rattle.queue_replay.specs.declared.replay_state.ReplayState.{ReplayState}
@@ -24,14 +24,14 @@ pub record IsGoing (state : ReplayState) : Type 0 where
 
 -- the step passed, and was noted
 pub record IsPassed (knobs : Settings) (cpu : ℕ) (old : ReplayState) (step : Step) (new : ReplayState) : Type 0 where
-  pub passes : PassesRaising knobs cpu (replay_state_view old) (needs_view old.needs) step (replay_state_view new)
-      (needs_view new.needs)
+  pub passes : PassesRaising knobs cpu (replay_state_view old) old.needs step (replay_state_view new)
+      new.needs
   pub within : All (IsWithin (old.made + 1)) new.draft.tallies.list.items
 
 -- a step was made, which passed, or failed
 abbrev pub IsStepped : Settings → ℕ → ReplayStateView → Settings → Step → ReplayState → Type 0
 IsStepped knobs cpu before needed step new =
-    (PassesRaising knobs cpu before needed step (replay_state_view new) (needs_view new.needs) × IsGoing new)
+    (PassesRaising knobs cpu before needed step (replay_state_view new) new.needs × IsGoing new)
     ⊎ FailsStep knobs cpu before step (replay_state_view new)
 
 -- a step that failed, or met want of memory, was undone

@@ -27,7 +27,6 @@ mod tag;
 mod tally_book;
 
 pub use lists::{LifeEvents, Tallies, Tickets};
-pub use needs::Needs;
 pub use page::Page;
 pub use replay::Replay;
 pub use state::State;

@@ -1,13 +1,12 @@
 ghost use Rattle.std.specs.Prelude.{◌≡◌, length};
 ghost use Rattle.replay_model.specs.Page.{IsPageOf};
 ghost use Rattle.queue_replay.specs.Made.{reached_of};
-ghost use Rattle.queue_replay.specs.Needing.{HasNeeds, needs_view};
+ghost use Rattle.queue_replay.specs.Needing.{HasNeeds};
 ghost use Rattle.sched_record.specs.Stream.{stream_view};
 
 use crate::found::Found;
-use crate::needs::Needs;
 use crate::tag::{Reached, Tag};
-use cfs_model::Knobs;
+use cfs_model::{Amounts, Knobs};
 use replay_model::{LifeEvent, StepFault, Tally, Ticket};
 use sched_record::Stream;
 use std::marker::Model;
@@ -18,13 +17,13 @@ pub struct Page {
     pub(crate) stream: Stream,
     pub(crate) knobs: Knobs,
     pub(crate) made: usize,
-    pub(crate) needs: Needs,
+    pub(crate) needs: Amounts,
     pub(crate) found: Found,
 }
 
 impl Model for Page {
     ghost use Rattle.queue_replay.specs.Found.{found_view};
-    ghost use Rattle.queue_replay.specs.Needing.{HasNeeds, needs_view};
+    ghost use Rattle.queue_replay.specs.Needing.{HasNeeds};
     ghost use Rattle.queue_replay.specs.Replay.{ReplayView};
     ghost use Rattle.replay_model.specs.Page.{IsPageOf};
     ghost use Rattle.sched_record.specs.Stream.{stream_view};
@@ -36,11 +35,11 @@ impl Model for Page {
       knobs = p.knobs;
       made = p.made;
       page = found_view p.found;
-      needs = needs_view p.needs;
+      needs = p.needs;
     } };
 
     ghost invariant = { λ p. IsPageOf (stream_view p.stream) p.knobs p.made (found_view p.found)
-        × HasNeeds (stream_view p.stream) p.knobs p.made (found_view p.found) (needs_view p.needs) };
+        × HasNeeds (stream_view p.stream) p.knobs p.made (found_view p.found) p.needs };
 }
 
 impl Page {
@@ -62,8 +61,8 @@ impl Page {
 
     /// What its steps need of each setting, and the processor that idles at the record's last time; where a step
     /// failed, or some are left, nothing is said of them.
-    pub fn needs(&self) -> Needs
-        ensures { needs_view result ≡ self.now.needs }
+    pub fn needs(&self) -> Amounts
+        ensures { result ≡ self.now.needs }
     {
         self.needs
     }

@@ -27,7 +27,6 @@ pub struct Replay {
 impl Model for Replay {
     ghost use Rattle.queue_replay.specs.Counting.{page_draft_view};
     ghost use Rattle.queue_replay.specs.Made.{IsAt};
-    ghost use Rattle.queue_replay.specs.Needing.{needs_view};
     ghost use Rattle.queue_replay.specs.Replay.{ReplayView};
     ghost use Rattle.sched_record.specs.Stream.{stream_view};
 
@@ -39,7 +38,7 @@ impl Model for Replay {
       made =
           replay.state.made;
       page = page_draft_view replay.state.draft;
-      needs = needs_view replay.state.needs;
+      needs = replay.state.needs;
     } };
 
     ghost invariant = { λ replay. IsAt (stream_view replay.stream) replay.knobs replay.state };

@@ -5,16 +5,15 @@ ghost use Rattle.replay_model.specs.Page.{FailsTest, IsSince, deadline_of, with_
 ghost use Rattle.replay_model.specs.QueueTests.{IsIdleTooLong};
 ghost use Rattle.cfs_model.specs.declared.kind.Kind.TheVariants.{IdleTooLong};
 ghost use Rattle.queue_replay.specs.Counting.{HasDraftRoom};
-ghost use Rattle.queue_replay.specs.Needing.{needs_view};
 ghost use Rattle.runqueue.specs.Queue.{runqueue_view};
 ghost use Rattle.queue_replay.specs.ReplayState.{IsGoing, IsPassed, IsStepped, IsUndone, replay_state_view};
 
 use crate::failed_test::FailedTest;
-use crate::needs::Needs;
+use crate::needs::raise;
 use crate::outcome::Outcome;
 use crate::page_draft::PageDraft;
 use crate::renice::try_step;
-use cfs_model::{IDLE_PID, Kind, Knobs, Memory};
+use cfs_model::{Amounts, IDLE_PID, Kind, Knobs, Memory};
 use replay_model::{Step, StepFault};
 use runqueue::Runqueue;
 
@@ -27,7 +26,7 @@ pub(crate) struct ReplayState {
     /// Since when nothing has run here while somebody waited, in nanoseconds; if that is so.
     pub since: Option<u64>,
     /// What the steps made need.
-    pub needs: Needs,
+    pub needs: Amounts,
     pub draft: PageDraft,
 }
 
@@ -38,7 +37,7 @@ impl ReplayState {
         requires few { self.old.made < 2 ^ 64 - 1 }
         ensures made { OnOk result (self.new.made ≡ self.old.made + 1) }
         ensures stepped { OnOk result (IsStepped knobs cpu (replay_state_view self.old)
-            (needs_view self.old.needs) step.now self.new) }
+            self.old.needs step.now self.new) }
         ensures memory { OnErr result (IsGoing self.new × (replay_state_view self.new ≡ replay_state_view self.old)
             × (self.new.made ≡ self.old.made) × (self.new.needs ≡ self.old.needs)) }
     {
@@ -53,7 +52,7 @@ impl ReplayState {
         requires draft { HasDraftRoom step.now.deed self.old.draft }
         ensures made { OnOk result (self.new.made ≡ self.old.made + 1) }
         ensures stepped { OnOk result (IsStepped knobs cpu (replay_state_view self.old)
-            (needs_view self.old.needs) step.now self.new) }
+            self.old.needs step.now self.new) }
         ensures memory { OnErr result (IsUndone self.old self.new) }
     {
         if let Some(deadline) = idle_deadline(self.since, step.time, knobs.slack()) {
@@ -127,7 +126,7 @@ impl ReplayState {
         self.draft.note_stretch(runner, time, self.made);
         self.draft.note(step, deed.ticket, self.made);
         let idled = idled_time(self.since, step.time);
-        self.needs.raise(step.deed, deed.need, idled);
+        raise(&mut self.needs, step.deed, deed.need, idled);
         self.since = since_after(self.since, step.time, &self.queue);
         Ok(None)
     }

@@ -3,17 +3,16 @@ ghost use Rattle.cfs_model.specs.Least.{larger};
 ghost use Rattle.replay_model.specs.Needs.{idle_need, only_slack};
 ghost use Rattle.replay_model.specs.Page.{IsStartOf, end_page};
 ghost use Rattle.queue_replay.specs.Counting.{page_draft_view};
-ghost use Rattle.queue_replay.specs.Needing.{needs_view};
 ghost use Rattle.queue_replay.specs.ReplayState.{IsGoing, replay_state_view};
 ghost use Rattle.queue_replay.specs.Made.{IsAt, IsCut, GoesOn};
 ghost use Rattle.runqueue.specs.Queue.{runqueue_view};
 ghost use Rattle.sched_record.specs.Stream.{stream_view};
 
-use crate::needs::Needs;
+use crate::needs::raise_slack;
 use crate::page_draft::PageDraft;
 use crate::replay_state::{ReplayState, idle_deadline, idled_time, since_after};
 use crate::tally_book::TallyBook;
-use cfs_model::{IDLE_PID, Kind, Knobs, Memory, NO_LINE};
+use cfs_model::{Amounts, IDLE_PID, Kind, Knobs, Memory, NO_LINE};
 use replay_model::StepFault;
 use runqueue::Runqueue;
 use sched_record::Stream;
@@ -77,7 +76,7 @@ fn advance(stream: &Stream, knobs: Knobs, state: &mut ReplayState) -> Result<(),
 fn end_test(stream: &Stream, knobs: Knobs, state: &mut ReplayState)
     ensures made { state.new.made ≡ state.old.made }
     ensures needs { state.old.draft.fault ≡ None
-        → needs_view state.new.needs ≡ larger (needs_view state.old.needs)
+        → state.new.needs ≡ larger state.old.needs
         (only_slack (idle_need state.old.since (stream_view stream.now).last_time)) }
     ensures part { runqueue_view state.new.queue ≡ runqueue_view state.old.queue }
     ensures since { state.new.since ≡ state.old.since }
@@ -88,7 +87,7 @@ fn end_test(stream: &Stream, knobs: Knobs, state: &mut ReplayState)
         return;
     }
     let idled = idled_time(state.since, stream.last_time());
-    state.needs.raise_slack(idled);
+    raise_slack(&mut state.needs, idled);
     if let Some(deadline) = idle_deadline(state.since, stream.last_time(), knobs.slack()) {
         state.draft.fault = Some(StepFault {
             line: stream.last_line(),
@@ -116,13 +115,13 @@ fn before_steps(alloc: Global, stream: &Stream) -> Result<ReplayState, Memory>
     ensures made { IfOk result (λ state. state.made ≡ 0) }
     ensures start { IfOk result (λ state. IsStartOf (stream_view stream.now) (replay_state_view state)) }
     ensures going { IfOk result IsGoing }
-    ensures needs { IfOk result (λ state. needs_view state.needs ≡ only_slack 0) }
+    ensures needs { IfOk result (λ state. state.needs ≡ only_slack 0) }
 {
     let queue = Runqueue::of_tasks(alloc, stream.tasks(), stream.floor(), stream.start())?;
     Ok(ReplayState {
         made: 0,
         since: since_after(None, stream.start(), &queue),
-        needs: Needs::NONE,
+        needs: Amounts::none(),
         queue,
         draft: PageDraft {
             line: NO_LINE,

@@ -1,6 +1,6 @@
 -- What a step of one processor needs of each setting, and what the page of all its steps does (this project's profile).
 use Rattle.std.specs.Prelude.{◌≡◌, ℕ, zero, suc, ◌-◌, Option, Some, None, ℤ, pos, ◌+ℤ◌, ◌≤ℤ◌, ◌⊎◌, List, [], ◌∷◌}
-use Rattle.cfs_model.specs.Settings.{Settings}
+use Rattle.cfs_model.specs.Settings.{Settings, only}
 use Rattle.cfs_model.specs.Least.{larger}
 use Rattle.replay_model.specs.Part.{Part, Entity}
 use Rattle.replay_model.specs.Deeds.{part_after_prev}
@@ -8,6 +8,7 @@ use Rattle.replay_model.specs.Cut.{StreamView}
 use Rattle.replay_model.specs.Noted.{PageView}
 use Rattle.replay_model.specs.Page.{ReplayStateView, IsStartOf, PassesStep}
 use Rattle.cfs_model.specs.declared.claim.Claim.{Claim}
+use Rattle.cfs_model.specs.declared.setting.Setting.TheVariants.{Slack}
 use Rattle.cfs_model.specs.declared.task.Place.TheVariants.{Wait}
 use Rattle.replay_model.specs.declared.step.Deed.{Deed}
 use Rattle.replay_model.specs.declared.step.Deed.TheVariants.{Switch, Wake, Born}
@@ -66,7 +67,7 @@ pub record PassesNeeding (knobs : Settings) (cpu : ℕ) (before : ReplayStateVie
 
 -- settings of a slack alone
 abbrev pub only_slack : ℕ → Settings
-only_slack slack = record { granularity = 0; credit = 0; debit = 0; slack = slack }
+only_slack slack = only Slack slack
 
 -- the replay goes on by steps that all pass, and needs has of each setting the greatest that one of them needs
 abbrev pub AllPassNeeding : Settings → ℕ → ReplayStateView → List Step → ReplayStateView → Settings → Type 0

@@ -1,7 +1,7 @@
 use crate::answers::wants;
 use crate::calls::{only, page_after, page_at, replay_at, stands};
 use crate::recordings::{Recording, recording_at, recordings};
-use cfs_model::Knobs;
+use cfs_model::{Knobs, Setting};
 use queue_replay::{Page, Reached, Replay, State, Tag};
 use replay_model::{LifeEvent, StepFault, Tally};
 use std::alloc::Global;
@@ -164,7 +164,9 @@ const TO_THE_SECOND: &[u8] =
 
 /// How far a trace from there is replayed without a granularity.
 fn picked(alloc: Global, trace: &[u8]) -> Result<Reached, Fail> {
-    let knobs = Knobs::new(0, 3_000_000, 3_000_000, 100_000).ok_or("settings in range")?;
+    let knobs = Knobs::standard()
+        .with(Setting::Granularity, 0)
+        .ok_or("settings in range")?;
     let page = page_after(replay_at(alloc, trace, EQUALLY_LOW, 0, knobs)?, 1)?;
     Ok(page.tag().reached)
 }

@@ -4,13 +4,13 @@ ghost use Rattle.std.specs.Bool.{OnTrue};
 ghost use Rattle.std.specs.Prelude.{◌≡◌, IfOk, IfSome, None, false, map};
 ghost use Rattle.clap.specs.Walk.{first_of};
 ghost use Rattle.clap.specs.Words.{app_of, found_of, rows_of, rule_of};
-ghost use Rattle.cfs_model.specs.Settings.{AreInRange, all_settings, settings_by};
+ghost use Rattle.cfs_model.specs.Settings.{AreInRange, all_settings, nothing, settings_by};
 ghost use Rattle.sched_audit.specs.CommandLine.{HasNoSetting, HaveNone, IsAskedBy, IsRequestOf, audit_app};
 ghost use Rattle.sched_audit.specs.CommandLine.{beside_none, flag_rule, is_flagged, lone_flag_rule};
-ghost use Rattle.sched_audit.specs.CommandLine.{name_rule, setting_of, setting_rule, with_settings};
+ghost use Rattle.sched_audit.specs.CommandLine.{name_rule, setting_of, setting_rule, with_settings, with_values};
 
 use crate::Request;
-use cfs_model::{GREATEST_SETTING, Knobs, Setting};
+use cfs_model::{Amounts, GREATEST_SETTING, Knobs, Setting};
 use clap::error::ErrorKind;
 use clap::{Arg, ArgAction, ArgMatches, Command, Error, value_parser};
 use std::alloc::{AllocError, Global};
@@ -180,12 +180,19 @@ fn knobs_of(matches: &ArgMatches<'_>) -> Option<Knobs>
     ensures same { IfSome result (λ knobs. knobs ≡ settings_by (setting_of (rows_of (found_of matches.now)))) }
     ensures in_range { IfSome result (λ _. AreInRange (settings_by (setting_of (rows_of (found_of matches.now))))) }
 {
-    Knobs::new(
-        number_of(matches, Setting::Granularity)?,
-        number_of(matches, Setting::Credit)?,
-        number_of(matches, Setting::Debit)?,
-        number_of(matches, Setting::Slack)?,
-    )
+    Knobs::of(amounts_of(matches, &Setting::ALL)?)
+}
+
+/// The values of these settings, and nothing of any other; None where one has no sense.
+fn amounts_of(matches: &ArgMatches<'_>, settings: &[Setting]) -> Option<Amounts>
+    ensures { IfSome result (λ amounts. amounts
+        ≡ with_values (setting_of (rows_of (found_of matches.now))) settings.now nothing) }
+{
+    let mut amounts = Amounts::none();
+    for setting in settings {
+        amounts = amounts.with(*setting, number_of(matches, *setting)?);
+    }
+    Some(amounts)
 }
 
 /// A setting's number, or its default where its option isn't given; None where it is no number.

@@ -1,6 +1,7 @@
 //! The report of an audit, and behind it why that is a fault, or which line is refused.
 use crate::keeping_feed::KeepingFeed;
 use crate::line_finding::line_of;
+use crate::line_marks::Mark;
 use cfs_model::Knobs;
 use fault_explainer::{explanation, quoted_line};
 use replay_model::FirstFault;
@@ -12,7 +13,7 @@ use sched_record::Record;
 use std::alloc::Global;
 use std::fs::{File, OpenFile};
 use std::io;
-use std::io::{ErrorKind, Read, Write};
+use std::io::{ErrorKind, Read, Seek, SeekFrom, Write};
 use std::rt::Files;
 use std::sync::Wait;
 use std::thread::Threads;
@@ -78,7 +79,7 @@ fn told_of<J: Judgement, R: Files, F: Feed>(
                 ..
             },
             Kept::Companion(text),
-        ) => quoted(alloc, text.as_slice(), line),
+        ) => quoted(alloc, text.as_slice(), 0, line),
         (Outcome::Text { line, .. }, _) => quoted_trace(rt, alloc, request.trace, trace, line),
         (Outcome::Judged(_), Kept::Companion(_)) => Ok(None),
     }
@@ -105,7 +106,8 @@ fn with_explanation(
     }
 }
 
-/// The trace's line of this number: from what was kept of it, else from the file, which is opened again.
+/// The trace's line of this number: from what was kept of it, else from the file, which is opened again. It is sought
+/// from the last mark before it on.
 fn quoted_trace<R: Files, F: Feed>(
     rt: &R,
     alloc: Global,
@@ -113,18 +115,36 @@ fn quoted_trace<R: Files, F: Feed>(
     trace: &KeepingFeed<F>,
     number: u64,
 ) -> Result<Option<Vec<u8>>, Fault> {
+    let mark = trace.mark_before(number);
     match trace.kept()? {
-        Some(text) => quoted(alloc, text, number),
-        None => match File::open(rt, name) {
-            Ok(file) => quoted(alloc, file, number),
+        Some(text) => quoted(alloc, from(text, mark), mark.lines, number),
+        None => match opened_at(rt, name, mark) {
+            Ok(file) => quoted(alloc, file, mark.lines, number),
             Err(error) => unread(&error),
         },
     }
 }
 
-/// The line of this number of what is read, as it is shown.
-fn quoted<T: Read + Drop>(alloc: Global, text: T, number: u64) -> Result<Option<Vec<u8>>, Fault> {
-    match line_of(alloc, text, number) {
+/// A text from a mark on.
+fn from(text: &[u8], mark: Mark) -> &[u8] {
+    text.get(mark.offset as usize..).unwrap_or(&[])
+}
+
+/// A file, which is read from a mark on.
+fn opened_at<R: Files>(rt: &R, name: &str, mark: Mark) -> io::Result<R::File> {
+    let mut file = File::open(rt, name)?;
+    file.seek(SeekFrom::Start(mark.offset))?;
+    Ok(file)
+}
+
+/// The line of this number, as it is shown; what is read begins behind so many lines of the text.
+fn quoted<T: Read + Drop>(
+    alloc: Global,
+    text: T,
+    before: u64,
+    number: u64,
+) -> Result<Option<Vec<u8>>, Fault> {
+    match line_of(alloc, text, number.saturating_sub(before)) {
         Ok(line) => {
             let line = line.as_ref().map(|line| line.as_slice());
             Ok(Some(quoted_line(alloc, number, line)?))

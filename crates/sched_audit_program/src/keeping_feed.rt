@@ -1,16 +1,18 @@
 ghost use Rattle.std.specs.Prelude.{◌≡◌};
 
+use crate::line_marks::{LineMarks, Mark};
 use cfs_model::Memory;
 use sched_audit::{Failed, Feed};
 use std::alloc::Global;
 
-/// A feed that keeps what it gives, where that is asked for.
+/// A feed that keeps what it gives, where that is asked for, and marks where its lines lie.
 #[derive(Drop)]
 pub(crate) struct KeepingFeed<F> {
     feed: F,
     keeps: bool,
     /// What was given, or that there is no memory for it.
     kept: Result<Vec<u8>, Memory>,
+    marks: LineMarks,
 }
 
 impl<F: Feed> KeepingFeed<F> {
@@ -21,6 +23,7 @@ impl<F: Feed> KeepingFeed<F> {
             feed,
             keeps,
             kept: Ok(Vec::new(alloc)),
+            marks: LineMarks::new(alloc),
         }
     }
 
@@ -33,10 +36,16 @@ impl<F: Feed> KeepingFeed<F> {
         }
     }
 
-    /// Keeps more of what is given.
-    fn keep(&mut self, bytes: &[u8])
+    /// The last mark before the line of this number, from 1.
+    pub(crate) fn mark_before(&self, number: u64) -> Mark {
+        self.marks.before(number)
+    }
+
+    /// Marks the lines of more that is given, and keeps it.
+    fn pass(&mut self, bytes: &[u8])
         ensures { self.new.feed ≡ self.old.feed }
     {
+        self.marks.pass(bytes);
         if let Ok(kept) = &mut self.kept {
             if self.keeps && kept.extend_from_slice(bytes).is_err() {
                 self.kept = Err(Memory);
@@ -57,7 +66,7 @@ impl<F: Feed> Feed for KeepingFeed<F> {
     fn read(&mut self, buf: &mut [u8]) -> Result<usize, Failed> {
         match self.feed.read(buf) {
             Ok(count) => {
-                self.keep(&buf[..count]);
+                self.pass(&buf[..count]);
                 Ok(count)
             }
             Err(failed) => Err(failed),

@@ -6,6 +6,7 @@ mod ending;
 mod explaining;
 mod keeping_feed;
 mod line_finding;
+mod line_marks;
 
 use ending::Ending;
 use std::process::ExitCode;

@@ -3,7 +3,6 @@ use Rattle.std.proofs.Common.{◌≡◌, ℕ, ◌<◌, ◌≤◌, Some, None, Li
 use Rattle.cfs_model.specs.Laws.{GreatestTellBadAtAll}
 use Rattle.cfs_model.specs.Least.{AreLeast, greatest_settings}
 use Rattle.cfs_model.specs.Settings.{AreInRange}
-use Rattle.cfs_model.specs.declared.setting.Setting.TheVariants.{Granularity, Credit, Debit, Slack}
 use Rattle.cfs_model.specs.Start.{start_machine}
 use Rattle.replay_laws.specs.FirstFaults.{FaultIsFirstBad}
 use Rattle.replay_laws.specs.Closing.{PagesTellFault, PagesTellRun, SilentPagesAreDone}
@@ -21,6 +20,7 @@ use Rattle.ticket_book.specs.NeedsOfPages.{HaveNeeds, needs_at}
 use Rattle.ticket_book.specs.SaidEvents.{events_of}
 use Rattle.ticket_book.specs.Told.{Tell, view_at}
 use Rattle.ticket_book.specs.Whole.{AreSufficient}
+use Rattle.cfs_model.proofs.BadAtAll.{at_most_greatest}
 use Rattle.ticket_book.proofs.LargestNeeds.{needs_there}
 use Rattle.ticket_book.proofs.Verdicts.{fault_is_verdict, in_record, page_there, suffices_among}
 use Rattle.replay_model.specs.declared.first_fault.FirstFault.{FirstFault}
@@ -76,4 +76,4 @@ module _ (r : RecordView) (pages : List ReplayView) (sufficient : AreSufficient 
           let most = least_of.least greatest_settings
           (runs greatest_settings r.start r.floors r.tasks (events_of r) (length pages) (view_at pages)
           (in_record greatest_settings r pages sufficient o) suffice nothing) in
-          (most Granularity, (most Credit, (most Debit, (most Slack, tt))))
+          at_most_greatest (largest (needs_at pages) (length pages)) most

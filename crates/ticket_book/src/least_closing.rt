@@ -2,7 +2,6 @@
 ghost use Rattle.std.specs.Prelude.{◌≡◌, IfOk, length};
 ghost use Rattle.cfs_model.specs.Least.{greatest_settings};
 ghost use Rattle.cfs_model.specs.Settings.{AreInRange};
-ghost use Rattle.queue_replay.specs.Needing.{needs_view};
 ghost use Rattle.replay_model.specs.Needs.{largest};
 ghost use Rattle.sched_record.specs.Record.{record_view};
 ghost use Rattle.ticket_book.specs.LeastAnswer.{IsLeastAnswer};
@@ -11,8 +10,8 @@ ghost use Rattle.ticket_book.specs.Whole.{AreSufficient};
 
 use crate::LeastSettings;
 use crate::closing::told_by;
-use cfs_model::{Knobs, Memory, least_settings};
-use queue_replay::{Needs, Page};
+use cfs_model::{Amounts, Knobs, Memory, least_settings};
+use queue_replay::Page;
 use replay_laws::{closing, first_faults, needs};
 use sched_record::Record;
 use std::alloc::Global;
@@ -41,22 +40,22 @@ pub(crate) fn least_on(
 }
 
 /// Needs that are in range, as settings.
-fn knobs_of(needs: Needs) -> Knobs
-    requires { AreInRange (needs_view needs) }
-    ensures { result ≡ needs_view needs }
+fn knobs_of(needs: Amounts) -> Knobs
+    requires { AreInRange needs }
+    ensures { result ≡ needs }
 {
-    match Knobs::new(needs.granularity, needs.credit, needs.debit, needs.slack) {
+    match Knobs::of(needs) {
         Some(knobs) => knobs,
         None => unreachable!(),
     }
 }
 
 /// Of each setting the greatest that one of the pages needs.
-fn largest_needs(pages: &[Page]) -> Needs
-    ensures largest { needs_view result ≡ largest (needs_at pages.now) (length pages.now) }
+fn largest_needs(pages: &[Page]) -> Amounts
+    ensures largest { result ≡ largest (needs_at pages.now) (length pages.now) }
     ensures have { HaveNeeds pages.now }
 {
-    let mut largest = Needs::NONE;
+    let mut largest = Amounts::none();
     for page in pages {
         page.replayed();
         largest = largest.larger(page.needs());

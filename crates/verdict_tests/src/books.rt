@@ -5,7 +5,7 @@ use crate::calls::{Told, record_of, stream_of, told};
 use crate::machines::Recording;
 use crate::shelf::OwnShelf;
 use audit_crew::{AuditorFault, OpenGate, auditor};
-use cfs_model::Knobs;
+use cfs_model::{Knobs, Setting};
 use queue_replay::{Page, Reached, Replay, Tag};
 use sched_record::{Record, Stream};
 use std::alloc::Global;
@@ -142,7 +142,9 @@ fn after_auditor(
 
 /// The standard settings with this slack.
 fn knobs_with(slack: u64) -> Knobs {
-    Knobs::new(1_000_000, 3_000_000, 3_000_000, slack).unwrap_or(Knobs::standard())
+    Knobs::standard()
+        .with(Setting::Slack, slack)
+        .unwrap_or(Knobs::standard())
 }
 
 /// A book after the page of a processor of a recording, and what it answers.

@@ -22,6 +22,7 @@ use Rattle.part_laws.specs.TouchedParts.{PartStep}
 use Rattle.replay_laws.specs.Share.{PassesShare}
 use Rattle.replay_laws.specs.LeastSettings.{PagesTellLeast}
 use Rattle.cfs_model.proofs.LeastSettings.{below_larger, other_below_larger, at_most_trans, larger_at_most}
+use Rattle.cfs_model.proofs.LeastSettings.{slack_at_most}
 use Rattle.part_laws.proofs.one_page.OneLift.{same_found}
 use Rattle.part_laws.proofs.Touching.{steps_at_cpu}
 use Rattle.replay_laws.proofs.following.Follow.{KeepsUp, state_idles, touched_steps, untouched_steps, advance}
@@ -30,16 +31,9 @@ use Rattle.replay_laws.proofs.following.FollowLaws.{starts_at, follows_start, st
 use Rattle.replay_laws.proofs.composing.PagesCompose.{compose_shares}
 use Rattle.replay_laws.proofs.composing.Shares.{ShareOf, past_share_of, share_from}
 use Rattle.replay_laws.proofs.needing.StepNeeds.{idle_within, idle_needs, passes_within, needs_of_tests}
-use Rattle.cfs_model.specs.declared.setting.Setting.TheVariants.{Granularity, Credit, Debit, Slack}
+use Rattle.cfs_model.specs.declared.setting.Setting.TheVariants.{Slack}
 use Rattle.cfs_model.specs.declared.task.Task.{Task}
 use Rattle.replay_model.specs.declared.step.Step.{Step}
-
--- a slack alone is at most other settings
-slack_within : (slack : ℕ) (other : Settings) → slack ≤ other.slack → AtMost (only_slack slack) other
-slack_within slack other h Granularity = omega arith
-slack_within slack other h Credit = omega arith
-slack_within slack other h Debit = omega arith
-slack_within slack other h Slack = h
 
 -- steps that pass are a replay under any settings that are at least what they need
 replay_within : (knobs other : Settings) (cpu : ℕ) (before : ReplayStateView) (steps : List Step)
@@ -176,7 +170,7 @@ needs_along : (knobs other : Settings) (cpu : ℕ) (m : Machine) (time : ℕ) (s
     → AllPassNeeding knobs cpu s (steps_at cpu events) last needs
     → AtMost needs other × ((x : ℕ) → last.since ≡ Some x → last_time_of time events ≤ x + other.slack)
 needs_along knobs other cpu m time s [] [] last needs f steps rise still keeps now p = (
-  subst (λ x. AtMost x other) (sym p.1) (slack_within 0 other (omega arith)),
+  subst (λ x. AtMost x other) (sym p.1) (slack_at_most 0 other (omega arith)),
   (λ x e. now x (ap (λ y. y.since) (sym p.0) ∙ e)),
 )
 needs_along knobs other cpu m time s [] (after ∷ states) last needs f steps rise still keeps now p = absurd steps
@@ -210,7 +204,7 @@ page_needs knobs other start floors tasks events cpus cpu page needs r p run =
     let still = idle_need p.end.since (last_time_of start events) in
     subst (λ x. AtMost x other) (sym p.needs_are)
     (larger_at_most p.of_steps (only_slack still) other a.0
-    (slack_within still other (idle_needs other.slack p.end.since (last_time_of start events) a.1)))
+    (slack_at_most still other (idle_needs other.slack p.end.since (last_time_of start events) a.1)))
 
 -- the largest needs are at least each, and at most what each is at most
 above_each : (needs : ℕ → Settings) (cpus cpu : ℕ) → cpu < cpus → AtMost (needs cpu) (largest needs cpus)
@@ -227,7 +221,7 @@ above_each needs (suc cpus) cpu h = elim (cases_lt cpu cpus) [
 
 largest_within : (needs : ℕ → Settings) (cpus : ℕ) (other : Settings)
     → ((cpu : ℕ) → cpu < cpus → AtMost (needs cpu) other) → AtMost (largest needs cpus) other
-largest_within needs zero other h = slack_within 0 other (omega arith)
+largest_within needs zero other h = slack_at_most 0 other (omega arith)
 largest_within needs (suc cpus) other h =
     larger_at_most (largest needs cpus) (needs cpus) other
     (largest_within needs cpus other (λ cpu k. h cpu (omega arith))) (h cpus (omega arith))

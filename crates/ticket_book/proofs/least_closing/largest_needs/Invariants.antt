@@ -1,6 +1,5 @@
-use Rattle.queue_replay.specs.Needing.{needs_view}
 use Rattle.ticket_book.proofs.LargestNeeds.{AreLargest}
 use Rattle.ticket_book.proofs.least_closing.largest_needs.Given as goal
 
 abbrev pub invariant-loop-page : goal.invariant-loop-page
-invariant-loop-page l = AreLargest l.pages l.page-index (needs_view l.largest)
+invariant-loop-page l = AreLargest l.pages l.page-index l.largest

@@ -2,7 +2,6 @@ use Rattle.std.proofs.Common.{◌≢◌, Option, None, IfSome, subst, sym, ◌�
 use Rattle.cfs_model.specs.declared.kind.Kind.TheVariants.{IdleTooLong}
 use Rattle.replay_model.specs.Page.{FailsTest}
 use Rattle.queue_replay.specs.Counting.{page_draft_view}
-use Rattle.queue_replay.specs.Needing.{needs_view}
 use Rattle.queue_replay.specs.ReplayState.{replay_state_view}
 use Rattle.queue_replay.specs.declared.failed_test.FailedTest.{FailedTest}
 use Rattle.queue_replay.proofs.Faults.{failed, no_deadline, undone_state}
@@ -17,7 +16,7 @@ returns-in-Some-found-clause-stepped c =
     let F : Option FailedTest → Type 0 =
     λ o. IfSome o (λ f. FailsTest c.args.knobs c.args.cpu (replay_state_view old) c.args.step.now f.kind f.pid) in
     let K : Option FailedTest → Type 0 = λ o. IfSome o (λ f. f.kind ≢ IdleTooLong) in
-    failed c.args.knobs c.args.cpu (replay_state_view old) (needs_view old.needs) c.args.step.now b.kind b.pid None
+    failed c.args.knobs c.args.cpu (replay_state_view old) old.needs c.args.step.now b.kind b.pid None
     (replay_state_view c.pass.new.self) c.fail-in-Some-found.new.self
     (subst F is e.fails) (no_deadline b.kind c.args.knobs.slack old.since (subst K is e.later))
     (undone_state old c.pass.new.self (e.undone (λ same. let f = sym is ∙ same in cc)))

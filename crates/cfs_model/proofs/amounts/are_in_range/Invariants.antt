@@ -1,0 +1,12 @@
+-- All are in range just where those are that are still to be gone over.
+use Rattle.std.proofs.Common.{◌≤◌, ◌↔◌, drop}
+use Rattle.std.specs.List.{AllByRecursion}
+use Rattle.cfs_model.specs.Limits.{greatest_setting}
+use Rattle.cfs_model.specs.Settings.{value_at}
+use Rattle.cfs_model.specs.declared.setting.Setting.{Setting}
+use Rattle.cfs_model.proofs.amounts.are_in_range.Given as goal
+
+abbrev pub invariant-loop-setting : goal.invariant-loop-setting
+invariant-loop-setting l =
+    let within : Setting → Type 0 = λ which. value_at l.amounts which ≤ greatest_setting in
+    AllByRecursion within l.settings ↔ AllByRecursion within (drop l.setting-index l.settings)

@@ -1,6 +1,7 @@
 pub mod BadAtAll
 pub mod BirthExample
 pub mod Deciding
+pub mod EndAndBirth
 pub mod FloorsRise
 pub mod IdleExample
 pub mod KeptOrder

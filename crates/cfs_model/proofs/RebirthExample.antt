@@ -1,68 +1,30 @@
--- The examples of a birth with and without the idle policy. Which it is, and so what 4 ms cost, is a parameter; who
--- stands where is the same for both, and so is all that happens before those 4 ms, at no cost.
+-- The examples of a birth with and without the idle policy: behind the birth the task is picked, and runs. What 4 ms
+-- cost is a parameter.
 use Rattle.std.proofs.Common.{◌≡◌, ℕ, zero, suc, Bool, true, false, Some, None, ℤ, pos, ◌+ℤ◌, ◌-ℤ◌, ◌≤ℤ◌}
-use Rattle.std.proofs.Common.{◌⊎◌, inl, inr, List, [], ◌∷◌, refl, sym, ◌∙◌, subst, arith, lit<, lit≤}
+use Rattle.std.proofs.Common.{◌⊎◌, inl, inr, List, [], ◌∷◌, refl, sym, ◌∙◌, subst, arith, lit≤}
 use Rattle.std.proofs.lemmas.Int.{ints}
 use Rattle.std.specs.Int.{int_max}
 use Rattle.cfs_model.specs.Charge.{IsInRange}
-use Rattle.cfs_model.specs.Machine.{Machine, Stands, AreValuesInRange, put, put_pair, with_floor, with_task}
-use Rattle.cfs_model.specs.Machine.{without_task, with_move, with_runtime, with_nice, without_values, with_policy}
+use Rattle.cfs_model.specs.Machine.{Machine, Stands, put, put_pair, with_floor}
+use Rattle.cfs_model.specs.Machine.{with_move, with_runtime}
 use Rattle.cfs_model.specs.Claimed.{Claimed, is_named_idle}
 use Rattle.cfs_model.specs.Lifted.{charged, CanCharge, IsLeast, IsLifted}
-use Rattle.cfs_model.specs.Step.{IsSwitch, IsWakeQueued, IsWakeResting, IsBirth, after_next, IsStep}
+use Rattle.cfs_model.specs.Step.{IsSwitch, IsWakeQueued, IsWakeResting, after_next, IsStep}
 use Rattle.cfs_model.specs.Idle.{IsIdle, KeepsSlack}
 use Rattle.cfs_model.specs.Run.{AreSteps}
-use Rattle.cfs_model.specs.Order.{IsStart}
-use Rattle.cfs_model.specs.Examples.{standard, start_time, at_claim, rebirth_tasks, rebirth_start, rebirth_events}
+use Rattle.cfs_model.specs.Examples.{standard, start_time, at_claim, rebirth_start, rebirth_events}
 use Rattle.cfs_model.specs.Examples.{IdleBirthExample, RebirthExample}
-use Rattle.cfs_model.proofs.Moves.{IsGone, IsPutAt, join_placed, leave_gone, move_placed}
+use Rattle.cfs_model.proofs.EndAndBirth.{nobody_waits, nobody_runs, first_event, first_state, first_step}
+use Rattle.cfs_model.proofs.EndAndBirth.{second_event, second_state, second_step, joined, waits_one}
+use Rattle.cfs_model.proofs.Moves.{IsPutAt, move_placed}
 use Rattle.cfs_model.proofs.OneNext.{one_lifted, one_next}
-use Rattle.cfs_model.proofs.StartOrder.{start_in_order}
 use Rattle.cfs_model.proofs.Range.{lifted_range, change_range}
-use Rattle.cfs_model.proofs.Worked.{of_two, value_at, below_at, can_charge_one, can_charge_none}
-use Rattle.cfs_model.specs.declared.act.Act.TheVariants.{Switch, Wake, Born}
-use Rattle.cfs_model.specs.declared.act.Way.TheVariants.{Stays, Ends}
+use Rattle.cfs_model.proofs.Worked.{value_at, below_at, can_charge_one, can_charge_none}
+use Rattle.cfs_model.specs.declared.act.Act.TheVariants.{Switch, Wake}
+use Rattle.cfs_model.specs.declared.act.Way.TheVariants.{Stays}
 use Rattle.cfs_model.specs.declared.idle_line.IdleLine.{IdleLine}
 use Rattle.cfs_model.specs.declared.task.Place.{Place}
 use Rattle.cfs_model.specs.declared.task.Place.TheVariants.{Run, Wait, Rest}
-use Rattle.cfs_model.specs.declared.task.Task.{Task}
-
-abbrev runner : Bool → Task
-runner was = record { pid = 101; nice = pos 0; idle = was; cpu = 0; place = Run; v = pos 0 }
-
-abbrev sleeper : Task
-sleeper = record { pid = 102; nice = pos 0; idle = false; cpu = 0; place = Rest; v = pos 0 }
-
-start_is : (was : Bool) → IsStart (pos 0 ∷ []) (rebirth_tasks was)
-start_is was = record {
-  pids_rise = ((lit< tt, tt), (tt, tt));
-  one_runs = (((λ t. let e = t.1 in cc), tt), (tt, tt));
-  runtimes_in_range = ((omega (arith, ints), omega (arith, ints)), ((omega (arith, ints), omega (arith, ints)), tt));
-  floors_in_range = ((omega (arith, ints), omega (arith, ints)), tt);
-}
-
-start_range : (was : Bool) → AreValuesInRange (rebirth_start was)
-start_range was = (start_in_order start_time (pos 0 ∷ []) (rebirth_tasks was) (start_is was)).in_range
-
-nobody_waits : (was : Bool) (cpu q : ℕ) → ¬ Stands (rebirth_start was) Wait cpu q
-nobody_waits was cpu q h = elim (of_two (runner was) sleeper Wait cpu q h) [
-  | inl x ↦ let e = x.2 in cc
-  | inr x ↦ let e = x.2 in cc
-]
-
-runs_one : (was : Bool) (cpu q : ℕ) → Stands (rebirth_start was) Run cpu q → 101 ≡ q
-runs_one was cpu q h = elim (of_two (runner was) sleeper Run cpu q h) [ inl x ↦ x.0 | inr x ↦ let e = x.2 in cc ]
-
--- the first task is charged nothing at the start
-free : (was : Bool) → CanCharge (rebirth_start was) 0 start_time
-free true = can_charge_one (rebirth_start true) 0 start_time 101 (pos 0) (pos 0) (runs_one true 0) refl refl (lit≤ tt)
-    (omega (arith, ints))
-free false = can_charge_one (rebirth_start false) 0 start_time 101 (pos 0) (pos 0) (runs_one false 0) refl refl
-    (lit≤ tt) (omega (arith, ints))
-
-stays_at_zero : (was : Bool) → (charged (rebirth_start was) 0 start_time).runtime 101 ≡ Some (pos 0)
-stays_at_zero true = refl
-stays_at_zero false = refl
 
 -- the wakeup
 abbrev fourth_event : ℤ → Claimed
@@ -73,343 +35,210 @@ fourth_event w = record {
   idle = false;
 }
 
-module _ (was : Bool) where
-  -- the end
-  abbrev first_event : Claimed
-  first_event = record {
-    entry = record { line = 1; time = start_time; act = Switch 0 101 (pos 0) Ends 0 (pos 0) };
+module _ (was now : Bool) where
+  -- the pick
+  abbrev third_event : Claimed
+  third_event = record {
+    entry = record { line = 3; time = start_time; act = Switch 0 0 (pos 0) Stays 101 (pos 5) };
     claim = None;
     nice = None;
     idle = false;
   }
 
-  abbrev first_lifted : Machine
-  first_lifted = with_floor (charged (rebirth_start was) 0 start_time) 0 (pos 0)
+  abbrev third_lifted : Machine
+  third_lifted = with_floor (charged (second_state was now) 0 start_time) 0 (pos 0)
 
-  abbrev first_state : Machine
-  first_state = without_values (without_task first_lifted Run 0 101) 101
+  abbrev third_state : Machine
+  third_state = after_next third_lifted 0 101
 
-  first_least : IsLeast (charged (rebirth_start was) 0 start_time) 0 (pos 0)
-  first_least = record {
+  third_least : IsLeast (charged (second_state was now) 0 start_time) 0 (pos 0)
+  unfolding put put_pair
+  third_least = record {
     pid = 101;
-    queued = inl refl;
-    runtime = stays_at_zero was;
+    queued = inr refl;
+    runtime = refl;
     least = λ q w h e. elim h [
-      | inl x ↦ below_at (charged (rebirth_start was) 0 start_time).runtime 101 q (pos 0) (pos 0) w
-          (runs_one was 0 q x) (stays_at_zero was) e (omega (arith, ints))
-      | inr x ↦ absurd (nobody_waits was 0 q x)
+      | inl x ↦ absurd (nobody_runs was 0 q x)
+      | inr x ↦ below_at (charged (second_state was now) 0 start_time).runtime 101 q (pos 0) (pos 0) w
+          (waits_one was now 0 q x) refl e (omega (arith, ints))
     ];
   }
 
-  first_lift : IsLifted start_time (0 ∷ []) (rebirth_start was) first_lifted
-  first_lift = (
-    first_lifted,
-    record { can_charge = free was; floor = pos 0; raised = inr (pos 0, first_least, refl); result = refl },
-    refl,
-  )
-
-  first_step : IsStep standard (rebirth_start was) first_event first_state
-  first_step =
-      let changes : IsSwitch standard first_lifted 0 101 (pos 0) Ends 0 (pos 0) None first_state = record {
-        differ = λ e. omega arith;
-        current = refl;
-        prev_prio = refl;
-        next_prio = tt;
-        put_back = refl;
-        pick = nobody_waits was 0;
-        result = refl;
-      } in
-      record {
-        lifted = first_lifted;
-        is_lifted = first_lift;
-        found = first_lifted;
-        is_reniced = refl;
-        changes = changes;
-        in_range = change_range standard first_lifted first_event.entry.act None false first_state changes tt
-            (lifted_range start_time (0 ∷ []) (rebirth_start was) first_lifted first_lift (start_range was));
-      }
-
-  -- 101 stood at the processor alone, so it stands nowhere now
-  was_alone : (r : Place) (d : ℕ) → Stands first_lifted r d 101 → (r ≡ Run) × (d ≡ 0)
-  was_alone Run d h = elim (of_two (runner was) sleeper Run d 101 h) [
-    | inl x ↦ (refl, sym x.1)
-    | inr x ↦ let e = x.2 in absurd cc
-  ]
-  was_alone Wait d h = absurd (nobody_waits was d 101 h)
-  was_alone Rest d h = elim (of_two (runner was) sleeper Rest d 101 h) [
-    | inl x ↦ let e = x.2 in absurd cc
-    | inr x ↦ let e = x.0 in absurd (omega arith)
-  ]
-
-  gone : IsGone first_lifted (without_task first_lifted Run 0 101) 101
-  gone = leave_gone first_lifted 101 Run 0 was_alone
-
-  -- the birth
-  abbrev second_lifted : Machine
-  second_lifted = with_floor (charged first_state 0 start_time) 0 (pos 0)
-
-  nowhere : (r : Place) (d : ℕ) → ¬ Stands second_lifted r d 101
-  nowhere Run d h = (gone.cases Run d 101 h).0 refl
-  nowhere Wait d h = (gone.cases Wait d 101 h).0 refl
-  nowhere Rest d h = (gone.cases Rest d 101 h).0 refl
-
-  nobody_runs : (d q : ℕ) → ¬ Stands second_lifted Run d q
-  nobody_runs d q h = let x = gone.cases Run d q h in x.0 (sym (runs_one was d q x.1))
-
-  second_lift : IsLifted start_time (0 ∷ []) first_state second_lifted
+  third_lift : IsLifted start_time (0 ∷ []) (second_state was now) third_lifted
   unfolding put
-  second_lift = (
-    second_lifted,
+  third_lift = (
+    third_lifted,
     record {
-      can_charge = can_charge_none first_state 0 start_time (nobody_runs 0);
+      can_charge = can_charge_none (second_state was now) 0 start_time (nobody_runs was 0);
       floor = pos 0;
-      raised = inl ((λ q h. elim h [ inl x ↦ nobody_runs 0 q x | inr x ↦ nobody_waits was 0 q x ]), refl);
+      raised = inr (pos 0, third_least, refl);
       result = refl;
     },
     refl,
   )
 
-  module _ (now : Bool) where
-    abbrev second_event : Claimed
-    second_event = record {
-      entry = record { line = 2; time = start_time; act = Born 0 101 (pos 5) };
-      claim = Some (at_claim 2 101 (pos 0));
-      nice = None;
-      idle = now;
-    }
-
-    abbrev second_state : Machine
-    second_state =
-        with_policy (with_nice (with_runtime (with_task second_lifted Wait 0 101) 101 (pos 0)) 101 (pos 5)) 101 now
-
-    second_step : IsStep standard first_state second_event second_state
-    unfolding put
-    second_step =
-        let changes : IsBirth standard second_lifted 0 101 (pos 5) second_event.claim now second_state = record {
-          nowhere = nowhere;
-          placed = pos 0;
-          claimed = (refl, refl, refl);
-          from = omega (arith, ints);
-          to = omega (arith, ints);
-          result = refl;
-        } in
-        record {
-          lifted = second_lifted;
-          is_lifted = second_lift;
-          found = second_lifted;
-          is_reniced = refl;
-          changes = changes;
-          in_range = change_range standard second_lifted second_event.entry.act second_event.claim now second_state
-              changes (omega (arith, ints), omega (arith, ints))
-              (lifted_range start_time (0 ∷ []) first_state second_lifted second_lift first_step.in_range);
-        }
-
-    -- 101 alone waits, and nobody runs
-    joined : IsPutAt second_lifted (with_task second_lifted Wait 0 101) 101 Wait 0
-    joined = join_placed second_lifted 101 Wait 0 nowhere
-
-    waits_one : (d q : ℕ) → Stands second_state Wait d q → 101 ≡ q
-    waits_one d q h = elim (joined.cases Wait d q h) [ inl x ↦ sym x.0 | inr x ↦ absurd (nobody_waits was d q x.1) ]
-
-    -- the pick
-    abbrev third_event : Claimed
-    third_event = record {
-      entry = record { line = 3; time = start_time; act = Switch 0 0 (pos 0) Stays 101 (pos 5) };
-      claim = None;
-      nice = None;
-      idle = false;
-    }
-
-    abbrev third_lifted : Machine
-    third_lifted = with_floor (charged second_state 0 start_time) 0 (pos 0)
-
-    abbrev third_state : Machine
-    third_state = after_next third_lifted 0 101
-
-    third_least : IsLeast (charged second_state 0 start_time) 0 (pos 0)
-    unfolding put put_pair
-    third_least = record {
-      pid = 101;
-      queued = inr refl;
-      runtime = refl;
-      least = λ q w h e. elim h [
-        | inl x ↦ absurd (nobody_runs 0 q x)
-        | inr x ↦ below_at (charged second_state 0 start_time).runtime 101 q (pos 0) (pos 0) w (waits_one 0 q x) refl e
-            (omega (arith, ints))
-      ];
-    }
-
-    third_lift : IsLifted start_time (0 ∷ []) second_state third_lifted
-    unfolding put
-    third_lift = (
-      third_lifted,
-      record {
-        can_charge = can_charge_none second_state 0 start_time (nobody_runs 0);
-        floor = pos 0;
-        raised = inr (pos 0, third_least, refl);
+  third_step : IsStep standard (second_state was now) third_event third_state
+  unfolding put put_pair
+  third_step =
+      let changes : IsSwitch standard third_lifted 0 0 (pos 0) Stays 101 (pos 5) None third_state = record {
+        differ = λ e. omega arith;
+        current = nobody_runs was 0;
+        prev_prio = tt;
+        next_prio = refl;
+        put_back = refl;
+        pick = (
+          pos 0,
+          refl,
+          refl,
+          λ q w h e. subst (λ y. pos 0 ≤ℤ (y +ℤ pos 1000000)) (value_at third_lifted.runtime 101 q (pos 0) w
+              (waits_one was now 0 q h) refl e) (omega (arith, ints)),
+        );
         result = refl;
-      },
-      refl,
-    )
+      } in
+      record {
+        lifted = third_lifted;
+        is_lifted = third_lift;
+        found = third_lifted;
+        is_reniced = refl;
+        changes = changes;
+        in_range = change_range standard third_lifted third_event.entry.act None false third_state changes tt
+            (lifted_range start_time (0 ∷ []) (second_state was now) third_lifted third_lift
+            (second_step was now).in_range);
+      }
 
-    third_step : IsStep standard second_state third_event third_state
-    unfolding put put_pair
-    third_step =
-        let changes : IsSwitch standard third_lifted 0 0 (pos 0) Stays 101 (pos 5) None third_state = record {
-          differ = λ e. omega arith;
-          current = nobody_runs 0;
-          prev_prio = tt;
-          next_prio = refl;
-          put_back = refl;
-          pick = (
-            pos 0,
+  -- 101 alone runs, and nobody waits
+  moved : IsPutAt third_lifted third_state 101 Run 0
+  moved = move_placed third_lifted 101 Wait 0 Run 0 alone
+    where
+      alone : (r : Place) (d : ℕ) → Stands third_lifted r d 101 → (r ≡ Wait) × (d ≡ 0)
+      alone Run d h = absurd (nobody_runs was d 101 h)
+      alone Wait d h = elim ((joined was now).cases Wait d 101 h) [ inl x ↦ (refl, x.2) | inr x ↦ absurd (x.0 refl) ]
+      alone Rest d h = elim ((joined was now).cases Rest d 101 h)
+          [ inl x ↦ let e = x.1 in absurd cc | inr x ↦ absurd (x.0 refl) ]
+
+  runs_again : (d q : ℕ) → Stands third_state Run d q → 101 ≡ q
+  runs_again d q h = elim (moved.cases Run d q h) [ inl x ↦ sym x.0 | inr x ↦ absurd (nobody_runs was d q x.1) ]
+
+  none_waits : (d q : ℕ) → ¬ Stands third_state Wait d q
+  none_waits d q h = elim (moved.cases Wait d q h) [
+    | inl x ↦ let e = x.1 in cc
+    | inr x ↦ x.0 (sym (waits_one was now d q x.1))
+  ]
+
+  abbrev after_charge : Machine
+  after_charge = charged third_state 0 100004000000
+
+  -- what 4 ms cost
+  module _ (top : ℤ) (is_top : after_charge.runtime 101 ≡ Some top) (can_charge : CanCharge third_state 0 100004000000)
+    where
+      abbrev fourth_lifted : Machine
+      fourth_lifted = with_floor after_charge 0 (int_max (pos 0) top)
+
+      fourth_lift : IsLifted 100004000000 (0 ∷ []) third_state fourth_lifted
+      unfolding put put_pair
+      fourth_lift = (
+        fourth_lifted,
+        record {
+          can_charge = can_charge;
+          floor = int_max (pos 0) top;
+          raised = inr (
+            top,
+            record {
+              pid = 101;
+              queued = inl refl;
+              runtime = is_top;
+              least = λ q w h e. elim h [
+                | inl x ↦ below_at after_charge.runtime 101 q top top w (runs_again 0 q x) is_top e
+                    (omega (arith, ints))
+                | inr x ↦ absurd (none_waits 0 q x)
+              ];
+            },
             refl,
-            refl,
-            λ q w h e. subst (λ y. pos 0 ≤ℤ (y +ℤ pos 1000000)) (value_at third_lifted.runtime 101 q (pos 0) w
-                (waits_one 0 q h) refl e) (omega (arith, ints)),
           );
           result = refl;
-        } in
-        record {
-          lifted = third_lifted;
-          is_lifted = third_lift;
-          found = third_lifted;
-          is_reniced = refl;
-          changes = changes;
-          in_range = change_range standard third_lifted third_event.entry.act None false third_state changes tt
-              (lifted_range start_time (0 ∷ []) second_state third_lifted third_lift second_step.in_range);
-        }
+        },
+        refl,
+      )
 
-    -- 101 alone runs, and nobody waits
-    moved : IsPutAt third_lifted third_state 101 Run 0
-    moved = move_placed third_lifted 101 Wait 0 Run 0 alone
-      where
-        alone : (r : Place) (d : ℕ) → Stands third_lifted r d 101 → (r ≡ Wait) × (d ≡ 0)
-        alone Run d h = absurd (nobody_runs d 101 h)
-        alone Wait d h = elim (joined.cases Wait d 101 h) [ inl x ↦ (refl, x.2) | inr x ↦ absurd (x.0 refl) ]
-        alone Rest d h = elim (joined.cases Rest d 101 h) [ inl x ↦ let e = x.1 in absurd cc | inr x ↦ absurd (x.0 refl) ]
+      module _ (w : ℤ) where
+        abbrev fourth_state : Machine
+        fourth_state = with_runtime (with_move fourth_lifted 102 Rest 0 Wait 0) 102 w
 
-    runs_again : (d q : ℕ) → Stands third_state Run d q → 101 ≡ q
-    runs_again d q h = elim (moved.cases Run d q h) [ inl x ↦ sym x.0 | inr x ↦ absurd (nobody_runs d q x.1) ]
-
-    none_waits : (d q : ℕ) → ¬ Stands third_state Wait d q
-    none_waits d q h = elim (moved.cases Wait d q h) [
-      | inl x ↦ let e = x.1 in cc
-      | inr x ↦ x.0 (sym (waits_one d q x.1))
-    ]
-
-    abbrev after_charge : Machine
-    after_charge = charged third_state 0 100004000000
-
-    -- what 4 ms cost
-    module _ (top : ℤ) (is_top : after_charge.runtime 101 ≡ Some top) (can_charge : CanCharge third_state 0 100004000000)
-      where
-        abbrev fourth_lifted : Machine
-        fourth_lifted = with_floor after_charge 0 (int_max (pos 0) top)
-
-        fourth_lift : IsLifted 100004000000 (0 ∷ []) third_state fourth_lifted
+        fourth_step : IsInRange w → int_max (pos 0) (int_max (pos 0) top -ℤ pos 3000000) ≤ℤ w
+            → w ≤ℤ int_max (pos 0) (int_max (pos 0) top) → IsStep standard third_state (fourth_event w) fourth_state
         unfolding put put_pair
-        fourth_lift = (
-          fourth_lifted,
-          record {
-            can_charge = can_charge;
-            floor = int_max (pos 0) top;
-            raised = inr (
-              top,
-              record {
-                pid = 101;
-                queued = inl refl;
-                runtime = is_top;
-                least = λ q w h e. elim h [
-                  | inl x ↦ below_at after_charge.runtime 101 q top top w (runs_again 0 q x) is_top e (omega (arith, ints))
-                  | inr x ↦ absurd (none_waits 0 q x)
-                ];
-              },
-              refl,
-            );
-            result = refl;
-          },
-          refl,
-        )
+        fourth_step range low high =
+            let changes : IsWakeResting standard fourth_lifted 0 102 (pos 0) (fourth_event w).claim
+            fourth_state = record {
+              rests = refl;
+              prio = refl;
+              own = pos 0;
+              runtime = refl;
+              placed = w;
+              claimed = (refl, refl, refl);
+              from = low;
+              to = high;
+              result = refl;
+            } in
+            record {
+              lifted = fourth_lifted;
+              is_lifted = fourth_lift;
+              found = fourth_lifted;
+              is_reniced = refl;
+              changes = inr changes;
+              in_range = change_range standard fourth_lifted (fourth_event w).entry.act (fourth_event w).claim false
+                  fourth_state (inr changes) range
+                  (lifted_range 100004000000 (0 ∷ []) third_state fourth_lifted fourth_lift third_step.in_range);
+            }
 
-        module _ (w : ℤ) where
-          abbrev fourth_state : Machine
-          fourth_state = with_runtime (with_move fourth_lifted 102 Rest 0 Wait 0) 102 w
+        -- any step places 102 there
+        fourth_bounds : (after : Machine) → IsStep standard third_state (fourth_event w) after
+            → (int_max (pos 0) (int_max (pos 0) top -ℤ pos 3000000) ≤ℤ w)
+            × (w ≤ℤ int_max (pos 0) (int_max (pos 0) top))
+        unfolding put put_pair
+        fourth_bounds after s = go (subst (λ m. IsWakeQueued m 0 102 (pos 0) (fourth_event w).claim after
+            ⊎ IsWakeResting standard m 0 102 (pos 0) (fourth_event w).claim after) found s.changes)
+          where
+            found : s.found ≡ fourth_lifted
+            found = s.is_reniced
+                ∙ one_lifted 100004000000 (0 ∷ []) third_state s.lifted fourth_lifted s.is_lifted fourth_lift
 
-          fourth_step : IsInRange w → int_max (pos 0) (int_max (pos 0) top -ℤ pos 3000000) ≤ℤ w
-              → w ≤ℤ int_max (pos 0) (int_max (pos 0) top) → IsStep standard third_state (fourth_event w) fourth_state
-          unfolding put put_pair
-          fourth_step range low high =
-              let changes : IsWakeResting standard fourth_lifted 0 102 (pos 0) (fourth_event w).claim fourth_state = record {
-                rests = refl;
-                prio = refl;
-                own = pos 0;
-                runtime = refl;
-                placed = w;
-                claimed = (refl, refl, refl);
-                from = low;
-                to = high;
-                result = refl;
-              } in
-              record {
-                lifted = fourth_lifted;
-                is_lifted = fourth_lift;
-                found = fourth_lifted;
-                is_reniced = refl;
-                changes = inr changes;
-                in_range = change_range standard fourth_lifted (fourth_event w).entry.act (fourth_event w).claim false
-                    fourth_state (inr changes) range
-                    (lifted_range 100004000000 (0 ∷ []) third_state fourth_lifted fourth_lift third_step.in_range);
-              }
+            go : IsWakeQueued fourth_lifted 0 102 (pos 0) (fourth_event w).claim after
+                ⊎ IsWakeResting standard fourth_lifted 0 102 (pos 0) (fourth_event w).claim after
+                → (int_max (pos 0) (int_max (pos 0) top -ℤ pos 3000000) ≤ℤ w)
+                × (w ≤ℤ int_max (pos 0) (int_max (pos 0) top))
+            go (inl x) = let e = x.no_claim in absurd cc
+            go (inr x) =
+                let own = value_at fourth_lifted.runtime 102 102 x.own (pos 0) refl x.runtime refl in
+                let from : int_max (pos 0) (int_max (pos 0) top -ℤ pos 3000000) ≤ℤ x.placed = subst
+                (λ o. int_max o (int_max (pos 0) top -ℤ pos 3000000) ≤ℤ x.placed) own x.from in
+                let to : x.placed ≤ℤ int_max (pos 0) (int_max (pos 0) top) = subst
+                (λ o. x.placed ≤ℤ int_max o (int_max (pos 0) top)) own x.to in (
+                  subst (λ y. int_max (pos 0) (int_max (pos 0) top -ℤ pos 3000000) ≤ℤ y) (sym x.claimed.2) from,
+                  subst (λ y. y ≤ℤ int_max (pos 0) (int_max (pos 0) top)) (sym x.claimed.2) to,
+                )
 
-          -- any step places 102 there
-          fourth_bounds : (after : Machine) → IsStep standard third_state (fourth_event w) after
-              → (int_max (pos 0) (int_max (pos 0) top -ℤ pos 3000000) ≤ℤ w)
-              × (w ≤ℤ int_max (pos 0) (int_max (pos 0) top))
-          unfolding put put_pair
-          fourth_bounds after s = go (subst (λ m. IsWakeQueued m 0 102 (pos 0) (fourth_event w).claim after
-              ⊎ IsWakeResting standard m 0 102 (pos 0) (fourth_event w).claim after) found s.changes)
-            where
-              found : s.found ≡ fourth_lifted
-              found = s.is_reniced
-                  ∙ one_lifted 100004000000 (0 ∷ []) third_state s.lifted fourth_lifted s.is_lifted fourth_lift
-
-              go : IsWakeQueued fourth_lifted 0 102 (pos 0) (fourth_event w).claim after
-                  ⊎ IsWakeResting standard fourth_lifted 0 102 (pos 0) (fourth_event w).claim after
-                  → (int_max (pos 0) (int_max (pos 0) top -ℤ pos 3000000) ≤ℤ w)
-                  × (w ≤ℤ int_max (pos 0) (int_max (pos 0) top))
-              go (inl x) = let e = x.no_claim in absurd cc
-              go (inr x) =
-                  let own = value_at fourth_lifted.runtime 102 102 x.own (pos 0) refl x.runtime refl in
-                  let from : int_max (pos 0) (int_max (pos 0) top -ℤ pos 3000000) ≤ℤ x.placed = subst
-                  (λ o. int_max o (int_max (pos 0) top -ℤ pos 3000000) ≤ℤ x.placed) own x.from in
-                  let to : x.placed ≤ℤ int_max (pos 0) (int_max (pos 0) top) = subst
-                  (λ o. x.placed ≤ℤ int_max o (int_max (pos 0) top)) own x.to in (
-                    subst (λ y. int_max (pos 0) (int_max (pos 0) top -ℤ pos 3000000) ≤ℤ y) (sym x.claimed.2) from,
-                    subst (λ y. y ≤ℤ int_max (pos 0) (int_max (pos 0) top)) (sym x.claimed.2) to,
-                  )
-
-    -- nobody waits before the birth and after the pick, which are at one time, so no slack is used
-    keeps_slack : (last : Machine) → KeepsSlack 100000
-        (start_time ∷ start_time ∷ start_time ∷ start_time ∷ 100004000000 ∷ [])
-        (rebirth_start was ∷ first_state ∷ second_state ∷ third_state ∷ last ∷ [])
-    keeps_slack last cpu zero j below within idles =
-        let idle : IsIdle (rebirth_start was) cpu = idles 0 (lit≤ tt) below in
-        absurd (nobody_waits was cpu idle.pid idle.waits)
-    keeps_slack last cpu (suc zero) j below within idles =
-        let idle : IsIdle first_state cpu = idles 1 (lit≤ tt) below in
-        absurd (nobody_waits was cpu idle.pid idle.waits)
-    keeps_slack last cpu (suc (suc zero)) zero below within idles = absurd (omega arith)
-    keeps_slack last cpu (suc (suc zero)) (suc zero) below within idles = absurd (omega arith)
-    keeps_slack last cpu (suc (suc zero)) (suc (suc zero)) below within idles = absurd (omega arith)
-    keeps_slack last cpu (suc (suc zero)) (suc (suc (suc zero))) below within idles = lit≤ tt
-    keeps_slack last cpu (suc (suc zero)) (suc (suc (suc (suc j)))) below within idles =
-        let idle : IsIdle third_state cpu = idles 3 (lit≤ tt) (omega arith) in
-        absurd (none_waits cpu idle.pid idle.waits)
-    keeps_slack last cpu (suc (suc (suc zero))) j below within idles =
-        let idle : IsIdle third_state cpu = idles 3 (lit≤ tt) below in
-        absurd (none_waits cpu idle.pid idle.waits)
-    keeps_slack last cpu (suc (suc (suc (suc i)))) j below within idles = absurd (omega arith)
+  -- nobody waits before the birth and after the pick, which are at one time, so no slack is used
+  keeps_slack : (last : Machine) → KeepsSlack 100000
+      (start_time ∷ start_time ∷ start_time ∷ start_time ∷ 100004000000 ∷ [])
+      (rebirth_start was ∷ (first_state was) ∷ (second_state was now) ∷ third_state ∷ last ∷ [])
+  keeps_slack last cpu zero j below within idles =
+      let idle : IsIdle (rebirth_start was) cpu = idles 0 (lit≤ tt) below in
+      absurd (nobody_waits was cpu idle.pid idle.waits)
+  keeps_slack last cpu (suc zero) j below within idles =
+      let idle : IsIdle (first_state was) cpu = idles 1 (lit≤ tt) below in
+      absurd (nobody_waits was cpu idle.pid idle.waits)
+  keeps_slack last cpu (suc (suc zero)) zero below within idles = absurd (omega arith)
+  keeps_slack last cpu (suc (suc zero)) (suc zero) below within idles = absurd (omega arith)
+  keeps_slack last cpu (suc (suc zero)) (suc (suc zero)) below within idles = absurd (omega arith)
+  keeps_slack last cpu (suc (suc zero)) (suc (suc (suc zero))) below within idles = lit≤ tt
+  keeps_slack last cpu (suc (suc zero)) (suc (suc (suc (suc j)))) below within idles =
+      let idle : IsIdle third_state cpu = idles 3 (lit≤ tt) (omega arith) in
+      absurd (none_waits cpu idle.pid idle.waits)
+  keeps_slack last cpu (suc (suc (suc zero))) j below within idles =
+      let idle : IsIdle third_state cpu = idles 3 (lit≤ tt) below in
+      absurd (none_waits cpu idle.pid idle.waits)
+  keeps_slack last cpu (suc (suc (suc (suc i)))) j below within idles = absurd (omega arith)
 
 -- any steps come to the wakeup by these states
 last_step : (was : Bool) (idles : List IdleLine) (w : ℤ) (states : List Machine)

@@ -51,8 +51,8 @@ pub fn birth_example()
     ensures { BirthExample }
 {}
 
-/// A task is of the idle policy where the companion names it at its birth, and else it isn't, whatever the task was that
-/// had its pid before.
+/// A task is of the idle policy where the companion names it at its birth, and else it isn't, whatever the task was
+/// that had its pid before.
 pub fn policy_example()
     ensures born { IdleBirthExample }
     ensures reborn { RebirthExample }

@@ -5,6 +5,7 @@ pub mod Faults
 pub mod Finishing
 pub mod GoodLines
 pub mod GrowingOrder
+pub mod HeadLength
 pub mod Idling
 pub mod KeptOrder
 pub mod KnownMarks

@@ -1,5 +1,6 @@
 -- What a piece of a companion's text says, read behind the head alone, and behind all that was said before it.
-use Rattle.std.specs.Prelude.{◌≡◌, ℕ, true, List, [], ◌∷◌, ◌++◌, is_some, Ok, ◌⊎◌}
+use Rattle.std.specs.Prelude.{◌≡◌, ℕ, true, List, [], ◌∷◌, ◌++◌, codes, is_some, Ok, ◌⊎◌}
+use Rattle.bstr.specs.Find.{OccursAt}
 use Rattle.cfs_model.specs.declared.claim.Claim.{Claim}
 use Rattle.cfs_model.specs.declared.nice_line.NiceLine.{NiceLine}
 use Rattle.text_parts.specs.Lines.{IsComment}
@@ -14,6 +15,10 @@ SaysOn said [] after = after ≡ said
 SaysOn said (line ∷ lines) after =
     (IsComment line × SaysOn said lines after)
     ⊎ ((¬ IsComment line) × ((x : Shape) × IsJudged said line (Ok x) × SaysOn (with_line said x) lines after))
+
+-- at this place of a text a line ends, and the next one is an `at` line
+abbrev pub BeginsClaim : List ℕ → ℕ → Type 0
+BeginsClaim text place = OccursAt text (codes "\nat ") place
 
 -- what was said before the first task: version, processors, start and floors
 abbrev pub head_of : Said → Said

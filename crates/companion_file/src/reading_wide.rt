@@ -1,8 +1,9 @@
-ghost use Rattle.std.specs.Prelude.{◌≤◌, ℕ, OnOk, IsErrOf, IfOk, List, Result, length, take};
-ghost use Rattle.text_parts.specs.Lines.{IsWhole, lines_of};
+ghost use Rattle.std.specs.Prelude.{◌≡◌, ◌+◌, ◌<◌, ◌≤◌, ◌⊎◌, ℕ, false, OnOk, IsErrOf, IfOk, List, Result, length, take, drop};
+ghost use Rattle.std.specs.List.{list_any};
+ghost use Rattle.text_parts.specs.Lines.{IsWhole, is_line_feed, lines_of};
 ghost use Rattle.companion_file.specs.declared.fault.CompanionCause.{CompanionCause};
 ghost use Rattle.companion_file.specs.Draft.{KeepsOrder};
-ghost use Rattle.companion_file.specs.Piecewise.{AreReadApart, SaysOn, head_of};
+ghost use Rattle.companion_file.specs.Piecewise.{AreReadApart, BeginsClaim, SaysOn, head_of};
 ghost use Rattle.companion_file.specs.Companion.{CompanionView, CompanionAnswer, IsRefusedCompanion, IsRead};
 ghost use Rattle.companion_file.specs.Seen.{IsAnswered, IsReturned, companion_view};
 
@@ -75,13 +76,19 @@ fn good_companion_of(
     }
 }
 
-/// How many bytes the lines before the first `at` line take; all of a text without one.
+/// How many bytes the lines before the first `at` line take, the text's first line among them; all that end of a text
+/// without one.
 fn head_length(text: &[u8]) -> usize
     ensures within { result ≤ length text.now }
     ensures whole { IsWhole (take result text.now) }
+    // Behind its first line it has no `at` line,
+    ensures before { (place : ℕ) → place + 1 < result → ¬ BeginsClaim text.now place }
+    // and behind it there is one, or no line that ends.
+    ensures behind { ((place : ℕ) × (result ≡ place + 1) × BeginsClaim text.now place)
+        ⊎ (list_any is_line_feed (drop result text.now) ≡ false) }
 {
     match text.find(b"\nat ") {
-        Some(feed) => whole_lines(&text[..feed + 1]),
+        Some(feed) => feed + 1,
         None => whole_lines(text),
     }
 }

@@ -1,10 +1,10 @@
-ghost use Rattle.std.specs.Prelude.{◌≡◌, ◌+◌, ◌-◌, ◌<◌, ◌≤◌, ◌⊎◌, ◌++◌, ℕ, List, true, false, IfOk, IfErr, OnOk, take};
-ghost use Rattle.std.specs.Prelude.{drop, length, vec_len};
+ghost use Rattle.std.specs.Prelude.{◌≡◌, ◌↔◌, ◌+◌, ◌-◌, ◌<◌, ◌≤◌, ◌⊎◌, ◌++◌, ℕ, List, true, false, IfOk, IfErr};
+ghost use Rattle.std.specs.Prelude.{IsTrue, OnOk, take, drop, length, vec_len};
 ghost use Rattle.std.specs.Bool.{OnTrue};
 ghost use Rattle.std.specs.List.{list_any};
 ghost use Rattle.std.specs.Io.KnownBytes.{IsAtEnd};
 ghost use Rattle.text_parts.specs.Lines.{is_line_feed, lines_of};
-ghost use Rattle.ftrace_line.specs.Front.{IsSettled};
+ghost use Rattle.ftrace_line.specs.Front.{IsSettled, IsTold};
 ghost use Rattle.sched_record.specs.Reader.{HasRead};
 ghost use Rattle.sched_audit.specs.Known.{IsCutShort, most_reads};
 ghost use Rattle.sched_audit.specs.Held.{IsHeld, IsReadFrom, PassesOn, PassesWhole};
@@ -130,6 +130,7 @@ fn read_open(
 fn held_of(line: &[u8]) -> Held
     ensures length { result.length ≡ length line.now }
     ensures settled { OnTrue result.settled (IsSettled line.now) }
+    ensures told { IsTrue result.settled ↔ IsTold line.now }
 {
     Held {
         length: line.len(),

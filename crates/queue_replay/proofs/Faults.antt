@@ -59,7 +59,7 @@ undone_going old new g h =
     let W : ℕ → List Tally → Type 0 = λ n l. All (IsWithin n) l in
     record {
       fault = ap (λ p. p.fault) g.noted ∙ h.fault;
-      within = subst (λ n. W n new.draft.tallies.list.items) (sym g.made)
+      within = subst (λ n. W n new.draft.tallies.table.rows) (sym g.made)
           (subst (W old.made) (sym (ap (λ p. p.tallies) g.noted)) h.within);
     }
 

@@ -1,20 +1,20 @@
 -- Tallies that are found by a map from their pids: a stretch and a pick change one of them, and a pid gets one at the
 -- end.
 use Rattle.std.proofs.Common.{◌≡◌, ◌≢◌, ℕ, zero, suc, ◌+◌, ◌<◌, Bool, true, false, ◌||◌, cond, eqb, List, [], ◌∷◌, ◌++◌}
-use Rattle.std.proofs.Common.{length, map, set, take, get_or, All, refl, sym, ap, ◌∙◌, subst, arith, vec_len}
-use Rattle.std.proofs.Common.{vec_capacity, Vec}
-use Rattle.std.specs.BTreeMap.{BTreeMap}
-use Rattle.std.specs.List.{list_any}
+use Rattle.std.proofs.Common.{length, map, set, take, get_or, All, None, Some, nat_eq, refl, sym, ap, ◌∙◌, subst, arith}
+use Rattle.std.specs.List.{list_any, IsDistinct}
 use Rattle.std.proofs.lemmas.Bool.{eq-eqb, ne_eqb, cond-true, cond-false}
 use Rattle.std.proofs.lemmas.List.{get_or-map, get_or-take, length-map, length-take-le, map-append, take_more}
 use Rattle.std.proofs.lemmas.List.Elements.{All-head, All-tail}
+use Rattle.cfs_model.specs.declared.task.Task.{Task}
 use Rattle.replay_model.specs.Noted.{new_tally, with_tally}
 use Rattle.replay_model.specs.declared.page.Tally.{Tally}
-use Rattle.cfs_model.specs.declared.task.Task.{Task}
 use Rattle.runqueue.specs.Tasks.{RisesByPid}
-use Rattle.queue_replay.specs.Places.{IsPlaced, HasTallyRoom}
+use Rattle.pid_table.proofs.Places.{pid_there, pid_nowhere}
+use Rattle.pid_table.specs.Rows.{Rows, AreSound, place_in, with_row}
+use Rattle.queue_replay.specs.Places.{AreApart, AreOwn}
 use Rattle.queue_replay.specs.Stretches.{ran_tally, picked_tally}
-use Rattle.queue_replay.proofs.PlacedBy.{set_none, changed_there, placed_map, room_map}
+use Rattle.queue_replay.proofs.PlacedBy.{changed_there, key_at, keys_kept, none_by, set_none}
 
 ran_others : (pid time cost : ℕ) (t : Tally) → t.pid ≢ pid → ran_tally pid time cost t ≡ t
 ran_others pid time cost t ne = cond-false (eqb t.pid pid) _ t (ne_eqb _ _ ne)
@@ -37,26 +37,70 @@ picked_keeps pid t = go (eqb t.pid pid)
     go false = refl
 
 -- a tally after a change for one pid, where that pid's tally is, and where it has none
-module _ (tallies : List Tally) (places : BTreeMap ℕ ℕ) (placed : IsPlaced tallies places) where
-  pub ran_there : (pid time cost i : ℕ) (d x : Tally) → i < length tallies → (get_or tallies i d).pid ≡ pid
-      → x ≡ ran_tally pid time cost (get_or tallies i d) → set tallies i x ≡ map (ran_tally pid time cost) tallies
+module _ (table : Rows Tally) (own : AreOwn table) (apart : AreApart table.rows) where
+  pub ran_there : (pid time cost i : ℕ) (d x : Tally) → i < length table.rows → (get_or table.rows i d).pid ≡ pid
+      → x ≡ ran_tally pid time cost (get_or table.rows i d)
+      → set table.rows i x ≡ map (ran_tally pid time cost) table.rows
   ran_there pid time cost i d x h here is =
-      ap (set tallies i) is ∙ sym (changed_there (λ (tally : Tally). tally.pid) (ran_tally pid time cost) pid
-      (ran_others pid time cost) tallies places placed i d h here)
+      ap (set table.rows i) is ∙ sym (changed_there (λ (tally : Tally). tally.pid) (ran_tally pid time cost) pid
+      (ran_others pid time cost) table.rows apart i d h here)
 
-  pub ran_placed : (pid time cost : ℕ) → IsPlaced (map (ran_tally pid time cost) tallies) places
-  ran_placed pid time cost = placed_map (λ (tally : Tally). tally.pid) (ran_tally pid time cost)
-      (ran_keeps pid time cost) tallies places placed
+  pub ran_own : (pid time cost i : ℕ) (d x : Tally) → i < length table.rows → (get_or table.rows i d).pid ≡ pid
+      → x ≡ ran_tally pid time cost (get_or table.rows i d) → AreOwn (with_row table i x)
+  unfolding AreOwn
+  ran_own pid time cost i d x h here is =
+      ap (map (λ (tally : Tally). tally.pid)) (ran_there pid time cost i d x h here is)
+      ∙ keys_kept (λ (tally : Tally). tally.pid) (ran_tally pid time cost) (ran_keeps pid time cost) table.rows ∙ own
 
-  pub picked_there : (pid i : ℕ) (d x : Tally) → i < length tallies → (get_or tallies i d).pid ≡ pid
-      → x ≡ picked_tally pid (get_or tallies i d) → set tallies i x ≡ map (picked_tally pid) tallies
+  pub picked_there : (pid i : ℕ) (d x : Tally) → i < length table.rows → (get_or table.rows i d).pid ≡ pid
+      → x ≡ picked_tally pid (get_or table.rows i d) → set table.rows i x ≡ map (picked_tally pid) table.rows
   picked_there pid i d x h here is =
-      ap (set tallies i) is ∙ sym (changed_there (λ (tally : Tally). tally.pid) (picked_tally pid) pid
-      (picked_others pid) tallies places placed i d h here)
+      ap (set table.rows i) is ∙ sym (changed_there (λ (tally : Tally). tally.pid) (picked_tally pid) pid
+      (picked_others pid) table.rows apart i d h here)
 
-  pub picked_placed : (pid : ℕ) → IsPlaced (map (picked_tally pid) tallies) places
-  picked_placed pid = placed_map (λ (tally : Tally). tally.pid) (picked_tally pid)
-      (picked_keeps pid) tallies places placed
+  pub picked_own : (pid i : ℕ) (d x : Tally) → i < length table.rows → (get_or table.rows i d).pid ≡ pid
+      → x ≡ picked_tally pid (get_or table.rows i d) → AreOwn (with_row table i x)
+  unfolding AreOwn
+  picked_own pid i d x h here is =
+      ap (map (λ (tally : Tally). tally.pid)) (picked_there pid i d x h here is)
+      ∙ keys_kept (λ (tally : Tally). tally.pid) (picked_tally pid) (picked_keeps pid) table.rows ∙ own
+
+-- where a pid's tally is by the table, and that it has none where the table has no row
+module _ (table : Rows Tally) (own : AreOwn table) where
+  pub own_pids : map (λ (tally : Tally). tally.pid) table.rows ≡ table.pids
+  unfolding AreOwn
+  own_pids = own
+
+  pub own_apart : AreSound table → AreApart table.rows
+  own_apart sound = subst (IsDistinct nat_eq) (sym own_pids) sound.apart
+
+  pub own_there : (pid place : ℕ) (d : Tally) → place_in table.pids pid ≡ Some place → place < length table.rows
+      → (get_or table.rows place d).pid ≡ pid
+  own_there pid place d is h =
+      sym (key_at (λ (tally : Tally). tally.pid) table.rows place d h)
+      ∙ ap (λ pids. get_or pids place d.pid) own_pids ∙ pid_there table.pids pid place d.pid is
+
+  pub own_nowhere : (pid : ℕ) → place_in table.pids pid ≡ None → All (λ (tally : Tally). tally.pid ≢ pid) table.rows
+  own_nowhere pid none =
+      none_by (λ (tally : Tally). tally.pid) pid table.rows
+      (subst (All (λ other. other ≢ pid)) (sym own_pids) (pid_nowhere table.pids pid none))
+
+-- a table without rows, and one that has a tally more
+pub own_none : (table : Rows Tally) → table.pids ≡ [] → table.rows ≡ [] → AreOwn table
+unfolding AreOwn
+own_none table pids rows = ap (map (λ (tally : Tally). tally.pid)) rows ∙ sym pids
+
+pub own_more : (old new : Rows Tally) (pid : ℕ) (tally : Tally) → AreOwn old → tally.pid ≡ pid
+    → new.pids ≡ old.pids ++ pid ∷ [] → new.rows ≡ old.rows ++ tally ∷ [] → AreOwn new
+unfolding AreOwn
+own_more old new pid tally own is pids rows =
+    ap (map (λ (t : Tally). t.pid)) rows
+    ∙ map-append (λ (t : Tally). t.pid) old.rows (tally ∷ [])
+    ∙ ap (λ l. l ++ tally.pid ∷ []) own ∙ ap (λ p. old.pids ++ p ∷ []) is ∙ sym pids
+
+pub own_same : (old new : Rows Tally) → AreOwn old → new.pids ≡ old.pids → new.rows ≡ old.rows → AreOwn new
+unfolding AreOwn
+own_same old new own pids rows = ap (map (λ (tally : Tally). tally.pid)) rows ∙ own ∙ sym pids
 
 pub ran_nowhere : (tallies : List Tally) (pid time cost : ℕ) → All (λ t. t.pid ≢ pid) tallies
     → tallies ≡ map (ran_tally pid time cost) tallies
@@ -97,14 +141,6 @@ pub kept_tally : (tallies : List Tally) (pid i : ℕ) (d : Tally) → i < length
 kept_tally tallies pid i d h e =
     sym (cond-true (list_any (λ t. eqb t.pid pid) tallies) tallies (tallies
     ++ new_tally pid ∷ []) (any_at tallies pid i d h e))
-
--- the room for a tally stays
-pub room_ran : {Z : Type 0} (pid : ℕ) (old new : Vec Tally Z) (places : BTreeMap ℕ ℕ) (q time cost : ℕ)
-    → new.items ≡ map (ran_tally q time cost) old.items → vec_len new ≡ vec_len old
-    → vec_capacity new ≡ vec_capacity old → HasTallyRoom pid old places → HasTallyRoom pid new places
-room_ran pid old new places q time cost e len same room =
-    room_map (λ (tally : Tally). tally.pid) pid old new places (ran_tally q time cost)
-    (ran_keeps q time cost) e len same room
 
 -- a tally for each task, where the pids rise
 pub one_more_tally : (tasks : List Task) → RisesByPid tasks → (i : ℕ) (t : Task) → i < length tasks

@@ -9,7 +9,6 @@ use Rattle.replay_model.specs.declared.step.Deed.TheVariants.{Switch, Wake, Born
 use Rattle.replay_model.specs.declared.step.Step.{Step}
 use Rattle.replay_model.specs.Noted.{PageView}
 use Rattle.cfs_model.specs.declared.task.Task.{Task}
-use Rattle.queue_replay.specs.Places.{HasTallyRoom}
 use Rattle.queue_replay.specs.Stretches.{ran_tally}
 use Rattle.runqueue.specs.Tasks.{cost_of}
 use Rattle.queue_replay.specs.declared.page_draft.PageDraft.{PageDraft}
@@ -23,7 +22,7 @@ page_draft_view draft = record {
   came = draft.came.items;
   births = draft.births.items;
   deaths = draft.deaths.items;
-  tallies = draft.tallies.list.items;
+  tallies = draft.tallies.table.rows;
 }
 
 -- the ticket of a step, if it has one
@@ -46,10 +45,10 @@ abbrev pub HasDraftRoom : Deed → PageDraft → Type 0
 HasDraftRoom (Switch prev prev_nice way next next_nice) draft = vec_len draft.deaths < vec_capacity draft.deaths
 HasDraftRoom (Wake pid nice) draft = ⊤
 HasDraftRoom (Born pid nice idle) draft = (vec_len draft.births < vec_capacity draft.births)
-    × HasTallyRoom pid draft.tallies.list draft.tallies.places
+    × (0 < draft.tallies.table.room)
 HasDraftRoom (Leave pid nice dest) draft = vec_len draft.left < vec_capacity draft.left
 HasDraftRoom (Arrive pid nice orig idle) draft = (vec_len draft.came < vec_capacity draft.came)
-    × HasTallyRoom pid draft.tallies.list draft.tallies.places
+    × (0 < draft.tallies.table.room)
 
 -- the tallies after the runner, if there is one, ran for so long
 abbrev pub stretched : Option Task → ℕ → List Tally → List Tally

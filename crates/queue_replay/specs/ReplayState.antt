@@ -20,13 +20,13 @@ replay_state_view state = record {
 -- no step has failed so far
 pub record IsGoing (state : ReplayState) : Type 0 where
   pub fault : state.draft.fault ≡ None
-  pub within : All (IsWithin state.made) state.draft.tallies.list.items
+  pub within : All (IsWithin state.made) state.draft.tallies.table.rows
 
 -- the step passed, and was noted
 pub record IsPassed (knobs : Settings) (cpu : ℕ) (old : ReplayState) (step : Step) (new : ReplayState) : Type 0 where
   pub passes : PassesRaising knobs cpu (replay_state_view old) old.needs step (replay_state_view new)
       new.needs
-  pub within : All (IsWithin (old.made + 1)) new.draft.tallies.list.items
+  pub within : All (IsWithin (old.made + 1)) new.draft.tallies.table.rows
 
 -- a step was made, which passed, or failed
 abbrev pub IsStepped : Settings → ℕ → ReplayStateView → Settings → Step → ReplayState → Type 0

@@ -1,4 +1,5 @@
-use crate::lists::{LifeEvents, Tallies, Tickets};
+use crate::lists::{LifeEvents, Tickets};
+use crate::tally_book::TallyBook;
 use replay_model::StepFault;
 
 /// What the steps of a replay left behind.
@@ -12,5 +13,5 @@ pub(crate) struct Found {
     pub came: Tickets,
     pub births: LifeEvents,
     pub deaths: LifeEvents,
-    pub tallies: Tallies,
+    pub tallies: TallyBook,
 }

@@ -10,7 +10,7 @@ ghost use Rattle.queue_replay.specs.Stretches.{IsWithin};
 ghost use Rattle.runqueue.specs.Tasks.{cost_of};
 
 use crate::found::Found;
-use crate::lists::{LifeEvents, Tallies, Tickets};
+use crate::lists::{LifeEvents, Tickets};
 use crate::room::push_in;
 use crate::tally_book::TallyBook;
 use cfs_model::{IDLE_PID, Memory, Task, Way};
@@ -45,7 +45,6 @@ impl PageDraft {
             deaths,
             tallies,
         } = self;
-        let TallyBook { list, .. } = tallies;
         Found {
             line,
             fault,
@@ -53,7 +52,7 @@ impl PageDraft {
             came: Tickets::from_vec(came),
             births: LifeEvents::from_vec(births),
             deaths: LifeEvents::from_vec(deaths),
-            tallies: Tallies::from_vec(list),
+            tallies,
         }
     }
 
@@ -65,14 +64,14 @@ impl PageDraft {
         match deed {
             Deed::Switch { .. } => self.deaths.reserve(1)?,
             Deed::Wake { .. } => {}
-            Deed::Born { pid, .. } => {
+            Deed::Born { .. } => {
                 self.births.reserve(1)?;
-                self.tallies.make_room(pid)?;
+                self.tallies.make_room()?;
             }
             Deed::Leave { .. } => self.left.reserve(1)?,
-            Deed::Arrive { pid, .. } => {
+            Deed::Arrive { .. } => {
                 self.came.reserve(1)?;
-                self.tallies.make_room(pid)?;
+                self.tallies.make_room()?;
             }
         }
         Ok(())
@@ -82,8 +81,8 @@ impl PageDraft {
     pub fn note_stretch(&mut self, runner: Option<Task>, time: u64, steps: usize)
         requires fits { IfSome runner (λ t. cost_of time t ≤ greatest) }
         requires few { steps < 2 ^ 64 - 1 }
-        requires within { All (IsWithin steps) self.old.tallies.list.items }
-        ensures tallies { self.new.tallies.list.items ≡ stretched runner time self.old.tallies.list.items }
+        requires within { All (IsWithin steps) self.old.tallies.table.rows }
+        ensures tallies { self.new.tallies.table.rows ≡ stretched runner time self.old.tallies.table.rows }
         ensures room { (deed : DeedOf) → HasDraftRoom deed self.old → HasDraftRoom deed self.new }
         ensures same { (self.new.line ≡ self.old.line) × (self.new.fault ≡ self.old.fault)
             × (self.new.left ≡ self.old.left) × (self.new.came ≡ self.old.came) × (self.new.births ≡ self.old.births)
@@ -99,14 +98,14 @@ impl PageDraft {
     pub fn note(&mut self, step: &Step, ticket: Option<Ticket>, steps: usize)
         requires room { HasDraftRoom step.now.deed self.old }
         requires few { steps < 2 ^ 64 - 1 }
-        requires within { All (λ tally. tally.picks ≤ steps) self.old.tallies.list.items }
+        requires within { All (λ tally. tally.picks ≤ steps) self.old.tallies.table.rows }
         ensures line { self.new.line ≡ step.now.line }
         ensures fault { self.new.fault ≡ self.old.fault }
         ensures left { self.new.left.items ≡ self.old.left.items ++ if_left step.now.deed ticket }
         ensures came { self.new.came.items ≡ self.old.came.items ++ if_came step.now.deed ticket }
         ensures births { self.new.births.items ≡ self.old.births.items ++ births_of step.now.line step.now.deed }
         ensures deaths { self.new.deaths.items ≡ self.old.deaths.items ++ deaths_of step.now.line step.now.deed }
-        ensures tallies { self.new.tallies.list.items ≡ tallied step.now.deed self.old.tallies.list.items }
+        ensures tallies { self.new.tallies.table.rows ≡ tallied step.now.deed self.old.tallies.table.rows }
     {
         self.line = step.line;
         let deed = step.deed;

@@ -11,6 +11,7 @@ use crate::replay_state::ReplayState;
 use crate::running::{make_steps, start};
 use crate::state::State;
 use cfs_model::{Knobs, Memory};
+use pid_table::PidHasher;
 use runqueue::Runqueue;
 use sched_record::Stream;
 use std::alloc::Global;
@@ -46,7 +47,7 @@ impl Model for Replay {
 
 impl Replay {
     /// The replay before its first step; on a stream without steps, after the end test. Where memory is wanted the
-    /// stream comes back.
+    /// stream comes back. Pids are hashed by fixed keys: where somebody picks them, give `with_hasher` random ones.
     pub fn new(alloc: Global, stream: Stream, knobs: Knobs) -> Result<Replay, (Stream, Memory)>
         ensures stream { IfOk result (λ replay. replay.stream ≡ stream_view stream) }
         ensures knobs { IfOk result (λ replay. replay.knobs ≡ knobs) }
@@ -54,7 +55,23 @@ impl Replay {
         ensures page { IfOk result (λ replay. IsPageOf replay.stream replay.knobs replay.made replay.page) }
         ensures back { IfErr result (λ back. back.0 ≡ stream) }
     {
-        match start(alloc, &stream, knobs) {
+        Replay::with_hasher(alloc, stream, knobs, PidHasher::fixed())
+    }
+
+    /// The same, with the keys by which pids are hashed.
+    pub fn with_hasher(
+        alloc: Global,
+        stream: Stream,
+        knobs: Knobs,
+        hasher: PidHasher,
+    ) -> Result<Replay, (Stream, Memory)>
+        ensures stream { IfOk result (λ replay. replay.stream ≡ stream_view stream) }
+        ensures knobs { IfOk result (λ replay. replay.knobs ≡ knobs) }
+        ensures made { IfOk result (λ replay. replay.made ≡ 0) }
+        ensures page { IfOk result (λ replay. IsPageOf replay.stream replay.knobs replay.made replay.page) }
+        ensures back { IfErr result (λ back. back.0 ≡ stream) }
+    {
+        match start(alloc, &stream, knobs, hasher) {
             Ok(state) => Ok(Replay {
                 stream,
                 knobs,

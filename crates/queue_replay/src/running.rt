@@ -13,6 +13,7 @@ use crate::page_draft::PageDraft;
 use crate::replay_state::{ReplayState, idle_deadline, idled_time, since_after};
 use crate::tally_book::TallyBook;
 use cfs_model::{Amounts, IDLE_PID, Kind, Knobs, Memory, NO_LINE};
+use pid_table::PidHasher;
 use replay_model::StepFault;
 use runqueue::Runqueue;
 use sched_record::Stream;
@@ -99,11 +100,16 @@ fn end_test(stream: &Stream, knobs: Knobs, state: &mut ReplayState)
 }
 
 /// The state before the first step; on a stream without steps, after the end test.
-pub(crate) fn start(alloc: Global, stream: &Stream, knobs: Knobs) -> Result<ReplayState, Memory>
+pub(crate) fn start(
+    alloc: Global,
+    stream: &Stream,
+    knobs: Knobs,
+    hasher: PidHasher,
+) -> Result<ReplayState, Memory>
     ensures at { IfOk result (λ state. IsAt (stream_view stream.now) knobs state) }
     ensures made { IfOk result (λ state. state.made ≡ 0) }
 {
-    let mut state = before_steps(alloc, stream)?;
+    let mut state = before_steps(alloc, stream, hasher)?;
     if stream.steps().is_empty() {
         end_test(stream, knobs, &mut state);
     }
@@ -111,7 +117,7 @@ pub(crate) fn start(alloc: Global, stream: &Stream, knobs: Knobs) -> Result<Repl
 }
 
 /// The state before the first step.
-fn before_steps(alloc: Global, stream: &Stream) -> Result<ReplayState, Memory>
+fn before_steps(alloc: Global, stream: &Stream, hasher: PidHasher) -> Result<ReplayState, Memory>
     ensures made { IfOk result (λ state. state.made ≡ 0) }
     ensures start { IfOk result (λ state. IsStartOf (stream_view stream.now) (replay_state_view state)) }
     ensures going { IfOk result IsGoing }
@@ -130,7 +136,7 @@ fn before_steps(alloc: Global, stream: &Stream) -> Result<ReplayState, Memory>
             came: Vec::new(alloc),
             births: Vec::new(alloc),
             deaths: Vec::new(alloc),
-            tallies: TallyBook::of_tasks(alloc, stream.tasks())?,
+            tallies: TallyBook::of_tasks(alloc, hasher, stream.tasks())?,
         },
     })
 }

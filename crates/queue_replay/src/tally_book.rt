@@ -3,36 +3,37 @@ ghost use Rattle.std.specs.Prelude.{map, get_or, length, All};
 ghost use Rattle.cfs_model.specs.Charge.{greatest};
 ghost use Rattle.replay_model.specs.Noted.{new_tally, with_tally};
 ghost use Rattle.replay_model.specs.declared.page.Tally.{Tally as TallyOf};
-ghost use Rattle.queue_replay.specs.Places.{IsPlaced, IsPlaced-prop, HasTallyRoom};
+ghost use Rattle.queue_replay.specs.Places.{AreApart, AreOwn, AreOwn-prop};
 ghost use Rattle.queue_replay.specs.Stretches.{ran_tally, picked_tally, IsWithin};
 ghost use Rattle.runqueue.specs.Tasks.{cost_of, RisesByPid};
 
 use crate::counting::{add_run, cost_of, new_tally, pick};
-use crate::room::push_in;
 use cfs_model::{Memory, Task};
+use pid_table::{PidHasher, PidTable};
 use replay_model::Tally;
 use std::alloc::Global;
-use std::collections::BTreeMap;
 
 /// What each task did, found by its pid.
-#[derive(Drop)]
+#[derive(Debug, Drop)]
 pub struct TallyBook {
     /// One for each pid, in the order in which they were named.
-    pub list: Vec<Tally>,
-    /// Where in the list the tally of a pid is; at its end that of a pid for which room is made.
-    pub places: BTreeMap<u32, usize>,
+    pub table: PidTable<Tally>,
     /// Where the tally was that was written last: who runs is asked for again at each step.
     recent: usize,
-    pub ghost placed: { IsPlaced list.items places } by { IsPlaced-prop list.items places },
+    pub ghost own: { AreOwn table } by { AreOwn-prop table },
 }
 
 impl TallyBook {
     /// A tally for each task, of one that has done nothing yet.
-    pub(crate) fn of_tasks(alloc: Global, tasks: &[Task]) -> Result<TallyBook, Memory>
+    pub(crate) fn of_tasks(
+        alloc: Global,
+        hasher: PidHasher,
+        tasks: &[Task],
+    ) -> Result<TallyBook, Memory>
         requires { RisesByPid tasks.now }
-        ensures { IfOk result (λ book. book.list.items ≡ map (λ task. new_tally task.pid) tasks.now) }
+        ensures { IfOk result (λ book. book.table.rows ≡ map (λ task. new_tally task.pid) tasks.now) }
     {
-        let mut book = TallyBook::new(alloc);
+        let mut book = TallyBook::new(alloc, hasher);
         for task in tasks {
             book.name(task.pid)?;
         }
@@ -40,77 +41,72 @@ impl TallyBook {
     }
 
     /// No tally.
-    pub fn new(alloc: Global) -> TallyBook
-        ensures { result.list.items ≡ [] }
+    pub fn new(alloc: Global, hasher: PidHasher) -> TallyBook
+        ensures { result.table.rows ≡ [] }
     {
         TallyBook {
-            list: Vec::new(alloc),
-            places: BTreeMap::new(alloc),
+            table: PidTable::new(alloc, hasher),
             recent: 0,
         }
     }
 
     /// Lets the pid have a tally, unless a growth is refused: one that has a tally keeps it.
     pub fn name(&mut self, pid: u32) -> Result<(), Memory>
-        ensures named { OnOk result (self.new.list.items ≡ with_tally pid self.old.list.items) }
-        ensures same { OnErr result (self.new.list.items ≡ self.old.list.items) }
+        ensures named { OnOk result (self.new.table.rows ≡ with_tally pid self.old.table.rows) }
+        ensures same { OnErr result (self.new.table.rows ≡ self.old.table.rows) }
     {
-        self.make_room(pid)?;
+        self.make_room()?;
         self.add(pid);
         Ok(())
     }
 
-    /// Makes the growth that a tally of the pid needs, if it has none.
-    pub(crate) fn make_room(&mut self, pid: u32) -> Result<(), Memory>
-        ensures room { OnOk result (HasTallyRoom pid self.new.list self.new.places) }
-        ensures same { self.new.list.items ≡ self.old.list.items }
+    /// Makes the growth that one more tally needs.
+    pub(crate) fn make_room(&mut self) -> Result<(), Memory>
+        ensures room { OnOk result (0 < self.new.table.room) }
+        ensures same { self.new.table.rows ≡ self.old.table.rows }
     {
-        self.list.reserve(1)?;
-        match self.place_of(pid) {
-            Some(_) => {}
-            None => {
-                let place = self.list.len();
-                self.places.insert(pid, place)?;
-            }
-        }
+        self.table.make_room()?;
         Ok(())
     }
 
-    /// Where in the list the tally of the pid is, if it has one.
+    /// The tallies, in the order in which their pids were named.
+    pub fn tallies(&self) -> &[Tally]
+        ensures { result.now ≡ self.now.table.rows }
+    {
+        self.table.rows()
+    }
+
+    /// Where the tally of the pid is, if it has one.
     pub fn place_of(&self, pid: u32) -> Option<usize>
-        ensures found { (place : ℕ) → result ≡ Some place → (place < length self.now.list.items)
-            × ((d : TallyOf) → (get_or self.now.list.items place d).pid ≡ pid) }
-        ensures none { result ≡ None → All (λ tally. tally.pid ≢ pid) self.now.list.items }
+        ensures found { (place : ℕ) → result ≡ Some place → (place < length self.now.table.rows)
+            × ((d : TallyOf) → (get_or self.now.table.rows place d).pid ≡ pid) }
+        ensures none { result ≡ None → All (λ tally. tally.pid ≢ pid) self.now.table.rows }
+        ensures apart { AreApart self.now.table.rows }
     {
         if self.is_at(self.recent, pid) {
             return Some(self.recent);
         }
-        let place = *self.places.get(&pid)?;
-        if self.is_at(place, pid) {
-            Some(place)
-        } else {
-            None
-        }
+        self.table.place_of(pid)
     }
 
-    /// Whether the tally at this place of the list is that of the pid.
+    /// Whether the tally at this place is that of the pid.
     fn is_at(&self, place: usize, pid: u32) -> bool
-        ensures here { result ≡ true → (place < length self.now.list.items)
-            × ((d : TallyOf) → (get_or self.now.list.items place d).pid ≡ pid) }
-        ensures elsewhere { result ≡ false → place < length self.now.list.items → (d : TallyOf)
-            → (get_or self.now.list.items place d).pid ≢ pid }
+        ensures here { result ≡ true → (place < length self.now.table.rows)
+            × ((d : TallyOf) → (get_or self.now.table.rows place d).pid ≡ pid) }
+        ensures apart { AreApart self.now.table.rows }
     {
-        place < self.list.len() && self.list[place].pid == pid
+        let tallies = self.table.rows();
+        place < tallies.len() && tallies[place].pid == pid
     }
 
     /// Lets the pid have a tally. Takes no memory.
     pub(crate) fn add(&mut self, pid: u32)
-        requires { HasTallyRoom pid self.old.list self.old.places }
-        ensures { self.new.list.items ≡ with_tally pid self.old.list.items }
+        requires { 0 < self.old.table.room }
+        ensures { self.new.table.rows ≡ with_tally pid self.old.table.rows }
     {
-        match self.place_of(pid) {
+        match self.table.place_of(pid) {
             Some(_) => {}
-            None => push_in(&mut self.list, new_tally(pid)),
+            None => self.table.add(pid, new_tally(pid)),
         }
     }
 
@@ -119,15 +115,14 @@ impl TallyBook {
     pub(crate) fn add_stretch(&mut self, task: Task, time: u64, steps: usize)
         requires fits { cost_of time task ≤ greatest }
         requires few { steps < 2 ^ 64 - 1 }
-        requires within { All (IsWithin steps) self.old.list.items }
-        ensures tallies { self.new.list.items ≡ map (ran_tally task.pid time (cost_of time task)) self.old.list.items }
-        ensures room { (pid : ℕ) → HasTallyRoom pid self.old.list self.old.places
-            → HasTallyRoom pid self.new.list self.new.places }
+        requires within { All (IsWithin steps) self.old.table.rows }
+        ensures tallies { self.new.table.rows ≡ map (ran_tally task.pid time (cost_of time task)) self.old.table.rows }
+        ensures room { self.new.table.room ≡ self.old.table.room }
     {
         let pid = task.pid;
         let cost = cost_of(task, time);
         if let Some(place) = self.place_of(pid) {
-            add_run(&mut self.list[place], pid, time, cost);
+            add_run(self.table.row_mut(place), pid, time, cost);
             self.recent = place;
         }
     }
@@ -135,11 +130,11 @@ impl TallyBook {
     /// Adds a switch to the tally of the pid. Each tally is that of at most so many steps.
     pub(crate) fn add_pick(&mut self, pid: u32, steps: usize)
         requires few { steps < 2 ^ 64 - 1 }
-        requires within { All (λ tally. tally.picks ≤ steps) self.old.list.items }
-        ensures { self.new.list.items ≡ map (picked_tally pid) self.old.list.items }
+        requires within { All (λ tally. tally.picks ≤ steps) self.old.table.rows }
+        ensures { self.new.table.rows ≡ map (picked_tally pid) self.old.table.rows }
     {
         if let Some(place) = self.place_of(pid) {
-            pick(&mut self.list[place], pid);
+            pick(self.table.row_mut(place), pid);
             self.recent = place;
         }
     }

@@ -1,15 +1,15 @@
 -- Tallies that are added to the sums of their tasks, one after the other.
 use Rattle.std.proofs.Common.{◌≡◌, ◌≢◌, ℕ, ◌+◌, ◌<◌, ◌==◌, if◌then◌else◌, eqb, List, [], ◌∷◌, ◌++◌, length, map, set}
 use Rattle.std.proofs.Common.{take, drop, get_or, All, refl, sym, ap, ◌∙◌, subst, arith}
-use Rattle.std.specs.BTreeMap.{BTreeMap}
 use Rattle.std.specs.List.{sum_by}
 use Rattle.std.proofs.lemmas.Bool.{cond-false, ne_eqb}
 use Rattle.std.proofs.lemmas.List.{take_more, take-append-drop}
 use Rattle.std.proofs.lemmas.List.Elements.{All-map, All-weaker}
 use Rattle.std.proofs.lemmas.List.Sums.{sum_by-append}
 use Rattle.replay_model.specs.declared.page.Tally.{Tally}
-use Rattle.queue_replay.specs.Places.{IsPlaced}
-use Rattle.queue_replay.proofs.PlacedBy.{changed_there, placed_map, set_none}
+use Rattle.pid_table.specs.Rows.{Rows, with_row}
+use Rattle.queue_replay.specs.Places.{AreApart, AreOwn}
+use Rattle.queue_replay.proofs.PlacedBy.{changed_there, keys_kept, set_none}
 use Rattle.ticket_book.specs.Tallying.{FitsTally, with_tallies}
 
 abbrev pub pid_of : Tally → ℕ
@@ -108,16 +108,22 @@ module _ (tallies old sums : List Tally) (i : ℕ) (d : Tally) (within : i < len
       ∙ ap (λ l. map (with_tallies l) old) (sym (take_more tallies i d within))
 
 -- a tally is added to the sum of its task, where that is, and where there is none
-module _ (sums : List Tally) (places : BTreeMap ℕ ℕ) (placed : IsPlaced sums places) (tally : Tally) where
-  pub added_there : (place : ℕ) (d x : Tally) → place < length sums → (get_or sums place d).pid ≡ tally.pid
-      → x ≡ with_tallies (tally ∷ []) (get_or sums place d) → set sums place x ≡ map (with_tallies (tally ∷ [])) sums
+module _ (table : Rows Tally) (own : AreOwn table) (apart : AreApart table.rows) (tally : Tally) where
+  pub added_there : (place : ℕ) (d x : Tally) → place < length table.rows
+      → (get_or table.rows place d).pid ≡ tally.pid → x ≡ with_tallies (tally ∷ []) (get_or table.rows place d)
+      → set table.rows place x ≡ map (with_tallies (tally ∷ [])) table.rows
   added_there place d x h here is =
-      ap (set sums place) is
+      ap (set table.rows place) is
       ∙ sym (changed_there pid_of (with_tallies (tally ∷ [])) tally.pid
-      (others_stay tally) sums places placed place d h here)
+      (others_stay tally) table.rows apart place d h here)
 
-  pub added_placed : IsPlaced (map (with_tallies (tally ∷ [])) sums) places
-  added_placed = placed_map pid_of (with_tallies (tally ∷ [])) (λ sum. refl) sums places placed
+  pub added_own : (place : ℕ) (d x : Tally) → place < length table.rows
+      → (get_or table.rows place d).pid ≡ tally.pid → x ≡ with_tallies (tally ∷ []) (get_or table.rows place d)
+      → AreOwn (with_row table place x)
+  unfolding AreOwn
+  added_own place d x h here is =
+      ap (map pid_of) (added_there place d x h here is)
+      ∙ keys_kept pid_of (with_tallies (tally ∷ [])) (λ sum. refl) table.rows ∙ own
 
 pub added_nowhere : (sums : List Tally) (tally : Tally) → All (λ sum. sum.pid ≢ tally.pid) sums
     → sums ≡ map (with_tallies (tally ∷ [])) sums

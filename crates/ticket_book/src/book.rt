@@ -7,6 +7,7 @@ use crate::least_closing::least_on;
 use crate::remaking::{sufficing_own_pages, sufficing_pages};
 use crate::{Closed, ClosedLeast, PostFault};
 use cfs_model::{Knobs, Memory};
+use pid_table::PidHasher;
 use queue_replay::Page;
 use replay_model::StepFault;
 use sched_record::Record;
@@ -20,6 +21,7 @@ pub const NO_FAULT: u64 = u64::MAX;
 pub struct Book {
     places: Vec<Option<Page>>,
     least: u64,
+    hasher: PidHasher,
     pub ghost kept: { IsBook places.items least },
 }
 
@@ -33,8 +35,18 @@ impl Book {
     ghost use Rattle.ticket_book.specs.Remade.{AreRemade};
     ghost use Rattle.ticket_book.specs.Verdict.{IsVerdict};
 
-    /// A book without pages for so many processors, at most `MOST_PROCESSORS`, with the room for all their pages.
+    /// A book without pages for so many processors, at most `MOST_PROCESSORS`, with the room for all their pages. Its
+    /// closing hashes pids by fixed keys: where somebody picks them, give `with_hasher` random ones.
     pub fn new(alloc: Global, cpus: u32) -> Result<Book, Memory>
+        requires some { 0 < cpus }
+        requires at_most { cpus ≤ most_processors }
+        ensures { IfOk result (λ book. book_view book ≡ replicate cpus None) }
+    {
+        Book::with_hasher(alloc, cpus, PidHasher::fixed())
+    }
+
+    /// The same, with the keys by which its closing hashes pids.
+    pub fn with_hasher(alloc: Global, cpus: u32, hasher: PidHasher) -> Result<Book, Memory>
         requires some { 0 < cpus }
         requires at_most { cpus ≤ most_processors }
         ensures { IfOk result (λ book. book_view book ≡ replicate cpus None) }
@@ -46,6 +58,7 @@ impl Book {
         Ok(Book {
             places,
             least: NO_FAULT,
+            hasher,
         })
     }
 
@@ -95,8 +108,9 @@ impl Book {
             → closed.remade ≡ 0) }
     {
         let alloc = *self.places.allocator();
-        let (pages, remade) = sufficing_pages(alloc, self, joined, knobs)?;
-        let verdict = verdict_on(alloc, &pages, joined, knobs)?;
+        let hasher = self.hasher;
+        let (pages, remade) = sufficing_pages(alloc, self, joined, knobs, hasher)?;
+        let verdict = verdict_on(alloc, &pages, joined, knobs, hasher)?;
         Ok(Closed { verdict, remade })
     }
 
@@ -112,9 +126,10 @@ impl Book {
         ensures few { IfOk result (λ closed. closed.remade ≤ (record_view joined.now).cpus) }
     {
         let alloc = *self.places.allocator();
-        let (pages, remade) = sufficing_own_pages(alloc, self, joined, knobs)?;
+        let hasher = self.hasher;
+        let (pages, remade) = sufficing_own_pages(alloc, self, joined, knobs, hasher)?;
         Ok(Closed {
-            verdict: verdict_on(alloc, &pages, joined, knobs)?,
+            verdict: verdict_on(alloc, &pages, joined, knobs, hasher)?,
             remade,
         })
     }
@@ -131,7 +146,8 @@ impl Book {
         ensures few { IfOk result (λ closed. closed.remade ≤ (record_view joined.now).cpus) }
     {
         let alloc = *self.places.allocator();
-        let (pages, remade) = sufficing_own_pages(alloc, self, joined, Knobs::greatest())?;
+        let hasher = self.hasher;
+        let (pages, remade) = sufficing_own_pages(alloc, self, joined, Knobs::greatest(), hasher)?;
         let least = least_on(alloc, &pages, joined)?;
         Ok(ClosedLeast { least, remade })
     }

@@ -10,6 +10,7 @@ use crate::Verdict;
 use crate::summing::summary_by;
 use crate::walk::Walk;
 use cfs_model::{Knobs, Memory};
+use pid_table::PidHasher;
 use queue_replay::Page;
 use replay_laws::{closing, first_faults};
 use replay_model::FirstFault;
@@ -23,6 +24,7 @@ pub(crate) fn verdict_on(
     pages: &[Page],
     joined: &Record,
     knobs: Knobs,
+    hasher: PidHasher,
 ) -> Result<Verdict, Memory>
     requires { AreSufficient knobs (record_view joined.now) pages.now }
     ensures { IfOk result (IsVerdict knobs (record_view joined.now)) }
@@ -37,7 +39,7 @@ pub(crate) fn verdict_on(
             tallying();
             // No sum is too great: no time is above the last, and there are no more events than lines.
             let _last = (joined.last_time(), joined.last_line());
-            Ok(Verdict::Run(summary_by(alloc, pages, joined)?))
+            Ok(Verdict::Run(summary_by(alloc, pages, joined, hasher)?))
         }
     }
 }

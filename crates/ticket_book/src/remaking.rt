@@ -16,6 +16,7 @@ use crate::least_fault::least_fault;
 use crate::owning::own_places;
 use crate::relying::is_enough;
 use cfs_model::{Knobs, Memory};
+use pid_table::PidHasher;
 use queue_replay::{Page, Replay};
 use sched_record::Record;
 use std::alloc::Global;
@@ -26,6 +27,7 @@ pub(crate) fn sufficing_pages(
     book: Book,
     joined: &Record,
     knobs: Knobs,
+    hasher: PidHasher,
 ) -> Result<(Vec<Page>, u32), Memory>
     ensures suffice { IfOk result (λ made. AreSufficient knobs (record_view joined.now) made.0.items) }
     ensures remade { IfOk result (λ made. AreRemade knobs (record_view joined.now) (book_view book) made.1) }
@@ -34,7 +36,7 @@ pub(crate) fn sufficing_pages(
 {
     let places = book.into_places();
     let own = own_places(alloc, &places, joined, knobs)?;
-    gathered_pages(alloc, places, &own, joined, knobs)
+    gathered_pages(alloc, places, &own, joined, knobs, hasher)
 }
 
 /// The same of a book whose pages are all the record's own, so that none is compared with it.
@@ -43,6 +45,7 @@ pub(crate) fn sufficing_own_pages(
     book: Book,
     joined: &Record,
     knobs: Knobs,
+    hasher: PidHasher,
 ) -> Result<(Vec<Page>, u32), Memory>
     requires own { AreOwn knobs (record_view joined.now) (book_view book) }
     ensures suffice { IfOk result (λ made. AreSufficient knobs (record_view joined.now) made.0.items) }
@@ -52,7 +55,7 @@ pub(crate) fn sufficing_own_pages(
     ensures few { IfOk result (λ made. made.1 ≤ (record_view joined.now).cpus) }
 {
     let own = Vec::from_elem(alloc, true, joined.cpus() as usize)?;
-    gathered_pages(alloc, book.into_places(), &own, joined, knobs)
+    gathered_pages(alloc, book.into_places(), &own, joined, knobs, hasher)
 }
 
 /// The same of a book's places, where it is told of each whether its page is the record's own.
@@ -62,6 +65,7 @@ fn gathered_pages(
     own: &[bool],
     joined: &Record,
     knobs: Knobs,
+    hasher: PidHasher,
 ) -> Result<(Vec<Page>, u32), Memory>
     requires count { length own.now ≡ (record_view joined.now).cpus }
     requires told { AreToldOwn knobs (record_view joined.now) places.items own.now }
@@ -80,7 +84,7 @@ fn gathered_pages(
             Some(page) => page,
             None => {
                 remade += 1;
-                whole_page(alloc, joined, cpu, knobs)?
+                whole_page(alloc, joined, cpu, knobs, hasher)?
             }
         };
         pages.push(page)?;
@@ -122,13 +126,19 @@ fn relied_on(place: Option<Page>, own: bool, least: Option<u64>) -> Option<Page>
     }
 }
 
-/// The page of a record's processor, replayed to its first fault or to the end.
-pub fn whole_page(alloc: Global, joined: &Record, cpu: u32, knobs: Knobs) -> Result<Page, Memory>
+/// The page of a record's processor, replayed to its first fault or to the end. Pids are hashed by these keys.
+pub fn whole_page(
+    alloc: Global,
+    joined: &Record,
+    cpu: u32,
+    knobs: Knobs,
+    hasher: PidHasher,
+) -> Result<Page, Memory>
     requires { cpu < (record_view joined.now).cpus }
     ensures { IfOk result (IsWholePageOf knobs (record_view joined.now) cpu) }
 {
     let stream = joined.deal(cpu)?;
-    let mut replay = match Replay::new(alloc, stream, knobs) {
+    let mut replay = match Replay::with_hasher(alloc, stream, knobs, hasher) {
         Ok(replay) => replay,
         Err((_stream, memory)) => return Err(memory),
     };

@@ -14,12 +14,18 @@ use crate::Summary;
 use crate::event_counts::EventCounts;
 use crate::task_sums::add_all;
 use cfs_model::{Act, Entry, Memory, Task};
+use pid_table::PidHasher;
 use queue_replay::{Page, Tallies, TallyBook};
 use sched_record::Record;
 use std::alloc::Global;
 
 /// The summary of a record's events by the tallies on its processors' pages.
-pub(crate) fn summary_by(alloc: Global, pages: &[Page], joined: &Record) -> Result<Summary, Memory>
+pub(crate) fn summary_by(
+    alloc: Global,
+    pages: &[Page],
+    joined: &Record,
+    hasher: PidHasher,
+) -> Result<Summary, Memory>
     requires { All (λ pid. FitsTally (total_of (tallies_below (view_at pages.now) (length pages.now)) pid))
         (tasks_of_run (record_view joined.now).tasks (events_of (record_view joined.now))) }
     ensures { IfOk result (λ summary. summary_view summary
@@ -27,11 +33,11 @@ pub(crate) fn summary_by(alloc: Global, pages: &[Page], joined: &Record) -> Resu
         (events_of (record_view joined.now))) }
 {
     let events = joined.events();
-    let mut sums = TallyBook::new(alloc);
+    let mut sums = TallyBook::new(alloc, hasher);
     name_tasks(joined.tasks(), &mut sums)?;
     let counts = count_events(events, &mut sums)?;
     add_pages(pages, &mut sums);
-    let TallyBook { list, .. } = sums;
+    let list = sums.tallies().to_vec(alloc)?;
     Ok(Summary {
         events: events.len() as u64,
         switches: counts.switches,
@@ -44,7 +50,7 @@ pub(crate) fn summary_by(alloc: Global, pages: &[Page], joined: &Record) -> Resu
 
 /// Names the tasks of the start state.
 fn name_tasks(tasks: &[Task], sums: &mut TallyBook) -> Result<(), Memory>
-    ensures { OnOk result (sums.new.list.items ≡ with_named (map (λ task. task.pid) tasks.now) sums.old.list.items) }
+    ensures { OnOk result (sums.new.table.rows ≡ with_named (map (λ task. task.pid) tasks.now) sums.old.table.rows) }
 {
     for task in tasks {
         sums.name(task.pid)?;
@@ -55,7 +61,7 @@ fn name_tasks(tasks: &[Task], sums: &mut TallyBook) -> Result<(), Memory>
 /// Counts what the events do, and names the tasks that are born.
 fn count_events(events: &[Entry], sums: &mut TallyBook) -> Result<EventCounts, Memory>
     ensures counts { IfOk result (λ counts. counts ≡ counts_of events.now) }
-    ensures named { OnOk result (sums.new.list.items ≡ with_named (births_in events.now) sums.old.list.items) }
+    ensures named { OnOk result (sums.new.table.rows ≡ with_named (births_in events.now) sums.old.table.rows) }
 {
     let mut counts = EventCounts::NONE;
     for event in events {
@@ -67,7 +73,7 @@ fn count_events(events: &[Entry], sums: &mut TallyBook) -> Result<EventCounts, M
 
 /// Names the task that an event gives birth to, if it does.
 fn name_born(act: Act, sums: &mut TallyBook) -> Result<(), Memory>
-    ensures { OnOk result (sums.new.list.items ≡ with_named (born_by act) sums.old.list.items) }
+    ensures { OnOk result (sums.new.table.rows ≡ with_named (born_by act) sums.old.table.rows) }
 {
     match act.begun() {
         Some(pid) => sums.name(pid),
@@ -78,9 +84,9 @@ fn name_born(act: Act, sums: &mut TallyBook) -> Result<(), Memory>
 /// Adds the tallies on the pages, page after page.
 fn add_pages(pages: &[Page], sums: &mut TallyBook)
     requires { All (λ sum. FitsTally (with_tallies (tallies_below (view_at pages.now) (length pages.now)) sum))
-        sums.old.list.items }
-    ensures { sums.new.list.items ≡ map (with_tallies (tallies_below (view_at pages.now) (length pages.now)))
-        sums.old.list.items }
+        sums.old.table.rows }
+    ensures { sums.new.table.rows ≡ map (with_tallies (tallies_below (view_at pages.now) (length pages.now)))
+        sums.old.table.rows }
 {
     for page in pages {
         add_all(sums, page.tallies());

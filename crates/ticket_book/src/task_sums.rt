@@ -7,8 +7,8 @@ use replay_model::Tally;
 
 /// Adds what some tallies say to the sums of their tasks.
 pub(crate) fn add_all(sums: &mut TallyBook, tallies: &[Tally])
-    requires { All (λ sum. FitsTally (with_tallies tallies.now sum)) sums.old.list.items }
-    ensures { sums.new.list.items ≡ map (with_tallies tallies.now) sums.old.list.items }
+    requires { All (λ sum. FitsTally (with_tallies tallies.now sum)) sums.old.table.rows }
+    ensures { sums.new.table.rows ≡ map (with_tallies tallies.now) sums.old.table.rows }
 {
     for tally in tallies {
         add(sums, *tally);
@@ -17,11 +17,11 @@ pub(crate) fn add_all(sums: &mut TallyBook, tallies: &[Tally])
 
 /// Adds what a tally says to the sum of its task.
 fn add(sums: &mut TallyBook, tally: Tally)
-    requires { All (λ sum. FitsTally (with_tallies (tally ∷ []) sum)) sums.old.list.items }
-    ensures { sums.new.list.items ≡ map (with_tallies (tally ∷ [])) sums.old.list.items }
+    requires { All (λ sum. FitsTally (with_tallies (tally ∷ []) sum)) sums.old.table.rows }
+    ensures { sums.new.table.rows ≡ map (with_tallies (tally ∷ [])) sums.old.table.rows }
 {
     if let Some(place) = sums.place_of(tally.pid) {
-        add_to(&mut sums.list[place], tally);
+        add_to(sums.table.row_mut(place), tally);
     }
 }
 

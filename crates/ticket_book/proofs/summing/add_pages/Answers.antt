@@ -7,22 +7,22 @@ use Rattle.ticket_book.proofs.PagesAdded.{page_added, page_fits}
 use Rattle.ticket_book.proofs.summing.add_pages.Goals as goal
 
 pub loop-page-init : goal.loop-page-init
-loop-page-init c = sym (add_none c.args.sums.now.list.items)
+loop-page-init c = sym (add_none c.args.sums.now.table.rows)
 
 pub add_all-requires : goal.add_all-requires
 add_all-requires c =
     page_fits c.args.pages.now c.loop-page.page-index c.page-item.result c.loop-page-test.true c.page-item.is
-    c.tallies.result.now c.tallies.ensures c.args.sums.now.list.items c.loop-page.sums.list.items c.loop-page.invariant
+    c.tallies.result.now c.tallies.ensures c.args.sums.now.table.rows c.loop-page.sums.table.rows c.loop-page.invariant
     c.requires
 
 pub loop-page-preserved : goal.loop-page-preserved
 loop-page-preserved c =
     page_added c.args.pages.now c.loop-page.page-index c.page-item.result c.loop-page-test.true c.page-item.is
-    c.tallies.result.now c.tallies.ensures c.args.sums.now.list.items c.loop-page.sums.list.items c.loop-page.invariant
-    c.add_all.new.sums.list.items c.add_all.ensures
+    c.tallies.result.now c.tallies.ensures c.args.sums.now.table.rows c.loop-page.sums.table.rows c.loop-page.invariant
+    c.add_all.new.sums.table.rows c.add_all.ensures
 
 pub returns : goal.returns
 returns c =
     let all : c.loop-page.page-index ≡ length c.args.pages.now = omega arith in
     c.loop-page.invariant
-    ∙ ap (λ count. map (with_tallies (tallies_below (view_at c.args.pages.now) count)) c.args.sums.now.list.items) all
+    ∙ ap (λ count. map (with_tallies (tallies_below (view_at c.args.pages.now) count)) c.args.sums.now.table.rows) all

@@ -6,4 +6,4 @@ use Rattle.ticket_book.proofs.summing.add_pages.Given as goal
 
 abbrev pub invariant-loop-page : goal.invariant-loop-page
 invariant-loop-page l =
-    l.sums.list.items ≡ map (with_tallies (tallies_below (view_at l.pages) l.page-index)) l.fn.sums.list.items
+    l.sums.table.rows ≡ map (with_tallies (tallies_below (view_at l.pages) l.page-index)) l.fn.sums.table.rows

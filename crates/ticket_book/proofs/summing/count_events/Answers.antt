@@ -21,9 +21,9 @@ loop-event-preserved c =
       counted = c.with-counts.ensures ∙ ap (with_event event) c.loop-event.invariant.counted
           ∙ count_more events i event c.loop-event-test.true c.event-item.is;
       named = both_named (births_in (take i events))
-          (born_by event.act) c.args.sums.now.list.items c.loop-event.sums.list.items
-          c.name_born.new.sums.list.items c.loop-event.invariant.named c.in_ok-name_born.ensures
-          ∙ ap (λ pids. with_named pids c.args.sums.now.list.items)
+          (born_by event.act) c.args.sums.now.table.rows c.loop-event.sums.table.rows
+          c.name_born.new.sums.table.rows c.loop-event.invariant.named c.in_ok-name_born.ensures
+          ∙ ap (λ pids. with_named pids c.args.sums.now.table.rows)
           (births_more events i event c.loop-event-test.true c.event-item.is);
     }
 
@@ -33,5 +33,5 @@ returns c =
     record {
       counts = c.loop-event.invariant.counted ∙ ap counts_of all;
       named = c.loop-event.invariant.named
-          ∙ ap (λ events. with_named (births_in events) c.args.sums.now.list.items) all;
+          ∙ ap (λ events. with_named (births_in events) c.args.sums.now.table.rows) all;
     }

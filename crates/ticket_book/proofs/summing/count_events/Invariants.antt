@@ -6,5 +6,5 @@ use Rattle.ticket_book.proofs.summing.count_events.Given as goal
 abbrev pub invariant-loop-event : goal.invariant-loop-event
 invariant-loop-event l = record {
   counted : l.counts ≡ counts_of (take l.event-index l.events);
-  named : l.sums.list.items ≡ with_named (births_in (take l.event-index l.events)) l.fn.sums.list.items;
+  named : l.sums.table.rows ≡ with_named (births_in (take l.event-index l.events)) l.fn.sums.table.rows;
 }

@@ -4,4 +4,4 @@ use Rattle.ticket_book.proofs.summing.name_tasks.Given as goal
 
 abbrev pub invariant-loop-task : goal.invariant-loop-task
 invariant-loop-task l =
-    l.sums.list.items ≡ with_named (map (λ task. task.pid) (take l.task-index l.tasks)) l.fn.sums.list.items
+    l.sums.table.rows ≡ with_named (map (λ task. task.pid) (take l.task-index l.tasks)) l.fn.sums.table.rows

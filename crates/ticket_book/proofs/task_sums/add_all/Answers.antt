@@ -6,22 +6,22 @@ use Rattle.ticket_book.proofs.Adding.{add_none, one_added, one_fits}
 use Rattle.ticket_book.proofs.task_sums.add_all.Goals as goal
 
 pub loop-tally-init : goal.loop-tally-init
-loop-tally-init c = sym (add_none c.args.sums.now.list.items)
+loop-tally-init c = sym (add_none c.args.sums.now.table.rows)
 
 pub add-requires : goal.add-requires
 add-requires c =
-    one_fits c.args.tallies.now c.args.sums.now.list.items c.loop-tally.sums.list.items c.loop-tally.tally-index
+    one_fits c.args.tallies.now c.args.sums.now.table.rows c.loop-tally.sums.table.rows c.loop-tally.tally-index
     (new_tally 0)
     c.loop-tally-test.true c.loop-tally.invariant c.requires
 
 pub loop-tally-preserved : goal.loop-tally-preserved
 loop-tally-preserved c =
-    one_added c.args.tallies.now c.args.sums.now.list.items c.loop-tally.sums.list.items c.loop-tally.tally-index
+    one_added c.args.tallies.now c.args.sums.now.table.rows c.loop-tally.sums.table.rows c.loop-tally.tally-index
     (new_tally 0)
-    c.loop-tally-test.true c.loop-tally.invariant c.add.new.sums.list.items c.add.ensures
+    c.loop-tally-test.true c.loop-tally.invariant c.add.new.sums.table.rows c.add.ensures
 
 pub returns : goal.returns
 returns c =
     c.loop-tally.invariant
-    ∙ ap (λ l. map (with_tallies l) c.args.sums.now.list.items)
+    ∙ ap (λ l. map (with_tallies l) c.args.sums.now.table.rows)
     (take_all c.loop-tally.tally-index c.args.tallies.now c.loop-tally-test.false)

@@ -72,7 +72,7 @@ note_stretch-requires-clause-fits c =
     (c.saturating_sub-time.ensures ∙ ap (λ n. step.time - n) c.mark.ensures) c.saturating_sub-time.type_inv
     c.runner-runner.result
     c.runner-runner.ensures
-    old.draft.tallies.list.items c.requires.going.within).0
+    old.draft.tallies.table.rows c.requires.going.within).0
 
 pub note-requires-clause-within : goal.note-requires-clause-within
 note-requires-clause-within c =
@@ -83,9 +83,9 @@ note-requires-clause-within c =
     (c.saturating_sub-time.ensures ∙ ap (λ n. step.time - n) c.mark.ensures) c.saturating_sub-time.type_inv
     c.runner-runner.result
     c.runner-runner.ensures
-    old.draft.tallies.list.items c.requires.going.within).1 in
+    old.draft.tallies.table.rows c.requires.going.within).1 in
     let P : List Tally → Type 0 = λ l. All (IsRan old.made) l in
-    ran_picks old.made c.note_stretch.new.self.tallies.list.items (subst P (sym c.note_stretch.ensures.tallies) ran)
+    ran_picks old.made c.note_stretch.new.self.tallies.table.rows (subst P (sym c.note_stretch.ensures.tallies) ran)
 
 pub returns-clause-passes : goal.returns-clause-passes
 returns-clause-passes c _ =
@@ -105,7 +105,7 @@ returns-clause-passes c _ =
     (c.saturating_sub-time.ensures ∙ ap (λ n. step.time - n) c.mark.ensures) c.saturating_sub-time.type_inv
     c.runner-runner.result
     c.runner-runner.ensures
-    old.draft.tallies.list.items c.requires.going.within).1 in
+    old.draft.tallies.table.rows c.requires.going.within).1 in
     let P : List Tally → Type 0 = λ x. All (IsRan old.made) x in
     let W : List Tally → Type 0 = λ x. All (IsWithin (old.made + 1)) x in
     record {
@@ -126,11 +126,11 @@ returns-clause-passes c _ =
                 (reniced step.nice lifted) step c.in-Ok-Made.deed.ticket c.requires.going.fault
                 (record { line = s.0; fault = s.1; left = s.2; came = s.3; births = s.4; deaths = s.5 })
                 (c.note_stretch.ensures.tallies
-                ∙ ap (λ n. stretched c.runner-runner.result n old.draft.tallies.list.items)
+                ∙ ap (λ n. stretched c.runner-runner.result n old.draft.tallies.table.rows)
                 (c.saturating_sub-time.ensures ∙ ap (λ n. step.time - n) c.mark.ensures)
                 ∙ sym (charged_same (runqueue_view q) step.time c.runner-runner.result
                 c.runner-runner.ensures
-                old.draft.tallies.list.items))
+                old.draft.tallies.table.rows))
                 tried.2
                 (let n = c.note.ensures in record {
                   line = n.line;
@@ -148,5 +148,5 @@ returns-clause-passes c _ =
         c.raise.ensures,
       );
       within = subst W (sym c.note.ensures.tallies)
-          (tallied_within old.made step.deed mid.tallies.list.items (subst P (sym c.note_stretch.ensures.tallies) ran));
+          (tallied_within old.made step.deed mid.tallies.table.rows (subst P (sym c.note_stretch.ensures.tallies) ran));
     }

@@ -3,4 +3,4 @@ use Rattle.replay_model.specs.Noted.{new_tally}
 use Rattle.queue_replay.proofs.tally_book.TallyBook.of_tasks.Given as goal
 
 abbrev pub invariant-loop-task : goal.invariant-loop-task
-invariant-loop-task l = l.book.list.items ≡ map (λ task. new_tally task.pid) (take l.task-index l.tasks)
+invariant-loop-task l = l.book.table.rows ≡ map (λ task. new_tally task.pid) (take l.task-index l.tasks)

@@ -1,16 +1,15 @@
-use Rattle.replay_model.specs.declared.page.Tally.{Tally}
-use Rattle.queue_replay.proofs.PlacedBy.{unplaced_none, nowhere_elsewhere}
+use Rattle.std.proofs.Common.{◌<◌, ◌∙◌, IfSome, length, subst, sym}
+use Rattle.queue_replay.proofs.Placed.{own_there, own_nowhere}
 use Rattle.queue_replay.proofs.tally_book.TallyBook.place_of.Goals as goal
 
-pub returns-in_err-place-clause-none : goal.returns-in_err-place-clause-none
-returns-in_err-place-clause-none c _ =
+pub returns-clause-found : goal.returns-clause-found
+returns-clause-found c place is =
     let book = c.args.self.now in
-    unplaced_none (λ (tally : Tally). tally.pid) book.list.items book.places book.placed c.args.pid
-    c.in_err-place.ensures.value
+    let e = c.place_of.ensures in
+    let within = subst (λ r. IfSome r (λ p. p < length book.table.rows)) is e.within in
+    (within, λ d. own_there book.table book.own c.args.pid place d (sym e.place ∙ is) within)
 
-pub returns-else-is_at-2-clause-none : goal.returns-else-is_at-2-clause-none
-returns-else-is_at-2-clause-none c _ =
+pub returns-clause-none : goal.returns-clause-none
+returns-clause-none c is =
     let book = c.args.self.now in
-    nowhere_elsewhere (λ (tally : Tally). tally.pid) book.list.items book.places book.placed c.args.pid
-    c.in_ok-place.field-0.now c.in_ok-place.ensures.value
-    (c.is_at-2.ensures.elsewhere c.if-is_at-2.false)
+    own_nowhere book.table book.own c.args.pid (sym c.place_of.ensures.place ∙ is)

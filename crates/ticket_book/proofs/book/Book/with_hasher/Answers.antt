@@ -1,7 +1,7 @@
 use Rattle.std.proofs.Common.{◌≡◌, None, replicate, subst, sym, ap, ◌∙◌, arith}
 use Rattle.ticket_book.specs.Book.{IsBook, no_fault}
 use Rattle.ticket_book.proofs.BookPlaces.{empty_book}
-use Rattle.ticket_book.proofs.book.Book.new.Goals as goal
+use Rattle.ticket_book.proofs.book.Book.with_hasher.Goals as goal
 
 pub invariant_of-result : goal.invariant_of-result
 invariant_of-result c =

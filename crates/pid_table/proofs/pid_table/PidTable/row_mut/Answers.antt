@@ -1,0 +1,21 @@
+use Rattle.std.proofs.Common.{refl}
+use Rattle.std.specs.HashMap.{spare}
+use Rattle.indexmap.proofs.CallerLemmas.{keys-with_value_at}
+use Rattle.pid_table.proofs.Entries.{row_set}
+use Rattle.pid_table.proofs.pid_table.PidTable.row_mut.Goals as goal
+
+pub returns : goal.returns
+returns g c =
+    let m = c.self.inside.map in
+    let place = c.args.place in
+    rw (← c.self.view_is) (
+      (
+        refl,
+        λ w i. record {
+          pids = keys-with_value_at m place w i;
+          rows = row_set m.entries place w i;
+          room = spare m;
+        },
+      ),
+      record { writes_back = tt; value = c.index_mut.ensures.value },
+    )

@@ -1,0 +1,101 @@
+ghost use Rattle.std.specs.Prelude.{◌≡◌, ◌∷◌, ◌++◌, ◌<◌, [], None, Some, IfSome, OnOk, length, slice_get};
+ghost use Rattle.std.specs.Borrow.{sem};
+ghost use Rattle.pid_table.specs.Rows.{AreSound, place_in};
+
+use crate::PidHasher;
+use indexmap::IndexMap;
+use std::alloc::{AllocError, Global};
+use std::marker::Model;
+
+/// A row for each pid, in the order in which the pids were named. A contract sees the pids and their rows side by side,
+/// and how many more fit.
+#[derive(Debug, Drop)]
+pub struct PidTable<V> {
+    map: IndexMap<u32, V, PidHasher>,
+}
+
+impl<V> Model for PidTable<V> {
+    ghost use Rattle.indexmap.specs.IndexMap.{keys, values, spare};
+    ghost use Rattle.pid_table.specs.Rows.{Rows, rows_code};
+
+    ghost Value = { Rows V };
+
+    ghost coded = { rows_code V.code };
+
+    ghost view = { λ t. record { pids = keys t.map; rows = values t.map; room = spare t.map } };
+}
+
+impl<V> PidTable<V> {
+    ghost use Rattle.pid_table.specs.Lends.{LendsRow};
+
+    /// No row. Takes no memory.
+    pub fn new(alloc: Global, hasher: PidHasher) -> Self
+        ensures pids { result.pids ≡ [] }
+        ensures rows { result.rows ≡ [] }
+    {
+        Self {
+            map: IndexMap::with_hasher(alloc, hasher),
+        }
+    }
+
+    /// The pids, in the order in which they were named.
+    pub fn pids(&self) -> &[u32]
+        ensures pids { result.now ≡ self.now.pids }
+        ensures sound { AreSound self.now }
+    {
+        self.map.keys().as_slice()
+    }
+
+    /// The rows, in the order of their pids.
+    pub fn rows(&self) -> &[V]
+        ensures rows { result.now ≡ self.now.rows }
+        ensures sound { AreSound self.now }
+    {
+        let entries = self.map.as_slice();
+        entries.values().as_slice()
+    }
+
+    /// Where the row of a pid is, if it has one.
+    pub fn place_of(&self, pid: u32) -> Option<usize>
+        ensures place { result ≡ place_in self.now.pids pid }
+        ensures within { IfSome result (λ place. place < length self.now.rows) }
+        ensures sound { AreSound self.now }
+    {
+        self.map.get_index_of(&pid)
+    }
+
+    /// The row at a place, to be changed.
+    pub fn row_mut(&mut self, place: usize) -> &mut V
+        requires { place < length self.old.rows }
+        ensures* writes_back { sem 𝓛 (LendsRow V.row self.entry place result) }
+        ensures value { slice_get self.old.rows place ≡ Some result.now }
+    {
+        &mut self.map[place]
+    }
+
+    /// Makes room for one more row.
+    pub fn make_room(&mut self) -> Result<(), AllocError>
+        ensures room { OnOk result (0 < self.new.room) }
+        ensures pids { self.new.pids ≡ self.old.pids }
+        ensures rows { self.new.rows ≡ self.old.rows }
+        ensures sound { AreSound self.new }
+    {
+        self.map.reserve(1)
+    }
+
+    /// Adds a row behind the last, for a pid that has none. Takes no memory.
+    pub fn add(&mut self, pid: u32, row: V)
+    where
+        V: Drop,
+        requires room { 0 < self.old.room }
+        requires new { place_in self.old.pids pid ≡ None }
+        ensures pids { self.new.pids ≡ self.old.pids ++ pid ∷ [] }
+        ensures rows { self.new.rows ≡ self.old.rows ++ row ∷ [] }
+        ensures sound { AreSound self.new }
+    {
+        match self.map.insert(pid, row) {
+            Ok(_none) => {}
+            Err(_pair) => unreachable!(),
+        }
+    }
+}

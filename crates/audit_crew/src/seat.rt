@@ -8,6 +8,7 @@ use crate::shared_book::{CrewLedger, SharedBook};
 use crate::underway::Underway;
 use crate::{AuditorFault, Gate};
 use cfs_model::{Knobs, Memory};
+use pid_table::PidHasher;
 use sched_record::Record;
 use std::alloc::Global;
 use std::sync::ledger::Share;
@@ -59,6 +60,7 @@ impl<L: CrewLedger> Seat<L> {
         cpu: u32,
         knobs: Knobs,
         gate: &G,
+        hasher: PidHasher,
     )
         requires cpu { cpu < (record_view joined.now).cpus }
         requires joined { L.joined ≡ record_view joined.now }
@@ -66,7 +68,7 @@ impl<L: CrewLedger> Seat<L> {
         requires free { self.old.posted ≡ false }
         requires idle { self.old.underway ≡ None }
     {
-        match deal_and_begin(alloc, joined, cpu, knobs, gate) {
+        match deal_and_begin(alloc, joined, cpu, knobs, gate, hasher) {
             Ok(begun) if begun.is_going() => self.underway = Some(begun),
             Ok(begun) => self.finish(rt, shared, begun, gate),
             Err(Memory) => self.memory = true,
@@ -143,10 +145,11 @@ fn deal_and_begin<G: Gate>(
     cpu: u32,
     knobs: Knobs,
     gate: &G,
+    hasher: PidHasher,
 ) -> Result<Underway, Memory>
     requires { cpu < (record_view joined.now).cpus }
     ensures { IfOk result (λ begun. IsOwnReplay knobs (record_view joined.now) begun.replay) }
 {
     let stream = joined.deal(cpu)?;
-    Underway::begin(alloc, gate, stream, knobs, STRETCH)
+    Underway::begin(alloc, gate, stream, knobs, STRETCH, hasher)
 }

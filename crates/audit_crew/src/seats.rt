@@ -6,6 +6,7 @@ use crate::Gate;
 use crate::seat::Seat;
 use crate::shared_book::{CrewLedger, SharedBook};
 use cfs_model::{Knobs, Memory};
+use pid_table::PidHasher;
 use sched_record::Record;
 use std::alloc::Global;
 use std::sync::ledger::Share;
@@ -43,6 +44,7 @@ pub(crate) fn begin_all<L: CrewLedger + Send + Sync, R: Threads + Wait + Sync, G
     joined: &Record,
     knobs: Knobs,
     gate: &G,
+    hasher: PidHasher,
 )
     requires one_each { length seats.old ≡ (record_view joined.now).cpus }
     requires free { All (λ seat. seat.posted ≡ false) seats.old }
@@ -58,7 +60,7 @@ pub(crate) fn begin_all<L: CrewLedger + Send + Sync, R: Threads + Wait + Sync, G
         &|cpu: usize, seat: &mut Seat<L>|
             requires { (cpu < (record_view joined.now).cpus) × (seat.old.posted ≡ false) × (seat.old.underway ≡ None)
                 × (L.joined ≡ record_view joined.now) × (L.knobs ≡ knobs) }
-        { seat.begin(rt, alloc, shared, joined, cpu as u32, knobs, gate) },
+        { seat.begin(rt, alloc, shared, joined, cpu as u32, knobs, gate, hasher) },
     );
 }
 

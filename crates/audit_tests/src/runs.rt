@@ -6,6 +6,7 @@ use cfs_model::Knobs;
 use sched_audit::{Fault, FeedOf, OpenGate, SinkOf, Status, run};
 use std::alloc::Global;
 use std::process::Abort;
+use std::random::RandomSource;
 use std::sync::Wait;
 use std::thread::Threads;
 
@@ -13,7 +14,7 @@ use std::thread::Threads;
 pub type Ran = (Result<Status, Fault>, Vec<u8>, [u64; 3]);
 
 /// The run of two texts, by the standard settings.
-pub fn ran<R: Threads + Wait + Sync>(
+pub fn ran<R: RandomSource + Threads + Wait + Sync>(
     rt: &R,
     alloc: Global,
     trace: Pieces<'_>,
@@ -35,7 +36,7 @@ pub fn ran<R: Threads + Wait + Sync>(
 }
 
 /// Ends the test where the run of two texts answers or writes something else, and says how often each end was called.
-pub fn wants_run<R: Abort + Threads + Wait + Sync>(
+pub fn wants_run<R: Abort + RandomSource + Threads + Wait + Sync>(
     rt: &R,
     alloc: Global,
     ends: (Pieces<'_>, Pieces<'_>, Room),

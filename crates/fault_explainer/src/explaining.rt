@@ -2,21 +2,23 @@ use crate::bounds::push_bound;
 use crate::event::Event;
 use crate::scene::Scene;
 use cfs_model::{Knobs, Memory};
+use pid_table::PidHasher;
 use replay_model::FirstFault;
 use sched_record::Record;
 use std::alloc::Global;
 
 /// How the first fault of a record under these settings comes about: how things were before its event, what comes first
-/// at it, and the bound that failed. Each line begins with `# `.
+/// at it, and the bound that failed. Each line begins with `# `. Pids are hashed by these keys.
 pub fn explanation(
     alloc: Global,
     record: &Record,
     knobs: Knobs,
     fault: &FirstFault,
+    hasher: PidHasher,
 ) -> Result<String, Memory> {
     let mut text = String::new(alloc);
     if let Some(event) = Event::on_line(record, fault.line) {
-        let mut scene = Scene::new(alloc, record, knobs, *fault, event)?;
+        let mut scene = Scene::new(alloc, record, knobs, *fault, event, hasher)?;
         scene.set(&mut text)?;
         scene.go_on_to_pick()?;
         push_bound(&mut text, &scene)?;

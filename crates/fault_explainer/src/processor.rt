@@ -1,4 +1,5 @@
 use cfs_model::{Knobs, Memory, Task};
+use pid_table::PidHasher;
 use queue_replay::Replay;
 use runqueue::Runqueue;
 use sched_record::Record;
@@ -21,6 +22,7 @@ impl Processor {
         knobs: Knobs,
         cpu: u32,
         line: u32,
+        hasher: PidHasher,
     ) -> Result<Processor, Memory> {
         if cpu >= record.cpus() {
             return Ok(Processor {
@@ -31,7 +33,7 @@ impl Processor {
         }
         let stream = record.deal(cpu)?;
         let above = stream.steps().partition_point(|step| step.line < line);
-        match Replay::new(alloc, stream, knobs) {
+        match Replay::with_hasher(alloc, stream, knobs, hasher) {
             Ok(replay) => Processor::after(replay, cpu, above),
             Err((_, memory)) => Err(memory),
         }

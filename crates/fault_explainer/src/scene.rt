@@ -3,6 +3,7 @@ use crate::event::Event;
 use crate::processor::Processor;
 use crate::processor_lines::{push_charge, push_floor, push_processor};
 use cfs_model::{Act, IDLE_PID, Kind, Knobs, Memory, Task};
+use pid_table::PidHasher;
 use replay_model::FirstFault;
 use sched_record::Record;
 use std::alloc::{AllocError, Global};
@@ -30,14 +31,15 @@ impl Scene {
         knobs: Knobs,
         fault: FirstFault,
         event: Event,
+        hasher: PidHasher,
     ) -> Result<Scene, Memory> {
         let (here, there) = match event.ends() {
             Some((orig, dest)) if fault.kind != Kind::IdleTooLong => (orig, Some(dest)),
             _ => (fault.cpu, None),
         };
-        let here = Processor::before(alloc, record, knobs, here, fault.line)?;
+        let here = Processor::before(alloc, record, knobs, here, fault.line, hasher)?;
         let there = match there {
-            Some(cpu) => Some(Processor::before(alloc, record, knobs, cpu, fault.line)?),
+            Some(cpu) => Some(Processor::before(alloc, record, knobs, cpu, fault.line, hasher)?),
             None => None,
         };
         let mut scene = Scene {
@@ -49,14 +51,19 @@ impl Scene {
             stood: None,
         };
         if lies_in_place(fault) {
-            scene.stood = scene.stood_before(alloc, record)?;
+            scene.stood = scene.stood_before(alloc, record, hasher)?;
         }
         Ok(scene)
     }
 
     /// Where the fault's task stood, at whatever processor, and how. Those that are shown are asked first, and none is
     /// replayed again.
-    fn stood_before(&self, alloc: Global, record: &Record) -> Result<Option<(u32, Task)>, Memory> {
+    fn stood_before(
+        &self,
+        alloc: Global,
+        record: &Record,
+        hasher: PidHasher,
+    ) -> Result<Option<(u32, Task)>, Memory> {
         let pid = self.fault.pid;
         let shown = self.here.place_of(pid);
         if shown.is_some() {
@@ -70,7 +77,7 @@ impl Scene {
             if !self.shows(cpu) {
                 let line = self.fault.line;
                 let place =
-                    Processor::before(alloc, record, self.knobs, cpu, line)?.place_of(pid);
+                    Processor::before(alloc, record, self.knobs, cpu, line, hasher)?.place_of(pid);
                 if place.is_some() {
                     return Ok(place);
                 }

@@ -2,18 +2,20 @@ use crate::tray::Tray;
 use audit_crew::{OpenGate, audit, audit_serial, auditor, crew};
 use cfs_model::{Knobs, Memory};
 use companion_file::{read_companion, read_companion_wide};
+use pid_table::PidHasher;
 use queue_replay::{Page, Replay};
 use sched_audit::{Outcome, audit_texts, least_report, least_texts, report};
 use sched_record::{Record, Stream, join, read_trace, read_trace_wide};
 use std::alloc::Global;
 use std::io;
 use std::io::ErrorKind;
+use std::random::RandomSource;
 use std::sync::Wait;
 use std::thread::Threads;
 use ticket_book::{Book, ClosedLeast, whole_page};
 
 /// Makes the call of this name on a recording, and prints a line for each of its answers. False where no call has it.
-pub fn print_call<R: AllocGlobal + Print + Threads + Wait + Sync>(
+pub fn print_call<R: AllocGlobal + Print + RandomSource + Threads + Wait + Sync>(
     rt: &R,
     call: &str,
     trace: &[u8],
@@ -54,7 +56,7 @@ pub fn print_call<R: AllocGlobal + Print + Threads + Wait + Sync>(
 }
 
 /// Makes a call on a record, or on each of its processors.
-fn print_call_on<R: AllocGlobal + Print + Threads + Wait + Sync>(
+fn print_call_on<R: AllocGlobal + Print + RandomSource + Threads + Wait + Sync>(
     rt: &R,
     call: &str,
     record: &Record,
@@ -75,7 +77,7 @@ fn print_call_on<R: AllocGlobal + Print + Threads + Wait + Sync>(
             println!(rt; "{answer:?}")?;
         }
         "audit_serial" => {
-            let answer = audit_serial(alloc, record, knobs);
+            let answer = audit_serial(alloc, record, knobs, PidHasher::random(rt));
             println!(rt; "{answer:?}")?;
         }
         "close" => {
@@ -88,7 +90,9 @@ fn print_call_on<R: AllocGlobal + Print + Threads + Wait + Sync>(
             println!(rt; "{answer:?}")?;
         }
         "report" => {
-            let closed = audit_serial(alloc, record, knobs).map_err(out_of_memory)?;
+            let closed = audit_serial(alloc, record, knobs, PidHasher::random(rt)).map_err(
+                out_of_memory,
+            )?;
             let answer = report(alloc, &Outcome::Judged(closed.verdict));
             println!(rt; "{answer:?}")?;
         }
@@ -107,7 +111,7 @@ fn print_call_on<R: AllocGlobal + Print + Threads + Wait + Sync>(
 }
 
 /// The least settings of a record, by a crew.
-fn audit_least<R: AllocGlobal + Threads + Wait + Sync>(
+fn audit_least<R: AllocGlobal + RandomSource + Threads + Wait + Sync>(
     rt: &R,
     record: &Record,
 ) -> Result<ClosedLeast, Memory> {
@@ -145,6 +149,7 @@ fn print_calls_by_processor<R: AllocGlobal + Print>(
                     stream,
                     Knobs::standard(),
                     1,
+                    PidHasher::fixed(),
                 );
                 println!(rt; "{:?}", answer.map(|()| tray.posted))?;
             }
@@ -179,7 +184,13 @@ fn replay_of(alloc: Global, stream: Stream) -> Result<Replay, Memory> {
 fn full_book(alloc: Global, record: &Record) -> io::Result<Book> {
     let mut book = Book::new(alloc, record.cpus()).map_err(out_of_memory)?;
     for cpu in 0..record.cpus() {
-        let page: Page = whole_page(alloc, record, cpu, Knobs::standard()).map_err(out_of_memory)?;
+        let page: Page = whole_page(
+            alloc,
+            record,
+            cpu,
+            Knobs::standard(),
+            PidHasher::fixed(),
+        ).map_err(out_of_memory)?;
         let _told = book.post(page);
     }
     Ok(book)

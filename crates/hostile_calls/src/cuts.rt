@@ -4,6 +4,7 @@ use cfs_model::Knobs;
 use sched_audit::{FeedOf, OpenGate, SinkOf, run};
 use std::io;
 use std::io::Write;
+use std::random::RandomSource;
 use std::sync::Wait;
 use std::thread::Threads;
 
@@ -12,7 +13,7 @@ const EDGE: usize = 1024;
 
 /// Runs the audit on beginnings of the trace with the whole companion, and on the whole trace with beginnings of the
 /// companion: each of their lengths within `EDGE` of either end, and between these each step.
-pub fn print_cuts<R: AllocGlobal + Print + Threads + Wait + Sync>(
+pub fn print_cuts<R: AllocGlobal + Print + RandomSource + Threads + Wait + Sync>(
     rt: &R,
     step: usize,
     trace: &[u8],
@@ -44,7 +45,7 @@ fn is_cut(length: usize, whole: usize, step: usize) -> bool
 }
 
 /// Prints what a run answered and how many bytes it wrote, and these.
-fn print_run<R: AllocGlobal + Print + Threads + Wait + Sync>(
+fn print_run<R: AllocGlobal + Print + RandomSource + Threads + Wait + Sync>(
     rt: &R,
     trace: &[u8],
     companion: &[u8],

@@ -10,6 +10,7 @@ use crate::calls::print_call;
 use crate::cuts::print_cuts;
 use sched_audit::command_line;
 use std::process::ExitCode;
+use std::random::RandomSource;
 use std::rt::Files;
 use std::sync::Wait;
 use std::thread::Threads;
@@ -19,7 +20,7 @@ use std::{env, fs, io};
 const BAD_WORDS: u8 = 5;
 
 /// The audit of the beginnings of two texts, by a step and then the words of a command line of `sched_audit`.
-fn cut_by<R: AllocGlobal + Files + Print + Threads + Wait + Sync>(
+fn cut_by<R: AllocGlobal + Files + Print + RandomSource + Threads + Wait + Sync>(
     rt: &R,
     words: &[String],
 ) -> io::Result<ExitCode> {
@@ -38,7 +39,7 @@ fn cut_by<R: AllocGlobal + Files + Print + Threads + Wait + Sync>(
 }
 
 /// One call on a recording.
-fn call_by<R: AllocGlobal + Files + Print + Threads + Wait + Sync>(
+fn call_by<R: AllocGlobal + Files + Print + RandomSource + Threads + Wait + Sync>(
     rt: &R,
     call: &str,
     trace: &str,

@@ -1,16 +1,20 @@
 //! Times the readers on a file, `reading_bench events|trace|trace_wide|companion|companion_wide FILE ROUNDS`, and the
 //! audit of a recording, by stages and whole, in one thread and in several, `reading_bench stages TRACE COMPANION
-//! ROUNDS`.
+//! ROUNDS`; and the naming of the pids of a trace's births, by two hashes, `reading_bench naming TRACE ROUNDS`.
 #![tactic(auto)]
 
 mod counting_gate;
+mod naming;
 mod readings;
 mod seat;
 mod stages;
 
+use crate::naming::naming_of;
 use crate::readings::found_by;
 use crate::stages::{Round, Stages, round_of};
+use sched_record::read_trace;
 use std::process::ExitCode;
+use std::random::RandomSource;
 use std::rt::{Clock, Files};
 use std::sync::Wait;
 use std::thread::Threads;
@@ -40,7 +44,7 @@ fn time_reading<R: AllocGlobal + Clock + Files + Print + Threads + Sync>(
 }
 
 /// Times audits so many times, by stages in one thread and in several, and whole.
-fn time_stages<R: AllocGlobal + Clock + Files + Print + Threads + Wait + Sync>(
+fn time_stages<R: AllocGlobal + Clock + Files + Print + RandomSource + Threads + Wait + Sync>(
     rt: &R,
     trace: &str,
     companion: &str,
@@ -66,6 +70,25 @@ fn time_stages<R: AllocGlobal + Clock + Files + Print + Threads + Wait + Sync>(
     Ok(ExitCode::SUCCESS)
 }
 
+/// Times so many times how the pids of a trace's births are named: random keys, a fixed seed, and how many there are.
+fn time_naming<R: AllocGlobal + Clock + Files + Print + RandomSource>(
+    rt: &R,
+    trace: &str,
+    rounds: u32,
+) -> io::Result<ExitCode> {
+    let text = fs::read(rt, trace)?;
+    let Ok(trace) = read_trace(rt.alloc(), &text) else {
+        return Ok(ExitCode::FAILURE);
+    };
+    for _ in 0..rounds {
+        let Some(naming) = naming_of(rt, rt.alloc(), &trace)? else {
+            return Ok(ExitCode::FAILURE);
+        };
+        println!(rt; "{} {} {}", naming.random, naming.fixed, naming.pids)?;
+    }
+    Ok(ExitCode::SUCCESS)
+}
+
 fn print_stages<R: Print>(rt: &R, times: Stages) -> io::Result<()> {
     print!(rt; "{} {} {} ", times.dealing, times.replaying, times.closing)
 }
@@ -76,6 +99,9 @@ fn main(rt: HostRuntime) -> io::Result<ExitCode> {
         return Ok(ExitCode::from(BAD_WORDS));
     };
     match words.as_slice() {
+        [_, what, trace, _] if what.as_str() == "naming" => {
+            time_naming(&rt, trace.as_str(), rounds)
+        }
         [_, what, file, _] => time_reading(&rt, what.as_str(), file.as_str(), rounds),
         [_, what, trace, companion, _] if what.as_str() == "stages" => {
             time_stages(&rt, trace.as_str(), companion.as_str(), rounds)

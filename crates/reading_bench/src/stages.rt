@@ -6,9 +6,11 @@ use crate::seat::Seat;
 use audit_crew::{OpenGate, audit, audit_serial, crew};
 use cfs_model::{Knobs, Memory};
 use companion_file::{Companion, read_companion};
+use pid_table::PidHasher;
 use sched_record::{Record, Trace, join, read_trace};
 use std::alloc::Global;
 use std::io::ErrorKind;
+use std::random::RandomSource;
 use std::rt::Clock;
 use std::sync::Wait;
 use std::thread::Threads;
@@ -50,7 +52,7 @@ pub struct Round {
 }
 
 /// Audits a trace and its companion, by stages and whole.
-pub fn round_of<R: Clock + Threads + Wait + Sync>(
+pub fn round_of<R: Clock + RandomSource + Threads + Wait + Sync>(
     rt: &R,
     alloc: Global,
     trace: &[u8],
@@ -59,7 +61,7 @@ pub fn round_of<R: Clock + Threads + Wait + Sync>(
     let (record, opening) = opened(rt, alloc, trace, companion)?;
     let alone = stages_of(rt, alloc, &record, 1)?;
     let together = stages_of(rt, alloc, &record, THREADS)?;
-    let serial = serial_of(rt, alloc, &record)?;
+    let serial = serial_of(rt, alloc, &record, PidHasher::random(rt))?;
     let Crew {
         time: crew,
         stretches,
@@ -92,9 +94,14 @@ fn opened<C: Clock>(
 }
 
 /// How long `audit_serial` takes.
-fn serial_of<C: Clock>(clock: &C, alloc: Global, record: &Record) -> io::Result<u128> {
+fn serial_of<C: Clock>(
+    clock: &C,
+    alloc: Global,
+    record: &Record,
+    hasher: PidHasher,
+) -> io::Result<u128> {
     let mut last = Instant::now(clock)?;
-    let _closed = audit_serial(alloc, record, Knobs::standard()).map_err(out_of_memory)?;
+    let _closed = audit_serial(alloc, record, Knobs::standard(), hasher).map_err(out_of_memory)?;
     lap(clock, &mut last)
 }
 
@@ -106,7 +113,7 @@ struct Crew {
     closed: Closed,
 }
 
-fn crew_of<R: Clock + Threads + Wait + Sync>(
+fn crew_of<R: Clock + RandomSource + Threads + Wait + Sync>(
     rt: &R,
     alloc: Global,
     record: &Record,
@@ -123,12 +130,13 @@ fn crew_of<R: Clock + Threads + Wait + Sync>(
 }
 
 /// Audits a record stage by stage, in at most so many threads.
-fn stages_of<R: Clock + Threads + Wait + Sync>(
+fn stages_of<R: Clock + RandomSource + Threads + Wait + Sync>(
     rt: &R,
     alloc: Global,
     record: &Record,
     threads: usize,
 ) -> io::Result<Stages> {
+    let hasher = PidHasher::random(rt);
     let mut seats = seats_of(alloc, record.cpus()).map_err(out_of_memory)?;
     let mut last = Instant::now(rt)?;
     thread::for_each_mut(
@@ -142,7 +150,7 @@ fn stages_of<R: Clock + Threads + Wait + Sync>(
         rt,
         seats.as_mut_slice(),
         threads.max(1),
-        &|_cpu, seat: &mut Seat| seat.replay(alloc),
+        &|_cpu, seat: &mut Seat| seat.replay(alloc, hasher),
     );
     let replaying = lap(rt, &mut last)?;
     drop(seats);
@@ -155,7 +163,7 @@ fn stages_of<R: Clock + Threads + Wait + Sync>(
 }
 
 /// How long the closing of the book takes that a crew filled.
-fn closing_of<R: Clock + Threads + Wait + Sync>(
+fn closing_of<R: Clock + RandomSource + Threads + Wait + Sync>(
     rt: &R,
     alloc: Global,
     record: &Record,

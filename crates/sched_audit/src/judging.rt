@@ -17,11 +17,12 @@ use audit_crew::crew;
 use cfs_model::{Knobs, Memory};
 use sched_record::{Record, Trace, TraceFault, read_trace_wide};
 use std::alloc::Global;
+use std::random::RandomSource;
 use std::sync::Wait;
 use std::thread::Threads;
 
 /// Judges two texts.
-pub(crate) fn texts_judged<J: Judgement, R: Threads + Wait + Sync, G: Gate>(
+pub(crate) fn texts_judged<J: Judgement, R: RandomSource + Threads + Wait + Sync, G: Gate>(
     rt: &R,
     alloc: Global,
     trace: &[u8],
@@ -39,7 +40,7 @@ pub(crate) fn texts_judged<J: Judgement, R: Threads + Wait + Sync, G: Gate>(
 /// Reads the trace to its end, then the companion, judges them, and writes the report.
 pub(crate) fn run_judged<
     J: Judgement,
-    R: Threads + Wait + Sync,
+    R: RandomSource + Threads + Wait + Sync,
     T: Feed,
     C: Feed,
     G: Gate,
@@ -70,7 +71,7 @@ pub(crate) fn run_judged<
 }
 
 /// Reads the trace to its end, then the companion, and judges them. What was read is kept beside the outcome.
-pub fn judge<J: Judgement, R: Threads + Wait + Sync, T: Feed, C: Feed, G: Gate>(
+pub fn judge<J: Judgement, R: RandomSource + Threads + Wait + Sync, T: Feed, C: Feed, G: Gate>(
     rt: &R,
     alloc: Global,
     trace: &mut T,
@@ -96,7 +97,7 @@ pub fn judge<J: Judgement, R: Threads + Wait + Sync, T: Feed, C: Feed, G: Gate>(
 }
 
 /// Joins a trace that was read and a companion's text, and judges their record.
-fn hearing_of<J: Judgement, R: Threads + Wait + Sync, G: Gate>(
+fn hearing_of<J: Judgement, R: RandomSource + Threads + Wait + Sync, G: Gate>(
     rt: &R,
     alloc: Global,
     trace: Result<Trace, TraceFault>,
@@ -137,7 +138,7 @@ fn hearing_of<J: Judgement, R: Threads + Wait + Sync, G: Gate>(
 }
 
 /// Replays a record's processors, each in a thread of its own that passes this gate, and judges it by their pages.
-fn judged<J: Judgement, R: Threads + Wait + Sync, G: Gate>(
+fn judged<J: Judgement, R: RandomSource + Threads + Wait + Sync, G: Gate>(
     rt: &R,
     alloc: Global,
     joined: &Record,

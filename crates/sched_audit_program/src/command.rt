@@ -10,13 +10,14 @@ use sched_audit::{
 use std::alloc::Global;
 use std::fs::File;
 use std::io::ErrorKind;
+use std::random::RandomSource;
 use std::rt::{Env, Files};
 use std::sync::Wait;
 use std::thread::Threads;
 use std::{env, io};
 
 /// Does what the command line says.
-pub fn obey<R: Env + Files + Print + Eprint + AllocGlobal + Threads + Wait + Sync>(
+pub fn obey<R: Env + Files + Print + Eprint + AllocGlobal + RandomSource + Threads + Wait + Sync>(
     rt: &R,
     alloc: Global,
 ) -> Ending {
@@ -37,7 +38,7 @@ pub fn obey<R: Env + Files + Print + Eprint + AllocGlobal + Threads + Wait + Syn
 }
 
 /// Answers a request.
-fn ending_of<R: Files + Print + Threads + Wait + Sync>(
+fn ending_of<R: Files + Print + RandomSource + Threads + Wait + Sync>(
     rt: &R,
     alloc: Global,
     request: &Request<'_>,
@@ -54,7 +55,7 @@ fn words_of<R: Env + AllocGlobal>(rt: &R, alloc: Global) -> io::Result<Vec<Strin
 }
 
 /// Opens the trace, then the companion, and writes what is asked of them to standard output.
-fn answer<R: Files + Print + Threads + Wait + Sync>(
+fn answer<R: Files + Print + RandomSource + Threads + Wait + Sync>(
     rt: &R,
     alloc: Global,
     request: &Request<'_>,
@@ -69,7 +70,7 @@ fn answer<R: Files + Print + Threads + Wait + Sync>(
 }
 
 /// Writes the report, and nothing behind it.
-fn answer_alone<R: Files + Print + Threads + Wait + Sync>(
+fn answer_alone<R: Files + Print + RandomSource + Threads + Wait + Sync>(
     rt: &R,
     alloc: Global,
     trace: R::File,

@@ -4,6 +4,7 @@ use crate::line_finding::line_of;
 use crate::line_marks::Mark;
 use cfs_model::Knobs;
 use fault_explainer::{explanation, quoted_line};
+use pid_table::PidHasher;
 use replay_model::FirstFault;
 use sched_audit::{
     Fault, Feed, FeedOf, Hearing, Judgement, Kept, OpenGate, Outcome, Request, SinkOf, Source,
@@ -14,6 +15,7 @@ use std::alloc::Global;
 use std::fs::{File, OpenFile};
 use std::io;
 use std::io::{ErrorKind, Read, Seek, SeekFrom, Write};
+use std::random::RandomSource;
 use std::rt::Files;
 use std::sync::Wait;
 use std::thread::Threads;
@@ -22,7 +24,10 @@ use std::thread::Threads;
 const NOT_EXPLAINED: &[u8] = b"# no explanation: the texts can't be read a second time\n";
 
 /// Judges both inputs, and writes the report and what there is to say of it.
-pub(crate) fn answer_explained<J: Judgement, R: Files + Print + Threads + Wait + Sync>(
+pub(crate) fn answer_explained<
+    J: Judgement,
+    R: Files + Print + RandomSource + Threads + Wait + Sync,
+>(
     rt: &R,
     alloc: Global,
     request: &Request<'_>,
@@ -56,7 +61,7 @@ fn is_regular<F: OpenFile>(file: &F) -> bool {
 }
 
 /// What there is to say of a fault or a refusal. None where the trace can't be read a second time.
-fn told_of<J: Judgement, R: Files, F: Feed>(
+fn told_of<J: Judgement, R: Files + RandomSource, F: Feed>(
     rt: &R,
     alloc: Global,
     request: &Request<'_>,
@@ -68,7 +73,8 @@ fn told_of<J: Judgement, R: Files, F: Feed>(
         (Outcome::Judged(judged), Kept::Record(record)) => match judged.fault() {
             Some(fault) => {
                 let quote = quoted_trace(rt, alloc, request.trace, trace, u64::from(fault.line))?;
-                with_explanation(alloc, quote, &record, J::replayed_by(request.knobs), &fault)
+                let knobs = J::replayed_by(request.knobs);
+                with_explanation(alloc, quote, &record, knobs, &fault, PidHasher::random(rt))
             }
             None => Ok(None),
         },
@@ -92,11 +98,12 @@ fn with_explanation(
     record: &Record,
     knobs: Knobs,
     fault: &FirstFault,
+    hasher: PidHasher,
 ) -> Result<Option<Vec<u8>>, Fault> {
     match quote {
         Some(quote) => {
             let mut told = quote;
-            let text = explanation(alloc, record, knobs, fault)?;
+            let text = explanation(alloc, record, knobs, fault, hasher)?;
             match told.extend_from_slice(text.as_bytes()) {
                 Ok(()) => Ok(Some(told)),
                 Err(_) => Err(Fault::Memory),

@@ -6,9 +6,11 @@ use crate::machines::{Lines, Recording};
 use audit_crew::{Gate, audit, audit_serial, crew};
 use cfs_model::{Kind, Knobs};
 use companion_file::read_companion;
+use pid_table::PidHasher;
 use sched_record::{Record, Stream, join, read_trace};
 use std::alloc::Global;
 use std::process::Abort;
+use std::random::RandomSource;
 use std::sync::Wait;
 use std::test::Fail;
 use std::thread::Threads;
@@ -88,7 +90,7 @@ pub(crate) fn told(closed: Closed) -> Told {
 
 /// One thread's verdict, by the standard settings.
 pub(crate) fn alone(alloc: Global, record: &Record) -> Result<Closed, Fail> {
-    Ok(audit_serial(alloc, record, Knobs::standard())?)
+    Ok(audit_serial(alloc, record, Knobs::standard(), PidHasher::fixed())?)
 }
 
 /// What one thread comes to on a recording.
@@ -109,7 +111,7 @@ pub(crate) fn wants_alone<R: Abort>(
 }
 
 /// A crew's verdict, by the standard settings.
-pub(crate) fn together<R: Threads + Wait + Sync, G: Gate>(
+pub(crate) fn together<R: RandomSource + Threads + Wait + Sync, G: Gate>(
     rt: &R,
     alloc: Global,
     record: &Record,
@@ -119,7 +121,7 @@ pub(crate) fn together<R: Threads + Wait + Sync, G: Gate>(
 }
 
 /// What a crew comes to on a recording.
-pub(crate) fn told_together<R: Threads + Wait + Sync, G: Gate>(
+pub(crate) fn told_together<R: RandomSource + Threads + Wait + Sync, G: Gate>(
     rt: &R,
     alloc: Global,
     recording: &Recording,
@@ -130,7 +132,7 @@ pub(crate) fn told_together<R: Threads + Wait + Sync, G: Gate>(
 }
 
 /// How many pages a crew posts, and the least line of a fault on them.
-fn gathered_on<R: Threads + Wait + Sync, G: Gate>(
+fn gathered_on<R: RandomSource + Threads + Wait + Sync, G: Gate>(
     rt: &R,
     alloc: Global,
     record: &Record,
@@ -141,7 +143,7 @@ fn gathered_on<R: Threads + Wait + Sync, G: Gate>(
 }
 
 /// The same on a recording.
-pub(crate) fn gathered<R: Threads + Wait + Sync, G: Gate>(
+pub(crate) fn gathered<R: RandomSource + Threads + Wait + Sync, G: Gate>(
     rt: &R,
     alloc: Global,
     recording: &Recording,

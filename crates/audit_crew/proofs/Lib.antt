@@ -1,3 +1,4 @@
+mod BroughtBack
 mod InTurn
 mod Owned
 mod Pages

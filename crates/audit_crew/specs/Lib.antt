@@ -1,3 +1,4 @@
+pub mod Ending
 pub mod Filled
 pub mod Own
 pub mod Refusal

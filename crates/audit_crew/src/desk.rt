@@ -1,4 +1,4 @@
-ghost use Rattle.std.specs.Prelude.{◌≡◌, None, if◌then◌else◌, length};
+ghost use Rattle.std.specs.Prelude.{◌≡◌, None, length};
 ghost use Rattle.std.specs.Option.{option_to_list};
 ghost use Rattle.audit_crew.specs.Own.{IsOwnReplay};
 
@@ -44,13 +44,21 @@ impl<'b, L: CrewLedger, R: Wait> Desk<'b, L, R> {
         }
     }
 
-    /// The share of the ledger, and whether a page was accepted.
-    pub(crate) fn leave(self) -> (Share<L>, bool)
+    /// The share of the ledger, the tag of the page that was accepted, and that of the one that was refused last, with
+    /// the book's reason.
+    pub(crate) fn leave(self) -> (Share<L>, Option<Tag>, Option<(Tag, PostFault)>)
         ensures part { result.0.parts ≡ 1 }
-        ensures counted { result.0.amount ≡ (if result.1 then 1 else 0) }
+        ensures counted { result.0.amount ≡ length (option_to_list result.1) }
+        ensures posted { result.1 ≡ self.entry.posted }
+        ensures refused { result.2 ≡ self.entry.refused }
     {
-        let Desk { share, posted, .. } = self;
-        (share, posted.is_some())
+        let Desk {
+            share,
+            posted,
+            refused,
+            ..
+        } = self;
+        (share, posted, refused)
     }
 }
 

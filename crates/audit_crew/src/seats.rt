@@ -1,5 +1,5 @@
 //! The seats of a crew: made, filled by the auditors of all processors at once, and gathered.
-ghost use Rattle.std.specs.Prelude.{◌≡◌, ◌+◌, ◌<◌, ◌≤◌, false, None, length, vec_len, All, IfOk, OnOk};
+ghost use Rattle.std.specs.Prelude.{◌≡◌, ◌+◌, ◌<◌, ◌≤◌, None, length, vec_len, All, IfOk, OnOk};
 ghost use Rattle.sched_record.specs.Record.{record_view};
 
 use crate::Gate;
@@ -23,7 +23,7 @@ pub(crate) fn seats_of<L: CrewLedger>(
     requires parts { all.old.parts ≡ cpus }
     requires none { all.old.amount ≡ 0 }
     ensures count { IfOk result (λ seats. vec_len seats ≡ cpus) }
-    ensures free { IfOk result (λ seats. All (λ seat. seat.posted ≡ false) seats.items) }
+    ensures free { IfOk result (λ seats. All (λ seat. seat.posted ≡ None) seats.items) }
     ensures idle { IfOk result (λ seats. All (λ seat. seat.underway ≡ None) seats.items) }
     ensures rest { OnOk result (all.new.parts ≡ 0) }
     ensures none { OnOk result (all.new.amount ≡ 0) }
@@ -47,7 +47,7 @@ pub(crate) fn begin_all<L: CrewLedger + Send + Sync, R: Threads + Wait + Sync, G
     hasher: PidHasher,
 )
     requires one_each { length seats.old ≡ (record_view joined.now).cpus }
-    requires free { All (λ seat. seat.posted ≡ false) seats.old }
+    requires free { All (λ seat. seat.posted ≡ None) seats.old }
     requires idle { All (λ seat. seat.underway ≡ None) seats.old }
     requires joined { L.joined ≡ record_view joined.now }
     requires knobs { L.knobs ≡ knobs }
@@ -58,7 +58,7 @@ pub(crate) fn begin_all<L: CrewLedger + Send + Sync, R: Threads + Wait + Sync, G
         seats,
         threads,
         &|cpu: usize, seat: &mut Seat<L>|
-            requires { (cpu < (record_view joined.now).cpus) × (seat.old.posted ≡ false) × (seat.old.underway ≡ None)
+            requires { (cpu < (record_view joined.now).cpus) × (seat.old.posted ≡ None) × (seat.old.underway ≡ None)
                 × (L.joined ≡ record_view joined.now) × (L.knobs ≡ knobs) }
         { seat.begin(rt, alloc, shared, joined, cpu as u32, knobs, gate, hasher) },
     );

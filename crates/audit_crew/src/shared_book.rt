@@ -3,6 +3,7 @@ ghost use Rattle.cfs_model.specs.Settings.{Settings};
 ghost use Rattle.sched_record.specs.Record.{RecordView};
 ghost use Rattle.audit_crew.specs.Filled.{filled};
 ghost use Rattle.audit_crew.specs.Own.{IsOwnReplay, no_knobs, no_record};
+ghost use Rattle.ticket_book.specs.Book.{least_line};
 ghost use Rattle.ticket_book.specs.BookView.{book_view};
 ghost use Rattle.ticket_book.specs.Own.{AreOwn};
 
@@ -66,7 +67,9 @@ impl<L: CrewLedger> SharedBook<L> {
     }
 
     /// The least line of a fault on the pages so far.
-    pub(crate) fn least(&self) -> u64 {
+    pub(crate) fn least(&self) -> u64
+        ensures { result ≡ least_line (book_view self.now.book) }
+    {
         self.book.least()
     }
 

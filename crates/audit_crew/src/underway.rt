@@ -1,5 +1,5 @@
 //! An auditor that has made its first stretch: what it began with, and what it still does.
-ghost use Rattle.std.specs.Prelude.{◌≡◌, ◌<◌, ◌≤◌, None, [], length, IfOk, IfErr, OnOk, OnErr};
+ghost use Rattle.std.specs.Prelude.{◌≡◌, ◌↔◌, ◌<◌, ◌≤◌, None, [], length, IfOk, IfErr, IsTrue, OnOk, OnErr};
 ghost use Rattle.audit_crew.specs.Own.{AreTaken};
 ghost use Rattle.audit_crew.specs.Refusal.{IsToldBy};
 ghost use Rattle.audit_crew.specs.Tags.{IsOneTag, IsThrough};
@@ -49,7 +49,9 @@ impl Underway {
     }
 
     /// Whether steps are left, none of which has failed.
-    pub(crate) fn is_going(&self) -> bool {
+    pub(crate) fn is_going(&self) -> bool
+        ensures { IsTrue result ↔ (self.now.state ≡ Going) }
+    {
         matches!(self.state, State::Going)
     }
 

@@ -1,4 +1,4 @@
-use Rattle.std.proofs.Common.{◌≡◌, ◌+◌, false, None, All}
+use Rattle.std.proofs.Common.{◌≡◌, ◌+◌, None, All}
 use Rattle.std.specs.Prelude.{vec_len}
 use Rattle.audit_crew.proofs.seats.seats_of.Given as goal
 
@@ -7,6 +7,6 @@ invariant-loop-cpu g l = record {
   parts : l.all.parts + l._cpu ≡ l.cpus;
   none : l.all.amount ≡ 0;
   count : vec_len l.seats ≡ l._cpu;
-  free : All (λ seat. seat.posted ≡ false) l.seats.items;
+  free : All (λ seat. seat.posted ≡ None) l.seats.items;
   idle : All (λ seat. seat.underway ≡ None) l.seats.items;
 }

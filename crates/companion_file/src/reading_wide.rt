@@ -1,4 +1,5 @@
-ghost use Rattle.std.specs.Prelude.{◌≡◌, ◌+◌, ◌<◌, ◌≤◌, ◌⊎◌, ℕ, false, OnOk, IsErrOf, IfOk, List, Result, length, take, drop};
+ghost use Rattle.std.specs.Prelude.{◌≡◌, ◌+◌, ◌<◌, ◌≤◌, ◌⊎◌, ℕ, false, OnOk, IsErrOf, IfOk, List, Result, length};
+ghost use Rattle.std.specs.Prelude.{take, drop};
 ghost use Rattle.std.specs.List.{list_any};
 ghost use Rattle.text_parts.specs.Lines.{IsWhole, is_line_feed, lines_of};
 ghost use Rattle.companion_file.specs.declared.fault.CompanionCause.{CompanionCause};

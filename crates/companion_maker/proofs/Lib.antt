@@ -1,2 +1,3 @@
+pub mod Fits
 mod Told
 mod Unguessed

@@ -1,5 +1,4 @@
-ghost use Rattle.std.specs.Prelude.{◌≡◌, ℕ, List, All, Ok, Err, IfOk, IfErr, IsErrOf};
-ghost use Rattle.std.specs.Bool.{OnTrue};
+ghost use Rattle.std.specs.Prelude.{◌≡◌, ◌↔◌, ℕ, List, All, Ok, Err, IfOk, IfErr, IsErrOf, IsTrue};
 ghost use Rattle.cfs_model.specs.declared.act.Entry.{Entry as Event};
 ghost use Rattle.cfs_model.specs.Limits.{most_processors};
 ghost use Rattle.sched_record.specs.declared.cause.TraceCause.{TraceCause};
@@ -74,7 +73,7 @@ pub fn make_companion(alloc: Global, trace: Trace, wishes: &Wishes) -> Result<Ma
 
 /// Whether the text is a companion that goes together with the trace.
 fn go_together(alloc: Global, trace: Trace, text: &[u8]) -> Result<bool, Memory>
-    ensures { IfOk result (λ fits. OnTrue fits (ReadsAndJoins (trace_view trace) text.now)) }
+    ensures { IfOk result (λ fits. IsTrue fits ↔ ReadsAndJoins (trace_view trace) text.now) }
 {
     match read_companion(alloc, text) {
         Ok(companion) => Ok(join(trace, companion).is_ok()),

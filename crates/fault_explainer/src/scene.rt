@@ -76,8 +76,9 @@ impl Scene {
         for cpu in 0..record.cpus() {
             if !self.shows(cpu) {
                 let line = self.fault.line;
-                let place =
-                    Processor::before(alloc, record, self.knobs, cpu, line, hasher)?.place_of(pid);
+                let place = Processor::before(
+                    alloc, record, self.knobs, cpu, line, hasher,
+                )?.place_of(pid);
                 if place.is_some() {
                     return Ok(place);
                 }

@@ -1,9 +1,9 @@
 use crate::cause_word::CauseWord;
-use crate::command::{Request, command_line};
+use crate::command::command_line;
 use crate::ending::Ending;
 use clap::Error;
 use clap::error::ErrorKind::OutOfMemory;
-use companion_maker::{NotMade, companion_of_text};
+use companion_maker::{NotMade, Wishes, companion_of_text};
 use std::alloc::Global;
 use std::io::{ErrorKind, Write};
 use std::rt::{Env, Files};
@@ -20,7 +20,7 @@ pub fn obey<R: Env + Files + Print + Eprint + AllocGlobal>(rt: &R, alloc: Global
         }
     };
     match command_line(alloc, words.as_slice()) {
-        Ok(request) => make(rt, alloc, request),
+        Ok(request) => make(rt, alloc, request.trace, &request.wishes),
         Err(error) => tell(rt, &error),
     }
 }
@@ -34,14 +34,15 @@ fn words_of<R: Env + AllocGlobal>(rt: &R, alloc: Global) -> io::Result<Vec<Strin
 fn make<R: Files + Print + Eprint + AllocGlobal>(
     rt: &R,
     alloc: Global,
-    request: Request<'_>,
+    trace: &str,
+    wishes: &Wishes,
 ) -> Ending {
-    let text = match fs::read(rt, request.trace) {
+    let text = match fs::read(rt, trace) {
         Ok(text) => text,
         Err(error) if error.kind() == ErrorKind::OutOfMemory => return Ending::Memory,
         Err(_) => return Ending::Unread,
     };
-    match companion_of_text(alloc, text.as_slice(), &request.wishes) {
+    match companion_of_text(alloc, text.as_slice(), wishes) {
         Ok(made) => {
             if made.guess.is_none() {
                 let _ = eprintln!(rt;

@@ -53,7 +53,9 @@ impl LineMarks {
     /// The last mark before the line of this number, from 1; the beginning where there is none.
     pub(crate) fn before(&self, number: u64) -> Mark {
         // A mark behind so many lines may lie within the next one.
-        let above = self.marks.partition_point(|mark| mark.lines.saturating_add(1) < number);
+        let above = self
+            .marks
+            .partition_point(|mark| mark.lines.saturating_add(1) < number);
         match above.checked_sub(1) {
             Some(place) => *self.marks.get(place).unwrap_or(&BEGINNING),
             None => BEGINNING,

@@ -1,5 +1,5 @@
-use Rattle.std.proofs.Common.{IsTrue, Ok, sym, subst}
-use Rattle.companion_file.specs.Seen.{companion_view}
+use Rattle.std.proofs.Common.{Err, IsTrue, Ok, sym, subst}
+use Rattle.companion_file.specs.Seen.{IsReturned, companion_view}
 use Rattle.sched_record.specs.Join.{GoTogether}
 use Rattle.sched_record.specs.Seen.{trace_view}
 use Rattle.companion_maker.proofs.Fits.{joins_where_fits, same_view, never_both}
@@ -19,5 +19,9 @@ returns-in-Ok c =
 pub returns-in-Err-Text : goal.returns-in-Err-Text
 returns-in-Err-Text c = (
   (λ yes. absurd cc),
-  (λ reads. absurd (never_both reads.0 _ (c.in-Err-Text.ensures.only (Ok reads.0) reads.1))),
+  (λ reads.
+      let fault = c.in-Err-Text in
+      let returned = subst (λ f. IsReturned (Err f) (Ok reads.0)) fault.field-0-is
+      (fault.ensures.only (Ok reads.0) reads.1) in
+      absurd (never_both reads.0 (fault.field-0-0, fault.field-0-1) returned)),
 )

@@ -43,13 +43,18 @@ tell_failure() {
   return 1
 }
 
+# The lines of crates.txt that are these crates': rt wants a folder for each that it finds there.
+lines_of() {
+  awk -v names=" $* " 'split($0, words, /[ :]/) && index(names, " " words[1] " ")' "$top/crates.txt"
+}
+
 # Builds the library of the first crate named; the others are all that stand below it. Two runs of rt with a crate in
 # common wait for each other, so each has a tree of its own, of links to the files of this one. What it made comes back.
 library() {
   local tree=$beside/$1 name status
   # Bash lets what runs beside it ignore an interrupt.
   trap - INT
-  mkdir -p "$tree/crates" && cp "$top/crates.txt" "$tree" || return 1
+  mkdir -p "$tree/crates" && lines_of "$@" >"$tree/crates.txt" || return 1
   for name; do cp -al "$top/crates/$name" "$tree/crates" || return 1; done
   prove "$tree" "$1" lib
   status=$?

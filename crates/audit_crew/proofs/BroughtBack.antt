@@ -1,8 +1,8 @@
--- What an auditor answers, with what its desk has then, is what it brings back.
+-- What an auditor answers, with what its shelf has then, is what it brings back.
 use Rattle.std.proofs.Common.{◌≡◌, ◌↔◌, ℕ, true, false, Bool, IsTrue, Option, Some, None, List, [], Result, Ok, Err}
 use Rattle.std.proofs.Common.{OnOk, OnErr, IfErr, inl, inr, refl, sym, ◌∙◌}
 use Rattle.std.specs.Option.{option_to_list}
-use Rattle.cfs_model.specs.Settings.{Settings}
+use Rattle.cfs_model.specs.Knobs.{KnobsView}
 use Rattle.replay_model.specs.Cut.{StreamView}
 use Rattle.queue_replay.specs.declared.tag.Tag.{Tag}
 use Rattle.ticket_book.specs.declared.post_fault.PostFault.{PostFault}
@@ -20,7 +20,7 @@ is_false : (b : Bool) → ¬ IsTrue b → b ≡ false
 is_false true h = absurd (h refl)
 is_false false h = refl
 
-pub brought_back : {A : Type 0} (stream : StreamView) (knobs : Settings) (told : ℕ) (answer : Result A AuditorFault)
+pub brought_back : {A : Type 0} (stream : StreamView) (knobs : KnobsView) (told : ℕ) (answer : Result A AuditorFault)
     (posted : Option Tag) (refused : Option (Tag × PostFault)) (memory : Bool)
     → OnOk answer (IsOneTag stream knobs told (option_to_list posted)) → OnOk answer (refused ≡ None)
     → OnErr answer (option_to_list posted ≡ []) → IfErr answer (IsToldBy refused stream knobs)

@@ -6,7 +6,7 @@ use Rattle.std.proofs.Common.{◌∙◌, subst, arith, rules, add-one, take-appe
 use Rattle.std.specs.Prelude.{slice_get}
 use Rattle.std.proofs.lemmas.Bool.{false≢true, leb-true, le-leb, lt-ltb}
 use Rattle.std.proofs.lemmas.List.{take_all}
-use Rattle.cfs_model.specs.Settings.{Settings}
+use Rattle.cfs_model.specs.Knobs.{KnobsView}
 use Rattle.replay_model.specs.Cut.{StreamView}
 use Rattle.replay_model.specs.Noted.{PageView}
 use Rattle.replay_model.specs.Page.{ReplayStateView, IsReplayStep, IsReplay, IsPageOf, end_page}
@@ -19,7 +19,7 @@ use Rattle.queue_replay.specs.Replay.{ReplayView}
 use Rattle.audit_crew.specs.Tags.{IsReachOf, IsStoppedAt, IsTagOf, IsThrough, tag_of}
 
 -- after a fault a replay goes on by any steps
-fault_stays : (knobs : Settings) (cpu : ℕ) (s : ReplayStateView) (fault : StepFault) → s.page.fault ≡ Some fault
+fault_stays : (knobs : KnobsView) (cpu : ℕ) (s : ReplayStateView) (fault : StepFault) → s.page.fault ≡ Some fault
     → (steps : List Step) → IsReplay knobs cpu s steps s
 fault_stays knobs cpu s fault f [] = refl
 fault_stays knobs cpu s fault f (step ∷ steps) =
@@ -39,7 +39,7 @@ not_below : (n : ℕ) → nat_lt n n ≡ false
 not_below n = search rules
 
 -- a page with a fault is that of all steps
-pub faulted_is_whole : (stream : StreamView) (knobs : Settings) (made : ℕ) (page : PageView) (fault : StepFault)
+pub faulted_is_whole : (stream : StreamView) (knobs : KnobsView) (made : ℕ) (page : PageView) (fault : StepFault)
     → IsPageOf stream knobs made page → page.fault ≡ Some fault → IsPageOf stream knobs (length stream.steps) page
 faulted_is_whole stream knobs made page fault is f = go (nat_le (length stream.steps) made) refl is.result
   where
@@ -77,7 +77,7 @@ faulted_is_whole stream knobs made page fault is f = go (nat_le (length stream.s
         }
 
 -- the last of some steps that a replay makes without a fault gives the line
-last_line : (knobs : Settings) (cpu : ℕ) (before : ReplayStateView) (steps : List Step) (step : Step)
+last_line : (knobs : KnobsView) (cpu : ℕ) (before : ReplayStateView) (steps : List Step) (step : Step)
     (end : ReplayStateView) → IsReplay knobs cpu before (steps ++ step ∷ []) end → before.page.fault ≡ None
     → end.page.fault ≡ None → end.page.line ≡ step.line
 last_line knobs cpu before [] step end r n e =
@@ -87,39 +87,39 @@ last_line knobs cpu before (first ∷ steps) step end r n e =
     let p = first_passes knobs cpu before first r.0 (steps ++ step ∷ []) end n r.1 r.2 e in
     last_line knobs cpu r.0 steps step end r.2 p.1 e
 
--- the first steps end with the one at the last of their places
-take_last : (steps : List Step) (place : ℕ) → place < length steps
-    → (step : Step) × (slice_get steps place ≡ Some step) × (take (suc place) steps ≡ take place steps ++ step ∷ [])
-take_last [] place h = absurd (omega arith)
+-- the first steps end with the one at the last of their indices
+take_last : (steps : List Step) (index : ℕ) → index < length steps
+    → (step : Step) × (slice_get steps index ≡ Some step) × (take (suc index) steps ≡ take index steps ++ step ∷ [])
+take_last [] index h = absurd (omega arith)
 take_last (step ∷ steps) zero h = (step, refl, refl)
-take_last (first ∷ steps) (suc place) h =
-    let t = take_last steps place (omega arith) in (t.0, t.1, ap (λ xs. first ∷ xs) t.2)
+take_last (first ∷ steps) (suc index) h =
+    let t = take_last steps index (omega arith) in (t.0, t.1, ap (λ xs. first ∷ xs) t.2)
 
 not_all : (n made : ℕ) → made < n → nat_le n made ≡ false
 not_all n made h = search rules
 
 -- a replay that stopped has passed its last step and each before it
-stopped : (stream : StreamView) (knobs : Settings) (made told : ℕ) (page : PageView)
+stopped : (stream : StreamView) (knobs : KnobsView) (made told : ℕ) (page : PageView)
     → IsPageOf stream knobs made page → page.fault ≡ None → 0 < made → made < length stream.steps → told ≤ page.line
     → IsStoppedAt stream knobs told page.line
 stopped stream knobs zero told page is f some left past = absurd (omega arith)
-stopped stream knobs (suc place) told page is f some left past =
-    let t = take_last stream.steps place (omega arith) in
+stopped stream knobs (suc index) told page is f some left past =
+    let t = take_last stream.steps index (omega arith) in
     let same : page ≡ is.end.page =
     is.result ∙ ap (λ (b : Bool). if b then end_page knobs.slack stream is.end.since is.end.page.fault is.end.page
-    else is.end.page) (not_all (length stream.steps) (suc place) left) in
+    else is.end.page) (not_all (length stream.steps) (suc index) left) in
     let replay = subst (λ steps. IsReplay knobs stream.cpu is.start steps is.end) t.2 is.replay in
     record {
-      place = place;
+      index = index;
       step = t.0;
       is_step = t.1;
-      at_line = sym (ap (λ p. p.line) same ∙ last_line knobs stream.cpu is.start (take place stream.steps) t.0 is.end
+      at_line = sym (ap (λ p. p.line) same ∙ last_line knobs stream.cpu is.start (take index stream.steps) t.0 is.end
           replay (ap (λ p. p.fault) is.is_start.page) (ap (λ p. p.fault) (sym same) ∙ f));
-      passes = subst (IsFaultless stream knobs) (sym (add-one place)) (page, is, f);
+      passes = subst (IsFaultless stream knobs) (sym (add-one index)) (page, is, f);
       past = past;
     }
 
-reached : (stream : StreamView) (knobs : Settings) (made told : ℕ) (page : PageView) (o : Option StepFault)
+reached : (stream : StreamView) (knobs : KnobsView) (made told : ℕ) (page : PageView) (o : Option StepFault)
     → IsPageOf stream knobs made page → page.fault ≡ o
     → IsSome o ⊎ (made ≡ length stream.steps)
     ⊎ ((0 < made) × (made < length stream.steps) × (o ≡ None) × (told ≤ page.line))

@@ -2,8 +2,8 @@
 use Rattle.std.specs.Prelude.{ℕ, ◌+◌, Option, Some, None, List, [], ◌∷◌}
 use Rattle.queue_replay.specs.Replay.{ReplayView}
 
--- the number of places at which a page stands
+-- the number of slots at which a page stands
 abbrev pub filled : List (Option ReplayView) → ℕ
 filled [] = 0
-filled (None ∷ places) = filled places
-filled (Some page ∷ places) = filled places + 1
+filled (None ∷ slots) = filled slots
+filled (Some page ∷ slots) = filled slots + 1

@@ -4,12 +4,12 @@
 
 mod auditing;
 mod auditor_fault;
-mod desk;
 mod gate;
 mod gathered;
+mod locked_shelf;
+mod member;
+mod members;
 mod reserved_shelf;
-mod seat;
-mod seats;
 mod serial;
 mod shared_book;
 mod shelf;

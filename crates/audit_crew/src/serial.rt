@@ -26,7 +26,7 @@ pub fn audit_serial(
     let mut book = Book::with_hasher(alloc, joined.cpus(), hasher)?;
     for cpu in 0..joined.cpus() {
         let page = whole_page(alloc, joined, cpu, knobs, hasher)?;
-        // The book takes it: each of the record's processors has a place there, and this one's is empty.
+        // The book takes it: each of the record's processors has a slot there, and this one's is empty.
         let _told = book.post(page);
     }
     book.close_own(joined, knobs)

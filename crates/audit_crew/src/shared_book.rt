@@ -1,5 +1,5 @@
 ghost use Rattle.std.specs.Prelude.{◌≡◌, ◌+◌, ◌<◌, length, IfErr, OnOk, OnErr};
-ghost use Rattle.cfs_model.specs.Settings.{Settings};
+ghost use Rattle.cfs_model.specs.Knobs.{KnobsView};
 ghost use Rattle.sched_record.specs.Record.{RecordView};
 ghost use Rattle.audit_crew.specs.Filled.{filled};
 ghost use Rattle.audit_crew.specs.Own.{IsOwnReplay, no_knobs, no_record};
@@ -18,7 +18,7 @@ use ticket_book::{Book, PostFault};
 pub(crate) trait CrewLedger: Ledger {
     ghost joined: { RecordView };
 
-    ghost knobs: { Settings };
+    ghost knobs: { KnobsView };
 }
 
 impl CrewLedger for Brand {
@@ -32,7 +32,7 @@ impl CrewLedger for Brand {
 pub(crate) struct SharedBook<L: CrewLedger> {
     book: Book,
     posts: ledger::Book<L>,
-    ghost places: { length (book_view book) ≡ L.joined.cpus },
+    ghost slots: { length (book_view book) ≡ L.joined.cpus },
     ghost own: { AreOwn L.knobs L.joined (book_view book) },
     ghost counted: { filled (book_view book) ≡ posts.total },
 }
@@ -40,7 +40,7 @@ pub(crate) struct SharedBook<L: CrewLedger> {
 impl<L: CrewLedger> SharedBook<L> {
     /// A book without pages, and its ledger without posts.
     pub(crate) fn new(book: Book, posts: ledger::Book<L>) -> SharedBook<L>
-        requires places { length (book_view book) ≡ L.joined.cpus }
+        requires slots { length (book_view book) ≡ L.joined.cpus }
         requires own { AreOwn L.knobs L.joined (book_view book) }
         requires counted { filled (book_view book) ≡ posts.total }
     {
@@ -77,7 +77,7 @@ impl<L: CrewLedger> SharedBook<L> {
     pub(crate) fn gathered(self, mut all: Share<L>, posted: u32) -> Gathered
         requires whole { all.parts ≡ L.parts }
         requires posted { all.amount ≡ posted }
-        ensures places { length (book_view result.book) ≡ L.joined.cpus }
+        ensures slots { length (book_view result.book) ≡ L.joined.cpus }
         ensures own { AreOwn L.knobs L.joined (book_view result.book) }
         ensures pages { filled (book_view result.book) ≡ result.posted }
     {

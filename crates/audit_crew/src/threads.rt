@@ -7,7 +7,7 @@ ghost use Rattle.ticket_book.specs.OneVerdict.{IsOneVerdict};
 ghost use Rattle.ticket_book.specs.Own.{AreOwn};
 ghost use Rattle.ticket_book.specs.Verdict.{IsVerdict};
 
-use crate::seats::{begin_all, end_all, gather, seats_of};
+use crate::members::{begin_all, end_all, gather, members_of};
 use crate::shared_book::{CrewLedger, SharedBook};
 use crate::{Gate, Gathered};
 use cfs_model::{Knobs, Memory};
@@ -51,7 +51,7 @@ pub fn crew<R: RandomSource + Threads + Wait + Sync, G: Gate>(
     knobs: Knobs,
     gate: &G,
 ) -> Result<Gathered, Memory>
-    ensures places { IfOk result (λ gathered. length (book_view gathered.book) ≡ (record_view joined.now).cpus) }
+    ensures slots { IfOk result (λ gathered. length (book_view gathered.book) ≡ (record_view joined.now).cpus) }
     ensures pages { IfOk result (λ gathered. filled (book_view gathered.book) ≡ gathered.posted) }
     ensures own { IfOk result (λ gathered. AreOwn knobs (record_view joined.now) (book_view gathered.book)) }
 {
@@ -73,26 +73,26 @@ fn crew_of<L: CrewLedger + Send + Sync, R: RandomSource + Threads + Wait + Sync,
     requires one_each { blank.parts ≡ (record_view joined.now).cpus }
     requires joined { L.joined ≡ record_view joined.now }
     requires knobs { L.knobs ≡ knobs }
-    ensures places { IfOk result (λ gathered. length (book_view gathered.book) ≡ L.joined.cpus) }
+    ensures slots { IfOk result (λ gathered. length (book_view gathered.book) ≡ L.joined.cpus) }
     ensures pages { IfOk result (λ gathered. filled (book_view gathered.book) ≡ gathered.posted) }
     ensures own { IfOk result (λ gathered. AreOwn L.knobs L.joined (book_view gathered.book)) }
 {
     let cpus = joined.cpus();
     let hasher = PidHasher::random(rt);
     let (posts, mut all) = blank.open::<L>();
-    let mut seats = seats_of(alloc, &mut all, cpus)?;
+    let mut members = members_of(alloc, &mut all, cpus)?;
     let shared = Mutex::new(SharedBook::new(Book::with_hasher(alloc, cpus, hasher)?, posts));
     begin_all(
         rt,
         alloc,
-        seats.as_mut_slice(),
+        members.as_mut_slice(),
         &shared,
         joined,
         knobs,
         gate,
         hasher,
     );
-    end_all(rt, seats.as_mut_slice(), &shared, gate);
-    let posted = gather(seats, &mut all)?;
+    end_all(rt, members.as_mut_slice(), &shared, gate);
+    let posted = gather(members, &mut all)?;
     Ok(shared.into_inner().gathered(all, posted))
 }

@@ -8,7 +8,7 @@ use Rattle.cfs_model.specs.Machine.{with_nice, without_values, with_policy}
 use Rattle.cfs_model.specs.Claimed.{Claimed}
 use Rattle.cfs_model.specs.Lifted.{charged, IsLeast, IsLifted}
 use Rattle.cfs_model.specs.Step.{IsSwitch, IsBirth, IsStep}
-use Rattle.cfs_model.specs.Idle.{IsIdle, KeepsSlack}
+use Rattle.cfs_model.specs.Idling.{Idles, KeepsSlack}
 use Rattle.cfs_model.specs.Run.{AreSteps, IsRun}
 use Rattle.cfs_model.specs.Order.{IsStart}
 use Rattle.cfs_model.specs.Examples.{standard, start_time, at_claim, birth_start, birth_events, BirthExample}
@@ -26,9 +26,10 @@ use Rattle.cfs_model.specs.declared.act.Way.TheVariants.{Stays, Sleeps, Ends}
 use Rattle.cfs_model.specs.declared.task.Place.{Place}
 use Rattle.cfs_model.specs.declared.task.Place.TheVariants.{Run, Wait, Rest}
 use Rattle.cfs_model.specs.declared.task.Task.{Task}
+use Rattle.cfs_model.specs.declared.policy.Policy.TheVariants.{Normal}
 
 abbrev the_task : Task
-the_task = record { pid = 101; nice = pos 0; idle = false; cpu = 0; place = Run; v = pos 0 }
+the_task = record { pid = 101; nice = pos 0; policy = Normal; cpu = 0; place = Run; v = pos 0 }
 
 start_is : IsStart (pos 0 ∷ pos 0 ∷ []) (the_task ∷ [])
 start_is = record {
@@ -52,7 +53,7 @@ first_event way = record {
   };
   claim = None;
   nice = None;
-  idle = false;
+  policy = Normal;
 }
 
 abbrev first_lifted : Machine
@@ -115,7 +116,7 @@ second_event w = record {
   claim = Some
       (at_claim 2 101 w);
   nice = None;
-  idle = false;
+  policy = Normal;
 }
 
 abbrev second_lifted : Machine
@@ -181,9 +182,9 @@ second_step w low high =
 -- nobody waits before the birth, so no slack is used
 keeps_slack : (slack : ℕ) (times : List ℕ) (last : Machine)
     → KeepsSlack slack times (birth_start ∷ first_state ∷ last ∷ [])
-keeps_slack slack times last cpu zero j below within idles = let idle : IsIdle birth_start cpu = idles 0
+keeps_slack slack times last cpu zero j below within idles = let idle : Idles birth_start cpu = idles 0
     (lit≤ tt) below in absurd (nobody_waits cpu idle.pid idle.waits)
-keeps_slack slack times last cpu (suc zero) j below within idles = let idle : IsIdle first_state cpu = idles 1
+keeps_slack slack times last cpu (suc zero) j below within idles = let idle : Idles first_state cpu = idles 1
     (lit≤ tt) below in absurd (nobody_waits cpu idle.pid idle.waits)
 keeps_slack slack times last cpu (suc (suc i)) j below within idles = absurd (omega arith)
 

@@ -19,12 +19,13 @@ use Rattle.cfs_model.specs.declared.act.Way.TheVariants.{Ends}
 use Rattle.cfs_model.specs.declared.task.Place.{Place}
 use Rattle.cfs_model.specs.declared.task.Place.TheVariants.{Run, Wait, Rest}
 use Rattle.cfs_model.specs.declared.task.Task.{Task}
+use Rattle.cfs_model.specs.declared.policy.Policy.TheVariants.{Normal}
 
 abbrev runner : Bool → Task
-runner was = record { pid = 101; nice = pos 0; idle = was; cpu = 0; place = Run; v = pos 0 }
+runner was = record { pid = 101; nice = pos 0; policy = was; cpu = 0; place = Run; v = pos 0 }
 
 abbrev sleeper : Task
-sleeper = record { pid = 102; nice = pos 0; idle = false; cpu = 0; place = Rest; v = pos 0 }
+sleeper = record { pid = 102; nice = pos 0; policy = Normal; cpu = 0; place = Rest; v = pos 0 }
 
 start_is : (was : Bool) → IsStart (pos 0 ∷ []) (rebirth_tasks was)
 start_is was = record {
@@ -64,7 +65,7 @@ module _ (was : Bool) where
     entry = record { line = 1; time = start_time; act = Switch 0 101 (pos 0) Ends 0 (pos 0) };
     claim = None;
     nice = None;
-    idle = false;
+    policy = Normal;
   }
 
   abbrev first_lifted : Machine
@@ -159,7 +160,7 @@ module _ (was : Bool) where
       entry = record { line = 2; time = start_time; act = Born 0 101 (pos 5) };
       claim = Some (at_claim 2 101 (pos 0));
       nice = None;
-      idle = now;
+      policy = now;
     }
 
     abbrev pub second_state : Machine

@@ -4,7 +4,7 @@ use Rattle.std.proofs.Common.{◌≡◌, ◌≢◌, ℕ, zero, suc, Bool, true, 
 use Rattle.std.proofs.Common.{refl, sym, ap, ◌∙◌, subst, arith}
 use Rattle.std.proofs.lemmas.Int.{ints, clamps}
 use Rattle.std.specs.Int.{int_max}
-use Rattle.cfs_model.specs.Settings.{Settings}
+use Rattle.cfs_model.specs.Knobs.{KnobsView}
 use Rattle.cfs_model.specs.Machine.{Pairs, Machine, pairs_of, put, with_pairs, put_pair, without_task}
 use Rattle.cfs_model.specs.Claimed.{Claimed}
 use Rattle.cfs_model.specs.Touch.{touched}
@@ -20,6 +20,7 @@ use Rattle.cfs_model.specs.declared.act.Way.TheVariants.{Stays, Sleeps, Ends}
 use Rattle.cfs_model.specs.declared.claim.Claim.{Claim}
 use Rattle.cfs_model.specs.declared.task.Place.{Place}
 use Rattle.cfs_model.specs.declared.task.Place.TheVariants.{Run, Wait, Rest}
+use Rattle.cfs_model.specs.declared.policy.Policy.{Policy}
 
 above_self : (f v : ℤ) → f ≤ℤ int_max f v
 above_self f v = omega (arith, ints, clamps)
@@ -67,25 +68,26 @@ floor-after_next m cpu zero = refl
 floor-after_next m cpu (suc n) = refl
 
 -- an event's own change leaves the floors
-pub same_floors : (knobs : Settings) (m : Machine) (act : Act) (claim : Option Claim) (idle : Bool) (after : Machine)
-    → Changes knobs m act claim idle after → after.floor ≡ m.floor
-same_floors knobs m (Switch cpu prev prev_nice way next next_nice) claim idle after s =
+pub same_floors : (knobs : KnobsView) (m : Machine) (act : Act) (claim : Option Claim) (policy : Policy) (after :
+    Machine)
+    → Changes knobs m act claim policy after → after.floor ≡ m.floor
+same_floors knobs m (Switch cpu prev prev_nice way next next_nice) claim policy after s =
     ap (λ (x : Machine). x.floor) s.result ∙ floor-after_next (after_prev m cpu prev way) cpu next
     ∙ floor-after_prev m cpu prev way
-same_floors knobs m (Wake cpu pid nice) claim idle after (inl s) = ap (λ (x : Machine). x.floor) s.result
-same_floors knobs m (Wake cpu pid nice) claim idle after (inr s) = ap (λ (x : Machine). x.floor) s.result
-same_floors knobs m (Born cpu pid nice) claim idle after s = ap (λ (x : Machine). x.floor) s.result
-same_floors knobs m (Shift orig dest pid nice) claim idle after s =
+same_floors knobs m (Wake cpu pid nice) claim policy after (inl s) = ap (λ (x : Machine). x.floor) s.result
+same_floors knobs m (Wake cpu pid nice) claim policy after (inr s) = ap (λ (x : Machine). x.floor) s.result
+same_floors knobs m (Born cpu pid nice) claim policy after s = ap (λ (x : Machine). x.floor) s.result
+same_floors knobs m (Shift orig dest pid nice) claim policy after s =
     let left = without_task m s.place orig pid in
     ap (λ (x : Machine). x.floor) s.result
     ∙ floor-with_pairs left s.place (put_pair (pairs_of left s.place) dest pid true)
     ∙ floor-with_pairs m s.place (put_pair (pairs_of m s.place) orig pid false)
 
-pub floors_rise : (knobs : Settings) (before : Machine) (event : Claimed) (after : Machine)
+pub floors_rise : (knobs : KnobsView) (before : Machine) (event : Claimed) (after : Machine)
     → IsStep knobs before event after → (cpu : ℕ) → before.floor cpu ≤ℤ after.floor cpu
 floors_rise knobs before event after s cpu =
     subst (λ f. before.floor cpu ≤ℤ f cpu) (sym
-    (same_floors knobs s.found event.entry.act event.claim event.idle after s.changes
+    (same_floors knobs s.found event.entry.act event.claim event.policy after s.changes
     ∙ ap (λ (m : Machine). m.floor) (reniced_is (home_of event.entry.act) event.nice s.lifted s.found
     s.is_reniced)))
     (lifted_above event.entry.time (touched event.entry.act) before s.lifted s.is_lifted cpu)

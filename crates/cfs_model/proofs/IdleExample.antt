@@ -7,7 +7,7 @@ use Rattle.cfs_model.specs.Machine.{Machine, Stands, AreValuesInRange, put, put_
 use Rattle.cfs_model.specs.Machine.{with_runtime}
 use Rattle.cfs_model.specs.Lifted.{charged, IsLeast, IsLifted}
 use Rattle.cfs_model.specs.Step.{IsWakeQueued, IsWakeResting, IsSwitch, after_next, IsStep}
-use Rattle.cfs_model.specs.Idle.{IsIdle, IdlesFrom, KeepsSlack}
+use Rattle.cfs_model.specs.Idling.{Idles, IdlesFrom, KeepsSlack}
 use Rattle.cfs_model.specs.Run.{AreSteps, IsRun}
 use Rattle.cfs_model.specs.Order.{IsStart}
 use Rattle.cfs_model.specs.Examples.{standard, start_time, at_claim, idle_start, idle_events, IdleExample}
@@ -21,9 +21,10 @@ use Rattle.cfs_model.specs.declared.act.Act.TheVariants.{Switch, Wake}
 use Rattle.cfs_model.specs.declared.act.Way.TheVariants.{Stays}
 use Rattle.cfs_model.specs.declared.task.Place.TheVariants.{Run, Wait, Rest}
 use Rattle.cfs_model.specs.declared.task.Task.{Task}
+use Rattle.cfs_model.specs.declared.policy.Policy.TheVariants.{Normal}
 
 abbrev the_task : Task
-the_task = record { pid = 102; nice = pos 0; idle = false; cpu = 0; place = Rest; v = pos 0 }
+the_task = record { pid = 102; nice = pos 0; policy = Normal; cpu = 0; place = Rest; v = pos 0 }
 
 start_is : IsStart (pos 0 ∷ []) (the_task ∷ [])
 start_is = record {
@@ -55,7 +56,7 @@ first_event = record {
   claim = Some
       (at_claim 1 102 (pos 0));
   nice = None;
-  idle = false;
+  policy = Normal;
 }
 
 first_lift : IsLifted 100001000000 (0 ∷ []) idle_start first_lifted
@@ -132,7 +133,7 @@ second_event = record {
   entry = record { line = 2; time = 100001050000; act = Wake 0 102 (pos 0) };
   claim = None;
   nice = None;
-  idle = false;
+  policy = Normal;
 }
 
 second_lift : IsLifted 100001050000 (0 ∷ []) first_state second_state
@@ -174,7 +175,7 @@ module _ (time : ℕ) where
     entry = record { line = 3; time = time; act = Switch 0 0 (pos 0) Stays 102 (pos 0) };
     claim = None;
     nice = None;
-    idle = false;
+    policy = Normal;
   }
 
 third_lift : (time : ℕ) → IsLifted time (0 ∷ []) second_state (third_lifted time)
@@ -249,17 +250,17 @@ not_after time (suc (suc (suc (suc n)))) h high = absurd (omega arith)
 -- the start doesn't idle, so the slack counts from the first wakeup at the earliest
 keeps_slack : (time : ℕ) → 100001050000 ≤ time → time ≤ 100001100000 → KeepsSlack 100000 (times time) (states time)
 keeps_slack time h k cpu zero j below within idles =
-    let idle : IsIdle idle_start cpu = idles 0 (omega arith) below in absurd (nobody_waits cpu idle.pid idle.waits)
+    let idle : Idles idle_start cpu = idles 0 (omega arith) below in absurd (nobody_waits cpu idle.pid idle.waits)
 keeps_slack time h k cpu (suc i) j below within idles =
     let from = not_before time (suc i) h (omega arith) (omega arith) in
     let to = not_after time j h within in
     omega arith
 
 -- the first and the second state idle
-first_idles : IsIdle first_state 0
+first_idles : Idles first_state 0
 first_idles = record { nobody_runs = nobody_runs 0; pid = 102; waits = it_waits }
 
-second_idles : IsIdle second_state 0
+second_idles : Idles second_state 0
 second_idles = record { nobody_runs = nobody_runs 0; pid = 102; waits = it_waits }
 
 both_idle : (time : ℕ) → IdlesFrom (states time) 0 1 3

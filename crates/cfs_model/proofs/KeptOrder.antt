@@ -53,7 +53,7 @@ apart_values m after e f g a =
 
 -- a charge gives a value where there were a value and a nice value
 some_charged : (m : Machine) (cpu time pid : ℕ) (n o : Option ℤ) → is_some n ≡ is_some o
-    → is_some (option_and_then (λ nice. option_map (λ v. v +ℤ pos (cost_at m cpu time nice (m.idle pid))) o)
+    → is_some (option_and_then (λ nice. option_map (λ v. v +ℤ pos (cost_at m cpu time nice (m.policy pid))) o)
     n) ≡ is_some o
 some_charged m cpu time pid None o e = e
 some_charged m cpu time pid (Some nice) None e = refl

@@ -4,13 +4,13 @@ use Rattle.std.proofs.Common.{◌≡◌, ℕ, ◌≤◌, min, ◌⊎◌, inl, in
 use Rattle.std.proofs.Common.{◌∙◌, subst, arith}
 use Rattle.std.proofs.lemmas.Bool.{cases_lt}
 use Rattle.std.proofs.Math.Nat.{le-max_left, le-max_right, max-le}
-use Rattle.cfs_model.specs.Settings.{Settings, nothing, only, settings_by, value_at}
+use Rattle.cfs_model.specs.Knobs.{KnobsView, nothing, only, settings_by, value_at}
 use Rattle.cfs_model.specs.declared.setting.Setting.{Setting}
 use Rattle.cfs_model.specs.declared.setting.Setting.TheVariants.{Granularity, Credit, Debit, Slack}
 use Rattle.cfs_model.specs.Machine.{Machine}
 use Rattle.cfs_model.specs.Claimed.{Claimed}
 use Rattle.cfs_model.specs.Step.{IsStep}
-use Rattle.cfs_model.specs.Idle.{KeepsSlack}
+use Rattle.cfs_model.specs.Idling.{KeepsSlack}
 use Rattle.cfs_model.specs.Run.{AreSteps, times_of}
 use Rattle.cfs_model.specs.Least.{AtMost, lesser, larger}
 use Rattle.cfs_model.specs.Laws.{LesserKeepsRun, SameStates, OneLeast, RunFromLeast, LeastOfPrefix}
@@ -20,7 +20,7 @@ use Rattle.cfs_model.proofs.MoreGenerous.{asked, step_more, steps_more, run_more
 use Rattle.cfs_model.specs.declared.act.Act.{Act}
 use Rattle.cfs_model.specs.declared.act.Act.TheVariants.{Switch, Wake, Born, Shift}
 
-abbrev larger_value : Settings → Settings → Setting → ℕ
+abbrev larger_value : KnobsView → KnobsView → Setting → ℕ
 larger_value one other which = max (value_at one which) (value_at other which)
 
 -- settings by a function have its values
@@ -31,31 +31,31 @@ at_by value Debit = refl
 at_by value Slack = refl
 
 -- settings that have the same value of each are the same
-pub same_settings : (one other : Settings) → ((which : Setting) → value_at one which ≡ value_at other which)
+pub same_settings : (one other : KnobsView) → ((which : Setting) → value_at one which ≡ value_at other which)
     → one ≡ other
 same_settings one other same =
     built one.granularity other.granularity one.credit other.credit one.debit other.debit one.slack other.slack
     (same Granularity) (same Credit) (same Debit) (same Slack)
   where
-    of : ℕ → ℕ → ℕ → ℕ → Settings
+    of : ℕ → ℕ → ℕ → ℕ → KnobsView
     of g c d s = record { granularity = g; credit = c; debit = d; slack = s }
 
     built : (g g' c c' d d' s s' : ℕ) → g ≡ g' → c ≡ c' → d ≡ d' → s ≡ s' → of g c d s ≡ of g' c' d' s'
     built g g' c c' d d' s s' p q r t = cc
 
 -- the larger of two settings
-pub below_larger : (one other : Settings) → AtMost one (larger one other)
+pub below_larger : (one other : KnobsView) → AtMost one (larger one other)
 below_larger one other which =
     subst (λ n. value_at one which ≤ n) (sym (at_by (larger_value one other) which))
     (le-max_left (value_at one which) (value_at other which))
 
-pub other_below_larger : (one other : Settings) → AtMost other (larger one other)
+pub other_below_larger : (one other : KnobsView) → AtMost other (larger one other)
 other_below_larger one other which =
     subst (λ n. value_at other which ≤ n) (sym (at_by (larger_value one other) which))
     (le-max_right (value_at one which) (value_at other which))
 
 -- nothing beside settings changes them in either place
-pub larger_nothing : (here : Settings) → larger nothing here ≡ larger here nothing
+pub larger_nothing : (here : KnobsView) → larger nothing here ≡ larger here nothing
 larger_nothing here =
     same_settings (larger nothing here) (larger here nothing)
     (λ which. at_by (larger_value nothing here) which ∙ swapped (value_at nothing which) (value_at here which)
@@ -65,7 +65,7 @@ larger_nothing here =
     swapped a b = omega arith
 
 -- the larger of three settings, whichever two come first
-pub larger_of_three : (x y z : Settings) → larger (larger x y) z ≡ larger x (larger y z)
+pub larger_of_three : (x y z : KnobsView) → larger (larger x y) z ≡ larger x (larger y z)
 larger_of_three x y z =
     same_settings (larger (larger x y) z) (larger x (larger y z)) (λ which.
     at_by (larger_value (larger x y) z) which
@@ -78,21 +78,21 @@ larger_of_three x y z =
     three a b c = omega arith
 
 -- a slack alone is at most settings of which the slack is at least that
-pub slack_at_most : (slack : ℕ) (more : Settings) → slack ≤ more.slack → AtMost (only Slack slack) more
+pub slack_at_most : (slack : ℕ) (more : KnobsView) → slack ≤ more.slack → AtMost (only Slack slack) more
 slack_at_most slack more h Granularity = omega arith
 slack_at_most slack more h Credit = omega arith
 slack_at_most slack more h Debit = omega arith
 slack_at_most slack more h Slack = h
 
 -- what is at most something: along a chain, of the larger of two, and nothing at all
-pub at_most_trans : (less between more : Settings) → AtMost less between → AtMost between more → AtMost less more
+pub at_most_trans : (less between more : KnobsView) → AtMost less between → AtMost between more → AtMost less more
 at_most_trans less between more h k which =
     le_through (value_at less which) (value_at between which) (value_at more which) (h which) (k which)
   where
     le_through : (a b c : ℕ) → a ≤ b → b ≤ c → a ≤ c
     le_through a b c h k = omega arith
 
-pub larger_at_most : (one other more : Settings) → AtMost one more → AtMost other more
+pub larger_at_most : (one other more : KnobsView) → AtMost one more → AtMost other more
     → AtMost (larger one other) more
 larger_at_most one other more h k which =
     subst (λ n. n ≤ value_at more which) (sym (at_by (larger_value one other) which)) (max-le (h which) (k which))
@@ -102,21 +102,21 @@ pub one_or_other : (a b : ℕ) → (a ≤ min a b) ⊎ (b ≤ min a b)
 one_or_other a b = elim (cases_lt a b) [ inl h ↦ inl (omega arith) | inr h ↦ inr (omega arith) ]
 
 -- one of two settings asks no more of an event than the lesser
-asked_lesser : (one other : Settings) (act : Act)
+asked_lesser : (one other : KnobsView) (act : Act)
     → (asked act one ≤ asked act (lesser one other)) ⊎ (asked act other ≤ asked act (lesser one other))
 asked_lesser one other (Switch cpu prev prev_nice way next next_nice) = one_or_other one.granularity other.granularity
 asked_lesser one other (Wake cpu pid nice) = one_or_other one.credit other.credit
 asked_lesser one other (Born cpu pid nice) = one_or_other one.debit other.debit
 asked_lesser one other (Shift orig dest pid nice) = inl (omega arith)
 
-step_lesser : (one other : Settings) (before : Machine) (event : Claimed) (after : Machine)
+step_lesser : (one other : KnobsView) (before : Machine) (event : Claimed) (after : Machine)
     → IsStep one before event after → IsStep other before event after → IsStep (lesser one other) before event after
 step_lesser one other before event after a b = elim (asked_lesser one other event.entry.act) [
   | inl h ↦ step_more one (lesser one other) before event after h a
   | inr h ↦ step_more other (lesser one other) before event after h b
 ]
 
-steps_lesser : (one other : Settings) (before : Machine) (events : List Claimed) (states : List Machine)
+steps_lesser : (one other : KnobsView) (before : Machine) (events : List Claimed) (states : List Machine)
     → AreSteps one before events states → AreSteps other before events states
     → AreSteps (lesser one other) before events states
 steps_lesser one other before [] [] a b = tt

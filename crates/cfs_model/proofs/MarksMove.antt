@@ -3,7 +3,7 @@ use Rattle.std.proofs.Common.{◌≡◌, ◌≢◌, ℕ, zero, suc, Bool, true, 
 use Rattle.std.proofs.Common.{sym, ap, ◌∙◌, subst}
 use Rattle.std.specs.List.{AllByRecursion}
 use Rattle.cfs_model.specs.Laws.{MarksMove}
-use Rattle.cfs_model.specs.Settings.{Settings}
+use Rattle.cfs_model.specs.Knobs.{KnobsView}
 use Rattle.cfs_model.specs.Machine.{Pairs, Machine, pairs_of, put, with_pairs, put_pair, without_task}
 use Rattle.cfs_model.specs.Touch.{touched}
 use Rattle.cfs_model.specs.Lifted.{IsLifted}
@@ -18,6 +18,7 @@ use Rattle.cfs_model.specs.declared.act.Way.TheVariants.{Stays, Sleeps, Ends}
 use Rattle.cfs_model.specs.declared.claim.Claim.{Claim}
 use Rattle.cfs_model.specs.declared.task.Place.{Place}
 use Rattle.cfs_model.specs.declared.task.Place.TheVariants.{Run, Wait, Rest}
+use Rattle.cfs_model.specs.declared.policy.Policy.{Policy}
 
 -- a mark that is the time stays so
 mark_kept : (time : ℕ) (cpus : List ℕ) (m after : Machine) → IsLifted time cpus m after → (cpu : ℕ)
@@ -64,15 +65,16 @@ mark-after_next m cpu zero = refl
 mark-after_next m cpu (suc n) = refl
 
 -- an event's own change leaves the marks
-pub same_marks : (knobs : Settings) (m : Machine) (act : Act) (claim : Option Claim) (idle : Bool) (after : Machine)
-    → Changes knobs m act claim idle after → after.mark ≡ m.mark
-same_marks knobs m (Switch cpu prev prev_nice way next next_nice) claim idle after s =
+pub same_marks : (knobs : KnobsView) (m : Machine) (act : Act) (claim : Option Claim) (policy : Policy) (after :
+    Machine)
+    → Changes knobs m act claim policy after → after.mark ≡ m.mark
+same_marks knobs m (Switch cpu prev prev_nice way next next_nice) claim policy after s =
     ap (λ (x : Machine). x.mark) s.result ∙ mark-after_next (after_prev m cpu prev way) cpu next
     ∙ mark-after_prev m cpu prev way
-same_marks knobs m (Wake cpu pid nice) claim idle after (inl s) = ap (λ (x : Machine). x.mark) s.result
-same_marks knobs m (Wake cpu pid nice) claim idle after (inr s) = ap (λ (x : Machine). x.mark) s.result
-same_marks knobs m (Born cpu pid nice) claim idle after s = ap (λ (x : Machine). x.mark) s.result
-same_marks knobs m (Shift orig dest pid nice) claim idle after s =
+same_marks knobs m (Wake cpu pid nice) claim policy after (inl s) = ap (λ (x : Machine). x.mark) s.result
+same_marks knobs m (Wake cpu pid nice) claim policy after (inr s) = ap (λ (x : Machine). x.mark) s.result
+same_marks knobs m (Born cpu pid nice) claim policy after s = ap (λ (x : Machine). x.mark) s.result
+same_marks knobs m (Shift orig dest pid nice) claim policy after s =
     let left = without_task m s.place orig pid in
     ap (λ (x : Machine). x.mark) s.result
     ∙ mark-with_pairs left s.place (put_pair (pairs_of left s.place) dest pid true)
@@ -80,7 +82,7 @@ same_marks knobs m (Shift orig dest pid nice) claim idle after s =
 
 pub marks_move : MarksMove
 marks_move knobs before event after s =
-    let same = same_marks knobs s.found event.entry.act event.claim event.idle after s.changes
+    let same = same_marks knobs s.found event.entry.act event.claim event.policy after s.changes
     ∙ ap (λ (m : Machine). m.mark) (reniced_is (home_of event.entry.act) event.nice s.lifted s.found s.is_reniced) in (
       subst (λ (f : ℕ → ℕ). AllByRecursion (λ cpu. f cpu ≡ event.entry.time) (touched event.entry.act)) (sym same)
           (marks_moved event.entry.time (touched event.entry.act) before s.lifted s.is_lifted),

@@ -20,12 +20,13 @@ use Rattle.cfs_model.specs.declared.claim.ClaimSort.TheVariants.{At}
 use Rattle.cfs_model.specs.declared.task.Place.{Place}
 use Rattle.cfs_model.specs.declared.task.Place.TheVariants.{Run, Wait}
 use Rattle.cfs_model.specs.declared.task.Task.{Task}
+use Rattle.cfs_model.specs.declared.policy.Policy.TheVariants.{Normal}
 
 abbrev pub task_that_waits : Task
-task_that_waits = record { pid = 101; nice = pos 0; idle = false; cpu = 0; place = Wait; v = pos 5 }
+task_that_waits = record { pid = 101; nice = pos 0; policy = Normal; cpu = 0; place = Wait; v = pos 5 }
 
 abbrev pub task_that_runs : Task
-task_that_runs = record { pid = 102; nice = pos 0; idle = false; cpu = 0; place = Run; v = pos 3 }
+task_that_runs = record { pid = 102; nice = pos 0; policy = Normal; cpu = 0; place = Run; v = pos 3 }
 
 pub start_is : IsStart (pos 3 ∷ pos 100 ∷ []) (task_that_waits ∷ task_that_runs ∷ [])
 start_is = record {

@@ -1,22 +1,23 @@
--- Settings and runs: a step asks for one setting alone, the one that its event names, so a step under some settings is
+-- Knobs and runs: a step asks for one setting alone, the one that its event names, so a step under some settings is
 -- one under others that give it at least as much.
 use Rattle.std.proofs.Common.{ℕ, zero, suc, Bool, ◌≤◌, Option, ℤ, pos, ◌+ℤ◌, ◌-ℤ◌, ◌≤ℤ◌, inl, inr, List, [], ◌∷◌, arith}
 use Rattle.std.proofs.lemmas.Int.{ints, clamps}
 use Rattle.std.specs.Int.{int_max}
-use Rattle.cfs_model.specs.Settings.{Settings}
+use Rattle.cfs_model.specs.Knobs.{KnobsView}
 use Rattle.cfs_model.specs.declared.setting.Setting.TheVariants.{Granularity, Credit, Debit, Slack}
 use Rattle.cfs_model.specs.Machine.{Machine}
 use Rattle.cfs_model.specs.Claimed.{Claimed}
 use Rattle.cfs_model.specs.Step.{IsPick, after_prev, Changes, IsStep}
-use Rattle.cfs_model.specs.Idle.{KeepsSlack}
+use Rattle.cfs_model.specs.Idling.{KeepsSlack}
 use Rattle.cfs_model.specs.Run.{AreSteps, times_of, IsRun}
 use Rattle.cfs_model.specs.Least.{AtMost}
 use Rattle.cfs_model.specs.declared.act.Act.{Act}
 use Rattle.cfs_model.specs.declared.act.Act.TheVariants.{Switch, Wake, Born, Shift}
 use Rattle.cfs_model.specs.declared.claim.Claim.{Claim}
+use Rattle.cfs_model.specs.declared.policy.Policy.{Policy}
 
 -- the setting that an event asks for; a migration asks for none
-abbrev pub asked : Act → Settings → ℕ
+abbrev pub asked : Act → KnobsView → ℕ
 asked (Switch cpu prev prev_nice way next next_nice) knobs = knobs.granularity
 asked (Wake cpu pid nice) knobs = knobs.credit
 asked (Born cpu pid nice) knobs = knobs.debit
@@ -34,10 +35,10 @@ pick_more less more m cpu zero h pick = pick
 pick_more less more m cpu (suc n) h pick =
     (pick.0, pick.1, pick.2, λ other w waits e. more_above pick.0 w less more h (pick.3 other w waits e))
 
-pub changes_more : (knobs more : Settings) (m : Machine) (act : Act) (claim : Option Claim) (idle : Bool)
+pub changes_more : (knobs more : KnobsView) (m : Machine) (act : Act) (claim : Option Claim) (policy : Policy)
     (after : Machine)
-    → asked act knobs ≤ asked act more → Changes knobs m act claim idle after → Changes more m act claim idle after
-changes_more knobs more m (Switch cpu prev prev_nice way next next_nice) claim idle after h s = record {
+    → asked act knobs ≤ asked act more → Changes knobs m act claim policy after → Changes more m act claim policy after
+changes_more knobs more m (Switch cpu prev prev_nice way next next_nice) claim policy after h s = record {
   differ = s.differ;
   current = s.current;
   prev_prio = s.prev_prio;
@@ -46,8 +47,8 @@ changes_more knobs more m (Switch cpu prev prev_nice way next next_nice) claim i
   pick = pick_more knobs.granularity more.granularity (after_prev m cpu prev way) cpu next h s.pick;
   result = s.result;
 }
-changes_more knobs more m (Wake cpu pid nice) claim idle after h (inl s) = inl s
-changes_more knobs more m (Wake cpu pid nice) claim idle after h (inr s) = inr (record {
+changes_more knobs more m (Wake cpu pid nice) claim policy after h (inl s) = inl s
+changes_more knobs more m (Wake cpu pid nice) claim policy after h (inr s) = inr (record {
   rests = s.rests;
   prio = s.prio;
   own = s.own;
@@ -58,7 +59,7 @@ changes_more knobs more m (Wake cpu pid nice) claim idle after h (inr s) = inr (
   to = s.to;
   result = s.result;
 })
-changes_more knobs more m (Born cpu pid nice) claim idle after h s = record {
+changes_more knobs more m (Born cpu pid nice) claim policy after h s = record {
   nowhere = s.nowhere;
   placed = s.placed;
   claimed = s.claimed;
@@ -66,10 +67,10 @@ changes_more knobs more m (Born cpu pid nice) claim idle after h s = record {
   to = more_above s.placed (m.floor cpu) knobs.debit more.debit h s.to;
   result = s.result;
 }
-changes_more knobs more m (Shift orig dest pid nice) claim idle after h s = s
+changes_more knobs more m (Shift orig dest pid nice) claim policy after h s = s
 
 -- a step under settings that give its event at least as much
-pub step_more : (knobs more : Settings) (before : Machine) (event : Claimed) (after : Machine)
+pub step_more : (knobs more : KnobsView) (before : Machine) (event : Claimed) (after : Machine)
     → asked event.entry.act knobs ≤ asked event.entry.act more → IsStep knobs before event after
     → IsStep more before event after
 step_more knobs more before event after h s = record {
@@ -77,17 +78,17 @@ step_more knobs more before event after h s = record {
   is_lifted = s.is_lifted;
   found = s.found;
   is_reniced = s.is_reniced;
-  changes = changes_more knobs more s.found event.entry.act event.claim event.idle after h s.changes;
+  changes = changes_more knobs more s.found event.entry.act event.claim event.policy after h s.changes;
   in_range = s.in_range;
 }
 
-pub asked_most : (less more : Settings) (act : Act) → AtMost less more → asked act less ≤ asked act more
+pub asked_most : (less more : KnobsView) (act : Act) → AtMost less more → asked act less ≤ asked act more
 asked_most less more (Switch cpu prev prev_nice way next next_nice) h = h Granularity
 asked_most less more (Wake cpu pid nice) h = h Credit
 asked_most less more (Born cpu pid nice) h = h Debit
 asked_most less more (Shift orig dest pid nice) h = omega arith
 
-pub steps_more : (less more : Settings) (before : Machine) (events : List Claimed) (states : List Machine)
+pub steps_more : (less more : KnobsView) (before : Machine) (events : List Claimed) (states : List Machine)
     → AtMost less more → AreSteps less before events states → AreSteps more before events states
 steps_more less more before [] [] h steps = tt
 steps_more less more before [] (m ∷ states) h steps = absurd steps
@@ -102,7 +103,7 @@ slack_more : (less more : ℕ) (times : List ℕ) (states : List Machine) → le
 slack_more less more times states h keeps cpu i j below within idles =
     let k = keeps cpu i j below within idles in omega arith
 
-pub run_more : (less more : Settings) (start : ℕ) (first : Machine) (events : List Claimed) → AtMost less more
+pub run_more : (less more : KnobsView) (start : ℕ) (first : Machine) (events : List Claimed) → AtMost less more
     → IsRun less start first events → IsRun more start first events
 run_more less more start first events h run = record {
   states = run.states;

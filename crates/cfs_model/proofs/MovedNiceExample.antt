@@ -22,6 +22,7 @@ use Rattle.cfs_model.specs.declared.nice_line.NiceLine.{NiceLine}
 use Rattle.cfs_model.specs.declared.task.Place.{Place}
 use Rattle.cfs_model.specs.declared.task.Place.TheVariants.{Run, Wait, Rest}
 use Rattle.cfs_model.specs.declared.task.Task.{Task}
+use Rattle.cfs_model.specs.declared.policy.Policy.TheVariants.{Normal}
 
 abbrev change : NiceLine
 change = record { line = 1; pid = 101; nice = pos 5 }
@@ -96,10 +97,10 @@ moved_nice_lem printed w = (
 
 -- 102 doesn't stand at the origin
 abbrev mover : Task
-mover = record { pid = 101; nice = pos 0; idle = false; cpu = 0; place = Wait; v = pos 5 }
+mover = record { pid = 101; nice = pos 0; policy = Normal; cpu = 0; place = Wait; v = pos 5 }
 
 abbrev away : Task
-away = record { pid = 102; nice = pos 0; idle = false; cpu = 1; place = Run; v = pos 3 }
+away = record { pid = 102; nice = pos 0; policy = Normal; cpu = 1; place = Run; v = pos 3 }
 
 isnt_there : (place : Place) → named_in (mover ∷ away ∷ []) place 0 102 ≡ true → ⊥
 isnt_there place h = elim (of_two mover away place 0 102 h) [

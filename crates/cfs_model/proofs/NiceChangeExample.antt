@@ -9,7 +9,7 @@ use Rattle.cfs_model.specs.Claimed.{Claimed}
 use Rattle.cfs_model.specs.Lifted.{charged, CanCharge, IsLifted}
 use Rattle.cfs_model.specs.Reniced.{IsReniced}
 use Rattle.cfs_model.specs.Step.{after_prev, after_next, IsSwitch, IsWakeQueued, IsWakeResting, IsStep}
-use Rattle.cfs_model.specs.Idle.{IsIdle, KeepsSlack}
+use Rattle.cfs_model.specs.Idling.{Idles, KeepsSlack}
 use Rattle.cfs_model.specs.Run.{AreSteps, IsRun}
 use Rattle.cfs_model.specs.Examples.{standard, start_time, at_claim, switch_start, nice_events, NiceChangeExample}
 use Rattle.cfs_model.specs.Examples.{birth_start, StrangeNiceExample}
@@ -27,6 +27,7 @@ use Rattle.cfs_model.specs.declared.nice_line.NiceLine.{NiceLine}
 use Rattle.cfs_model.specs.declared.task.Place.{Place}
 use Rattle.cfs_model.specs.declared.task.Place.TheVariants.{Run, Wait, Rest}
 use Rattle.cfs_model.specs.declared.task.Task.{Task}
+use Rattle.cfs_model.specs.declared.policy.Policy.TheVariants.{Normal}
 
 abbrev start : Machine
 start = switch_start (pos 0) false (pos 0)
@@ -45,7 +46,7 @@ first_event printed = record {
   entry = record { line = 1; time = 100004000000; act = Wake 0 101 printed };
   claim = None;
   nice = Some change;
-  idle = false;
+  policy = Normal;
 }
 
 abbrev first_lifted : Machine
@@ -90,7 +91,7 @@ second_event w = record {
   entry = record { line = 2; time = 100008000000; act = Switch 0 101 (pos 5) Stays 102 (pos 0) };
   claim = Some (at_claim 2 101 w);
   nice = None;
-  idle = false;
+  policy = Normal;
 }
 
 abbrev second_charged : Machine
@@ -166,7 +167,7 @@ second_step =
     }
 
 -- 101 runs before the switch, so the processor doesn't idle
-never_idle : (m : Machine) → m.running ≡ start.running → m.waiting ≡ start.waiting → (cpu : ℕ) → ¬ IsIdle m cpu
+never_idle : (m : Machine) → m.running ≡ start.running → m.waiting ≡ start.waiting → (cpu : ℕ) → ¬ Idles m cpu
 never_idle m e f cpu idle = elim
     (of_two (first_task (pos 0) false) (second_task (pos 0)) Wait cpu idle.pid
     (ap (λ s. s cpu idle.pid) (sym f) ∙ idle.waits)) [
@@ -231,7 +232,7 @@ nice_change_lem printed w = (
 
 -- 101 stands at the first processor, and nobody at the second
 abbrev elsewhere : Task
-elsewhere = record { pid = 101; nice = pos 0; idle = false; cpu = 0; place = Run; v = pos 0 }
+elsewhere = record { pid = 101; nice = pos 0; policy = Normal; cpu = 0; place = Run; v = pos 0 }
 
 nobody : (place : Place) (pid : ℕ) → named_in (elsewhere ∷ []) place 1 pid ≡ true → ⊥
 nobody place pid h = let e = (of_one elsewhere place 1 pid h).1 in absurd (omega arith)

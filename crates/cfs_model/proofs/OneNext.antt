@@ -4,7 +4,7 @@ use Rattle.std.proofs.Common.{◌≡◌, ℕ, Bool, ℤ, ◌+ℤ◌, ◌-ℤ◌,
 use Rattle.std.proofs.Common.{sym, ap, ap₂, ◌∙◌, subst, arith}
 use Rattle.std.proofs.lemmas.Int.{ints}
 use Rattle.std.specs.Int.{int_max}
-use Rattle.cfs_model.specs.Settings.{Settings}
+use Rattle.cfs_model.specs.Knobs.{KnobsView}
 use Rattle.cfs_model.specs.Machine.{Machine, with_floor, with_move, with_runtime, with_nice, with_task, with_policy}
 use Rattle.cfs_model.specs.Claimed.{Claimed, ClaimSays}
 use Rattle.cfs_model.specs.Touch.{touched}
@@ -20,6 +20,7 @@ use Rattle.cfs_model.specs.declared.claim.ClaimSort.{ClaimSort}
 use Rattle.cfs_model.specs.declared.claim.ClaimSort.TheVariants.{At, Pass}
 use Rattle.cfs_model.specs.declared.task.Place.{Place}
 use Rattle.cfs_model.specs.declared.task.Place.TheVariants.{Run, Wait, Rest}
+use Rattle.cfs_model.specs.declared.policy.Policy.{Policy}
 
 ≤ℤ_antisymm : (v w : ℤ) → v ≤ℤ w → w ≤ℤ v → v ≡ w
 ≤ℤ_antisymm v w p q = omega (arith, ints)
@@ -80,7 +81,7 @@ one_place Rest Run Pass a b = absurd b
 one_some : (o : Option ℤ) (v w : ℤ) → o ≡ Some v → o ≡ Some w → v ≡ w
 one_some o v w p q = cc
 
-one_waken : (knobs : Settings) (m : Machine) (cpu pid : ℕ) (nice : ℤ) (claim : Option Claim) (after other : Machine)
+one_waken : (knobs : KnobsView) (m : Machine) (cpu pid : ℕ) (nice : ℤ) (claim : Option Claim) (after other : Machine)
     → IsWakeQueued m cpu pid nice claim after ⊎ IsWakeResting knobs m cpu pid nice claim after
     → IsWakeQueued m cpu pid nice claim other ⊎ IsWakeResting knobs m cpu pid nice claim other → after ≡ other
 one_waken knobs m cpu pid nice claim after other (inl a) (inl b) = a.result ∙ sym b.result
@@ -92,10 +93,10 @@ one_waken knobs m cpu pid nice claim after other (inr a) (inr b) =
     a.result ∙ ap (with_runtime (with_move m pid Rest cpu Wait cpu) pid)
     (one_said claim At At pid a.placed b.placed a.claimed b.claimed).1 ∙ sym b.result
 
-one_move : (m : Machine) (orig dest pid : ℕ) (nice : ℤ) (claim : Option Claim) (idle : Bool) (after other : Machine)
-    → IsMigration m orig dest pid nice claim idle after → IsMigration m orig dest pid nice claim idle other
+one_move : (m : Machine) (orig dest pid : ℕ) (nice : ℤ) (claim : Option Claim) (policy : Policy) (after other : Machine)
+    → IsMigration m orig dest pid nice claim policy after → IsMigration m orig dest pid nice claim policy other
     → after ≡ other
-one_move m orig dest pid nice claim idle after other a b =
+one_move m orig dest pid nice claim policy after other a b =
     let said = one_said claim a.sort b.sort pid ((a.own -ℤ m.floor orig) +ℤ m.floor dest)
     ((b.own -ℤ m.floor orig) +ℤ m.floor dest) a.claimed b.claimed in
     a.result
@@ -104,19 +105,20 @@ one_move m orig dest pid nice claim idle after other a b =
     ∙ sym b.result
 
 -- an event changes the machine that it finds in one way
-pub one_change : (knobs : Settings) (m : Machine) (act : Act) (claim : Option Claim) (idle : Bool)
+pub one_change : (knobs : KnobsView) (m : Machine) (act : Act) (claim : Option Claim) (policy : Policy)
     (after other : Machine)
-    → Changes knobs m act claim idle after → Changes knobs m act claim idle other → after ≡ other
-one_change knobs m (Switch cpu prev prev_nice way next next_nice) claim idle after other a b = a.result ∙ sym b.result
-one_change knobs m (Wake cpu pid nice) claim idle after other a b = one_waken knobs m cpu pid nice claim after other a b
-one_change knobs m (Born cpu pid nice) claim idle after other a b =
-    a.result ∙ ap (λ v. with_policy (with_nice (with_runtime (with_task m Wait cpu pid) pid v) pid nice) pid idle)
+    → Changes knobs m act claim policy after → Changes knobs m act claim policy other → after ≡ other
+one_change knobs m (Switch cpu prev prev_nice way next next_nice) claim policy after other a b = a.result ∙ sym b.result
+one_change knobs m (Wake cpu pid nice) claim policy after other a b = one_waken knobs m cpu pid nice claim after
+    other a b
+one_change knobs m (Born cpu pid nice) claim policy after other a b =
+    a.result ∙ ap (λ v. with_policy (with_nice (with_runtime (with_task m Wait cpu pid) pid v) pid nice) pid policy)
     (one_said claim At At pid a.placed b.placed a.claimed b.claimed).1 ∙ sym b.result
-one_change knobs m (Shift orig dest pid nice) claim idle after other a b =
-    one_move m orig dest pid nice claim idle after other a b
+one_change knobs m (Shift orig dest pid nice) claim policy after other a b =
+    one_move m orig dest pid nice claim policy after other a b
 
 -- there is one machine as an event finds it
-pub one_found : (knobs : Settings) (before : Machine) (event : Claimed) (after other : Machine)
+pub one_found : (knobs : KnobsView) (before : Machine) (event : Claimed) (after other : Machine)
     → (a : IsStep knobs before event after) → (b : IsStep knobs before event other) → a.found ≡ b.found
 one_found knobs before event after other a b =
     one_reniced (home_of event.entry.act) event.nice b.lifted a.found b.found
@@ -125,16 +127,16 @@ one_found knobs before event after other a b =
     a.is_reniced)
     b.is_reniced
 
-pub one_next : (knobs : Settings) (before : Machine) (event : Claimed) (after other : Machine)
+pub one_next : (knobs : KnobsView) (before : Machine) (event : Claimed) (after other : Machine)
     → IsStep knobs before event after → IsStep knobs before event other → after ≡ other
 one_next knobs before event after other a b =
-    one_change knobs b.found event.entry.act event.claim event.idle after other
-    (subst (λ m. Changes knobs m event.entry.act event.claim event.idle after)
+    one_change knobs b.found event.entry.act event.claim event.policy after other
+    (subst (λ m. Changes knobs m event.entry.act event.claim event.policy after)
     (one_found knobs before event after other a b)
     a.changes)
     b.changes
 
-pub one_list : (knobs : Settings) (first : Machine) (events : List Claimed) (states others : List Machine)
+pub one_list : (knobs : KnobsView) (first : Machine) (events : List Claimed) (states others : List Machine)
     → AreSteps knobs first events states → AreSteps knobs first events others → states ≡ others
 one_list knobs first [] [] [] a b = refl
 one_list knobs first [] [] (m ∷ others) a b = absurd b

@@ -2,14 +2,14 @@
 -- are read at the same numbers.
 use Rattle.std.proofs.Common.{◌≡◌, ℕ, zero, suc, ◌+◌, ◌<◌, ◌≤◌, List, [], ◌∷◌, ◌++◌, length, map, slice_get, get_or}
 use Rattle.std.proofs.Common.{IsSomeAnd, refl, sym, ap, subst, arith, length-append, le_of_suc-le-suc}
-use Rattle.cfs_model.specs.Settings.{Settings}
+use Rattle.cfs_model.specs.Knobs.{KnobsView}
 use Rattle.cfs_model.specs.Machine.{Machine}
 use Rattle.cfs_model.specs.Claimed.{Claimed}
-use Rattle.cfs_model.specs.Idle.{IsIdle, KeepsSlack}
+use Rattle.cfs_model.specs.Idling.{Idles, KeepsSlack}
 use Rattle.cfs_model.specs.Run.{AreSteps, times_of, IsRun}
 
 -- the states of a prefix of the events
-front_steps : (knobs : Settings) (first : Machine) (events rest : List Claimed) (states : List Machine)
+front_steps : (knobs : KnobsView) (first : Machine) (events rest : List Claimed) (states : List Machine)
     → AreSteps knobs first (events ++ rest) states
     → (front : List Machine) × (back : List Machine) × (states ≡ front ++ back) × AreSteps knobs first events front
 front_steps knobs first [] rest states steps = ([], states, refl, tt)
@@ -19,7 +19,7 @@ front_steps knobs first (event ∷ events) rest (m ∷ states) steps =
     (m ∷ t.0, t.1, ap (λ xs. m ∷ xs) t.2, (steps.0, t.3))
 
 -- as many states as events
-pub steps_length : (knobs : Settings) (first : Machine) (events : List Claimed) (states : List Machine)
+pub steps_length : (knobs : KnobsView) (first : Machine) (events : List Claimed) (states : List Machine)
     → AreSteps knobs first events states → length states ≡ length events
 steps_length knobs first [] [] steps = refl
 steps_length knobs first [] (m ∷ states) steps = absurd steps
@@ -52,11 +52,11 @@ front_slack slack start first events rest front back same keeps cpu i j below wi
     let at_j = start_time_at start events rest j (omega arith) in
     let h : get_or (times_of start (events ++ rest)) j 0 ≤ get_or (times_of start (events ++ rest)) i 0 + slack =
     keeps cpu i j below (omega (arith, length-append front back))
-    (λ n low high. subst (λ o. IsSomeAnd o (λ m. IsIdle m cpu))
+    (λ n low high. subst (λ o. IsSomeAnd o (λ m. Idles m cpu))
     (sym (slice_get-append_left (first ∷ front) back n (omega arith))) (idles n low high)) in
     omega arith
 
-pub run_prefix : (knobs : Settings) (start : ℕ) (first : Machine) (events rest : List Claimed)
+pub run_prefix : (knobs : KnobsView) (start : ℕ) (first : Machine) (events rest : List Claimed)
     → IsRun knobs start first (events ++ rest) → IsRun knobs start first events
 run_prefix knobs start first events rest run =
     let t = front_steps knobs first events rest run.states run.steps in

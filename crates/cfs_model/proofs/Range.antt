@@ -7,7 +7,7 @@ use Rattle.std.proofs.lemmas.Int.{ints, clamps}
 use Rattle.std.specs.Int.{int_max}
 use Rattle.cfs_model.specs.Charge.{IsInRange}
 use Rattle.cfs_model.specs.Limits.{greatest_runtime}
-use Rattle.cfs_model.specs.Settings.{Settings}
+use Rattle.cfs_model.specs.Knobs.{KnobsView}
 use Rattle.cfs_model.specs.Machine.{Machine, pairs_of, AreValuesInRange, put, put_pair, without_task, with_move}
 use Rattle.cfs_model.specs.Claimed.{ClaimSays}
 use Rattle.cfs_model.specs.Lifted.{cost_at, charged, charged_runtime, CanCharge, IsRaised, IsLiftedAt, IsLifted}
@@ -21,6 +21,7 @@ use Rattle.cfs_model.specs.declared.act.Way.{Way}
 use Rattle.cfs_model.specs.declared.act.Way.TheVariants.{Stays, Sleeps, Ends}
 use Rattle.cfs_model.specs.declared.claim.Claim.{Claim}
 use Rattle.cfs_model.specs.declared.claim.ClaimSort.{ClaimSort}
+use Rattle.cfs_model.specs.declared.policy.Policy.{Policy}
 
 sum_range : (u : ℤ) (cost : ℕ) → IsInRange u → (u +ℤ pos cost) ≤ℤ pos greatest_runtime → IsInRange (u +ℤ pos cost)
 sum_range u cost h k = let low = h.0 in (omega (arith, ints), k)
@@ -38,12 +39,13 @@ charged_range : (m : Machine) (cpu time : ℕ) → CanCharge m cpu time → AreV
 charged_range m cpu time can r pid v e = go (m.running cpu pid) refl e
   where
     here : (n o : Option ℤ) → m.nice pid ≡ n → m.runtime pid ≡ o → m.running cpu pid ≡ true
-        → option_and_then (λ nice. option_map (λ u. u +ℤ pos (cost_at m cpu time nice (m.idle pid))) o) n ≡ Some v
+        → option_and_then (λ nice. option_map (λ u. u +ℤ pos (cost_at m cpu time nice (m.policy pid))) o) n ≡ Some v
         → IsInRange v
     here None o f g h k = absurd cc
     here (Some nice) None f g h k = absurd cc
-    here (Some nice) (Some u) f g h k = subst IsInRange (some_is (u +ℤ pos (cost_at m cpu time nice (m.idle pid))) v k)
-        (sum_range u (cost_at m cpu time nice (m.idle pid)) (r.runtimes pid u g) (can pid nice u h f g).1)
+    here (Some nice) (Some u) f g h k = subst IsInRange (some_is (u +ℤ pos (cost_at m cpu time nice (m.policy pid)))
+        v k)
+        (sum_range u (cost_at m cpu time nice (m.policy pid)) (r.runtimes pid u g) (can pid nice u h f g).1)
 
     go : (b : Bool) → m.running cpu pid ≡ b → cond b (charged_runtime m cpu time pid) (m.runtime pid) ≡ Some v
         → IsInRange v
@@ -106,22 +108,23 @@ placed_range : (f : ℕ → Option ℤ) (pid : ℕ) (w : ℤ) → ((q : ℕ) (v 
     → (q : ℕ) (v : ℤ) → put f pid (Some w) q ≡ Some v → IsInRange v
 placed_range f pid w r h = put_range f pid (Some w) r (λ v e. subst IsInRange (some_is w v e) h)
 
-runtimes_range : (knobs : Settings) (m : Machine) (act : Act) (claim : Option Claim) (idle : Bool) (after : Machine)
-    → Changes knobs m act claim idle after
+runtimes_range : (knobs : KnobsView) (m : Machine) (act : Act) (claim : Option Claim) (policy : Policy) (after :
+    Machine)
+    → Changes knobs m act claim policy after
     → IfSome claim (λ k. IsInRange k.v) → ((q : ℕ) (v : ℤ) → m.runtime q ≡ Some v → IsInRange v) → (q : ℕ) (v : ℤ)
     → after.runtime q ≡ Some v → IsInRange v
-runtimes_range knobs m (Switch cpu prev prev_nice way next next_nice) claim idle after s c r =
+runtimes_range knobs m (Switch cpu prev prev_nice way next next_nice) claim policy after s c r =
     subst (λ (x : Machine). (q : ℕ) (v : ℤ) → x.runtime q ≡ Some v → IsInRange v) (sym s.result)
     (next_range (after_prev m cpu prev way) cpu next (prev_range m cpu prev way r))
-runtimes_range knobs m (Wake cpu pid nice) claim idle after (inl s) c r =
+runtimes_range knobs m (Wake cpu pid nice) claim policy after (inl s) c r =
     subst (λ (x : Machine). (q : ℕ) (v : ℤ) → x.runtime q ≡ Some v → IsInRange v) (sym s.result) r
-runtimes_range knobs m (Wake cpu pid nice) claim idle after (inr s) c r =
+runtimes_range knobs m (Wake cpu pid nice) claim policy after (inr s) c r =
     subst (λ (x : Machine). (q : ℕ) (v : ℤ) → x.runtime q ≡ Some v → IsInRange v) (sym s.result)
     (placed_range m.runtime pid s.placed r (said_range claim _ pid s.placed s.claimed c))
-runtimes_range knobs m (Born cpu pid nice) claim idle after s c r =
+runtimes_range knobs m (Born cpu pid nice) claim policy after s c r =
     subst (λ (x : Machine). (q : ℕ) (v : ℤ) → x.runtime q ≡ Some v → IsInRange v) (sym s.result)
     (placed_range m.runtime pid s.placed r (said_range claim _ pid s.placed s.claimed c))
-runtimes_range knobs m (Shift orig dest pid nice) claim idle after s c r =
+runtimes_range knobs m (Shift orig dest pid nice) claim policy after s c r =
     let left = without_task m s.place orig pid in
     subst (λ (x : Machine). (q : ℕ) (v : ℤ) → x.runtime q ≡ Some v → IsInRange v) (sym s.result)
     (placed_range (with_move m pid s.place orig s.place dest).runtime pid ((s.own -ℤ m.floor orig) +ℤ m.floor dest)
@@ -131,10 +134,11 @@ runtimes_range knobs m (Shift orig dest pid nice) claim idle after s c r =
     (said_range claim s.sort pid ((s.own -ℤ m.floor orig) +ℤ m.floor dest) s.claimed c))
 
 -- an event's own change keeps the range, where its claim is in range
-pub change_range : (knobs : Settings) (m : Machine) (act : Act) (claim : Option Claim) (idle : Bool) (after : Machine)
-    → Changes knobs m act claim idle after
+pub change_range : (knobs : KnobsView) (m : Machine) (act : Act) (claim : Option Claim) (policy : Policy) (after :
+    Machine)
+    → Changes knobs m act claim policy after
     → IfSome claim (λ k. IsInRange k.v) → AreValuesInRange m → AreValuesInRange after
-change_range knobs m act claim idle after s c r = record {
-  runtimes = runtimes_range knobs m act claim idle after s c r.runtimes;
-  floors = λ cpu. subst (λ f. IsInRange (f cpu)) (sym (same_floors knobs m act claim idle after s)) (r.floors cpu);
+change_range knobs m act claim policy after s c r = record {
+  runtimes = runtimes_range knobs m act claim policy after s c r.runtimes;
+  floors = λ cpu. subst (λ f. IsInRange (f cpu)) (sym (same_floors knobs m act claim policy after s)) (r.floors cpu);
 }

@@ -10,7 +10,7 @@ use Rattle.cfs_model.specs.Machine.{with_move, with_runtime}
 use Rattle.cfs_model.specs.Claimed.{Claimed, is_named_idle}
 use Rattle.cfs_model.specs.Lifted.{charged, CanCharge, IsLeast, IsLifted}
 use Rattle.cfs_model.specs.Step.{IsSwitch, IsWakeQueued, IsWakeResting, after_next, IsStep}
-use Rattle.cfs_model.specs.Idle.{IsIdle, KeepsSlack}
+use Rattle.cfs_model.specs.Idling.{Idles, KeepsSlack}
 use Rattle.cfs_model.specs.Run.{AreSteps}
 use Rattle.cfs_model.specs.Examples.{standard, start_time, at_claim, rebirth_start, rebirth_events}
 use Rattle.cfs_model.specs.Examples.{IdleBirthExample, RebirthExample}
@@ -25,6 +25,7 @@ use Rattle.cfs_model.specs.declared.act.Way.TheVariants.{Stays}
 use Rattle.cfs_model.specs.declared.idle_line.IdleLine.{IdleLine}
 use Rattle.cfs_model.specs.declared.task.Place.{Place}
 use Rattle.cfs_model.specs.declared.task.Place.TheVariants.{Run, Wait, Rest}
+use Rattle.cfs_model.specs.declared.policy.Policy.TheVariants.{Normal}
 
 -- the wakeup
 abbrev fourth_event : ℤ → Claimed
@@ -32,7 +33,7 @@ fourth_event w = record {
   entry = record { line = 4; time = 100004000000; act = Wake 0 102 (pos 0) };
   claim = Some (at_claim 4 102 w);
   nice = None;
-  idle = false;
+  policy = Normal;
 }
 
 module _ (was now : Bool) where
@@ -42,7 +43,7 @@ module _ (was now : Bool) where
     entry = record { line = 3; time = start_time; act = Switch 0 0 (pos 0) Stays 101 (pos 5) };
     claim = None;
     nice = None;
-    idle = false;
+    policy = Normal;
   }
 
   abbrev third_lifted : Machine
@@ -223,20 +224,20 @@ module _ (was now : Bool) where
       (start_time ∷ start_time ∷ start_time ∷ start_time ∷ 100004000000 ∷ [])
       (rebirth_start was ∷ (first_state was) ∷ (second_state was now) ∷ third_state ∷ last ∷ [])
   keeps_slack last cpu zero j below within idles =
-      let idle : IsIdle (rebirth_start was) cpu = idles 0 (lit≤ tt) below in
+      let idle : Idles (rebirth_start was) cpu = idles 0 (lit≤ tt) below in
       absurd (nobody_waits was cpu idle.pid idle.waits)
   keeps_slack last cpu (suc zero) j below within idles =
-      let idle : IsIdle (first_state was) cpu = idles 1 (lit≤ tt) below in
+      let idle : Idles (first_state was) cpu = idles 1 (lit≤ tt) below in
       absurd (nobody_waits was cpu idle.pid idle.waits)
   keeps_slack last cpu (suc (suc zero)) zero below within idles = absurd (omega arith)
   keeps_slack last cpu (suc (suc zero)) (suc zero) below within idles = absurd (omega arith)
   keeps_slack last cpu (suc (suc zero)) (suc (suc zero)) below within idles = absurd (omega arith)
   keeps_slack last cpu (suc (suc zero)) (suc (suc (suc zero))) below within idles = lit≤ tt
   keeps_slack last cpu (suc (suc zero)) (suc (suc (suc (suc j)))) below within idles =
-      let idle : IsIdle third_state cpu = idles 3 (lit≤ tt) (omega arith) in
+      let idle : Idles third_state cpu = idles 3 (lit≤ tt) (omega arith) in
       absurd (none_waits cpu idle.pid idle.waits)
   keeps_slack last cpu (suc (suc (suc zero))) j below within idles =
-      let idle : IsIdle third_state cpu = idles 3 (lit≤ tt) below in
+      let idle : Idles third_state cpu = idles 3 (lit≤ tt) below in
       absurd (none_waits cpu idle.pid idle.waits)
   keeps_slack last cpu (suc (suc (suc (suc i)))) j below within idles = absurd (omega arith)
 

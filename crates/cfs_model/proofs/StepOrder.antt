@@ -2,7 +2,7 @@
 use Rattle.std.proofs.Common.{◌≡◌, ◌≢◌, ℕ, zero, suc, Bool, true, false, Option, Some, None, IsSome, is_some, ℤ, ◌+ℤ◌}
 use Rattle.std.proofs.Common.{◌-ℤ◌, inl, inr, List, [], ◌∷◌, refl, sym, ap, ◌∙◌, subst}
 use Rattle.std.specs.List.{AllByRecursion}
-use Rattle.cfs_model.specs.Settings.{Settings}
+use Rattle.cfs_model.specs.Knobs.{KnobsView}
 use Rattle.cfs_model.specs.Machine.{Pairs, Machine, pairs_of, Stands, NobodyStands, with_pairs, put_pair, with_task}
 use Rattle.cfs_model.specs.Machine.{without_task, with_move, with_runtime, with_nice, without_values, with_policy}
 use Rattle.cfs_model.specs.Claimed.{Claimed}
@@ -23,6 +23,7 @@ use Rattle.cfs_model.specs.declared.claim.ClaimSort.{ClaimSort}
 use Rattle.cfs_model.specs.declared.claim.ClaimSort.TheVariants.{At, Pass}
 use Rattle.cfs_model.specs.declared.task.Place.{Place}
 use Rattle.cfs_model.specs.declared.task.Place.TheVariants.{Run, Wait, Rest}
+use Rattle.cfs_model.specs.declared.policy.Policy.{Policy}
 
 -- what is placed, or gone, in a machine is so in another with the same sets
 pub placed_same : (m between after : Machine) (pid : ℕ) (to : Place) (dest : ℕ)
@@ -98,12 +99,12 @@ valued_apart m between pid to dest v a p pauses e f some =
     ∙ ap (λ g. g q) e)
     (subst (λ g. IsSome (g pid)) (sym f) some) (λ q _. ap (λ g. g q) f)
 
-born_apart : (m : Machine) (cpu pid : ℕ) (nice : ℤ) (idle : Bool) (v : ℤ) → IsApart m → ((place : Place) (other : ℕ)
+born_apart : (m : Machine) (cpu pid : ℕ) (nice : ℤ) (policy : Policy) (v : ℤ) → IsApart m → ((place : Place) (other : ℕ)
     → ¬ Stands m place other pid)
-    → IsApart (with_policy (with_nice (with_runtime (with_task m Wait cpu pid) pid v) pid nice) pid idle)
-born_apart m cpu pid nice idle v a nowhere =
+    → IsApart (with_policy (with_nice (with_runtime (with_task m Wait cpu pid) pid v) pid nice) pid policy)
+born_apart m cpu pid nice policy v a nowhere =
     let between = with_task m Wait cpu pid in
-    let after = with_policy (with_nice (with_runtime between pid v) pid nice) pid idle in
+    let after = with_policy (with_nice (with_runtime between pid v) pid nice) pid policy in
     placed_apart m after pid Wait cpu (placed_same m between after pid Wait cpu
     (same_sets between after refl refl refl) (join_placed m pid Wait cpu nowhere)) a (λ x. absurd cc)
     (ap is_some (put-same m.runtime pid (Some v))) (put-other m.runtime pid (Some v))
@@ -126,17 +127,17 @@ nice-with_pairs m Run s = refl
 nice-with_pairs m Wait s = refl
 nice-with_pairs m Rest s = refl
 
-pub idle-with_pairs : (m : Machine) (place : Place) (s : Pairs) → (with_pairs m place s).idle ≡ m.idle
-idle-with_pairs m Run s = refl
-idle-with_pairs m Wait s = refl
-idle-with_pairs m Rest s = refl
+pub policy-with_pairs : (m : Machine) (place : Place) (s : Pairs) → (with_pairs m place s).policy ≡ m.policy
+policy-with_pairs m Run s = refl
+policy-with_pairs m Wait s = refl
+policy-with_pairs m Rest s = refl
 
 some_of : (o : Option ℤ) (n : ℤ) → o ≡ Some n → IsSome o
 some_of o n e = ap is_some e
 
-moved_apart : (m : Machine) (orig dest pid : ℕ) (nice : ℤ) (claim : Option Claim) (idle : Bool) (after : Machine)
-    → IsApart m → IsMigration m orig dest pid nice claim idle after → IsApart after
-moved_apart m orig dest pid nice claim idle after a s =
+moved_apart : (m : Machine) (orig dest pid : ℕ) (nice : ℤ) (claim : Option Claim) (policy : Policy) (after : Machine)
+    → IsApart m → IsMigration m orig dest pid nice claim policy after → IsApart after
+moved_apart m orig dest pid nice claim policy after a s =
     let left = without_task m s.place orig pid in
     subst IsApart (sym s.result)
     (valued_apart m (with_move m pid s.place orig s.place dest) pid s.place dest
@@ -150,32 +151,32 @@ moved_apart m orig dest pid nice claim idle after a s =
     (some_of (m.nice pid) nice s.prio))
 
 -- an event's own change keeps the order
-change_apart : (knobs : Settings) (m : Machine) (act : Act) (claim : Option Claim) (idle : Bool) (after : Machine)
-    → IsApart m → Changes knobs m act claim idle after → IsApart after
-change_apart knobs m (Switch cpu prev prev_nice way next next_nice) claim idle after a s =
+change_apart : (knobs : KnobsView) (m : Machine) (act : Act) (claim : Option Claim) (policy : Policy) (after : Machine)
+    → IsApart m → Changes knobs m act claim policy after → IsApart after
+change_apart knobs m (Switch cpu prev prev_nice way next next_nice) claim policy after a s =
     let p = prev_apart m cpu prev way a s.current in
     subst IsApart (sym s.result) (next_apart knobs.granularity (after_prev m cpu prev way) cpu next p.0 p.1 s.pick)
-change_apart knobs m (Wake cpu pid nice) claim idle after a (inl s) = subst IsApart (sym s.result) a
-change_apart knobs m (Wake cpu pid nice) claim idle after a (inr s) =
+change_apart knobs m (Wake cpu pid nice) claim policy after a (inl s) = subst IsApart (sym s.result) a
+change_apart knobs m (Wake cpu pid nice) claim policy after a (inr s) =
     subst IsApart (sym s.result)
     (valued_apart m (with_move m pid Rest cpu Wait cpu) pid Wait cpu s.placed a
     (move_placed m pid Rest cpu Wait cpu (alone m a Rest cpu pid s.rests)) (λ e. cc) refl refl
     (some_of (m.nice pid) nice s.prio))
-change_apart knobs m (Born cpu pid nice) claim idle after a s = subst IsApart (sym s.result)
-    (born_apart m cpu pid nice idle s.placed a s.nowhere)
-change_apart knobs m (Shift orig dest pid nice) claim idle after a s =
-    moved_apart m orig dest pid nice claim idle after a s
+change_apart knobs m (Born cpu pid nice) claim policy after a s = subst IsApart (sym s.result)
+    (born_apart m cpu pid nice policy s.placed a s.nowhere)
+change_apart knobs m (Shift orig dest pid nice) claim policy after a s =
+    moved_apart m orig dest pid nice claim policy after a s
 
 pub apart_of : (m : Machine) → IsInOrder m → IsApart m
 apart_of m o = record { one_place = o.one_place; one_runs = o.one_runs; runtimes = o.runtimes; nices = o.nices }
 
-pub step_in_order : (knobs : Settings) (before : Machine) (event : Claimed) (after : Machine) → IsInOrder before
+pub step_in_order : (knobs : KnobsView) (before : Machine) (event : Claimed) (after : Machine) → IsInOrder before
     → IsStep knobs before event after → IsInOrder after
 step_in_order knobs before event after o s =
     let lifted = lifted_apart event.entry.time (touched event.entry.act) before s.lifted s.is_lifted
     (apart_of before o) in
     let found = reniced_apart (home_of event.entry.act) event.nice s.lifted s.found s.is_reniced lifted in
-    let a = change_apart knobs s.found event.entry.act event.claim event.idle after found s.changes in
+    let a = change_apart knobs s.found event.entry.act event.claim event.policy after found s.changes in
     record {
       one_place = a.one_place;
       one_runs = a.one_runs;
@@ -184,7 +185,7 @@ step_in_order knobs before event after o s =
       in_range = s.in_range;
     }
 
-pub steps_in_order : (knobs : Settings) (first : Machine) (events : List Claimed) (states : List Machine)
+pub steps_in_order : (knobs : KnobsView) (first : Machine) (events : List Claimed) (states : List Machine)
     → IsInOrder first → AreSteps knobs first events states → AllByRecursion IsInOrder states
 steps_in_order knobs first [] [] o steps = tt
 steps_in_order knobs first [] (m ∷ states) o steps = absurd steps

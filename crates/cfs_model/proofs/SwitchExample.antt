@@ -18,20 +18,22 @@ use Rattle.cfs_model.proofs.Worked.{of_two, value_at, below_at, can_charge_one}
 use Rattle.cfs_model.specs.declared.act.Way.TheVariants.{Stays}
 use Rattle.cfs_model.specs.declared.task.Place.TheVariants.{Run, Wait}
 use Rattle.cfs_model.specs.declared.task.Task.{Task}
+use Rattle.cfs_model.specs.declared.policy.Policy.{Policy}
+use Rattle.cfs_model.specs.declared.policy.Policy.TheVariants.{Normal}
 
 -- the two tasks
 abbrev pub first_task : ℤ → Bool → Task
-first_task nice idle = record { pid = 101; nice = nice; idle = idle; cpu = 0; place = Run; v = pos 0 }
+first_task nice policy = record { pid = 101; nice = nice; policy = policy; cpu = 0; place = Run; v = pos 0 }
 
 abbrev pub second_task : ℤ → Task
-second_task u = record { pid = 102; nice = pos 0; idle = false; cpu = 0; place = Wait; v = u }
+second_task u = record { pid = 102; nice = pos 0; policy = Normal; cpu = 0; place = Wait; v = u }
 
 abbrev time : ℕ
 time = 100004000000
 
-pub start_is : (nice : ℤ) (idle : Bool) (u : ℤ) → IsInRange u
-    → IsStart (pos 0 ∷ []) (first_task nice idle ∷ second_task u ∷ [])
-start_is nice idle u h = record {
+pub start_is : (nice : ℤ) (policy : Policy) (u : ℤ) → IsInRange u
+    → IsStart (pos 0 ∷ []) (first_task nice policy ∷ second_task u ∷ [])
+start_is nice policy u h = record {
   pids_rise = ((lit< tt, tt), (tt, tt));
   one_runs = (((λ t. cc), tt), (tt, tt));
   runtimes_in_range = ((omega (arith, ints), omega (arith, ints)), (h, tt));
@@ -39,40 +41,41 @@ start_is nice idle u h = record {
 }
 
 -- 101 alone runs
-pub runs_one : (nice : ℤ) (idle : Bool) (u : ℤ) (q : ℕ) → Stands (switch_start nice idle u) Run 0 q → 101 ≡ q
-runs_one nice idle u q h =
-    elim (of_two (first_task nice idle) (second_task u) Run 0 q h) [ inl x ↦ x.0 | inr x ↦ let e = x.2 in cc ]
+pub runs_one : (nice : ℤ) (policy : Policy) (u : ℤ) (q : ℕ) → Stands (switch_start nice policy u) Run 0 q → 101 ≡ q
+runs_one nice policy u q h =
+    elim (of_two (first_task nice policy) (second_task u) Run 0 q h) [ inl x ↦ x.0 | inr x ↦ let e = x.2 in cc ]
 
 -- 102 alone waits
-pub waits_one : (nice : ℤ) (idle : Bool) (u : ℤ) (q : ℕ) → Stands (switch_start nice idle u) Wait 0 q → 102 ≡ q
-waits_one nice idle u q h =
-    elim (of_two (first_task nice idle) (second_task u) Wait 0 q h) [ inl x ↦ let e = x.2 in cc | inr x ↦ x.0 ]
+pub waits_one : (nice : ℤ) (policy : Policy) (u : ℤ) (q : ℕ) → Stands (switch_start nice policy u) Wait 0 q → 102 ≡ q
+waits_one nice policy u q h =
+    elim (of_two (first_task nice policy) (second_task u) Wait 0 q h) [ inl x ↦ let e = x.2 in cc | inr x ↦ x.0 ]
 
 -- the machine after the charge
 abbrev after_charge : ℤ → Bool → ℤ → Machine
-after_charge nice idle u = charged (switch_start nice idle u) 0 time
+after_charge nice policy u = charged (switch_start nice policy u) 0 time
 
 above_self : (u : ℤ) (n : ℕ) → u ≤ℤ (u +ℤ pos n)
 above_self u n = omega (arith, ints)
 
 -- the nice value of 101, the virtual runtime that it is charged to, the one at which 102 waits, and the least of both
-module _ (nice : ℤ) (idle : Bool) (cost u v : ℤ) (is_cost : (after_charge nice idle u).runtime 101 ≡ Some cost) where
+module _ (nice : ℤ) (policy : Policy) (cost u v : ℤ) (is_cost : (after_charge nice policy u).runtime 101
+    ≡ Some cost) where
   -- v is the least where it is at most what 101 and 102 have
-  least_of : v ≤ℤ cost → v ≤ℤ u → (q : ℕ) (w : ℤ) → IsQueued (after_charge nice idle u) 0 q
-      → (after_charge nice idle u).runtime q ≡ Some w → v ≤ℤ w
+  least_of : v ≤ℤ cost → v ≤ℤ u → (q : ℕ) (w : ℤ) → IsQueued (after_charge nice policy u) 0 q
+      → (after_charge nice policy u).runtime q ≡ Some w → v ≤ℤ w
   least_of h k q w (inl runs) e =
-      below_at (after_charge nice idle u).runtime 101 q v cost w (runs_one nice idle u q runs) is_cost e h
+      below_at (after_charge nice policy u).runtime 101 q v cost w (runs_one nice policy u q runs) is_cost e h
   least_of h k q w (inr waits) e =
-      below_at (after_charge nice idle u).runtime 102 q v u w (waits_one nice idle u q waits) refl e k
+      below_at (after_charge nice policy u).runtime 102 q v u w (waits_one nice policy u q waits) refl e k
 
   -- the step, from a least virtual runtime after the charge
-  switch_step : (granularity : ℕ) → IsInRange u → IsInRange cost → CanCharge (switch_start nice idle u) 0 time
-      → IsLeast (after_charge nice idle u) 0 v → u ≤ℤ (cost +ℤ pos granularity)
-      → HasStep (standard_with granularity) (switch_start nice idle u) (switch_event nice cost)
+  switch_step : (granularity : ℕ) → IsInRange u → IsInRange cost → CanCharge (switch_start nice policy u) 0 time
+      → IsLeast (after_charge nice policy u) 0 v → u ≤ℤ (cost +ℤ pos granularity)
+      → HasStep (standard_with granularity) (switch_start nice policy u) (switch_event nice cost)
   unfolding put put_pair
   switch_step granularity range within_range can_charge least within =
-      let lifted : Machine = with_floor (after_charge nice idle u) 0 (int_max (pos 0) v) in
-      let lift : IsLifted time (0 ∷ []) (switch_start nice idle u) lifted = (
+      let lifted : Machine = with_floor (after_charge nice policy u) 0 (int_max (pos 0) v) in
+      let lift : IsLifted time (0 ∷ []) (switch_start nice policy u) lifted = (
         lifted,
         record {
           can_charge = can_charge;
@@ -100,7 +103,7 @@ module _ (nice : ℤ) (idle : Bool) (cost u v : ℤ) (is_cost : (after_charge ni
                 (sym x.1) is_cost e) within
             | inr x ↦
                 subst (λ y. u ≤ℤ (y +ℤ pos granularity)) (value_at lifted.runtime 102 q u w
-                (waits_one nice idle u q (sym x.1 ∙ waits)) refl e) (above_self u granularity)
+                (waits_one nice policy u q (sym x.1 ∙ waits)) refl e) (above_self u granularity)
           ],
         );
         result = refl;
@@ -114,13 +117,14 @@ module _ (nice : ℤ) (idle : Bool) (cost u v : ℤ) (is_cost : (after_charge ni
           changes = changes;
           in_range = change_range (standard_with granularity) lifted (switch_event nice cost).entry.act
               (switch_event nice cost).claim false after changes within_range
-              (lifted_range time (0 ∷ []) (switch_start nice idle u) lifted lift (start_in_order start_time (pos 0 ∷ [])
-              (first_task nice idle ∷ second_task u ∷ []) (start_is nice idle u range)).in_range);
+              (lifted_range time (0 ∷ []) (switch_start nice policy u) lifted lift (start_in_order start_time (pos 0
+              ∷ [])
+              (first_task nice policy ∷ second_task u ∷ []) (start_is nice policy u range)).in_range);
         },
       )
 
   module _ (w : ℤ) (granularity : ℕ) (after : Machine)
-      (s : IsStep (standard_with granularity) (switch_start nice idle u)
+      (s : IsStep (standard_with granularity) (switch_start nice policy u)
       (switch_event nice w) after) where
     -- the two virtual runtimes in the machine that the event of any step finds
     found_first : s.found.runtime 101 ≡ Some cost
@@ -143,13 +147,13 @@ module _ (nice : ℤ) (idle : Bool) (cost u v : ℤ) (is_cost : (after_charge ni
         (value_at s.found.runtime 102 102 pick.0 u refl pick.1 found_second) (pick.3 101 cost refl found_first)
 
 -- 102 is the least where it waits at 0, and 101 where 102 waits at 5 ms
-pub least_second : (nice : ℤ) (idle : Bool) (cost : ℤ) → (after_charge nice idle (pos 0)).runtime 101 ≡ Some cost
-    → pos 0 ≤ℤ cost → IsLeast (after_charge nice idle (pos 0)) 0 (pos 0)
-least_second nice idle cost e h = record {
+pub least_second : (nice : ℤ) (policy : Policy) (cost : ℤ) → (after_charge nice policy (pos 0)).runtime 101 ≡ Some cost
+    → pos 0 ≤ℤ cost → IsLeast (after_charge nice policy (pos 0)) 0 (pos 0)
+least_second nice policy cost e h = record {
   pid = 102;
   queued = inr refl;
   runtime = refl;
-  least = least_of nice idle cost (pos 0)
+  least = least_of nice policy cost (pos 0)
       (pos 0) e h (omega (arith, ints));
 }
 

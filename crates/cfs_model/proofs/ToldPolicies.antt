@@ -6,9 +6,9 @@ use Rattle.std.proofs.lemmas.Bool.{lt-ltb, le-ltb}
 use Rattle.std.proofs.lemmas.List.Elements.{recursion_from_All}
 use Rattle.std.specs.List.{AllByRecursion}
 use Rattle.cfs_model.specs.Laws.{PoliciesAreTold, MoverKeepsPolicy}
-use Rattle.cfs_model.specs.Settings.{Settings}
+use Rattle.cfs_model.specs.Knobs.{KnobsView}
 use Rattle.cfs_model.specs.Machine.{Machine, pairs_of, put_pair, without_task, put}
-use Rattle.cfs_model.specs.Start.{starts_idle, start_machine}
+use Rattle.cfs_model.specs.Start.{policies_at_start, start_machine}
 use Rattle.cfs_model.specs.Claimed.{Claimed, is_named_idle, policies_after, policies_before, policy_in, with_claim}
 use Rattle.cfs_model.specs.Claimed.{claimed, policy_told, nice_at}
 use Rattle.cfs_model.specs.Touch.{touched}
@@ -17,7 +17,7 @@ use Rattle.cfs_model.specs.Reniced.{home_of, IsReniced}
 use Rattle.cfs_model.specs.Step.{after_prev, after_next, Changes, IsStep}
 use Rattle.cfs_model.specs.Run.{AreSteps, last_of}
 use Rattle.cfs_model.proofs.Renice.{reniced_is}
-use Rattle.cfs_model.proofs.StepOrder.{idle-with_pairs}
+use Rattle.cfs_model.proofs.StepOrder.{policy-with_pairs}
 use Rattle.cfs_model.specs.declared.act.Act.{Act}
 use Rattle.cfs_model.specs.declared.act.Act.TheVariants.{Switch, Wake, Born, Shift}
 use Rattle.cfs_model.specs.declared.act.Entry.{Entry}
@@ -26,69 +26,73 @@ use Rattle.cfs_model.specs.declared.act.Way.TheVariants.{Stays, Sleeps, Ends}
 use Rattle.cfs_model.specs.declared.claim.Claim.{Claim}
 use Rattle.cfs_model.specs.declared.idle_line.IdleLine.{IdleLine}
 use Rattle.cfs_model.specs.declared.nice_line.NiceLine.{NiceLine}
+use Rattle.cfs_model.specs.declared.policy.Policy.{Policy}
 
 -- neither a lift nor a change of a nice value changes a policy
-lifted_policies : (time : ℕ) (cpus : List ℕ) (m after : Machine) → IsLifted time cpus m after → after.idle ≡ m.idle
-lifted_policies time [] m after l = ap (λ (x : Machine). x.idle) l
+lifted_policies : (time : ℕ) (cpus : List ℕ) (m after : Machine) → IsLifted time cpus m after → after.policy ≡ m.policy
+lifted_policies time [] m after l = ap (λ (x : Machine). x.policy) l
 lifted_policies time (cpu ∷ cpus) m after l =
-    lifted_policies time cpus l.0 after l.2 ∙ ap (λ (x : Machine). x.idle) l.1.result
+    lifted_policies time cpus l.0 after l.2 ∙ ap (λ (x : Machine). x.policy) l.1.result
 
 found_policies : (time cpu : ℕ) (cpus : List ℕ) (change : Option NiceLine) (m lifted found : Machine)
-    → IsLifted time cpus m lifted → IsReniced cpu change lifted found → found.idle ≡ m.idle
+    → IsLifted time cpus m lifted → IsReniced cpu change lifted found → found.policy ≡ m.policy
 found_policies time cpu cpus change m lifted found l r =
-    ap (λ (x : Machine). x.idle) (reniced_is cpu change lifted found r) ∙ lifted_policies time cpus m lifted l
+    ap (λ (x : Machine). x.policy) (reniced_is cpu change lifted found r) ∙ lifted_policies time cpus m lifted l
 
-idle-after_prev : (m : Machine) (cpu prev : ℕ) (way : Way) → (after_prev m cpu prev way).idle ≡ m.idle
-idle-after_prev m cpu zero way = refl
-idle-after_prev m cpu (suc n) Stays = refl
-idle-after_prev m cpu (suc n) Sleeps = refl
-idle-after_prev m cpu (suc n) Ends = refl
+policy-after_prev : (m : Machine) (cpu prev : ℕ) (way : Way) → (after_prev m cpu prev way).policy ≡ m.policy
+policy-after_prev m cpu zero way = refl
+policy-after_prev m cpu (suc n) Stays = refl
+policy-after_prev m cpu (suc n) Sleeps = refl
+policy-after_prev m cpu (suc n) Ends = refl
 
-idle-after_next : (m : Machine) (cpu next : ℕ) → (after_next m cpu next).idle ≡ m.idle
-idle-after_next m cpu zero = refl
-idle-after_next m cpu (suc n) = refl
+policy-after_next : (m : Machine) (cpu next : ℕ) → (after_next m cpu next).policy ≡ m.policy
+policy-after_next m cpu zero = refl
+policy-after_next m cpu (suc n) = refl
 
 -- a policy that is told of a birth is the one named on its line
 abbrev IsNamedAt : List IdleLine → ℕ → Act → Bool → Type 0
-IsNamedAt idles line act idle = (cpu pid : ℕ) (nice : ℤ) → act ≡ Born cpu pid nice → idle ≡ is_named_idle idles line pid
+IsNamedAt idles line act policy = (cpu pid : ℕ) (nice : ℤ) → act ≡ Born cpu pid nice → policy
+    ≡ is_named_idle idles line pid
 
 -- an event's own change makes of the policies what its act does
-change_policies : (idles : List IdleLine) (line : ℕ) (knobs : Settings) (m : Machine) (act : Act) (claim : Option Claim)
-    (idle : Bool) (after : Machine) → IsNamedAt idles line act idle → Changes knobs m act claim idle after
-    → after.idle ≡ policies_after idles m.idle line act
-change_policies idles line knobs m (Switch cpu prev prev_nice way next next_nice) claim idle after named s =
-    ap (λ (x : Machine). x.idle) s.result ∙ idle-after_next (after_prev m cpu prev way) cpu next
-    ∙ idle-after_prev m cpu prev way
-change_policies idles line knobs m (Wake cpu pid nice) claim idle after named (inl s) =
-    ap (λ (x : Machine). x.idle) s.result
-change_policies idles line knobs m (Wake cpu pid nice) claim idle after named (inr s) =
-    ap (λ (x : Machine). x.idle) s.result
-change_policies idles line knobs m (Born cpu pid nice) claim idle after named s =
-    ap (λ (x : Machine). x.idle) s.result ∙ ap (put m.idle pid) (named cpu pid nice refl)
-change_policies idles line knobs m (Shift orig dest pid nice) claim idle after named s =
+change_policies : (idles : List IdleLine) (line : ℕ) (knobs : KnobsView) (m : Machine) (act : Act) (claim : Option
+    Claim)
+    (policy : Policy) (after : Machine) → IsNamedAt idles line act policy → Changes knobs m act claim policy after
+    → after.policy ≡ policies_after idles m.policy line act
+change_policies idles line knobs m (Switch cpu prev prev_nice way next next_nice) claim policy after named s =
+    ap (λ (x : Machine). x.policy) s.result ∙ policy-after_next (after_prev m cpu prev way) cpu next
+    ∙ policy-after_prev m cpu prev way
+change_policies idles line knobs m (Wake cpu pid nice) claim policy after named (inl s) =
+    ap (λ (x : Machine). x.policy) s.result
+change_policies idles line knobs m (Wake cpu pid nice) claim policy after named (inr s) =
+    ap (λ (x : Machine). x.policy) s.result
+change_policies idles line knobs m (Born cpu pid nice) claim policy after named s =
+    ap (λ (x : Machine). x.policy) s.result ∙ ap (put m.policy pid) (named cpu pid nice refl)
+change_policies idles line knobs m (Shift orig dest pid nice) claim policy after named s =
     let left = without_task m s.place orig pid in
-    ap (λ (x : Machine). x.idle) s.result
-    ∙ idle-with_pairs left s.place (put_pair (pairs_of left s.place) dest pid true)
-    ∙ idle-with_pairs m s.place (put_pair (pairs_of m s.place) orig pid false)
+    ap (λ (x : Machine). x.policy) s.result
+    ∙ policy-with_pairs left s.place (put_pair (pairs_of left s.place) dest pid true)
+    ∙ policy-with_pairs m s.place (put_pair (pairs_of m s.place) orig pid false)
 
-step_policies : (idles : List IdleLine) (knobs : Settings) (m : Machine) (event : Claimed) (after : Machine)
-    → IsNamedAt idles event.entry.line event.entry.act event.idle → IsStep knobs m event after
-    → after.idle ≡ policies_after idles m.idle event.entry.line event.entry.act
+step_policies : (idles : List IdleLine) (knobs : KnobsView) (m : Machine) (event : Claimed) (after : Machine)
+    → IsNamedAt idles event.entry.line event.entry.act event.policy → IsStep knobs m event after
+    → after.policy ≡ policies_after idles m.policy event.entry.line event.entry.act
 step_policies idles knobs m event after named s =
-    change_policies idles event.entry.line knobs s.found event.entry.act event.claim event.idle after named s.changes
+    change_policies idles event.entry.line knobs s.found event.entry.act event.claim event.policy after named s.changes
     ∙ ap (λ policies. policies_after idles policies event.entry.line event.entry.act)
     (found_policies event.entry.time (home_of event.entry.act) (touched event.entry.act) event.nice m s.lifted s.found
     s.is_lifted s.is_reniced)
 
 -- along the entries of a run, whose lines are below the next one's
-run_policies : (knobs : Settings) (claims : List Claim) (nices : List NiceLine) (idles : List IdleLine)
+run_policies : (knobs : KnobsView) (claims : List Claim) (nices : List NiceLine) (idles : List IdleLine)
     (policy : Entry → Bool) → ((e : Entry) → IsNamedAt idles e.line e.act (policy e))
     → (entry : Entry) (rest before : List Entry) (m : Machine) (states : List Machine)
     → AllByRecursion (λ (e : Entry). e.line < entry.line) before
     → AreSteps knobs m (claimed claims nices policy before) states
-    → (last_of m states).idle ≡ policies_before idles m.idle (before ++ entry ∷ rest) entry.line
+    → (last_of m states).policy ≡ policies_before idles m.policy (before ++ entry ∷ rest) entry.line
 run_policies knobs claims nices idles policy named entry rest [] m [] below steps =
-    ap (λ b. cond b (policies_before idles (policies_after idles m.idle entry.line entry.act) rest entry.line) m.idle)
+    ap (λ b. cond b (policies_before idles (policies_after idles m.policy entry.line entry.act) rest entry.line)
+    m.policy)
     (sym (le-ltb entry.line entry.line (omega arith)))
 run_policies knobs claims nices idles policy named entry rest [] m (n ∷ states) below steps = absurd steps
 run_policies knobs claims nices idles policy named entry rest (e ∷ before) m [] below steps = absurd steps
@@ -96,9 +100,9 @@ run_policies knobs claims nices idles policy named entry rest (e ∷ before) m (
     run_policies knobs claims nices idles policy named entry rest before n states below.1 steps.1
     ∙ ap (λ policies. policies_before idles policies (before ++ entry ∷ rest) entry.line)
     (step_policies idles knobs m (with_claim claims nices policy e) n (named e) steps.0)
-    ∙ ap (λ b. cond b (policies_before idles (policies_after idles m.idle e.line e.act) (before ++ entry ∷ rest)
+    ∙ ap (λ b. cond b (policies_before idles (policies_after idles m.policy e.line e.act) (before ++ entry ∷ rest)
     entry.line)
-    m.idle) (sym (lt-ltb e.line entry.line below.0))
+    m.policy) (sym (lt-ltb e.line entry.line below.0))
 
 -- the policies told of a record's entries are those named, at births
 told_named : (idles : List IdleLine) (policies : ℕ → Bool) (entries : List Entry) (e : Entry)
@@ -127,8 +131,8 @@ lines_below (e ∷ before) entry rest h = (
 pub policies_are_told : PoliciesAreTold
 policies_are_told knobs start floors tasks claims nices idles before rest entry rise run =
     let entries = before ++ entry ∷ rest in
-    run_policies knobs claims nices idles (policy_in idles (starts_idle tasks) entries)
-    (told_named idles (starts_idle tasks) entries) entry rest before (start_machine start floors tasks) run.states
+    run_policies knobs claims nices idles (policy_in idles (policies_at_start tasks) entries)
+    (told_named idles (policies_at_start tasks) entries) entry rest before (start_machine start floors tasks) run.states
     (lines_below before entry rest rise) run.steps
 
 pub mover_keeps_policy : MoverKeepsPolicy
@@ -136,7 +140,7 @@ mover_keeps_policy knobs start floors tasks claims nices idles before rest entry
     run
     moves lift renice =
     let entries = before ++ entry ∷ rest in
-    let policies = policies_before idles (starts_idle tasks) entries in
+    let policies = policies_before idles (policies_at_start tasks) entries in
     ap (λ f. f pid) (found_policies entry.time (home_of entry.act) (touched entry.act) (nice_at nices entry.line)
     (last_of (start_machine start floors tasks) run.states) lifted found lift renice
     ∙ policies_are_told knobs start floors tasks claims nices idles before rest entry rise run)

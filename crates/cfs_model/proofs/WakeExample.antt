@@ -13,9 +13,10 @@ use Rattle.cfs_model.proofs.Range.{lifted_range, change_range}
 use Rattle.cfs_model.proofs.Worked.{of_one, value_at, can_charge_none}
 use Rattle.cfs_model.specs.declared.task.Place.TheVariants.{Run, Wait, Rest}
 use Rattle.cfs_model.specs.declared.task.Task.{Task}
+use Rattle.cfs_model.specs.declared.policy.Policy.TheVariants.{Normal}
 
 abbrev the_task : Task
-the_task = record { pid = 101; nice = pos 0; idle = false; cpu = 0; place = Rest; v = pos 0 }
+the_task = record { pid = 101; nice = pos 0; policy = Normal; cpu = 0; place = Rest; v = pos 0 }
 
 start_is : IsStart (pos 10000000 ∷ []) (the_task ∷ [])
 start_is = record {

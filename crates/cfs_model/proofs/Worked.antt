@@ -42,14 +42,14 @@ below_at f pid other u v w e g h le = subst (λ x. u ≤ℤ x) (value_at f pid o
 -- a charge where one known task runs
 pub can_charge_one : (m : Machine) (cpu time pid : ℕ) (nice v : ℤ) → ((q : ℕ) → Stands m Run cpu q → pid ≡ q)
     → m.nice pid ≡ Some nice → m.runtime pid ≡ Some v
-    → cost_at m cpu time nice (m.idle pid) ≤ greatest_runtime
-    → (v +ℤ pos (cost_at m cpu time nice (m.idle pid))) ≤ℤ pos greatest_runtime → CanCharge m cpu time
+    → cost_at m cpu time nice (m.policy pid) ≤ greatest_runtime
+    → (v +ℤ pos (cost_at m cpu time nice (m.policy pid))) ≤ℤ pos greatest_runtime → CanCharge m cpu time
 can_charge_one m cpu time pid nice v one e f low high q n w runs g h =
-    let cost_is = ap₂ (λ p x. cost_at m cpu time x (m.idle p)) (one q runs)
+    let cost_is = ap₂ (λ p x. cost_at m cpu time x (m.policy p)) (one q runs)
     (value_at m.nice pid q nice n (one q runs) e g) in (
       subst (λ c. c ≤ greatest_runtime) cost_is low,
       subst (λ c. (w +ℤ pos c) ≤ℤ pos greatest_runtime) cost_is
-          (subst (λ x. (x +ℤ pos (cost_at m cpu time nice (m.idle pid))) ≤ℤ pos greatest_runtime)
+          (subst (λ x. (x +ℤ pos (cost_at m cpu time nice (m.policy pid))) ≤ℤ pos greatest_runtime)
           (value_at m.runtime pid q v w (one q runs) f h) high),
     )
 

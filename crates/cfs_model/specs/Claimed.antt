@@ -10,6 +10,7 @@ use Rattle.cfs_model.specs.declared.claim.Claim.{Claim}
 use Rattle.cfs_model.specs.declared.claim.ClaimSort.{ClaimSort}
 use Rattle.cfs_model.specs.declared.idle_line.IdleLine.{IdleLine}
 use Rattle.cfs_model.specs.declared.nice_line.NiceLine.{NiceLine}
+use Rattle.cfs_model.specs.declared.policy.Policy.{Policy}
 
 -- an event with the claim and the change of a nice value on its line, if there are such, and with the policy of the
 -- task that is born or moves: whether it is the idle policy
@@ -17,7 +18,7 @@ pub record Claimed : Type 0 where
   pub entry : Entry
   pub claim : Option Claim
   pub nice : Option NiceLine
-  pub idle : Bool
+  pub policy : Policy
 
 -- the claim on a line
 abbrev pub claim_at : List Claim → ℕ → Option Claim
@@ -62,7 +63,7 @@ with_claim claims nices policy entry = record {
   entry = entry;
   claim = claim_at claims entry.line;
   nice = nice_at nices entry.line;
-  idle = policy entry;
+  policy = policy entry;
 }
 
 -- each event with what is said on its line, and its policy

@@ -1,9 +1,9 @@
 -- Small recordings against the definitions of a step and of a run (this project's profile), each both ways: the value
 -- at which there is a step, and that there is none at any other.
 use Rattle.std.specs.Prelude.{◌≡◌, ℕ, Bool, true, false, ◌≤◌, ℤ, pos, ◌≤ℤ◌, ◌↔◌, Some, None, List, [], ◌∷◌}
-use Rattle.cfs_model.specs.Settings.{Settings}
+use Rattle.cfs_model.specs.Knobs.{KnobsView}
 use Rattle.cfs_model.specs.Machine.{Machine}
-use Rattle.cfs_model.specs.Start.{start_machine, starts_idle}
+use Rattle.cfs_model.specs.Start.{start_machine, policies_at_start}
 use Rattle.cfs_model.specs.Claimed.{Claimed, claimed, policy_in}
 use Rattle.cfs_model.specs.Step.{IsStep}
 use Rattle.cfs_model.specs.Run.{IsRun}
@@ -16,17 +16,18 @@ use Rattle.cfs_model.specs.declared.claim.ClaimSort.TheVariants.{At}
 use Rattle.cfs_model.specs.declared.idle_line.IdleLine.{IdleLine}
 use Rattle.cfs_model.specs.declared.task.Place.TheVariants.{Run, Wait, Rest}
 use Rattle.cfs_model.specs.declared.task.Task.{Task}
+use Rattle.cfs_model.specs.declared.policy.Policy.TheVariants.{Normal}
 
 -- the default settings, but for the granularity
-abbrev pub standard_with : ℕ → Settings
+abbrev pub standard_with : ℕ → KnobsView
 standard_with granularity = record { granularity = granularity; credit = 3000000; debit = 3000000; slack = 100000 }
 
 -- the default settings
-abbrev pub standard : Settings
+abbrev pub standard : KnobsView
 standard = standard_with 1000000
 
 -- a machine has a next one by an event
-abbrev pub HasStep : Settings → Machine → Claimed → Type 0
+abbrev pub HasStep : KnobsView → Machine → Claimed → Type 0
 HasStep knobs before event = (after : Machine) × IsStep knobs before event after
 
 -- a claim of an enqueue
@@ -39,9 +40,9 @@ start_time = 100000000000
 
 -- one processor, where 101 runs at 0 with a nice value and a policy, and 102 waits at u
 abbrev pub switch_start : ℤ → Bool → ℤ → Machine
-switch_start nice idle u = start_machine start_time (pos 0 ∷ []) (
-    record { pid = 101; nice = nice; idle = idle; cpu = 0; place = Run; v = pos 0 }
-    ∷ record { pid = 102; nice = pos 0; idle = false; cpu = 0; place = Wait; v = u } ∷ [])
+switch_start nice policy u = start_machine start_time (pos 0 ∷ []) (
+    record { pid = 101; nice = nice; policy = policy; cpu = 0; place = Run; v = pos 0 }
+    ∷ record { pid = 102; nice = pos 0; policy = Normal; cpu = 0; place = Wait; v = u } ∷ [])
 
 -- 4 ms later it goes from 101, which stays, to 102; the claim puts 101 back at w
 abbrev pub switch_event : ℤ → ℤ → Claimed
@@ -49,7 +50,7 @@ switch_event nice w = record {
   entry = record { line = 1; time = 100004000000; act = Switch 0 101 nice Stays 102 (pos 0) };
   claim = Some (at_claim 1 101 w);
   nice = None;
-  idle = false;
+  policy = Normal;
 }
 
 -- 101 was charged 4 ms, and is put back at just that
@@ -93,8 +94,8 @@ NiceChangeExample = (printed w : ℤ)
 -- two processors with floors 3 and 100, where 101 waits at 5 at the first and 102 runs there at 3
 abbrev pub migration_start : Machine
 migration_start = start_machine start_time (pos 3 ∷ pos 100 ∷ []) (
-    record { pid = 101; nice = pos 0; idle = false; cpu = 0; place = Wait; v = pos 5 }
-    ∷ record { pid = 102; nice = pos 0; idle = false; cpu = 0; place = Run; v = pos 3 } ∷ [])
+    record { pid = 101; nice = pos 0; policy = Normal; cpu = 0; place = Wait; v = pos 5 }
+    ∷ record { pid = 102; nice = pos 0; policy = Normal; cpu = 0; place = Run; v = pos 3 } ∷ [])
 
 -- 101 moves to the second; the claim places it at w
 abbrev pub migration_event : ℕ → ℤ → Claimed
@@ -102,7 +103,7 @@ migration_event time w = record {
   entry = record { line = 1; time = time; act = Shift 0 1 101 (pos 0) };
   claim = Some (at_claim 1 101 w);
   nice = None;
-  idle = false;
+  policy = Normal;
 }
 
 -- at once: 5, less the first floor, and above the second
@@ -120,7 +121,7 @@ renicing_migration pid printed w = record {
   entry = record { line = 1; time = start_time; act = Shift 0 1 101 printed };
   claim = Some (at_claim 1 101 w);
   nice = Some (record { line = 1; pid = pid; nice = pos 5 });
-  idle = false;
+  policy = Normal;
 }
 
 -- the task stands at the origin, so it prints the new value there; where it goes hangs on no nice value
@@ -131,8 +132,8 @@ MovedNiceExample = (printed w : ℤ)
 -- the same but that 102 runs at the second
 abbrev pub away_start : Machine
 away_start = start_machine start_time (pos 3 ∷ pos 100 ∷ []) (
-    record { pid = 101; nice = pos 0; idle = false; cpu = 0; place = Wait; v = pos 5 }
-    ∷ record { pid = 102; nice = pos 0; idle = false; cpu = 1; place = Run; v = pos 3 } ∷ [])
+    record { pid = 101; nice = pos 0; policy = Normal; cpu = 0; place = Wait; v = pos 5 }
+    ∷ record { pid = 102; nice = pos 0; policy = Normal; cpu = 1; place = Run; v = pos 3 } ∷ [])
 
 -- the nice value of a task that stands at the destination doesn't change there
 abbrev pub AwayNiceExample : Type 0
@@ -141,7 +142,7 @@ AwayNiceExample = (printed w : ℤ) → ¬ HasStep standard away_start (renicing
 -- one processor with floor 10 ms, where 101 rests at 0
 abbrev pub wake_start : Machine
 wake_start = start_machine start_time (pos 10000000 ∷ []) (
-    record { pid = 101; nice = pos 0; idle = false; cpu = 0; place = Rest; v = pos 0 } ∷ [])
+    record { pid = 101; nice = pos 0; policy = Normal; cpu = 0; place = Rest; v = pos 0 } ∷ [])
 
 -- 101 is woken; the claim places it at w
 abbrev pub wake_event : ℤ → Claimed
@@ -149,7 +150,7 @@ wake_event w = record {
   entry = record { line = 1; time = start_time; act = Wake 0 101 (pos 0) };
   claim = Some (at_claim 1 101 w);
   nice = None;
-  idle = false;
+  policy = Normal;
 }
 
 -- from 3 ms below the floor to the floor
@@ -159,7 +160,7 @@ WakeExample = (w : ℤ) → HasStep standard wake_start (wake_event w) ↔ ((pos
 -- one processor, where 102 rests at 0
 abbrev pub idle_start : Machine
 idle_start = start_machine start_time (pos 0 ∷ []) (
-    record { pid = 102; nice = pos 0; idle = false; cpu = 0; place = Rest; v = pos 0 } ∷ [])
+    record { pid = 102; nice = pos 0; policy = Normal; cpu = 0; place = Rest; v = pos 0 } ∷ [])
 
 -- 102 is woken 1 ms after the start and placed at 0, woken again 0.05 ms later, and picked at the time given
 abbrev pub idle_events : ℕ → List Claimed
@@ -176,7 +177,7 @@ IdleExample = (time : ℕ) → 100001050000 ≤ time
 -- two processors with floor 0, where 101 runs at the first
 abbrev pub birth_start : Machine
 birth_start = start_machine start_time (pos 0 ∷ pos 0 ∷ []) (
-    record { pid = 101; nice = pos 0; idle = false; cpu = 0; place = Run; v = pos 0 } ∷ [])
+    record { pid = 101; nice = pos 0; policy = Normal; cpu = 0; place = Run; v = pos 0 } ∷ [])
 
 -- 101 leaves the first in a way, and 1 ms later a task of that pid is born at the second; the claim places it at w
 abbrev pub birth_events : Way → ℤ → List Claimed
@@ -191,12 +192,12 @@ BirthExample = (way : Way) (w : ℤ)
 
 -- one processor, where 101 runs at 0, of the idle policy or not, and 102 rests at 0
 abbrev pub rebirth_tasks : Bool → List Task
-rebirth_tasks idle =
-    record { pid = 101; nice = pos 0; idle = idle; cpu = 0; place = Run; v = pos 0 }
-    ∷ record { pid = 102; nice = pos 0; idle = false; cpu = 0; place = Rest; v = pos 0 } ∷ []
+rebirth_tasks policy =
+    record { pid = 101; nice = pos 0; policy = policy; cpu = 0; place = Run; v = pos 0 }
+    ∷ record { pid = 102; nice = pos 0; policy = Normal; cpu = 0; place = Rest; v = pos 0 } ∷ []
 
 abbrev pub rebirth_start : Bool → Machine
-rebirth_start idle = start_machine start_time (pos 0 ∷ []) (rebirth_tasks idle)
+rebirth_start policy = start_machine start_time (pos 0 ∷ []) (rebirth_tasks policy)
 
 -- at once 101 ends, a task of that pid is born at nice 5, and it is picked; 4 ms later 102 is woken
 abbrev pub rebirth_entries : List Entry
@@ -208,9 +209,9 @@ rebirth_entries =
 
 -- the claims place the new task at 0 and 102 at w; the companion names who is of the idle policy
 abbrev pub rebirth_events : Bool → List IdleLine → ℤ → List Claimed
-rebirth_events idle idles w =
+rebirth_events policy idles w =
     claimed (at_claim 2 101 (pos 0) ∷ at_claim 4 102 w ∷ []) []
-    (policy_in idles (starts_idle (rebirth_tasks idle)) rebirth_entries) rebirth_entries
+    (policy_in idles (policies_at_start (rebirth_tasks policy)) rebirth_entries) rebirth_entries
 
 -- a task that is named at its birth is of the idle policy, whatever its pid was of before: 4 ms cost 1365333333, which
 -- is then the floor, and 102 is placed from 3 ms below that to it
@@ -232,7 +233,7 @@ strange_event pid w = record {
   entry = record { line = 1; time = 100001000000; act = Born 1 102 (pos 0) };
   claim = Some (at_claim 1 102 w);
   nice = Some (record { line = 1; pid = pid; nice = pos 5 });
-  idle = false;
+  policy = Normal;
 }
 
 -- no task stands there, not even the one that is only being born
@@ -245,7 +246,7 @@ idle_switch w = record {
   entry = record { line = 1; time = 100001000000; act = Switch 0 101 (pos 0) Stays 0 (pos 0) };
   claim = Some (at_claim 1 101 w);
   nice = None;
-  idle = false;
+  policy = Normal;
 }
 
 -- a processor doesn't go idle beside the task that was just put back

@@ -3,31 +3,31 @@
 -- ever idled beside a waiting task.
 use Rattle.std.specs.Prelude.{◌≡◌, ℕ, ◌≤◌, min, max, List, [], ◌∷◌, ◌++◌}
 use Rattle.cfs_model.specs.Limits.{greatest_setting}
-use Rattle.cfs_model.specs.Settings.{Settings, AreInRange, settings_by, value_at}
+use Rattle.cfs_model.specs.Knobs.{KnobsView, AreInRange, settings_by, value_at}
 use Rattle.cfs_model.specs.declared.setting.Setting.{Setting}
 use Rattle.cfs_model.specs.Machine.{Machine}
 use Rattle.cfs_model.specs.Claimed.{Claimed}
 use Rattle.cfs_model.specs.Run.{IsRun}
 
 -- each setting is at most the other's
-abbrev pub AtMost : Settings → Settings → Type 0
+abbrev pub AtMost : KnobsView → KnobsView → Type 0
 AtMost less more = (which : Setting) → value_at less which ≤ value_at more which
 
 -- of each setting the lesser one
-abbrev pub lesser : Settings → Settings → Settings
+abbrev pub lesser : KnobsView → KnobsView → KnobsView
 lesser one other = settings_by (λ which. min (value_at one which) (value_at other which))
 
 -- of each setting the larger one
-abbrev pub larger : Settings → Settings → Settings
+abbrev pub larger : KnobsView → KnobsView → KnobsView
 larger one other = settings_by (λ which. max (value_at one which) (value_at other which))
 
 -- the events are a run at these settings, and each is at most that of any settings at which they are one
-pub record AreLeast (start : ℕ) (first : Machine) (events : List Claimed) (knobs : Settings) : Type 0 where
+pub record AreLeast (start : ℕ) (first : Machine) (events : List Claimed) (knobs : KnobsView) : Type 0 where
   pub run : IsRun knobs start first events
-  pub least : (other : Settings) → IsRun other start first events → AtMost knobs other
+  pub least : (other : KnobsView) → IsRun other start first events → AtMost knobs other
 
 -- each setting as large as it may be
-abbrev pub greatest_settings : Settings
+abbrev pub greatest_settings : KnobsView
 greatest_settings = settings_by (λ which. greatest_setting)
 
 -- the line of an event up to which the events are a run at no settings in range, though those before it are one at some
@@ -37,5 +37,5 @@ pub record IsFirstBadAtAll (start : ℕ) (first : Machine) (events : List Claime
   pub rest : List Claimed
   pub whole : events ≡ before ++ event ∷ rest
   pub line_is : event.entry.line ≡ line
-  pub runs : (knobs : Settings) × AreInRange knobs × IsRun knobs start first before
-  pub ends : (knobs : Settings) → AreInRange knobs → ¬ IsRun knobs start first (before ++ event ∷ [])
+  pub runs : (knobs : KnobsView) × AreInRange knobs × IsRun knobs start first before
+  pub ends : (knobs : KnobsView) → AreInRange knobs → ¬ IsRun knobs start first (before ++ event ∷ [])

@@ -3,7 +3,7 @@
 pub mod Limits
 pub mod Nice
 pub mod Charge
-pub mod Settings
+pub mod Knobs
 pub mod Options
 pub mod Machine
 pub mod Start
@@ -13,7 +13,7 @@ pub mod Lives
 pub mod Lifted
 pub mod Reniced
 pub mod Step
-pub mod Idle
+pub mod Idling
 pub mod Run
 pub mod Order
 pub mod Least

@@ -15,12 +15,12 @@ use Rattle.cfs_model.specs.declared.task.Place.TheVariants.{Run}
 -- what a task of this nice value and policy is charged at this processor and time, in virtual nanoseconds: for the time
 -- since the processor's mark
 abbrev pub cost_at : Machine → ℕ → ℕ → ℤ → Bool → ℕ
-cost_at m cpu time nice idle = charge_of (time - m.mark cpu) (task_weight nice idle)
+cost_at m cpu time nice policy = charge_of (time - m.mark cpu) (task_weight nice policy)
 
 -- the virtual runtime of a task that is charged
 abbrev pub charged_runtime : Machine → ℕ → ℕ → ℕ → Option ℤ
 charged_runtime m cpu time pid =
-    option_and_then (λ nice. option_map (λ v. v +ℤ pos (cost_at m cpu time nice (m.idle pid))) (m.runtime pid))
+    option_and_then (λ nice. option_map (λ v. v +ℤ pos (cost_at m cpu time nice (m.policy pid))) (m.runtime pid))
     (m.nice pid)
 
 -- who runs at the processor is charged, and its mark is the time
@@ -34,8 +34,8 @@ charged m cpu time = record m {
 abbrev pub CanCharge : Machine → ℕ → ℕ → Type 0
 CanCharge m cpu time =
     (pid : ℕ) (nice v : ℤ) → Stands m Run cpu pid → m.nice pid ≡ Some nice → m.runtime pid ≡ Some v
-    → (cost_at m cpu time nice (m.idle pid) ≤ greatest_runtime)
-    × ((v +ℤ pos (cost_at m cpu time nice (m.idle pid))) ≤ℤ pos greatest_runtime)
+    → (cost_at m cpu time nice (m.policy pid) ≤ greatest_runtime)
+    × ((v +ℤ pos (cost_at m cpu time nice (m.policy pid))) ≤ℤ pos greatest_runtime)
 
 -- v is the least virtual runtime of those who run or wait at the processor
 pub record IsLeast (m : Machine) (cpu : ℕ) (v : ℤ) : Type 0 where

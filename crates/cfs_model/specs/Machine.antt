@@ -21,7 +21,7 @@ pub record Machine : Type 0 where
   -- the nice value of each task
   pub nice : ℕ → Option ℤ
   -- who is of the idle policy, as told at the start or at a task's birth; of a pid without a task it says nothing
-  pub idle : ℕ → Bool
+  pub policy : ℕ → Bool
   -- the floor of each processor's runqueue, in virtual nanoseconds
   pub floor : ℕ → ℤ
   -- the time of the last charge at each processor, in nanoseconds
@@ -86,7 +86,7 @@ with_nice m pid nice = record m { nice = put m.nice pid (Some nice) }
 
 -- the pid is of the idle policy, or not
 abbrev pub with_policy : Machine → ℕ → Bool → Machine
-with_policy m pid idle = record m { idle = put m.idle pid idle }
+with_policy m pid policy = record m { policy = put m.policy pid policy }
 
 -- the pid has neither a virtual runtime nor a nice value
 abbrev pub without_values : Machine → ℕ → Machine

@@ -22,9 +22,9 @@ abbrev pub weight_of : ℤ → ℕ
 weight_of nice = slice_index weights (nat_abs (nice +ℤ pos 20))
 
 -- the weight of a task of the idle policy, whatever its nice value: less than that of the nicest fair task
-abbrev pub idle_weight : ℕ
-idle_weight = 3
+abbrev pub idle_policy_weight : ℕ
+idle_policy_weight = 3
 
 -- the weight of a task of this nice value, which is of the idle policy or not
 abbrev pub task_weight : ℤ → Bool → ℕ
-task_weight nice idle = if idle then idle_weight else weight_of nice
+task_weight nice policy = if policy then idle_policy_weight else weight_of nice

@@ -23,8 +23,8 @@ abbrev pub task_of : List Task → ℕ → Option Task
 task_of tasks pid = find (λ t. t.pid == pid) tasks
 
 -- who is of the idle policy at the start
-abbrev pub starts_idle : List Task → ℕ → Bool
-starts_idle tasks pid = option_map_or (λ t. t.idle) (task_of tasks pid) false
+abbrev pub policies_at_start : List Task → ℕ → Bool
+policies_at_start tasks pid = option_map_or (λ t. t.policy) (task_of tasks pid) false
 
 -- each task in its place with its values, and each processor with its floor and the start time as its mark; a
 -- processor past the list of floors has floor 0
@@ -35,7 +35,7 @@ start_machine start floors tasks = record {
   resting = named_in tasks Rest;
   runtime = λ pid. option_map (λ t. t.v) (task_of tasks pid);
   nice = λ pid. option_map (λ t. t.nice) (task_of tasks pid);
-  idle = starts_idle tasks;
+  policy = policies_at_start tasks;
   floor = λ cpu. slice_index_or floors cpu (pos 0);
   mark = λ cpu. start;
 }

@@ -4,7 +4,7 @@
 -- of a placement, the claims and what a migration keeps are this project's profile.
 use Rattle.std.specs.Prelude.{◌≡◌, ◌≢◌, ℕ, Bool, zero, suc, Option, Some, None, ℤ, pos, ◌+ℤ◌, ◌-ℤ◌, ◌≤ℤ◌, ◌⊎◌, ⊤}
 use Rattle.std.specs.Int.{int_max}
-use Rattle.cfs_model.specs.Settings.{Settings}
+use Rattle.cfs_model.specs.Knobs.{KnobsView}
 use Rattle.cfs_model.specs.Machine.{Machine, Stands, NobodyStands, IsQueued, AreValuesInRange, with_task, without_task}
 use Rattle.cfs_model.specs.Machine.{with_move, with_runtime, with_nice, with_policy, without_values}
 use Rattle.cfs_model.specs.Claimed.{Claimed, ClaimSays}
@@ -20,6 +20,7 @@ use Rattle.cfs_model.specs.declared.claim.ClaimSort.{ClaimSort}
 use Rattle.cfs_model.specs.declared.claim.ClaimSort.TheVariants.{At, Pass}
 use Rattle.cfs_model.specs.declared.task.Place.{Place}
 use Rattle.cfs_model.specs.declared.task.Place.TheVariants.{Run, Wait, Rest}
+use Rattle.cfs_model.specs.declared.policy.Policy.{Policy}
 
 -- the pid is what runs at the processor; pid 0 where nobody does
 abbrev pub IsCurrent : Machine → ℕ → ℕ → Type 0
@@ -57,7 +58,7 @@ after_next m cpu zero = m
 after_next m cpu (suc n) = with_move m (suc n) Wait cpu Run cpu
 
 -- the processor goes from one task to another
-pub record IsSwitch (knobs : Settings) (m : Machine) (cpu prev : ℕ) (prev_nice : ℤ) (way : Way) (next : ℕ)
+pub record IsSwitch (knobs : KnobsView) (m : Machine) (cpu prev : ℕ) (prev_nice : ℤ) (way : Way) (next : ℕ)
     (next_nice : ℤ) (claim : Option Claim) (after : Machine) : Type 0 where
   pub differ : prev ≢ next
   pub current : IsCurrent m cpu prev
@@ -77,7 +78,7 @@ pub record IsWakeQueued (m : Machine) (cpu pid : ℕ) (nice : ℤ) (claim : Opti
 
 -- a task that rests is woken: it waits, with a virtual runtime from its own or the floor less the credit, whichever is
 -- greater, to its own or the floor, whichever is greater
-pub record IsWakeResting (knobs : Settings) (m : Machine) (cpu pid : ℕ) (nice : ℤ) (claim : Option Claim)
+pub record IsWakeResting (knobs : KnobsView) (m : Machine) (cpu pid : ℕ) (nice : ℤ) (claim : Option Claim)
     (after : Machine) : Type 0 where
   pub rests : Stands m Rest cpu pid
   pub prio : m.nice pid ≡ Some nice
@@ -91,14 +92,14 @@ pub record IsWakeResting (knobs : Settings) (m : Machine) (cpu pid : ℕ) (nice 
 
 -- a task that stands nowhere is born: it waits, with a virtual runtime from the floor to the floor and the debit, and
 -- with the policy told
-pub record IsBirth (knobs : Settings) (m : Machine) (cpu pid : ℕ) (nice : ℤ) (claim : Option Claim) (idle : Bool)
+pub record IsBirth (knobs : KnobsView) (m : Machine) (cpu pid : ℕ) (nice : ℤ) (claim : Option Claim) (policy : Policy)
     (after : Machine) : Type 0 where
   pub nowhere : (place : Place) (other : ℕ) → ¬ Stands m place other pid
   pub placed : ℤ
   pub claimed : ClaimSays claim At pid placed
   pub from : m.floor cpu ≤ℤ placed
   pub to : placed ≤ℤ (m.floor cpu +ℤ pos knobs.debit)
-  pub result : after ≡ with_policy (with_nice (with_runtime (with_task m Wait cpu pid) pid placed) pid nice) pid idle
+  pub result : after ≡ with_policy (with_nice (with_runtime (with_task m Wait cpu pid) pid placed) pid nice) pid policy
 
 -- a task that waits moves by one sort of claim, one that rests by the other, and one that runs by none
 abbrev pub MovesBy : Place → ClaimSort → Type 0
@@ -108,14 +109,14 @@ MovesBy _ _ = ⊥
 
 -- a task moves: it keeps its place, and its virtual runtime less the floor; nice value and policy are those that are
 -- told
-pub record IsMigration (m : Machine) (orig dest pid : ℕ) (nice : ℤ) (claim : Option Claim) (idle : Bool)
+pub record IsMigration (m : Machine) (orig dest pid : ℕ) (nice : ℤ) (claim : Option Claim) (policy : Policy)
     (after : Machine)
     : Type 0 where
   pub differ : orig ≢ dest
   pub place : Place
   pub stands : Stands m place orig pid
   pub prio : m.nice pid ≡ Some nice
-  pub policy : m.idle pid ≡ idle
+  pub policy : m.policy pid ≡ policy
   pub own : ℤ
   pub runtime : m.runtime pid ≡ Some own
   pub sort : ClaimSort
@@ -124,20 +125,20 @@ pub record IsMigration (m : Machine) (orig dest pid : ℕ) (nice : ℤ) (claim :
   pub result : after ≡ with_runtime (with_move m pid place orig place dest) pid ((own -ℤ m.floor orig) +ℤ m.floor dest)
 
 -- what an event changes in the machine as it finds it
-abbrev pub Changes : Settings → Machine → Act → Option Claim → Bool → Machine → Type 0
-Changes knobs m (Switch cpu prev prev_nice way next next_nice) claim idle after =
+abbrev pub Changes : KnobsView → Machine → Act → Option Claim → Bool → Machine → Type 0
+Changes knobs m (Switch cpu prev prev_nice way next next_nice) claim policy after =
     IsSwitch knobs m cpu prev prev_nice way next next_nice claim after
-Changes knobs m (Wake cpu pid nice) claim idle after =
+Changes knobs m (Wake cpu pid nice) claim policy after =
     IsWakeQueued m cpu pid nice claim after ⊎ IsWakeResting knobs m cpu pid nice claim after
-Changes knobs m (Born cpu pid nice) claim idle after = IsBirth knobs m cpu pid nice claim idle after
-Changes knobs m (Shift orig dest pid nice) claim idle after = IsMigration m orig dest pid nice claim idle after
+Changes knobs m (Born cpu pid nice) claim policy after = IsBirth knobs m cpu pid nice claim policy after
+Changes knobs m (Shift orig dest pid nice) claim policy after = IsMigration m orig dest pid nice claim policy after
 
 -- the event leads from a machine to the next: by the lift, the change of a nice value and the event's own change, and
 -- with every value in range
-pub record IsStep (knobs : Settings) (before : Machine) (event : Claimed) (after : Machine) : Type 0 where
+pub record IsStep (knobs : KnobsView) (before : Machine) (event : Claimed) (after : Machine) : Type 0 where
   pub lifted : Machine
   pub is_lifted : IsLifted event.entry.time (touched event.entry.act) before lifted
   pub found : Machine
   pub is_reniced : IsReniced (home_of event.entry.act) event.nice lifted found
-  pub changes : Changes knobs found event.entry.act event.claim event.idle after
+  pub changes : Changes knobs found event.entry.act event.claim event.policy after
   pub in_range : AreValuesInRange after

@@ -2,7 +2,7 @@ ghost use Rattle.std.specs.Prelude.{◌≡◌, ◌≤◌, ◌↔◌, IsTrue};
 ghost use Rattle.std.specs.List.{AllByRecursion};
 ghost use Rattle.cfs_model.specs.Least.{larger};
 ghost use Rattle.cfs_model.specs.Limits.{greatest_setting};
-ghost use Rattle.cfs_model.specs.Settings.{AreInRange, Settings, nothing, only, settings_by, value_at, with_value};
+ghost use Rattle.cfs_model.specs.Knobs.{AreInRange, KnobsView, nothing, only, settings_by, value_at, with_value};
 
 use crate::limits::GREATEST_SETTING;
 use crate::setting::Setting;
@@ -19,7 +19,7 @@ pub struct Amounts {
 }
 
 impl Model for Amounts {
-    ghost Value = { Settings };
+    ghost Value = { KnobsView };
 
     ghost view = { λ a. record { granularity = a.granularity; credit = a.credit; debit = a.debit; slack = a.slack } };
 

@@ -1,7 +1,7 @@
 ghost use Rattle.std.specs.Prelude.{◌≡◌, ◌≤◌, ◌↔◌, IsSome, IfSome};
 ghost use Rattle.cfs_model.specs.Least.{greatest_settings};
 ghost use Rattle.cfs_model.specs.Limits.{greatest_setting};
-ghost use Rattle.cfs_model.specs.Settings.{AreInRange, Settings, settings_by, value_at, with_value};
+ghost use Rattle.cfs_model.specs.Knobs.{AreInRange, KnobsView, settings_by, value_at, with_value};
 ghost use Rattle.cfs_model.specs.Options.{standard_value};
 
 use crate::amounts::Amounts;
@@ -16,9 +16,9 @@ pub struct Knobs {
 }
 
 impl Model for Knobs {
-    ghost use Rattle.cfs_model.specs.Settings.{Settings, AreInRange};
+    ghost use Rattle.cfs_model.specs.Knobs.{KnobsView, AreInRange};
 
-    ghost Value = { Settings };
+    ghost Value = { KnobsView };
 
     ghost view = { λ k. k.amounts };
 

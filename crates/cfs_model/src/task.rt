@@ -18,7 +18,7 @@ pub struct Task {
     pub pid: u32,
     pub nice: Nice,
     /// Whether it is of the idle policy (`SCHED_IDLE`), and weighs so, whatever its nice value.
-    pub idle: bool,
+    pub policy: Policy,
     /// The processor at which it stands.
     pub cpu: u32,
     pub place: Place,

@@ -39,15 +39,19 @@ pub fn weight(nice: Nice) -> u32
 }
 
 /// The weight of a task of this nice value and policy: `IDLE_WEIGHT` where it is of the idle policy. It is above 0.
-pub fn weight_of(nice: Nice, idle: bool) -> u32
-    ensures policy { result ≡ task_weight nice idle }
+pub fn weight_of(nice: Nice, policy: Policy) -> u32
+    ensures policy { result ≡ task_weight nice policy }
     ensures positive { 0 < result }
 {
-    if idle { IDLE_WEIGHT } else { weight(nice) }
+    if policy {
+        IDLE_POLICY_WEIGHT
+    } else {
+        weight(nice)
+    }
 }
 
 /// The weight of a task of the idle policy.
-const IDLE_WEIGHT: u32 = 3;
+const IDLE_POLICY_WEIGHT: u32 = 3;
 
 /// The virtual nanoseconds that `delta` nanoseconds of running time cost at this weight.
 pub fn charge(delta: u64, weight: u32) -> Option<i64>

@@ -9,7 +9,7 @@ use Rattle.companion_file.specs.declared.fault.Refusal.TheVariants as refusals
 use Rattle.companion_file.specs.Shape.{Shape}
 use Rattle.companion_file.specs.Earlier.{Said, is_task}
 use Rattle.companion_file.specs.Tests.{fault_of}
-use Rattle.companion_file.specs.Draft.{Adds, AddsTested, IsTaskPlace}
+use Rattle.companion_file.specs.Draft.{Adds, AddsTested, IsTaskIndex}
 
 pub adds_tested : (old : Said) (x : Shape) (r : Result Unit Refusal) (new : Said) → fault_of old x ≡ None
     → Adds old x r new → AddsTested old x r new
@@ -17,11 +17,11 @@ adds_tested old x (Ok u) new none adds = (none, adds)
 adds_tested old x (Err (refusals.Bad cause)) new none adds = absurd adds
 adds_tested old x (Err refusals.Memory) new none adds = tt
 
-pub is_there : (tasks : List Task) (pid place : ℕ) → IsTaskPlace tasks pid place → is_task tasks pid ≡ true
-is_there [] pid place at = let within = at.within in absurd (omega (arith, within))
-is_there (t ∷ tasks) pid place at =
-    list_any_at (λ (u : Task). eqb u.pid pid) (t ∷ tasks) place t at.within
-    (eq-eqb (get_or (t ∷ tasks) place t).pid pid (at.pid_is t))
+pub is_there : (tasks : List Task) (pid index : ℕ) → IsTaskIndex tasks pid index → is_task tasks pid ≡ true
+is_there [] pid index at = let within = at.within in absurd (omega (arith, within))
+is_there (t ∷ tasks) pid index at =
+    list_any_at (λ (u : Task). eqb u.pid pid) (t ∷ tasks) index t at.within
+    (eq-eqb (get_or (t ∷ tasks) index t).pid pid (at.pid_is t))
 
 -- the last test of an idle line
 pub birth_known : (line : ℕ) (there : Bool) → eqb line 0 ≡ false → (not (eqb line 0) || there) ≡ true

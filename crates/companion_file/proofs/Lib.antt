@@ -8,12 +8,12 @@ pub mod GrowingOrder
 pub mod HeadLength
 pub mod Idling
 pub mod KeptOrder
-pub mod KnownMarks
+pub mod KnownLines
 pub mod Lasts
 pub mod OneAnswer
 pub mod OneMeaning
 pub mod Piecewise
-pub mod Places
+pub mod TaskIndices
 pub mod Policies
 pub mod Reaching
 pub mod ReadFields

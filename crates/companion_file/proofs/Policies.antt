@@ -10,12 +10,12 @@ use Rattle.std.proofs.lemmas.List.Elements.{All-map, All-weaker, All-head, All-t
 use Rattle.std.proofs.lemmas.List.Folds.{list_any-append}
 use Rattle.cfs_model.specs.Limits.{no_line}
 use Rattle.cfs_model.specs.Claimed.{is_named_idle}
-use Rattle.cfs_model.specs.Start.{starts_idle}
+use Rattle.cfs_model.specs.Start.{policies_at_start}
 use Rattle.cfs_model.specs.declared.idle_line.IdleLine.{IdleLine}
 use Rattle.cfs_model.specs.declared.task.Task.{Task}
 use Rattle.companion_file.specs.Earlier.{is_run, is_taken, is_task, with_policy_told}
 use Rattle.companion_file.specs.Order.{IsTaskInLimits}
-use Rattle.companion_file.specs.Draft.{IsTaskPlace}
+use Rattle.companion_file.specs.Draft.{IsTaskIndex}
 
 -- ---- a policy changes nothing else of the tasks
 
@@ -89,13 +89,13 @@ birth_named idles k (t ∷ tasks) later =
     let none : (eqb k.line no_line && eqb k.pid t.pid) ≡ false = rw (ne_eqb k.line no_line later) refl in
     rw (same_policy idles k t none, birth_named idles k tasks later) refl
 
--- the task at a place as the list has it with its policy
-at_place : (idles : List IdleLine) (tasks : List Task) (j : ℕ) (d : Task) → map (with_policy_told idles) tasks ≡ tasks
+-- the task at an index as the list has it with its policy
+at_index : (idles : List IdleLine) (tasks : List Task) (j : ℕ) (d : Task) → map (with_policy_told idles) tasks ≡ tasks
     → j < length tasks → with_policy_told idles (get_or tasks j d) ≡ get_or tasks j d
-at_place idles tasks j d same within = sym (get_or-map (with_policy_told idles) tasks j d d within)
+at_index idles tasks j d same within = sym (get_or-map (with_policy_told idles) tasks j d d within)
     ∙ ap (λ (ts : List Task). get_or ts j d) same
 
--- pids that rise stand at one place each
+-- pids that rise stand at one index each
 pid_elsewhere : (tasks : List Task) (i j : ℕ) (d : Task) → AllPairs (λ t u. t.pid < u.pid) tasks → i < length tasks
     → j < length tasks → i ≢ j → (get_or tasks i d).pid ≢ (get_or tasks j d).pid
 pid_elsewhere tasks i j d rise i_within j_within other same =
@@ -107,40 +107,40 @@ pid_elsewhere tasks i j d rise i_within j_within other same =
       ]
     ]
 
-module _ (idles : List IdleLine) (k : IdleLine) (tasks : List Task) (place : ℕ) (r : Task)
+module _ (idles : List IdleLine) (k : IdleLine) (tasks : List Task) (index : ℕ) (r : Task)
     (told : map (with_policy_told idles) tasks ≡ tasks) (rise : AllPairs (λ t u. t.pid < u.pid) tasks)
-    (start : k.line ≡ no_line) (at : IsTaskPlace tasks k.pid place) (is : r ≡ get_or tasks place r) where
-  here : (d : Task) → get_or (set tasks place (with_idle r true)) place d ≡ with_policy_told (idles ++ k ∷ [])
-      (get_or tasks place d)
+    (start : k.line ≡ no_line) (at : IsTaskIndex tasks k.pid index) (is : r ≡ get_or tasks index r) where
+  here : (d : Task) → get_or (set tasks index (with_idle r true)) index d ≡ with_policy_told (idles ++ k ∷ [])
+      (get_or tasks index d)
   here d =
-      let whole : r ≡ get_or tasks place d = is ∙ get_or_default tasks place r d at.within in
+      let whole : r ≡ get_or tasks index d = is ∙ get_or_default tasks index r d at.within in
       let pid : r.pid ≡ k.pid = ap (λ (t : Task). t.pid) is ∙ at.pid_is r in
       let both_true : (eqb k.line no_line && eqb k.pid r.pid) ≡ true = rw (start, eq-eqb k.pid r.pid (sym pid)) refl in
       let named : is_named_idle (idles ++ k ∷ []) no_line r.pid ≡ true = named_push idles k r.pid
       ∙ or_all (is_named_idle idles no_line r.pid) (eqb k.line no_line && eqb k.pid r.pid) both_true in
-      get_or-set_same tasks place (with_idle r true) d at.within ∙ ap (with_idle r) (sym named)
+      get_or-set_same tasks index (with_idle r true) d at.within ∙ ap (with_idle r) (sym named)
       ∙ ap (with_policy_told (idles ++ k ∷ [])) whole
 
-  elsewhere : (j : ℕ) (d : Task) → j < length tasks → j ≢ place
-      → get_or (set tasks place (with_idle r true)) j d ≡ with_policy_told (idles ++ k ∷ []) (get_or tasks j d)
+  elsewhere : (j : ℕ) (d : Task) → j < length tasks → j ≢ index
+      → get_or (set tasks index (with_idle r true)) j d ≡ with_policy_told (idles ++ k ∷ []) (get_or tasks j d)
   elsewhere j d within other =
-      let apart : k.pid ≢ (get_or tasks j d).pid = λ e. pid_elsewhere tasks j place d rise within at.within other (sym e
+      let apart : k.pid ≢ (get_or tasks j d).pid = λ e. pid_elsewhere tasks j index d rise within at.within other (sym e
       ∙ sym (at.pid_is d)) in
       let none = and_second (eqb k.line no_line) (eqb k.pid (get_or tasks j d).pid)
       (ne_eqb k.pid (get_or tasks j d).pid apart) in
-      get_or-set_other tasks place j (with_idle r true) d other ∙ sym (at_place idles tasks j d told within)
+      get_or-set_other tasks index j (with_idle r true) d other ∙ sym (at_index idles tasks j d told within)
       ∙ sym (same_policy idles k (get_or tasks j d) none)
 
-  pub start_named : set tasks place (with_idle r true) ≡ map (with_policy_told (idles ++ k ∷ [])) tasks
+  pub start_named : set tasks index (with_idle r true) ≡ map (with_policy_told (idles ++ k ∷ [])) tasks
   start_named =
-      let long = length-set tasks place (with_idle r true) in
-      same_lists (set tasks place (with_idle r true)) (map (with_policy_told (idles ++ k ∷ [])) tasks) (long
+      let long = length-set tasks index (with_idle r true) in
+      same_lists (set tasks index (with_idle r true)) (map (with_policy_told (idles ++ k ∷ [])) tasks) (long
       ∙ sym (length-map tasks (with_policy_told (idles ++ k ∷ []))))
       (λ j d lt.
       let within : j < length tasks = rw long at lt in
-      let is_there : get_or (set tasks place (with_idle r true)) j d ≡ with_policy_told (idles ++ k ∷ [])
+      let is_there : get_or (set tasks index (with_idle r true)) j d ≡ with_policy_told (idles ++ k ∷ [])
       (get_or tasks j d) =
-      elim (cases_eq j place) [
+      elim (cases_eq j index) [
         | inl same ↦ rw same (here d)
         | inr other ↦ elsewhere j d within other
       ] in
@@ -149,7 +149,8 @@ module _ (idles : List IdleLine) (k : IdleLine) (tasks : List Task) (place : ℕ
 -- ---- at the end
 
 starts_named : (idles : List IdleLine) (tasks : List Task) (pid : ℕ)
-    → starts_idle (map (with_policy_told idles) tasks) pid ≡ (is_task tasks pid && is_named_idle idles no_line pid)
+    → policies_at_start (map (with_policy_told idles) tasks) pid ≡ (is_task tasks pid
+    && is_named_idle idles no_line pid)
 starts_named idles [] pid = refl
 starts_named idles (t ∷ tasks) pid =
     elim (cases_Bool (eqb t.pid pid)) [
@@ -180,7 +181,7 @@ and_known false false known = refl
 
 pub policies_agree : (idles : List IdleLine) (tasks : List Task) (pid : ℕ) → map (with_policy_told idles) tasks ≡ tasks
     → All (λ idle. idle.line ≡ no_line → is_task tasks idle.pid ≡ true) idles
-    → is_named_idle idles no_line pid ≡ starts_idle tasks pid
+    → is_named_idle idles no_line pid ≡ policies_at_start tasks pid
 policies_agree idles tasks pid told kept =
     and_known (is_task tasks pid) (is_named_idle idles no_line pid) (policy_of_named tasks idles pid kept)
-    ∙ sym (starts_named idles tasks pid) ∙ ap (λ (ts : List Task). starts_idle ts pid) told
+    ∙ sym (starts_named idles tasks pid) ∙ ap (λ (ts : List Task). policies_at_start ts pid) told

@@ -26,6 +26,7 @@ use Rattle.companion_file.proofs.ReadFields.{spaced_from, number_field_again, nu
 use Rattle.companion_file.proofs.ReadFields.{integer_whole_again, place_field_again, number_field_taken}
 use Rattle.companion_file.proofs.ReadFields.{number_whole_taken, integer_field_taken, integer_whole_taken}
 use Rattle.companion_file.proofs.ReadFields.{place_field_taken}
+use Rattle.cfs_model.specs.declared.policy.Policy.TheVariants.{Normal}
 
 -- ---- what is spelled is read
 
@@ -131,8 +132,8 @@ same_idle : (l m p q : ℕ) → l ≡ m → p ≡ q → idle_line (record { line
 same_idle l m p q e f = rw (e, f) refl
 
 same_task_line : (p q : ℕ) (n o : ℤ) (c d : ℕ) (v w : ℤ) (place : Place) → p ≡ q → n ≡ o → c ≡ d → v ≡ w
-    → task_line (record { pid = p; nice = n; idle = false; cpu = c; place = place; v = v }) ≡ task_line
-    (record { pid = q; nice = o; idle = false; cpu = d; place = place; v = w })
+    → task_line (record { pid = p; nice = n; policy = Normal; cpu = c; place = place; v = v }) ≡ task_line
+    (record { pid = q; nice = o; policy = Normal; cpu = d; place = place; v = w })
 same_task_line p q n o c d v w place e f g h = rw (e, f, g, h) refl
 
 version_found : (version : ℕ) (rest : List ℕ) (y : Shape) → version_shape_at rest ≡ Some y
@@ -282,16 +283,16 @@ unfolding task_shape_at
 task_found version rest y e =
     let a = bind_some (number_field rest) (λ pid. integer_field pid.1 >>= λ nice. number_field nice.1 >>= λ cpu.
     place_field cpu.1 >>= λ place. integer_whole place.1 >>= λ v. Some
-    (task_line (record { pid = pid.0; nice = nice.0; idle = false; cpu = cpu.0; place = place.0; v = v }))) y e in
+    (task_line (record { pid = pid.0; nice = nice.0; policy = Normal; cpu = cpu.0; place = place.0; v = v }))) y e in
     let b = bind_some (integer_field a.0.1) (λ nice. number_field nice.1 >>= λ cpu. place_field cpu.1 >>= λ place.
     integer_whole place.1 >>= λ v. Some (task_line
-    (record { pid = a.0.0; nice = nice.0; idle = false; cpu = cpu.0; place = place.0; v = v }))) y a.2 in
+    (record { pid = a.0.0; nice = nice.0; policy = Normal; cpu = cpu.0; place = place.0; v = v }))) y a.2 in
     let c = bind_some (number_field b.0.1) (λ cpu. place_field cpu.1 >>= λ place. integer_whole place.1 >>= λ v. Some
-    (task_line (record { pid = a.0.0; nice = b.0.0; idle = false; cpu = cpu.0; place = place.0; v = v }))) y b.2 in
+    (task_line (record { pid = a.0.0; nice = b.0.0; policy = Normal; cpu = cpu.0; place = place.0; v = v }))) y b.2 in
     let d = bind_some (place_field c.0.1) (λ place. integer_whole place.1 >>= λ v. Some
-    (task_line (record { pid = a.0.0; nice = b.0.0; idle = false; cpu = c.0.0; place = place.0; v = v }))) y c.2 in
+    (task_line (record { pid = a.0.0; nice = b.0.0; policy = Normal; cpu = c.0.0; place = place.0; v = v }))) y c.2 in
     let f = bind_some (integer_whole d.0.1) (λ v. Some
-    (task_line (record { pid = a.0.0; nice = b.0.0; idle = false; cpu = c.0.0; place = d.0.0; v = v }))) y d.2 in
+    (task_line (record { pid = a.0.0; nice = b.0.0; policy = Normal; cpu = c.0.0; place = d.0.0; v = v }))) y d.2 in
     let t0 = number_field_taken rest a.0.0 a.0.1 a.1 in
     let t1 = integer_field_taken a.0.1 b.0.0 b.0.1 b.1 in
     let t2 = number_field_taken b.0.1 c.0.0 c.0.1 c.1 in
@@ -301,7 +302,7 @@ task_found version rest y e =
     (spaced_from t2.word (spaced_from (place_word d.0.0) d.0.1))) =
     t0.whole ∙ ap (λ (s : List ℕ). spaced_from t0.word s) (t1.whole
     ∙ ap (λ (s : List ℕ). spaced_from t1.word s) (t2.whole ∙ ap (λ (s : List ℕ). spaced_from t2.word s) t3)) in (
-      task_line (record { pid = t0.exact; nice = t1.exact; idle = false; cpu = t2.exact; place = d.0.0; v = t4.0 }),
+      task_line (record { pid = t0.exact; nice = t1.exact; policy = Normal; cpu = t2.exact; place = d.0.0; v = t4.0 }),
       (
         refl,
         t0.word,
@@ -317,7 +318,7 @@ task_found version rest y e =
       sym (same_Some (task_line (record {
         pid = a.0.0;
         nice = b.0.0;
-        idle = false;
+        policy = Normal;
         cpu = c.0.0;
         place = d.0.0;
         v = f.0;

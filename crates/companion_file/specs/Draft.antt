@@ -69,10 +69,10 @@ Takes old line (Ok _) new =
 Takes old line (Err (refusals.Bad cause)) new = (¬ IsComment line) × IsJudged old line (Err cause)
 Takes old line (Err refusals.Memory) new = Unit {0}
 
--- the task of this pid stands at this place
-pub record IsTaskPlace (tasks : List Task) (pid place : ℕ) : Type 0 where
-  pub within : place < length tasks
-  pub pid_is : (d : Task) → (slice_index_or tasks place d).pid ≡ pid
+-- the task of this pid stands at this index
+pub record IsTaskIndex (tasks : List Task) (pid index : ℕ) : Type 0 where
+  pub within : index < length tasks
+  pub pid_is : (d : Task) → (slice_index_or tasks index d).pid ≡ pid
 
 -- what lines say that are all good
 pub record KeepsOrder (said : Said) : Type 0 where

@@ -12,6 +12,7 @@ use Rattle.cfs_model.specs.declared.claim.ClaimSort.TheVariants.{At, Pass}
 use Rattle.text_parts.specs.Reading.{◌>>=◌, or_else, if_at_end, after_text, numeral_at, time_at}
 use Rattle.companion_file.specs.Shape.{Shape, version_line, cpus_line, start_line, floor_line, task_line, claim_line}
 use Rattle.companion_file.specs.Shape.{nice_line, idle_line}
+use Rattle.cfs_model.specs.declared.policy.Policy.TheVariants.{Normal}
 
 -- a number above each virtual runtime; larger ones are read as this one
 abbrev pub beyond_range : ℕ
@@ -86,7 +87,7 @@ task_shape_at text = do
   cpu ← number_field nice.1
   place ← place_field cpu.1
   v ← integer_whole place.1
-  Some (task_line (record { pid = pid.0; nice = nice.0; idle = false; cpu = cpu.0; place = place.0; v = v }))
+  Some (task_line (record { pid = pid.0; nice = nice.0; policy = Normal; cpu = cpu.0; place = place.0; v = v }))
 
 -- what follows the word of a claim
 unfoldable pub claim_shape_at : ClaimSort → List ℕ → Option Shape

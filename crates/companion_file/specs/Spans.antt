@@ -24,8 +24,8 @@ pub record AreSpansOf (idles : List IdleLine) (spans : List IdleSpan) : Type 0 w
   pub rise : AllPairs SpanRises spans
   pub starts : (line pid : ℕ) → is_named_idle idles line pid ≡ starts_span spans line pid
 
--- the spans, of which the one at this place ends at this line
+-- the spans, of which the one at this index ends at this line
 abbrev pub ended : List IdleSpan → ℕ → ℕ → List IdleSpan
-ended [] place line = []
+ended [] index line = []
 ended (span ∷ spans) zero line = record { pid = span.pid; from = span.from; until = line } ∷ spans
-ended (span ∷ spans) (suc place) line = span ∷ ended spans place line
+ended (span ∷ spans) (suc index) line = span ∷ ended spans index line

@@ -57,7 +57,7 @@ IsSpelled version line (start_line seconds nanoseconds) =
 IsSpelled version line (floor_line cpu floor) =
     (a b : List ℕ) × IsNumber a cpu × IsInteger b floor × (line ≡ spaced (codes "floor" ∷ a ∷ b ∷ []))
 IsSpelled version line (task_line task) =
-    (task.idle ≡ false) × (a b c d : List ℕ) × IsNumber a task.pid × IsInteger b task.nice × IsNumber c task.cpu
+    (task.policy ≡ false) × (a b c d : List ℕ) × IsNumber a task.pid × IsInteger b task.nice × IsNumber c task.cpu
     × IsInteger d task.v
     × (line ≡ spaced (codes "task" ∷ a ∷ b ∷ c ∷ place_word task.place ∷ d ∷ []))
 IsSpelled version line (claim_line claim) =

@@ -139,12 +139,12 @@ impl Companion {
     ghost use Rattle.companion_file.specs.Spans.{ended};
     ghost use Rattle.companion_file.specs.Seen.{companion_view};
 
-    /// Ends the span at this place at a line of the trace.
-    pub fn end_span(&mut self, place: usize, line: u32)
-        requires { place < length self.old.spans }
-        ensures spans { self.new.spans ≡ ended self.old.spans place line }
+    /// Ends the span at this index at a line of the trace.
+    pub fn end_span(&mut self, index: usize, line: u32)
+        requires { index < length self.old.spans }
+        ensures spans { self.new.spans ≡ ended self.old.spans index line }
         ensures others { companion_view self.new ≡ companion_view self.old }
     {
-        self.spans.end_at(place, line);
+        self.spans.end_at(index, line);
     }
 }

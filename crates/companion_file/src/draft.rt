@@ -106,7 +106,14 @@ impl Draft {
     }
 
     fn task_within(&self, pid: u64, nice: i64, cpu: u64, place: Place, v: i64) -> Option<Task>
-        ensures { let task : Task = record { pid = pid; nice = nice; idle = false; cpu = cpu; place = place; v = v } in
+        ensures { let task : Task = record {
+          pid = pid;
+          nice = nice;
+          policy = Normal;
+          cpu = cpu;
+          place = place;
+          v = v;
+        } in
             MatchOption result (is_in_limits (unwrap_or self.now.cpus 0) (task_line task) ≡ false)
             (λ within. (within ≡ task) × (is_in_limits (unwrap_or self.now.cpus 0) (task_line task) ≡ true)) }
     {
@@ -115,7 +122,7 @@ impl Draft {
             Some(Task {
                 pid: pid as u32,
                 nice,
-                idle: false,
+                policy: Policy::Normal,
                 cpu: cpu as u32,
                 place,
                 v,
@@ -135,7 +142,7 @@ impl Draft {
     #[inline(always)]
     fn add_task(&mut self, task: Task) -> Result<(), Refusal>
         requires cpu { task.cpu < unwrap_or self.old.cpus 0 }
-        requires plain { task.idle ≡ false }
+        requires plain { task.policy ≡ false }
         requires first { self.old.idles ≡ [] }
         ensures { Adds self.old (task_line task) result self.new }
     {

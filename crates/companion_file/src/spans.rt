@@ -46,11 +46,11 @@ impl IdleSpans {
         self.items.as_slice()
     }
 
-    /// Ends the span at this place at a line of the trace.
-    pub(crate) fn end_at(&mut self, place: usize, line: u32)
-        requires { place < length self.old }
-        ensures { self.new ≡ ended self.old place line }
+    /// Ends the span at this index at a line of the trace.
+    pub(crate) fn end_at(&mut self, index: usize, line: u32)
+        requires { index < length self.old }
+        ensures { self.new ≡ ended self.old index line }
     {
-        self.items[place].until = line;
+        self.items[index].until = line;
     }
 }

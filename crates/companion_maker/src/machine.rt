@@ -258,7 +258,7 @@ impl Machine {
         let task = Task {
             pid,
             nice,
-            idle: false,
+            policy: Policy::Normal,
             cpu,
             place: Place::Wait,
             v,

@@ -18,7 +18,7 @@ enum Sight {
 #[derive(Clone, Copy, Debug, PartialEq, Eq)]
 enum Guess {
     /// It stood here.
-    Stood(Place),
+    Known(Place),
     /// It was first woken: it rested, or it ran where it is switched away from without having been picked.
     Woken,
     /// It was first migrated: it rested, or it waited where it is picked without having been woken.
@@ -82,7 +82,7 @@ fn task_at_start(pid: u32, nice: Nice, cpu: u32, place: Place) -> Task {
     Task {
         pid,
         nice,
-        idle: false,
+        policy: Policy::Normal,
         cpu,
         place,
         v: 0,
@@ -92,7 +92,7 @@ fn task_at_start(pid: u32, nice: Nice, cpu: u32, place: Place) -> Task {
 /// Where a task stood, where it stood anywhere.
 fn place_of(guess: Guess) -> Option<Place> {
     match guess {
-        Guess::Stood(place) => Some(place),
+        Guess::Known(place) => Some(place),
         Guess::Woken | Guess::Moved => Some(Place::Rest),
         Guess::Unborn => None,
     }
@@ -101,10 +101,10 @@ fn place_of(guess: Guess) -> Option<Place> {
 /// What more is known of a task that is named again.
 fn guess_after(guess: Guess, sight: Sight) -> Guess {
     match (guess, sight) {
-        (Guess::Woken, Sight::Previous) => Guess::Stood(Place::Run),
-        (Guess::Woken, Sight::Next | Sight::Moved | Sight::Born) => Guess::Stood(Place::Rest),
-        (Guess::Moved, Sight::Next | Sight::Previous) => Guess::Stood(Place::Wait),
-        (Guess::Moved, Sight::Woken | Sight::Born) => Guess::Stood(Place::Rest),
+        (Guess::Woken, Sight::Previous) => Guess::Known(Place::Run),
+        (Guess::Woken, Sight::Next | Sight::Moved | Sight::Born) => Guess::Known(Place::Rest),
+        (Guess::Moved, Sight::Next | Sight::Previous) => Guess::Known(Place::Wait),
+        (Guess::Moved, Sight::Woken | Sight::Born) => Guess::Known(Place::Rest),
         _ => guess,
     }
 }
@@ -112,8 +112,8 @@ fn guess_after(guess: Guess, sight: Sight) -> Guess {
 /// What is known of a task that is first named so.
 fn first_guess(sight: Sight) -> Guess {
     match sight {
-        Sight::Previous => Guess::Stood(Place::Run),
-        Sight::Next => Guess::Stood(Place::Wait),
+        Sight::Previous => Guess::Known(Place::Run),
+        Sight::Next => Guess::Known(Place::Wait),
         Sight::Woken => Guess::Woken,
         Sight::Moved => Guess::Moved,
         Sight::Born => Guess::Unborn,
@@ -178,8 +178,8 @@ impl Opening {
 
     /// The guess, where it isn't that one more task runs at a processor of which it is known who runs.
     fn possible(&self, guess: Guess, before: Guess, cpu: u32) -> Guess {
-        if guess != before && guess == Guess::Stood(Place::Run) && self.is_settled(cpu) {
-            Guess::Stood(Place::Rest)
+        if guess != before && guess == Guess::Known(Place::Run) && self.is_settled(cpu) {
+            Guess::Known(Place::Rest)
         } else {
             guess
         }

@@ -1,4 +1,4 @@
-use crate::task_words::share_of;
+use crate::task_words::weight_words;
 use cfs_model::{Task, weight_of};
 use runqueue::Runqueue;
 use std::fmt;
@@ -22,7 +22,7 @@ impl Charge {
 
     /// In virtual nanoseconds, however many they are.
     pub(crate) fn cost(&self) -> i128 {
-        let weight = weight_of(self.task.nice, self.task.idle);
+        let weight = weight_of(self.task.nice, self.task.policy);
         let cost = u128::from(self.ran) * 1024 / u128::from(weight);
         i128::try_from(cost).unwrap_or(i128::MAX)
     }
@@ -37,12 +37,12 @@ impl fmt::Display for Charge {
     fn fmt<W: fmt::Write>(&self, f: &mut fmt::Formatter<W>) -> fmt::Result {
         let Task { pid, v, .. } = self.task;
         let ran = self.ran;
-        let share = share_of(&self.task);
+        let weight_words = weight_words(&self.task);
         let cost = self.cost();
         let to = self.to();
         write!(
             f,
-            "pid {pid} ran {ran} at {share}, which costs {cost}: from {v} to {to}"
+            "pid {pid} ran {ran} at {weight_words}, which costs {cost}: from {v} to {to}"
         )
     }
 }

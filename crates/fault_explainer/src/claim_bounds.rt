@@ -3,7 +3,7 @@
 use crate::companion_lines::word_of;
 use crate::processor::Processor;
 use crate::scene::Scene;
-use crate::task_words::{share_of, verb};
+use crate::task_words::{verb, weight_words};
 use cfs_model::{Act, Claim, ClaimSort, IDLE_PID, Place, Task, Way};
 use std::alloc::AllocError;
 
@@ -278,13 +278,13 @@ pub(crate) fn push_ticket_unequal(text: &mut String, scene: &Scene) -> Result<()
 /// At a migration's origin.
 fn push_leaves(text: &mut String, here: &Processor, task: Task) -> Result<(), AllocError> {
     let cpu = here.cpu;
-    let share = share_of(&task);
+    let weight_words = weight_words(&task);
     let verb = verb(&task);
     let Task { v, .. } = task;
     let above = offset(v, here);
     writeln!(
         text,
-        "# it leaves cpu {cpu}: {verb} at {v}, {share}; {above} from the floor"
+        "# it leaves cpu {cpu}: {verb} at {v}, {weight_words}; {above} from the floor"
     )
 }
 

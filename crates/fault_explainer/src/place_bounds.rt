@@ -1,7 +1,7 @@
 //! Who stands where, and which prio is printed.
 
 use crate::scene::{Scene, lies_in_place};
-use crate::task_words::{share_of, verb};
+use crate::task_words::{verb, weight_words};
 use cfs_model::{Act, IDLE_PID, Kind, Nice, NiceLine, Task};
 use replay_model::FirstFault;
 use std::alloc::AllocError;
@@ -169,11 +169,11 @@ fn push_stood(text: &mut String, scene: &Scene) -> Result<(), AllocError> {
 }
 
 fn push_stood_at(text: &mut String, cpu: u32, pid: u32, task: Task) -> Result<(), AllocError> {
-    let share = share_of(&task);
+    let weight_words = weight_words(&task);
     let verb = verb(&task);
     let Task { v, .. } = task;
     writeln!(
         text,
-        "# before this line pid {pid} {verb} at cpu {cpu}, at {v}, {share}"
+        "# before this line pid {pid} {verb} at cpu {cpu}, at {v}, {weight_words}"
     )
 }

@@ -2,7 +2,7 @@
 
 use crate::charge::Charge;
 use crate::processor::Processor;
-use crate::task_words::share_of;
+use crate::task_words::weight_words;
 use cfs_model::Task;
 use runqueue::Runqueue;
 use std::alloc::AllocError;
@@ -48,8 +48,8 @@ fn push_waiting(text: &mut String, queue: &Runqueue) -> Result<(), AllocError> {
 
 fn push_task(text: &mut String, task: Task, verb: &str) -> Result<(), AllocError> {
     let Task { pid, v, .. } = task;
-    let share = share_of(&task);
-    writeln!(text, "#   pid {pid} {verb} at {v}, {share}")
+    let weight_words = weight_words(&task);
+    writeln!(text, "#   pid {pid} {verb} at {v}, {weight_words}")
 }
 
 /// That nobody waits, or how many more than are told.

@@ -10,22 +10,22 @@ pub(crate) fn verb(task: &Task) -> &'static str {
     }
 }
 
-/// By what a task is charged: its nice value, its policy and its weight.
+/// The words on what a task is charged by: its nice value, its policy and its weight.
 #[derive(Clone, Copy)]
-pub(crate) struct Share {
+pub(crate) struct WeightWords {
     nice: Nice,
     idle: bool,
 }
 
 /// That of a task.
-pub(crate) fn share_of(task: &Task) -> Share {
-    Share {
+pub(crate) fn weight_words(task: &Task) -> WeightWords {
+    WeightWords {
         nice: task.nice,
-        idle: task.idle,
+        policy: task.policy,
     }
 }
 
-impl fmt::Display for Share {
+impl fmt::Display for WeightWords {
     fn fmt<W: fmt::Write>(&self, f: &mut fmt::Formatter<W>) -> fmt::Result {
         let weight = weight_of(self.nice, self.idle);
         let nice = self.nice.get();

@@ -10,7 +10,7 @@ use Rattle.ftrace_line.specs.Meaning.{after_loss, is_end, kind_at, event_meaning
 use Rattle.ftrace_line.specs.Meaning.{meaning_of}
 use Rattle.ftrace_line.proofs.Heads.{head_again, head_taken, TakesHead}
 use Rattle.ftrace_line.proofs.Losses.{lost_again, lost_taken, end_is}
-use Rattle.ftrace_line.proofs.Marks.{mark_taken, unmarked_taken}
+use Rattle.ftrace_line.proofs.Labels.{label_taken, unlabelled_taken}
 
 -- a head in range, with the values that were read
 event_in_range : (line : List ℕ) (parts : HeadParts) → TakesHead line parts → parts.cpu ≤ greatest_processor →
@@ -38,10 +38,10 @@ event_answered line parts None e event =
       text =
           parts.text;
       event = event;
-      unmarked = unmarked_taken parts.text e;
+      unlabelled = unlabelled_taken parts.text e;
     }
 event_answered line parts (Some which) e event =
-    record { text = parts.text; event = event; marked = mark_taken parts.text which e }
+    record { text = parts.text; event = event; labelled = label_taken parts.text which e }
 
 above : (line : List ℕ) (parts : HeadParts) → TakesHead line parts →
     (greatest_processor < parts.cpu) ⊎ (greatest_seconds < parts.seconds) → IsHeadOutOfRange line

@@ -2,7 +2,7 @@ pub mod HeadParts
 pub mod Clocks
 pub mod Heads
 pub mod Losses
-pub mod Marks
+pub mod Labels
 pub mod OneReading
 pub mod Answered
 pub mod Shapes

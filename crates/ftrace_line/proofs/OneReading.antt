@@ -17,7 +17,7 @@ use Rattle.ftrace_line.specs.Meaning.{after_loss, is_end, kind_at, event_meaning
 use Rattle.text_parts.proofs.Runs.{none_from}
 use Rattle.ftrace_line.proofs.Heads.{head_again, head_taken, TakesHead, parts_found}
 use Rattle.ftrace_line.proofs.Losses.{lost_again, lost_taken, end_is}
-use Rattle.ftrace_line.proofs.Marks.{mark_again, fields_again, unmarked_again}
+use Rattle.ftrace_line.proofs.Labels.{label_again, fields_again, unlabelled_again}
 
 -- ---- the first byte tells the kinds apart
 
@@ -75,10 +75,10 @@ sched_only : (line : List ℕ) (cpu time : ℕ) (which : Which) (rest : List ℕ
     meaning_of line ≡ Ok (sched cpu time which rest)
 sched_only line cpu time which rest s =
     event_only line cpu time s.text s.event
-    ∙ rw (s.marked, mark_again which rest, fields_again which rest, s.event.time_is) refl
+    ∙ rw (s.labelled, label_again which rest, fields_again which rest, s.event.time_is) refl
 
 other_only : (line : List ℕ) → IsOther line → meaning_of line ≡ Ok other
-other_only line o = event_only line o.cpu o.time o.text o.event ∙ rw (unmarked_again o.text o.unmarked) refl
+other_only line o = event_only line o.cpu o.time o.text o.event ∙ rw (unlabelled_again o.text o.unlabelled) refl
 
 beyond_test : (cpu seconds : ℕ) → (greatest_processor < cpu) ⊎ (greatest_seconds < seconds) →
     (leb (min cpu many) greatest_processor && leb (min seconds many) greatest_seconds) ≡ false

@@ -34,11 +34,11 @@ pub record IsLost (line : List ℕ) : Type 0 where
   pub whole : line ≡ joined (codes "CPU:" ∷ processor ∷ loss ∷ [])
 
 -- what the text of each of the four events begins with
-abbrev pub mark_of : Which → List ℕ
-mark_of Switch = codes "sched_switch: "
-mark_of Wakeup = codes "sched_wakeup: "
-mark_of WakeupNew = codes "sched_wakeup_new: "
-mark_of MigrateTask = codes "sched_migrate_task: "
+abbrev pub label_of : Which → List ℕ
+label_of Switch = codes "sched_switch: "
+label_of Wakeup = codes "sched_wakeup: "
+label_of WakeupNew = codes "sched_wakeup_new: "
+label_of MigrateTask = codes "sched_migrate_task: "
 
 -- an event's head in range: its line is the head and then this text, and its time is in nanoseconds
 pub record IsEventLine (line : List ℕ) (cpu time : ℕ) (text : List ℕ) : Type 0 where
@@ -53,7 +53,7 @@ pub record IsEventLine (line : List ℕ) (cpu time : ℕ) (text : List ℕ) : Ty
 pub record IsSched (line : List ℕ) (cpu time : ℕ) (which : Which) (rest : List ℕ) : Type 0 where
   pub text : List ℕ
   pub event : IsEventLine line cpu time text
-  pub marked : text ≡ mark_of which ++ rest
+  pub labelled : text ≡ label_of which ++ rest
 
 -- any other event
 pub record IsOther (line : List ℕ) : Type 0 where
@@ -61,7 +61,7 @@ pub record IsOther (line : List ℕ) : Type 0 where
   pub time : ℕ
   pub text : List ℕ
   pub event : IsEventLine line cpu time text
-  pub unmarked : (which : Which) (rest : List ℕ) → text ≡ mark_of which ++ rest → ⊥
+  pub unlabelled : (which : Which) (rest : List ℕ) → text ≡ label_of which ++ rest → ⊥
 
 -- an event whose head has a processor or seconds out of range
 pub record IsHeadOutOfRange (line : List ℕ) : Type 0 where

@@ -1,4 +1,4 @@
--- How a line is read from left to right: its head, the words on lost events, the event's mark. Nothing here is to be
+-- How a line is read from left to right: its head, the words on lost events, the event's label. Nothing here is to be
 -- believed: it is proved to give the one reading that `Line` states.
 use Rattle.std.specs.Prelude.{ℕ, ◌+◌, ◌*◌, ◌&&◌, ◌==◌, Bool, true, false, List, [], ◌∷◌, codes, length, drop, nat_le}
 use Rattle.std.specs.Prelude.{nat_lt, Option, None, Some, Result, Ok, Err, slice_index, if◌then◌else◌}
@@ -10,7 +10,7 @@ use Rattle.ftrace_line.specs.declared.fault.LineFault.TheVariants.{BadHead, Numb
 use Rattle.text_parts.specs.Numerals.{is_digit}
 use Rattle.ftrace_line.specs.Head.{is_group_byte, is_flag}
 use Rattle.text_parts.specs.Pieces.{is_space, begins_with}
-use Rattle.ftrace_line.specs.Line.{LineView, comment, lost, other, sched, mark_of}
+use Rattle.ftrace_line.specs.Line.{LineView, comment, lost, other, sched, label_of}
 use Rattle.cfs_model.specs.Limits.{greatest_processor, greatest_seconds, nanoseconds_per_second}
 use Rattle.text_parts.specs.Lines.{is_comment}
 use Rattle.text_parts.specs.Reading.{◌>>=◌, or_else, after_text, after_run, front_value, time_at}
@@ -92,14 +92,14 @@ after_loss line = do
 -- which of the four events a text is
 unfoldable pub kind_at : List ℕ → Option Which
 kind_at text =
-    if begins_with (mark_of Switch) text then Some Switch else
-    (if begins_with (mark_of Wakeup) text then Some Wakeup else
-    (if begins_with (mark_of WakeupNew) text then Some WakeupNew else
-    (if begins_with (mark_of MigrateTask) text then Some MigrateTask else None)))
+    if begins_with (label_of Switch) text then Some Switch else
+    (if begins_with (label_of Wakeup) text then Some Wakeup else
+    (if begins_with (label_of WakeupNew) text then Some WakeupNew else
+    (if begins_with (label_of MigrateTask) text then Some MigrateTask else None)))
 
--- what stands behind the mark
+-- what stands behind the label
 abbrev pub fields_of : Which → List ℕ → List ℕ
-fields_of which text = drop (length (mark_of which)) text
+fields_of which text = drop (length (label_of which)) text
 
 -- the meaning of a line of this kind
 abbrev pub event_meaning : HeadParts → Option Which → LineView

@@ -1,6 +1,6 @@
 ghost use Rattle.std.specs.Prelude.{◌≡◌, ◌≤◌, length, List, ℕ, ◌↔◌, IsErrOf, Result};
 ghost use Rattle.ftrace_line.specs.declared.fault.LineFault.{LineFault as TheFault};
-ghost use Rattle.ftrace_line.specs.Line.{LineView, LineAnswer, IsHeadless, IsHeadOutOfRange, mark_of};
+ghost use Rattle.ftrace_line.specs.Line.{LineView, LineAnswer, IsHeadless, IsHeadOutOfRange, label_of};
 ghost use Rattle.ftrace_line.specs.Seen.{line_answer_view};
 ghost use Rattle.text_parts.specs.Reading.{Gives};
 ghost use Rattle.ftrace_line.specs.Meaning.{after_count, after_loss, kind_at, fields_of, is_end};
@@ -108,10 +108,10 @@ fn kind_of(text: &[u8]) -> Option<Which>
     None
 }
 
-/// The fields of an event: what stands behind its mark.
+/// The fields of an event: what stands behind its label.
 #[inline(always)]
 fn fields_of(which: Which, text: &[u8]) -> &[u8]
-    requires { length (mark_of which) ≤ length text.now }
+    requires { length (label_of which) ≤ length text.now }
     ensures { result.now ≡ fields_of which text.now }
 {
     match which {

@@ -3,7 +3,7 @@ use Rattle.std.proofs.Common.{◌≡◌, ◌≢◌, ℕ, nat_eq, Bool, true, fal
 use Rattle.std.proofs.Common.{ap, ◌∙◌, subst}
 use Rattle.std.proofs.lemmas.Bool.{eq-eqb, ne_eqb}
 use Rattle.std.specs.List.{list_any}
-use Rattle.cfs_model.specs.Settings.{Settings}
+use Rattle.cfs_model.specs.Knobs.{KnobsView}
 use Rattle.cfs_model.specs.Machine.{Machine}
 use Rattle.cfs_model.specs.Claimed.{Claimed}
 use Rattle.cfs_model.specs.Touch.{touched}
@@ -20,7 +20,7 @@ use Rattle.cfs_model.specs.declared.act.Act.{Act}
 use Rattle.cfs_model.specs.declared.act.Act.TheVariants.{Switch, Wake, Born, Shift}
 
 -- what a step says of the part at a processor
-abbrev pub StepsAt : Settings → Machine → Claimed → Machine → ℕ → Type 0
+abbrev pub StepsAt : KnobsView → Machine → Claimed → Machine → ℕ → Type 0
 StepsAt knobs before event after cpu =
     ((touches cpu event ≡ true) × PartStep knobs cpu (part_of before cpu) (step_at cpu event) (part_of after cpu))
     ⊎ ((touches cpu event ≡ false) × (part_of after cpu ≡ part_of before cpu))
@@ -36,7 +36,7 @@ miss : (a cpu : ℕ) (rest : Bool) → a ≢ cpu → (nat_eq a cpu || rest) ≡ 
 miss a cpu rest ne = ap (λ b. b || rest) (ne_eqb a cpu ne)
 
 -- an event that touches one processor
-steps_one : (knobs : Settings) (before : Machine) (event : Claimed) (after : Machine) (cpu here : ℕ) → IsInOrder before
+steps_one : (knobs : KnobsView) (before : Machine) (event : Claimed) (after : Machine) (cpu here : ℕ) → IsInOrder before
     → IsStep knobs before event after → touched event.entry.act ≡ here ∷ []
     → StepsAt knobs before event after cpu
 steps_one knobs before event after cpu here o s t =
@@ -50,7 +50,8 @@ steps_one knobs before event after cpu here o s t =
     ]
 
 -- a migration
-steps_two : (knobs : Settings) (before : Machine) (event : Claimed) (after : Machine) (cpu orig dest pid : ℕ) (nice : ℤ)
+steps_two : (knobs : KnobsView) (before : Machine) (event : Claimed) (after : Machine) (cpu orig dest pid : ℕ) (nice
+    : ℤ)
     → IsInOrder before → IsStep knobs before event after
     → event.entry.act ≡ Shift orig dest pid nice → StepsAt knobs before event after cpu
 steps_two knobs before event after cpu orig dest pid nice o s e =
@@ -77,7 +78,7 @@ steps_two knobs before event after cpu orig dest pid nice o s e =
       ]
     ]
 
-pub steps_at_cpu : (knobs : Settings) (before : Machine) (event : Claimed) (after : Machine) → IsInOrder before
+pub steps_at_cpu : (knobs : KnobsView) (before : Machine) (event : Claimed) (after : Machine) → IsInOrder before
     → IsStep knobs before event after → (cpu : ℕ) → StepsAt knobs before event after cpu
 steps_at_cpu knobs before event after o s cpu = go event.entry.act refl
   where

@@ -1,6 +1,6 @@
 -- The step of the machine and the step of the one part that an event touches (this project's profile).
 use Rattle.std.specs.Prelude.{◌≡◌, ℕ}
-use Rattle.cfs_model.specs.Settings.{Settings}
+use Rattle.cfs_model.specs.Knobs.{KnobsView}
 use Rattle.cfs_model.specs.Machine.{Machine}
 use Rattle.cfs_model.specs.Claimed.{Claimed}
 use Rattle.cfs_model.specs.Step.{IsStep}
@@ -13,7 +13,7 @@ use Rattle.part_laws.specs.TouchedParts.{BornNowhere, OthersStay, PartStep, Touc
 -- a step of the machine by an event that touches one processor is a step of the part there, of no other part, and a
 -- pid that is born stood nowhere
 abbrev pub PartSteps : Type 0
-PartSteps = (knobs : Settings) (before after : Machine) (event : Claimed) (cpu : ℕ)
+PartSteps = (knobs : KnobsView) (before after : Machine) (event : Claimed) (cpu : ℕ)
     → IsInOrder before → TouchesOnly event cpu → IsStep knobs before event after
     → BornNowhere before event.entry.act
     × PartStep knobs cpu (part_of before cpu) (step_at cpu event) (part_of after cpu)
@@ -22,7 +22,7 @@ PartSteps = (knobs : Settings) (before after : Machine) (event : Claimed) (cpu :
 -- from a step of the part there, the machine has a step that changes the part so and no other, where a pid that is
 -- born stands nowhere
 abbrev pub MachineSteps : Type 0
-MachineSteps = (knobs : Settings) (before : Machine) (event : Claimed) (cpu : ℕ) (part : Part)
+MachineSteps = (knobs : KnobsView) (before : Machine) (event : Claimed) (cpu : ℕ) (part : Part)
     → IsInOrder before → ClaimInRange event → TouchesOnly event cpu → BornNowhere before event.entry.act
     → PartStep knobs cpu (part_of before cpu) (step_at cpu event) part
     → (after : Machine) × IsStep knobs before event after × IsInOrder after × (part_of after cpu ≡ part)

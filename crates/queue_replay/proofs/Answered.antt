@@ -6,7 +6,7 @@ use Rattle.std.proofs.lemmas.Int.{ints, clamps}
 use Rattle.std.proofs.lemmas.Bool.{false≢true, not-true, not_from_false}
 use Rattle.std.proofs.lemmas.Option.{same_Some}
 use Rattle.replay_model.specs.Part.{Part, Entity, IsIn, NobodyIn}
-use Rattle.replay_model.specs.PartWords.{IsIdlePart}
+use Rattle.replay_model.specs.PartWords.{PartIdles}
 use Rattle.replay_model.specs.ClaimTests.{IsInWakeBounds}
 use Rattle.replay_model.specs.Needs.{IsLeastWaiting}
 use Rattle.replay_model.specs.QueueTests.{HasOtherNice, IsRunner}
@@ -89,7 +89,7 @@ in_bounds credit floor own v b from to same = (
 
 -- whether nobody runs beside a waiting task
 pub idles : (part : Part) (runner : Option Task) (v : ℤ) → IsTheRunner part runner → is_some runner ≡ false
-    → IsLeastWaiting part v → IsIdlePart part
+    → IsLeastWaiting part v → PartIdles part
 idles part (Some t) v ran none w = absurd cc
 idles part None v nobody none w = record {
   nobody_runs = nobody;
@@ -98,9 +98,9 @@ idles part None v nobody none w = record {
       ∙ ap Some w.waits;
 }
 
-pub busy : (part : Part) (runner : Option Task) → IsTheRunner part runner → is_some runner ≡ true → ¬ IsIdlePart part
+pub busy : (part : Part) (runner : Option Task) → IsTheRunner part runner → is_some runner ≡ true → ¬ PartIdles part
 busy part None nobody some idle = absurd cc
 busy part (Some t) ran some idle = idle.nobody_runs t.pid (ap its_place ran.0 ∙ ap Some ran.1)
 
-pub unwaited : (part : Part) → NobodyIn part Wait → ¬ IsIdlePart part
+pub unwaited : (part : Part) → NobodyIn part Wait → ¬ PartIdles part
 unwaited part none idle = none idle.pid idle.waits

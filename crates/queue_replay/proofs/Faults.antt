@@ -3,7 +3,7 @@ use Rattle.std.proofs.Common.{◌≡◌, ◌≢◌, ℕ, ◌+◌, Option, None, 
 use Rattle.replay_model.specs.Noted.{PageView}
 use Rattle.replay_model.specs.Page.{ReplayStateView, FailsTest, deadline_of, with_fault}
 use Rattle.replay_model.specs.Part.{Part}
-use Rattle.cfs_model.specs.Settings.{Settings}
+use Rattle.cfs_model.specs.Knobs.{KnobsView}
 use Rattle.cfs_model.specs.declared.kind.Kind.{Kind}
 use Rattle.cfs_model.specs.declared.kind.Kind.TheVariants.{IdleTooLong}
 use Rattle.replay_model.specs.declared.page.StepFault.{StepFault}
@@ -22,7 +22,7 @@ no_deadline IdleTooLong slack since ne = absurd (ne refl)
 no_deadline _ slack since ne = refl
 
 -- a step that fails
-pub failed : (knobs : Settings) (cpu : ℕ) (before : ReplayStateView) (needed : Settings) (step : Step) (kind : Kind)
+pub failed : (knobs : KnobsView) (cpu : ℕ) (before : ReplayStateView) (needed : KnobsView) (step : Step) (kind : Kind)
     (pid : ℕ) (deadline : Option ℕ) (mid : ReplayStateView) (new : ReplayState)
     → FailsTest knobs cpu before step kind pid → deadline ≡ deadline_of kind knobs.slack before.since → mid ≡ before
     → replay_state_view new ≡ with_fault mid (record { line = step.line; kind = kind; pid = pid; deadline = deadline })
@@ -38,7 +38,7 @@ failed knobs cpu before needed step kind pid deadline mid new fails is same note
     })
 
 -- a step that passes
-pub passed : (knobs : Settings) (cpu : ℕ) (old between new : ReplayState) (step : Step)
+pub passed : (knobs : KnobsView) (cpu : ℕ) (old between new : ReplayState) (step : Step)
     → IsPassed knobs cpu old step between
     → new ≡ record between { made = old.made + 1 }
     → IsStepped knobs cpu (replay_state_view old) old.needs step new

@@ -78,9 +78,9 @@ tallied_within steps (Switch prev prev_nice way (suc n) next_nice) tallies w =
     (All-weaker (IsRan steps) (λ tally. IsWithin (steps + 1) (picked_tally (suc n) tally))
     (pick_within steps (suc n)) tallies w)
 tallied_within steps (Wake pid nice) tallies w = all_within steps tallies w
-tallied_within steps (Born pid nice idle) tallies w = with_within steps pid tallies w
+tallied_within steps (Born pid nice policy) tallies w = with_within steps pid tallies w
 tallied_within steps (Leave pid nice dest) tallies w = all_within steps tallies w
-tallied_within steps (Arrive pid nice orig idle) tallies w = with_within steps pid tallies w
+tallied_within steps (Arrive pid nice orig policy) tallies w = with_within steps pid tallies w
 
 -- where nobody is out of range, the runner's charge fits
 runner_fits : (part : Part) (time : ℕ) → ((pid : ℕ) → ¬ IsOutOfRange part time pid) → (runner : Option Task)

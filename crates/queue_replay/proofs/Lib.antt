@@ -2,8 +2,8 @@ pub mod Answered
 pub mod Passed
 pub mod Needed
 pub mod Rows
-pub mod PlacedBy
-pub mod Placed
+pub mod IndexedBy
+pub mod Indexed
 pub mod Counts
 pub mod Growing
 pub mod Noting

@@ -5,7 +5,7 @@ use Rattle.std.proofs.lemmas.Int.{ints}
 use Rattle.std.proofs.lemmas.List.{take_more}
 use Rattle.std.proofs.lemmas.Option.{same_Some}
 use Rattle.cfs_model.specs.Least.{larger}
-use Rattle.cfs_model.specs.Settings.{Settings}
+use Rattle.cfs_model.specs.Knobs.{KnobsView}
 use Rattle.cfs_model.specs.declared.act.Way.{Way}
 use Rattle.cfs_model.specs.declared.task.Place.{Place}
 use Rattle.cfs_model.specs.declared.task.Place.TheVariants.{Wait}
@@ -148,9 +148,9 @@ needs_of_step since found step need idle n i = record {
     of_idling (Arrive pid nice orig idles) = refl
 
 -- one more step
-needing_push : (knobs : Settings) (cpu : ℕ) (before : ReplayStateView) (steps : List Step) (between : ReplayStateView)
-    (needed : Settings)
-    (step : Step) (after : ReplayStateView) (here : Settings)
+needing_push : (knobs : KnobsView) (cpu : ℕ) (before : ReplayStateView) (steps : List Step) (between : ReplayStateView)
+    (needed : KnobsView)
+    (step : Step) (after : ReplayStateView) (here : KnobsView)
     → AllPassNeeding knobs cpu before steps between needed → PassesNeeding knobs cpu between step after here
     → AllPassNeeding knobs cpu before (steps ++ step ∷ []) after (larger needed here)
 needing_push knobs cpu before [] between needed step after here r p = (
@@ -170,9 +170,9 @@ needing_push knobs cpu before (first ∷ steps) between needed step after here r
   ap (λ n. larger n here) r.5 ∙ larger_of_three r.1 r.2 here,
 )
 
-pub needing_more : (knobs : Settings) (cpu : ℕ) (start : ReplayStateView) (steps : List Step) (made : ℕ)
+pub needing_more : (knobs : KnobsView) (cpu : ℕ) (start : ReplayStateView) (steps : List Step) (made : ℕ)
     (between : ReplayStateView)
-    (needed : Settings) (step : Step) (after : ReplayStateView) (needs : Settings)
+    (needed : KnobsView) (step : Step) (after : ReplayStateView) (needs : KnobsView)
     → made < length steps → step ≡ get_or steps made step
     → AllPassNeeding knobs cpu start (take made steps) between needed
     → PassesRaising knobs cpu between needed step after needs

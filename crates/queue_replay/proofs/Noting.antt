@@ -27,17 +27,17 @@ left_noted : (found : Part) (step : Step) (deed : Deed)
     → if_left deed (ticket_by found step deed) ≡ left_by found step deed
 left_noted found step (Switch prev prev_nice way next next_nice) = refl
 left_noted found step (Wake pid nice) = refl
-left_noted found step (Born pid nice idle) = refl
+left_noted found step (Born pid nice policy) = refl
 left_noted found step (Leave pid nice dest) = refl
-left_noted found step (Arrive pid nice orig idle) = refl
+left_noted found step (Arrive pid nice orig policy) = refl
 
 came_noted : (found : Part) (step : Step) (deed : Deed)
     → if_came deed (ticket_by found step deed) ≡ came_by found step deed
 came_noted found step (Switch prev prev_nice way next next_nice) = refl
 came_noted found step (Wake pid nice) = refl
-came_noted found step (Born pid nice idle) = refl
+came_noted found step (Born pid nice policy) = refl
 came_noted found step (Leave pid nice dest) = refl
-came_noted found step (Arrive pid nice orig idle) = refl
+came_noted found step (Arrive pid nice orig policy) = refl
 
 -- pages that differ in their tallies alone
 pub record IsStretch (old mid : PageDraft) : Type 0 where

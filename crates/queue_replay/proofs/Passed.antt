@@ -12,12 +12,13 @@ use Rattle.cfs_model.specs.declared.claim.Claim.{Claim}
 use Rattle.replay_model.specs.declared.step.Deed.TheVariants.{Switch, Arrive}
 use Rattle.cfs_model.specs.declared.task.Place.{Place}
 use Rattle.cfs_model.specs.declared.task.Place.TheVariants.{Run, Wait, Rest}
-use Rattle.cfs_model.specs.Settings.{Settings}
+use Rattle.cfs_model.specs.Knobs.{KnobsView}
 use Rattle.queue_replay.specs.FirstTest.{IsFirst}
 use Rattle.queue_replay.specs.Rows.{IsUnclaimed, moved_tests, pick_tests}
 use Rattle.queue_replay.specs.declared.failed_test.FailedTest.{FailedTest}
 use Rattle.cfs_model.proofs.Moves.{put-other}
 use Rattle.runqueue.proofs.Parts.{written_over}
+use Rattle.cfs_model.specs.declared.policy.Policy.{Policy}
 
 -- a wakeup without a claim
 pub unwoken : (part : Part) (pid : ℕ) → wakes part pid None ≡ part
@@ -46,10 +47,10 @@ pub birth_claimed : (pid : ℕ) (claim : Option Claim) → ((p : ℕ) → ¬ IsU
 birth_claimed pid None none e = none pid (refl, λ h. h)
 birth_claimed pid (Some c) none e = absurd cc
 
-pub arrival_claimed : (part : Part) (pid : ℕ) (nice : ℤ) (orig : ℕ) (idle : Bool) (claim : Option Claim)
-    → ((p : ℕ) → ¬ IsClaimMissing part (Arrive pid nice orig idle) claim p) → claim ≢ None
-arrival_claimed part pid nice orig idle None none e = none pid (refl, λ h. h)
-arrival_claimed part pid nice orig idle (Some c) none e = absurd cc
+pub arrival_claimed : (part : Part) (pid : ℕ) (nice : ℤ) (orig : ℕ) (policy : Policy) (claim : Option Claim)
+    → ((p : ℕ) → ¬ IsClaimMissing part (Arrive pid nice orig policy) claim p) → claim ≢ None
+arrival_claimed part pid nice orig policy None none e = none pid (refl, λ h. h)
+arrival_claimed part pid nice orig policy (Some c) none e = absurd cc
 
 -- the previous task of a switch runs
 pub ran_prev : (part : Part) (prev : ℕ) (prev_nice : ℤ) (way : Way) (next : ℕ) (next_nice : ℤ)
@@ -65,7 +66,8 @@ next_stays part (suc n) Sleeps next ne = put-other part.tasks (suc n) _ next (λ
 next_stays part (suc n) Ends next ne = put-other part.tasks (suc n) None next (λ e. ne (sym e))
 
 -- the tests of a switch's pick, on the part that its previous task has left
-pub pick_tests_same : (knobs : Settings) (part : Part) (prev : ℕ) (prev_nice : ℤ) (way : Way) (next : ℕ) (next_nice : ℤ)
+pub pick_tests_same : (knobs : KnobsView) (part : Part) (prev : ℕ) (prev_nice : ℤ) (way : Way) (next : ℕ) (next_nice
+    : ℤ)
     (own : Option Entity)
     → (next ≢ 0 → own ≡ part.tasks next)
     → (found : Option FailedTest) → IsFirst found

@@ -1,7 +1,7 @@
 -- What becomes of a step whose line changes a nice value.
 use Rattle.std.proofs.Common.{◌≡◌, ◌≢◌, ℕ, Option, Some, None, option_map, Result, IfOk, ℤ, inl, inr, refl, sym, ap}
 use Rattle.std.proofs.Common.{◌∙◌, subst}
-use Rattle.cfs_model.specs.Settings.{Settings}
+use Rattle.cfs_model.specs.Knobs.{KnobsView}
 use Rattle.cfs_model.specs.declared.kind.Kind.TheVariants.{Strange}
 use Rattle.cfs_model.specs.declared.nice_line.NiceLine.{NiceLine}
 use Rattle.replay_model.specs.Deeds.{reniced}
@@ -18,7 +18,7 @@ abbrev changed : ℤ → Entity → Entity
 changed nice s = record s { nice = nice }
 
 -- the change of a pid that doesn't stand here is the first test that a step fails
-pub strange_first : (knobs : Settings) (cpu : ℕ) (part : Part) (step : Step) (change : NiceLine) (after : Part)
+pub strange_first : (knobs : KnobsView) (cpu : ℕ) (part : Part) (step : Step) (change : NiceLine) (after : Part)
     → step.nice ≡ Some change
     → part.tasks change.pid ≡ None
     → IsTried knobs cpu (reniced (Some change) part) step after (Failed (record { kind = Strange; pid = change.pid }))
@@ -29,7 +29,7 @@ strange_first knobs cpu part step change after says none =
     inl (subst (λ o. IsStrangeNice (reniced (Some change) part) o change.pid) (sym says) (gone, refl), refl)
 
 -- a step without a change is its deed
-pub deed_alone : {E : Type 0} (knobs : Settings) (cpu : ℕ) (part : Part) (step : Step) (after : Part)
+pub deed_alone : {E : Type 0} (knobs : KnobsView) (cpu : ℕ) (part : Part) (step : Step) (after : Part)
     (result : Result Outcome E) → step.nice ≡ None
     → IfOk result (IsDeedTried knobs cpu part step after)
     → IfOk result (IsTried knobs cpu (reniced step.nice part) step after)
@@ -37,7 +37,7 @@ deed_alone knobs cpu part step after result says h =
     subst (λ n. IfOk result (IsTried knobs cpu (reniced n part) (record step { nice = n }) after)) (sym says) h
 
 -- a step whose change is of one who stands here goes by its deed
-pub deed_after : (knobs : Settings) (cpu : ℕ) (part : Part) (step : Step) (change : NiceLine) (after : Part)
+pub deed_after : (knobs : KnobsView) (cpu : ℕ) (part : Part) (step : Step) (change : NiceLine) (after : Part)
     (outcome : Outcome) → step.nice ≡ Some change
     → part.tasks change.pid ≢ None → IsDeedTried knobs cpu (reniced (Some change) part) step after outcome
     → IsTried knobs cpu (reniced (Some change) part) step after outcome

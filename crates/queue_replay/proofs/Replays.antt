@@ -9,7 +9,7 @@ use Rattle.replay_model.specs.Noted.{PageView}
 use Rattle.replay_model.specs.Page.{ReplayStateView, PassesStep, FailsStep, IsReplayStep, IsReplay, IsStartOf, IsPageOf}
 use Rattle.replay_model.specs.Page.{end_page}
 use Rattle.cfs_model.specs.Least.{larger}
-use Rattle.cfs_model.specs.Settings.{Settings}
+use Rattle.cfs_model.specs.Knobs.{KnobsView}
 use Rattle.cfs_model.specs.declared.kind.Kind.TheVariants.{IdleTooLong}
 use Rattle.replay_model.specs.Needs.{AllPassNeeding, idle_need, only_slack}
 use Rattle.replay_model.specs.declared.page.StepFault.{StepFault}
@@ -23,7 +23,7 @@ use Rattle.runqueue.specs.Queue.{runqueue_view}
 use Rattle.queue_replay.proofs.Needed.{needing_more}
 
 -- a replay by one step more
-replay_more : (knobs : Settings) (cpu : ℕ) (start : ReplayStateView) (steps : List Step) (made : ℕ)
+replay_more : (knobs : KnobsView) (cpu : ℕ) (start : ReplayStateView) (steps : List Step) (made : ℕ)
     (between : ReplayStateView) (step : Step) (after : ReplayStateView)
     → made < length steps → step ≡ get_or steps made step → IsReplay knobs cpu start (take made steps) between
     → between.page.fault ≡ None
@@ -38,7 +38,7 @@ replay_more knobs cpu start steps made between step after within is r none s =
     subst (λ l. IsReplay knobs cpu start l after) (sym e) more
 
 -- a step that fails leaves a fault
-left_fault : (knobs : Settings) (cpu : ℕ) (before : ReplayStateView) (step : Step) (after : ReplayStateView)
+left_fault : (knobs : KnobsView) (cpu : ℕ) (before : ReplayStateView) (step : Step) (after : ReplayStateView)
     → FailsStep knobs cpu before step after
     → after.page.fault ≡ None → ⊥
 left_fault knobs cpu before step after f none = go _ (sym (ap (λ (x : ReplayStateView). x.page.fault) f.result) ∙ none)
@@ -47,7 +47,7 @@ left_fault knobs cpu before step after f none = go _ (sym (ap (λ (x : ReplaySta
     go fault e = cc
 
 -- the replay by the steps made, before the end test
-pub record IsReached (s : StreamView) (knobs : Settings) (c : ReplayState) : Type 0 where
+pub record IsReached (s : StreamView) (knobs : KnobsView) (c : ReplayState) : Type 0 where
   pub start : ReplayStateView
   pub is_start : IsStartOf s start
   pub replay : IsReplay knobs s.cpu start (take c.made s.steps) (replay_state_view c)
@@ -55,7 +55,8 @@ pub record IsReached (s : StreamView) (knobs : Settings) (c : ReplayState) : Typ
       c.needs
   pub going : c.draft.fault ≡ None → IsGoing c
 
-pub reached_one_more : (s : StreamView) (knobs : Settings) (old new : ReplayState) (step : Step) (cpu : ℕ) → cpu ≡ s.cpu
+pub reached_one_more : (s : StreamView) (knobs : KnobsView) (old new : ReplayState) (step : Step) (cpu : ℕ) → cpu
+    ≡ s.cpu
     → IsUnderWay s knobs old
     → old.made < length s.steps → step ≡ get_or s.steps old.made step
     → IsStepped knobs cpu (replay_state_view old) old.needs step new → new.made ≡ old.made + 1
@@ -91,7 +92,7 @@ reached_one_more s knobs old new step cpu same u within is stepped made =
     }
 
 -- the part of the steps made
-part_reached : (s : StreamView) (knobs : Settings) (c : ReplayState) → IsReached s knobs c
+part_reached : (s : StreamView) (knobs : KnobsView) (c : ReplayState) → IsReached s knobs c
     → IsPartAfter s knobs c.made (runqueue_view c.queue) c.since
 part_reached s knobs c r = record {
   start = r.start;
@@ -103,7 +104,7 @@ part_reached s knobs c r = record {
 }
 
 -- before the last step the page is that of the steps made
-pub at_middle : (s : StreamView) (knobs : Settings) (c : ReplayState) → IsReached s knobs c → c.made < length s.steps
+pub at_middle : (s : StreamView) (knobs : KnobsView) (c : ReplayState) → IsReached s knobs c → c.made < length s.steps
     → IsAt s knobs c
 at_middle s knobs c r within = record {
   within = omega arith;
@@ -145,7 +146,8 @@ end_faultless slack s (Some since) None page has none = (refl, go (nat_lt (since
     go false e = refl
 
 -- after the last step the end test is made
-pub at_end : (s : StreamView) (knobs : Settings) (c after : ReplayState) → IsReached s knobs c → c.made ≡ length s.steps
+pub at_end : (s : StreamView) (knobs : KnobsView) (c after : ReplayState) → IsReached s knobs c → c.made
+    ≡ length s.steps
     → after.made ≡ c.made
     → runqueue_view after.queue ≡ runqueue_view c.queue → after.since ≡ c.since
     → page_draft_view after.draft ≡ end_page knobs.slack s c.since c.draft.fault (page_draft_view c.draft)
@@ -191,7 +193,7 @@ at_end s knobs c after r last made part since noted raised = record {
 }
 
 -- a state before the first step
-pub reached_start : (s : StreamView) (knobs : Settings) (c : ReplayState) → c.made ≡ 0
+pub reached_start : (s : StreamView) (knobs : KnobsView) (c : ReplayState) → c.made ≡ 0
     → IsStartOf s (replay_state_view c) → IsGoing c → c.needs ≡ only_slack 0
     → IsReached s knobs c
 reached_start s knobs c e start going none = record {
@@ -204,7 +206,7 @@ reached_start s knobs c e start going none = record {
 }
 
 -- a run of some steps, with so many left
-pub record IsRunning (s : StreamView) (knobs : Settings) (from : ℕ) (before : PageView) (steps left : ℕ)
+pub record IsRunning (s : StreamView) (knobs : KnobsView) (from : ℕ) (before : PageView) (steps left : ℕ)
     (c : ReplayState) : Type 0 where
   pub at : IsAt s knobs c
   pub counted : c.made + left ≡ from + steps
@@ -213,7 +215,7 @@ pub record IsRunning (s : StreamView) (knobs : Settings) (from : ℕ) (before : 
   pub same : c.made ≡ from → page_draft_view c.draft ≡ before
   pub first : from < c.made → IsFaultless s knobs (c.made - 1)
 
-pub running_more : (s : StreamView) (knobs : Settings) (from : ℕ) (before : PageView) (steps left : ℕ)
+pub running_more : (s : StreamView) (knobs : KnobsView) (from : ℕ) (before : PageView) (steps left : ℕ)
     (c new : ReplayState)
     → IsRunning s knobs from before steps left c → 0 < left → c.draft.fault ≡ None → IsAt s knobs new
     → new.made ≡ c.made + 1
@@ -234,7 +236,7 @@ min_left a b made e h = omega arith
 min_right : (a b made : ℕ) → made ≡ b → made ≤ a → made ≡ min a b
 min_right a b made e h = omega arith
 
-pub goes_on : (s : StreamView) (knobs : Settings) (from : ℕ) (before : PageView) (steps left : ℕ) (c : ReplayState)
+pub goes_on : (s : StreamView) (knobs : KnobsView) (from : ℕ) (before : PageView) (steps left : ℕ) (c : ReplayState)
     → IsRunning s knobs from before steps left c → (left ≡ 0) ⊎ (IsSome c.draft.fault ⊎ (length s.steps ≤ c.made))
     → GoesOn s knobs from before steps c.made (page_draft_view c.draft)
 goes_on s knobs from before steps left c r over = record {

@@ -7,7 +7,7 @@ use Rattle.replay_model.specs.Tests.{Test, FirstHolds, late_tests}
 use Rattle.replay_model.specs.declared.step.Deed.{Deed}
 use Rattle.replay_model.specs.declared.step.Deed.TheVariants.{Switch, Wake, Born, Leave, Arrive}
 use Rattle.replay_model.specs.declared.step.Step.{Step}
-use Rattle.cfs_model.specs.Settings.{Settings}
+use Rattle.cfs_model.specs.Knobs.{KnobsView}
 use Rattle.cfs_model.specs.declared.act.Way.{Way}
 use Rattle.cfs_model.specs.declared.claim.Claim.{Claim}
 use Rattle.cfs_model.specs.declared.kind.Kind.{Kind}
@@ -19,6 +19,7 @@ use Rattle.queue_replay.specs.Rows.{IsDeedTried, arrival_tests, birth_tests, lea
 use Rattle.queue_replay.specs.declared.failed_test.FailedTest.{FailedTest}
 use Rattle.queue_replay.specs.declared.made_deed.MadeDeed.{MadeDeed}
 use Rattle.queue_replay.specs.declared.outcome.Outcome.TheVariants.{Made, Failed}
+use Rattle.cfs_model.specs.declared.policy.Policy.{Policy}
 
 -- what is first among some tests is first among more
 pub record Widens (less more : List Test) : Type 0 where
@@ -46,12 +47,12 @@ keep {less} {more} {test} w = record { first = go }
     go (Some failed) (inr h) = inr (h.0, w.first (Some failed) h.1)
 
 -- the ordered list, for a deed and its claim
-abbrev pub all_tests : Settings → ℕ → Part → Deed → Option Claim → List Test
+abbrev pub all_tests : KnobsView → ℕ → Part → Deed → Option Claim → List Test
 all_tests knobs cpu part deed claim = late_tests knobs cpu part
     (record { line = 0; time = 0; deed = deed; claim = claim; nice = None })
 
 -- a switch
-pub switch_row : (knobs : Settings) (cpu : ℕ) (part : Part) (prev : ℕ) (prev_nice : ℤ) (way : Way) (next : ℕ)
+pub switch_row : (knobs : KnobsView) (cpu : ℕ) (part : Part) (prev : ℕ) (prev_nice : ℤ) (way : Way) (next : ℕ)
     (next_nice : ℤ) (claim : Option Claim)
     → Widens (switch_tests knobs part (Switch prev prev_nice way next next_nice) claim)
     (all_tests knobs cpu part (Switch prev prev_nice way next next_nice) claim)
@@ -67,7 +68,7 @@ switch_row knobs cpu part prev prev_nice way next next_nice (Some c) =
     (keep (keep (keep (keep (skip (λ p h. h) (skip (λ p h. h) (keep (keep (keep end))))))))))))))))
 
 -- a wakeup
-pub wake_row : (knobs : Settings) (cpu : ℕ) (part : Part) (pid : ℕ) (nice : ℤ) (claim : Option Claim)
+pub wake_row : (knobs : KnobsView) (cpu : ℕ) (part : Part) (pid : ℕ) (nice : ℤ) (claim : Option Claim)
     → Widens (wake_tests knobs.credit part (Wake pid nice) claim) (all_tests knobs cpu part (Wake pid nice) claim)
 wake_row knobs cpu part pid nice None = skip (λ p h. h)
     (skip (λ p h. h) (skip (λ p h. h) (skip (λ p h. h)
@@ -82,16 +83,17 @@ wake_row knobs cpu part pid nice (Some c) =
     (skip (λ p h. h) (skip (λ p h. h) (skip (λ p h. h) (skip (λ p h. h) end))))))))))))))))
 
 -- a birth
-pub birth_row : (knobs : Settings) (cpu : ℕ) (part : Part) (pid : ℕ) (nice : ℤ) (idle : Bool) (claim : Option Claim)
-    → Widens (birth_tests knobs.debit part (Born pid nice idle) claim)
-    (all_tests knobs cpu part (Born pid nice idle) claim)
-birth_row knobs cpu part pid nice idle None =
+pub birth_row : (knobs : KnobsView) (cpu : ℕ) (part : Part) (pid : ℕ) (nice : ℤ) (policy : Policy) (claim : Option
+    Claim)
+    → Widens (birth_tests knobs.debit part (Born pid nice policy) claim)
+    (all_tests knobs cpu part (Born pid nice policy) claim)
+birth_row knobs cpu part pid nice policy None =
     skip (λ p h. h) (skip (λ p h. h) (skip (λ p h. h)
     (skip (λ p h. h) (skip (λ p h. h) (keep
     (skip (λ p h. h) (skip (λ p h. h) (keep
     (skip (λ p h. h) (keep (skip (λ p h. h)
     (skip (λ p h. h) (keep (skip (λ p h. h) (skip (λ p h. h) (skip (λ p h. h) end))))))))))))))))
-birth_row knobs cpu part pid nice idle (Some c) =
+birth_row knobs cpu part pid nice policy (Some c) =
     skip (λ p h. h) (skip (λ p h. h) (skip (λ p h. h)
     (skip (λ p h. h) (skip (λ p h. h) (keep
     (skip (λ p h. h) (skip (λ p h. h) (keep
@@ -99,7 +101,7 @@ birth_row knobs cpu part pid nice idle (Some c) =
     (keep (skip (λ p h. h) (skip (λ p h. h) (keep (skip (λ p h. h) (skip (λ p h. h) (skip (λ p h. h) end))))))))))))))))
 
 -- a task that leaves
-pub leave_row : (knobs : Settings) (cpu : ℕ) (part : Part) (pid : ℕ) (nice : ℤ) (dest : ℕ) (claim : Option Claim)
+pub leave_row : (knobs : KnobsView) (cpu : ℕ) (part : Part) (pid : ℕ) (nice : ℤ) (dest : ℕ) (claim : Option Claim)
     → Widens (leave_tests cpu part (Leave pid nice dest)) (all_tests knobs cpu part (Leave pid nice dest) claim)
 leave_row knobs cpu part pid nice dest None =
     skip (λ p h. h) (keep (skip (λ p h. h)
@@ -116,17 +118,17 @@ leave_row knobs cpu part pid nice dest (Some c) =
     (skip (λ p h. h) (skip (λ p h. h) (skip (λ p h. h) end))))))))))))))))
 
 -- a task that comes
-pub arrival_row : (knobs : Settings) (cpu : ℕ) (part : Part) (pid : ℕ) (nice : ℤ) (orig : ℕ) (idle : Bool)
+pub arrival_row : (knobs : KnobsView) (cpu : ℕ) (part : Part) (pid : ℕ) (nice : ℤ) (orig : ℕ) (policy : Policy)
     (claim : Option Claim)
-    → Widens (arrival_tests part (Arrive pid nice orig idle) claim)
-    (all_tests knobs cpu part (Arrive pid nice orig idle) claim)
-arrival_row knobs cpu part pid nice orig idle None =
+    → Widens (arrival_tests part (Arrive pid nice orig policy) claim)
+    (all_tests knobs cpu part (Arrive pid nice orig policy) claim)
+arrival_row knobs cpu part pid nice orig policy None =
     skip (λ p h. h) (skip (λ p h. h) (skip (λ p h. h)
     (skip (λ p h. h) (skip (λ p h. h) (keep
     (skip (λ p h. h) (skip (λ p h. h) (keep
     (skip (λ p h. h) (keep (skip (λ p h. h)
     (skip (λ p h. h) (skip (λ p h. h) (skip (λ p h. h) (skip (λ p h. h) (skip (λ p h. h) end))))))))))))))))
-arrival_row knobs cpu part pid nice orig idle (Some c) =
+arrival_row knobs cpu part pid nice orig policy (Some c) =
     skip (λ p h. h) (skip (λ p h. h) (skip (λ p h. h)
     (skip (λ p h. h) (skip (λ p h. h) (keep
     (skip (λ p h. h) (skip (λ p h. h) (keep
@@ -135,7 +137,7 @@ arrival_row knobs cpu part pid nice orig idle (Some c) =
     (skip (λ p h. h) (skip (λ p h. h) (skip (λ p h. h) (skip (λ p h. h) end))))))))))))))))
 
 -- a step's deed, by its row
-module _ (knobs : Settings) (cpu : ℕ) (part : Part) (step : Step) (deed : Deed) (claim : Option Claim)
+module _ (knobs : KnobsView) (cpu : ℕ) (part : Part) (step : Step) (deed : Deed) (claim : Option Claim)
     (tests : List Test)
     (row : Widens tests (all_tests knobs cpu part deed claim)) (is : step.deed ≡ deed) (says : step.claim ≡ claim) where
   among : (found : Option FailedTest) → IsFirst found tests
@@ -173,7 +175,7 @@ later_kind [] all kind pid h = absurd h
 later_kind (test ∷ tests) all kind pid (inl h) = λ e. all.0 (sym h.1 ∙ e)
 later_kind (test ∷ tests) all kind pid (inr h) = later_kind tests all.1 kind pid h.1
 
-pub is_later : (knobs : Settings) (cpu : ℕ) (part : Part) (step : Step) (kind : Kind) (pid : ℕ)
+pub is_later : (knobs : KnobsView) (cpu : ℕ) (part : Part) (step : Step) (kind : Kind) (pid : ℕ)
     → FirstHolds (late_tests knobs cpu part step) kind pid
     → kind ≢ IdleTooLong
 is_later knobs cpu part step = later_kind (late_tests knobs cpu part step) (

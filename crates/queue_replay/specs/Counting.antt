@@ -28,7 +28,7 @@ page_draft_view draft = record {
 -- the ticket of a step, if it has one
 abbrev pub ticket_by : Part → Step → Deed → Option Ticket
 ticket_by found step (Leave pid nice dest) = left_ticket found step.line pid
-ticket_by found step (Arrive pid nice orig idle) = came_ticket found step.line pid nice idle step.claim
+ticket_by found step (Arrive pid nice orig policy) = came_ticket found step.line pid nice policy step.claim
 ticket_by found step _ = None
 
 -- a ticket, if the task leaves, and if it comes
@@ -37,17 +37,17 @@ if_left (Leave pid nice dest) ticket = option_to_list ticket
 if_left _ ticket = []
 
 abbrev pub if_came : Deed → Option Ticket → List Ticket
-if_came (Arrive pid nice orig idle) ticket = option_to_list ticket
+if_came (Arrive pid nice orig policy) ticket = option_to_list ticket
 if_came _ ticket = []
 
 -- the lists of the draft have room for what a deed adds
 abbrev pub HasDraftRoom : Deed → PageDraft → Type 0
 HasDraftRoom (Switch prev prev_nice way next next_nice) draft = vec_len draft.deaths < vec_capacity draft.deaths
 HasDraftRoom (Wake pid nice) draft = ⊤
-HasDraftRoom (Born pid nice idle) draft = (vec_len draft.births < vec_capacity draft.births)
+HasDraftRoom (Born pid nice policy) draft = (vec_len draft.births < vec_capacity draft.births)
     × (0 < draft.tallies.table.room)
 HasDraftRoom (Leave pid nice dest) draft = vec_len draft.left < vec_capacity draft.left
-HasDraftRoom (Arrive pid nice orig idle) draft = (vec_len draft.came < vec_capacity draft.came)
+HasDraftRoom (Arrive pid nice orig policy) draft = (vec_len draft.came < vec_capacity draft.came)
     × (0 < draft.tallies.table.room)
 
 -- the tallies after the runner, if there is one, ran for so long

@@ -1,6 +1,6 @@
 pub mod Picks
 pub mod FirstTest
-pub mod Places
+pub mod Indices
 pub mod Stretches
 pub mod Counting
 pub mod Needing

@@ -1,7 +1,7 @@
 -- How far a replay has gone along its stream (this project's profile).
 use Rattle.std.specs.Prelude.{◌≡◌, ℕ, ◌+◌, ◌-◌, ◌<◌, ◌≤◌, min, nat_lt, if◌then◌else◌, Option, Some, None, IsSome}
 use Rattle.std.specs.Prelude.{length, take}
-use Rattle.cfs_model.specs.Settings.{Settings}
+use Rattle.cfs_model.specs.Knobs.{KnobsView}
 use Rattle.replay_model.specs.Cut.{StreamView}
 use Rattle.replay_model.specs.Needs.{AllPassNeeding}
 use Rattle.replay_model.specs.Noted.{PageView}
@@ -19,7 +19,7 @@ use Rattle.queue_replay.specs.declared.tag.Reached.TheVariants.{Stopped, Done, F
 use Rattle.runqueue.specs.Queue.{runqueue_view}
 
 -- the state is that of the stream's replay by its first steps, none of which failed, and its needs are theirs
-pub record IsUnderWay (stream : StreamView) (knobs : Settings) (state : ReplayState) : Type 0 where
+pub record IsUnderWay (stream : StreamView) (knobs : KnobsView) (state : ReplayState) : Type 0 where
   pub start : ReplayStateView
   pub is_start : IsStartOf stream start
   pub replay : IsReplay knobs stream.cpu start (take state.made stream.steps) (replay_state_view state)
@@ -29,7 +29,7 @@ pub record IsUnderWay (stream : StreamView) (knobs : Settings) (state : ReplaySt
 
 -- the part of a processor, and since when it has idled beside a waiting task, after the first steps of its stream's
 -- replay; a step that fails changes neither
-pub record IsPartAfter (stream : StreamView) (knobs : Settings) (made : ℕ) (part : Part)
+pub record IsPartAfter (stream : StreamView) (knobs : KnobsView) (made : ℕ) (part : Part)
     (since : Option ℕ) : Type 0 where
   pub start : ReplayStateView
   pub is_start : IsStartOf stream start
@@ -39,7 +39,7 @@ pub record IsPartAfter (stream : StreamView) (knobs : Settings) (made : ℕ) (pa
   pub since_is : since ≡ end.since
 
 -- the state has the page of the steps made, with what they need, and can go on where none has failed and some are left
-pub record IsAt (stream : StreamView) (knobs : Settings) (state : ReplayState) : Type 0 where
+pub record IsAt (stream : StreamView) (knobs : KnobsView) (state : ReplayState) : Type 0 where
   pub within : state.made ≤ length stream.steps
   pub is_part : IsPartAfter stream knobs state.made (runqueue_view state.queue) state.since
   pub is_page : IsPageOf stream knobs state.made (page_draft_view state.draft)
@@ -52,11 +52,11 @@ state_of (Some fault) made steps = states.Faulted
 state_of None made steps = if nat_lt made steps then states.Going else states.Done
 
 -- a page of so many steps without a fault
-abbrev pub IsFaultless : StreamView → Settings → ℕ → Type 0
+abbrev pub IsFaultless : StreamView → KnobsView → ℕ → Type 0
 IsFaultless stream knobs made = (page : PageView) × IsPageOf stream knobs made page × (page.fault ≡ None)
 
 -- a replay that had this page after so many steps went on for at most so many more
-pub record GoesOn (stream : StreamView) (knobs : Settings) (from : ℕ) (before : PageView) (steps made : ℕ)
+pub record GoesOn (stream : StreamView) (knobs : KnobsView) (from : ℕ) (before : PageView) (steps made : ℕ)
     (after : PageView)
     : Type 0 where
   -- a fault ends it: nothing changes any more
@@ -72,7 +72,7 @@ pub record GoesOn (stream : StreamView) (knobs : Settings) (from : ℕ) (before 
   pub first : from < made → IsFaultless stream knobs (made - 1)
 
 -- a replay met want of memory before one of so many steps: it stands before that step
-pub record IsCut (stream : StreamView) (knobs : Settings) (from steps made : ℕ) (after : PageView) : Type 0 where
+pub record IsCut (stream : StreamView) (knobs : KnobsView) (from steps made : ℕ) (after : PageView) : Type 0 where
   pub faultless : after.fault ≡ None
   pub from_there : from ≤ made
   pub fewer : made < from + steps

@@ -1,7 +1,7 @@
 -- What a replay says of the least settings (this project's profile).
 use Rattle.std.specs.Prelude.{◌≡◌, ℕ, ◌≤◌, Option, None, length}
 use Rattle.cfs_model.specs.Least.{larger}
-use Rattle.cfs_model.specs.Settings.{Settings}
+use Rattle.cfs_model.specs.Knobs.{KnobsView}
 use Rattle.cfs_model.specs.declared.claim.Claim.{Claim}
 use Rattle.replay_model.specs.Cut.{StreamView}
 use Rattle.replay_model.specs.Needs.{IsBirthNeed, IsPageNeeding, IsPickNeed, IsWakeNeed, PassesNeeding, only_slack}
@@ -22,7 +22,7 @@ IsNeed part (Leave pid nice dest) claim need = need ≡ 0
 IsNeed part (Arrive pid nice orig idle) claim need = need ≡ 0
 
 -- what a step needs whose deed has this need, after the processor has idled beside a waiting task for so long
-abbrev pub step_needs : Deed → ℕ → ℕ → Settings
+abbrev pub step_needs : Deed → ℕ → ℕ → KnobsView
 step_needs (Switch prev prev_nice way next next_nice) need idle = record (only_slack idle) { granularity = need }
 step_needs (Wake pid nice) need idle = record (only_slack idle) { credit = need }
 step_needs (Born pid nice idles) need idle = record (only_slack idle) { debit = need }
@@ -30,11 +30,11 @@ step_needs (Leave pid nice dest) need idle = only_slack idle
 step_needs (Arrive pid nice orig idles) need idle = only_slack idle
 
 -- the replay goes on by a step that passes, and its needs rise to what the step needs
-abbrev pub PassesRaising : Settings → ℕ → ReplayStateView → Settings → Step → ReplayStateView → Settings → Type 0
+abbrev pub PassesRaising : KnobsView → ℕ → ReplayStateView → KnobsView → Step → ReplayStateView → KnobsView → Type 0
 PassesRaising knobs cpu before needed step after needs =
-    (here : Settings) × PassesNeeding knobs cpu before step after here × (needs ≡ larger needed here)
+    (here : KnobsView) × PassesNeeding knobs cpu before step after here × (needs ≡ larger needed here)
 
 -- where all steps were made and nothing failed, these are the needs of the stream's whole replay
-abbrev pub HasNeeds : StreamView → Settings → ℕ → PageView → Settings → Type 0
+abbrev pub HasNeeds : StreamView → KnobsView → ℕ → PageView → KnobsView → Type 0
 HasNeeds stream knobs made page needs =
     page.fault ≡ None → length stream.steps ≤ made → IsPageNeeding stream knobs page needs

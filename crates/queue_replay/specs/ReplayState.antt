@@ -1,6 +1,6 @@
 -- A replay under way, as the definitions have it (this project's profile).
 use Rattle.std.specs.Prelude.{◌≡◌, ℕ, ◌+◌, None, ◌⊎◌, All}
-use Rattle.cfs_model.specs.Settings.{Settings}
+use Rattle.cfs_model.specs.Knobs.{KnobsView}
 use Rattle.replay_model.specs.Page.{ReplayStateView, FailsStep}
 use Rattle.replay_model.specs.declared.step.Step.{Step}
 use Rattle.queue_replay.specs.Counting.{page_draft_view}
@@ -23,13 +23,13 @@ pub record IsGoing (state : ReplayState) : Type 0 where
   pub within : All (IsWithin state.made) state.draft.tallies.table.rows
 
 -- the step passed, and was noted
-pub record IsPassed (knobs : Settings) (cpu : ℕ) (old : ReplayState) (step : Step) (new : ReplayState) : Type 0 where
+pub record IsPassed (knobs : KnobsView) (cpu : ℕ) (old : ReplayState) (step : Step) (new : ReplayState) : Type 0 where
   pub passes : PassesRaising knobs cpu (replay_state_view old) old.needs step (replay_state_view new)
       new.needs
   pub within : All (IsWithin (old.made + 1)) new.draft.tallies.table.rows
 
 -- a step was made, which passed, or failed
-abbrev pub IsStepped : Settings → ℕ → ReplayStateView → Settings → Step → ReplayState → Type 0
+abbrev pub IsStepped : KnobsView → ℕ → ReplayStateView → KnobsView → Step → ReplayState → Type 0
 IsStepped knobs cpu before needed step new =
     (PassesRaising knobs cpu before needed step (replay_state_view new) new.needs × IsGoing new)
     ⊎ FailsStep knobs cpu before step (replay_state_view new)

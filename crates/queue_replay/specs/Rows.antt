@@ -12,7 +12,7 @@ use Rattle.replay_model.specs.Tests.{Test, NoneHolds, FirstHolds, late_tests}
 use Rattle.replay_model.specs.declared.step.Deed.{Deed}
 use Rattle.replay_model.specs.declared.step.Deed.TheVariants.{Switch}
 use Rattle.replay_model.specs.declared.step.Step.{Step}
-use Rattle.cfs_model.specs.Settings.{Settings}
+use Rattle.cfs_model.specs.Knobs.{KnobsView}
 use Rattle.cfs_model.specs.declared.claim.Claim.{Claim}
 use Rattle.cfs_model.specs.declared.claim.ClaimSort.TheVariants.{At}
 use Rattle.cfs_model.specs.declared.kind.Kind.TheVariants as kind
@@ -49,7 +49,7 @@ IsOfAnother needed None pid = ⊥
 IsOfAnother needed (Some claim) pid = ((task : ℕ) × (needed ≡ Some task) × (claim.pid ≢ task)) × (pid ≡ claim.pid)
 
 -- a switch's pick
-abbrev pub pick_tests : Settings → Part → Deed → List Test
+abbrev pub pick_tests : KnobsView → Part → Deed → List Test
 pick_tests knobs part deed =
     record { kind = kind.IdleBesideWaiting; holds = IsIdleBesideWaiting part deed } ∷
     record { kind = kind.NotLeast; holds = IsNotLeast knobs.granularity part deed } ∷ []
@@ -61,7 +61,7 @@ moved_tests granularity own moved next =
     record { kind = kind.NotLeast; holds = IsAboveGranularity granularity own moved next } ∷ []
 
 -- a switch
-abbrev pub switch_tests : Settings → Part → Deed → Option Claim → List Test
+abbrev pub switch_tests : KnobsView → Part → Deed → Option Claim → List Test
 switch_tests knobs part deed claim =
     record { kind = kind.SelfSwitch; holds = IsSelfSwitch deed } ∷
     record { kind = kind.PrevNotRunning; holds = IsPrevNotRunning part deed } ∷
@@ -107,14 +107,14 @@ arrival_tests part deed claim =
 
 -- a step passed its tests and its deed made this of the part, with this ticket and this need; or the first test that it
 -- fails
-abbrev pub IsTried : Settings → ℕ → Part → Step → Part → Outcome → Type 0
+abbrev pub IsTried : KnobsView → ℕ → Part → Step → Part → Outcome → Type 0
 IsTried knobs cpu part step after (Made deed) =
     NoneHolds (late_tests knobs cpu part step) × (after ≡ after_deed part step.deed step.claim)
     × (deed.ticket ≡ ticket_by part step step.deed) × IsNeed part step.deed step.claim deed.need
 IsTried knobs cpu part step after (Failed failed) = FirstHolds (late_tests knobs cpu part step) failed.kind failed.pid
 
 -- the same of a step's deed alone, whatever its line changes
-abbrev pub IsDeedTried : Settings → ℕ → Part → Step → Part → Outcome → Type 0
+abbrev pub IsDeedTried : KnobsView → ℕ → Part → Step → Part → Outcome → Type 0
 IsDeedTried knobs cpu part step after outcome = IsTried knobs cpu part (record step { nice = None }) after outcome
 
 -- the map and the set of a runqueue hold what they did, unless the step was made

@@ -41,8 +41,8 @@ pub(crate) fn claim_missing(needed: Option<u32>, claim: Option<Claim>) -> Option
 
 /// A task comes, and the line has no claim.
 pub(crate) fn arrival_claim_missing(pid: u32, claim: Option<Claim>) -> Option<u32>
-    ensures { (part : Part) (nice : ℤ) (orig : ℕ) (idle : Bool)
-        → Decides result (IsClaimMissing part (Arrive pid nice orig idle) claim) }
+    ensures { (part : Part) (nice : ℤ) (orig : ℕ) (policy : Policy)
+        → Decides result (IsClaimMissing part (Arrive pid nice orig policy) claim) }
 {
     match claim {
         Some(_) => None,
@@ -100,8 +100,8 @@ pub(crate) fn fork_outside(
     claim: Option<Claim>,
     debit: u64,
 ) -> Option<u32>
-    ensures { (nice : ℤ) (idle : Bool) → Decides result
-        (IsForkOutside debit (runqueue_view queue.now) (Born pid nice idle) claim) }
+    ensures { (nice : ℤ) (policy : Policy) → Decides result
+        (IsForkOutside debit (runqueue_view queue.now) (Born pid nice policy) claim) }
 {
     let claim = claim?;
     if is_in_fork_bounds(queue.floor(), claim, debit) {

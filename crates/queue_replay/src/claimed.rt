@@ -12,17 +12,17 @@ pub(crate) fn claimed_task(
     place: Place,
     pid: u32,
     nice: Nice,
-    idle: bool,
+    policy: Policy,
     cpu: u32,
     claim: Claim,
 ) -> Task
     ensures pid { result.pid ≡ pid }
-    ensures entity { entity_of result ≡ record { place = place; nice = nice; idle = idle; runtime = claim.v } }
+    ensures entity { entity_of result ≡ record { place = place; nice = nice; policy = policy; runtime = claim.v } }
 {
     Task {
         pid,
         nice,
-        idle,
+        policy,
         cpu,
         place,
         v: claim.v,
@@ -44,7 +44,7 @@ pub(crate) fn left_ticket(
         line,
         pid,
         nice: task.nice,
-        idle: task.idle,
+        policy: task.policy,
         place: task.place,
         offset: i128::from(task.v) - i128::from(queue.floor()),
     })
@@ -56,16 +56,16 @@ pub(crate) fn came_ticket(
     line: u32,
     pid: u32,
     nice: Nice,
-    idle: bool,
+    policy: Policy,
     claim: Claim,
 ) -> Ticket
-    ensures { Some result ≡ came_ticket (runqueue_view queue.now) line pid nice idle (Some claim) }
+    ensures { Some result ≡ came_ticket (runqueue_view queue.now) line pid nice policy (Some claim) }
 {
     Ticket {
         line,
         pid,
         nice,
-        idle,
+        policy,
         place: place_of(claim),
         offset: i128::from(claim.v) - i128::from(queue.floor()),
     }

@@ -12,7 +12,7 @@ pub(crate) fn cost_of(task: Task, time: u64) -> u64
     requires { cost_of time task ≤ greatest }
     ensures { result ≡ cost_of time task }
 {
-    match charge(time, weight_of(task.nice, task.idle)) {
+    match charge(time, weight_of(task.nice, task.policy)) {
         Some(cost) => cost as u64,
         None => unreachable!(),
     }

@@ -1,5 +1,5 @@
 ghost use Rattle.std.specs.Prelude.{◌≡◌, ℕ, IfOk};
-ghost use Rattle.cfs_model.specs.Settings.{Settings};
+ghost use Rattle.cfs_model.specs.Knobs.{KnobsView};
 ghost use Rattle.replay_model.specs.declared.step.Deed.TheVariants.{Wake, Born, Leave, Arrive};
 ghost use Rattle.runqueue.specs.Queue.{runqueue_view};
 ghost use Rattle.queue_replay.specs.Rows.{HoldsUnmade, IsDeedTried, switch_deed};
@@ -66,14 +66,14 @@ pub(crate) fn try_deed(
             try_switch(queue, step, &switch, knobs)
         }
         Deed::Wake { pid, nice } => try_wake(queue, step, pid, nice, knobs),
-        Deed::Born { pid, nice, idle } => try_birth(queue, cpu, step, pid, nice, idle, knobs),
+        Deed::Born { pid, nice, policy } => try_birth(queue, cpu, step, pid, nice, policy, knobs),
         Deed::Leave { pid, nice, dest } => try_leave(queue, cpu, step, pid, nice, dest),
         Deed::Arrive {
             pid,
             nice,
-            idle,
+            policy,
             ..
-        } => try_arrival(queue, cpu, step, pid, nice, idle),
+        } => try_arrival(queue, cpu, step, pid, nice, policy),
     }
 }
 
@@ -138,10 +138,10 @@ fn try_birth(
     step: &Step,
     pid: u32,
     nice: Nice,
-    idle: bool,
+    policy: Policy,
     knobs: Knobs,
 ) -> Result<Outcome, Memory>
-    requires { step.now.deed ≡ Born pid nice idle }
+    requires { step.now.deed ≡ Born pid nice policy }
     ensures tried { IfOk result (IsDeedTried knobs cpu (runqueue_view queue.old) step.now (runqueue_view queue.new)) }
     ensures same { HoldsUnmade result queue.old queue.new }
 {
@@ -152,7 +152,7 @@ fn try_birth(
     match step.claim {
         Some(claim) => {
             let need = excess(claim.v, queue.floor());
-            moves!(queue: claimed_task(Place::Wait, pid, nice, idle, cpu, claim), comes);
+            moves!(queue: claimed_task(Place::Wait, pid, nice, policy, cpu, claim), comes);
             Ok(Outcome::Made(MadeDeed { ticket: None, need }))
         }
         None => unreachable!(),
@@ -168,7 +168,7 @@ fn try_leave(
     dest: u32,
 ) -> Result<Outcome, Memory>
     requires { step.now.deed ≡ Leave pid nice dest }
-    ensures tried { (knobs : Settings) → IfOk result
+    ensures tried { (knobs : KnobsView) → IfOk result
         (IsDeedTried knobs cpu (runqueue_view queue.old) step.now (runqueue_view queue.new)) }
     ensures same { HoldsUnmade result queue.old queue.new }
 {
@@ -187,10 +187,10 @@ fn try_arrival(
     step: &Step,
     pid: u32,
     nice: Nice,
-    idle: bool,
+    policy: Policy,
 ) -> Result<Outcome, Memory>
-    requires { (orig : ℕ) × (step.now.deed ≡ Arrive pid nice orig idle) }
-    ensures tried { (knobs : Settings) → IfOk result
+    requires { (orig : ℕ) × (step.now.deed ≡ Arrive pid nice orig policy) }
+    ensures tried { (knobs : KnobsView) → IfOk result
         (IsDeedTried knobs cpu (runqueue_view queue.old) step.now (runqueue_view queue.new)) }
     ensures same { HoldsUnmade result queue.old queue.new }
 {
@@ -200,8 +200,8 @@ fn try_arrival(
     }
     match step.claim {
         Some(claim) => {
-            let ticket = came_ticket(queue, step.line, pid, nice, idle, claim);
-            moves!(queue: claimed_task(place_of(claim), pid, nice, idle, cpu, claim), comes);
+            let ticket = came_ticket(queue, step.line, pid, nice, policy, claim);
+            moves!(queue: claimed_task(place_of(claim), pid, nice, policy, cpu, claim), comes);
             Ok(Outcome::Made(MadeDeed {
                 ticket: Some(ticket),
                 need: 0,

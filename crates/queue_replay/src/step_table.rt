@@ -1,5 +1,5 @@
 ghost use Rattle.std.specs.Prelude.{◌≡◌, ◌≢◌, ℕ, Bool, ℤ, Option, None};
-ghost use Rattle.cfs_model.specs.Settings.{Settings};
+ghost use Rattle.cfs_model.specs.Knobs.{KnobsView};
 ghost use Rattle.replay_model.specs.Part.{Part, Entity};
 ghost use Rattle.replay_model.specs.QueueTests.{IsPrevNotRunning};
 ghost use Rattle.replay_model.specs.declared.step.Deed.TheVariants.{Wake, Born, Leave, Arrive};
@@ -45,7 +45,7 @@ pub(crate) fn first_switch_test(
     ensures runner { result ≡ None → (pid : ℕ) → IsPrevNotRunning (runqueue_view queue.now) (switch_deed switch.now) pid
         → ⊥ }
     ensures two { result ≡ None → switch.now.prev ≢ switch.now.next }
-    ensures first { (knobs : Settings) → FindsFirst result
+    ensures first { (knobs : KnobsView) → FindsFirst result
         (pick_tests knobs (runqueue_view queue.now) (switch_deed switch.now))
         (switch_tests knobs (runqueue_view queue.now) (switch_deed switch.now) claim) }
 {
@@ -114,8 +114,8 @@ pub(crate) fn first_birth_test(
     knobs: Knobs,
 ) -> Option<FailedTest>
     requires { IsTaskAt (runqueue_view queue.now) pid task.now }
-    ensures { (nice : ℤ) (idle : Bool) → IsFirst result
-        (birth_tests knobs.debit (runqueue_view queue.now) (Born pid nice idle) claim) }
+    ensures { (nice : ℤ) (policy : Policy) → IsFirst result
+        (birth_tests knobs.debit (runqueue_view queue.now) (Born pid nice policy) claim) }
 {
     let needed = Some(pid);
     guard!(
@@ -152,8 +152,8 @@ pub(crate) fn first_arrival_test(
     task: &Option<Task>,
     claim: Option<Claim>,
 ) -> Option<FailedTest>
-    ensures { (part : Part) (nice : ℤ) (orig : ℕ) (idle : Bool) → IsTaskAt part pid task.now
-        → IsFirst result (arrival_tests part (Arrive pid nice orig idle) claim) }
+    ensures { (part : Part) (nice : ℤ) (orig : ℕ) (policy : Policy) → IsTaskAt part pid task.now
+        → IsFirst result (arrival_tests part (Arrive pid nice orig policy) claim) }
 {
     guard!(
         Already: already(pid, task),

@@ -3,7 +3,7 @@ ghost use Rattle.std.specs.Prelude.{map, get_or, length, All};
 ghost use Rattle.cfs_model.specs.Charge.{greatest};
 ghost use Rattle.replay_model.specs.Noted.{new_tally, with_tally};
 ghost use Rattle.replay_model.specs.declared.page.Tally.{Tally as TallyOf};
-ghost use Rattle.queue_replay.specs.Places.{AreApart, AreOwn, AreOwn-prop};
+ghost use Rattle.queue_replay.specs.Indices.{AreApart, AreOwn, AreOwn-prop};
 ghost use Rattle.queue_replay.specs.Stretches.{ran_tally, picked_tally, IsWithin};
 ghost use Rattle.runqueue.specs.Tasks.{cost_of, RisesByPid};
 
@@ -77,26 +77,26 @@ impl TallyBook {
     }
 
     /// Where the tally of the pid is, if it has one.
-    pub fn place_of(&self, pid: u32) -> Option<usize>
-        ensures found { (place : ℕ) → result ≡ Some place → (place < length self.now.table.rows)
-            × ((d : TallyOf) → (get_or self.now.table.rows place d).pid ≡ pid) }
+    pub fn index_of(&self, pid: u32) -> Option<usize>
+        ensures found { (index : ℕ) → result ≡ Some index → (index < length self.now.table.rows)
+            × ((d : TallyOf) → (get_or self.now.table.rows index d).pid ≡ pid) }
         ensures none { result ≡ None → All (λ tally. tally.pid ≢ pid) self.now.table.rows }
         ensures apart { AreApart self.now.table.rows }
     {
         if self.is_at(self.recent, pid) {
             return Some(self.recent);
         }
-        self.table.place_of(pid)
+        self.table.index_of(pid)
     }
 
-    /// Whether the tally at this place is that of the pid.
-    fn is_at(&self, place: usize, pid: u32) -> bool
-        ensures here { result ≡ true → (place < length self.now.table.rows)
-            × ((d : TallyOf) → (get_or self.now.table.rows place d).pid ≡ pid) }
+    /// Whether the tally at this index is that of the pid.
+    fn is_at(&self, index: usize, pid: u32) -> bool
+        ensures here { result ≡ true → (index < length self.now.table.rows)
+            × ((d : TallyOf) → (get_or self.now.table.rows index d).pid ≡ pid) }
         ensures apart { AreApart self.now.table.rows }
     {
         let tallies = self.table.rows();
-        place < tallies.len() && tallies[place].pid == pid
+        index < tallies.len() && tallies[index].pid == pid
     }
 
     /// Lets the pid have a tally. Takes no memory.
@@ -104,7 +104,7 @@ impl TallyBook {
         requires { 0 < self.old.table.room }
         ensures { self.new.table.rows ≡ with_tally pid self.old.table.rows }
     {
-        match self.table.place_of(pid) {
+        match self.table.index_of(pid) {
             Some(_) => {}
             None => self.table.add(pid, new_tally(pid)),
         }
@@ -121,9 +121,9 @@ impl TallyBook {
     {
         let pid = task.pid;
         let cost = cost_of(task, time);
-        if let Some(place) = self.place_of(pid) {
-            add_run(self.table.row_mut(place), pid, time, cost);
-            self.recent = place;
+        if let Some(index) = self.index_of(pid) {
+            add_run(self.table.row_mut(index), pid, time, cost);
+            self.recent = index;
         }
     }
 
@@ -133,9 +133,9 @@ impl TallyBook {
         requires within { All (λ tally. tally.picks ≤ steps) self.old.table.rows }
         ensures { self.new.table.rows ≡ map (picked_tally pid) self.old.table.rows }
     {
-        if let Some(place) = self.place_of(pid) {
-            pick(self.table.row_mut(place), pid);
-            self.recent = place;
+        if let Some(index) = self.index_of(pid) {
+            pick(self.table.row_mut(index), pid);
+            self.recent = index;
         }
     }
 }

@@ -5,8 +5,8 @@
 
 mod counting_gate;
 mod naming;
+mod processor;
 mod readings;
-mod seat;
 mod stages;
 
 use crate::naming::naming_of;

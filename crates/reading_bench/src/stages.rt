@@ -2,7 +2,7 @@
 //! whole audits. What is closed is the book of a crew, as `audit` closes it.
 
 use crate::counting_gate::CountingGate;
-use crate::seat::Seat;
+use crate::processor::Processor;
 use audit_crew::{OpenGate, audit, audit_serial, crew};
 use cfs_model::{Knobs, Memory};
 use companion_file::{Companion, read_companion};
@@ -137,23 +137,23 @@ fn stages_of<R: Clock + RandomSource + Threads + Wait + Sync>(
     threads: usize,
 ) -> io::Result<Stages> {
     let hasher = PidHasher::random(rt);
-    let mut seats = seats_of(alloc, record.cpus()).map_err(out_of_memory)?;
+    let mut processors = processors_of(alloc, record.cpus()).map_err(out_of_memory)?;
     let mut last = Instant::now(rt)?;
     thread::for_each_mut(
         rt,
-        seats.as_mut_slice(),
+        processors.as_mut_slice(),
         threads.max(1),
-        &|cpu, seat: &mut Seat| seat.deal(record, cpu),
+        &|cpu, processor: &mut Processor| processor.deal(record, cpu),
     );
     let dealing = lap(rt, &mut last)?;
     thread::for_each_mut(
         rt,
-        seats.as_mut_slice(),
+        processors.as_mut_slice(),
         threads.max(1),
-        &|_cpu, seat: &mut Seat| seat.replay(alloc, hasher),
+        &|_cpu, processor: &mut Processor| processor.replay(alloc, hasher),
     );
     let replaying = lap(rt, &mut last)?;
-    drop(seats);
+    drop(processors);
     let closing = closing_of(rt, alloc, record)?;
     Ok(Stages {
         dealing,
@@ -192,12 +192,12 @@ fn read_both(alloc: Global, trace: &[u8], companion: &[u8]) -> io::Result<(Trace
     Ok((trace, companion))
 }
 
-fn seats_of(alloc: Global, cpus: u32) -> Result<Vec<Seat>, Memory> {
-    let mut seats = Vec::new(alloc);
+fn processors_of(alloc: Global, cpus: u32) -> Result<Vec<Processor>, Memory> {
+    let mut processors = Vec::new(alloc);
     for _cpu in 0..cpus {
-        seats.push(Seat::new())?;
+        processors.push(Processor::new())?;
     }
-    Ok(seats)
+    Ok(processors)
 }
 
 fn refused() -> io::Error {

@@ -94,7 +94,7 @@ pub(crate) fn task(pid: u32, nice: i32, cpu: u32, place: Place, v: i64) -> Resul
     Ok(Task {
         pid,
         nice,
-        idle: false,
+        policy: Policy::Normal,
         cpu,
         place,
         v,

@@ -19,7 +19,7 @@ const NAMED: &[u8] =
 
 fn idle_task(pid: u32, nice: i32, place: Place) -> Result<Task, Fail> {
     let mut task = task(pid, nice, 0, place, 0)?;
-    task.idle = true;
+    task.policy = true;
     Ok(task)
 }
 
@@ -105,7 +105,7 @@ const WITHOUT_IN_TWO: &[u8] =
 fn names_nobody(companion: &Companion) -> bool {
     companion.idles().is_empty()
         && companion.spans().is_empty()
-        && companion.tasks().iter().all(|task| !task.idle)
+        && companion.tasks().iter().all(|task| !task.policy)
 }
 
 /// The same of the companion of a text.

@@ -1,6 +1,6 @@
 -- Replays of all processors that pass, event by event, are steps of a machine: the law `composition`. From the bottom
 -- up.
-pub mod Shares
+pub mod CutReplays
 pub mod Bounded
 pub mod StepLines
 pub mod ShiftTickets

@@ -1,7 +1,7 @@
 -- What the pages of all processors together say of a record: that it is a run, or where and why it is none (this
 -- project's profile).
 use Rattle.std.specs.Prelude.{◌≡◌, ℕ, ◌<◌, ◌≤◌, ℤ, None, List, ◌∷◌, ◌++◌, length}
-use Rattle.cfs_model.specs.Settings.{Settings}
+use Rattle.cfs_model.specs.Knobs.{KnobsView}
 use Rattle.cfs_model.specs.Start.{start_machine}
 use Rattle.cfs_model.specs.Claimed.{Claimed}
 use Rattle.cfs_model.specs.Run.{IsRun}
@@ -17,7 +17,7 @@ use Rattle.cfs_model.specs.declared.task.Task.{Task}
 -- where the pages of all processors suffice and say nothing against any event, none has a fault, and each is by all
 -- steps
 abbrev pub SilentPagesAreDone : Type 0
-SilentPagesAreDone = (knobs : Settings) (start : ℕ) (floors : List ℤ) (tasks : List Task) (events : List Claimed)
+SilentPagesAreDone = (knobs : KnobsView) (start : ℕ) (floors : List ℤ) (tasks : List Task) (events : List Claimed)
     (cpus : ℕ) (pages : ℕ → PageView)
     → IsRecord start floors tasks events cpus
     → (suffice : (cpu : ℕ) → cpu < cpus → SufficesAmong knobs start floors tasks events cpus pages cpu)
@@ -27,7 +27,7 @@ SilentPagesAreDone = (knobs : Settings) (start : ℕ) (floors : List ℤ) (tasks
 
 -- then the events are a run
 abbrev pub PagesTellRun : Type 0
-PagesTellRun = (knobs : Settings) (start : ℕ) (floors : List ℤ) (tasks : List Task) (events : List Claimed)
+PagesTellRun = (knobs : KnobsView) (start : ℕ) (floors : List ℤ) (tasks : List Task) (events : List Claimed)
     (cpus : ℕ) (pages : ℕ → PageView)
     → IsRecord start floors tasks events cpus
     → ((cpu : ℕ) → cpu < cpus → SufficesAmong knobs start floors tasks events cpus pages cpu)
@@ -37,7 +37,7 @@ PagesTellRun = (knobs : Settings) (start : ℕ) (floors : List ℤ) (tasks : Lis
 -- where they say nothing against the events before one, the first thing that they say against that one is what is wrong
 -- with it, and it is the first event up to which the events are no run
 abbrev pub PagesTellFault : Type 0
-PagesTellFault = (knobs : Settings) (start : ℕ) (floors : List ℤ) (tasks : List Task)
+PagesTellFault = (knobs : KnobsView) (start : ℕ) (floors : List ℤ) (tasks : List Task)
     (events before rest : List Claimed)
     (event : Claimed) (cpus : ℕ) (pages : ℕ → PageView) (cause : FaultCause)
     → IsRecord start floors tasks events cpus

@@ -1,4 +1,4 @@
-pub mod Share
+pub mod CutReplay
 pub mod Sufficing
 pub mod Telling
 pub mod Replays

@@ -1,6 +1,6 @@
 -- Which pages suffice beside each other for what they tell together (this project's profile).
 use Rattle.std.specs.Prelude.{◌≡◌, ℕ, ◌<◌, ◌≤◌, ◌⊎◌, ℤ, Some, IsSome, List, length}
-use Rattle.cfs_model.specs.Settings.{Settings}
+use Rattle.cfs_model.specs.Knobs.{KnobsView}
 use Rattle.cfs_model.specs.Claimed.{Claimed}
 use Rattle.replay_model.specs.Cut.{steps_at, cut}
 use Rattle.replay_model.specs.Noted.{PageView}
@@ -9,7 +9,7 @@ use Rattle.cfs_model.specs.declared.task.Task.{Task}
 use Rattle.replay_model.specs.declared.page.StepFault.{StepFault}
 
 -- the page of a processor's whole replay: up to its first fault, or by all its steps and the end test
-pub record IsWholePage (knobs : Settings) (start : ℕ) (floors : List ℤ) (tasks : List Task) (events : List Claimed)
+pub record IsWholePage (knobs : KnobsView) (start : ℕ) (floors : List ℤ) (tasks : List Task) (events : List Claimed)
     (cpu : ℕ) (page : PageView) : Type 0 where
   pub made : ℕ
   pub is_page : IsPageOf (cut start floors tasks events cpu) knobs made page
@@ -26,7 +26,7 @@ pub record HasFaultBy (pages : ℕ → PageView) (cpus line : ℕ) : Type 0 wher
 
 -- the page of a processor, among those of all, suffices for what they tell together: its replay went to its first
 -- fault, or by all its steps and the end test, or to a step on the line of a fault on one of the pages or past it
-pub record SufficesAmong (knobs : Settings) (start : ℕ) (floors : List ℤ) (tasks : List Task) (events : List Claimed)
+pub record SufficesAmong (knobs : KnobsView) (start : ℕ) (floors : List ℤ) (tasks : List Task) (events : List Claimed)
     (cpus : ℕ) (pages : ℕ → PageView) (cpu : ℕ) : Type 0 where
   pub made : ℕ
   pub is_page : IsPageOf (cut start floors tasks events cpu) knobs made (pages cpu)

@@ -3,7 +3,7 @@
 #![tactic(auto)]
 
 ghost use Rattle.replay_laws.specs.Closing.{PagesTellFault, PagesTellRun, SilentPagesAreDone};
-ghost use Rattle.replay_laws.specs.Composition.{PagesCompose, SharesCompose};
+ghost use Rattle.replay_laws.specs.Composition.{PagesCompose, CutsCompose};
 ghost use Rattle.replay_laws.specs.Endings.{BirthEndsRun, IdlingEndsRun, TicketsEndRun};
 ghost use Rattle.replay_laws.specs.FaultsEndRuns.{FaultEndsRun};
 ghost use Rattle.replay_laws.specs.FirstFaults.{FaultIsFirstBad, OneFirstFault, RunHasNoFault};
@@ -13,7 +13,7 @@ ghost use Rattle.replay_laws.specs.Replays.{ReplayFollows, SlackFollows};
 /// While the events are a run, the replay of each processor's share of them has no fault and keeps up with its part,
 /// and it tells where the slack fails with one more event.
 ///
-/// Carried by `following`: FollowLaws, Followed, Follow, Idles, StartPart; then Touching of `part_laws`.
+/// Carried by `following`: FollowLaws, Followed, Follow, PartIdling, StartPart; then Touching of `part_laws`.
 pub fn replays()
     ensures part { ReplayFollows }
     ensures slack { SlackFollows }
@@ -40,10 +40,10 @@ pub fn endings()
 /// Where the replays of all processors pass, the tickets of each migration agree and each birth is of a pid that isn't
 /// alive, the events are a run: of any events, and of a whole record by its pages.
 ///
-/// Carried by `composing`: PagesCompose, ComposeAll, StepExists, ShiftTickets, StepLines, Bounded, Shares; then
+/// Carried by `composing`: PagesCompose, ComposeAll, StepExists, ShiftTickets, StepLines, Bounded, CutReplays; then
 /// Followed, Follow and Roll of `following`, and the laws `part_steps` and `migrations`.
 pub fn composition()
-    ensures shares { SharesCompose }
+    ensures shares { CutsCompose }
     ensures pages { PagesCompose }
 {}
 

@@ -2,7 +2,7 @@
 -- what can be decided.
 use Rattle.std.proofs.Common.{◌≡◌, ◌≢◌, ℕ, Option, Some, None, ℤ, ◌⊎◌, inl, inr, refl, arith}
 use Rattle.std.proofs.lemmas.Int.{ints, by_lt_z}
-use Rattle.cfs_model.specs.Settings.{Settings}
+use Rattle.cfs_model.specs.Knobs.{KnobsView}
 use Rattle.replay_model.specs.Part.{Part}
 use Rattle.replay_model.specs.QueueTests.{IsStrangeNice, IsMoveHome, IsSelfSwitch, IsPrevNotRunning, IsStrange}
 use Rattle.replay_model.specs.QueueTests.{IsAlready, IsMoveRunning, IsWrongPrio}
@@ -18,7 +18,7 @@ use Rattle.replay_model.specs.declared.step.Deed.{Deed}
 use Rattle.replay_model.specs.declared.step.Step.{Step}
 
 -- none of the tests of a deed holds
-pub record IsClear (knobs : Settings) (cpu : ℕ) (part : Part) (deed : Deed) (claim : Option Claim) : Type 0 where
+pub record IsClear (knobs : KnobsView) (cpu : ℕ) (part : Part) (deed : Deed) (claim : Option Claim) : Type 0 where
   pub home : (pid : ℕ) → ¬ IsMoveHome cpu deed pid
   pub self : (pid : ℕ) → ¬ IsSelfSwitch deed pid
   pub prev : (pid : ℕ) → ¬ IsPrevNotRunning part deed pid
@@ -33,10 +33,10 @@ pub record IsClear (knobs : Settings) (cpu : ℕ) (part : Part) (deed : Deed) (c
   pub wake : (pid : ℕ) → ¬ IsWakeOutside knobs.credit part deed claim pid
   pub fork : (pid : ℕ) → ¬ IsForkOutside knobs.debit part deed claim pid
   pub next : (pid : ℕ) → ¬ IsNextNotWaiting part deed pid
-  pub idle : (pid : ℕ) → ¬ IsIdleBesideWaiting part deed pid
+  pub beside : (pid : ℕ) → ¬ IsIdleBesideWaiting part deed pid
   pub least : (pid : ℕ) → ¬ IsNotLeast knobs.granularity part deed pid
 
-pub clear_of : (knobs : Settings) (cpu : ℕ) (part : Part) (step : Step) → NoneHolds (late_tests knobs cpu part step)
+pub clear_of : (knobs : KnobsView) (cpu : ℕ) (part : Part) (step : Step) → NoneHolds (late_tests knobs cpu part step)
     → IsClear knobs cpu part step.deed step.claim
 clear_of knobs cpu part step h =
     let h0 = h.1 in let h3 = h0.1.1.1 in let h7 = h3.1.1.1.1 in let h11 = h7.1.1.1.1 in
@@ -55,16 +55,16 @@ clear_of knobs cpu part step h =
       wake = h11.0;
       fork = h11.1.0;
       next = h11.1.1.0;
-      idle = h11.1.1.1.0;
+      beside = h11.1.1.1.0;
       least = h11.1.1.1.1.0;
     }
 
 -- the task whose nice value changes stands here
-pub stands_of : (knobs : Settings) (cpu : ℕ) (part : Part) (step : Step) → NoneHolds (late_tests knobs cpu part step)
+pub stands_of : (knobs : KnobsView) (cpu : ℕ) (part : Part) (step : Step) → NoneHolds (late_tests knobs cpu part step)
     → (pid : ℕ) → ¬ IsStrangeNice part step.nice pid
 stands_of knobs cpu part step h = h.0
 
-pub none_of : (knobs : Settings) (cpu : ℕ) (part : Part) (step : Step)
+pub none_of : (knobs : KnobsView) (cpu : ℕ) (part : Part) (step : Step)
     → ((pid : ℕ) → ¬ IsStrangeNice part step.nice pid) → IsClear knobs cpu part step.deed step.claim
     → NoneHolds (late_tests knobs cpu part step)
 none_of knobs cpu part step stands c = (
@@ -91,7 +91,7 @@ none_of knobs cpu part step stands c = (
                       c.other,
                       (
                         c.put_back,
-                        (c.wake, (c.fork, (c.next, (c.idle, (c.least, tt))))),
+                        (c.wake, (c.fork, (c.next, (c.beside, (c.least, tt))))),
                       ),
                     ),
                   ),

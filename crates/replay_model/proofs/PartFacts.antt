@@ -7,6 +7,7 @@ use Rattle.replay_model.specs.Part.{Part, Entity, place_by, entity_by, entity_at
 use Rattle.cfs_model.proofs.KeptOrder.{IsApart}
 use Rattle.cfs_model.specs.declared.task.Place.{Place}
 use Rattle.cfs_model.specs.declared.task.Place.TheVariants.{Run, Wait, Rest}
+use Rattle.cfs_model.specs.declared.policy.Policy.{Policy}
 
 -- two parts that agree on each pid, the floor and the mark are one
 pub same_part : (p q : Part) → ((pid : ℕ) → p.tasks pid ≡ q.tasks pid) → p.floor ≡ q.floor → p.mark ≡ q.mark → p ≡ q
@@ -35,21 +36,21 @@ place_is false false true Rest e = refl
 place_is false false false place e = absurd cc
 
 -- a task's parts
-pub record AreOf (s : Entity) (idle : Bool) (place : Option Place) (nice v : Option ℤ) : Type 0 where
-  pub policy_is : idle ≡ s.idle
+pub record AreOf (s : Entity) (policy : Policy) (place : Option Place) (nice v : Option ℤ) : Type 0 where
+  pub policy_is : policy ≡ s.policy
   pub place_is : place ≡ Some s.place
   pub nice_is : nice ≡ Some s.nice
   pub runtime_is : v ≡ Some s.runtime
 
-pub parts_of : (idle : Bool) (place : Option Place) (nice v : Option ℤ) (s : Entity)
-    → entity_by idle place nice v ≡ Some s → AreOf s idle place nice v
-parts_of idle None nice v s e = absurd cc
-parts_of idle (Some place) None v s e = absurd cc
-parts_of idle (Some place) (Some nice) None s e = absurd cc
-parts_of idle (Some place) (Some nice) (Some v) s e =
-    let f : record { place = place; nice = nice; idle = idle; runtime = v } ≡ s = cc in
+pub parts_of : (policy : Policy) (place : Option Place) (nice v : Option ℤ) (s : Entity)
+    → entity_by policy place nice v ≡ Some s → AreOf s policy place nice v
+parts_of policy None nice v s e = absurd cc
+parts_of policy (Some place) None v s e = absurd cc
+parts_of policy (Some place) (Some nice) None s e = absurd cc
+parts_of policy (Some place) (Some nice) (Some v) s e =
+    let f : record { place = place; nice = nice; policy = policy; runtime = v } ≡ s = cc in
     record {
-      policy_is = ap (λ x. x.idle) f;
+      policy_is = ap (λ x. x.policy) f;
       place_is = ap (λ x. Some x.place) f;
       nice_is = ap (λ x. Some x.nice) f;
       runtime_is = ap
@@ -66,12 +67,12 @@ pairs_by m cpu pid Rest = refl
 pub record StandsAs (m : Machine) (cpu pid : ℕ) (s : Entity) : Type 0 where
   pub stands : Stands m s.place cpu pid
   pub nice : m.nice pid ≡ Some s.nice
-  pub policy : m.idle pid ≡ s.idle
+  pub policy : m.policy pid ≡ s.policy
   pub runtime : m.runtime pid ≡ Some s.runtime
 
 pub stands_as : (m : Machine) (cpu pid : ℕ) (s : Entity) → entity_at m cpu pid ≡ Some s → StandsAs m cpu pid s
 stands_as m cpu pid s e =
-    let p = parts_of (m.idle pid) (place_by (m.running cpu pid) (m.waiting cpu pid) (m.resting cpu pid)) (m.nice pid)
+    let p = parts_of (m.policy pid) (place_by (m.running cpu pid) (m.waiting cpu pid) (m.resting cpu pid)) (m.nice pid)
     (m.runtime pid) s e in
     record {
       stands = sym (pairs_by m cpu pid s.place)
@@ -95,19 +96,19 @@ place_alone false false false Rest h alone = absurd (true≢false (sym h))
 pub stander_at : (m : Machine) (place : Place) (cpu pid : ℕ) (nice v : ℤ) → Stands m place cpu pid
     → ((other : Place) → Stands m other cpu pid → other ≡ place)
     → m.nice pid ≡ Some nice → m.runtime pid ≡ Some v
-    → entity_at m cpu pid ≡ Some (record { place = place; nice = nice; idle = m.idle pid; runtime = v })
+    → entity_at m cpu pid ≡ Some (record { place = place; nice = nice; policy = m.policy pid; runtime = v })
 stander_at m place cpu pid nice v h alone e f =
     let at : place_by (m.running cpu pid) (m.waiting cpu pid) (m.resting cpu pid) ≡ Some place =
     place_alone (m.running cpu pid) (m.waiting cpu pid) (m.resting cpu pid) place (pairs_by m cpu pid place ∙ h)
     (λ other k. alone other (sym (pairs_by m cpu pid other) ∙ k)) in
-    ap (λ x. entity_by (m.idle pid) x (m.nice pid) (m.runtime pid)) at
-    ∙ ap (λ x. entity_by (m.idle pid) (Some place) x (m.runtime pid)) e
-    ∙ ap (λ x. entity_by (m.idle pid) (Some place) (Some nice) x) f
+    ap (λ x. entity_by (m.policy pid) x (m.nice pid) (m.runtime pid)) at
+    ∙ ap (λ x. entity_by (m.policy pid) (Some place) x (m.runtime pid)) e
+    ∙ ap (λ x. entity_by (m.policy pid) (Some place) (Some nice) x) f
 
 -- a task that stands in an ordered machine is of the part
 pub is_stander : (m : Machine) → IsApart m → (place : Place) (cpu pid : ℕ) (nice v : ℤ) → Stands m place cpu pid
     → m.nice pid ≡ Some nice → m.runtime pid ≡ Some v
-    → entity_at m cpu pid ≡ Some (record { place = place; nice = nice; idle = m.idle pid; runtime = v })
+    → entity_at m cpu pid ≡ Some (record { place = place; nice = nice; policy = m.policy pid; runtime = v })
 is_stander m a place cpu pid nice v h e f =
     stander_at m place cpu pid nice v h (λ other k. (a.one_place pid other place cpu cpu k h).0) e f
 
@@ -121,7 +122,7 @@ pub values_of : (m : Machine) → IsApart m → (place : Place) (cpu pid : ℕ) 
 values_of m a place cpu pid h =
     let n = some_value (m.nice pid) ((a.nices pid).1 (place, cpu, h)) in
     let v = some_value (m.runtime pid) ((a.runtimes pid).1 (place, cpu, h)) in
-    let s : Entity = record { place = place; nice = n.0; idle = m.idle pid; runtime = v.0 } in
+    let s : Entity = record { place = place; nice = n.0; policy = m.policy pid; runtime = v.0 } in
     let known : StandsAs m cpu pid s = record { stands = h; nice = n.1; policy = refl; runtime = v.1 } in
     (s, refl, is_stander m a place cpu pid n.0 v.0 h n.1 v.1, known)
 
@@ -140,7 +141,7 @@ no_place m cpu pid h = go (place_by (m.running cpu pid) (m.waiting cpu pid) (m.r
 -- who stands nowhere at the processor is none of the part
 pub no_stander : (m : Machine) (cpu pid : ℕ) → ((place : Place) → ¬ Stands m place cpu pid)
     → entity_at m cpu pid ≡ None
-no_stander m cpu pid h = ap (λ p. entity_by (m.idle pid) p (m.nice pid) (m.runtime pid)) (no_place m cpu pid h)
+no_stander m cpu pid h = ap (λ p. entity_by (m.policy pid) p (m.nice pid) (m.runtime pid)) (no_place m cpu pid h)
 
 -- a pid is in a place of the part where it stands there in the machine, and where it is so a task of the part says so
 pub is_in : (m : Machine) → IsApart m → (place : Place) (cpu pid : ℕ) → Stands m place cpu pid

@@ -3,7 +3,7 @@ use Rattle.std.proofs.Common.{◌≡◌, ◌≢◌, ℕ, ◌<◌, ◌≤◌, nat
 use Rattle.std.proofs.Common.{inr, List, [], ◌∷◌, ◌++◌, append_assoc, refl, sym, ap, ◌∙◌, subst, arith}
 use Rattle.std.proofs.lemmas.Bool.{eq-eqb, ne_eqb}
 use Rattle.std.specs.List.{AllByRecursion}
-use Rattle.cfs_model.specs.Settings.{Settings}
+use Rattle.cfs_model.specs.Knobs.{KnobsView}
 use Rattle.replay_model.specs.Part.{Part}
 use Rattle.replay_model.specs.Noted.{PageView, left_by, came_by, noted}
 use Rattle.replay_model.specs.Page.{ReplayStateView, PassesStep, IsReplayStep, IsReplay}
@@ -48,7 +48,7 @@ pub record IsTickets (tickets : PageView → List Ticket) (by : Part → Step �
 
 module _ (tickets : PageView → List Ticket) (by : Part → Step → List Ticket) (is : IsTickets tickets by) where
   -- what later steps add, whose lines are these
-  pub more_tickets : (Is : ℕ → Type 0) (knobs : Settings) (cpu : ℕ) (s : ReplayStateView) (steps : List Step)
+  pub more_tickets : (Is : ℕ → Type 0) (knobs : KnobsView) (cpu : ℕ) (s : ReplayStateView) (steps : List Step)
       (end : ReplayStateView)
       → IsReplay knobs cpu s steps end → AllByRecursion (λ (step : Step). Is step.line) steps
       → (more : List Ticket) × (tickets end.page ≡ tickets s.page ++ more)
@@ -80,7 +80,7 @@ module _ (tickets : PageView → List Ticket) (by : Part → Step → List Ticke
           )
 
   -- the ticket of an earlier line stays
-  pub ticket_kept : (n : ℕ) (knobs : Settings) (cpu : ℕ) (s : ReplayStateView) (steps : List Step)
+  pub ticket_kept : (n : ℕ) (knobs : KnobsView) (cpu : ℕ) (s : ReplayStateView) (steps : List Step)
       (end : ReplayStateView) → IsReplay knobs cpu s steps end → AllByRecursion (λ (step : Step). n < step.line) steps
       → ticket_at n (tickets end.page) ≡ ticket_at n (tickets s.page)
   ticket_kept n knobs cpu s steps end r h =
@@ -90,7 +90,7 @@ module _ (tickets : PageView → List Ticket) (by : Part → Step → List Ticke
       (all_map (λ t. n < t.line) (λ t. t.line ≢ n) (λ t a k. absurd (omega arith)) more.0 more.2)
 
   -- the ticket of a step's line on the page at the end
-  pub ticket_found : (knobs : Settings) (cpu : ℕ) (s : ReplayStateView) (step : Step) (next : ReplayStateView)
+  pub ticket_found : (knobs : KnobsView) (cpu : ℕ) (s : ReplayStateView) (step : Step) (next : ReplayStateView)
       (steps : List Step) (end : ReplayStateView) (p : PassesStep knobs cpu s step next)
       → IsReplay knobs cpu next steps end
       → AllByRecursion (λ (t : Ticket). t.line < step.line) (tickets s.page)
@@ -129,17 +129,17 @@ left_lines : (found : Part) (step : Step) (deed : Deed)
     → AllByRecursion (λ (t : Ticket). t.line ≡ step.line) (left_by found step deed)
 left_lines found step (Switch prev pn way next nn) = tt
 left_lines found step (Wake pid nice) = tt
-left_lines found step (Born pid nice idle) = tt
+left_lines found step (Born pid nice policy) = tt
 left_lines found step (Leave pid nice dest) = one_line _ step.line (λ a. refl) (found.tasks pid)
-left_lines found step (Arrive pid nice orig idle) = tt
+left_lines found step (Arrive pid nice orig policy) = tt
 
 came_lines : (found : Part) (step : Step) (deed : Deed)
     → AllByRecursion (λ (t : Ticket). t.line ≡ step.line) (came_by found step deed)
 came_lines found step (Switch prev pn way next nn) = tt
 came_lines found step (Wake pid nice) = tt
-came_lines found step (Born pid nice idle) = tt
+came_lines found step (Born pid nice policy) = tt
 came_lines found step (Leave pid nice dest) = tt
-came_lines found step (Arrive pid nice orig idle) = one_line _ step.line (λ a. refl) step.claim
+came_lines found step (Arrive pid nice orig policy) = one_line _ step.line (λ a. refl) step.claim
 
 pub left_tickets : IsTickets (λ page. page.left) left_of
 left_tickets = record {

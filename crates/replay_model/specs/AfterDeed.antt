@@ -20,7 +20,7 @@ switches part prev way next = part_after_next (part_after_prev part prev way) ne
 
 -- a task that rests waits at the claimed virtual runtime; one that runs or waits stays as it is
 abbrev pub woken : Option Claim → Place → Entity → Entity
-woken (Some claim) Rest s = record { place = Wait; nice = s.nice; idle = s.idle; runtime = claim.v }
+woken (Some claim) Rest s = record { place = Wait; nice = s.nice; policy = s.policy; runtime = claim.v }
 woken claim place s = s
 
 -- a wakeup
@@ -29,8 +29,8 @@ wakes part pid claim = with_entity part pid (option_map (λ s. woken claim s.pla
 
 -- a birth: the task waits at the claimed virtual runtime
 abbrev pub is_born : Part → ℕ → ℤ → Bool → Option Claim → Part
-is_born part pid nice idle claim =
-    with_entity part pid (option_map (λ c. record { place = Wait; nice = nice; idle = idle; runtime = c.v }) claim)
+is_born part pid nice policy claim =
+    with_entity part pid (option_map (λ c. record { place = Wait; nice = nice; policy = policy; runtime = c.v }) claim)
 
 -- a migration, at the processor that the task leaves
 abbrev pub leaves : Part → ℕ → Part
@@ -38,14 +38,14 @@ leaves part pid = with_entity part pid None
 
 -- a migration, at the processor to which the task comes: place and virtual runtime are the claim's
 abbrev pub arrives : Part → ℕ → ℤ → Bool → Option Claim → Part
-arrives part pid nice idle claim =
+arrives part pid nice policy claim =
     with_entity part pid
-    (option_map (λ c. record { place = place_of_sort c.sort; nice = nice; idle = idle; runtime = c.v }) claim)
+    (option_map (λ c. record { place = place_of_sort c.sort; nice = nice; policy = policy; runtime = c.v }) claim)
 
 -- the part after a deed
 abbrev pub after_deed : Part → Deed → Option Claim → Part
 after_deed part (Switch prev prev_nice way next next_nice) claim = switches part prev way next
 after_deed part (Wake pid nice) claim = wakes part pid claim
-after_deed part (Born pid nice idle) claim = is_born part pid nice idle claim
+after_deed part (Born pid nice policy) claim = is_born part pid nice policy claim
 after_deed part (Leave pid nice dest) claim = leaves part pid
-after_deed part (Arrive pid nice orig idle) claim = arrives part pid nice idle claim
+after_deed part (Arrive pid nice orig policy) claim = arrives part pid nice policy claim

@@ -1,11 +1,11 @@
 -- Why the events up to and including one are no run, though those before it are: the first of five things that can be
 -- wrong with it, in this order (this project's profile). Each is said of the machine just before the event.
 use Rattle.std.specs.Prelude.{◌≡◌, ◌≢◌, ℕ, ◌<◌, ◌⊎◌, ℤ, List, [], ◌∷◌, ◌++◌, ◌+◌, length, slice_index}
-use Rattle.cfs_model.specs.Settings.{Settings}
+use Rattle.cfs_model.specs.Knobs.{KnobsView}
 use Rattle.cfs_model.specs.Machine.{Machine, Stands}
 use Rattle.cfs_model.specs.Claimed.{Claimed}
 use Rattle.cfs_model.specs.Run.{times_of, IsRun, last_of}
-use Rattle.cfs_model.specs.Idle.{IdlesFrom}
+use Rattle.cfs_model.specs.Idling.{IdlesFrom}
 use Rattle.replay_model.specs.Part.{Part, part_of}
 use Rattle.replay_model.specs.Found.{IsFound}
 use Rattle.replay_model.specs.Deeds.{left_ticket, came_ticket}
@@ -35,40 +35,41 @@ pub record SlackFails (slack : ℕ) (times : List ℕ) (states : List Machine) (
 
 -- the first test of a step that fails on a part: the charge and what it leads to, then those on the part as the deed
 -- finds it
-abbrev pub FailsOn : Settings → ℕ → Part → Step → Kind → ℕ → Type 0
+abbrev pub FailsOn : KnobsView → ℕ → Part → Step → Kind → ℕ → Type 0
 FailsOn knobs cpu part step kind pid =
     (IsOutOfRange part step.time pid × (kind ≡ Range))
     ⊎ (((other : ℕ) → ¬ IsOutOfRange part step.time other)
     × ((found : Part) × IsFound step part found × FirstHolds (late_tests knobs cpu found step) kind pid))
 
 -- the first of the event's tests that fails at a processor of the machine is this cause
-pub record FailsAt (knobs : Settings) (m : Machine) (cpu : ℕ) (event : Claimed) (cause : FaultCause) : Type 0 where
+pub record FailsAt (knobs : KnobsView) (m : Machine) (cpu : ℕ) (event : Claimed) (cause : FaultCause) : Type 0 where
   pub here : cause.cpu ≡ cpu
   pub fails : FailsOn knobs cpu (part_of m cpu) (step_at cpu event) cause.kind cause.pid
 
 -- the event's tests pass at a processor of the machine, and found is the part as the event finds it there
-abbrev pub PassesAt : Settings → Machine → ℕ → Claimed → Part → Type 0
+abbrev pub PassesAt : KnobsView → Machine → ℕ → Claimed → Part → Type 0
 PassesAt knobs m cpu event found = PassesTests knobs cpu (part_of m cpu) (step_at cpu event) found
 
 -- the tests of a migration pass at its origin, and the first that fails at its destination is this cause
-pub record FailsAtArrival (knobs : Settings) (m : Machine) (orig dest : ℕ) (event : Claimed) (cause : FaultCause)
+pub record FailsAtArrival (knobs : KnobsView) (m : Machine) (orig dest : ℕ) (event : Claimed) (cause : FaultCause)
     : Type 0 where
   pub left : Part
   pub leaves : PassesAt knobs m orig event left
   pub fails : FailsAt knobs m dest event cause
 
 -- the tests of a migration pass at both ends, and the task's place or its virtual runtime less the floor differ there
-pub record IsUnequal (knobs : Settings) (m : Machine) (orig dest pid : ℕ) (nice : ℤ) (event : Claimed)
+pub record IsUnequal (knobs : KnobsView) (m : Machine) (orig dest pid : ℕ) (nice : ℤ) (event : Claimed)
     (cause : FaultCause) : Type 0 where
   pub left : Part
   pub came : Part
   pub leaves : PassesAt knobs m orig event left
   pub arrives : PassesAt knobs m dest event came
-  pub differ : left_ticket left event.entry.line pid ≢ came_ticket came event.entry.line pid nice event.idle event.claim
+  pub differ : left_ticket left event.entry.line pid ≢ came_ticket came event.entry.line pid nice event.policy
+      event.claim
   pub is : cause ≡ record { cpu = dest; pid = pid; kind = TicketUnequal }
 
 -- the tests of a birth pass at its processor, and the pid stands at another
-pub record IsBornTwice (knobs : Settings) (m : Machine) (cpu pid : ℕ) (event : Claimed) (cause : FaultCause)
+pub record IsBornTwice (knobs : KnobsView) (m : Machine) (cpu pid : ℕ) (event : Claimed) (cause : FaultCause)
     : Type 0 where
   pub found : Part
   pub passes : PassesAt knobs m cpu event found
@@ -80,7 +81,7 @@ pub record IsBornTwice (knobs : Settings) (m : Machine) (cpu pid : ℕ) (event :
 
 -- what is wrong with what the event does: a test that fails where it does it, of a migration first at its origin;
 -- then tickets that differ, or a birth of a pid that stands elsewhere
-abbrev pub IsActCause : Settings → Machine → Claimed → Act → FaultCause → Type 0
+abbrev pub IsActCause : KnobsView → Machine → Claimed → Act → FaultCause → Type 0
 IsActCause knobs m event (Switch cpu prev prev_nice way next next_nice) cause = FailsAt knobs m cpu event cause
 IsActCause knobs m event (Wake cpu pid nice) cause = FailsAt knobs m cpu event cause
 IsActCause knobs m event (Born cpu pid nice) cause =
@@ -100,7 +101,7 @@ pub record IsIdlingCause (slack : ℕ) (times : List ℕ) (states : List Machine
 
 -- the first thing that is wrong with an event behind a run: a processor that idles for too long; else what the event
 -- does
-pub record IsCause (knobs : Settings) (start : ℕ) (first : Machine) (before : List Claimed) (event : Claimed)
+pub record IsCause (knobs : KnobsView) (start : ℕ) (first : Machine) (before : List Claimed) (event : Claimed)
     (cause : FaultCause) : Type 0 where
   pub run : IsRun knobs start first before
   pub why : IsIdlingCause knobs.slack (times_of start before) (first ∷ run.states) event.entry.time cause
@@ -108,7 +109,7 @@ pub record IsCause (knobs : Settings) (start : ℕ) (first : Machine) (before : 
       × IsActCause knobs (last_of first run.states) event event.entry.act cause)
 
 -- the first event up to which the events are no run is on this line, and this is what is wrong with it
-pub record IsFirstFault (knobs : Settings) (start : ℕ) (first : Machine) (events : List Claimed) (line : ℕ)
+pub record IsFirstFault (knobs : KnobsView) (start : ℕ) (first : Machine) (events : List Claimed) (line : ℕ)
     (cause : FaultCause) : Type 0 where
   pub before : List Claimed
   pub event : Claimed

@@ -23,14 +23,14 @@ abbrev pub claimant : Part → Deed → Option ℕ
 claimant part (Switch (suc n) prev_nice Stays next next_nice) = Some (suc n)
 claimant part (Switch _ prev_nice _ next next_nice) = None
 claimant part (Wake task nice) = if_resting task (place_in part task)
-claimant part (Born task nice idle) = Some task
+claimant part (Born task nice policy) = Some task
 claimant part (Leave task nice dest) = None
-claimant part (Arrive task nice orig idle) = Some task
+claimant part (Arrive task nice orig policy) = Some task
 
 -- the line has a claim of the sort that the deed can need: either for a task that comes, else `at`
 abbrev pub HasClaim : Deed → Option Claim → Type 0
 HasClaim deed None = ⊥
-HasClaim (Arrive task nice orig idle) (Some claim) = ⊤
+HasClaim (Arrive task nice orig policy) (Some claim) = ⊤
 HasClaim _ (Some claim) = claim.sort ≡ At
 
 -- a claim is needed, and the line has none that serves
@@ -73,7 +73,7 @@ IsInForkBounds debit floor v = (floor ≤ℤ v) × (v ≤ℤ (floor +ℤ pos deb
 
 -- a new task is claimed outside those bounds
 abbrev pub IsForkOutside : ℕ → Part → Deed → Option Claim → ℕ → Type 0
-IsForkOutside debit part (Born task nice idle) (Some claim) pid = (¬ IsInForkBounds debit part.floor claim.v)
+IsForkOutside debit part (Born task nice policy) (Some claim) pid = (¬ IsInForkBounds debit part.floor claim.v)
     × (pid ≡ task)
 IsForkOutside debit part deed claim pid = ⊥
 

@@ -43,12 +43,12 @@ place_of_sort Pass = Rest
 abbrev pub left_ticket : Part → ℕ → ℕ → Option Ticket
 left_ticket part line pid =
     option_map (λ s. record
-    { line = line; pid = pid; nice = s.nice; idle = s.idle; place = s.place; offset = s.runtime -ℤ part.floor })
+    { line = line; pid = pid; nice = s.nice; policy = s.policy; place = s.place; offset = s.runtime -ℤ part.floor })
     (part.tasks pid)
 
 -- the ticket of a task that comes, by its claim
 abbrev pub came_ticket : Part → ℕ → ℕ → ℤ → Bool → Option Claim → Option Ticket
-came_ticket part line pid nice idle claim =
+came_ticket part line pid nice policy claim =
     option_map (λ c. record
-    { line = line; pid = pid; nice = nice; idle = idle; place = place_of_sort c.sort; offset = c.v -ℤ part.floor })
+    { line = line; pid = pid; nice = nice; policy = policy; place = place_of_sort c.sort; offset = c.v -ℤ part.floor })
     claim

@@ -1,6 +1,6 @@
 -- What a step of one processor needs of each setting, and what the page of all its steps does (this project's profile).
 use Rattle.std.specs.Prelude.{◌≡◌, ℕ, zero, suc, ◌-◌, Option, Some, None, ℤ, pos, ◌+ℤ◌, ◌≤ℤ◌, ◌⊎◌, List, [], ◌∷◌}
-use Rattle.cfs_model.specs.Settings.{Settings, only}
+use Rattle.cfs_model.specs.Knobs.{KnobsView, only}
 use Rattle.cfs_model.specs.Least.{larger}
 use Rattle.replay_model.specs.Part.{Part, Entity}
 use Rattle.replay_model.specs.Deeds.{part_after_prev}
@@ -42,7 +42,7 @@ IsWakeNeed part deed claim need = need ≡ 0
 
 -- a birth needs a debit of how far above the floor it places the task
 abbrev pub IsBirthNeed : Part → Deed → Option Claim → ℕ → Type 0
-IsBirthNeed part (Born pid nice idle) (Some claim) need = IsExcess claim.v part.floor need
+IsBirthNeed part (Born pid nice policy) (Some claim) need = IsExcess claim.v part.floor need
 IsBirthNeed part deed claim need = need ≡ 0
 
 -- a processor that has idled beside a waiting task since a time needs a slack of how long that is; one that hasn't,
@@ -53,42 +53,43 @@ idle_need (Some since) time = time - since
 
 -- what a step needs, where the processor has idled beside a waiting task since a time, or hasn't, and the deed finds
 -- this part: of each setting what it is asked for
-pub record AreStepNeeds (since : Option ℕ) (found : Part) (step : Step) (needs : Settings) : Type 0 where
+pub record AreStepNeeds (since : Option ℕ) (found : Part) (step : Step) (needs : KnobsView) : Type 0 where
   pub granularity : IsPickNeed found step.deed needs.granularity
   pub credit : IsWakeNeed found step.deed step.claim needs.credit
   pub debit : IsBirthNeed found step.deed step.claim needs.debit
   pub slack : needs.slack ≡ idle_need since step.time
 
 -- the replay goes on by a step that passes, and this is what the step needs
-pub record PassesNeeding (knobs : Settings) (cpu : ℕ) (before : ReplayStateView) (step : Step) (after : ReplayStateView)
-    (needs : Settings) : Type 0 where
+pub record PassesNeeding (knobs : KnobsView) (cpu : ℕ) (before : ReplayStateView) (step : Step) (after :
+    ReplayStateView)
+    (needs : KnobsView) : Type 0 where
   pub passes : PassesStep knobs cpu before step after
   pub needs_are : AreStepNeeds before.since passes.found step needs
 
 -- settings of a slack alone
-abbrev pub only_slack : ℕ → Settings
+abbrev pub only_slack : ℕ → KnobsView
 only_slack slack = only Slack slack
 
 -- the replay goes on by steps that all pass, and needs has of each setting the greatest that one of them needs
-abbrev pub AllPassNeeding : Settings → ℕ → ReplayStateView → List Step → ReplayStateView → Settings → Type 0
+abbrev pub AllPassNeeding : KnobsView → ℕ → ReplayStateView → List Step → ReplayStateView → KnobsView → Type 0
 AllPassNeeding knobs cpu before [] after needs = (after ≡ before) × (needs ≡ only_slack 0)
 AllPassNeeding knobs cpu before (step ∷ steps) after needs =
-    (between : ReplayStateView) × (here later : Settings) × PassesNeeding knobs cpu before step between here
+    (between : ReplayStateView) × (here later : KnobsView) × PassesNeeding knobs cpu before step between here
     × AllPassNeeding knobs cpu between steps after later × (needs ≡ larger here later)
 
 -- a stream's replay passes by all steps, and this is its page behind the last one, the end test left out; needs has of
 -- each setting the greatest that one of the steps needs, and of the slack also what the processor needs which still
 -- idles at the record's last time
-pub record IsPageNeeding (stream : StreamView) (knobs : Settings) (page : PageView) (needs : Settings) : Type 0 where
+pub record IsPageNeeding (stream : StreamView) (knobs : KnobsView) (page : PageView) (needs : KnobsView) : Type 0 where
   pub start : ReplayStateView
   pub is_start : IsStartOf stream start
   pub end : ReplayStateView
-  pub of_steps : Settings
+  pub of_steps : KnobsView
   pub all_pass : AllPassNeeding knobs stream.cpu start stream.steps end of_steps
   pub page_is : page ≡ end.page
   pub needs_are : needs ≡ larger of_steps (only_slack (idle_need end.since stream.last_time))
 
 -- of each setting the greatest among those of the processors below a number
-abbrev pub largest : (ℕ → Settings) → ℕ → Settings
+abbrev pub largest : (ℕ → KnobsView) → ℕ → KnobsView
 largest needs zero = only_slack 0
 largest needs (suc cpu) = larger (largest needs cpu) (needs cpu)

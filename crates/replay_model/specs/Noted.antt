@@ -30,7 +30,7 @@ pub record PageView : Type 0 where
 
 -- the birth of a step, if it is one
 abbrev pub births_of : ℕ → Deed → List LifeEvent
-births_of line (Born pid nice idle) = record { line = line; pid = pid } ∷ []
+births_of line (Born pid nice policy) = record { line = line; pid = pid } ∷ []
 births_of line _ = []
 
 -- the death of a step, if it has one: a previous task that ends
@@ -45,7 +45,8 @@ left_by found step _ = []
 
 -- the ticket of a step by which a task comes
 abbrev pub came_by : Part → Step → Deed → List Ticket
-came_by found step (Arrive pid nice orig idle) = option_to_list (came_ticket found step.line pid nice idle step.claim)
+came_by found step (Arrive pid nice orig policy) = option_to_list (came_ticket found step.line pid nice policy
+    step.claim)
 came_by found step _ = []
 
 -- the tally of a task in this place, where one who runs ran so long and was charged so much
@@ -80,8 +81,8 @@ with_tally pid tallies =
 -- the tallies after a deed: a switch picks its next task, and a task that is born or comes stands here
 abbrev pub tallied : Deed → List Tally → List Tally
 tallied (Switch prev prev_nice way next next_nice) tallies = picked next tallies
-tallied (Born pid nice idle) tallies = with_tally pid tallies
-tallied (Arrive pid nice orig idle) tallies = with_tally pid tallies
+tallied (Born pid nice policy) tallies = with_tally pid tallies
+tallied (Arrive pid nice orig policy) tallies = with_tally pid tallies
 tallied _ tallies = tallies
 
 -- the page after a step that passed, by the part before it and the part as its deed found it

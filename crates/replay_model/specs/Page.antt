@@ -2,9 +2,9 @@
 use Rattle.std.specs.Prelude.{◌≡◌, ℕ, ◌+◌, if◌then◌else◌, nat_lt, nat_le, Option, Some, None, unwrap_or, ◌⊎◌, List, []}
 use Rattle.std.specs.Prelude.{◌∷◌, map, length, take}
 use Rattle.cfs_model.specs.Limits.{no_line}
-use Rattle.cfs_model.specs.Settings.{Settings}
+use Rattle.cfs_model.specs.Knobs.{KnobsView}
 use Rattle.replay_model.specs.Part.{Part}
-use Rattle.replay_model.specs.PartWords.{IsIdlePart, start_part}
+use Rattle.replay_model.specs.PartWords.{PartIdles, start_part}
 use Rattle.replay_model.specs.Found.{IsFound}
 use Rattle.replay_model.specs.AfterDeed.{after_deed}
 use Rattle.replay_model.specs.Tests.{FirstHolds, NoneHolds, early_tests, late_tests, PassesTests}
@@ -26,10 +26,10 @@ pub record ReplayStateView : Type 0 where
 -- since when nothing runs beside a waiting task, after an event at this time: still, or from now on, or not at all
 abbrev pub IsSince : Option ℕ → ℕ → Part → Option ℕ → Type 0
 IsSince before time part since =
-    (IsIdlePart part × (since ≡ Some (unwrap_or before time))) ⊎ ((¬ IsIdlePart part) × (since ≡ None))
+    (PartIdles part × (since ≡ Some (unwrap_or before time))) ⊎ ((¬ PartIdles part) × (since ≡ None))
 
 -- the replay goes on by a step that passes
-pub record PassesStep (knobs : Settings) (cpu : ℕ) (before : ReplayStateView) (step : Step) (after : ReplayStateView)
+pub record PassesStep (knobs : KnobsView) (cpu : ℕ) (before : ReplayStateView) (step : Step) (after : ReplayStateView)
     : Type 0 where
   pub in_time : (pid : ℕ) → ¬ IsIdleTooLong knobs.slack before.since step.time pid
   pub found : Part
@@ -39,7 +39,7 @@ pub record PassesStep (knobs : Settings) (cpu : ℕ) (before : ReplayStateView) 
   pub page : after.page ≡ noted before.page before.part found step
 
 -- the first test that holds at a step is of this kind, and names this pid
-abbrev pub FailsTest : Settings → ℕ → ReplayStateView → Step → Kind → ℕ → Type 0
+abbrev pub FailsTest : KnobsView → ℕ → ReplayStateView → Step → Kind → ℕ → Type 0
 FailsTest knobs cpu before step kind pid =
     FirstHolds (early_tests knobs before.since before.part step) kind pid
     ⊎ ((found : Part) × NoneHolds (early_tests knobs before.since before.part step)
@@ -55,7 +55,7 @@ abbrev pub with_fault : ReplayStateView → StepFault → ReplayStateView
 with_fault before fault = record before { page = record (before.page) { fault = Some fault } }
 
 -- the replay ends with a step that fails: it adds the fault alone
-pub record FailsStep (knobs : Settings) (cpu : ℕ) (before : ReplayStateView) (step : Step) (after : ReplayStateView)
+pub record FailsStep (knobs : KnobsView) (cpu : ℕ) (before : ReplayStateView) (step : Step) (after : ReplayStateView)
     : Type 0 where
   pub kind : Kind
   pub pid : ℕ
@@ -68,13 +68,13 @@ pub record FailsStep (knobs : Settings) (cpu : ℕ) (before : ReplayStateView) (
   })
 
 -- one step of the replay; after a fault no step changes anything
-abbrev pub IsReplayStep : Settings → ℕ → Option StepFault → ReplayStateView → Step → ReplayStateView → Type 0
+abbrev pub IsReplayStep : KnobsView → ℕ → Option StepFault → ReplayStateView → Step → ReplayStateView → Type 0
 IsReplayStep knobs cpu None before step after =
     PassesStep knobs cpu before step after ⊎ FailsStep knobs cpu before step after
 IsReplayStep knobs cpu (Some fault) before step after = after ≡ before
 
 -- the replay of some steps
-abbrev pub IsReplay : Settings → ℕ → ReplayStateView → List Step → ReplayStateView → Type 0
+abbrev pub IsReplay : KnobsView → ℕ → ReplayStateView → List Step → ReplayStateView → Type 0
 IsReplay knobs cpu before [] after = after ≡ before
 IsReplay knobs cpu before (step ∷ steps) after =
     (between : ReplayStateView) × IsReplayStep knobs cpu before.page.fault before step between
@@ -114,7 +114,7 @@ end_page slack stream (Some since) None page =
 end_page slack stream _ fault page = page
 
 -- the page of a processor's stream by its first steps: with all of them the end test follows
-pub record IsPageOf (stream : StreamView) (knobs : Settings) (made : ℕ) (page : PageView) : Type 0 where
+pub record IsPageOf (stream : StreamView) (knobs : KnobsView) (made : ℕ) (page : PageView) : Type 0 where
   pub start : ReplayStateView
   pub is_start : IsStartOf stream start
   pub end : ReplayStateView

@@ -10,13 +10,14 @@ use Rattle.cfs_model.specs.Nice.{task_weight}
 use Rattle.cfs_model.specs.Machine.{Machine}
 use Rattle.cfs_model.specs.declared.task.Place.{Place}
 use Rattle.cfs_model.specs.declared.task.Place.TheVariants.{Run, Wait, Rest}
+use Rattle.cfs_model.specs.declared.policy.Policy.{Policy}
 
 -- a task as it stands at the processor
 pub record Entity : Type 0 where
   pub place : Place
   pub nice : ℤ
   -- whether it is of the idle policy
-  pub idle : Bool
+  pub policy : Policy
   -- the virtual runtime, in virtual nanoseconds
   pub runtime : ℤ
 
@@ -37,14 +38,14 @@ place_by false false false = None
 
 -- a task of this policy with this place, nice value and virtual runtime, where it has all three
 abbrev pub entity_by : Bool → Option Place → Option ℤ → Option ℤ → Option Entity
-entity_by idle (Some place) (Some nice) (Some v) =
-    Some (record { place = place; nice = nice; idle = idle; runtime = v })
-entity_by idle _ _ _ = None
+entity_by policy (Some place) (Some nice) (Some v) =
+    Some (record { place = place; nice = nice; policy = policy; runtime = v })
+entity_by policy _ _ _ = None
 
 -- what a machine has of a pid at a processor
 abbrev pub entity_at : Machine → ℕ → ℕ → Option Entity
 entity_at m cpu pid =
-    entity_by (m.idle pid) (place_by (m.running cpu pid) (m.waiting cpu pid) (m.resting cpu pid)) (m.nice pid)
+    entity_by (m.policy pid) (place_by (m.running cpu pid) (m.waiting cpu pid) (m.resting cpu pid)) (m.nice pid)
     (m.runtime pid)
 
 -- the part of a machine at a processor
@@ -65,7 +66,7 @@ NobodyIn part place = (pid : ℕ) → ¬ IsIn part place pid
 
 -- what a task is charged at a time, in virtual nanoseconds: for the time since the mark
 abbrev pub cost_in : Part → ℕ → Entity → ℕ
-cost_in part time s = charge_of (time - part.mark) (task_weight s.nice s.idle)
+cost_in part time s = charge_of (time - part.mark) (task_weight s.nice s.policy)
 
 -- a virtual runtime after a charge: it costs one who runs
 abbrev pub runtime_after : Place → ℕ → ℤ → ℤ

@@ -7,14 +7,14 @@ use Rattle.replay_model.specs.Part.{IsIn, NobodyIn, Part}
 -- the part that a processor's tasks, floor and start time stand for
 abbrev pub start_part : List Task → ℤ → ℕ → Part
 start_part tasks floor start = record {
-  tasks = λ pid. option_map (λ t. record { place = t.place; nice = t.nice; idle = t.idle; runtime = t.v })
+  tasks = λ pid. option_map (λ t. record { place = t.place; nice = t.nice; policy = t.policy; runtime = t.v })
       (find (λ t. t.pid == pid) tasks);
   floor = floor;
   mark = start;
 }
 
 -- nobody runs here, and somebody waits
-pub record IsIdlePart (part : Part) : Type 0 where
+pub record PartIdles (part : Part) : Type 0 where
   pub nobody_runs : NobodyIn part Run
   pub pid : ℕ
   pub waits : IsIn part Wait pid

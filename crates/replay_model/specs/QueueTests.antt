@@ -53,8 +53,8 @@ IsStrange part _ pid = ⊥
 
 -- a birth or an arrival of a pid that stands here
 abbrev pub IsAlready : Part → Deed → ℕ → Type 0
-IsAlready part (Born task nice idle) pid = IsSome (part.tasks task) × (pid ≡ task)
-IsAlready part (Arrive task nice orig idle) pid = IsSome (part.tasks task) × (pid ≡ task)
+IsAlready part (Born task nice policy) pid = IsSome (part.tasks task) × (pid ≡ task)
+IsAlready part (Arrive task nice orig policy) pid = IsSome (part.tasks task) × (pid ≡ task)
 IsAlready part _ pid = ⊥
 
 -- a leave of the task that runs here

@@ -12,11 +12,11 @@ use Rattle.replay_model.specs.declared.step.Step.{Step}
 -- what an event does at a processor that it touches, with the policy of who is born or comes: a migration leaves its
 -- origin and comes to its destination
 abbrev pub deed_at : ℕ → Bool → Act → Deed
-deed_at cpu idle (act.Switch here prev prev_nice way next next_nice) = Switch prev prev_nice way next next_nice
-deed_at cpu idle (act.Wake here pid nice) = Wake pid nice
-deed_at cpu idle (act.Born here pid nice) = Born pid nice idle
-deed_at cpu idle (act.Shift orig dest pid nice) =
-    if orig == cpu then Leave pid nice dest else Arrive pid nice orig idle
+deed_at cpu policy (act.Switch here prev prev_nice way next next_nice) = Switch prev prev_nice way next next_nice
+deed_at cpu policy (act.Wake here pid nice) = Wake pid nice
+deed_at cpu policy (act.Born here pid nice) = Born pid nice policy
+deed_at cpu policy (act.Shift orig dest pid nice) =
+    if orig == cpu then Leave pid nice dest else Arrive pid nice orig policy
 
 -- the claim on the event's line, but for the origin of a migration, which has none
 abbrev pub claim_for : Deed → Option Claim → Option Claim
@@ -25,7 +25,7 @@ claim_for _ claim = claim
 
 -- the change of a nice value on the event's line, but for the destination of a migration, which has none
 abbrev pub nice_for : Deed → Option NiceLine → Option NiceLine
-nice_for (Arrive pid nice orig idle) change = None
+nice_for (Arrive pid nice orig policy) change = None
 nice_for _ change = change
 
 -- the event as a processor that it touches sees it
@@ -33,7 +33,7 @@ abbrev pub step_at : ℕ → Claimed → Step
 step_at cpu event = record {
   line = event.entry.line;
   time = event.entry.time;
-  deed = deed_at cpu event.idle event.entry.act;
-  claim = claim_for (deed_at cpu event.idle event.entry.act) event.claim;
-  nice = nice_for (deed_at cpu event.idle event.entry.act) event.nice;
+  deed = deed_at cpu event.policy event.entry.act;
+  claim = claim_for (deed_at cpu event.policy event.entry.act) event.claim;
+  nice = nice_for (deed_at cpu event.policy event.entry.act) event.nice;
 }

@@ -3,7 +3,7 @@
 use Rattle.std.specs.Prelude.{◌≡◌, ℕ, suc, ◌+◌, ◌-◌, ◌==◌, not, Bool, true, false, if◌then◌else◌, List, [], ◌∷◌, ◌++◌}
 use Rattle.std.specs.Prelude.{length, map, filter, sum, count_by}
 use Rattle.std.specs.Option.{option_map_or}
-use Rattle.cfs_model.specs.Settings.{Settings}
+use Rattle.cfs_model.specs.Knobs.{KnobsView}
 use Rattle.cfs_model.specs.Machine.{Machine}
 use Rattle.cfs_model.specs.Claimed.{Claimed}
 use Rattle.cfs_model.specs.Touch.{touched}
@@ -57,7 +57,7 @@ ran_at m time pid cpu = if m.running cpu pid then time - m.mark cpu else 0
 -- what it is charged then, in virtual nanoseconds
 abbrev pub charged_at : Machine → ℕ → ℕ → ℕ → ℕ
 charged_at m time pid cpu =
-    if m.running cpu pid then option_map_or (λ nice. cost_at m cpu time nice (m.idle pid)) (m.nice pid) 0 else 0
+    if m.running cpu pid then option_map_or (λ nice. cost_at m cpu time nice (m.policy pid)) (m.nice pid) 0 else 0
 
 -- an amount that events add up to, from the machine before each and the processors that it touches
 abbrev pub added_up : (Machine → ℕ → ℕ → ℕ) → Machine → List Claimed → List Machine → ℕ
@@ -105,7 +105,7 @@ summary_of first tasks events states = record {
 }
 
 -- the events are a run, and this is its summary
-pub record IsSummary (knobs : Settings) (start : ℕ) (first : Machine) (tasks : List Task) (events : List Claimed)
+pub record IsSummary (knobs : KnobsView) (start : ℕ) (first : Machine) (tasks : List Task) (events : List Claimed)
     (summary : SummaryView) : Type 0 where
   pub run : IsRun knobs start first events
   pub is : summary ≡ summary_of first tasks events run.states

@@ -1,7 +1,7 @@
 -- The tests of one step at one processor, in their order: the first that holds is what is wrong with the step (this
 -- project's profile).
 use Rattle.std.specs.Prelude.{◌≡◌, ℕ, Option, ◌⊎◌, ⊤, List, [], ◌∷◌}
-use Rattle.cfs_model.specs.Settings.{Settings}
+use Rattle.cfs_model.specs.Knobs.{KnobsView}
 use Rattle.replay_model.specs.Part.{Part}
 use Rattle.replay_model.specs.Found.{IsFound}
 use Rattle.replay_model.specs.QueueTests.{IsIdleTooLong, IsOutOfRange, IsStrangeNice, IsMoveHome, IsSelfSwitch}
@@ -29,13 +29,13 @@ FirstHolds (test ∷ tests) kind pid =
     (test.holds pid × (kind ≡ test.kind)) ⊎ (((other : ℕ) → ¬ test.holds other) × FirstHolds tests kind pid)
 
 -- the tests before the charge and the lift, where the processor has idled beside a waiting task since a time, or hasn't
-abbrev pub early_tests : Settings → Option ℕ → Part → Step → List Test
+abbrev pub early_tests : KnobsView → Option ℕ → Part → Step → List Test
 early_tests knobs since part step =
     record { kind = kind.IdleTooLong; holds = IsIdleTooLong knobs.slack since step.time } ∷
     record { kind = kind.Range; holds = IsOutOfRange part step.time } ∷ []
 
 -- the tests after them, at this processor's part as the deed finds it
-abbrev pub late_tests : Settings → ℕ → Part → Step → List Test
+abbrev pub late_tests : KnobsView → ℕ → Part → Step → List Test
 late_tests knobs cpu part step =
     record { kind = kind.Strange; holds = IsStrangeNice part step.nice } ∷
     record { kind = kind.MoveHome; holds = IsMoveHome cpu step.deed } ∷
@@ -56,7 +56,7 @@ late_tests knobs cpu part step =
     record { kind = kind.NotLeast; holds = IsNotLeast knobs.granularity part step.deed } ∷ []
 
 -- no test on the part holds, and found is the part as the deed finds it
-pub record PassesTests (knobs : Settings) (cpu : ℕ) (part : Part) (step : Step) (found : Part) : Type 0 where
+pub record PassesTests (knobs : KnobsView) (cpu : ℕ) (part : Part) (step : Step) (found : Part) : Type 0 where
   pub in_range : (pid : ℕ) → ¬ IsOutOfRange part step.time pid
   pub is_found : IsFound step part found
   pub none : NoneHolds (late_tests knobs cpu found step)

@@ -20,7 +20,7 @@ pub struct Ticket {
     pub pid: u32,
     pub nice: Nice,
     /// Whether it is of the idle policy.
-    pub idle: bool,
+    pub policy: Policy,
     pub place: Place,
     /// The virtual runtime less the processor's floor, in virtual nanoseconds, signed.
     pub offset: i128,

@@ -23,7 +23,7 @@ pub enum Deed {
         pid: u32,
         nice: Nice,
         /// Whether it is of the idle policy.
-        idle: bool,
+        policy: Policy,
     },
     /// A task leaves for another processor.
     Leave {
@@ -37,7 +37,7 @@ pub enum Deed {
         nice: Nice,
         orig: u32,
         /// Whether it is of the idle policy: as it was told at its last birth on an earlier line, or at the start.
-        idle: bool,
+        policy: Policy,
     },
 }
 

@@ -279,7 +279,7 @@ fn ticket() -> Option<Ticket> {
         line: 1,
         pid: 101,
         nice: zero(),
-        idle: true,
+        policy: Policy::Idle,
         place: Place::Wait,
         offset: 2,
     })

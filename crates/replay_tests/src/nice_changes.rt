@@ -173,7 +173,7 @@ fn a_ticket_has_the_new_nice_value(rt: HostRuntime) -> Result<(), Fail> {
         line: 1,
         pid: 101,
         nice: Nice::new(-5).ok_or("a nice value")?,
-        idle: false,
+        policy: Policy::Normal,
         place: Place::Wait,
         offset: 2,
     });

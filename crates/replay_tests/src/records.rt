@@ -191,7 +191,7 @@ fn a_migration_comes_to_its_destination_with_the_claim(rt: HostRuntime) -> Resul
         pid: 101,
         nice: zero(),
         orig: 0,
-        idle: false,
+        policy: Policy::Normal,
     };
     let claim = Claim {
         line: 1,

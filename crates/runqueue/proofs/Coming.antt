@@ -12,13 +12,14 @@ use Rattle.cfs_model.specs.Machine.{put}
 use Rattle.cfs_model.specs.declared.task.Place.{Place}
 use Rattle.cfs_model.specs.declared.task.Place.TheVariants.{Run, Wait, Rest}
 use Rattle.cfs_model.specs.declared.task.Task.{Task}
-use Rattle.runqueue.specs.Standing.{by_runtime, listed, standing, runtime_if, waiting_runtime, IsQueue, waiting_task}
+use Rattle.runqueue.specs.Entities.{by_runtime, listed, entities, runtime_if, waiting_runtime, IsQueue, waiting_task}
 use Rattle.runqueue.specs.declared.waiting_task.WaitingTask.{WaitingTask}
 use Rattle.runqueue.specs.Tasks.{entity_of}
 use Rattle.runqueue.proofs.Parts.{part_with, its_place, same_tasks, put-at, put-under}
-use Rattle.runqueue.proofs.Standings.{queue_is, waiting_in, only_in, listed_in, listed_some, listed_kept, runner_apart}
-use Rattle.runqueue.proofs.Standings.{standing_listed, map_at, map_other, rewritten, joins, stays, only_kept}
-use Rattle.runqueue.proofs.Standings.{only_comes}
+use Rattle.runqueue.proofs.EntitiesKept.{queue_is, waiting_in, only_in, listed_in, listed_some, listed_kept}
+use Rattle.runqueue.proofs.EntitiesKept.{runner_apart}
+use Rattle.runqueue.proofs.EntitiesKept.{entities_listed, map_at, map_other, rewritten, joins, stays, only_kept}
+use Rattle.runqueue.proofs.EntitiesKept.{only_comes}
 use Rattle.runqueue.proofs.Moved.{kept_runner}
 
 -- a place that isn't the runner's
@@ -34,7 +35,7 @@ rest_run e = cc
 -- one more stands here
 module _ (runner : Option Task) (m n : BTreeMap ℕ Task) (a : BTreeSet WaitingTask) (kept : IsQueue runner m a)
     (t : Task)
-    (none : standing runner m t.pid ≡ None) (u : Updates nat_cmp m n t.pid (Some t)) where
+    (none : entities runner m t.pid ≡ None) (u : Updates nat_cmp m n t.pid (Some t)) where
   apart_new : (x : Task) → runner ≡ Some x → x.pid ≢ t.pid
   apart_new = runner_apart runner m a kept t.pid (λ e. let f : None ≡ Some Run = sym (ap its_place none) ∙ e in cc)
 
@@ -42,10 +43,10 @@ module _ (runner : Option Task) (m n : BTreeMap ℕ Task) (a : BTreeSet WaitingT
       → t.place ≡ Wait → IsQueue runner n b
   come_waits b s waits =
       queue_is runner n b
-      (joins (standing runner m) (standing runner n) t.pid (Some (entity_of t))
+      (joins (entities runner m) (entities runner n) t.pid (Some (entity_of t))
       (rewritten runner m n t.pid (Some t) u apart_new) a b t.v (waiting_in runner m a kept) s
       (ap waiting_runtime none) (ap (λ p. runtime_if p t.v) waits))
-      (only_kept (standing runner m) (standing runner n) t.pid (Some (entity_of t))
+      (only_kept (entities runner m) (entities runner n) t.pid (Some (entity_of t))
       (rewritten runner m n t.pid (Some t) u apart_new) runner (only_in runner m a kept)
       (apart_places t.place Wait waits wait_run))
       (listed_kept runner m n t.pid (Some t) u apart_new (listed_in runner m a kept))
@@ -53,18 +54,18 @@ module _ (runner : Option Task) (m n : BTreeMap ℕ Task) (a : BTreeSet WaitingT
   pub come_rests : t.place ≡ Rest → IsQueue runner n a
   come_rests rests =
       queue_is runner n a
-      (stays (standing runner m) (standing runner n) t.pid (Some (entity_of t))
+      (stays (entities runner m) (entities runner n) t.pid (Some (entity_of t))
       (rewritten runner m n t.pid (Some t) u apart_new) a (waiting_in runner m a kept)
       (ap (λ p. runtime_if p t.v) rests ∙ sym (ap waiting_runtime none)))
-      (only_kept (standing runner m) (standing runner n) t.pid (Some (entity_of t))
+      (only_kept (entities runner m) (entities runner n) t.pid (Some (entity_of t))
       (rewritten runner m n t.pid (Some t) u apart_new) runner (only_in runner m a kept)
       (apart_places t.place Rest rests rest_run))
       (listed_kept runner m n t.pid (Some t) u apart_new (listed_in runner m a kept))
 
   pub come_part : (floor : ℤ) (mark : ℕ)
-      → part_with (standing runner n) floor mark ≡ with_entity (part_with (standing runner m) floor mark) t.pid
+      → part_with (entities runner n) floor mark ≡ with_entity (part_with (entities runner m) floor mark) t.pid
       (Some (entity_of t))
-  come_part floor mark = same_tasks (standing runner n) (put (standing runner m) t.pid (Some (entity_of t))) floor mark
+  come_part floor mark = same_tasks (entities runner n) (put (entities runner m) t.pid (Some (entity_of t))) floor mark
       (rewritten runner m n t.pid (Some t) u apart_new)
 
   -- taken out again, the map is as it was
@@ -72,7 +73,7 @@ module _ (runner : Option Task) (m n : BTreeMap ℕ Task) (a : BTreeSet WaitingT
   come_undone o v q =
       elim (cases_eq q t.pid) [
         | inl same ↦ ap (get nat_cmp o) same ∙ map_at n o t.pid None v
-            ∙ sym (go (get nat_cmp m t.pid) (sym (standing_listed runner m t.pid apart_new) ∙ none))
+            ∙ sym (go (get nat_cmp m t.pid) (sym (entities_listed runner m t.pid apart_new) ∙ none))
             ∙ ap (get nat_cmp m) (sym same)
         | inr other ↦ map_other n o t.pid None v q other ∙ map_other m n t.pid (Some t) u q other
       ]
@@ -85,7 +86,7 @@ module _ (runner : Option Task) (m n : BTreeMap ℕ Task) (a : BTreeSet WaitingT
 module _ (m n : BTreeMap ℕ Task) (a : BTreeSet WaitingTask) (kept : IsQueue None m a) (t : Task)
     (none : listed m t.pid ≡ None)
     (u : Updates nat_cmp m n t.pid (Some t)) where
-  run_is : (q : ℕ) → standing (Some t) n q ≡ put (listed m) t.pid (Some (entity_of t)) q
+  run_is : (q : ℕ) → entities (Some t) n q ≡ put (listed m) t.pid (Some (entity_of t)) q
   run_is q =
       elim (cases_eq q t.pid) [
         | inl same ↦ put-at (listed n) t.pid (Some (entity_of t)) q same
@@ -97,30 +98,30 @@ module _ (m n : BTreeMap ℕ Task) (a : BTreeSet WaitingTask) (kept : IsQueue No
   pub come_runs : t.place ≡ Run → IsQueue (Some t) n a
   come_runs runs =
       queue_is (Some t) n a
-      (stays (listed m) (standing (Some t) n) t.pid (Some (entity_of t)) run_is a (waiting_in None m a kept)
+      (stays (listed m) (entities (Some t) n) t.pid (Some (entity_of t)) run_is a (waiting_in None m a kept)
       (ap (λ p. runtime_if p t.v) runs ∙ sym (ap waiting_runtime none)))
-      (only_comes (listed m) (standing (Some t) n) t.pid (Some (entity_of t)) run_is t refl (only_in None m a kept))
+      (only_comes (listed m) (entities (Some t) n) t.pid (Some (entity_of t)) run_is t refl (only_in None m a kept))
       (listed_some n t runs (ap is_some (map_at m n t.pid (Some t) u)))
 
-  pub run_part : (floor : ℤ) (mark : ℕ) → part_with (standing (Some t) n) floor mark ≡ with_entity
-      (part_with (standing None m) floor mark) t.pid (Some (entity_of t))
-  run_part floor mark = same_tasks (standing (Some t) n) (put (listed m) t.pid (Some (entity_of t))) floor mark run_is
+  pub run_part : (floor : ℤ) (mark : ℕ) → part_with (entities (Some t) n) floor mark ≡ with_entity
+      (part_with (entities None m) floor mark) t.pid (Some (entity_of t))
+  run_part floor mark = same_tasks (entities (Some t) n) (put (listed m) t.pid (Some (entity_of t))) floor mark run_is
 
 -- the same, where it is told by an equation that nobody ran
 pub come_runs_alone : (runner : Option Task) (m n : BTreeMap ℕ Task) (a : BTreeSet WaitingTask) → IsQueue runner m a
     → runner ≡ None → (t : Task)
-    → standing runner m t.pid ≡ None → Updates nat_cmp m n t.pid (Some t) → t.place ≡ Run → IsQueue (Some t) n a
+    → entities runner m t.pid ≡ None → Updates nat_cmp m n t.pid (Some t) → t.place ≡ Run → IsQueue (Some t) n a
 come_runs_alone runner m n a kept e t none u runs =
     come_runs m n a (kept_runner runner m a None kept e) t
-    (subst (λ (r : Option Task). standing r m t.pid ≡ None) e none) u runs
+    (subst (λ (r : Option Task). entities r m t.pid ≡ None) e none) u runs
 
 pub run_part_alone : (runner : Option Task) (m n : BTreeMap ℕ Task) (a : BTreeSet WaitingTask) → IsQueue runner m a
     → runner ≡ None → (t : Task)
-    → standing runner m t.pid ≡ None → Updates nat_cmp m n t.pid (Some t) → (floor : ℤ) (mark : ℕ)
-    → part_with (standing (Some t) n) floor mark ≡ with_entity (part_with (standing runner m) floor mark) t.pid
+    → entities runner m t.pid ≡ None → Updates nat_cmp m n t.pid (Some t) → (floor : ℤ) (mark : ℕ)
+    → part_with (entities (Some t) n) floor mark ≡ with_entity (part_with (entities runner m) floor mark) t.pid
     (Some (entity_of t))
 run_part_alone runner m n a kept e t none u floor mark =
-    subst (λ (r : Option Task). part_with (standing (Some t) n) floor mark ≡ with_entity
-    (part_with (standing r m) floor mark) t.pid (Some (entity_of t))) (sym e)
+    subst (λ (r : Option Task). part_with (entities (Some t) n) floor mark ≡ with_entity
+    (part_with (entities r m) floor mark) t.pid (Some (entity_of t))) (sym e)
     (run_part m n a (kept_runner runner m a None kept e) t
-    (subst (λ (r : Option Task). standing r m t.pid ≡ None) e none) u floor mark)
+    (subst (λ (r : Option Task). entities r m t.pid ≡ None) e none) u floor mark)

@@ -1,7 +1,7 @@
 pub mod Charges
 pub mod Parts
 pub mod TaskOf
-pub mod Standings
+pub mod EntitiesKept
 pub mod Lifts
 pub mod Moved
 pub mod Coming

@@ -24,14 +24,15 @@ use Rattle.cfs_model.specs.declared.task.Place.{Place}
 use Rattle.cfs_model.specs.declared.task.Place.TheVariants.{Run, Wait, Rest}
 use Rattle.cfs_model.specs.declared.task.Task.{Task}
 use Rattle.runqueue.specs.Queue.{IsTheRunner, IsLeastIfWaiting, IsLeastQueued}
-use Rattle.runqueue.specs.Standing.{by_runtime, listed, standing, runtime_if, waiting_runtime, IsOnlyRunner, IsQueue}
-use Rattle.runqueue.specs.Standing.{waiting_task}
+use Rattle.runqueue.specs.Entities.{by_runtime, listed, entities, runtime_if, waiting_runtime, IsOnlyRunner, IsQueue}
+use Rattle.runqueue.specs.Entities.{waiting_task}
 use Rattle.runqueue.specs.declared.waiting_task.WaitingTask.{WaitingTask}
 use Rattle.runqueue.specs.Tasks.{cost_of, charged_task, CanBeCharged, entity_of}
 use Rattle.cfs_model.proofs.Moves.{put-other}
 use Rattle.runqueue.proofs.Parts.{part_with, its_place, same_tasks, put-at}
-use Rattle.runqueue.proofs.Standings.{queue_is, waiting_in, only_in, listed_in, listed_none, listed_some, is_listed}
-use Rattle.runqueue.proofs.Standings.{waits_where, the_runner, stays, only_runs, only_none, waiting_none, lower_runtime}
+use Rattle.runqueue.proofs.EntitiesKept.{queue_is, waiting_in, only_in, listed_in, listed_none, listed_some, is_listed}
+use Rattle.runqueue.proofs.EntitiesKept.{waits_where, the_runner, stays, only_runs, only_none, waiting_none}
+use Rattle.runqueue.proofs.EntitiesKept.{lower_runtime}
 
 -- nobody stands in an empty map, and nobody waits in an empty set
 pub empty_queue : (m : BTreeMap ℕ Task) (a : BTreeSet WaitingTask) → m.entries ≡ [] → a.keys ≡ [] → IsQueue None m a
@@ -68,10 +69,10 @@ module _ (runner : Option Task) (m : BTreeMap ℕ Task) (a : BTreeSet WaitingTas
     (kept : IsQueue runner m a) where
   -- the first of the set is the least of those who wait
   pub least_is : (k : WaitingTask) → IsTrue (contains by_runtime a k) → IsLowerBound by_runtime a k
-      → IsLeastWaiting (part_with (standing runner m) floor mark) k.v
+      → IsLeastWaiting (part_with (entities runner m) floor mark) k.v
   least_is k member least =
-      let at = waits_where (standing runner m) a (waiting_in runner m a kept) in
-      let w = waits_is (standing runner m k.pid) k.v ((at k.v k.pid).0 member) in
+      let at = waits_where (entities runner m) a (waiting_in runner m a kept) in
+      let w = waits_is (entities runner m k.pid) k.v ((at k.v k.pid).0 member) in
       record {
         pid = k.pid;
         task = w.0;
@@ -80,19 +81,19 @@ module _ (runner : Option Task) (m : BTreeMap ℕ Task) (a : BTreeSet WaitingTas
         runtime = w.3;
         least = λ other s e waits. lower_runtime k.v s.runtime k.pid other
             (least (waiting_task s.runtime other)
-            ((at s.runtime other).1 (waiting_is (standing runner m other) s e waits)));
+            ((at s.runtime other).1 (waiting_is (entities runner m other) s e waits)));
       }
 
   -- where the set is empty nobody waits
-  pub none_waits : (0 < btree_set_len a → ⊥) → NobodyIn (part_with (standing runner m) floor mark) Wait
+  pub none_waits : (0 < btree_set_len a → ⊥) → NobodyIn (part_with (entities runner m) floor mark) Wait
   none_waits none pid i =
-      go (standing runner m pid) refl i
+      go (entities runner m pid) refl i
     where
-      go : (o : Option Entity) → standing runner m pid ≡ o → its_place o ≡ Some Wait → ⊥
+      go : (o : Option Entity) → entities runner m pid ≡ o → its_place o ≡ Some Wait → ⊥
       go None e i = cc
       go (Some s) e i =
-          let h = (waits_where (standing runner m) a (waiting_in runner m a kept) s.runtime pid).1
-          (waiting_is (standing runner m pid) s e (same_Some s.place Wait i)) in
+          let h = (waits_where (entities runner m) a (waiting_in runner m a kept) s.runtime pid).1
+          (waiting_is (entities runner m pid) s e (same_Some s.place Wait i)) in
           true≢false (sym h ∙ no_keys a none (waiting_task s.runtime pid))
 
 -- who is queued runs or waits
@@ -197,37 +198,37 @@ uncharged part time (Some s) ne = ap Some (go s.place (λ e. ne (ap Some e)))
 -- nobody runs
 module _ (runner : Option Task) (m : BTreeMap ℕ Task) (a : BTreeSet WaitingTask) (floor : ℤ) (mark time : ℕ)
     (kept : IsQueue runner m a) (none : runner ≡ None) where
-  nobody : NobodyIn (part_with (standing runner m) floor mark) Run
-  nobody = subst (IsTheRunner (part_with (standing runner m) floor mark)) none (the_runner runner m a floor mark kept)
+  nobody : NobodyIn (part_with (entities runner m) floor mark) Run
+  nobody = subst (IsTheRunner (part_with (entities runner m) floor mark)) none (the_runner runner m a floor mark kept)
 
-  pub idle_charged : part_with (standing runner m) floor time ≡ charged_part
-      (part_with (standing runner m) floor mark) time
+  pub idle_charged : part_with (entities runner m) floor time ≡ charged_part
+      (part_with (entities runner m) floor mark) time
   idle_charged =
-      same_tasks (standing runner m) (charged_part (part_with (standing runner m) floor mark) time).tasks floor time
-      (λ q. uncharged (part_with (standing runner m) floor mark) time (standing runner m q) (nobody q))
+      same_tasks (entities runner m) (charged_part (part_with (entities runner m) floor mark) time).tasks floor time
+      (λ q. uncharged (part_with (entities runner m) floor mark) time (entities runner m q) (nobody q))
 
-  pub idle_in_range : (pid : ℕ) → ¬ IsOutOfRange (part_with (standing runner m) floor mark) time pid
+  pub idle_in_range : (pid : ℕ) → ¬ IsOutOfRange (part_with (entities runner m) floor mark) time pid
   idle_in_range pid o = nobody pid (ap its_place o.stands ∙ ap Some o.runs)
 
 -- somebody runs
 module _ (runner : Option Task) (m : BTreeMap ℕ Task) (a : BTreeSet WaitingTask) (floor : ℤ) (mark time : ℕ)
     (kept : IsQueue runner m a) (t : Task) (is : runner ≡ Some t) where
-  ran : IsTheRunner (part_with (standing runner m) floor mark) (Some t)
-  ran = subst (IsTheRunner (part_with (standing runner m) floor mark)) is (the_runner runner m a floor mark kept)
+  ran : IsTheRunner (part_with (entities runner m) floor mark) (Some t)
+  ran = subst (IsTheRunner (part_with (entities runner m) floor mark)) is (the_runner runner m a floor mark kept)
 
   pub fits_in_range : CanBeCharged (time - mark) t → (pid : ℕ)
-      → ¬ IsOutOfRange (part_with (standing runner m) floor mark) time pid
+      → ¬ IsOutOfRange (part_with (entities runner m) floor mark) time pid
   fits_in_range can pid o =
       let p : pid ≡ t.pid = ran.2 pid (ap its_place o.stands ∙ ap Some o.runs) in
-      let e : o.task ≡ entity_of t = same_Some o.task (entity_of t) (sym o.stands ∙ ap (standing runner m) p ∙ ran.0) in
+      let e : o.task ≡ entity_of t = same_Some o.task (entity_of t) (sym o.stands ∙ ap (entities runner m) p ∙ ran.0) in
       let far : (greatest < cost_of (time - mark) t) ⊎ (pos greatest <ℤ (t.v +ℤ pos (cost_of (time - mark) t)))
-      = subst (λ (s : Entity). (greatest < cost_in (part_with (standing runner m) floor mark) time s)
-      ⊎ (pos greatest <ℤ (s.runtime +ℤ pos (cost_in (part_with (standing runner m) floor mark) time s)))) e
+      = subst (λ (s : Entity). (greatest < cost_in (part_with (entities runner m) floor mark) time s)
+      ⊎ (pos greatest <ℤ (s.runtime +ℤ pos (cost_in (part_with (entities runner m) floor mark) time s)))) e
       o.above in
       elim far [ inl h ↦ absurd (omega (arith, can.0, h)) | inr h ↦ absurd (omega (arith, ints, can.1, h)) ]
 
   pub above_range : (CanBeCharged (time - mark) t → ⊥)
-      → IsOutOfRange (part_with (standing runner m) floor mark) time t.pid
+      → IsOutOfRange (part_with (entities runner m) floor mark) time t.pid
   above_range cannot = record {
     task = entity_of t;
     stands = ran.0;
@@ -241,15 +242,15 @@ module _ (runner : Option Task) (m : BTreeMap ℕ Task) (a : BTreeSet WaitingTas
       far (inr h) = inr (let c : ((t.v +ℤ pos (cost_of (time - mark) t)) ≤ℤ pos greatest)
           → ⊥ = λ n. cannot (h, n) in grind (arith, ints, c))
 
-  charged_standing : (q : ℕ) → standing (Some (charged_task (time - mark) t)) m q ≡ put (standing runner m) t.pid
+  charged_entities : (q : ℕ) → entities (Some (charged_task (time - mark) t)) m q ≡ put (entities runner m) t.pid
       (Some (entity_of (charged_task (time - mark) t))) q
-  charged_standing q =
+  charged_entities q =
       elim (cases_eq q t.pid) [
         | inl same ↦ put-at (listed m) t.pid (Some (entity_of (charged_task (time - mark) t))) q same
-            ∙ sym (put-at (standing runner m) t.pid (Some (entity_of (charged_task (time - mark) t))) q same)
+            ∙ sym (put-at (entities runner m) t.pid (Some (entity_of (charged_task (time - mark) t))) q same)
         | inr other ↦ put-other (listed m) t.pid (Some (entity_of (charged_task (time - mark) t))) q other
-            ∙ sym (put-other (listed m) t.pid (Some (entity_of t)) q other) ∙ ap (λ r. standing r m q) (sym is)
-            ∙ sym (put-other (standing runner m) t.pid (Some (entity_of (charged_task (time - mark) t))) q other)
+            ∙ sym (put-other (listed m) t.pid (Some (entity_of t)) q other) ∙ ap (λ r. entities r m q) (sym is)
+            ∙ sym (put-other (entities runner m) t.pid (Some (entity_of (charged_task (time - mark) t))) q other)
       ]
 
   pub charged_queue : IsQueue (Some (charged_task (time - mark) t)) m a
@@ -257,26 +258,26 @@ module _ (runner : Option Task) (m : BTreeMap ℕ Task) (a : BTreeSet WaitingTas
       let new : Task = charged_task (time - mark) t in
       let has = is_listed runner m (listed_in runner m a kept) t is in
       queue_is (Some (charged_task (time - mark) t)) m a
-      (stays (standing runner m) (standing (Some (charged_task (time - mark) t)) m) t.pid
-      (Some (entity_of (charged_task (time - mark) t))) charged_standing a (waiting_in runner m a kept)
+      (stays (entities runner m) (entities (Some (charged_task (time - mark) t)) m) t.pid
+      (Some (entity_of (charged_task (time - mark) t))) charged_entities a (waiting_in runner m a kept)
       (ap (λ p. runtime_if p (charged_task (time - mark) t).v) ran.1
       ∙ sym (ap waiting_runtime ran.0 ∙ ap (λ p. runtime_if p t.v) ran.1)))
-      (only_runs (standing runner m) (standing (Some (charged_task (time - mark) t)) m) t.pid
-      (Some (entity_of (charged_task (time - mark) t))) charged_standing t (charged_task (time - mark) t) refl refl
-      (subst (λ r. IsOnlyRunner (standing runner m) r) is (only_in runner m a kept)))
+      (only_runs (entities runner m) (entities (Some (charged_task (time - mark) t)) m) t.pid
+      (Some (entity_of (charged_task (time - mark) t))) charged_entities t (charged_task (time - mark) t) refl refl
+      (subst (λ r. IsOnlyRunner (entities runner m) r) is (only_in runner m a kept)))
       (listed_some m (charged_task (time - mark) t) has.0 has.1)
 
-  pub charged_is : part_with (standing (Some (charged_task (time - mark) t)) m) floor time ≡ charged_part
-      (part_with (standing runner m) floor mark) time
+  pub charged_is : part_with (entities (Some (charged_task (time - mark) t)) m) floor time ≡ charged_part
+      (part_with (entities runner m) floor mark) time
   charged_is =
-      same_tasks (standing (Some (charged_task (time - mark) t)) m)
-      (charged_part (part_with (standing runner m) floor mark) time).tasks floor time (λ q.
-      charged_standing q ∙ elim (cases_eq q t.pid) [
-        | inl same ↦ put-at (standing runner m) t.pid (Some (entity_of (charged_task (time - mark) t))) q same
+      same_tasks (entities (Some (charged_task (time - mark) t)) m)
+      (charged_part (part_with (entities runner m) floor mark) time).tasks floor time (λ q.
+      charged_entities q ∙ elim (cases_eq q t.pid) [
+        | inl same ↦ put-at (entities runner m) t.pid (Some (entity_of (charged_task (time - mark) t))) q same
             ∙ ap (λ p. Some (record (entity_of t) { runtime = runtime_after p (cost_of (time - mark) t) t.v }))
             (sym ran.1 ∙ refl) ∙ refl
-            ∙ sym (ap (option_map (charged_in (part_with (standing runner m) floor mark) time))
-            (ap (standing runner m) same ∙ ran.0))
-        | inr other ↦ put-other (standing runner m) t.pid (Some (entity_of (charged_task (time - mark) t))) q other
-            ∙ uncharged (part_with (standing runner m) floor mark) time (standing runner m q) (λ i. other (ran.2 q i))
+            ∙ sym (ap (option_map (charged_in (part_with (entities runner m) floor mark) time))
+            (ap (entities runner m) same ∙ ran.0))
+        | inr other ↦ put-other (entities runner m) t.pid (Some (entity_of (charged_task (time - mark) t))) q other
+            ∙ uncharged (part_with (entities runner m) floor mark) time (entities runner m q) (λ i. other (ran.2 q i))
       ])

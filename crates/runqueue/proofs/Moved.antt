@@ -20,14 +20,15 @@ use Rattle.cfs_model.specs.declared.task.Place.{Place}
 use Rattle.cfs_model.specs.declared.task.Place.TheVariants.{Run, Wait, Rest}
 use Rattle.cfs_model.specs.declared.task.Task.{Task}
 use Rattle.runqueue.specs.Queue.{IsTheRunner}
-use Rattle.runqueue.specs.Standing.{by_runtime, listed, standing, runtime_if, waiting_runtime, IsQueue, waiting_task}
+use Rattle.runqueue.specs.Entities.{by_runtime, listed, entities, runtime_if, waiting_runtime, IsQueue, waiting_task}
 use Rattle.runqueue.specs.declared.waiting_task.WaitingTask.{WaitingTask}
 use Rattle.runqueue.specs.Tasks.{entity_of}
 use Rattle.cfs_model.proofs.Moves.{put-other}
 use Rattle.runqueue.proofs.Parts.{part_with, its_place, same_tasks, put-at, written_over}
-use Rattle.runqueue.proofs.Standings.{queue_is, waiting_in, only_in, listed_in, listed_none, listed_some, listed_kept}
-use Rattle.runqueue.proofs.Standings.{is_listed, the_runner, runner_apart, standing_listed, standing_same, rewritten}
-use Rattle.runqueue.proofs.Standings.{put_away, runtime_own, joins, parts, stays, only_kept, only_left, only_comes}
+use Rattle.runqueue.proofs.EntitiesKept.{queue_is, waiting_in, only_in, listed_in, listed_none, listed_some}
+use Rattle.runqueue.proofs.EntitiesKept.{listed_kept}
+use Rattle.runqueue.proofs.EntitiesKept.{is_listed, the_runner, runner_apart, entities_listed, entities_same, rewritten}
+use Rattle.runqueue.proofs.EntitiesKept.{put_away, runtime_own, joins, parts, stays, only_kept, only_left, only_comes}
 
 -- a switch's two tasks, where they aren't pid 0
 pub after_stays : (part : Part) (prev : ℕ) → prev ≢ 0 → goes part prev Wait ≡ part_after_prev part prev Stays
@@ -64,24 +65,24 @@ prev_is part t r (suc n) h =
 
 module _ (m n : BTreeMap ℕ Task) (a : BTreeSet WaitingTask) (t : Task) (kept : IsQueue (Some t) m a) (w : Option Task)
     (u : Updates nat_cmp m n t.pid w) where
-  ran : IsTheRunner (part_with (standing (Some t) m) (pos 0) 0) (Some t)
+  ran : IsTheRunner (part_with (entities (Some t) m) (pos 0) 0) (Some t)
   ran = the_runner (Some t) m a (pos 0) 0 kept
 
-  runner_unwaited : waiting_runtime (standing (Some t) m t.pid) ≡ None
+  runner_unwaited : waiting_runtime (entities (Some t) m t.pid) ≡ None
   runner_unwaited = ap waiting_runtime ran.0 ∙ ap (λ p. runtime_if p t.v) ran.1
 
   -- who ran waits
   pub back_queue : (b : BTreeSet WaitingTask) → set.Updates by_runtime a b (waiting_task t.v t.pid) true
-      → option_map entity_of w ≡ Some (record { place = Wait; nice = t.nice; idle = t.idle; runtime = t.v })
+      → option_map entity_of w ≡ Some (record { place = Wait; nice = t.nice; policy = t.policy; runtime = t.v })
       → IsQueue None n b
   back_queue b s is =
       let e : waiting_runtime (option_map entity_of w) ≡ Some t.v = ap waiting_runtime is in
       let ne : its_place (option_map entity_of w) ≡ Some Run
       → ⊥ = λ f. let g : Some Wait ≡ Some Run = sym (ap its_place is) ∙ f in cc in
       queue_is None n b
-      (joins (standing (Some t) m) (standing None n) t.pid (option_map entity_of w) (put_away t m n w u) a b t.v
+      (joins (entities (Some t) m) (entities None n) t.pid (option_map entity_of w) (put_away t m n w u) a b t.v
       (waiting_in (Some t) m a kept) s runner_unwaited e)
-      (only_left (standing (Some t) m) (standing None n) t.pid (option_map entity_of w) (put_away t m n w u) t refl
+      (only_left (entities (Some t) m) (entities None n) t.pid (option_map entity_of w) (put_away t m n w u) t refl
       (only_in (Some t) m a kept) ne)
       (listed_none n)
 
@@ -90,39 +91,39 @@ module _ (m n : BTreeMap ℕ Task) (a : BTreeSet WaitingTask) (t : Task) (kept :
       → IsQueue None n a
   away_queue ne none =
       queue_is None n a
-      (stays (standing (Some t) m) (standing None n) t.pid (option_map entity_of w) (put_away t m n w u) a
+      (stays (entities (Some t) m) (entities None n) t.pid (option_map entity_of w) (put_away t m n w u) a
       (waiting_in (Some t) m a kept) (none ∙ sym runner_unwaited))
-      (only_left (standing (Some t) m) (standing None n) t.pid (option_map entity_of w) (put_away t m n w u) t refl
+      (only_left (entities (Some t) m) (entities None n) t.pid (option_map entity_of w) (put_away t m n w u) t refl
       (only_in (Some t) m a kept) ne)
       (listed_none n)
 
-  pub prev_standing : (floor : ℤ) (mark : ℕ) (way : Way) → option_map entity_of w ≡ after_way way (entity_of t)
+  pub prev_entities : (floor : ℤ) (mark : ℕ) (way : Way) → option_map entity_of w ≡ after_way way (entity_of t)
       → (prev : ℕ)
-      → ((IsRunner (part_with (standing (Some t) m) floor mark) prev → ⊥) → ⊥)
-      → part_with (standing None n) floor mark ≡ part_after_prev (part_with (standing (Some t) m) floor mark) prev way
-  prev_standing floor mark way is prev h =
-      let old : Part = part_with (standing (Some t) m) floor mark in
-      let p = prev_is (part_with (standing (Some t) m) floor mark) t (the_runner (Some t) m a floor mark kept) prev h in
-      subst (λ x. part_with (standing None n) floor mark ≡ part_after_prev
-      (part_with (standing (Some t) m) floor mark) x way) (sym p.1)
-      (same_tasks (standing None n) (put (standing (Some t) m) t.pid (option_map entity_of w)) floor mark
+      → ((IsRunner (part_with (entities (Some t) m) floor mark) prev → ⊥) → ⊥)
+      → part_with (entities None n) floor mark ≡ part_after_prev (part_with (entities (Some t) m) floor mark) prev way
+  prev_entities floor mark way is prev h =
+      let old : Part = part_with (entities (Some t) m) floor mark in
+      let p = prev_is (part_with (entities (Some t) m) floor mark) t (the_runner (Some t) m a floor mark kept) prev h in
+      subst (λ x. part_with (entities None n) floor mark ≡ part_after_prev
+      (part_with (entities (Some t) m) floor mark) x way) (sym p.1)
+      (same_tasks (entities None n) (put (entities (Some t) m) t.pid (option_map entity_of w)) floor mark
       (put_away t m n w u)
       ∙ go way is (λ e. p.0 (p.1 ∙ e)))
     where
       go : (x : Way) → option_map entity_of w ≡ after_way x (entity_of t) → t.pid ≢ 0
-          → with_entity (part_with (standing (Some t) m) floor mark) t.pid (option_map entity_of w) ≡ part_after_prev
-          (part_with (standing (Some t) m) floor mark) t.pid x
+          → with_entity (part_with (entities (Some t) m) floor mark) t.pid (option_map entity_of w) ≡ part_after_prev
+          (part_with (entities (Some t) m) floor mark) t.pid x
       go Stays e ne =
-          ap (with_entity (part_with (standing (Some t) m) floor mark) t.pid) (e
+          ap (with_entity (part_with (entities (Some t) m) floor mark) t.pid) (e
           ∙ sym (ap (option_map (λ (s : Entity). record s { place = Wait })) ran.0))
-          ∙ after_stays (part_with (standing (Some t) m) floor mark) t.pid ne
+          ∙ after_stays (part_with (entities (Some t) m) floor mark) t.pid ne
       go Sleeps e ne =
-          ap (with_entity (part_with (standing (Some t) m) floor mark) t.pid) (e
+          ap (with_entity (part_with (entities (Some t) m) floor mark) t.pid) (e
           ∙ sym (ap (option_map (λ (s : Entity). record s { place = Rest })) ran.0))
-          ∙ after_sleeps (part_with (standing (Some t) m) floor mark) t.pid ne
+          ∙ after_sleeps (part_with (entities (Some t) m) floor mark) t.pid ne
       go Ends e ne =
-          ap (with_entity (part_with (standing (Some t) m) floor mark) t.pid) e
-          ∙ after_ends (part_with (standing (Some t) m) floor mark) t.pid ne
+          ap (with_entity (part_with (entities (Some t) m) floor mark) t.pid) e
+          ∙ after_ends (part_with (entities (Some t) m) floor mark) t.pid ne
 
 -- the same, where the runner is told by an equation
 pub kept_runner : (runner : Option Task) (m : BTreeMap ℕ Task) (a : BTreeSet WaitingTask) (r : Option Task)
@@ -139,12 +140,12 @@ pub runner_leaves : (runner : Option Task) (m n : BTreeMap ℕ Task) (a : BTreeS
     → IsQueue runner m a → runner ≡ Some t
     → (w : Option Task) → Updates nat_cmp m n t.pid w → (floor : ℤ) (mark : ℕ) (way : Way)
     → option_map entity_of w ≡ after_way way (entity_of t)
-    → (prev : ℕ) → ((IsRunner (part_with (standing runner m) floor mark) prev → ⊥) → ⊥)
-    → part_with (standing None n) floor mark ≡ part_after_prev (part_with (standing runner m) floor mark) prev way
+    → (prev : ℕ) → ((IsRunner (part_with (entities runner m) floor mark) prev → ⊥) → ⊥)
+    → part_with (entities None n) floor mark ≡ part_after_prev (part_with (entities runner m) floor mark) prev way
 runner_leaves runner m n a t kept e w u floor mark way is =
-    subst (λ (r : Option Task). (prev : ℕ) → ((IsRunner (part_with (standing r m) floor mark) prev → ⊥) → ⊥)
-    → part_with (standing None n) floor mark ≡ part_after_prev (part_with (standing r m) floor mark) prev way) (sym e)
-    (prev_standing m n a t (kept_runner runner m a (Some t) kept e) w u floor mark way is)
+    subst (λ (r : Option Task). (prev : ℕ) → ((IsRunner (part_with (entities r m) floor mark) prev → ⊥) → ⊥)
+    → part_with (entities None n) floor mark ≡ part_after_prev (part_with (entities r m) floor mark) prev way) (sym e)
+    (prev_entities m n a t (kept_runner runner m a (Some t) kept e) w u floor mark way is)
 
 -- nobody runs: the previous task is the idle one
 pub idle_prev : (part : Part) → IsTheRunner part None → (way : Way) (prev : ℕ) → ((IsRunner part prev → ⊥) → ⊥)
@@ -155,11 +156,11 @@ idle_prev part nobody way (suc n) h = absurd (h (λ i. nobody (suc n) i))
 pub nobody_leaves : (runner : Option Task) (m : BTreeMap ℕ Task) (a : BTreeSet WaitingTask) → IsQueue runner m a
     → runner ≡ None
     → (floor : ℤ) (mark : ℕ) (way : Way) (prev : ℕ)
-    → ((IsRunner (part_with (standing runner m) floor mark) prev → ⊥) → ⊥)
-    → part_with (standing runner m) floor mark ≡ part_after_prev (part_with (standing runner m) floor mark) prev way
+    → ((IsRunner (part_with (entities runner m) floor mark) prev → ⊥) → ⊥)
+    → part_with (entities runner m) floor mark ≡ part_after_prev (part_with (entities runner m) floor mark) prev way
 nobody_leaves runner m a kept e floor mark way prev =
-    idle_prev (part_with (standing runner m) floor mark)
-    (subst (IsTheRunner (part_with (standing runner m) floor mark)) e (the_runner runner m a floor mark kept)) way prev
+    idle_prev (part_with (entities runner m) floor mark)
+    (subst (IsTheRunner (part_with (entities runner m) floor mark)) e (the_runner runner m a floor mark kept)) way prev
 
 -- the next task runs
 pub next_queue : (m : BTreeMap ℕ Task) (a b : BTreeSet WaitingTask) (t new : Task) → IsQueue None m a
@@ -169,9 +170,9 @@ next_queue m a b t new kept has s runs =
     let own : (v : ℤ) → waiting_runtime (listed m new.pid) ≡ Some v → v ≡ t.v = λ v e.
     runtime_own t.place t.v v (sym (ap waiting_runtime has) ∙ e) in
     queue_is (Some new) m b
-    (parts (listed m) (standing (Some new) m) new.pid (Some (entity_of new)) (λ q. refl) a b t.v
+    (parts (listed m) (entities (Some new) m) new.pid (Some (entity_of new)) (λ q. refl) a b t.v
     (waiting_in None m a kept) s own (ap (λ p. runtime_if p new.v) runs))
-    (only_comes (listed m) (standing (Some new) m) new.pid (Some (entity_of new)) (λ q. refl) new refl
+    (only_comes (listed m) (entities (Some new) m) new.pid (Some (entity_of new)) (λ q. refl) new refl
     (only_in None m a kept))
     (listed_some m new runs (go (get nat_cmp m new.pid) has))
   where
@@ -179,96 +180,96 @@ next_queue m a b t new kept has s runs =
     go None e = cc
     go (Some x) e = refl
 
-pub next_standing : (m : BTreeMap ℕ Task) (t new : Task) (floor : ℤ) (mark : ℕ) → listed m new.pid ≡ Some (entity_of t)
+pub next_entities : (m : BTreeMap ℕ Task) (t new : Task) (floor : ℤ) (mark : ℕ) → listed m new.pid ≡ Some (entity_of t)
     → new.pid ≢ 0
-    → entity_of new ≡ record { place = Run; nice = t.nice; idle = t.idle; runtime = t.v }
-    → part_with (standing (Some new) m) floor mark ≡ part_after_next (part_with (standing None m) floor mark) new.pid
-next_standing m t new floor mark has ne is =
+    → entity_of new ≡ record { place = Run; nice = t.nice; policy = t.policy; runtime = t.v }
+    → part_with (entities (Some new) m) floor mark ≡ part_after_next (part_with (entities None m) floor mark) new.pid
+next_entities m t new floor mark has ne is =
     ap (with_entity (part_with (listed m) floor mark) new.pid)
     (ap Some is ∙ sym (ap (option_map (λ (s : Entity). record s { place = Run })) has))
-    ∙ next_goes (part_with (standing None m) floor mark) new.pid ne
+    ∙ next_goes (part_with (entities None m) floor mark) new.pid ne
 
 pub no_next : (m : BTreeMap ℕ Task) (next : ℕ) (floor : ℤ) (mark : ℕ) → listed m next ≡ None → next ≢ 0
-    → part_with (standing None m) floor mark ≡ part_after_next (part_with (standing None m) floor mark) next
+    → part_with (entities None m) floor mark ≡ part_after_next (part_with (entities None m) floor mark) next
 no_next m next floor mark none ne =
     written_over (part_with (listed m) floor mark) next
     (option_map (λ (s : Entity). record s { place = Run }) (listed m next))
     (ap (option_map (λ (s : Entity). record s { place = Run })) none ∙ sym none)
-    ∙ next_goes (part_with (standing None m) floor mark) next ne
+    ∙ next_goes (part_with (entities None m) floor mark) next ne
 
 -- one who doesn't run leaves
 module _ (runner : Option Task) (m n : BTreeMap ℕ Task) (a : BTreeSet WaitingTask) (kept : IsQueue runner m a) (pid : ℕ)
-    (at_rest : its_place (standing runner m pid) ≡ Some Run → ⊥) (u : Updates nat_cmp m n pid None) where
+    (at_rest : its_place (entities runner m pid) ≡ Some Run → ⊥) (u : Updates nat_cmp m n pid None) where
   apart : (t : Task) → runner ≡ Some t → t.pid ≢ pid
   apart = runner_apart runner m a kept pid at_rest
 
   pub gone_queue : (b : BTreeSet WaitingTask) (t : Task) → get nat_cmp m pid ≡ Some t
       → set.Updates by_runtime a b (waiting_task t.v pid) false → IsQueue runner n b
   gone_queue b t has s =
-      let own : (v : ℤ) → waiting_runtime (standing runner m pid) ≡ Some v → v ≡ t.v = λ v e.
+      let own : (v : ℤ) → waiting_runtime (entities runner m pid) ≡ Some v → v ≡ t.v = λ v e.
       runtime_own t.place t.v v
-      (sym (ap waiting_runtime (standing_listed runner m pid apart)
+      (sym (ap waiting_runtime (entities_listed runner m pid apart)
       ∙ ap (λ (o : Option Task). waiting_runtime (option_map entity_of o)) has) ∙ e) in
       queue_is runner n b
-      (parts (standing runner m) (standing runner n) pid None (rewritten runner m n pid None u apart) a b t.v
+      (parts (entities runner m) (entities runner n) pid None (rewritten runner m n pid None u apart) a b t.v
       (waiting_in runner m a kept) s own refl)
-      (only_kept (standing runner m) (standing runner n) pid None (rewritten runner m n pid None u apart) runner
+      (only_kept (entities runner m) (entities runner n) pid None (rewritten runner m n pid None u apart) runner
       (only_in runner m a kept) (λ e. cc))
       (listed_kept runner m n pid None u apart (listed_in runner m a kept))
 
   pub nowhere_queue : get nat_cmp m pid ≡ None → IsQueue runner n a
   nowhere_queue none =
       queue_is runner n a
-      (stays (standing runner m) (standing runner n) pid None (rewritten runner m n pid None u apart) a
+      (stays (entities runner m) (entities runner n) pid None (rewritten runner m n pid None u apart) a
       (waiting_in runner m a kept)
-      (sym (ap waiting_runtime (standing_listed runner m pid apart)
+      (sym (ap waiting_runtime (entities_listed runner m pid apart)
       ∙ ap (λ (o : Option Task). waiting_runtime (option_map entity_of o)) none)))
-      (only_kept (standing runner m) (standing runner n) pid None (rewritten runner m n pid None u apart) runner
+      (only_kept (entities runner m) (entities runner n) pid None (rewritten runner m n pid None u apart) runner
       (only_in runner m a kept) (λ e. cc))
       (listed_kept runner m n pid None u apart (listed_in runner m a kept))
 
-  pub gone_standing : (floor : ℤ) (mark : ℕ)
-      → part_with (standing runner n) floor mark ≡ with_entity (part_with (standing runner m) floor mark) pid None
-  gone_standing floor mark = same_tasks (standing runner n) (put (standing runner m) pid None) floor mark
+  pub gone_entities : (floor : ℤ) (mark : ℕ)
+      → part_with (entities runner n) floor mark ≡ with_entity (part_with (entities runner m) floor mark) pid None
+  gone_entities floor mark = same_tasks (entities runner n) (put (entities runner m) pid None) floor mark
       (rewritten runner m n pid None u apart)
 
 -- one who rests is woken
 module _ (runner : Option Task) (m n : BTreeMap ℕ Task) (a : BTreeSet WaitingTask) (kept : IsQueue runner m a) (pid : ℕ)
     (t : Task)
-    (stands : Some (entity_of t) ≡ standing runner m pid) (rests : t.place ≡ Rest) where
+    (stands : Some (entity_of t) ≡ entities runner m pid) (rests : t.place ≡ Rest) where
   apart_rest : (x : Task) → runner ≡ Some x → x.pid ≢ pid
   apart_rest = runner_apart runner m a kept pid (λ e. let f : Some Rest ≡ Some Run = ap Some (sym rests)
       ∙ ap its_place stands ∙ e in cc)
 
   pub wake_has : IsSome (get nat_cmp m pid)
-  wake_has = go (get nat_cmp m pid) (stands ∙ standing_listed runner m pid apart_rest)
+  wake_has = go (get nat_cmp m pid) (stands ∙ entities_listed runner m pid apart_rest)
     where
       go : (o : Option Task) → Some (entity_of t) ≡ option_map entity_of o → IsSome o
       go None e = cc
       go (Some x) e = refl
 
   module _ (w : Task) (u : Updates nat_cmp m n pid (Some w)) (v : ℤ)
-      (is : entity_of w ≡ record { place = Wait; nice = t.nice; idle = t.idle; runtime = v }) where
+      (is : entity_of w ≡ record { place = Wait; nice = t.nice; policy = t.policy; runtime = v }) where
     pub woken_queue : (b : BTreeSet WaitingTask) → set.Updates by_runtime a b (waiting_task v pid) true
         → IsQueue runner n b
     woken_queue b s =
         queue_is runner n b
-        (joins (standing runner m) (standing runner n) pid (Some (entity_of w))
+        (joins (entities runner m) (entities runner n) pid (Some (entity_of w))
         (rewritten runner m n pid (Some w) u apart_rest) a b v (waiting_in runner m a kept) s
         (sym (ap waiting_runtime stands) ∙ ap (λ p. runtime_if p t.v) rests)
         (ap (λ (x : Entity). runtime_if x.place x.runtime) is))
-        (only_kept (standing runner m) (standing runner n) pid (Some (entity_of w))
+        (only_kept (entities runner m) (entities runner n) pid (Some (entity_of w))
         (rewritten runner m n pid (Some w) u apart_rest) runner (only_in runner m a kept)
         (λ e. let f : Some Wait ≡ Some Run = sym (ap (λ (x : Entity). Some x.place) is) ∙ e in cc))
         (listed_kept runner m n pid (Some w) u apart_rest (listed_in runner m a kept))
 
     pub woken_part : (floor : ℤ) (mark : ℕ) (claim : Claim) → claim.v ≡ v
-        → part_with (standing runner n) floor mark ≡ wakes (part_with (standing runner m) floor mark) pid (Some claim)
+        → part_with (entities runner n) floor mark ≡ wakes (part_with (entities runner m) floor mark) pid (Some claim)
     woken_part floor mark claim same =
-        same_tasks (standing runner n) (put (standing runner m) pid (Some (entity_of w))) floor mark
+        same_tasks (entities runner n) (put (entities runner m) pid (Some (entity_of w))) floor mark
         (rewritten runner m n pid (Some w) u apart_rest)
-        ∙ ap (with_entity (part_with (standing runner m) floor mark) pid)
-        (ap Some is ∙ ap (λ (x : ℤ). Some (record { place = Wait; nice = t.nice; idle = t.idle; runtime = x }))
+        ∙ ap (with_entity (part_with (entities runner m) floor mark) pid)
+        (ap Some is ∙ ap (λ (x : ℤ). Some (record { place = Wait; nice = t.nice; policy = t.policy; runtime = x }))
         (sym same)
         ∙ ap (λ p. Some (woken (Some claim) p (entity_of t))) (sym rests)
         ∙ ap (option_map (λ (s : Entity). woken (Some claim) s.place s)) stands)
@@ -292,18 +293,18 @@ nobody_woken part pid claim e =
 
 -- what the map has of a pid is what stands, but for the runner's
 pub stands_alone : (runner : Option Task) (m : BTreeMap ℕ Task) (pid : ℕ) → runner ≡ None
-    → listed m pid ≡ standing runner m pid
-stands_alone runner m pid e = ap (λ r. standing r m pid) (sym e)
+    → listed m pid ≡ entities runner m pid
+stands_alone runner m pid e = ap (λ r. entities r m pid) (sym e)
 
 pub stands_apart : (runner : Option Task) (m : BTreeMap ℕ Task) (pid : ℕ) (t : Task) → runner ≡ Some t → t.pid ≢ pid
-    → listed m pid ≡ standing runner m pid
+    → listed m pid ≡ entities runner m pid
 stands_apart runner m pid t e ne =
-    sym (put-other (listed m) t.pid (Some (entity_of t)) pid (λ f. ne (sym f))) ∙ ap (λ r. standing r m pid) (sym e)
+    sym (put-other (listed m) t.pid (Some (entity_of t)) pid (λ f. ne (sym f))) ∙ ap (λ r. entities r m pid) (sym e)
 
 pub stands_there : (runner : Option Task) (m : BTreeMap ℕ Task) (pid : ℕ) (t : Task) → runner ≡ Some t → t.pid ≡ pid
-    → Some (entity_of t) ≡ standing runner m pid
+    → Some (entity_of t) ≡ entities runner m pid
 stands_there runner m pid t e same =
-    sym (put-at (listed m) t.pid (Some (entity_of t)) pid (sym same)) ∙ ap (λ r. standing r m pid) (sym e)
+    sym (put-at (listed m) t.pid (Some (entity_of t)) pid (sym same)) ∙ ap (λ r. entities r m pid) (sym e)
 
 -- entries and keys that are as they were
 pub same_entries : (m n : BTreeMap ℕ Task) → n.entries ≡ m.entries → (q : ℕ) → get nat_cmp n q ≡ get nat_cmp m q
@@ -317,9 +318,9 @@ same_waiting_keys a b e v q = ap (list_any (is_at (by_runtime (waiting_task v q)
 pub restored_part : (runner r : Option Task) (m n : BTreeMap ℕ Task) (floor f : ℤ) (mark k : ℕ) → r ≡ runner → f ≡ floor
     → k ≡ mark
     → ((q : ℕ) → get nat_cmp n q ≡ get nat_cmp m q)
-    → part_with (standing r n) f k ≡ part_with (standing runner m) floor mark
+    → part_with (entities r n) f k ≡ part_with (entities runner m) floor mark
 restored_part runner r m n floor f mark k e g h same =
-    same_tasks (standing r n) (standing r m) f k (standing_same r m n same)
-    ∙ ap (λ x. part_with (standing x m) f k) e
-    ∙ ap (λ x. part_with (standing runner m) x k) g
-    ∙ ap (λ x. part_with (standing runner m) floor x) h
+    same_tasks (entities r n) (entities r m) f k (entities_same r m n same)
+    ∙ ap (λ x. part_with (entities x m) f k) e
+    ∙ ap (λ x. part_with (entities runner m) x k) g
+    ∙ ap (λ x. part_with (entities runner m) floor x) h

@@ -10,15 +10,15 @@ use Rattle.cfs_model.specs.declared.task.Task.{Task}
 use Rattle.replay_model.specs.Deeds.{with_entity}
 use Rattle.replay_model.specs.Part.{Part, Entity}
 use Rattle.runqueue.specs.Queue.{HoldsSame, IsReniced, nice_listed}
-use Rattle.runqueue.specs.Standing.{by_runtime, HasNice, IsOnlyRunner, IsQueue, IsRunnerListed, listed, standing}
-use Rattle.runqueue.specs.Standing.{waiting_runtime, reniced_task, waiting_task}
+use Rattle.runqueue.specs.Entities.{by_runtime, HasNice, IsOnlyRunner, IsQueue, IsRunnerListed, listed, entities}
+use Rattle.runqueue.specs.Entities.{waiting_runtime, reniced_task, waiting_task}
 use Rattle.runqueue.specs.Tasks.{entity_of}
 use Rattle.runqueue.specs.declared.runqueue.Runqueue.{Runqueue}
 use Rattle.runqueue.specs.declared.waiting_task.WaitingTask.{WaitingTask}
 use Rattle.cfs_model.proofs.Moves.{put-other}
 use Rattle.runqueue.proofs.Parts.{part_with, its_place, put-at, same_tasks, written_over}
-use Rattle.runqueue.proofs.Standings.{is_listed, listed_in, listed_none, listed_some, map_at, map_other, only_in}
-use Rattle.runqueue.proofs.Standings.{queue_is, stays, waiting_in}
+use Rattle.runqueue.proofs.EntitiesKept.{is_listed, listed_in, listed_none, listed_some, map_at, map_other, only_in}
+use Rattle.runqueue.proofs.EntitiesKept.{queue_is, stays, waiting_in}
 
 -- a task with another nice value
 abbrev changed : ℤ → Entity → Entity
@@ -52,7 +52,7 @@ written_back l m n pid nice before h back was q =
 -- nobody of a pid stands here that the map has no entry of
 pub nobody_listed : (runner : Option Task) (m : BTreeMap ℕ Task) (a : BTreeSet WaitingTask) → IsQueue runner m a
     → (pid : ℕ) → get nat_cmp m pid ≡ None
-    → standing runner m pid ≡ None
+    → entities runner m pid ≡ None
 nobody_listed None m a kept pid none = ap (option_map entity_of) none
 nobody_listed (Some t) m a kept pid none =
     elim (cases_eq t.pid pid) [
@@ -94,8 +94,8 @@ module _ (m n : BTreeMap ℕ Task) (pid : ℕ) (nice : ℤ) (h : HasNice pid nic
   changed_other t other = cond-false (eqb t.pid pid) (record t { nice = nice }) t (ne_eqb t.pid pid other)
 
   -- who stands
-  pub renices : (runner : Option Task) (q : ℕ) → standing (option_map (reniced_task pid nice) runner) n q
-      ≡ put (standing runner m) pid (option_map (changed nice) (standing runner m pid)) q
+  pub renices : (runner : Option Task) (q : ℕ) → entities (option_map (reniced_task pid nice) runner) n q
+      ≡ put (entities runner m) pid (option_map (changed nice) (entities runner m pid)) q
   renices None q =
       elim (cases_eq q pid) [
         | inl same ↦ ap (listed n) same ∙ listed_here
@@ -105,58 +105,58 @@ module _ (m n : BTreeMap ℕ Task) (pid : ℕ) (nice : ℤ) (h : HasNice pid nic
       ]
   renices (Some t) q =
       elim (cases_eq t.pid pid) [
-        | inl own ↦ ap (λ (u : Task). standing (Some u) n q) (changed_own t own) ∙ its_own own (cases_eq q pid)
-        | inr other ↦ ap (λ (u : Task). standing (Some u) n q) (changed_other t other)
+        | inl own ↦ ap (λ (u : Task). entities (Some u) n q) (changed_own t own) ∙ its_own own (cases_eq q pid)
+        | inr other ↦ ap (λ (u : Task). entities (Some u) n q) (changed_other t other)
             ∙ another other (cases_eq q t.pid) (cases_eq q pid)
       ]
     where
-      its_own : t.pid ≡ pid → (q ≡ pid) ⊎ (q ≡ pid → ⊥) → standing (Some (record t { nice = nice })) n q
-          ≡ put (standing (Some t) m) pid (option_map (changed nice) (standing (Some t) m pid)) q
+      its_own : t.pid ≡ pid → (q ≡ pid) ⊎ (q ≡ pid → ⊥) → entities (Some (record t { nice = nice })) n q
+          ≡ put (entities (Some t) m) pid (option_map (changed nice) (entities (Some t) m pid)) q
       its_own own (inl same) =
           put-at (listed n) t.pid (Some (entity_of (record t { nice = nice }))) q (same ∙ sym own)
           ∙ ap (option_map (changed nice)) (sym (put-at (listed m) t.pid (Some (entity_of t)) pid (sym own)))
-          ∙ sym (put-at (standing (Some t) m) pid (option_map (changed nice) (standing (Some t) m pid)) q same)
+          ∙ sym (put-at (entities (Some t) m) pid (option_map (changed nice) (entities (Some t) m pid)) q same)
       its_own own (inr away) =
           put-other (listed n) t.pid (Some (entity_of (record t { nice = nice }))) q (λ e. away (e ∙ own))
           ∙ listed_there q away ∙ sym (put-other (listed m) t.pid (Some (entity_of t)) q (λ e. away (e ∙ own)))
-          ∙ sym (put-other (standing (Some t) m) pid (option_map (changed nice) (standing (Some t) m pid)) q away)
+          ∙ sym (put-other (entities (Some t) m) pid (option_map (changed nice) (entities (Some t) m pid)) q away)
 
-      another : t.pid ≢ pid → (q ≡ t.pid) ⊎ (q ≡ t.pid → ⊥) → (q ≡ pid) ⊎ (q ≡ pid → ⊥) → standing (Some t) n q
-          ≡ put (standing (Some t) m) pid (option_map (changed nice) (standing (Some t) m pid)) q
+      another : t.pid ≢ pid → (q ≡ t.pid) ⊎ (q ≡ t.pid → ⊥) → (q ≡ pid) ⊎ (q ≡ pid → ⊥) → entities (Some t) n q
+          ≡ put (entities (Some t) m) pid (option_map (changed nice) (entities (Some t) m pid)) q
       another other (inl is) at =
           put-at (listed n) t.pid (Some (entity_of t)) q is ∙ sym (put-at (listed m) t.pid (Some (entity_of t)) q is)
-          ∙ sym (put-other (standing (Some t) m) pid (option_map (changed nice) (standing (Some t) m pid)) q
+          ∙ sym (put-other (entities (Some t) m) pid (option_map (changed nice) (entities (Some t) m pid)) q
           (λ e. other (sym is ∙ e)))
       another other (inr ne) (inl same) =
           put-other (listed n) t.pid (Some (entity_of t)) q ne ∙ ap (listed n) same ∙ listed_here
           ∙ ap (option_map (changed nice))
           (sym (put-other (listed m) t.pid (Some (entity_of t)) pid (λ e. other (sym e))))
-          ∙ sym (put-at (standing (Some t) m) pid (option_map (changed nice) (standing (Some t) m pid)) q same)
+          ∙ sym (put-at (entities (Some t) m) pid (option_map (changed nice) (entities (Some t) m pid)) q same)
       another other (inr ne) (inr away) =
           put-other (listed n) t.pid (Some (entity_of t)) q ne ∙ listed_there q away
           ∙ sym (put-other (listed m) t.pid (Some (entity_of t)) q ne)
-          ∙ sym (put-other (standing (Some t) m) pid (option_map (changed nice) (standing (Some t) m pid)) q away)
+          ∙ sym (put-other (entities (Some t) m) pid (option_map (changed nice) (entities (Some t) m pid)) q away)
 
   pub reniced_part : (runner : Option Task) (floor : ℤ) (mark : ℕ)
-      → part_with (standing (option_map (reniced_task pid nice) runner) n) floor mark
-      ≡ with_entity (part_with (standing runner m) floor mark) pid
-      (option_map (λ (s : Entity). record s { nice = nice }) (standing runner m pid))
+      → part_with (entities (option_map (reniced_task pid nice) runner) n) floor mark
+      ≡ with_entity (part_with (entities runner m) floor mark) pid
+      (option_map (λ (s : Entity). record s { nice = nice }) (entities runner m pid))
   reniced_part runner floor mark =
-      same_tasks (standing (option_map (reniced_task pid nice) runner) n)
-      (put (standing runner m) pid (option_map (changed nice) (standing runner m pid)))
+      same_tasks (entities (option_map (reniced_task pid nice) runner) n)
+      (put (entities runner m) pid (option_map (changed nice) (entities runner m pid)))
       floor mark (renices runner)
 
   -- each stands where it did
   places : (runner : Option Task) (q : ℕ)
-      → its_place (standing (option_map (reniced_task pid nice) runner) n q) ≡ its_place (standing runner m q)
+      → its_place (entities (option_map (reniced_task pid nice) runner) n q) ≡ its_place (entities runner m q)
   places runner q =
       ap its_place (renices runner q)
       ∙ elim (cases_eq q pid) [
-        | inl same ↦ ap its_place (put-at (standing runner m) pid
-            (option_map (changed nice) (standing runner m pid)) q same)
-            ∙ go (standing runner m pid) ∙ ap (λ k. its_place (standing runner m k)) (sym same)
-        | inr other ↦ ap its_place (put-other (standing runner m) pid
-            (option_map (changed nice) (standing runner m pid)) q other)
+        | inl same ↦ ap its_place (put-at (entities runner m) pid
+            (option_map (changed nice) (entities runner m pid)) q same)
+            ∙ go (entities runner m pid) ∙ ap (λ k. its_place (entities runner m k)) (sym same)
+        | inr other ↦ ap its_place (put-other (entities runner m) pid
+            (option_map (changed nice) (entities runner m pid)) q other)
       ]
     where
       go : (o : Option Entity) → its_place (option_map (changed nice) o) ≡ its_place o
@@ -189,8 +189,8 @@ module _ (m n : BTreeMap ℕ Task) (pid : ℕ) (nice : ℤ) (h : HasNice pid nic
       go None i = cc
       go (Some t) i = refl
 
-  only_it : (runner : Option Task) → IsOnlyRunner (standing runner m) runner
-      → IsOnlyRunner (standing (option_map (reniced_task pid nice) runner) n)
+  only_it : (runner : Option Task) → IsOnlyRunner (entities runner m) runner
+      → IsOnlyRunner (entities (option_map (reniced_task pid nice) runner) n)
       (option_map (reniced_task pid nice) runner)
   unfolding IsOnlyRunner
   only_it runner only q i =
@@ -213,9 +213,9 @@ module _ (m n : BTreeMap ℕ Task) (pid : ℕ) (nice : ℤ) (h : HasNice pid nic
       → IsQueue (option_map (reniced_task pid nice) runner) n a
   reniced_queue runner a kept =
       queue_is (option_map (reniced_task pid nice) runner) n a
-      (stays (standing runner m) (standing (option_map (reniced_task pid nice) runner) n) pid
-      (option_map (changed nice) (standing runner m pid)) (renices runner)
-      a (waiting_in runner m a kept) (go (standing runner m pid)))
+      (stays (entities runner m) (entities (option_map (reniced_task pid nice) runner) n) pid
+      (option_map (changed nice) (entities runner m pid)) (renices runner)
+      a (waiting_in runner m a kept) (go (entities runner m pid)))
       (only_it runner (only_in runner m a kept))
       (has_entry runner (listed_in runner m a kept))
     where
@@ -231,7 +231,7 @@ module _ (m n : BTreeMap ℕ Task) (pid : ℕ) (nice : ℤ) (h : HasNice pid nic
       go None e = refl
       go (Some t) e = cc
 
-  pub stands_listed : (runner : Option Task) → get nat_cmp m pid ≢ None → standing runner m pid ≢ None
+  pub stands_listed : (runner : Option Task) → get nat_cmp m pid ≢ None → entities runner m pid ≢ None
   stands_listed None has none = listed_stands has none
   stands_listed (Some t) has none =
       elim (cases_eq pid t.pid) [

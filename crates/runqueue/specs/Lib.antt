@@ -1,3 +1,3 @@
 pub mod Tasks
-pub mod Standing
+pub mod Entities
 pub mod Queue

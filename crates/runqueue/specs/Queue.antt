@@ -7,14 +7,14 @@ use Rattle.replay_model.specs.Needs.{IsLeastWaiting}
 use Rattle.replay_model.specs.Part.{Part, Entity, IsIn, NobodyIn, IsQueuedHere, IsLeastHere}
 use Rattle.cfs_model.specs.declared.task.Place.TheVariants.{Run, Wait}
 use Rattle.cfs_model.specs.declared.task.Task.{Task}
-use Rattle.runqueue.specs.Standing.{HasNice, standing, by_runtime, waiting_task}
+use Rattle.runqueue.specs.Entities.{HasNice, entities, by_runtime, waiting_task}
 use Rattle.runqueue.specs.Tasks.{entity_of}
 use Rattle.runqueue.specs.declared.lift.Unlifted.{Unlifted}
 use Rattle.runqueue.specs.declared.runqueue.Runqueue.{Runqueue}
 
 -- the part of a machine that the runqueue stands for
 abbrev pub runqueue_view : Runqueue → Part
-runqueue_view queue = record { tasks = standing queue.runner queue.tasks; floor = queue.floor; mark = queue.mark }
+runqueue_view queue = record { tasks = entities queue.runner queue.tasks; floor = queue.floor; mark = queue.mark }
 
 -- the map and the set of a runqueue are as they were
 pub record HoldsSame (old new : Runqueue) : Type 0 where

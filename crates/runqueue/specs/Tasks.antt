@@ -8,7 +8,7 @@ use Rattle.cfs_model.specs.declared.task.Task.{Task}
 
 -- what a task is charged for this many nanoseconds, in virtual nanoseconds
 abbrev pub cost_of : ℕ → Task → ℕ
-cost_of delta t = charge_of delta (task_weight t.nice t.idle)
+cost_of delta t = charge_of delta (task_weight t.nice t.policy)
 
 -- neither the task's charge nor its virtual runtime after it is above the greatest
 abbrev pub CanBeCharged : ℕ → Task → Type 0
@@ -20,7 +20,7 @@ charged_task delta t = record t { v = t.v +ℤ pos (cost_of delta t) }
 
 -- a task as a part of a machine has it
 abbrev pub entity_of : Task → Entity
-entity_of t = record { place = t.place; nice = t.nice; idle = t.idle; runtime = t.v }
+entity_of t = record { place = t.place; nice = t.nice; policy = t.policy; runtime = t.v }
 
 -- the pids rise
 abbrev pub RisesByPid : List Task → Type 0

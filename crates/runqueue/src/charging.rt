@@ -9,7 +9,7 @@ pub fn charged(task: Task, delta: u64) -> Result<Task, u32>
     ensures fits { IfOk result (λ after. CanBeCharged delta task × (after ≡ charged_task delta task)) }
     ensures above { IfErr result (λ pid. (pid ≡ task.pid) × (CanBeCharged delta task → ⊥)) }
 {
-    let Some(cost) = charge(delta, weight_of(task.nice, task.idle)) else {
+    let Some(cost) = charge(delta, weight_of(task.nice, task.policy)) else {
         return Err(task.pid);
     };
     if task.v > GREATEST_RUNTIME - cost {

@@ -3,7 +3,7 @@ ghost use Rattle.replay_model.specs.Deeds.{part_after_prev};
 ghost use Rattle.replay_model.specs.QueueTests.{IsRunner};
 ghost use Rattle.runqueue.specs.Queue.{IsLeastIfWaiting, IsLeastQueued, IsSwitchTask, IsTaskAt, IsTheRunner};
 ghost use Rattle.runqueue.specs.Queue.{runqueue_view};
-ghost use Rattle.runqueue.specs.Standing.{IsWaitingSet, listed};
+ghost use Rattle.runqueue.specs.Entities.{IsWaitingSet, listed};
 ghost use Rattle.runqueue.specs.Tasks.{entity_of};
 
 use crate::runqueue::Runqueue;

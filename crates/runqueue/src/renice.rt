@@ -2,7 +2,7 @@ ghost use Rattle.std.specs.Prelude.{◌≡◌, ◌≢◌, None, option_map};
 ghost use Rattle.replay_model.specs.Deeds.{with_entity};
 ghost use Rattle.replay_model.specs.Part.{Entity};
 ghost use Rattle.runqueue.specs.Queue.{IsReniced, nice_listed, runqueue_view};
-ghost use Rattle.runqueue.specs.Standing.{reniced_task};
+ghost use Rattle.runqueue.specs.Entities.{reniced_task};
 
 use crate::moves::write_over;
 use crate::runqueue::Runqueue;

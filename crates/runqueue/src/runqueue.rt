@@ -1,4 +1,4 @@
-ghost use Rattle.runqueue.specs.Standing.{IsQueue, IsQueue-prop};
+ghost use Rattle.runqueue.specs.Entities.{IsQueue, IsQueue-prop};
 
 use crate::waiting_task::WaitingTask;
 use cfs_model::Task;

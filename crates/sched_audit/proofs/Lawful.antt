@@ -11,7 +11,7 @@ use Rattle.cfs_model.specs.Machine.{Machine, Stands, put_pair, with_floor}
 use Rattle.cfs_model.specs.Nice.{task_weight}
 use Rattle.cfs_model.specs.Order.{IsInOrder}
 use Rattle.cfs_model.specs.Run.{AreSteps}
-use Rattle.cfs_model.specs.Settings.{Settings}
+use Rattle.cfs_model.specs.Knobs.{KnobsView}
 use Rattle.cfs_model.specs.Start.{start_machine}
 use Rattle.cfs_model.specs.Step.{Changes, IsStep, after_prev}
 use Rattle.cfs_model.specs.Touch.{touched}
@@ -23,6 +23,7 @@ use Rattle.ticket_book.specs.SaidEvents.{events_of}
 use Rattle.sched_audit.specs.LawsOfAYes.{AreLawful, IsAmong, IsLawful, IsOrderly, IsPickedWithin}
 use Rattle.sched_audit.specs.LawsOfAYes.{TextsStartOrderly, YesIsLawful}
 use Rattle.sched_audit.proofs.Starts.{start_of_texts}
+use Rattle.cfs_model.specs.declared.policy.Policy.{Policy}
 
 pub orderly_of : (m : Machine) → IsInOrder m → IsOrderly m
 orderly_of m o = record {
@@ -43,7 +44,7 @@ if_not false x y h = refl
 
 -- what who runs has behind a charge
 charged_is : (m : Machine) (cpu time pid : ℕ) (nice v : ℤ) → m.nice pid ≡ Some nice → m.runtime pid ≡ Some v
-    → charged_runtime m cpu time pid ≡ Some (v +ℤ pos (cost_at m cpu time nice (m.idle pid)))
+    → charged_runtime m cpu time pid ≡ Some (v +ℤ pos (cost_at m cpu time nice (m.policy pid)))
 charged_is m cpu time pid nice v e f = rw (e, f) refl
 
 -- the processors differ
@@ -70,18 +71,18 @@ RunsOnce m = (pid cpu other : ℕ) → Stands m Run cpu pid → Stands m Run oth
 quotients : (time : ℕ) (cpus : List ℕ) (before after : Machine) → AreApart cpus → RunsOnce before
     → IsLifted time cpus before after → (cpu pid : ℕ) (nice v : ℤ) → IsAmong cpu cpus → Stands before Run cpu pid
     → before.nice pid ≡ Some nice → before.runtime pid ≡ Some v
-    → after.runtime pid ≡ Some (v +ℤ pos ((time - before.mark cpu) * 1024 / task_weight nice (before.idle pid)))
+    → after.runtime pid ≡ Some (v +ℤ pos ((time - before.mark cpu) * 1024 / task_weight nice (before.policy pid)))
 quotients time [] before after apart once l cpu pid nice v among runs e f = absurd among
 quotients time (one ∷ cpus) before after apart once l cpu pid nice v (inl same) runs e f =
     let rest = subst (λ b. IsLifted time cpus b after) l.1.result l.2 in
     let here : Stands before Run one pid = subst (λ n. Stands before Run n pid) same runs in
-    let charge : after.runtime pid ≡ Some (v +ℤ pos (cost_at before one time nice (before.idle pid))) =
+    let charge : after.runtime pid ≡ Some (v +ℤ pos (cost_at before one time nice (before.policy pid))) =
     others_stay time cpus (first_lift time one before l.1.floor) after rest pid
     (λ other h at. apart.0 (subst (λ n. IsAmong n cpus) (once pid other one at here) h))
     ∙ if_so (before.running one pid) (charged_runtime before one time pid) (before.runtime pid) here
     ∙ charged_is before one time pid nice v e f in
     subst (λ n. after.runtime pid
-    ≡ Some (v +ℤ pos ((time - before.mark n) * 1024 / task_weight nice (before.idle pid))))
+    ≡ Some (v +ℤ pos ((time - before.mark n) * 1024 / task_weight nice (before.policy pid))))
     (sym same) charge
 quotients time (one ∷ cpus) before after apart once l cpu pid nice v (inr among) runs e f =
     let rest = subst (λ b. IsLifted time cpus b after) l.1.result l.2 in
@@ -89,18 +90,18 @@ quotients time (one ∷ cpus) before after apart once l cpu pid nice v (inr amon
     let elsewhere : ¬ Stands before Run one pid = (λ at. other (once pid cpu one runs at)) in
     let kept = if_not (before.running one pid) (charged_runtime before one time pid) (before.runtime pid) elsewhere
     ∙ f in
-    subst (λ n. after.runtime pid ≡ Some (v +ℤ pos ((time - n) * 1024 / task_weight nice (before.idle pid))))
+    subst (λ n. after.runtime pid ≡ Some (v +ℤ pos ((time - n) * 1024 / task_weight nice (before.policy pid))))
     (put-other before.mark one time cpu other)
     (quotients time cpus (first_lift time one before l.1.floor) after apart.1 once rest cpu pid nice v among runs e
     kept)
 
 -- the processors that an event touches differ
-touched_apart : (knobs : Settings) (m : Machine) (act : Act) (claim : Option Claim) (idle : Bool) (after : Machine)
-    → Changes knobs m act claim idle after → AreApart (touched act)
-touched_apart knobs m (Switch cpu prev prev_nice way next next_nice) claim idle after c = ((λ h. h), tt)
-touched_apart knobs m (Wake cpu pid nice) claim idle after c = ((λ h. h), tt)
-touched_apart knobs m (Born cpu pid nice) claim idle after c = ((λ h. h), tt)
-touched_apart knobs m (Shift orig dest pid nice) claim idle after c =
+touched_apart : (knobs : KnobsView) (m : Machine) (act : Act) (claim : Option Claim) (policy : Policy) (after : Machine)
+    → Changes knobs m act claim policy after → AreApart (touched act)
+touched_apart knobs m (Switch cpu prev prev_nice way next next_nice) claim policy after c = ((λ h. h), tt)
+touched_apart knobs m (Wake cpu pid nice) claim policy after c = ((λ h. h), tt)
+touched_apart knobs m (Born cpu pid nice) claim policy after c = ((λ h. h), tt)
+touched_apart knobs m (Shift orig dest pid nice) claim policy after c =
     ((λ h. elim h [ inl same ↦ c.differ same | inr wrong ↦ wrong ]), ((λ h. h), tt))
 
 -- the next task is in the one set and not in the other
@@ -117,36 +118,36 @@ waited m cpu pid other waits = elim (pair_cases m.waiting cpu pid false cpu othe
   | inr h ↦ sym h.1 ∙ waits
 ]
 
-pick_of : (knobs : Settings) (m : Machine) (act : Act) (claim : Option Claim) (idle : Bool) (after : Machine)
-    → Changes knobs m act claim idle after → IsPickedWithin knobs.granularity act after
-pick_of knobs m (Switch cpu prev prev_nice way zero next_nice) claim idle after c = tt
-pick_of knobs m (Switch cpu prev prev_nice way (suc n) next_nice) claim idle after c =
+pick_of : (knobs : KnobsView) (m : Machine) (act : Act) (claim : Option Claim) (policy : Policy) (after : Machine)
+    → Changes knobs m act claim policy after → IsPickedWithin knobs.granularity act after
+pick_of knobs m (Switch cpu prev prev_nice way zero next_nice) claim policy after c = tt
+pick_of knobs m (Switch cpu prev prev_nice way (suc n) next_nice) claim policy after c =
     let found = after_prev m cpu prev way in
     subst (λ a. IsPickedWithin knobs.granularity (Switch cpu prev prev_nice way (suc n) next_nice) a) (sym c.result) (
       now_runs found cpu (suc n),
       (c.pick.0, c.pick.1, (λ other w waits is. c.pick.3 other w (waited found cpu (suc n) other waits) is)),
     )
-pick_of knobs m (Wake cpu pid nice) claim idle after c = tt
-pick_of knobs m (Born cpu pid nice) claim idle after c = tt
-pick_of knobs m (Shift orig dest pid nice) claim idle after c = tt
+pick_of knobs m (Wake cpu pid nice) claim policy after c = tt
+pick_of knobs m (Born cpu pid nice) claim policy after c = tt
+pick_of knobs m (Shift orig dest pid nice) claim policy after c = tt
 
 -- a step from a machine in order
-lawful_step : StepKeepsOrder → (knobs : Settings) (before : Machine) (event : Claimed) (after : Machine)
+lawful_step : StepKeepsOrder → (knobs : KnobsView) (before : Machine) (event : Claimed) (after : Machine)
     → IsInOrder before → IsStep knobs before event after → IsLawful knobs before event after
 lawful_step keeps knobs before event after o s = record {
   lifted = s.lifted;
   is_lifted = s.is_lifted;
   charges = record {
     quotient = quotients event.entry.time (touched event.entry.act) before s.lifted
-        (touched_apart knobs s.found event.entry.act event.claim event.idle after s.changes)
+        (touched_apart knobs s.found event.entry.act event.claim event.policy after s.changes)
         (orderly_of before o).one_processor s.is_lifted;
     others = others_stay event.entry.time (touched event.entry.act) before s.lifted s.is_lifted;
   };
-  pick = pick_of knobs s.found event.entry.act event.claim event.idle after s.changes;
+  pick = pick_of knobs s.found event.entry.act event.claim event.policy after s.changes;
   orderly = orderly_of after (keeps knobs before event after o s);
 }
 
-lawful_steps : StepKeepsOrder → (knobs : Settings) (before : Machine) (events : List Claimed) (states : List Machine)
+lawful_steps : StepKeepsOrder → (knobs : KnobsView) (before : Machine) (events : List Claimed) (states : List Machine)
     → IsInOrder before → AreSteps knobs before events states → AreLawful knobs before events states
 lawful_steps keeps knobs before [] [] o s = tt
 lawful_steps keeps knobs before [] (m ∷ states) o s = absurd s

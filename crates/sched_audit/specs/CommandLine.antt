@@ -6,7 +6,7 @@ use Rattle.std.specs.Option.{option_map_or}
 use Rattle.std.specs.Str.{bytes_eq}
 use Rattle.std.specs.Str.Parse.{digits_value, without_leading_plus}
 use Rattle.cfs_model.specs.Limits.{greatest_setting}
-use Rattle.cfs_model.specs.Settings.{AreInRange, Settings, all_settings, settings_by, with_value}
+use Rattle.cfs_model.specs.Knobs.{AreInRange, KnobsView, all_settings, settings_by, with_value}
 use Rattle.cfs_model.specs.Options.{name_of_setting, standard_value}
 use Rattle.cfs_model.specs.declared.setting.Setting.{Setting}
 use Rattle.clap.specs.Walk.{Row, Rule, Text, first_of, one_of}
@@ -62,7 +62,7 @@ abbrev pub setting_of : List Row → Setting → ℕ
 setting_of rows which = option_map_or number_of (one_of (name_of_setting which) rows) (standard_value which)
 
 -- the same settings but for these, of which each has the value that a function gives it
-abbrev pub with_values : (Setting → ℕ) → List Setting → Settings → Settings
+abbrev pub with_values : (Setting → ℕ) → List Setting → KnobsView → KnobsView
 with_values value [] settings = settings
 with_values value (which ∷ more) settings = with_values value more (with_value settings which (value which))
 

@@ -5,7 +5,7 @@ use Rattle.cfs_model.specs.Claimed.{Claimed}
 use Rattle.cfs_model.specs.Lifted.{IsLifted}
 use Rattle.cfs_model.specs.Machine.{Machine, Stands}
 use Rattle.cfs_model.specs.Nice.{task_weight}
-use Rattle.cfs_model.specs.Settings.{Settings}
+use Rattle.cfs_model.specs.Knobs.{KnobsView}
 use Rattle.cfs_model.specs.Start.{start_machine}
 use Rattle.cfs_model.specs.Touch.{touched}
 use Rattle.cfs_model.specs.declared.act.Act.{Act}
@@ -34,7 +34,7 @@ IsAmong cpu (one ∷ cpus) = (cpu ≡ one) ⊎ IsAmong cpu cpus
 pub record AreCharged (time : ℕ) (cpus : List ℕ) (before after : Machine) : Type 0 where
   pub quotient : (cpu pid : ℕ) (nice v : ℤ) → IsAmong cpu cpus → Stands before Run cpu pid
       → before.nice pid ≡ Some nice → before.runtime pid ≡ Some v
-      → after.runtime pid ≡ Some (v +ℤ pos ((time - before.mark cpu) * 1024 / task_weight nice (before.idle pid)))
+      → after.runtime pid ≡ Some (v +ℤ pos ((time - before.mark cpu) * 1024 / task_weight nice (before.policy pid)))
   pub others : (pid : ℕ) → ((cpu : ℕ) → IsAmong cpu cpus → ¬ Stands before Run cpu pid)
       → after.runtime pid ≡ before.runtime pid
 
@@ -50,7 +50,7 @@ IsPickedWithin granularity _ after = ⊤
 
 -- of a step: the charges between the machine before it and the one that its event's time leads to, the pick, and the
 -- machine behind it
-pub record IsLawful (knobs : Settings) (before : Machine) (event : Claimed) (after : Machine) : Type 0 where
+pub record IsLawful (knobs : KnobsView) (before : Machine) (event : Claimed) (after : Machine) : Type 0 where
   pub lifted : Machine
   pub is_lifted : IsLifted event.entry.time (touched event.entry.act) before lifted
   pub charges : AreCharged event.entry.time (touched event.entry.act) before lifted
@@ -58,7 +58,7 @@ pub record IsLawful (knobs : Settings) (before : Machine) (event : Claimed) (aft
   pub orderly : IsOrderly after
 
 -- each step is
-abbrev pub AreLawful : Settings → Machine → List Claimed → List Machine → Type 0
+abbrev pub AreLawful : KnobsView → Machine → List Claimed → List Machine → Type 0
 AreLawful knobs before [] [] = ⊤
 AreLawful knobs before (event ∷ events) (after ∷ states) = IsLawful knobs before event after
     × AreLawful knobs after events states
@@ -71,6 +71,6 @@ TextsStartOrderly = (trace companion : List ℕ) (r : RecordView) → IsRecordOf
 
 -- and where it is scheduled, each step of its run is lawful
 abbrev pub YesIsLawful : Type 0
-YesIsLawful = (knobs : Settings) (trace companion : List ℕ) (r : RecordView) (summary : SummaryView)
+YesIsLawful = (knobs : KnobsView) (trace companion : List ℕ) (r : RecordView) (summary : SummaryView)
     → IsRecordOf trace companion r → (scheduled : IsScheduled knobs r summary)
     → AreLawful knobs (start_machine r.start r.floors r.tasks) (events_of r) scheduled.run.states

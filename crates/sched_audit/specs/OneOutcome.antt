@@ -2,7 +2,7 @@
 -- project's profile).
 use Rattle.std.specs.Prelude.{◌≡◌, ℕ, List, Option, Some, Ok}
 use Rattle.std.specs.Io.KnownBytes.{Appends}
-use Rattle.cfs_model.specs.Settings.{Settings}
+use Rattle.cfs_model.specs.Knobs.{KnobsView}
 use Rattle.replay_model.specs.declared.first_fault.FirstFault.{FirstFault}
 use Rattle.sched_record.specs.Record.{RecordView}
 use Rattle.ticket_book.specs.LeastAnswer.{IsLeastAnswer}
@@ -36,7 +36,7 @@ pub record AreOneOutcome {J V : Type 0} (view : J → V) (lines : J → List ℕ
 
 -- two outcomes of the same two texts, by the same settings, are one
 abbrev pub OneOutcome : Type 0
-OneOutcome = (knobs : Settings) (trace companion : List ℕ) (one other : Outcome Verdict)
+OneOutcome = (knobs : KnobsView) (trace companion : List ℕ) (one other : Outcome Verdict)
     → OutcomeAnswer (IsVerdict knobs) trace companion one → OutcomeAnswer (IsVerdict knobs) trace companion other
     → AreOneOutcome verdict_view verdict_lines verdict_fault one other
 
@@ -66,7 +66,7 @@ OneRunBy is_of lines fault_of = (bytes text : List ℕ) (trace companion trace_a
 
 -- of verdicts, by the same settings
 abbrev pub OneRun : Type 0
-OneRun = (knobs : Settings) → OneRunBy (IsVerdict knobs) verdict_lines verdict_fault
+OneRun = (knobs : KnobsView) → OneRunBy (IsVerdict knobs) verdict_lines verdict_fault
 
 -- of the least settings
 abbrev pub OneLeastRun : Type 0

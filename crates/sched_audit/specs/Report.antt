@@ -12,7 +12,7 @@ use Rattle.sched_audit.specs.declared.cause.Cause.TheVariants.{ClaimNoEvent}
 use Rattle.sched_audit.specs.declared.outcome.Outcome.{Outcome}
 use Rattle.sched_audit.specs.declared.outcome.Outcome.TheVariants.{Judged, Text}
 use Rattle.cfs_model.specs.Kinds.{name_of, text_of}
-use Rattle.cfs_model.specs.Settings.{Settings, all_settings, value_at}
+use Rattle.cfs_model.specs.Knobs.{KnobsView, all_settings, value_at}
 use Rattle.cfs_model.specs.Options.{name_of_setting}
 use Rattle.cfs_model.specs.declared.setting.Setting.{Setting}
 use Rattle.cfs_model.specs.declared.kind.Kind.{Kind}
@@ -101,15 +101,15 @@ refusal_line source line cause =
     ++ (codes " line " ++ (decimal line ++ (codes " " ++ cause_word cause)))))
 
 -- a setting, in nanoseconds, by the name of its option
-abbrev pub setting_line : Settings → Setting → List ℕ
+abbrev pub setting_line : KnobsView → Setting → List ℕ
 setting_line knobs which = count_line (codes "least " ++ name_of_setting which) (value_at knobs which)
 
 -- each of these settings
-abbrev pub lines_of_settings : Settings → List Setting → List ℕ
+abbrev pub lines_of_settings : KnobsView → List Setting → List ℕ
 lines_of_settings knobs settings = concat (map (setting_line knobs) settings)
 
 -- each setting
-abbrev pub setting_lines : Settings → List ℕ
+abbrev pub setting_lines : KnobsView → List ℕ
 setting_lines knobs = lines_of_settings knobs all_settings
 
 -- what is written for a verdict

@@ -4,7 +4,7 @@ ghost use Rattle.std.specs.Bool.{OnTrue};
 ghost use Rattle.std.specs.Prelude.{◌≡◌, IfOk, IfSome, None, false, map};
 ghost use Rattle.clap.specs.Walk.{first_of};
 ghost use Rattle.clap.specs.Words.{app_of, found_of, rows_of, rule_of};
-ghost use Rattle.cfs_model.specs.Settings.{AreInRange, all_settings, nothing, settings_by};
+ghost use Rattle.cfs_model.specs.Knobs.{AreInRange, all_settings, nothing, settings_by};
 ghost use Rattle.sched_audit.specs.CommandLine.{HasNoSetting, HaveNone, IsAskedBy, IsRequestOf, audit_app};
 ghost use Rattle.sched_audit.specs.CommandLine.{beside_none, flag_rule, is_flagged, lone_flag_rule};
 ghost use Rattle.sched_audit.specs.CommandLine.{name_rule, setting_of, setting_rule, with_settings, with_values};

@@ -1,5 +1,5 @@
 ghost use Rattle.std.specs.Prelude.{◌≡◌, ◌++◌, ℕ, IfOk, List, OnOk, Option, string_bytes};
-ghost use Rattle.cfs_model.specs.Settings.{Settings};
+ghost use Rattle.cfs_model.specs.Knobs.{KnobsView};
 ghost use Rattle.replay_model.specs.declared.first_fault.FirstFault.{FirstFault};
 ghost use Rattle.sched_record.specs.Record.{RecordView, record_view};
 ghost use Rattle.ticket_book.specs.BookView.{book_view};
@@ -14,10 +14,10 @@ use ticket_book::Book;
 /// What is told of a record: a verdict, or the least settings.
 pub trait Judgement: Drop {
     /// Whether it is that of a record, where these settings are asked for.
-    ghost is_of: { Settings → RecordView → Self → Type 0 };
+    ghost is_of: { KnobsView → RecordView → Self → Type 0 };
 
     /// By which settings the processors are then replayed.
-    ghost replayed_by: { Settings → Settings };
+    ghost replayed_by: { KnobsView → KnobsView };
 
     /// What a report says of it.
     ghost lines: { Self → List ℕ };

@@ -1,5 +1,5 @@
 -- Why a name ends where it does: behind it stand words without spaces, each behind one space, of which only the first
--- is the key's, and they reach past fifteen bytes. So no later place within a name's length is the key's.
+-- is the key's, and they reach past fifteen bytes. So no later index within a name's length is the key's.
 use Rattle.std.proofs.Common.{◌≡◌, ℕ, zero, suc, ◌+◌, ◌≤◌, ◌<◌, Bool, true, false, eqb, List, [], ◌∷◌, ◌++◌, length}
 use Rattle.std.proofs.Common.{drop, refl, arith}
 use Rattle.std.specs.Prelude.{not}
@@ -10,9 +10,9 @@ use Rattle.sched_event.specs.Texts.{is_dark, Prio, prio_text}
 use Rattle.text_parts.specs.Pieces.{begins_with}
 use Rattle.std.proofs.lemmas.Bool.{and_parts}
 
--- the key stands at none of the first places of a text
+-- the key stands at none of the first indices of a text
 abbrev pub Free : ℕ → List ℕ → List ℕ → Type 0
-Free count key text = (place : ℕ) → place < count → begins_with key (drop place text) ≡ false
+Free count key text = (index : ℕ) → index < count → begins_with key (drop index text) ≡ false
 
 -- behind its front, a text has the key nowhere within a name's length
 abbrev pub IsAlone : List ℕ → List ℕ → Type 0
@@ -25,23 +25,23 @@ dark_differs byte dark = by_test (eqb byte 32) dark
     by_test true e = absurd cc
     by_test false e = refl
 
--- no place within a word is a key's, since a key begins with a space
+-- no index within a word is a key's, since a key begins with a space
 free_word : (key word text : List ℕ) (count : ℕ) → list_all is_dark word ≡ true → Free count (32 ∷ key) text
     → Free (length word + count) (32 ∷ key) (word ++ text)
-free_word key [] text count dark free place lt = free place (omega arith)
+free_word key [] text count dark free index lt = free index (omega arith)
 free_word key (byte ∷ word) text count dark free zero lt =
     rw (dark_differs byte (and_parts (is_dark byte) (list_all is_dark word) dark).0) refl
-free_word key (byte ∷ word) text count dark free (suc place) lt =
-    free_word key word text count (and_parts (is_dark byte) (list_all is_dark word) dark).1 free place (omega arith)
+free_word key (byte ∷ word) text count dark free (suc index) lt =
+    free_word key word text count (and_parts (is_dark byte) (list_all is_dark word) dark).1 free index (omega arith)
 
 -- nor is a space before another word
 free_space : (key text : List ℕ) (count : ℕ) → begins_with key (32 ∷ text) ≡ false → Free count key text
     → Free (suc count) key (32 ∷ text)
 free_space key text count other free zero lt = other
-free_space key text count other free (suc place) lt = free place (omega arith)
+free_space key text count other free (suc index) lt = free index (omega arith)
 
 free_none : (key text : List ℕ) → Free 0 key text
-free_none key text place lt = absurd (omega arith)
+free_none key text index lt = absurd (omega arith)
 
 alone_from_free : (key text : List ℕ) (count : ℕ) → 15 ≤ count → Free count key text → IsAlone key (32 ∷ text)
 alone_from_free key text count long free zero above below = absurd (omega arith)

@@ -11,9 +11,9 @@ use Rattle.text_parts.specs.Numerals.{IsNumeral, is_digit}
 use Rattle.text_parts.specs.Pieces.{IsRunOf, begins_with}
 use Rattle.sched_event.specs.Texts.{IsName, IsState, is_dark, Prio, prio_text}
 use Rattle.text_parts.specs.Reading.{◌>>=◌, after_text}
-use Rattle.sched_event.specs.Reading.{run_at, sign_at, last_place, numeral_behind, state_behind, prio_behind}
+use Rattle.sched_event.specs.Reading.{run_at, sign_at, last_index, numeral_behind, state_behind, prio_behind}
 use Rattle.sched_event.specs.Reading.{name_behind}
-use Rattle.sched_event.proofs.Places.{place_stands, place_is_last}
+use Rattle.sched_event.proofs.KeyIndices.{index_stands, index_is_last}
 use Rattle.text_parts.proofs.Runs.{text_again, text_taken, Stops, bind_some}
 use Rattle.sched_event.proofs.Runs.{run_at_takes, run_at_again}
 use Rattle.sched_event.proofs.Alone.{IsAlone}
@@ -137,14 +137,14 @@ pub name_behind_takes : (key next text name rest : List ℕ) → name_behind key
     → IsName name × IsBehind key text name rest
 unfolding name_behind
 name_behind_takes key next text name rest e =
-    let after = bind_some (after_text key text) (λ after. last_place (min 15 (length after)) next after >>= λ place.
-    Some (take place after, drop place after)) (name, rest) e in
-    let place = bind_some (last_place (min 15 (length after.0)) next after.0)
-    (λ place. Some (take place after.0, drop place after.0)) (name, rest) after.2 in
-    let stands = place_stands (min 15 (length after.0)) next after.0 place.0 place.1 in
-    let same = some_pair_parts (take place.0 after.0) name (drop place.0 after.0) rest place.2 in
-    let short : length name ≤ 15 = omega (arith, ap length same.0, length-take place.0 after.0, stands.within) in
-    let cut : after.0 ≡ name ++ rest = sym (take-append-drop place.0 after.0) ∙ rw (same.0, same.1) refl in
+    let after = bind_some (after_text key text) (λ after. last_index (min 15 (length after)) next after >>= λ index.
+    Some (take index after, drop index after)) (name, rest) e in
+    let index = bind_some (last_index (min 15 (length after.0)) next after.0)
+    (λ index. Some (take index after.0, drop index after.0)) (name, rest) after.2 in
+    let stands = index_stands (min 15 (length after.0)) next after.0 index.0 index.1 in
+    let same = some_pair_parts (take index.0 after.0) name (drop index.0 after.0) rest index.2 in
+    let short : length name ≤ 15 = omega (arith, ap length same.0, length-take index.0 after.0, stands.within) in
+    let cut : after.0 ≡ name ++ rest = sym (take-append-drop index.0 after.0) ∙ rw (same.0, same.1) refl in
     (short, record { parts = text_taken key text after.0 after.1 ∙ ap (λ (x : List ℕ). key ++ x) cut })
 
 later_is_free : (next name rest : List ℕ) → IsAlone next rest → (later : ℕ) → length name < later
@@ -165,11 +165,11 @@ name_behind_again key next name rest short stands alone =
     let within : length name ≤ min 15 (length (name ++ rest)) = omega (arith, length-append name rest) in
     let at_rest : begins_with next (drop (length name) (name ++ rest)) ≡ true =
     rw (drop_at name rest (length name) refl) stands in
-    let place = place_is_last (min 15 (length (name ++ rest))) next (name ++ rest) (length name) within at_rest
+    let index = index_is_last (min 15 (length (name ++ rest))) next (name ++ rest) (length name) within at_rest
     (later_is_free next name rest alone) in
     rw (
       text_again key (name ++ rest),
-      place,
+      index,
       take_at name rest (length name) refl,
       drop_at name rest (length name) refl,
     ) refl

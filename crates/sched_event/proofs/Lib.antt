@@ -1,4 +1,4 @@
-pub mod Places
+pub mod KeyIndices
 pub mod Runs
 pub mod Alone
 pub mod Keyed

@@ -9,7 +9,7 @@ use Rattle.std.proofs.lemmas.List.{take_at, drop_at, take-append-drop}
 use Rattle.text_parts.specs.Pieces.{IsRunOf}
 use Rattle.sched_event.specs.Reading.{run_at}
 use Rattle.text_parts.proofs.Runs.{Stops, run_passes, prefix_len-run}
-use Rattle.sched_event.proofs.Places.{chosen}
+use Rattle.sched_event.proofs.KeyIndices.{chosen}
 
 -- what was taken as a run
 pub record TakesRun (test : ℕ → Bool) (text front rest : List ℕ) : Type 0 where

@@ -21,10 +21,10 @@ unfoldable pub sign_at : List ℕ → Bool × List ℕ
 sign_at [] = (false, [])
 sign_at (byte ∷ bytes) = if byte == 45 then (true, bytes) else (false, byte ∷ bytes)
 
--- the last place up to a limit at which a key stands
-unfoldable pub last_place : ℕ → List ℕ → List ℕ → Option ℕ
-last_place zero key text = if begins_with key text then Some 0 else None
-last_place (suc limit) key text = if begins_with key (drop (suc limit) text) then Some (suc limit) else last_place limit
+-- the last index up to a limit at which a key stands
+unfoldable pub last_index : ℕ → List ℕ → List ℕ → Option ℕ
+last_index zero key text = if begins_with key text then Some 0 else None
+last_index (suc limit) key text = if begins_with key (drop (suc limit) text) then Some (suc limit) else last_index limit
     key text
 
 -- the digits behind a key
@@ -46,12 +46,12 @@ prio_behind key text = do
   digits ← run_at is_digit (sign_at after).1
   Some (record { minus = (sign_at after).0; digits = digits.0 }, digits.1)
 
--- the name behind a key: it ends at the last place within fifteen bytes at which the next key stands
+-- the name behind a key: it ends at the last index within fifteen bytes at which the next key stands
 unfoldable pub name_behind : List ℕ → List ℕ → List ℕ → Option (List ℕ × List ℕ)
 name_behind key next text = do
   after ← after_text key text
-  place ← last_place (min 15 (length after)) next after
-  Some (take place after, drop place after)
+  index ← last_index (min 15 (length after)) next after
+  Some (take index after, drop index after)
 
 -- a reader's answer, or nothing and the text as it was
 abbrev pub or_nothing : List ℕ → Option (List ℕ × List ℕ) → Option (List ℕ) × List ℕ

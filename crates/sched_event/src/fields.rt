@@ -2,7 +2,7 @@ ghost use Rattle.std.specs.Prelude.{◌≡◌, ◌≢◌, ℕ, ◌+◌, ◌<◌,
 ghost use Rattle.std.specs.List.{prefix_len};
 ghost use Rattle.sched_event.specs.Texts.{is_dark};
 ghost use Rattle.text_parts.specs.Reading.{Gives};
-ghost use Rattle.sched_event.specs.Reading.{run_at, sign_at, last_place, numeral_behind, state_behind, prio_behind};
+ghost use Rattle.sched_event.specs.Reading.{run_at, sign_at, last_index, numeral_behind, state_behind, prio_behind};
 ghost use Rattle.sched_event.specs.Reading.{name_behind, optional_behind};
 ghost use Rattle.sched_event.specs.FieldsView.{pair, numeral_pair, prio_pair, optional_pair};
 ghost use Rattle.text_parts.specs.Numerals.{is_digit};
@@ -81,48 +81,48 @@ fn sign<'a>(text: &'a [u8]) -> (bool, &'a [u8])
     }
 }
 
-/// The last place up to a limit at which this byte stands, or 0.
+/// The last index up to a limit at which this byte stands, or 0.
 #[inline(always)]
 fn last_byte(text: &[u8], byte: u8, limit: usize) -> usize
     requires { limit < length text.now }
     ensures within { result ≤ limit }
-    ensures none { (place : ℕ) → result < place → place ≤ limit → slice_index text.now place ≢ byte }
+    ensures none { (index : ℕ) → result < index → index ≤ limit → slice_index text.now index ≢ byte }
 {
     if limit == NAME_MAX {
         return usize::from(last_byte_of_sixteen(text, byte));
     }
-    let mut place = limit;
-    while place > 0 && text[place] != byte {
-        place -= 1;
+    let mut index = limit;
+    while index > 0 && text[index] != byte {
+        index -= 1;
     }
-    place
+    index
 }
 
-/// The last of the first sixteen places at which this byte stands, or 0. Names have all lengths, so all places are
+/// The last of the first sixteen indices at which this byte stands, or 0. Names have all lengths, so all indices are
 /// looked at with no branch to guess.
 #[inline(always)]
 fn last_byte_of_sixteen(text: &[u8], byte: u8) -> u8
     requires { 15 < length text.now }
     ensures within { result ≤ 15 }
-    ensures none { (place : ℕ) → result < place → place ≤ 15 → slice_index text.now place ≢ byte }
+    ensures none { (index : ℕ) → result < index → index ≤ 15 → slice_index text.now index ≢ byte }
 {
     let mut last = 0;
-    for place in 0..16u8 {
-        last = last.max(place_if_same(place, text[usize::from(place)], byte));
+    for index in 0..16u8 {
+        last = last.max(index_if_same(index, text[usize::from(index)], byte));
     }
     last
 }
 
-/// The place where its byte is the one sought, or 0. There is no test: sixteen times the distance of two other bytes is
-/// above every place, so that sixteen places are looked at by a few instructions.
+/// The index where its byte is the one sought, or 0. There is no test: sixteen times the distance of two other bytes is
+/// above every index, so that sixteen indices are looked at by a few instructions.
 #[inline(always)]
-fn place_if_same(place: u8, found: u8, byte: u8) -> u8
-    requires { place < 16 }
-    ensures same { found ≡ byte → result ≡ place }
+fn index_if_same(index: u8, found: u8, byte: u8) -> u8
+    requires { index < 16 }
+    ensures same { found ≡ byte → result ≡ index }
     ensures other { found ≢ byte → result ≡ 0 }
 {
     let twice = doubled(found.abs_diff(byte));
-    place.saturating_sub(doubled(doubled(doubled(twice))))
+    index.saturating_sub(doubled(doubled(doubled(twice))))
 }
 
 /// Twice a number, or the greatest.
@@ -133,26 +133,26 @@ fn doubled(number: u8) -> u8
     number.saturating_add(number)
 }
 
-/// The last place within a name's length at which the key stands.
+/// The last index within a name's length at which the key stands.
 #[inline(always)]
-fn last_place(text: &[u8], key: &[u8]) -> Option<usize>
+fn last_index(text: &[u8], key: &[u8]) -> Option<usize>
     requires { 0 < length key.now }
-    ensures place { result ≡ last_place (min 15 (length text.now)) key.now text.now }
-    ensures within { IfSome result (λ place. place ≤ length text.now) }
+    ensures index { result ≡ last_index (min 15 (length text.now)) key.now text.now }
+    ensures within { IfSome result (λ index. index ≤ length text.now) }
 {
     if text.is_empty() {
         return None;
     }
     let mut limit = NAME_MAX.min(text.len() - 1);
     loop {
-        let place = last_byte(text, key[0], limit);
-        if begins_with(&text[place..], key) {
-            return Some(place);
+        let index = last_byte(text, key[0], limit);
+        if begins_with(&text[index..], key) {
+            return Some(index);
         }
-        if place == 0 {
+        if index == 0 {
             return None;
         }
-        limit = place - 1;
+        limit = index - 1;
     }
 }
 
@@ -196,8 +196,8 @@ pub(crate) fn name<'a>(text: &'a [u8], key: &[u8], next: &[u8]) -> Option<(&'a [
     ensures { Gives pair result (name_behind key.now next.now text.now) }
 {
     let after = after_front(text, key)?;
-    let place = last_place(after, next)?;
-    Some(after.split_at(place))
+    let index = last_index(after, next)?;
+    Some(after.split_at(index))
 }
 
 /// The digits behind a key where they stand there, and what follows them.

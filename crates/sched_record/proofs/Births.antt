@@ -13,13 +13,13 @@ abbrev pub Rise : List Entry → Type 0
 Rise events = AllPairs (λ a b. a.line < b.line) events
 
 -- where a birth line's event stands
-pub record IsBirthAt (events : List Entry) (line pid place : ℕ) : Type 0 where
-  pub within : place < length events
-  pub line_is : (d : Entry) → (get_or events place d).line ≡ line
-  pub birth : (d : Entry) → is_birth_of pid (get_or events place d).act ≡ true
+pub record IsBirthAt (events : List Entry) (line pid index : ℕ) : Type 0 where
+  pub within : index < length events
+  pub line_is : (d : Entry) → (get_or events index d).line ≡ line
+  pub birth : (d : Entry) → is_birth_of pid (get_or events index d).act ≡ true
 
 pub birth_found : (events : List Entry) (line pid : ℕ) → is_birth_line events line pid ≡ true
-    → (place : ℕ) × IsBirthAt events line pid place
+    → (index : ℕ) × IsBirthAt events line pid index
 birth_found events line pid is =
     let any = Any-from_list_any (λ (event : Entry). eqb event.line line && is_birth_of pid event.act) events is in
     let k = any.0 in
@@ -34,12 +34,12 @@ birth_found events line pid is =
       },
     )
 
-pub birth_at : (events : List Entry) (line pid place : ℕ) (d : Entry) → place < length events
-    → (get_or events place d).line ≡ line
-    → is_birth_of pid (get_or events place d).act ≡ true → is_birth_line events line pid ≡ true
-birth_at events line pid place d h placed birth =
-    list_any_at (λ (event : Entry). eqb event.line line && is_birth_of pid event.act) events place d h
-    (ap (λ b. b && is_birth_of pid (get_or events place d).act) (eq-eqb _ _ placed) ∙ birth)
+pub birth_at : (events : List Entry) (line pid index : ℕ) (d : Entry) → index < length events
+    → (get_or events index d).line ≡ line
+    → is_birth_of pid (get_or events index d).act ≡ true → is_birth_line events line pid ≡ true
+birth_at events line pid index d h indexed birth =
+    list_any_at (λ (event : Entry). eqb event.line line && is_birth_of pid event.act) events index d h
+    (ap (λ b. b && is_birth_of pid (get_or events index d).act) (eq-eqb _ _ indexed) ∙ birth)
 
 -- one more event keeps the births so far
 pub birth_kept : (events : List Entry) (i line pid : ℕ) → is_birth_line (take i events) line pid ≡ true

@@ -11,21 +11,21 @@ use Rattle.cfs_model.specs.declared.claim.Claim.{Claim}
 use Rattle.cfs_model.specs.declared.nice_line.NiceLine.{NiceLine}
 use Rattle.replay_model.specs.declared.step.Deed.{Deed}
 use Rattle.replay_model.specs.declared.step.Step.{Step}
-use Rattle.sched_record.proofs.Placing.{step_of, touching}
+use Rattle.sched_record.proofs.Indexing.{step_of, touching}
 
 -- what stands on a line, where all before it stands above
-pub item_found : {X : Type 0} (f : X → ℕ) (items : List X) (line place : ℕ) (d : X)
-    → ((k : ℕ) (e : X) → k < place → f (get_or items k e) < line)
-    → place < length items → f (get_or items place d) ≡ line
-    → find (λ item. eqb (f item) line) items ≡ Some (get_or items place d)
-item_found f [] line place d above h same = absurd (omega arith)
+pub item_found : {X : Type 0} (f : X → ℕ) (items : List X) (line index : ℕ) (d : X)
+    → ((k : ℕ) (e : X) → k < index → f (get_or items k e) < line)
+    → index < length items → f (get_or items index d) ≡ line
+    → find (λ item. eqb (f item) line) items ≡ Some (get_or items index d)
+item_found f [] line index d above h same = absurd (omega arith)
 item_found {X} f (item ∷ items) line zero d above h same =
     ap (λ b. cond b (Some item) (find (λ (x : X). eqb (f x) line) items)) (eq-eqb (f item) line same)
-item_found {X} f (item ∷ items) line (suc place) d above h same =
+item_found {X} f (item ∷ items) line (suc index) d above h same =
     let first : f item < line = above 0 item (omega arith) in
     ap (λ b. cond b (Some item) (find (λ (x : X). eqb (f x) line) items))
     (ne_eqb (f item) line (λ e. absurd (omega (arith, first, e))))
-    ∙ item_found f items line place d (λ k e lt. above (suc k) e (omega arith)) (omega arith) same
+    ∙ item_found f items line index d (λ k e lt. above (suc k) e (omega arith)) (omega arith) same
 
 -- nothing on a line
 pub item_missing : {X : Type 0} (f : X → ℕ) (items : List X) (line : ℕ)

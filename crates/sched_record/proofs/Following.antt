@@ -32,7 +32,7 @@ says_shifted number count line (Some entry) few says = (
     head = says.1.head;
     text = says.1.text;
     act = says.1.act;
-    placed = ap (λ n. n + count) says.1.placed;
+    indexed = ap (λ n. n + count) says.1.indexed;
   },
 )
 

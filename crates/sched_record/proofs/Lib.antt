@@ -8,14 +8,14 @@ pub mod OneSaying
 pub mod OneTrace
 pub mod Order
 pub mod Pairs
-pub mod Placing
+pub mod Indexing
 pub mod Reader
 pub mod Rising
 pub mod Same
 pub mod Seeking
 pub mod Settled
-pub mod Shares
-pub mod SpanPlace
+pub mod StreamsKept
+pub mod SpanIndex
 pub mod Splits
 pub mod Straying
 pub mod Telling

@@ -104,7 +104,7 @@ first_bad {lines} {count} {last} {events} line cause read bad = record {
   events = events;
   parts = refl;
   good = read.good;
-  placed = ap (λ n. n + 1) read.counted;
+  indexed = ap (λ n. n + 1) read.counted;
   bad = bad;
 }
 

@@ -30,7 +30,7 @@ one_outside cpus events m n x y =
     let same = one_first_split (IsInside cpus) events x.before y.before x.event y.event x.after y.after x.parts y.parts
     x.inside y.inside
     (not_inside cpus x.event x.outside) (not_inside cpus y.event y.outside) in
-    x.placed ∙ ap (λ (e : Entry). e.line) same ∙ sym y.placed
+    x.indexed ∙ ap (λ (e : Entry). e.line) same ∙ sym y.indexed
 
 none_early : (start : ℕ) (events : List Entry) (line : ℕ) → BeginsInTime start events → IsBeforeStart start events line
     → ⊥
@@ -44,7 +44,7 @@ one_early : (start : ℕ) (events : List Entry) (m n : ℕ) → IsBeforeStart st
 one_early start events m n x y =
     let both : x.event ∷ x.after ≡ y.event ∷ y.after = sym x.parts ∙ y.parts in
     let same : x.event ≡ y.event = cc in
-    x.placed ∙ ap (λ (e : Entry). e.line) same ∙ sym y.placed
+    x.indexed ∙ ap (λ (e : Entry). e.line) same ∙ sym y.indexed
 
 -- a line on which an item stands is an event's, where those of all are
 said_line : {X : Type 0} (f : X → ℕ) (events : List Entry) (items : List X) (line : ℕ)

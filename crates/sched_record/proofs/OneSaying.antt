@@ -54,7 +54,7 @@ path number line (Ok (Some entry)) says =
       record {
         reading = Ok (sched s.cpu entry.time s.which s.rest);
         answer = s.head;
-        follows = (Ok s.event, s.text, ap (λ e. Ok (Some e)) (entry_is entry number (act_of s.event) s.placed s.act));
+        follows = (Ok s.event, s.text, ap (λ e. Ok (Some e)) (entry_is entry number (act_of s.event) s.indexed s.act));
       },
     )
 path number line (Ok None) (within, inl says) = inr

@@ -153,7 +153,7 @@ not_earlier : ReadOnce → (lines : List (List ℕ)) (m n : ℕ) (c d : TraceCau
 not_earlier once lines m n c d x y lt =
     let cut = later_cut x.front y.front x.line y.line x.rest y.rest (sym x.parts ∙ y.parts) lt in
     never_bad once y.front x.front cut.0 x.line y.events x.events c y.good cut.1 x.good
-    (subst (λ k. IsBadAfter x.events k x.line c) x.placed x.bad)
+    (subst (λ k. IsBadAfter x.events k x.line c) x.indexed x.bad)
 
 one_first_bad : ReadOnce → (lines : List (List ℕ)) (m n : ℕ) (c d : TraceCause) → IsFirstBadTraceLine lines m c
     → IsFirstBadTraceLine lines n d
@@ -162,7 +162,7 @@ one_first_bad once lines m n c d x y =
     elim (cases_order (length x.front) (length y.front)) [
       | inl same ↦ (
           let cut = same_cut x.front y.front x.line y.line x.rest y.rest (sym x.parts ∙ y.parts) same in
-          let number : m ≡ n = x.placed ∙ ap (λ k. k + 1) same ∙ sym y.placed in
+          let number : m ≡ n = x.indexed ∙ ap (λ k. k + 1) same ∙ sym y.indexed in
           let bad : IsBadAfter x.events n y.line c = subst (λ k. IsBadAfter x.events k y.line c) number
           (subst (λ l. IsBadAfter x.events m l c) cut.1 x.bad) in
           (number, one_bad_cause once x.events y.events n y.line c d bad y.bad))
@@ -178,7 +178,7 @@ not_mixed : ReadOnce → (lines : List (List ℕ)) (events : List Entry) (number
     → IsFirstBadTraceLine lines number cause → ⊥
 not_mixed once lines events number cause good bad =
     never_bad once lines bad.front bad.rest bad.line events bad.events cause good bad.parts bad.good
-    (subst (λ k. IsBadAfter bad.events k bad.line cause) bad.placed bad.bad)
+    (subst (λ k. IsBadAfter bad.events k bad.line cause) bad.indexed bad.bad)
 
 pub one_trace : ReadOnce → (text : List ℕ) (a b : Result (List Entry) (ℕ × TraceCause)) → TraceAnswer text a
     → TraceAnswer text b → a ≡ b

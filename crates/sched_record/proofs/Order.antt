@@ -35,12 +35,12 @@ pub keeps_event : (events : List Entry) (count last : ℕ) (line : List ℕ) (ev
     → LineSays (count + 1) line (Ok (Some event)) → last ≤ event.time
     → AreKept (events ++ event ∷ []) (count + 1) event.time
 keeps_event events count last line event kept says le =
-    let placed = says.1.placed in
+    let indexed = says.1.indexed in
     record {
       in_order = record {
-        from_one = All-push (λ e. 0 < e.line) events event kept.in_order.from_one (omega (arith, placed));
+        from_one = All-push (λ e. 0 < e.line) events event kept.in_order.from_one (omega (arith, indexed));
         lines_rise = all_pairs_push (λ a b. a.line < b.line) events event kept.in_order.lines_rise
-            (λ k d h. let before = kept.lines k d h in omega (arith, before, placed));
+            (λ k d h. let before = kept.lines k d h in omega (arith, before, indexed));
         never_falls = all_pairs_push (λ a b. a.time ≤ b.time) events event kept.in_order.never_falls
             (λ k d h. let before = kept.times k d h in omega (arith, before, le));
         named = All-push (λ e. IsNamed e.act) events event kept.in_order.named
@@ -48,7 +48,7 @@ keeps_event events count last line event kept says le =
       };
       lines = All-push (λ e. e.line ≤ count + 1) events event
           (All-weaker (λ e. e.line ≤ count) (λ e. e.line ≤ count + 1) (λ e below. omega arith) events kept.lines)
-          (omega (arith, placed));
+          (omega (arith, indexed));
       times = All-push (λ e. e.time ≤ event.time) events event
           (All-weaker (λ e. e.time ≤ last) (λ e. e.time ≤ event.time) (λ e below. omega (arith, below, le)) events
           kept.times)

@@ -102,22 +102,22 @@ birth_rises from (event ∷ events) line pid rise later =
     chosen false up same = same
 
 -- it is the last: no birth above the line comes behind it
-birth_last : (from : ℕ) (events : List Entry) (line pid place : ℕ) (d : Entry) → Rise events → place < length events
-    → (get_or events place d).line < line
-    → is_birth_of pid (get_or events place d).act ≡ true
-    → (get_or events place d).line ≤ last_birth from events line pid
-birth_last from [] line pid place d rise h above birth = absurd (omega arith)
+birth_last : (from : ℕ) (events : List Entry) (line pid index : ℕ) (d : Entry) → Rise events → index < length events
+    → (get_or events index d).line < line
+    → is_birth_of pid (get_or events index d).act ≡ true
+    → (get_or events index d).line ≤ last_birth from events line pid
+birth_last from [] line pid index d rise h above birth = absurd (omega arith)
 birth_last from (event ∷ events) line pid zero d rise h above birth =
     let up = birth_rises event.line events line pid (pairs_tail (λ (a b : Entry). a.line < b.line) event events rise)
     (λ k e has. rise 0 (suc k) e (omega arith) (omega arith)) in
     let is : ltb event.line line ≡ true = grind (arith, nat_tests) in
     rw (is, birth) up
-birth_last from (event ∷ events) line pid (suc place) d rise h above birth =
-    let low = rise 0 (suc place) d (omega arith) h in
+birth_last from (event ∷ events) line pid (suc index) d rise h above birth =
+    let low = rise 0 (suc index) d (omega arith) h in
     let lt : event.line < line = omega (arith, low, above) in
     let is : ltb event.line line ≡ true = grind (arith, nat_tests) in
     rw is
-    (birth_last (cond (is_birth_of pid event.act) event.line from) events line pid place d
+    (birth_last (cond (is_birth_of pid event.act) event.line from) events line pid index d
     (pairs_tail (λ (a b : Entry). a.line < b.line) event events rise)
     (omega arith) above birth)
 
@@ -198,23 +198,23 @@ not_idle_before idles spans policies events line pid told start some none =
 
 -- where one does, it is just where the last one doesn't end above the line
 pub idle_before : (idles : List IdleLine) (spans : List IdleSpan) (policies : ℕ
-    → Bool) (events : List Entry) (line pid place : ℕ) (s : IdleSpan) → Rise events
+    → Bool) (events : List Entry) (line pid index : ℕ) (s : IdleSpan) → Rise events
     → All (λ e. 0 < e.line) events
     → AreSpansOf idles spans → All (NamesBirth events) idles → All (EndsAtBirth events) spans
     → policies pid ≡ is_named_idle idles 0 pid → 0 < line
-    → IsLastBefore spans line pid place → s ≡ get_or spans place s
+    → IsLastBefore spans line pid index → s ≡ get_or spans index s
     → policies_before idles policies events line pid ≡ (eqb s.until 0 || leb line s.until)
-idle_before idles spans policies events line pid place s rise from_one told born ends start some last is =
+idle_before idles spans policies events line pid index s rise from_one told born ends start some last is =
     let birth = last_birth 0 events line pid in
     let above = birth_above_line 0 events line pid some in
     let within = last.within in
     let pid_is : s.pid ≡ pid = ap (λ (x : IdleSpan). x.pid) is ∙ last.named s in
     let starts : s.from < line = (let lt = last.above s in let e = ap (λ (x : IdleSpan). x.from) is in
     omega (arith, lt, e)) in
-    let end : EndsAtBirth events s = subst (EndsAtBirth events) (sym is) (ends place s within) in
+    let end : EndsAtBirth events s = subst (EndsAtBirth events) (sym is) (ends index s within) in
     let here : starts_span spans s.from pid ≡ true =
     ap (λ p. starts_span spans s.from p) (sym pid_is) ∙ ap (λ (x : IdleSpan). starts_span spans x.from x.pid) is
-    ∙ span_starts spans place s within in
+    ∙ span_starts spans index s within in
     let least : s.from ≤ birth =
     elim (cases_lt 0 s.from) [
       | inr none ↦ omega (arith, none)
@@ -258,16 +258,16 @@ idle_before idles spans policies events line pid place s rise from_one told born
     closed : (n : ℕ) → (eqb n 0 || leb line n) ≡ false → (0 < n) × (n < line)
     closed n over = (grind (arith, nat_tests), grind (arith, nat_tests))
 
-    not_behind : (k : ℕ) (d : IdleSpan) → k ≤ place → k < length spans → (get_or spans k d).pid ≡ pid
+    not_behind : (k : ℕ) (d : IdleSpan) → k ≤ index → k < length spans → (get_or spans k d).pid ≡ pid
         → s.from < (get_or spans k d).from → ⊥
     not_behind k d le h named less =
-        let same = ap (λ (x : IdleSpan). x.from) (is ∙ get_or_default spans place s d last.within) in
-        elim (cases_lt k place) [
+        let same = ap (λ (x : IdleSpan). x.from) (is ∙ get_or_default spans index s d last.within) in
+        elim (cases_lt k index) [
           | inr ge ↦ (
-              let e : k ≡ place = omega (arith, le, ge) in
+              let e : k ≡ index = omega (arith, le, ge) in
               let at = ap (λ n. (get_or spans n d).from) e in
               absurd (omega (arith, at, same, less)))
           | inl lt ↦ (
-              let up = (told.rise k place d lt last.within).lines (named ∙ sym (last.named d)) in
+              let up = (told.rise k index d lt last.within).lines (named ∙ sym (last.named d)) in
               absurd (omega (arith, up, same, less)))
         ]

@@ -26,7 +26,7 @@ started_from (event ∷ after) start first in_order (suc k) d h =
     let later : event.time ≤ (get_or after k d).time = in_order 0 (suc k) d (omega arith) h in
     omega (arith, first, later)
 
--- a list falls into what stands before a place, the element there and what stands behind it
+-- a list falls into what stands before an index, the element there and what stands behind it
 pub split_at : {X : Type 0} (xs : List X) (i : ℕ) (x : X) → i < length xs → x ≡ get_or xs i x
     → xs ≡ take i xs ++ x ∷ drop (i + 1) xs
 split_at xs i x h e =

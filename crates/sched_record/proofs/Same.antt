@@ -1,6 +1,6 @@
 -- `==` of tasks, of steps and of streams answers whether they are the same.
 use Rattle.std.proofs.Common.{◌≡◌, Decides, Option, Some, None, refl}
-use Rattle.std.specs.Cmp.{booleans_Decides}
+use Rattle.std.specs.Cmp.{policies_decide}
 use Rattle.std.specs.Option.{option_eq}
 use Rattle.std.proofs.lemmas.Bool.Decides.{Decides-eqb, Decides-int_eq, Decides-and, Decides-like}
 use Rattle.std.proofs.lemmas.Slice.Eq.{slice_eq-Decides}
@@ -69,14 +69,14 @@ deed_decides (Wake pid nice) (Wake pid' nice') =
     Decides-like _ (λ h. cc) (λ e. (cc, cc)) (Decides-and _ _ (Decides-eqb pid pid') (Decides-int_eq nice nice'))
 deed_decides (Born pid nice idle) (Born pid' nice' idle') =
     Decides-like _ (λ h. cc) (λ e. (cc, (cc, cc)))
-    (Decides-and _ _ (Decides-eqb pid pid') (Decides-and _ _ (Decides-int_eq nice nice') (booleans_Decides idle idle')))
+    (Decides-and _ _ (Decides-eqb pid pid') (Decides-and _ _ (Decides-int_eq nice nice') (policies_decide idle idle')))
 deed_decides (Leave pid nice dest) (Leave pid' nice' dest') =
     Decides-like _ (λ h. cc) (λ e. (cc, (cc, cc)))
     (Decides-and _ _ (Decides-eqb pid pid') (Decides-and _ _ (Decides-int_eq nice nice') (Decides-eqb dest dest')))
 deed_decides (Arrive pid nice orig idle) (Arrive pid' nice' orig' idle') =
     Decides-like _ (λ h. cc) (λ e. (cc, (cc, (cc, cc))))
     (Decides-and _ _ (Decides-eqb pid pid') (Decides-and _ _ (Decides-int_eq nice nice')
-    (Decides-and _ _ (Decides-eqb orig orig') (booleans_Decides idle idle'))))
+    (Decides-and _ _ (Decides-eqb orig orig') (policies_decide idle idle'))))
 deed_decides a b = (λ h. cc, λ h. cc)
 
 pub task_decides : (a b : Task) → Decides ((task_eq.ghosts).eq a b) (a ≡ b)
@@ -91,7 +91,7 @@ task_decides a b =
     })
     (λ e. (cc, (cc, (cc, (cc, (cc, cc))))))
     (Decides-and _ _ (Decides-eqb a.pid b.pid) (Decides-and _ _ (Decides-int_eq a.nice b.nice)
-    (Decides-and _ _ (booleans_Decides a.idle b.idle)
+    (Decides-and _ _ (policies_decide a.idle b.idle)
     (Decides-and _ _ (Decides-eqb a.cpu b.cpu) (Decides-and _ _ (place_decides a.place b.place)
     (Decides-int_eq a.v b.v))))))
 

@@ -38,7 +38,7 @@ settled_too front more settled number (Ok (Some entry)) says = (
     head = settled.same (Ok (sched says.1.cpu entry.time says.1.which says.1.rest)) more says.1.head;
     text = says.1.text;
     act = says.1.act;
-    placed = says.1.placed;
+    indexed = says.1.indexed;
   },
 )
 settled_too front more settled number (Ok None) says = (says.0, nothing_too front more settled says.1)
@@ -116,29 +116,29 @@ last_or_before (l ∷ lines) (f ∷ front) x y line rest e =
 first_bad_too : (lines : List (List ℕ)) (front line : List ℕ) (number : ℕ) (cause : TraceCause) → SaysToo front line
     → IsFirstBadTraceLine (lines ++ front ∷ []) number cause → IsFirstBadTraceLine (lines ++ line ∷ []) number cause
 first_bad_too lines front line number cause too b =
-    by_place (last_or_before lines b.front front line b.line b.rest b.parts)
+    by_index (last_or_before lines b.front front line b.line b.rest b.parts)
   where
-    by_place : ((b.front ≡ lines) × (b.line ≡ front))
+    by_index : ((b.front ≡ lines) × (b.line ≡ front))
         ⊎ ((more : List (List ℕ)) × (lines ++ line ∷ [] ≡ b.front ++ b.line ∷ more))
         → IsFirstBadTraceLine (lines ++ line ∷ []) number cause
-    by_place (inl (same, is)) = record {
+    by_index (inl (same, is)) = record {
       front = b.front;
       line = line;
       rest = [];
       events = b.events;
       parts = ap (λ ls. ls ++ line ∷ []) (sym same);
       good = b.good;
-      placed = b.placed;
+      indexed = b.indexed;
       bad = bad_too front line b.events number cause too (subst (λ l. IsBadAfter b.events number l cause) is b.bad);
     }
-    by_place (inr (more, parts)) = record {
+    by_index (inr (more, parts)) = record {
       front = b.front;
       line = b.line;
       rest = more;
       events = b.events;
       parts = parts;
       good = b.good;
-      placed = b.placed;
+      indexed = b.indexed;
       bad = b.bad;
     }
 

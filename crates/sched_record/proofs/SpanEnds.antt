@@ -76,7 +76,7 @@ any_span spans line pid starts =
       ap (λ (s : IdleSpan). s.pid) any.3 ∙ eqb-true item.pid pid parts.1,
     )
 
--- the span at a place starts where it does
+-- the span at an index starts where it does
 pub span_starts : (spans : List IdleSpan) (k : ℕ) (d : IdleSpan) → k < length spans
     → starts_span spans (get_or spans k d).from (get_or spans k d).pid ≡ true
 span_starts spans k d h =
@@ -132,40 +132,40 @@ ends_here events i d s h ends endless birth above =
         (ap (λ (e : Entry). e.line) at)
         (ap (λ (e : Entry). is_birth_of s.pid e.act) at ∙ birth)
 
--- the span at the place that ends, and the others
-ended_at : (spans : List IdleSpan) (place line k : ℕ) (d : IdleSpan) → k ≡ place → k < length spans
-    → get_or (ended spans place line) k d ≡ record {
+-- the span at the index that ends, and the others
+ended_at : (spans : List IdleSpan) (index line k : ℕ) (d : IdleSpan) → k ≡ index → k < length spans
+    → get_or (ended spans index line) k d ≡ record {
       pid = (get_or spans k d).pid;
       from = (get_or spans k d).from;
       until = line;
     }
-ended_at [] place line k d e h = absurd (omega arith)
+ended_at [] index line k d e h = absurd (omega arith)
 ended_at (x ∷ spans) zero line zero d e h = refl
 ended_at (x ∷ spans) zero line (suc k) d e h = absurd (omega arith)
-ended_at (x ∷ spans) (suc place) line zero d e h = absurd (omega arith)
-ended_at (x ∷ spans) (suc place) line (suc k) d e h = ended_at spans place line k d (omega arith) (omega arith)
+ended_at (x ∷ spans) (suc index) line zero d e h = absurd (omega arith)
+ended_at (x ∷ spans) (suc index) line (suc k) d e h = ended_at spans index line k d (omega arith) (omega arith)
 
-ended_other : (spans : List IdleSpan) (place line k : ℕ) (d : IdleSpan) → (k ≡ place → ⊥)
-    → get_or (ended spans place line) k d ≡ get_or spans k d
-ended_other [] place line k d e = refl
+ended_other : (spans : List IdleSpan) (index line k : ℕ) (d : IdleSpan) → (k ≡ index → ⊥)
+    → get_or (ended spans index line) k d ≡ get_or spans k d
+ended_other [] index line k d e = refl
 ended_other (x ∷ spans) zero line zero d e = absurd (e refl)
 ended_other (x ∷ spans) zero line (suc k) d e = refl
-ended_other (x ∷ spans) (suc place) line zero d e = refl
-ended_other (x ∷ spans) (suc place) line (suc k) d e = ended_other spans place line k d (λ same. e (ap suc same))
+ended_other (x ∷ spans) (suc index) line zero d e = refl
+ended_other (x ∷ spans) (suc index) line (suc k) d e = ended_other spans index line k d (λ same. e (ap suc same))
 
 -- one span more has no end
-pub forgotten_more : (old new : List IdleSpan) (place : ℕ) → new ≡ ended old place 0 → place < length old
-    → ((k : ℕ) (d : IdleSpan) → k < place → (get_or old k d).until ≡ 0) → (k : ℕ) (d : IdleSpan) → k < place + 1
+pub forgotten_more : (old new : List IdleSpan) (index : ℕ) → new ≡ ended old index 0 → index < length old
+    → ((k : ℕ) (d : IdleSpan) → k < index → (get_or old k d).until ≡ 0) → (k : ℕ) (d : IdleSpan) → k < index + 1
     → (get_or new k d).until ≡ 0
-forgotten_more old new place same h forgotten k d lt =
+forgotten_more old new index same h forgotten k d lt =
     let at = ap (λ (spans : List IdleSpan). (get_or spans k d).until) same in
-    elim (cases_lt k place) [
+    elim (cases_lt k index) [
       | inl before ↦ (
-          let other = ap (λ (s : IdleSpan). s.until) (ended_other old place 0 k d
+          let other = ap (λ (s : IdleSpan). s.until) (ended_other old index 0 k d
           (λ e. absurd (omega (arith, e, before)))) in
           at ∙ other ∙ forgotten k d before)
       | inr ge ↦ at ∙ ap (λ (s : IdleSpan). s.until)
-          (ended_at old place 0 k d (omega (arith, lt, ge)) (omega (arith, lt, h)))
+          (ended_at old index 0 k d (omega (arith, lt, ge)) (omega (arith, lt, h)))
     ]
 
 -- an event that is no birth behind the events so far
@@ -178,22 +178,22 @@ ends_still events spans i d rise h bears ends k s has =
     (λ birth above. absurd (true≢false (sym birth ∙ bears (get_or spans k s).pid)))
 
 -- a span before the last of its pid has an end
-has_end : (events : List Entry) (idles : List IdleLine) (spans : List IdleSpan) (i pid place k : ℕ) (d : Entry)
+has_end : (events : List Entry) (idles : List IdleLine) (spans : List IdleSpan) (i pid index k : ℕ) (d : Entry)
     (s : IdleSpan)
     → AllPairs (λ a b. a.line < b.line) events → All (NamesBirth events) idles → AreSpansOf idles spans
     → i < length events
-    → All (EndsAtBirth (take i events)) spans → IsLastBefore spans (get_or events i d).line pid place → k < place
+    → All (EndsAtBirth (take i events)) spans → IsLastBefore spans (get_or events i d).line pid index → k < index
     → (get_or spans k s).pid ≡ pid
     → 0 < (get_or spans k s).until
-has_end events idles spans i pid place k d s rise born told h ends last before named =
+has_end events idles spans i pid index k d s rise born told h ends last before named =
     let within = last.within in
     let same = last.named s in
-    let rises = told.rise k place s before within in
+    let rises = told.rise k index s before within in
     let less = rises.lines (named ∙ sym same) in
-    let start = (get_or spans place s).from in
-    let birth = span_born events idles spans start (get_or spans place s).pid born told (omega (arith, less))
-    (span_starts spans place s within) in
-    let so_far = birth_so_far events i start (get_or spans place s).pid d rise h birth (last.above s) in
+    let start = (get_or spans index s).from in
+    let birth = span_born events idles spans start (get_or spans index s).pid born told (omega (arith, less))
+    (span_starts spans index s within) in
+    let so_far = birth_so_far events i start (get_or spans index s).pid d rise h birth (last.above s) in
     let here : is_birth_line (take i events) start (get_or spans k s).pid ≡ true =
     ap (λ p. is_birth_line (take i events) start p) (named ∙ sym same) ∙ so_far in
     ((ends k s (omega (arith, within, before))).first start less here).0
@@ -211,39 +211,39 @@ ends_more events idles old new i pid d rise born told h bears ends (inl (none, s
     (λ birth above.
     let low = none k s has (sym (eqb-true _ _ (sym (bears (get_or old k s).pid) ∙ birth))) in
     absurd (omega (arith, low, above))))
-ends_more events idles old new i pid d rise born told h bears ends (inr (inl (place, last, some, same))) =
+ends_more events idles old new i pid d rise born told h bears ends (inr (inl (index, last, some, same))) =
     subst (All (EndsAtBirth (take (i + 1) events))) (sym same)
     (λ k s has. kept events i d (get_or old k s) rise h (ends k s has)
     (λ birth above.
     let named : (get_or old k s).pid ≡ pid = sym (eqb-true _ _ (sym (bears (get_or old k s).pid) ∙ birth)) in
     let le = last.last k s has named above in
-    elim (cases_lt k place) [
-      | inl lt ↦ has_end events idles old i pid place k d s rise born told h ends last lt named
+    elim (cases_lt k index) [
+      | inl lt ↦ has_end events idles old i pid index k d s rise born told h ends last lt named
       | inr ge ↦ (
-          let is : place ≡ k = omega (arith, le, ge) in
+          let is : index ≡ k = omega (arith, le, ge) in
           let at = ap (λ n. (get_or old n s).until) is in
           let until = some s in
           omega (arith, at, until))
     ]))
-ends_more events idles old new i pid d rise born told h bears ends (inr (inr (place, last, endless, same))) =
+ends_more events idles old new i pid d rise born told h bears ends (inr (inr (index, last, endless, same))) =
     subst (All (EndsAtBirth (take (i + 1) events))) (sym same) each
   where
     line : ℕ
     line = (get_or events i d).line
 
-    each : All (EndsAtBirth (take (i + 1) events)) (ended old place line)
+    each : All (EndsAtBirth (take (i + 1) events)) (ended old index line)
     each k s has' =
-        let size = ended_length old place line in
+        let size = ended_length old index line in
         let has : k < length old = omega (arith, size, has') in
         let named = last.named s in
-        elim (cases_order k place) [
+        elim (cases_order k index) [
           | inl is ↦ (
               let pid_is : (get_or old k s).pid ≡ pid = ap (λ n. (get_or old n s).pid) is ∙ named in
-              subst (EndsAtBirth (take (i + 1) events)) (sym (ended_at old place line k s is has))
+              subst (EndsAtBirth (take (i + 1) events)) (sym (ended_at old index line k s is has))
               (ends_here events i d (get_or old k s) h (ends k s has) (ap (λ n. (get_or old n s).until) is ∙ endless s)
               (bears (get_or old k s).pid ∙ eq-eqb _ _ (sym pid_is))
               (let above = last.above s in let at = ap (λ n. (get_or old n s).from) is in omega (arith, above, at))))
-          | inr apart ↦ subst (EndsAtBirth (take (i + 1) events)) (sym (ended_other old place line k s (elim apart [
+          | inr apart ↦ subst (EndsAtBirth (take (i + 1) events)) (sym (ended_other old index line k s (elim apart [
             | inl before ↦ (λ e. absurd (omega (arith, e)))
             | inr behind ↦ (λ e. absurd (omega (arith, e)))
           ])))
@@ -251,7 +251,7 @@ ends_more events idles old new i pid d rise born told h bears ends (inr (inr (pl
               (λ birth above.
               let pid_is : (get_or old k s).pid ≡ pid = sym (eqb-true _ _ (sym (bears (get_or old k s).pid) ∙ birth)) in
               elim apart [
-                | inl before ↦ has_end events idles old i pid place k d s rise born told h ends last before pid_is
+                | inl before ↦ has_end events idles old i pid index k d s rise born told h ends last before pid_is
                 | inr behind ↦ (let le = last.last k s has pid_is above in absurd (omega (arith, le)))
               ]))
         ]

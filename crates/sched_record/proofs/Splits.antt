@@ -1,4 +1,4 @@
--- Two ways to cut one list at an element: at one place they are the same, and the later one's front has the earlier
+-- Two ways to cut one list at an element: at one index they are the same, and the later one's front has the earlier
 -- cut.
 use Rattle.std.proofs.Common.{◌≡◌, suc, ◌+◌, ◌<◌, List, [], ◌∷◌, ◌++◌, length, get_or, inl, inr, refl, sym, ap, ◌∙◌}
 use Rattle.std.proofs.Common.{subst, arith}
@@ -35,10 +35,10 @@ later_cut (x ∷ xs) (y ∷ ys) a b p q e h =
 pub all_at_cut : {X : Type 0} (P : X → Type 0) (xs before : List X) (a : X) (after : List X) → xs ≡ before ++ a ∷ after
     → All P xs → P a
 all_at_cut P xs before a after parts all =
-    let place : length before < length xs = omega (arith, ap length parts, length-append before (a ∷ after)) in
+    let index : length before < length xs = omega (arith, ap length parts, length-append before (a ∷ after)) in
     let at : get_or xs (length before) a ≡ a = ap (λ ys. get_or ys (length before) a) parts
     ∙ get_or_at before a after a (length before) refl in
-    subst P at (All-get_or P xs (length before) a place all)
+    subst P at (All-get_or P xs (length before) an index all)
 
 -- the first element that isn't so is one
 pub one_first_split : {X : Type 0} (P : X → Type 0) (xs before before' : List X) (a b : X) (after after' : List X)

@@ -119,53 +119,54 @@ idles_on_births events companion none k d h some =
       (refl, λ names. stray (names some)),
     ))))
 
--- what stands at the place tells whether a birth of the pid stands on the line
-there_at : (events : List Entry) (place : ℕ) (idle : IdleLine) (d : Entry) → place < length events
-    → is_birth_there events place idle ≡ (eqb (get_or events place d).line idle.line
-    && is_birth_of idle.pid (get_or events place d).act)
-there_at events place idle d h =
+-- what stands at the to_index tells whether a birth of the pid stands on the line
+there_at : (events : List Entry) (to_index : ℕ) (idle : IdleLine) (d : Entry) → to_index < length events
+    → is_birth_there events to_index idle ≡ (eqb (get_or events to_index d).line idle.line
+    && is_birth_of idle.pid (get_or events to_index d).act)
+there_at events to_index idle d h =
     ap (λ found. option_map_or (λ (event : Entry). eqb event.line idle.line && is_birth_of idle.pid event.act) found
-    false) (slice_get-get_or events place d h)
+    false) (slice_get-get_or events to_index d h)
 
-pub birth_there : (events : List Entry) (place : ℕ) (idle : IdleLine) → is_birth_there events place idle ≡ true
+pub birth_there : (events : List Entry) (to_index : ℕ) (idle : IdleLine) → is_birth_there events to_index idle ≡ true
     → NamesBirth events idle
-birth_there [] place idle there some = absurd cc
-birth_there (event ∷ events) place idle there some =
-    elim (cases_lt place (length (event ∷ events))) [
+birth_there [] to_index idle there some = absurd cc
+birth_there (event ∷ events) to_index idle there some =
+    elim (cases_lt to_index (length (event ∷ events))) [
       | inr ge ↦ (
           let out = ap (λ found. option_map_or (λ (e : Entry). eqb e.line idle.line && is_birth_of idle.pid e.act) found
-          false) (slice_get_past (event ∷ events) place ge) in
+          false) (slice_get_past (event ∷ events) to_index ge) in
           absurd (true≢false (sym there ∙ out)))
       | inl h ↦ (
-          let at = get_or (event ∷ events) place event in
+          let at = get_or (event ∷ events) to_index event in
           let parts = and_parts (eqb at.line idle.line) (is_birth_of idle.pid at.act)
-          (sym (there_at (event ∷ events) place idle event h) ∙ there) in
-          birth_at (event ∷ events) idle.line idle.pid place event h (eqb-true _ _ parts.0) parts.1)
+          (sym (there_at (event ∷ events) to_index idle event h) ∙ there) in
+          birth_at (event ∷ events) idle.line idle.pid to_index event h (eqb-true _ _ parts.0) parts.1)
     ]
 
-pub no_birth_there : (events : List Entry) (place : ℕ) (idle : IdleLine) → AllPairs (λ a b. a.line < b.line) events
-    → ((k : ℕ) (d : Entry) → k < place → (get_or events k d).line < idle.line)
-    → ((d : Entry) → place < length events → idle.line ≤ (get_or events place d).line)
-    → 0 < idle.line → is_birth_there events place idle ≡ false → NamesBirth events idle → ⊥
-no_birth_there [] place idle rise above reached some other names = absurd (true≢false (sym (names some)))
-no_birth_there (event ∷ events) place idle rise above reached some other names =
+pub no_birth_there : (events : List Entry) (to_index : ℕ) (idle : IdleLine) → AllPairs (λ a b. a.line < b.line) events
+    → ((k : ℕ) (d : Entry) → k < to_index → (get_or events k d).line < idle.line)
+    → ((d : Entry) → to_index < length events → idle.line ≤ (get_or events to_index d).line)
+    → 0 < idle.line → is_birth_there events to_index idle ≡ false → NamesBirth events idle → ⊥
+no_birth_there [] to_index idle rise above reached some other names = absurd (true≢false (sym (names some)))
+no_birth_there (event ∷ events) to_index idle rise above reached some other names =
     let all = event ∷ events in
     let found = birth_found all idle.line idle.pid (names some) in
     let k = found.0 in
     let h = found.1.within in
     let line_is = found.1.line_is event in
-    elim (cases_order k place) [
+    elim (cases_order k to_index) [
       | inl same ↦ (
-          let within : place < length all = omega (arith, same, h) in
+          let within : to_index < length all = omega (arith, same, h) in
           let at = ap (λ n. get_or all n event) same in
-          let is : is_birth_there all place idle ≡ true =
-          there_at all place idle event within ∙ ap (λ (e : Entry). eqb e.line idle.line && is_birth_of idle.pid e.act)
+          let is : is_birth_there all to_index idle ≡ true =
+          there_at all to_index idle event within ∙ ap (λ (e : Entry). eqb e.line idle.line
+          && is_birth_of idle.pid e.act)
           (sym at)
           ∙ ap (λ b. b && is_birth_of idle.pid (get_or all k event).act) (eq-eqb _ _ line_is) ∙ found.1.birth event in
           absurd (true≢false (sym is ∙ other)))
       | inr (inl before) ↦ (let low = above k event before in absurd (omega (arith, low, line_is)))
       | inr (inr behind) ↦ (
-          let up = rise place k event behind h in
+          let up = rise to_index k event behind h in
           let low = reached event (omega (arith, behind, h)) in
           absurd (omega (arith, up, low, line_is)))
     ]
@@ -202,13 +203,13 @@ pub no_stray_idle : (events : List Entry) (idles : List IdleLine) → All (Names
 no_stray_idle events idles all line (k, item, h, at, (on, stray)) = stray (subst (NamesBirth events) at (all k item h))
 
 -- what is passed lies above what comes later, where lines may be the same
-pub passed_idles : (events : List Entry) (idles : List IdleLine) (from place index : ℕ) (idle : IdleLine)
+pub passed_idles : (events : List Entry) (idles : List IdleLine) (from to_index index : ℕ) (idle : IdleLine)
     → AllPairs IdleRises idles → idle ≡ get_or idles index idle
     → index < length idles → HasPassed (λ (event : Entry). event.line) (λ (x : IdleLine). x.line) events idles from
     index
-    → ((k : ℕ) (d : Entry) → from ≤ k → k < place → (get_or events k d).line < idle.line)
-    → HasPassed (λ (event : Entry). event.line) (λ (x : IdleLine). x.line) events idles place (index + 1)
-passed_idles events idles from place index idle rise is has passed below k j d e h later h' =
+    → ((k : ℕ) (d : Entry) → from ≤ k → k < to_index → (get_or events k d).line < idle.line)
+    → HasPassed (λ (event : Entry). event.line) (λ (x : IdleLine). x.line) events idles to_index (index + 1)
+passed_idles events idles from to_index index idle rise is has passed below k j d e h later h' =
     elim (cases_lt k from) [
       | inl lt ↦ passed k j d e lt (omega arith) h'
       | inr ge ↦ (

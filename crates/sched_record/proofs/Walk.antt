@@ -1,5 +1,5 @@
--- What the companion says on lines and events walked side by side: the place in the events never goes back, since every
--- event before it stands on a line above that of the item in hand, and so above those of all later items.
+-- What the companion says on lines and events walked side by side: the to_index in the events never goes back, since
+-- every event before it stands on a line above that of the item in hand, and so above those of all later items.
 use Rattle.std.proofs.Common.{◌≡◌, ℕ, ◌+◌, ◌<◌, ◌≤◌, ◌≢◌, List, length, get_or, eqb, IsTrue, inl, inr, ◌⊎◌, ap, ◌∙◌}
 use Rattle.std.proofs.Common.{arith, subst}
 use Rattle.std.specs.List.{AllPairs}
@@ -9,64 +9,67 @@ use Rattle.std.proofs.lemmas.List.Folds.{list_any_none, list_any_at}
 use Rattle.cfs_model.specs.declared.act.Entry.{Entry}
 use Rattle.sched_record.specs.Join.{is_event_line}
 
--- everything before the place lies above this line
+-- everything before the to_index lies above this line
 abbrev pub AllAbove : {X : Type 0} → (X → ℕ) → List X → ℕ → ℕ → Type 0
-AllAbove {X} f xs place line = (k : ℕ) (d : X) → k < place → f (get_or xs k d) < line
+AllAbove {X} f xs to_index line = (k : ℕ) (d : X) → k < to_index → f (get_or xs k d) < line
 
--- what is at the place, if there is something, lies below this line
+-- what is at the to_index, if there is something, lies below this line
 abbrev pub IsBelowAt : {X : Type 0} → (X → ℕ) → List X → ℕ → ℕ → Type 0
-IsBelowAt {X} f xs place line = (d : X) → place < length xs → line < f (get_or xs place d)
+IsBelowAt {X} f xs to_index line = (d : X) → to_index < length xs → line < f (get_or xs to_index d)
 
 -- so nothing lies on the line
-pub apart_from : {X : Type 0} (f : X → ℕ) (xs : List X) (line place : ℕ) → AllPairs (λ a b. f a < f b) xs
-    → AllAbove f xs place line → IsBelowAt f xs place line → (k : ℕ) (d : X) → k < length xs → f (get_or xs k d) ≡ line
+pub apart_from : {X : Type 0} (f : X → ℕ) (xs : List X) (line to_index : ℕ) → AllPairs (λ a b. f a < f b) xs
+    → AllAbove f xs to_index line → IsBelowAt f xs to_index line → (k : ℕ) (d : X) → k < length xs
+    → f (get_or xs k d) ≡ line
     → ⊥
-apart_from {X} f xs line place rising above below k d h same = apart (cases_order k place)
+apart_from {X} f xs line to_index rising above below k d h same = apart (cases_order k to_index)
   where
-    apart : (k ≡ place) ⊎ ((k < place) ⊎ (place < k)) → ⊥
+    apart : (k ≡ to_index) ⊎ ((k < to_index) ⊎ (to_index < k)) → ⊥
     apart (inl here) =
-        let at : line < f (get_or xs place d) = below d (omega arith) in
+        let at : line < f (get_or xs to_index d) = below d (omega arith) in
         let moved = ap (λ n. f (get_or xs n d)) here in
         absurd (omega (arith, at, moved, same))
     apart (inr (inl before)) = let at = above k d before in absurd (omega (arith, at, same))
     apart (inr (inr behind)) =
-        let at : line < f (get_or xs place d) = below d (omega arith) in
-        let later = rising place k d behind h in
+        let at : line < f (get_or xs to_index d) = below d (omega arith) in
+        let later = rising to_index k d behind h in
         absurd (omega (arith, at, later, same))
 
 -- no event stands on the line
-pub no_event_line : (events : List Entry) (line place : ℕ) → AllPairs (λ a b. a.line < b.line) events
-    → AllAbove (λ event. event.line) events place line → IsBelowAt (λ event. event.line) events place line
+pub no_event_line : (events : List Entry) (line to_index : ℕ) → AllPairs (λ a b. a.line < b.line) events
+    → AllAbove (λ event. event.line) events to_index line → IsBelowAt (λ event. event.line) events to_index line
     → IsTrue (is_event_line events line) → ⊥
-no_event_line events line place rising above below is_line =
-    let apart = apart_from (λ (event : Entry). event.line) events line place rising above below in
+no_event_line events line to_index rising above below is_line =
+    let apart = apart_from (λ (event : Entry). event.line) events line to_index rising above below in
     both_ways _ (list_any_none _ events (λ k d h. ne_eqb _ _ (apart k d h))) is_line
 
--- where the place is behind the last
-pub below_end : {X : Type 0} (f : X → ℕ) (xs : List X) (line place : ℕ) → length xs ≤ place → IsBelowAt f xs place line
-below_end f xs line place end d h = absurd (omega arith)
+-- where the to_index is behind the last
+pub below_end : {X : Type 0} (f : X → ℕ) (xs : List X) (line to_index : ℕ) → length xs ≤ to_index
+    → IsBelowAt f xs to_index line
+below_end f xs line to_index end d h = absurd (omega arith)
 
--- where what is at the place isn't above the line, and not on it
-pub below_other : {X : Type 0} (f : X → ℕ) (xs : List X) (line place : ℕ) (d' : X)
-    → ((d : X) → place < length xs → line ≤ f (get_or xs place d))
-    → (f (get_or xs place d') ≡ line → ⊥) → IsBelowAt f xs place line
-below_other f xs line place d' reached other d h =
+-- where what is at the to_index isn't above the line, and not on it
+pub below_other : {X : Type 0} (f : X → ℕ) (xs : List X) (line to_index : ℕ) (d' : X)
+    → ((d : X) → to_index < length xs → line ≤ f (get_or xs to_index d))
+    → (f (get_or xs to_index d') ≡ line → ⊥) → IsBelowAt f xs to_index line
+below_other f xs line to_index d' reached other d h =
     let low = reached d h in
-    let same = ap f (get_or_default xs place d d' h) in
-    let ne : f (get_or xs place d) ≢ line = λ e. other (omega (arith, e, same)) in
+    let same = ap f (get_or_default xs to_index d d' h) in
+    let ne : f (get_or xs to_index d) ≢ line = λ e. other (omega (arith, e, same)) in
     omega (arith, low, ne)
 
 -- of two lists that are walked side by side, what is passed in the first lies above all that is left of the second
 abbrev pub HasPassed : {X Y : Type 0} → (X → ℕ) → (Y → ℕ) → List X → List Y → ℕ → ℕ → Type 0
-HasPassed {X} {Y} f g xs ys place index = (k j : ℕ) (d : X) (e : Y) → k < place → index ≤ j → j < length ys
+HasPassed {X} {Y} f g xs ys to_index index = (k j : ℕ) (d : X) (e : Y) → k < to_index → index ≤ j → j < length ys
     → f (get_or xs k d) < g (get_or ys j e)
 
--- so everything before the new place lies above what is in hand
-pub above_here : {X Y : Type 0} (f : X → ℕ) (g : Y → ℕ) (xs : List X) (ys : List Y) (from place index line : ℕ) (e' : Y)
+-- so everything before the new to_index lies above what is in hand
+pub above_here : {X Y : Type 0} (f : X → ℕ) (g : Y → ℕ) (xs : List X) (ys : List Y) (from to_index index line : ℕ)
+    (e' : Y)
     → line ≡ g (get_or ys index e') → index < length ys → HasPassed f g xs ys from index
-    → ((k : ℕ) (d : X) → from ≤ k → k < place → f (get_or xs k d) < line) → (k : ℕ) (d : X) → k < place
+    → ((k : ℕ) (d : X) → from ≤ k → k < to_index → f (get_or xs k d) < line) → (k : ℕ) (d : X) → k < to_index
     → f (get_or xs k d) < line
-above_here f g xs ys from place index line e' is_line has passed below k d h =
+above_here f g xs ys from to_index index line e' is_line has passed below k d h =
     elim (cases_lt k from) [
       | inl lt ↦ (let before = passed k index d e' lt (omega arith) has in omega (arith, before, is_line))
       | inr ge ↦ below k d ge h
@@ -74,11 +77,11 @@ above_here f g xs ys from place index line e' is_line has passed below k d h =
 
 -- and above what comes later
 pub passed_more : {X Y : Type 0} (f : X → ℕ) (g : Y
-    → ℕ) (xs : List X) (ys : List Y) (from place index line : ℕ) (e' : Y)
+    → ℕ) (xs : List X) (ys : List Y) (from to_index index line : ℕ) (e' : Y)
     → AllPairs (λ a b. g a < g b) ys → line ≡ g (get_or ys index e') → index < length ys
     → HasPassed f g xs ys from index
-    → ((k : ℕ) (d : X) → from ≤ k → k < place → f (get_or xs k d) < line) → HasPassed f g xs ys place (index + 1)
-passed_more f g xs ys from place index line e' rising is_line has passed below k j d e h later h' =
+    → ((k : ℕ) (d : X) → from ≤ k → k < to_index → f (get_or xs k d) < line) → HasPassed f g xs ys to_index (index + 1)
+passed_more f g xs ys from to_index index line e' rising is_line has passed below k j d e h later h' =
     elim (cases_lt k from) [
       | inl lt ↦ passed k j d e lt (omega arith) h'
       | inr ge ↦ (
@@ -88,14 +91,14 @@ passed_more f g xs ys from place index line e' rising is_line has passed below k
           omega (arith, here, more, same, is_line))
     ]
 
--- an event stands on the line, where the one at the place does
-pub event_line_at : (events : List Entry) (line place : ℕ) (d : Entry) → place < length events
-    → (get_or events place d).line ≡ line
+-- an event stands on the line, where the one at the to_index does
+pub event_line_at : (events : List Entry) (line to_index : ℕ) (d : Entry) → to_index < length events
+    → (get_or events to_index d).line ≡ line
     → IsTrue (is_event_line events line)
-event_line_at events line place d h same = list_any_at (λ (event : Entry). eqb event.line line) events place d h
+event_line_at events line to_index d h same = list_any_at (λ (event : Entry). eqb event.line line) events to_index d h
     (eq-eqb _ _ same)
 
--- the items before a place stand on events' lines
+-- the items before a to_index stand on events' lines
 abbrev pub AreOnEvents : {X : Type 0} → (X → ℕ) → List Entry → List X → ℕ → Type 0
 AreOnEvents {X} f events items index = (k : ℕ) (d : X) → k < index
     → IsTrue (is_event_line events (f (get_or items k d)))

@@ -6,23 +6,23 @@ use Rattle.cfs_model.specs.declared.idle_line.IdleLine.{IdleLine}
 use Rattle.sched_record.specs.Join.{is_birth_of}
 use Rattle.sched_record.specs.RecordView.{RecordView}
 
--- a place in what stands on lines, as the walk has it at an event: what is before the place stands on lines above this
+-- an index in what stands on lines, as the walk has it at an event: what is before the index stands on lines above this
 -- event's and those of all later ones
-pub record IsPlaceBeside (X : Type 0) (line : X → ℕ) (items : List X) (events : List Entry) (event place : ℕ) : Type 0
+pub record IsIndexBeside (X : Type 0) (line : X → ℕ) (items : List X) (events : List Entry) (event index : ℕ) : Type 0
   where
-    pub within : place ≤ length items
-    pub passed : (k j : ℕ) (item : X) (entry : Entry) → k < place → event ≤ j → j < length events
+    pub within : index ≤ length items
+    pub passed : (k j : ℕ) (item : X) (entry : Entry) → k < index → event ≤ j → j < length events
         → line (slice_index_or items k item) < (slice_index_or events j entry).line
 
--- such a place in a record's claims
-abbrev pub IsClaimPlace : RecordView → ℕ → ℕ → Type 0
-IsClaimPlace r = IsPlaceBeside _ (λ claim. claim.line) r.claims r.events
+-- such an index in a record's claims
+abbrev pub IsClaimIndex : RecordView → ℕ → ℕ → Type 0
+IsClaimIndex r = IsIndexBeside _ (λ claim. claim.line) r.claims r.events
 
--- such a place in a record's changes of nice values
-abbrev pub IsNicePlace : RecordView → ℕ → ℕ → Type 0
-IsNicePlace r = IsPlaceBeside _ (λ change. change.line) r.nices r.events
+-- such an index in a record's changes of nice values
+abbrev pub IsNiceIndex : RecordView → ℕ → ℕ → Type 0
+IsNiceIndex r = IsIndexBeside _ (λ change. change.line) r.nices r.events
 
--- the event at the place is the birth that the idle line speaks of
+-- the event at the index is the birth that the idle line speaks of
 abbrev pub is_birth_there : List Entry → ℕ → IdleLine → Bool
-is_birth_there events place idle =
-    option_map_or (λ event. (event.line == idle.line) && is_birth_of idle.pid event.act) (slice_get events place) false
+is_birth_there events index idle =
+    option_map_or (λ event. (event.line == idle.line) && is_birth_of idle.pid event.act) (slice_get events index) false

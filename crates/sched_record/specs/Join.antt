@@ -44,7 +44,7 @@ pub record IsFirstOutside (cpus : ℕ) (events : List Entry) (line : ℕ) : Type
   pub parts : events ≡ before ++ event ∷ after
   pub inside : All (IsInside cpus) before
   pub outside : Any (λ cpu. cpus ≤ cpu) (touched event.act)
-  pub placed : line ≡ event.line
+  pub indexed : line ≡ event.line
 
 -- the first event, by its line, where it comes before the start
 pub record IsBeforeStart (start : ℕ) (events : List Entry) (line : ℕ) : Type 0 where
@@ -52,7 +52,7 @@ pub record IsBeforeStart (start : ℕ) (events : List Entry) (line : ℕ) : Type
   pub after : List Entry
   pub parts : events ≡ event ∷ after
   pub early : event.time < start
-  pub placed : line ≡ event.line
+  pub indexed : line ≡ event.line
 
 -- the first event, if any, doesn't come before the start
 abbrev pub BeginsInTime : ℕ → List Entry → Type 0

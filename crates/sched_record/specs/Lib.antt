@@ -3,12 +3,12 @@ pub mod Join
 pub mod Lesser
 pub mod Kept
 pub mod RecordView
-pub mod Places
+pub mod Indices
 pub mod Policies
 pub mod Record
 pub mod Said
 pub mod Same
-pub mod Share
+pub mod StreamKept
 pub mod Stream
 pub mod Trace
 pub mod Seen

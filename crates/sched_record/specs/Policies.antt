@@ -18,20 +18,20 @@ pub record EndsAtBirth (events : List Entry) (span : IdleSpan) : Type 0 where
 abbrev pub stands_before : ℕ → ℕ → IdleSpan → Bool
 stands_before line pid span = nat_lt span.pid pid || ((span.pid == pid) && nat_lt span.from line)
 
--- so many spans stand before one of this pid that starts at this line: those before the place
-pub record IsSpanPlace (spans : List IdleSpan) (line pid place : ℕ) : Type 0 where
-  pub within : place ≤ length spans
-  pub before : (k : ℕ) (d : IdleSpan) → k < place → IsTrue (stands_before line pid (slice_index_or spans k d))
-  pub behind : (k : ℕ) (d : IdleSpan) → place ≤ k → k < length spans
+-- so many spans stand before one of this pid that starts at this line: those before the index
+pub record IsSpanIndex (spans : List IdleSpan) (line pid index : ℕ) : Type 0 where
+  pub within : index ≤ length spans
+  pub before : (k : ℕ) (d : IdleSpan) → k < index → IsTrue (stands_before line pid (slice_index_or spans k d))
+  pub behind : (k : ℕ) (d : IdleSpan) → index ≤ k → k < length spans
       → ¬ IsTrue (stands_before line pid (slice_index_or spans k d))
 
--- the place of the last span of this pid that starts above this line
-pub record IsLastBefore (spans : List IdleSpan) (line pid place : ℕ) : Type 0 where
-  pub within : place < length spans
-  pub named : (d : IdleSpan) → (slice_index_or spans place d).pid ≡ pid
-  pub above : (d : IdleSpan) → (slice_index_or spans place d).from < line
+-- the index of the last span of this pid that starts above this line
+pub record IsLastBefore (spans : List IdleSpan) (line pid index : ℕ) : Type 0 where
+  pub within : index < length spans
+  pub named : (d : IdleSpan) → (slice_index_or spans index d).pid ≡ pid
+  pub above : (d : IdleSpan) → (slice_index_or spans index d).from < line
   pub last : (k : ℕ) (d : IdleSpan) → k < length spans → (slice_index_or spans k d).pid ≡ pid
-      → (slice_index_or spans k d).from < line → k ≤ place
+      → (slice_index_or spans k d).from < line → k ≤ index
 
 -- no span of this pid starts above this line
 abbrev pub NoneBefore : List IdleSpan → ℕ → ℕ → Type 0
@@ -42,7 +42,7 @@ NoneBefore spans line pid = (k : ℕ) (d : IdleSpan) → k < length spans → (s
 abbrev pub EndsLast : List IdleSpan → ℕ → ℕ → List IdleSpan → Type 0
 EndsLast old line pid new =
     (NoneBefore old line pid × (new ≡ old))
-    ⊎ ((place : ℕ) × IsLastBefore old line pid place × ((d : IdleSpan) → no_line < (slice_index_or old place d).until)
+    ⊎ ((index : ℕ) × IsLastBefore old line pid index × ((d : IdleSpan) → no_line < (slice_index_or old index d).until)
     × (new ≡ old))
-    ⊎ ((place : ℕ) × IsLastBefore old line pid place × ((d : IdleSpan) → (slice_index_or old place d).until ≡ no_line)
-    × (new ≡ ended old place line))
+    ⊎ ((index : ℕ) × IsLastBefore old line pid index × ((d : IdleSpan) → (slice_index_or old index d).until ≡ no_line)
+    × (new ≡ ended old index line))

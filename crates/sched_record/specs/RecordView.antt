@@ -6,7 +6,7 @@ use Rattle.cfs_model.specs.declared.idle_line.IdleLine.{IdleLine}
 use Rattle.cfs_model.specs.declared.nice_line.NiceLine.{NiceLine}
 use Rattle.cfs_model.specs.declared.task.Task.{Task}
 use Rattle.cfs_model.specs.Claimed.{policy_in}
-use Rattle.cfs_model.specs.Start.{starts_idle}
+use Rattle.cfs_model.specs.Start.{policies_at_start}
 
 -- a trace and a companion, joined
 pub record RecordView : Type 0 where
@@ -21,4 +21,4 @@ pub record RecordView : Type 0 where
 
 -- whether the task that an event of the record bears or moves is of the idle policy
 abbrev pub policy_of : RecordView → Entry → Bool
-policy_of r = policy_in r.idles (starts_idle r.tasks) r.events
+policy_of r = policy_in r.idles (policies_at_start r.tasks) r.events

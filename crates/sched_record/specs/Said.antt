@@ -19,7 +19,7 @@ pub record SaysEvent (number : ℕ) (line : List ℕ) (entry : Entry) : Type 0 w
   pub head : LineAnswer line (Ok (sched cpu entry.time which rest))
   pub text : EventAnswer cpu which rest (Ok event)
   pub act : entry.act ≡ act_of event
-  pub placed : entry.line ≡ number
+  pub indexed : entry.line ≡ number
 
 -- the line is the head of one of the four events, and the text after it is refused so
 pub record RefusesEvent (line : List ℕ) (fault : EventFault) : Type 0 where

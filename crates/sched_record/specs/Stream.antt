@@ -1,7 +1,7 @@
 -- A stream, as contracts see it (this project's profile).
 use Rattle.sched_record.specs.declared.stream.Stream.{Stream}
 pub use Rattle.replay_model.specs.Cut.{StreamView}
-pub use Rattle.sched_record.specs.Share.{IsShare, cut_of}
+pub use Rattle.sched_record.specs.StreamKept.{IsStream, cut_of}
 
 -- the stream, without where it lies in memory
 abbrev pub stream_view : Stream → StreamView

@@ -41,7 +41,7 @@ pub record IsFirstBadTraceLine (lines : List (List ℕ)) (number : ℕ) (cause :
   pub events : List Entry
   pub parts : lines ≡ front ++ line ∷ rest
   pub good : AreEventsOf front events
-  pub placed : number ≡ length front + 1
+  pub indexed : number ≡ length front + 1
   pub bad : IsBadAfter events number line cause
 
 -- lines mean their events, or the first bad one and why it is bad

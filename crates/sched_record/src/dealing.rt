@@ -4,7 +4,7 @@ ghost use Rattle.replay_model.specs.StepAt.{claim_for, deed_at as deed_here, nic
 ghost use Rattle.replay_model.specs.Cut.{tasks_at};
 
 use crate::lists::Steps;
-use crate::on_line::{item_on, place_from, place_near};
+use crate::on_line::{index_from, index_near, item_on};
 use crate::policies::{has_span, span_before};
 use crate::record::Record;
 use crate::stream::Stream;
@@ -16,10 +16,10 @@ use std::alloc::Global;
 impl Record {
     ghost use Rattle.std.specs.Prelude.{◌+◌};
     ghost use Rattle.cfs_model.specs.Claimed.{claimed, policies_before};
-    ghost use Rattle.cfs_model.specs.Start.{starts_idle};
+    ghost use Rattle.cfs_model.specs.Start.{policies_at_start};
     ghost use Rattle.cfs_model.specs.declared.act.Entry.{Entry};
     ghost use Rattle.replay_model.specs.Cut.{steps_at};
-    ghost use Rattle.sched_record.specs.Beside.{IsClaimPlace, IsNicePlace};
+    ghost use Rattle.sched_record.specs.Beside.{IsClaimIndex, IsNiceIndex};
     ghost use Rattle.sched_record.specs.RecordView.{policy_of};
     ghost use Rattle.sched_record.specs.Record.{record_view};
     ghost use Rattle.sched_record.specs.Stream.{cut_of, stream_view};
@@ -43,34 +43,34 @@ impl Record {
         })
     }
 
-    /// The claim on an event's line, sought from a place in the claims on, and the place for the next event. The walk
-    /// begins at place 0.
+    /// The claim on an event's line, sought from an index in the claims on, and the index for the next event. The walk
+    /// begins at index 0.
     pub fn claim_beside(&self, event: usize, from: usize) -> (Option<Claim>, usize)
         requires event { event < length (record_view self.now).events }
-        requires from { IsClaimPlace (record_view self.now) event from }
+        requires from { IsClaimIndex (record_view self.now) event from }
         ensures claim { (entry : Entry) → result.0 ≡ claim_at (record_view self.now).claims
             (slice_index_or (record_view self.now).events event entry).line }
-        ensures next { IsClaimPlace (record_view self.now) (event + 1) result.1 }
+        ensures next { IsClaimIndex (record_view self.now) (event + 1) result.1 }
     {
         let claims = self.claims();
         let line = self.events()[event].line;
-        let place = place_from(claims, from, line);
-        (item_on(claims, place, line), place)
+        let index = index_from(claims, from, line);
+        (item_on(claims, index, line), index)
     }
 
-    /// The change of a nice value on an event's line, sought from a place in the changes on, and the place for the next
-    /// event. The walk begins at place 0.
+    /// The change of a nice value on an event's line, sought from an index in the changes on, and the index for the
+    /// next event. The walk begins at index 0.
     pub fn nice_beside(&self, event: usize, from: usize) -> (Option<NiceLine>, usize)
         requires event { event < length (record_view self.now).events }
-        requires from { IsNicePlace (record_view self.now) event from }
+        requires from { IsNiceIndex (record_view self.now) event from }
         ensures nice { (entry : Entry) → result.0 ≡ nice_at (record_view self.now).nices
             (slice_index_or (record_view self.now).events event entry).line }
-        ensures next { IsNicePlace (record_view self.now) (event + 1) result.1 }
+        ensures next { IsNiceIndex (record_view self.now) (event + 1) result.1 }
     {
         let nices = self.nices();
         let line = self.events()[event].line;
-        let place = place_from(nices, from, line);
-        (item_on(nices, place, line), place)
+        let index = index_from(nices, from, line);
+        (item_on(nices, index, line), index)
     }
 
     /// Whether the task that an event bears or moves is of the idle policy. It takes no memory.
@@ -100,12 +100,12 @@ impl Record {
     fn policy_before(&self, line: u32, pid: u32) -> bool
         requires { 0 < line }
         ensures { let r = record_view self.now in
-            result ≡ policies_before r.idles (starts_idle r.tasks) r.events line pid }
+            result ≡ policies_before r.idles (policies_at_start r.tasks) r.events line pid }
     {
         let spans = self.spans();
         match span_before(spans, line, pid) {
-            Some(place) => {
-                let until = spans[place].until;
+            Some(index) => {
+                let until = spans[index].until;
                 until == NO_LINE || line <= until
             }
             None => false,
@@ -122,15 +122,15 @@ impl Record {
         let claims = self.claims();
         let nices = self.nices();
         let events = self.events();
-        let places = trace.places(cpu);
-        let mut steps = Vec::with_capacity(alloc, places.len())?;
+        let indices = trace.indices(cpu);
+        let mut steps = Vec::with_capacity(alloc, indices.len())?;
         let mut claims_from = 0;
         let mut nices_from = 0;
-        for place in places {
-            let event = events[*place as usize];
-            let hint = trace.hint(*place);
-            claims_from = place_near(claims, claims_from, hint.claim, event.line);
-            nices_from = place_near(nices, nices_from, hint.nice, event.line);
+        for index in indices {
+            let event = events[*index as usize];
+            let hint = trace.hint(*index);
+            claims_from = index_near(claims, claims_from, hint.claim, event.line);
+            nices_from = index_near(nices, nices_from, hint.nice, event.line);
             let claimed = item_on(claims, claims_from, event.line);
             let change = item_on(nices, nices_from, event.line);
             let idle = self.policy_of(&event);

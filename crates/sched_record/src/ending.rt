@@ -32,8 +32,8 @@ fn forget_ends(companion: &mut Companion)
     ensures forgotten { All (λ span. span.until ≡ no_line) companion.new.spans }
     ensures others { companion_view companion.new ≡ companion_view companion.old }
 {
-    for place in 0..companion.spans().len() {
-        companion.end_span(place, NO_LINE);
+    for index in 0..companion.spans().len() {
+        companion.end_span(index, NO_LINE);
     }
 }
 
@@ -42,9 +42,9 @@ fn end_last(companion: &mut Companion, line: u32, pid: u32)
     ensures ended { EndsLast companion.old.spans line pid companion.new.spans }
     ensures others { companion_view companion.new ≡ companion_view companion.old }
 {
-    if let Some(place) = span_before(companion.spans(), line, pid) {
-        if companion.spans()[place].until == NO_LINE {
-            companion.end_span(place, line);
+    if let Some(index) = span_before(companion.spans(), line, pid) {
+        if companion.spans()[index].until == NO_LINE {
+            companion.end_span(index, line);
         }
     }
 }

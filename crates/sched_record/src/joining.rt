@@ -13,7 +13,7 @@ ghost use Rattle.sched_record.specs.Kept.{AreInOrder};
 ghost use Rattle.sched_record.specs.Record.{RecordAnswer, RecordView, join_answer_view};
 ghost use Rattle.sched_record.specs.Seen.{trace_view};
 
-use crate::on_line::{OnLine, place_from};
+use crate::on_line::{OnLine, index_from};
 use crate::record::Record;
 use crate::trace::Trace;
 use cfs_model::{Act, Entry, IdleLine, NO_LINE};
@@ -157,21 +157,21 @@ fn first_stray_idle(events: &[Entry], idles: &[IdleLine]) -> Option<u32>
     requires idles_rise { AllPairs IdleRises idles.now }
     ensures { IsLeastOf (HasStrayIdle events.now idles.now) result }
 {
-    let mut place = 0;
+    let mut index = 0;
     for idle in idles {
-        place = place_from(events, place, idle.line);
-        if idle.line != NO_LINE && !is_birth_at(events, place, *idle) {
+        index = index_from(events, index, idle.line);
+        if idle.line != NO_LINE && !is_birth_at(events, index, *idle) {
             return Some(idle.line);
         }
     }
     None
 }
 
-/// Whether the event at a place is the birth that an idle line speaks of.
-fn is_birth_at(events: &[Entry], place: usize, idle: IdleLine) -> bool
-    ensures { result ≡ is_birth_there events.now place idle }
+/// Whether the event at an index is the birth that an idle line speaks of.
+fn is_birth_at(events: &[Entry], index: usize, idle: IdleLine) -> bool
+    ensures { result ≡ is_birth_there events.now index idle }
 {
-    match events.get(place) {
+    match events.get(index) {
         Some(event) => event.line == idle.line && event.act.begun() == Some(idle.pid),
         None => false,
     }
@@ -187,11 +187,11 @@ fn first_stray<T: OnLine>(events: &[Entry], items: &[T]) -> Option<u32>
     ensures earlier { IfSome result (λ line. All (λ item. T.line item < line
         → IsTrue (is_event_line events.now (T.line item))) items.now) }
 {
-    let mut place = 0;
+    let mut index = 0;
     for item in items {
         let line = item.line();
-        place = place_from(events, place, line);
-        if place == events.len() || events[place].line != line {
+        index = index_from(events, index, line);
+        if index == events.len() || events[index].line != line {
             return Some(line);
         }
     }

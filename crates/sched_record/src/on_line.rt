@@ -36,23 +36,23 @@ impl OnLine for NiceLine {
     }
 }
 
-/// The place of the first item, from a place on, that stands on this line or below it.
-pub(crate) fn place_from<T: OnLine>(items: &[T], from: usize, line: u32) -> usize
+/// The index of the first item, from an index on, that stands on this line or below it.
+pub(crate) fn index_from<T: OnLine>(items: &[T], from: usize, line: u32) -> usize
     requires { from ≤ length items.now }
     ensures within { (from ≤ result) × (result ≤ length items.now) }
     ensures below { (k : ℕ) (d : T) → from ≤ k → k < result → T.line (slice_index_or items.now k d) < line }
     ensures reached { (d : T) → result < length items.now → line ≤ T.line (slice_index_or items.now result d) }
 {
-    let mut place = from;
-    while place < items.len() && items[place].line() < line {
-        place += 1;
+    let mut index = from;
+    while index < items.len() && items[index].line() < line {
+        index += 1;
     }
-    place
+    index
 }
 
-/// The place of the first item, from a place on, that stands on this line or below it. The hint is where to begin, if
+/// The index of the first item, from an index on, that stands on this line or below it. The hint is where to begin, if
 /// all items before it stand above the line.
-pub(crate) fn place_near<T: OnLine>(items: &[T], from: usize, hint: usize, line: u32) -> usize
+pub(crate) fn index_near<T: OnLine>(items: &[T], from: usize, hint: usize, line: u32) -> usize
     requires within { from ≤ length items.now }
     requires rise { AllPairs (λ a b. T.line a < T.line b) items.now }
     ensures within { (from ≤ result) × (result ≤ length items.now) }
@@ -60,21 +60,21 @@ pub(crate) fn place_near<T: OnLine>(items: &[T], from: usize, hint: usize, line:
     ensures reached { (d : T) → result < length items.now → line ≤ T.line (slice_index_or items.now result d) }
 {
     if from < hint && hint <= items.len() && items[hint - 1].line() < line {
-        place_from(items, hint, line)
+        index_from(items, hint, line)
     } else {
-        place_from(items, from, line)
+        index_from(items, from, line)
     }
 }
 
-/// The item at a place, if it stands on the line.
-pub(crate) fn item_on<T: OnLine + Copy>(items: &[T], place: usize, line: u32) -> Option<T>
+/// The item at an index, if it stands on the line.
+pub(crate) fn item_on<T: OnLine + Copy>(items: &[T], index: usize, line: u32) -> Option<T>
     requires rise { AllPairs (λ a b. T.line a < T.line b) items.now }
-    requires above { (k : ℕ) (d : T) → k < place → T.line (slice_index_or items.now k d) < line }
-    requires reached { (d : T) → place < length items.now → line ≤ T.line (slice_index_or items.now place d) }
+    requires above { (k : ℕ) (d : T) → k < index → T.line (slice_index_or items.now k d) < line }
+    requires reached { (d : T) → index < length items.now → line ≤ T.line (slice_index_or items.now index d) }
     ensures { result ≡ find (λ item. T.line item == line) items.now }
 {
-    if place < items.len() && items[place].line() == line {
-        Some(items[place])
+    if index < items.len() && items[index].line() == line {
+        Some(items[index])
     } else {
         None
     }

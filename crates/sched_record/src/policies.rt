@@ -1,14 +1,14 @@
 ghost use Rattle.std.specs.Prelude.{◌≡◌, IfNone, IfSome};
 ghost use Rattle.std.specs.List.{AllPairs};
 ghost use Rattle.companion_file.specs.Spans.{SpanRises, starts_span};
-ghost use Rattle.sched_record.specs.Policies.{IsLastBefore, IsSpanPlace, NoneBefore, stands_before};
+ghost use Rattle.sched_record.specs.Policies.{IsLastBefore, IsSpanIndex, NoneBefore, stands_before};
 
 use companion_file::IdleSpan;
 
 /// How many of the spans stand before one of this pid that starts at this line.
-fn span_place(spans: &[IdleSpan], line: u32, pid: u32) -> usize
+fn span_index(spans: &[IdleSpan], line: u32, pid: u32) -> usize
     requires { AllPairs SpanRises spans.now }
-    ensures { IsSpanPlace spans.now line pid result }
+    ensures { IsSpanIndex spans.now line pid result }
 {
     spans.partition_point(
         |span: &IdleSpan| -> bool
@@ -22,23 +22,23 @@ pub(crate) fn has_span(spans: &[IdleSpan], line: u32, pid: u32) -> bool
     requires { AllPairs SpanRises spans.now }
     ensures { result ≡ starts_span spans.now line pid }
 {
-    let place = span_place(spans, line, pid);
-    if place == spans.len() {
+    let index = span_index(spans, line, pid);
+    if index == spans.len() {
         return false;
     }
-    let span = spans[place];
+    let span = spans[index];
     span.pid == pid && span.from == line
 }
 
-/// The place of the last span of this pid that starts above this line.
+/// The index of the last span of this pid that starts above this line.
 pub(crate) fn span_before(spans: &[IdleSpan], line: u32, pid: u32) -> Option<usize>
     requires { AllPairs SpanRises spans.now }
     ensures none { IfNone result (NoneBefore spans.now line pid) }
-    ensures found { IfSome result (λ place. IsLastBefore spans.now line pid place) }
+    ensures found { IfSome result (λ index. IsLastBefore spans.now line pid index) }
 {
-    let place = span_place(spans, line, pid);
-    if place > 0 && spans[place - 1].pid == pid {
-        Some(place - 1)
+    let index = span_index(spans, line, pid);
+    if index > 0 && spans[index - 1].pid == pid {
+        Some(index - 1)
     } else {
         None
     }

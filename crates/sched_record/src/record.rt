@@ -30,7 +30,7 @@ impl Record {
     {
         let mut trace = trace;
         let mut companion = companion;
-        trace.mark(companion.claims(), companion.nices());
+        trace.set_hints(companion.claims(), companion.nices());
         end_spans(trace.events(), &mut companion);
         Record { trace, companion }
     }

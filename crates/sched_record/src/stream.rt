@@ -1,5 +1,5 @@
 ghost use Rattle.std.specs.Prelude.{◌≡◌};
-ghost use Rattle.sched_record.specs.Share.{IsShare};
+ghost use Rattle.sched_record.specs.StreamKept.{IsStream};
 
 use crate::lists::Steps;
 use cfs_model::Task;
@@ -16,7 +16,7 @@ pub struct Stream {
     pub(crate) steps: Steps,
     pub(crate) last_time: u64,
     pub(crate) last_line: u32,
-    pub ghost share: { IsShare (record {
+    pub ghost kept: { IsStream (record {
       cpu = cpu;
       tasks = tasks;
       floor = floor;

@@ -1,13 +1,13 @@
 ghost use Rattle.std.specs.Prelude.{◌≤◌, length};
 ghost use Rattle.std.proofs.Props.{props};
 ghost use Rattle.cfs_model.specs.Limits.{greatest_line};
-ghost use Rattle.sched_record.specs.Places.{ArePlacesOf};
+ghost use Rattle.sched_record.specs.Indices.{AreIndicesOf};
 ghost use Rattle.sched_record.specs.ReadLines.{AreKept};
 
 use crate::cause::{TraceCause, TraceFault};
 use crate::entry::line_entry;
+use crate::indices::Indices;
 use crate::lists::Events;
-use crate::places::Places;
 use crate::trace::Trace;
 use cfs_model::{Entry, GREATEST_LINE, Memory};
 use std::alloc::Global;
@@ -24,7 +24,7 @@ pub(crate) struct BadLine {
 #[derive(Debug, Drop)]
 pub struct TraceReader {
     entries: Vec<Entry>,
-    places: Places,
+    indices: Indices,
     /// How many lines were read, up to the first bad one.
     count: u64,
     /// The time of the last event in nanoseconds, and 0 before the first.
@@ -33,7 +33,7 @@ pub struct TraceReader {
     ghost few: { count ≤ greatest_line },
     ghost kept: { AreKept entries.items count last },
     ghost counted: { length entries.items ≤ count },
-    ghost placed: { ArePlacesOf entries.items places } by { Prim.hlevel props },
+    ghost indexed: { AreIndicesOf entries.items indices } by { Prim.hlevel props },
 }
 
 impl TraceReader {
@@ -51,7 +51,7 @@ impl TraceReader {
     {
         TraceReader {
             entries: Vec::new(alloc),
-            places: Places::new(alloc),
+            indices: Indices::new(alloc),
             count: 0,
             last: 0,
             bad: None,
@@ -112,7 +112,7 @@ impl TraceReader {
     {
         let TraceReader {
             mut entries,
-            mut places,
+            mut indices,
             count,
             last,
             bad: _,
@@ -120,7 +120,7 @@ impl TraceReader {
         let base = count as u32;
         entries.reserve(later.entries.len())?;
         for event in later.entries.as_slice() {
-            places.add(event.act, entries.len() as u32)?;
+            indices.add(event.act, entries.len() as u32)?;
             entries.push(Entry {
                 line: event.line + base,
                 time: event.time,
@@ -129,7 +129,7 @@ impl TraceReader {
         }
         Ok(TraceReader {
             entries,
-            places,
+            indices,
             count: count + later.count,
             last: last.max(later.last),
             bad: None,
@@ -155,7 +155,7 @@ impl TraceReader {
             None => {
                 let mut entries = self.entries;
                 entries.shrink_to_fit();
-                Ok(Trace::new(Events::from_vec(entries), self.places))
+                Ok(Trace::new(Events::from_vec(entries), self.indices))
             }
         }
     }
@@ -187,7 +187,7 @@ impl TraceReader {
                     });
                 } else {
                     self.entries.reserve(1)?;
-                    self.places.add(entry.act, self.entries.len() as u32)?;
+                    self.indices.add(entry.act, self.entries.len() as u32)?;
                     self.entries.push(entry)?;
                     self.last = time;
                     self.count = number;

@@ -6,7 +6,7 @@ pub mod TalliesAtStart
 pub mod TalliesKept
 pub mod TalliesInMachine
 pub mod TalliesInRun
-pub mod TalliesShared
+pub mod TallyAddends
 pub mod TalliesAddedUp
 pub mod TalliesOfTasks
 pub mod TallyBounds

@@ -4,7 +4,7 @@ use Rattle.std.proofs.Common.{◌≡◌, ℕ, zero, suc, ◌+◌, ◌<◌, nat_e
 use Rattle.std.proofs.Common.{sym, ap, ◌∙◌, subst, arith}
 use Rattle.std.proofs.lemmas.List.Sums.{sum_by-append}
 use mathlib.Core.Path.{fun_ext}
-use Rattle.cfs_model.specs.Settings.{Settings}
+use Rattle.cfs_model.specs.Knobs.{KnobsView}
 use Rattle.cfs_model.specs.Machine.{Machine}
 use Rattle.cfs_model.specs.Start.{start_machine}
 use Rattle.cfs_model.specs.Claimed.{Claimed}
@@ -27,8 +27,8 @@ use Rattle.tally_laws.proofs.TalliesSaid.{said, Once, all_said}
 use Rattle.tally_laws.proofs.TalliesAtStart.{tallies_at_start}
 use Rattle.tally_laws.proofs.TalliesKept.{once_kept}
 use Rattle.tally_laws.proofs.TalliesInRun.{Amount, ran_by, charged_by, picked_by, amount_at, told}
-use Rattle.tally_laws.proofs.TalliesShared.{sum_below, below_same, all_shares, given_by, given_is_added}
-use Rattle.tally_laws.proofs.TalliesShared.{given_is_counted}
+use Rattle.tally_laws.proofs.TallyAddends.{sum_below, below_same, all_addends, given_by, given_is_added}
+use Rattle.tally_laws.proofs.TallyAddends.{given_is_counted}
 use Rattle.cfs_model.specs.declared.task.Task.{Task}
 use Rattle.replay_model.specs.declared.page.Tally.{Tally}
 
@@ -46,7 +46,7 @@ pages_total field pid pages (suc n) =
     ∙ ap (λ x. x + total_by field pid (pages n).tallies) (pages_total field pid pages n)
 
 -- the replay by all steps whose tallies a page has
-pub record PageEnd (knobs : Settings) (start : ℕ) (floors : List ℤ) (tasks : List Task) (events : List Claimed)
+pub record PageEnd (knobs : KnobsView) (start : ℕ) (floors : List ℤ) (tasks : List Task) (events : List Claimed)
     (cpu : ℕ) (page : PageView) : Type 0 where
   pub first : ReplayStateView
   pub is_start : IsStartOf (cut start floors tasks events cpu) first
@@ -55,7 +55,7 @@ pub record PageEnd (knobs : Settings) (start : ℕ) (floors : List ℤ) (tasks :
   pub no_fault : last.page.fault ≡ None
   pub tallies : page.tallies ≡ last.page.tallies
 
-pub page_end : (knobs : Settings) (start : ℕ) (floors : List ℤ) (tasks : List Task) (events : List Claimed)
+pub page_end : (knobs : KnobsView) (start : ℕ) (floors : List ℤ) (tasks : List Task) (events : List Claimed)
     (cpus : ℕ) (pages : ℕ → PageView) → IsRecord start floors tasks events cpus
     → ((cpu : ℕ) → cpu < cpus → SufficesAmong knobs start floors tasks events cpus pages cpu)
     → SayNothing pages cpus tasks events
@@ -68,13 +68,13 @@ page_end knobs start floors tasks events cpus pages r enough say cpu k =
     (subst (λ xs. IsRecord start floors tasks xs cpus) (sym none) r)
     (λ h. subst (λ xs. IsWholePage knobs start floors tasks xs cpu (pages cpu)) (sym none) (whole cpu h))
     (say.no_fault cpu) in
-    let share = at.passes.share in
+    let cut_replay = at.passes.cut_replay in
     let back = at.back k in
     record {
-      first = share.first;
-      is_start = share.is_start;
+      first = cut_replay.first;
+      is_start = cut_replay.is_start;
       last = at.mid;
-      replay = share.replay;
+      replay = cut_replay.replay;
       no_fault = at.passes.no_fault;
       tallies = back.tallies ∙ ap (λ x. x.page.tallies) back.replay;
     }
@@ -86,7 +86,7 @@ record PageTotals (cpu : ℕ) (m : Machine) (events : List Claimed) (states : Li
   charged : (pid : ℕ) → total_by (λ t. t.charged) pid page.tallies ≡ amount_at (charged_by pid) cpu m events states
   picks : (pid : ℕ) → total_by (λ t. t.picks) pid page.tallies ≡ amount_at (picked_by pid) cpu m events states
 
-page_totals : (knobs : Settings) (start : ℕ) (floors : List ℤ) (tasks : List Task) (events : List Claimed) (cpus : ℕ)
+page_totals : (knobs : KnobsView) (start : ℕ) (floors : List ℤ) (tasks : List Task) (events : List Claimed) (cpus : ℕ)
     (states : List Machine) (cpu : ℕ) (page : PageView) → IsRecord start floors tasks events cpus
     → AreSteps knobs (start_machine start floors tasks) events states
     → PageEnd knobs start floors tasks events cpu page
@@ -136,7 +136,7 @@ pages_add_up knobs start floors tasks events cpus pages r enough say = (run, eac
         pages_total field pid pages cpus
         ∙ below_same (λ cpu. total_by field pid (pages cpu).tallies)
         (λ cpu. amount_at amount cpu (start_machine start floors tasks) events run.states) cpus h
-        ∙ all_shares knobs amount cpus (start_machine start floors tasks) events run.states run.steps r.events_within
+        ∙ all_addends knobs amount cpus (start_machine start floors tasks) events run.states run.steps r.events_within
 
     at : (cpu : ℕ) → cpu < cpus → PageTotals cpu (start_machine start floors tasks) events run.states (pages cpu)
     at cpu k = page_totals knobs start floors tasks events cpus run.states cpu (pages cpu) r run.steps

@@ -33,7 +33,7 @@ has_found [] floor start pid s e = absurd cc
 has_found (t ∷ tasks) floor start pid s e = go (nat_eq t.pid pid) e (has_found tasks floor start pid s)
   where
     go : (b : Bool)
-        → option_map (λ (t : Task). record { place = t.place; nice = t.nice; idle = t.idle; runtime = t.v })
+        → option_map (λ (t : Task). record { place = t.place; nice = t.nice; policy = t.policy; runtime = t.v })
         (cond b (Some t) (find (λ (u : Task). nat_eq u.pid pid) tasks)) ≡ Some s
         → ((start_part tasks floor start).tasks pid ≡ Some s → has_tally (idle_tallies tasks) pid ≡ true)
         → (b || has_tally (idle_tallies tasks) pid) ≡ true

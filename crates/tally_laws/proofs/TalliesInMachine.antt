@@ -44,7 +44,7 @@ module _ (m : Machine) (apart : IsApart m) (cpu time pid : ℕ) where
   charge_is = go (m.running cpu pid) refl
     where
       cost : ℕ
-      cost = option_map_or (λ nice. cost_at m cpu time nice (m.idle pid)) (m.nice pid) 0
+      cost = option_map_or (λ nice. cost_at m cpu time nice (m.policy pid)) (m.nice pid) 0
 
       rest : (o : Option Entity) → entity_at m cpu pid ≡ o → m.running cpu pid ≡ false
           → charge_to (part_of m cpu) time o ≡ 0
@@ -57,7 +57,7 @@ module _ (m : Machine) (apart : IsApart m) (cpu time pid : ℕ) where
           let s = values_of m apart Run cpu pid e in
           ap (charge_to (part_of m cpu) time) s.2
           ∙ ap (λ place. of_runner place (cost_in (part_of m cpu) time s.0)) s.1
-          ∙ sym (ap (λ o. option_map_or (λ nice. cost_at m cpu time nice (m.idle pid)) o 0) s.3.nice
+          ∙ sym (ap (λ o. option_map_or (λ nice. cost_at m cpu time nice (m.policy pid)) o 0) s.3.nice
           ∙ ap (cost_at m cpu time s.0.nice) s.3.policy)
           ∙ ap (λ b. cond b cost 0) (sym e)
       go false e = rest (entity_at m cpu pid) refl e ∙ ap (λ b. cond b cost 0) (sym e)

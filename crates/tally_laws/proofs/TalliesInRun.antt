@@ -2,7 +2,7 @@
 -- touch the processor.
 use Rattle.std.proofs.Common.{◌≡◌, ℕ, zero, suc, ◌+◌, nat_eq, Bool, true, false, cond, Option, Some, None, is_some}
 use Rattle.std.proofs.Common.{option_map, inl, inr, List, [], ◌∷◌, refl, sym, ap, ◌∙◌, subst, true≢false, arith}
-use Rattle.cfs_model.specs.Settings.{Settings}
+use Rattle.cfs_model.specs.Knobs.{KnobsView}
 use Rattle.cfs_model.specs.Machine.{Machine}
 use Rattle.cfs_model.specs.Claimed.{Claimed}
 use Rattle.cfs_model.specs.Run.{AreSteps}
@@ -34,6 +34,7 @@ use Rattle.cfs_model.specs.declared.act.Act.TheVariants.{Switch, Wake, Born, Shi
 use Rattle.replay_model.specs.declared.page.Tally.{Tally}
 use Rattle.replay_model.specs.declared.step.Deed.TheVariants.{Leave, Arrive}
 use Rattle.replay_model.specs.declared.step.Step.{Step}
+use Rattle.cfs_model.specs.declared.policy.Policy.{Policy}
 
 -- an amount that an event gives at a processor that it touches, from the machine before it
 abbrev pub Amount : Type 0
@@ -57,14 +58,15 @@ amount_at amount cpu m (event ∷ events) (after ∷ states) =
     cond (touches cpu event) (amount m event cpu) 0 + amount_at amount cpu after events states
 
 -- a deed picks whom its event picks
-picks_same : (cpu pid : ℕ) (idle : Bool) (act : Act) → picks_of (deed_at cpu idle act) pid ≡ cond (picks pid act) 1 0
-picks_same cpu pid idle (Switch here prev pn way zero nn) = refl
-picks_same cpu pid idle (Switch here prev pn way (suc n) nn) = refl
-picks_same cpu pid idle (Wake here task nice) = refl
-picks_same cpu pid idle (Born here task nice) = refl
-picks_same cpu pid idle (Shift orig dest task nice) = go (nat_eq orig cpu)
+picks_same : (cpu pid : ℕ) (policy : Policy) (act : Act) → picks_of (deed_at cpu policy act) pid
+    ≡ cond (picks pid act) 1 0
+picks_same cpu pid policy (Switch here prev pn way zero nn) = refl
+picks_same cpu pid policy (Switch here prev pn way (suc n) nn) = refl
+picks_same cpu pid policy (Wake here task nice) = refl
+picks_same cpu pid policy (Born here task nice) = refl
+picks_same cpu pid policy (Shift orig dest task nice) = go (nat_eq orig cpu)
   where
-    go : (b : Bool) → picks_of (cond b (Leave task nice dest) (Arrive task nice orig idle)) pid ≡ 0
+    go : (b : Bool) → picks_of (cond b (Leave task nice dest) (Arrive task nice orig policy)) pid ≡ 0
     go true = refl
     go false = refl
 
@@ -101,11 +103,11 @@ found_covers step part found tallies f covers pid s e =
     go None h k = absurd (true≢false (sym k ∙ ap is_some h))
     go (Some t) h k = lifted_covers step.time part f.lifted tallies f.is_lifted covers pid t h
 
-module _ (knobs : Settings) (cpu : ℕ) (m : Machine) (apart : IsApart m) (event : Claimed) (s next : ReplayStateView)
+module _ (knobs : KnobsView) (cpu : ℕ) (m : Machine) (apart : IsApart m) (event : Claimed) (s next : ReplayStateView)
     (same : part_of m cpu ≡ s.part) (covers : Covers s.part s.page.tallies)
     (p : PassesStep knobs cpu s (step_at cpu event) next) where
   tallies_are : next.page.tallies
-      ≡ tallied (deed_at cpu event.idle event.entry.act) (charged_tallies s.part event.entry.time s.page.tallies)
+      ≡ tallied (deed_at cpu event.policy event.entry.act) (charged_tallies s.part event.entry.time s.page.tallies)
   tallies_are = ap (λ page. page.tallies) p.page
 
   found : Covers p.found (charged_tallies s.part event.entry.time s.page.tallies)
@@ -113,7 +115,7 @@ module _ (knobs : Settings) (cpu : ℕ) (m : Machine) (apart : IsApart m) (event
 
   grows : Grows cpu m event s next
   grows =
-      let deed = deed_at cpu event.idle event.entry.act in
+      let deed = deed_at cpu event.policy event.entry.act in
       let now = event.entry.time in
       let after = charged_tallies s.part now s.page.tallies in
       record {
@@ -137,7 +139,7 @@ module _ (knobs : Settings) (cpu : ℕ) (m : Machine) (apart : IsApart m) (event
             (picked_has p.found deed after found
             (clear_of knobs cpu p.found (step_at cpu event) p.passes.none).next pid) in
             let c = charged_picks s.part now s.page.tallies covers pid in
-            let d = picks_same cpu pid event.idle event.entry.act in
+            let d = picks_same cpu pid event.policy event.entry.act in
             omega arith;
         covers = λ pid x e. ap (λ ts. has_tally ts pid) tallies_are
             ∙ deed_covers p.found deed (step_at cpu event).claim after found pid x
@@ -145,7 +147,7 @@ module _ (knobs : Settings) (cpu : ℕ) (m : Machine) (apart : IsApart m) (event
       }
 
 -- what the replay of a processor's steps among a run's events makes of the tallies
-pub record AreShares (cpu : ℕ) (m : Machine) (events : List Claimed) (states : List Machine) (s last : ReplayStateView)
+pub record AreAddends (cpu : ℕ) (m : Machine) (events : List Claimed) (states : List Machine) (s last : ReplayStateView)
     : Type 0 where
   pub ran : (pid : ℕ) → said (λ t. t.ran) last.page.tallies pid
       ≡ said (λ t. t.ran) s.page.tallies pid + amount_at (ran_by pid) cpu m events states
@@ -154,56 +156,56 @@ pub record AreShares (cpu : ℕ) (m : Machine) (events : List Claimed) (states :
   pub picks : (pid : ℕ) → said (λ t. t.picks) last.page.tallies pid
       ≡ said (λ t. t.picks) s.page.tallies pid + amount_at (picked_by pid) cpu m events states
 
-told_none : (cpu : ℕ) (m : Machine) (s last : ReplayStateView) → last ≡ s → AreShares cpu m [] [] s last
+told_none : (cpu : ℕ) (m : Machine) (s last : ReplayStateView) → last ≡ s → AreAddends cpu m [] [] s last
 told_none cpu m s last e = record {
   ran = λ pid. let k = ap (λ x. said (λ t. t.ran) x.page.tallies pid) e in omega arith;
   charged = λ pid. let k = ap (λ x. said (λ t. t.charged) x.page.tallies pid) e in omega arith;
   picks = λ pid. let k = ap (λ x. said (λ t. t.picks) x.page.tallies pid) e in omega arith;
 }
 
--- the share of an event that touches the processor, and of one that doesn't
-share_here : (amount : Amount) (cpu : ℕ) (m : Machine) (event : Claimed) (events : List Claimed) (after : Machine)
+-- the cut_replay of an event that touches the processor, and of one that doesn't
+addend_here : (amount : Amount) (cpu : ℕ) (m : Machine) (event : Claimed) (events : List Claimed) (after : Machine)
     (states : List Machine) → touches cpu event ≡ true
     → amount_at amount cpu m (event ∷ events) (after ∷ states)
     ≡ amount m event cpu + amount_at amount cpu after events states
-share_here amount cpu m event events after states t =
+addend_here amount cpu m event events after states t =
     ap (λ b. cond b (amount m event cpu) 0 + amount_at amount cpu after events states) t
 
-share_away : (amount : Amount) (cpu : ℕ) (m : Machine) (event : Claimed) (events : List Claimed) (after : Machine)
+addend_away : (amount : Amount) (cpu : ℕ) (m : Machine) (event : Claimed) (events : List Claimed) (after : Machine)
     (states : List Machine) → touches cpu event ≡ false
     → amount_at amount cpu m (event ∷ events) (after ∷ states) ≡ amount_at amount cpu after events states
-share_away amount cpu m event events after states t =
+addend_away amount cpu m event events after states t =
     let e = ap (λ b. cond b (amount m event cpu) 0 + amount_at amount cpu after events states) t in omega arith
 
 told_here : (cpu : ℕ) (m : Machine) (event : Claimed) (events : List Claimed) (after : Machine) (states : List Machine)
     (s next last : ReplayStateView) → touches cpu event ≡ true → Grows cpu m event s next
-    → AreShares cpu after events states next last → AreShares cpu m (event ∷ events) (after ∷ states) s last
+    → AreAddends cpu after events states next last → AreAddends cpu m (event ∷ events) (after ∷ states) s last
 told_here cpu m event events after states s next last t g h = record {
   ran = λ pid. let a = h.ran pid in let b = g.ran pid in
-      let c = share_here (ran_by pid) cpu m event events after states t in omega arith;
+      let c = addend_here (ran_by pid) cpu m event events after states t in omega arith;
   charged = λ pid. let a = h.charged pid in let b = g.charged pid in
-      let c = share_here (charged_by pid) cpu m event events after states t in omega arith;
+      let c = addend_here (charged_by pid) cpu m event events after states t in omega arith;
   picks = λ pid. let a = h.picks pid in let b = g.picks pid in
-      let c = share_here (picked_by pid) cpu m event events after states t in omega arith;
+      let c = addend_here (picked_by pid) cpu m event events after states t in omega arith;
 }
 
 told_away : (cpu : ℕ) (m : Machine) (event : Claimed) (events : List Claimed) (after : Machine) (states : List Machine)
     (s last : ReplayStateView) → touches cpu event ≡ false
-    → AreShares cpu after events states s last → AreShares cpu m (event ∷ events) (after ∷ states) s last
+    → AreAddends cpu after events states s last → AreAddends cpu m (event ∷ events) (after ∷ states) s last
 told_away cpu m event events after states s last t h = record {
   ran = λ pid. let a = h.ran pid in
-      let c = share_away (ran_by pid) cpu m event events after states t in omega arith;
+      let c = addend_away (ran_by pid) cpu m event events after states t in omega arith;
   charged = λ pid. let a = h.charged pid in
-      let c = share_away (charged_by pid) cpu m event events after states t in omega arith;
+      let c = addend_away (charged_by pid) cpu m event events after states t in omega arith;
   picks = λ pid. let a = h.picks pid in
-      let c = share_away (picked_by pid) cpu m event events after states t in omega arith;
+      let c = addend_away (picked_by pid) cpu m event events after states t in omega arith;
 }
 
-pub told : (knobs : Settings) (cpu : ℕ) (m : Machine) (s : ReplayStateView) (events : List Claimed)
+pub told : (knobs : KnobsView) (cpu : ℕ) (m : Machine) (s : ReplayStateView) (events : List Claimed)
     (states : List Machine) (last : ReplayStateView)
     → IsInOrder m → part_of m cpu ≡ s.part → s.page.fault ≡ None → Covers s.part s.page.tallies
     → AreSteps knobs m events states → IsReplay knobs cpu s (steps_at cpu events) last → last.page.fault ≡ None
-    → AreShares cpu m events states s last
+    → AreAddends cpu m events states s last
 told knobs cpu m s [] [] last o same none covers steps r end = told_none cpu m s last r
 told knobs cpu m s [] (after ∷ states) last o same none covers steps r end = absurd steps
 told knobs cpu m s (event ∷ events) [] last o same none covers steps r end = absurd steps

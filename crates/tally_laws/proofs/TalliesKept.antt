@@ -3,13 +3,13 @@ use Rattle.std.proofs.Common.{◌≡◌, ◌≢◌, ℕ, zero, suc, ◌<◌, nat
 use Rattle.std.proofs.Common.{None, inl, inr, List, [], ◌∷◌, AllPairs, length, take, refl, sym, ap, ◌∙◌, subst, arith}
 use Rattle.std.specs.List.{AllByRecursion, slice_index_or}
 use Rattle.std.proofs.lemmas.Bool.{eqb-false}
-use Rattle.cfs_model.specs.Settings.{Settings}
+use Rattle.cfs_model.specs.Knobs.{KnobsView}
 use Rattle.replay_model.specs.Part.{Part}
 use Rattle.replay_model.specs.Cut.{StreamView, cut}
 use Rattle.replay_model.specs.Noted.{PageView, charged_tallies, tallied}
 use Rattle.replay_model.specs.Page.{ReplayStateView, IsReplayStep, IsReplay, end_page}
 use Rattle.tally_laws.specs.Tallying.{TalliesOnce}
-use Rattle.replay_laws.proofs.composing.Shares.{end_tallies}
+use Rattle.replay_laws.proofs.composing.CutReplays.{end_tallies}
 use Rattle.tally_laws.proofs.TalliesSaid.{has_tally, Once}
 use Rattle.tally_laws.proofs.TalliesCharged.{charged_once}
 use Rattle.tally_laws.proofs.TalliesOfDeeds.{tallied_once}
@@ -24,7 +24,7 @@ pub record Keeps (P : List Tally → Type 0) (Is : Deed → Type 0) : Type 0 whe
   pub charge : (part : Part) (time : ℕ) (tallies : List Tally) → P tallies → P (charged_tallies part time tallies)
   pub deed : (deed : Deed) (tallies : List Tally) → Is deed → P tallies → P (tallied deed tallies)
 
-module _ (P : List Tally → Type 0) (Is : Deed → Type 0) (k : Keeps P Is) (knobs : Settings) (cpu : ℕ) where
+module _ (P : List Tally → Type 0) (Is : Deed → Type 0) (k : Keeps P Is) (knobs : KnobsView) (cpu : ℕ) where
   step_keeps : (o : Option StepFault) (s : ReplayStateView) (step : Step) (next : ReplayStateView) → Is step.deed
       → IsReplayStep knobs cpu o s step next → P s.page.tallies → P next.page.tallies
   step_keeps (Some fault) s step next is r h = subst (λ x. P x.page.tallies) (sym r) h
@@ -52,7 +52,7 @@ any_deed : (steps : List Step) → AllByRecursion (λ (step : Step). Unit {0}) s
 any_deed [] = tt
 any_deed (step ∷ steps) = (tt, any_deed steps)
 
-pub once_kept : (knobs : Settings) (cpu : ℕ) (s : ReplayStateView) (steps : List Step) (last : ReplayStateView)
+pub once_kept : (knobs : KnobsView) (cpu : ℕ) (s : ReplayStateView) (steps : List Step) (last : ReplayStateView)
     → IsReplay knobs cpu s steps last → Once s.page.tallies → Once last.page.tallies
 once_kept knobs cpu s steps last r once =
     replay_keeps Once (λ deed. Unit {0})

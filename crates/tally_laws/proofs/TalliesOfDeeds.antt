@@ -73,10 +73,10 @@ tallied_ran (Switch prev pn way zero nn) tallies pid = omega arith
 tallied_ran (Switch prev pn way (suc n) nn) tallies pid =
     said_map (λ t. t.ran) (pick_one n) (pick_keeps n) pid 0 (λ tally e. pick_ran n tally) tallies (λ none. refl)
 tallied_ran (Wake task nice) tallies pid = omega arith
-tallied_ran (Born task nice idle) tallies pid =
+tallied_ran (Born task nice policy) tallies pid =
     let e = said_with task tallies (λ t. t.ran) refl pid in omega arith
 tallied_ran (Leave task nice dest) tallies pid = omega arith
-tallied_ran (Arrive task nice orig idle) tallies pid =
+tallied_ran (Arrive task nice orig policy) tallies pid =
     let e = said_with task tallies (λ t. t.ran) refl pid in omega arith
 
 pub tallied_charged : (deed : Deed) (tallies : List Tally) (pid : ℕ)
@@ -86,10 +86,10 @@ tallied_charged (Switch prev pn way (suc n) nn) tallies pid =
     said_map (λ t. t.charged) (pick_one n) (pick_keeps n) pid 0 (λ tally e. pick_charged n tally) tallies
     (λ none. refl)
 tallied_charged (Wake task nice) tallies pid = omega arith
-tallied_charged (Born task nice idle) tallies pid =
+tallied_charged (Born task nice policy) tallies pid =
     let e = said_with task tallies (λ t. t.charged) refl pid in omega arith
 tallied_charged (Leave task nice dest) tallies pid = omega arith
-tallied_charged (Arrive task nice orig idle) tallies pid =
+tallied_charged (Arrive task nice orig policy) tallies pid =
     let e = said_with task tallies (λ t. t.charged) refl pid in omega arith
 
 pub tallied_picks : (deed : Deed) (tallies : List Tally) (pid : ℕ)
@@ -101,10 +101,10 @@ tallied_picks (Switch prev pn way (suc n) nn) tallies pid none =
     (λ tally e. pick_picks n tally ∙ ap (λ p. tally.picks + cond (nat_eq p (suc n)) 1 0) e
     ∙ ap (λ b. tally.picks + cond b 1 0) (eq_turn pid (suc n))) tallies none
 tallied_picks (Wake task nice) tallies pid none = omega arith
-tallied_picks (Born task nice idle) tallies pid none =
+tallied_picks (Born task nice policy) tallies pid none =
     let e = said_with task tallies (λ t. t.picks) refl pid in omega arith
 tallied_picks (Leave task nice dest) tallies pid none = omega arith
-tallied_picks (Arrive task nice orig idle) tallies pid none =
+tallied_picks (Arrive task nice orig policy) tallies pid none =
     let e = said_with task tallies (λ t. t.picks) refl pid in omega arith
 
 -- who has a tally keeps it, and a pid still has one alone
@@ -113,17 +113,17 @@ pub tallied_has : (deed : Deed) (tallies : List Tally) (pid : ℕ) → has_tally
 tallied_has (Switch prev pn way zero nn) tallies pid h = h
 tallied_has (Switch prev pn way (suc n) nn) tallies pid h = has_map (pick_one n) (pick_keeps n) tallies pid ∙ h
 tallied_has (Wake task nice) tallies pid h = h
-tallied_has (Born task nice idle) tallies pid h = has_with task tallies pid h
+tallied_has (Born task nice policy) tallies pid h = has_with task tallies pid h
 tallied_has (Leave task nice dest) tallies pid h = h
-tallied_has (Arrive task nice orig idle) tallies pid h = has_with task tallies pid h
+tallied_has (Arrive task nice orig policy) tallies pid h = has_with task tallies pid h
 
 pub tallied_once : (deed : Deed) (tallies : List Tally) → Once tallies → Once (tallied deed tallies)
 tallied_once (Switch prev pn way zero nn) tallies once = once
 tallied_once (Switch prev pn way (suc n) nn) tallies once = once_map (pick_one n) (pick_keeps n) tallies once
 tallied_once (Wake task nice) tallies once = once
-tallied_once (Born task nice idle) tallies once = once_with task tallies once
+tallied_once (Born task nice policy) tallies once = once_with task tallies once
 tallied_once (Leave task nice dest) tallies once = once
-tallied_once (Arrive task nice orig idle) tallies once = once_with task tallies once
+tallied_once (Arrive task nice orig policy) tallies once = once_with task tallies once
 
 -- who stands in a part stood there before a change of one pid's task, or is that pid
 put_covers : (part : Part) (tallies : List Tally) (task : ℕ) (o : Option Entity) → Covers part tallies
@@ -178,15 +178,16 @@ deed_covers part (Switch prev pn way next nn) claim tallies covers =
     (next_covers (part_after_prev part prev way) tallies next (prev_covers part tallies prev way covers))
 deed_covers part (Wake task nice) claim tallies covers =
     map_covers part tallies task (λ s. woken claim s.place s) covers
-deed_covers part (Born task nice idle) claim tallies covers =
+deed_covers part (Born task nice policy) claim tallies covers =
     put_covers part (with_tally task tallies) task
-    (option_map (λ (c : Claim). record { place = Wait; nice = nice; idle = idle; runtime = c.v }) claim)
-    (covers_more part (Born task nice idle) tallies covers) (λ s e. has_with_same task tallies)
+    (option_map (λ (c : Claim). record { place = Wait; nice = nice; policy = policy; runtime = c.v }) claim)
+    (covers_more part (Born task nice policy) tallies covers) (λ s e. has_with_same task tallies)
 deed_covers part (Leave task nice dest) claim tallies covers = gone_covers part tallies task covers
-deed_covers part (Arrive task nice orig idle) claim tallies covers =
+deed_covers part (Arrive task nice orig policy) claim tallies covers =
     put_covers part (with_tally task tallies) task
-    (option_map (λ (c : Claim). record { place = place_of_sort c.sort; nice = nice; idle = idle; runtime = c.v }) claim)
-    (covers_more part (Arrive task nice orig idle) tallies covers) (λ s e. has_with_same task tallies)
+    (option_map (λ (c : Claim). record { place = place_of_sort c.sort; nice = nice; policy = policy; runtime = c.v })
+    claim)
+    (covers_more part (Arrive task nice orig policy) tallies covers) (λ s e. has_with_same task tallies)
 
 -- the next task of a switch that passes stands there, so it has a tally
 pub picked_has : (part : Part) (deed : Deed) (tallies : List Tally) → Covers part tallies
@@ -203,6 +204,6 @@ picked_has part (Switch prev pn way (suc n) nn) tallies covers waits pid none = 
   | inr ne ↦ ap (λ b. cond b 1 0) (ne_eqb (suc n) pid ne)
 ]
 picked_has part (Wake task nice) tallies covers waits pid none = refl
-picked_has part (Born task nice idle) tallies covers waits pid none = refl
+picked_has part (Born task nice policy) tallies covers waits pid none = refl
 picked_has part (Leave task nice dest) tallies covers waits pid none = refl
-picked_has part (Arrive task nice orig idle) tallies covers waits pid none = refl
+picked_has part (Arrive task nice orig policy) tallies covers waits pid none = refl

@@ -5,7 +5,7 @@ use Rattle.std.proofs.Common.{List, [], ◌∷◌, ◌++◌, Contains, map, filt
 use Rattle.std.specs.List.{AllByRecursion}
 use Rattle.std.proofs.lemmas.Bool.{eq-eqb, or_left, or_right}
 use Rattle.std.proofs.lemmas.List.Elements.{All-from_recursion}
-use Rattle.cfs_model.specs.Settings.{Settings}
+use Rattle.cfs_model.specs.Knobs.{KnobsView}
 use Rattle.cfs_model.specs.Machine.{Machine, put}
 use Rattle.cfs_model.specs.Start.{task_of, start_machine}
 use Rattle.cfs_model.specs.Claimed.{Claimed}
@@ -39,6 +39,7 @@ use Rattle.replay_model.specs.declared.page.Tally.{Tally}
 use Rattle.replay_model.specs.declared.step.Deed.{Deed}
 use Rattle.replay_model.specs.declared.step.Deed.TheVariants as deed
 use Rattle.replay_model.specs.declared.step.Step.{Step}
+use Rattle.cfs_model.specs.declared.policy.Policy.{Policy}
 
 -- a kind of pid, those of tallies, of an event that brings a tally, and of such a deed
 module _ (K : ℕ → Type 0) where
@@ -51,8 +52,8 @@ module _ (K : ℕ → Type 0) where
   Brings act = Unit {0}
 
   abbrev pub BringsHere : Deed → Type 0
-  BringsHere (deed.Born pid nice idle) = K pid
-  BringsHere (deed.Arrive pid nice orig idle) = K pid
+  BringsHere (deed.Born pid nice policy) = K pid
+  BringsHere (deed.Arrive pid nice orig policy) = K pid
   BringsHere other = Unit {0}
 
   of_map : (f : Tally → Tally) → KeepsPid f → (tallies : List Tally) → ArePidsOf tallies → ArePidsOf (map f tallies)
@@ -74,9 +75,9 @@ module _ (K : ℕ → Type 0) where
   of_deed (deed.Switch prev pn way zero nn) tallies k h = h
   of_deed (deed.Switch prev pn way (suc n) nn) tallies k h = of_map (pick_one n) (pick_keeps n) tallies h
   of_deed (deed.Wake pid nice) tallies k h = h
-  of_deed (deed.Born pid nice idle) tallies k h = of_with pid tallies k h
+  of_deed (deed.Born pid nice policy) tallies k h = of_with pid tallies k h
   of_deed (deed.Leave pid nice dest) tallies k h = h
-  of_deed (deed.Arrive pid nice orig idle) tallies k h = of_with pid tallies k h
+  of_deed (deed.Arrive pid nice orig policy) tallies k h = of_with pid tallies k h
 
   of_kept : Keeps ArePidsOf BringsHere
   of_kept = record {
@@ -85,13 +86,13 @@ module _ (K : ℕ → Type 0) where
   }
 
   -- the deeds of events
-  brings_here : (cpu : ℕ) (idle : Bool) (act : Act) → Brings act → BringsHere (deed_at cpu idle act)
-  brings_here cpu idle (Switch here prev pn way next nn) k = tt
-  brings_here cpu idle (Wake here pid nice) k = tt
-  brings_here cpu idle (Born here pid nice) k = k
-  brings_here cpu idle (Shift orig dest pid nice) k = go (nat_eq orig cpu)
+  brings_here : (cpu : ℕ) (policy : Policy) (act : Act) → Brings act → BringsHere (deed_at cpu policy act)
+  brings_here cpu policy (Switch here prev pn way next nn) k = tt
+  brings_here cpu policy (Wake here pid nice) k = tt
+  brings_here cpu policy (Born here pid nice) k = k
+  brings_here cpu policy (Shift orig dest pid nice) k = go (nat_eq orig cpu)
     where
-      go : (b : Bool) → BringsHere (cond b (deed.Leave pid nice dest) (deed.Arrive pid nice orig idle))
+      go : (b : Bool) → BringsHere (cond b (deed.Leave pid nice dest) (deed.Arrive pid nice orig policy))
       go true = tt
       go false = k
 
@@ -104,7 +105,7 @@ module _ (K : ℕ → Type 0) where
       go : (b : Bool) → AllByRecursion (λ (step : Step). BringsHere step.deed) (steps_at cpu events)
           → AllByRecursion (λ (step : Step). BringsHere step.deed)
           (map (step_at cpu) (cond b (event ∷ filter (touches cpu) events) (filter (touches cpu) events)))
-      go true rest = (brings_here cpu event.idle event.entry.act h.0, rest)
+      go true rest = (brings_here cpu event.policy event.entry.act h.0, rest)
       go false rest = rest
 
   -- the tallies at the start
@@ -138,20 +139,20 @@ module _ (K : ℕ → Type 0) where
   alive_after alive (Shift orig dest task nice) old born pid h = old pid h
 
   -- who comes to a processor is alive
-  act_brings : (knobs : Settings) (m : Machine) (event : Claimed) (after : Machine) (alive : ℕ → Bool)
+  act_brings : (knobs : KnobsView) (m : Machine) (event : Claimed) (after : Machine) (alive : ℕ → Bool)
       → IsInOrder m → RollIs alive m → IsStep knobs m event after → ((pid : ℕ) → alive pid ≡ true → K pid)
       → ((pid : ℕ) → is_among (born_by event.entry.act) pid ≡ true → K pid) → Brings event.entry.act
   act_brings knobs m event after alive o roll s old born = go event.entry.act born s.changes
     where
       go : (act : Act) → ((pid : ℕ) → is_among (born_by act) pid ≡ true → K pid)
-          → Changes knobs s.found act event.claim event.idle after → Brings act
+          → Changes knobs s.found act event.claim event.policy after → Brings act
       go (Switch cpu prev pn way next nn) b c = tt
       go (Wake cpu pid nice) b c = tt
       go (Born cpu pid nice) b c = b pid (or_left (nat_eq pid pid) false (eq-eqb pid pid refl))
       go (Shift orig dest pid nice) b c = old pid
           (sym (roll pid) ∙ sym (found_keys knobs m event after o s pid) ∙ ap is_some c.prio)
 
-  events_bring : (knobs : Settings) (m : Machine) (events : List Claimed) (states : List Machine) (alive : ℕ → Bool)
+  events_bring : (knobs : KnobsView) (m : Machine) (events : List Claimed) (states : List Machine) (alive : ℕ → Bool)
       → IsInOrder m → RollIs alive m → AreSteps knobs m events states → ((pid : ℕ) → alive pid ≡ true → K pid)
       → ((pid : ℕ) → is_among (born_in events) pid ≡ true → K pid)
       → AllByRecursion (λ (event : Claimed). Brings event.entry.act) events

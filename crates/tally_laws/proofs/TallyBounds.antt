@@ -5,7 +5,7 @@ use Rattle.std.specs.List.{AllByRecursion, list_any}
 use Rattle.std.proofs.lemmas.Bool.{eq-eqb, cases_lt}
 use Rattle.std.proofs.lemmas.List.Sums.{count_by-le-length}
 use Rattle.cfs_model.specs.Charge.{greatest}
-use Rattle.cfs_model.specs.Settings.{Settings}
+use Rattle.cfs_model.specs.Knobs.{KnobsView}
 use Rattle.cfs_model.specs.Machine.{Machine}
 use Rattle.cfs_model.specs.Start.{start_machine}
 use Rattle.cfs_model.specs.Claimed.{Claimed}
@@ -87,7 +87,7 @@ touched_below event f most h = go event.entry.act refl
     go (Shift orig dest pid nice) e = rw (ap touched e) (two orig dest (ap touched e))
 
 -- what is charged at a processor that an event touches
-charged_below : (knobs : Settings) (m : Machine) (event : Claimed) (after : Machine) → IsInOrder m
+charged_below : (knobs : KnobsView) (m : Machine) (event : Claimed) (after : Machine) → IsInOrder m
     → IsStep knobs m event after → (pid cpu : ℕ) → touches cpu event ≡ true
     → charged_at m event.entry.time pid cpu ≤ greatest
 charged_below knobs m event after o s pid cpu t = elim (steps_at_cpu knobs m event after o s cpu) [
@@ -97,7 +97,7 @@ charged_below knobs m event after o s pid cpu t = elim (steps_at_cpu knobs m eve
 ]
 
 -- an amount that is at most so much for each processor that an event touches
-ran_added : (knobs : Settings) (m : Machine) (events : List Claimed) (states : List Machine) (last pid : ℕ)
+ran_added : (knobs : KnobsView) (m : Machine) (events : List Claimed) (states : List Machine) (last pid : ℕ)
     → AreSteps knobs m events states → AllByRecursion (λ (event : Claimed). event.entry.time ≤ last) events
     → added_up (λ m time cpu. ran_at m time pid cpu) m events states ≤ length events * (2 * last)
 ran_added knobs m [] states last pid steps h = omega arith
@@ -108,7 +108,7 @@ ran_added knobs m (event ∷ events) (after ∷ states) last pid steps h =
     let b = ran_added knobs after events states last pid steps.1 h.1 in
     omega arith
 
-charged_added : (knobs : Settings) (m : Machine) (events : List Claimed) (states : List Machine) (pid : ℕ)
+charged_added : (knobs : KnobsView) (m : Machine) (events : List Claimed) (states : List Machine) (pid : ℕ)
     → IsInOrder m → AreSteps knobs m events states
     → added_up (λ m time cpu. charged_at m time pid cpu) m events states ≤ length events * (2 * greatest)
 charged_added knobs m [] states pid o steps = omega arith

@@ -1,7 +1,7 @@
 -- The tallies on pages beside what each task did in the run (this project's profile).
 use Rattle.std.specs.Prelude.{◌≢◌, ℕ, ◌<◌, ◌≤◌, ℤ, List, length, All, AllPairs, Contains}
 use Rattle.std.specs.List.{AllByRecursion}
-use Rattle.cfs_model.specs.Settings.{Settings}
+use Rattle.cfs_model.specs.Knobs.{KnobsView}
 use Rattle.cfs_model.specs.Start.{start_machine}
 use Rattle.cfs_model.specs.Claimed.{Claimed}
 use Rattle.cfs_model.specs.Run.{IsRun}
@@ -19,7 +19,7 @@ use Rattle.cfs_model.specs.declared.task.Task.{Task}
 -- where the pages of all processors suffice and say nothing against any event, their tallies add up to those of the run
 -- that the events are
 abbrev pub PagesAddUp : Type 0
-PagesAddUp = (knobs : Settings) (start : ℕ) (floors : List ℤ) (tasks : List Task) (events : List Claimed)
+PagesAddUp = (knobs : KnobsView) (start : ℕ) (floors : List ℤ) (tasks : List Task) (events : List Claimed)
     (cpus : ℕ) (pages : ℕ → PageView)
     → IsRecord start floors tasks events cpus
     → ((cpu : ℕ) → cpu < cpus → SufficesAmong knobs start floors tasks events cpus pages cpu)
@@ -29,7 +29,7 @@ PagesAddUp = (knobs : Settings) (start : ℕ) (floors : List ℤ) (tasks : List 
 
 -- so the summary by them is the summary of the run
 abbrev pub PagesTellSummary : Type 0
-PagesTellSummary = (knobs : Settings) (start : ℕ) (floors : List ℤ) (tasks : List Task) (events : List Claimed)
+PagesTellSummary = (knobs : KnobsView) (start : ℕ) (floors : List ℤ) (tasks : List Task) (events : List Claimed)
     (cpus : ℕ) (pages : ℕ → PageView)
     → IsRecord start floors tasks events cpus
     → ((cpu : ℕ) → cpu < cpus → SufficesAmong knobs start floors tasks events cpus pages cpu)
@@ -39,7 +39,7 @@ PagesTellSummary = (knobs : Settings) (start : ℕ) (floors : List ℤ) (tasks :
 
 -- each of their tallies is of a task of the run
 abbrev pub TalliesOfTasks : Type 0
-TalliesOfTasks = (knobs : Settings) (start : ℕ) (floors : List ℤ) (tasks : List Task) (events : List Claimed)
+TalliesOfTasks = (knobs : KnobsView) (start : ℕ) (floors : List ℤ) (tasks : List Task) (events : List Claimed)
     (cpus : ℕ) (pages : ℕ → PageView)
     → IsRecord start floors tasks events cpus
     → ((cpu : ℕ) → cpu < cpus → SufficesAmong knobs start floors tasks events cpus pages cpu)
@@ -48,14 +48,14 @@ TalliesOfTasks = (knobs : Settings) (start : ℕ) (floors : List ℤ) (tasks : L
 
 -- a page has at most one tally of a pid
 abbrev pub TalliesOnce : Type 0
-TalliesOnce = (knobs : Settings) (start : ℕ) (floors : List ℤ) (tasks : List Task) (events : List Claimed)
+TalliesOnce = (knobs : KnobsView) (start : ℕ) (floors : List ℤ) (tasks : List Task) (events : List Claimed)
     (cpu made : ℕ) (page : PageView)
     → IsStart floors tasks → IsPageOf (cut start floors tasks events cpu) knobs made page
     → AllPairs (λ tally other. tally.pid ≢ other.pid) page.tallies
 
 -- no tally of a run is more
 abbrev pub TalliesBounded : Type 0
-TalliesBounded = (knobs : Settings) (start : ℕ) (floors : List ℤ) (tasks : List Task) (events : List Claimed)
+TalliesBounded = (knobs : KnobsView) (start : ℕ) (floors : List ℤ) (tasks : List Task) (events : List Claimed)
     (last pid : ℕ)
     → IsStart floors tasks → AllByRecursion (λ event. event.entry.time ≤ last) events
     → (run : IsRun knobs start (start_machine start floors tasks) events)

@@ -8,7 +8,7 @@ ghost use Rattle.tally_laws.specs.Tallying.{PagesAddUp, PagesTellSummary, Tallie
 /// task did in the run that the events are, so that the summary by them is the run's; and each of them is of a task of
 /// the run. A page has at most one tally of a pid, and no task of a run did more than its events allow.
 ///
-/// Carried by TalliesAddedUp, TalliesShared, TalliesInRun, TalliesInMachine, TalliesOfDeeds, TalliesCharged,
+/// Carried by TalliesAddedUp, TallyAddends, TalliesInRun, TalliesInMachine, TalliesOfDeeds, TalliesCharged,
 /// TalliesSaid (*totals*, *summary*); TalliesOfTasks, Among (*tasks*); TalliesKept, TalliesAtStart (*once*);
 /// TallyBounds (*bounded*). Below them stands the law `closing` of `replay_laws`.
 pub fn tallying()

@@ -12,7 +12,7 @@ pub value_of_more : (s : List ℕ) (i : ℕ) → i < length s →
     value_of (take (i + 1) s) ≡ value_of (take i s) * 10 + (get_or s i 0 - 48)
 value_of_more s i lt = fold_more (λ value digit. value * 10 + (digit - 48)) 0 s i 0 lt
 
--- where digits end, and what stands before and behind that place
+-- where digits end, and what stands before and behind that index
 pub record EndsAt (s : List ℕ) (k : ℕ) : Type 0 where
   pub length_is : k ≡ prefix_len is_digit s
   pub front_is : take k s ≡ take_while is_digit s

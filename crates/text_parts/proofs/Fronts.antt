@@ -28,31 +28,31 @@ front_missing front s e =
     no_text front s (λ rest whole. let there = begins_own front rest in let same = ap (begins_with front) whole in cc)
 
 -- a text that differs so far from its front doesn't begin with it
-pub differs_so_far : (front s : List ℕ) (place : ℕ) → place < length front
-    → bytes_eq (take place s) (take place front) ≡ false → begins_with front s ≡ false
-differs_so_far front s place within e =
+pub differs_so_far : (front s : List ℕ) (index : ℕ) → index < length front
+    → bytes_eq (take index s) (take index front) ≡ false → begins_with front s ≡ false
+differs_so_far front s index within e =
     false_from_ne_true (begins_with front s) (λ all.
-    let cut : take place s ≡ take place front =
-    ap (take place) (front_then_rest front s all) ∙ take-append-le place front (drop (length front) s) (omega arith) in
-    let same : bytes_eq (take place s) (take place front) ≡ true =
-    (bytes_eq-Decides (take place s) (take place front)).1 cut in
+    let cut : take index s ≡ take index front =
+    ap (take index) (front_then_rest front s all) ∙ take-append-le index front (drop (length front) s) (omega arith) in
+    let same : bytes_eq (take index s) (take index front) ≡ true =
+    (bytes_eq-Decides (take index s) (take index front)).1 cut in
     false≢true (sym e ∙ same))
 
 -- one more byte
-pub same_more : (xs ys : List ℕ) (place : ℕ) → place < length xs → place < length ys →
-    bytes_eq (take (place + 1) xs) (take (place + 1) ys)
-    ≡ (bytes_eq (take place xs) (take place ys) && eqb (get_or xs place 0) (get_or ys place 0))
-same_more [] ys place lt lu = absurd (omega arith)
-same_more (x ∷ xs) [] place lt lu = absurd (omega arith)
+pub same_more : (xs ys : List ℕ) (index : ℕ) → index < length xs → index < length ys →
+    bytes_eq (take (index + 1) xs) (take (index + 1) ys)
+    ≡ (bytes_eq (take index xs) (take index ys) && eqb (get_or xs index 0) (get_or ys index 0))
+same_more [] ys index lt lu = absurd (omega arith)
+same_more (x ∷ xs) [] index lt lu = absurd (omega arith)
 same_more (x ∷ xs) (y ∷ ys) zero lt lu = by_test (eqb x y)
   where
     by_test : (b : Bool) → (b && true) ≡ (true && b)
     by_test true = refl
     by_test false = refl
-same_more (x ∷ xs) (y ∷ ys) (suc place) lt lu =
-    let up : suc place + 1 ≡ suc (place + 1) = omega arith in
-    rw (up, same_more xs ys place (omega arith) (omega arith))
-    (by_test (eqb x y) (bytes_eq (take place xs) (take place ys)) (eqb (get_or xs place 0) (get_or ys place 0)))
+same_more (x ∷ xs) (y ∷ ys) (suc index) lt lu =
+    let up : suc index + 1 ≡ suc (index + 1) = omega arith in
+    rw (up, same_more xs ys index (omega arith) (omega arith))
+    (by_test (eqb x y) (bytes_eq (take index xs) (take index ys)) (eqb (get_or xs index 0) (get_or ys index 0)))
   where
     by_test : (a b c : Bool) → (a && (b && c)) ≡ ((a && b) && c)
     by_test true b c = refl

@@ -32,7 +32,7 @@ pub after_whole : (text more : List ℕ) → IsWhole text → lines_of (text ++ 
 after_whole text more (inl none) = rw (none, lines_of_nil) refl
 after_whole text more (inr whole) = rw whole.1 (lines_after_feed whole.0 more)
 
--- no line feed stands from a place on
+-- no line feed stands from an index on
 pub no_feeds : (text : List ℕ) (from : ℕ)
     → ((i : ℕ) → from ≤ i → i < length text → is_line_feed (get_or text i 0) ≡ true → ⊥)
     → list_any is_line_feed (drop from text) ≡ false

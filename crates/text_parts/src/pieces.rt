@@ -69,11 +69,11 @@ pub fn begins_with(text: &[u8], front: &[u8]) -> bool
         return false;
     }
     let mut same = true;
-    for (place, byte) in front.iter().enumerate() {
-        if place % 8 == 1 && !same {
+    for (index, byte) in front.iter().enumerate() {
+        if index % 8 == 1 && !same {
             return false;
         }
-        same &= text[place] == *byte;
+        same &= text[index] == *byte;
     }
     same
 }

@@ -8,8 +8,8 @@ use Rattle.std.proofs.lemmas.List.Elements.{All-map, All-weaker}
 use Rattle.std.proofs.lemmas.List.Sums.{sum_by-append}
 use Rattle.replay_model.specs.declared.page.Tally.{Tally}
 use Rattle.pid_table.specs.Rows.{Rows, with_row}
-use Rattle.queue_replay.specs.Places.{AreApart, AreOwn}
-use Rattle.queue_replay.proofs.PlacedBy.{changed_there, keys_kept, set_none}
+use Rattle.queue_replay.specs.Indices.{AreApart, AreOwn}
+use Rattle.queue_replay.proofs.IndexedBy.{changed_there, keys_kept, set_none}
 use Rattle.ticket_book.specs.Tallying.{FitsTally, with_tallies}
 
 abbrev pub pid_of : Tally → ℕ
@@ -109,20 +109,20 @@ module _ (tallies old sums : List Tally) (i : ℕ) (d : Tally) (within : i < len
 
 -- a tally is added to the sum of its task, where that is, and where there is none
 module _ (table : Rows Tally) (own : AreOwn table) (apart : AreApart table.rows) (tally : Tally) where
-  pub added_there : (place : ℕ) (d x : Tally) → place < length table.rows
-      → (get_or table.rows place d).pid ≡ tally.pid → x ≡ with_tallies (tally ∷ []) (get_or table.rows place d)
-      → set table.rows place x ≡ map (with_tallies (tally ∷ [])) table.rows
-  added_there place d x h here is =
-      ap (set table.rows place) is
+  pub added_there : (index : ℕ) (d x : Tally) → index < length table.rows
+      → (get_or table.rows index d).pid ≡ tally.pid → x ≡ with_tallies (tally ∷ []) (get_or table.rows index d)
+      → set table.rows index x ≡ map (with_tallies (tally ∷ [])) table.rows
+  added_there index d x h here is =
+      ap (set table.rows index) is
       ∙ sym (changed_there pid_of (with_tallies (tally ∷ [])) tally.pid
-      (others_stay tally) table.rows apart place d h here)
+      (others_stay tally) table.rows apart index d h here)
 
-  pub added_own : (place : ℕ) (d x : Tally) → place < length table.rows
-      → (get_or table.rows place d).pid ≡ tally.pid → x ≡ with_tallies (tally ∷ []) (get_or table.rows place d)
-      → AreOwn (with_row table place x)
+  pub added_own : (index : ℕ) (d x : Tally) → index < length table.rows
+      → (get_or table.rows index d).pid ≡ tally.pid → x ≡ with_tallies (tally ∷ []) (get_or table.rows index d)
+      → AreOwn (with_row table index x)
   unfolding AreOwn
-  added_own place d x h here is =
-      ap (map pid_of) (added_there place d x h here is)
+  added_own index d x h here is =
+      ap (map pid_of) (added_there index d x h here is)
       ∙ keys_kept pid_of (with_tallies (tally ∷ [])) (λ sum. refl) table.rows ∙ own
 
 pub added_nowhere : (sums : List Tally) (tally : Tally) → All (λ sum. sum.pid ≢ tally.pid) sums

@@ -20,13 +20,13 @@ pushed {X} xs front x e =
     record { front_is = parts.0; last_is = parts.1; within = within }
 
 -- one more that is equal
-pub keeps_up : {X : Type 0} (xs front : List X) (place : ℕ) (x : X) → place ≡ length front → front ≡ take place xs
-    → place < length xs → get_or xs place x ≡ x
-    → (place + 1 ≡ length (front ++ x ∷ [])) × (front ++ x ∷ [] ≡ take (place + 1) xs)
-keeps_up xs front place x count same within here =
+pub keeps_up : {X : Type 0} (xs front : List X) (index : ℕ) (x : X) → index ≡ length front → front ≡ take index xs
+    → index < length xs → get_or xs index x ≡ x
+    → (index + 1 ≡ length (front ++ x ∷ [])) × (front ++ x ∷ [] ≡ take (index + 1) xs)
+keeps_up xs front index x count same within here =
     let pushed_count = length_push front x in (
       omega (arith, pushed_count),
-      ap (λ ys. ys ++ x ∷ []) same ∙ ap (λ y. take place xs ++ y ∷ []) (sym here) ∙ sym (take_more xs place x within),
+      ap (λ ys. ys ++ x ∷ []) same ∙ ap (λ y. take index xs ++ y ∷ []) (sym here) ∙ sym (take_more xs index x within),
     )
 
 -- one more, where one differed
@@ -35,9 +35,9 @@ pub stays_apart : {X : Type 0} (xs front : List X) (x : X) → front ≢ take (l
 stays_apart xs front x apart e = apart (pushed xs front x e).front_is
 
 -- one more that differs, or that the list hasn't
-pub falls_apart : {X : Type 0} (xs front : List X) (place : ℕ) (x : X) → place ≡ length front
-    → (place < length xs → get_or xs place x ≢ x) → front ++ x ∷ [] ≢ take (length (front ++ x ∷ [])) xs
-falls_apart xs front place x count differs e =
+pub falls_apart : {X : Type 0} (xs front : List X) (index : ℕ) (x : X) → index ≡ length front
+    → (index < length xs → get_or xs index x ≢ x) → front ++ x ∷ [] ≢ take (length (front ++ x ∷ [])) xs
+falls_apart xs front index x count differs e =
     let there = pushed xs front x e in
     let within = there.within in
     differs (omega (arith, count, within)) (ap (λ n. get_or xs n x) count ∙ sym there.last_is)

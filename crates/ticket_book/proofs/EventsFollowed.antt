@@ -10,6 +10,7 @@ use Rattle.cfs_model.specs.declared.nice_line.NiceLine.{NiceLine}
 use Rattle.queue_replay.specs.Replay.{ReplayView}
 use Rattle.ticket_book.specs.Cursor.{AreFollowed}
 use Rattle.ticket_book.specs.declared.cursor.Cursor.{Cursor}
+use Rattle.cfs_model.specs.declared.policy.Policy.{Policy}
 
 -- what was lent is the whole list
 pub lent_back : (cursors before : List Cursor) (n : ℕ) → length cursors ≡ n
@@ -18,24 +19,24 @@ lent_back cursors before n count =
     ap (λ k. take k (cursors ++ drop (length cursors) before)) (sym count)
     ∙ take-append_seam cursors (drop (length cursors) before)
 
-pub followed_one_more : (places : List (Option ReplayView)) (before after : List Cursor) (claims : List Claim)
+pub followed_one_more : (slots : List (Option ReplayView)) (before after : List Cursor) (claims : List Claim)
     (nices : List NiceLine)
     (policy : Entry → Bool) (events : List Entry) (i : ℕ) (event : Entry) (claim : Option Claim)
-    (nice : Option NiceLine) (idle : Bool)
+    (nice : Option NiceLine) (policy : Policy)
     → i < length events → event ≡ get_or events i event
-    → claim ≡ claim_at claims event.line → nice ≡ nice_at nices event.line → idle ≡ policy event
-    → ((dealt : List Claimed) → AreFollowed places before dealt
-    → AreFollowed places after (dealt ++ record { entry = event; claim = claim; nice = nice; idle = idle } ∷ []))
-    → AreFollowed places before (claimed claims nices policy (take i events))
-    → AreFollowed places after (claimed claims nices policy (take (i + 1) events))
-followed_one_more places before after claims nices policy events i event claim nice idle lt is is_claim is_nice is_idle
+    → claim ≡ claim_at claims event.line → nice ≡ nice_at nices event.line → policy ≡ policy event
+    → ((dealt : List Claimed) → AreFollowed slots before dealt
+    → AreFollowed slots after (dealt ++ record { entry = event; claim = claim; nice = nice; policy = policy } ∷ []))
+    → AreFollowed slots before (claimed claims nices policy (take i events))
+    → AreFollowed slots after (claimed claims nices policy (take (i + 1) events))
+followed_one_more slots before after claims nices policy events i event claim nice policy lt is is_claim is_nice is_idle
     follows followed =
     let dealt = claimed claims nices policy (take i events) in
     let said_of : Option Claim → Option NiceLine → Bool
-    → Claimed = λ c n b. record { entry = event; claim = c; nice = n; idle = b } in
-    let said : said_of claim nice idle ≡ with_claim claims nices policy event =
+    → Claimed = λ c n b. record { entry = event; claim = c; nice = n; policy = b } in
+    let said : said_of claim nice policy ≡ with_claim claims nices policy event =
     λ j. said_of (is_claim j) (is_nice j) (is_idle j) in
     let more : dealt ++ with_claim claims nices policy event ∷ [] ≡ claimed claims nices policy (take (i + 1) events) =
     sym (ap (claimed claims nices policy) (take_more events i event lt ∙ ap (λ e. take i events ++ e ∷ []) (sym is))
     ∙ map-append (with_claim claims nices policy) (take i events) (event ∷ [])) in
-    subst (AreFollowed places after) (ap (λ e. dealt ++ e ∷ []) said ∙ more) (follows dealt followed)
+    subst (AreFollowed slots after) (ap (λ e. dealt ++ e ∷ []) said ∙ more) (follows dealt followed)

@@ -8,7 +8,7 @@ use Rattle.replay_model.specs.declared.step.Step.{Step}
 use Rattle.sched_record.specs.RecordView.{policy_of}
 use Rattle.sched_record.specs.Record.{RecordView, record_last_line, record_last_time}
 use Rattle.sched_record.specs.Stream.{cut_of}
-use Rattle.sched_record.proofs.Shares.{same_last_line, same_last_time}
+use Rattle.sched_record.proofs.StreamsKept.{same_last_line, same_last_time}
 use Rattle.ticket_book.specs.Cursor.{IsCursor}
 use Rattle.ticket_book.specs.Framed.{is_framed}
 use Rattle.ticket_book.specs.SaidEvents.{events_of}

@@ -5,7 +5,7 @@ use Rattle.std.specs.Prelude.{slice_get}
 use Rattle.std.proofs.lemmas.Bool.{cases_lt}
 use Rattle.std.proofs.lemmas.Option.{same_Some, slice_get-get_or, slice_get_within}
 use Rattle.cfs_model.specs.Least.{larger}
-use Rattle.cfs_model.specs.Settings.{Settings}
+use Rattle.cfs_model.specs.Knobs.{KnobsView}
 use Rattle.queue_replay.specs.Needing.{HasNeeds}
 use Rattle.queue_replay.specs.Replay.{ReplayView}
 use Rattle.replay_model.specs.Needs.{largest}
@@ -16,11 +16,11 @@ abbrev IsNeeding : ReplayView → Type 0
 IsNeeding page = HasNeeds page.stream page.knobs page.made page.page page.needs
 
 -- of so many pages these are the largest needs, and each has those of its replay
-pub record AreLargest (pages : List ReplayView) (count : ℕ) (needs : Settings) : Type 0 where
+pub record AreLargest (pages : List ReplayView) (count : ℕ) (needs : KnobsView) : Type 0 where
   pub largest_is : needs ≡ largest (needs_at pages) count
   pub have : (cpu : ℕ) (page : ReplayView) → cpu < count → slice_get pages cpu ≡ Some page → IsNeeding page
 
--- the needs on the page at a place
+-- the needs on the page at an index
 pub needs_there : (pages : List ReplayView) (cpu : ℕ) (page : ReplayView) → slice_get pages cpu ≡ Some page
     → needs_at pages cpu ≡ page.needs
 needs_there [] cpu page is = cc
@@ -29,7 +29,7 @@ needs_there (p ∷ pages) (suc cpu) page is = needs_there pages cpu page is
 
 -- one page more
 pub one_larger : (pages : List ReplayView) (i : ℕ) (page : ReplayView) → i < length pages → page ≡ get_or pages i page
-    → IsNeeding page → (before after own : Settings) → own ≡ page.needs → after ≡ larger before own
+    → IsNeeding page → (before after own : KnobsView) → own ≡ page.needs → after ≡ larger before own
     → AreLargest pages i before → AreLargest pages (i + 1) after
 one_larger pages i page within is needing before after own own_is more l = record {
   largest_is =
@@ -49,7 +49,7 @@ one_larger pages i page within is needing before after own own_is more l = recor
     stands = slice_get-get_or pages i page within ∙ ap Some (sym is)
 
 -- all pages
-pub all_larger : (pages : List ReplayView) (count : ℕ) (needs : Settings) → count ≡ length pages
+pub all_larger : (pages : List ReplayView) (count : ℕ) (needs : KnobsView) → count ≡ length pages
     → AreLargest pages count needs → (needs ≡ largest (needs_at pages) (length pages)) × HaveNeeds pages
 all_larger pages count needs all l = (
   l.largest_is ∙ ap (largest (needs_at pages)) all,

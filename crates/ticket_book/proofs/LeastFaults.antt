@@ -3,7 +3,7 @@ use Rattle.std.proofs.Common.{◌≡◌, ℕ, ◌+◌, ◌<◌, ◌≤◌, min, 
 use Rattle.std.proofs.Common.{arith, inl, inr}
 use Rattle.std.proofs.lemmas.Bool.{cases_lt}
 use Rattle.std.proofs.lemmas.Option.{same_Some}
-use Rattle.cfs_model.specs.Settings.{Settings}
+use Rattle.cfs_model.specs.Knobs.{KnobsView}
 use Rattle.replay_model.specs.declared.page.StepFault.{StepFault}
 use Rattle.queue_replay.specs.Replay.{ReplayView}
 use Rattle.sched_record.specs.Lesser.{lesser_of}
@@ -12,11 +12,11 @@ use Rattle.ticket_book.specs.Book.{page_at}
 use Rattle.ticket_book.specs.Relying.{IsLeastFaultLine}
 use Rattle.ticket_book.specs.Remade.{HasFaultAt, IsLeastFaultBelow}
 
-module _ (knobs : Settings) (r : RecordView) (places : List (Option ReplayView)) where
+module _ (knobs : KnobsView) (r : RecordView) (slots : List (Option ReplayView)) where
   abbrev At : ℕ → ℕ → Type 0
-  At cpu line = HasFaultAt knobs r cpu (page_at places cpu) line
+  At cpu line = HasFaultAt knobs r cpu (page_at slots cpu) line
 
-  -- a place has a fault at one line at most
+  -- a slot has a fault at one line at most
   one_line : (cpu line other : ℕ) → At cpu line → At cpu other → line ≡ other
   one_line cpu line other a b =
       let page : a.page ≡ b.page = same_Some a.page b.page (sym a.stands ∙ b.stands) in
@@ -32,12 +32,12 @@ module _ (knobs : Settings) (r : RecordView) (places : List (Option ReplayView))
     | inr k ↦ subst P (let e : cpu ≡ other = omega (arith, k, h) in e) here
   ]
 
-  none_yet : IsLeastFaultLine knobs r places 0 None
+  none_yet : IsLeastFaultLine knobs r slots 0 None
   none_yet cpu line h f = absurd (omega arith)
 
   -- a least line, where the next processor has none below it
-  still_least : (cpu line : ℕ) → IsLeastFaultBelow knobs r places cpu line
-      → ((lesser : ℕ) → At cpu lesser → line ≤ lesser) → IsLeastFaultBelow knobs r places (cpu + 1) line
+  still_least : (cpu line : ℕ) → IsLeastFaultBelow knobs r slots cpu line
+      → ((lesser : ℕ) → At cpu lesser → line ≤ lesser) → IsLeastFaultBelow knobs r slots (cpu + 1) line
   still_least cpu line l here = record {
     cpu = l.cpu;
     within = (let w = l.within in omega (arith, w));
@@ -49,7 +49,7 @@ module _ (knobs : Settings) (r : RecordView) (places : List (Option ReplayView))
   -- the next processor's line, where none before it has a lesser
   next_least : (cpu line : ℕ) → At cpu line
       → ((other : ℕ) → other < cpu → (lesser : ℕ) → At other lesser → line ≤ lesser)
-      → IsLeastFaultBelow knobs r places (cpu + 1) line
+      → IsLeastFaultBelow knobs r slots (cpu + 1) line
   next_least cpu line f before = record {
     cpu = cpu;
     within = omega arith;
@@ -58,9 +58,9 @@ module _ (knobs : Settings) (r : RecordView) (places : List (Option ReplayView))
         (λ n g. (let e = one_line cpu line n f g in omega (arith, e))) other h lesser;
   }
 
-  pub least_more : (cpu : ℕ) (least line : Option ℕ) → IsLeastFaultLine knobs r places cpu least
+  pub least_more : (cpu : ℕ) (least line : Option ℕ) → IsLeastFaultLine knobs r slots cpu least
       → IfNone line ((n : ℕ) → ¬ At cpu n) → IfSome line (At cpu)
-      → IsLeastFaultLine knobs r places (cpu + 1) (lesser_of least line)
+      → IsLeastFaultLine knobs r slots (cpu + 1) (lesser_of least line)
   least_more cpu None None l none found = λ other n h f.
       below_or_at (λ c. (m : ℕ) → ¬ At c m) cpu (λ c k m. l c m k) none other h n f
   least_more cpu None (Some line) l none found =
@@ -69,15 +69,15 @@ module _ (knobs : Settings) (r : RecordView) (places : List (Option ReplayView))
   least_more cpu (Some least) (Some line) l none found = elim (cases_lt line least) [
     | inl lt ↦
         (let same : line ≡ min least line = omega (arith, lt) in
-        subst (IsLeastFaultBelow knobs r places (cpu + 1)) same
+        subst (IsLeastFaultBelow knobs r slots (cpu + 1)) same
         (next_least cpu line found (λ other k lesser f. (let low = l.least other lesser k f in
         omega (arith, low, lt)))))
     | inr le ↦
         (let same : least ≡ min least line = omega (arith, le) in
-        subst (IsLeastFaultBelow knobs r places (cpu + 1)) same
+        subst (IsLeastFaultBelow knobs r slots (cpu + 1)) same
         (still_least cpu least l (λ lesser f. (let is = one_line cpu line lesser found f in omega (arith, is, le)))))
   ]
 
-pub none_below_first : (knobs : Settings) (r : RecordView) (places : List (Option ReplayView))
-    → IsLeastFaultLine knobs r places 0 None
-none_below_first knobs r places = none_yet knobs r places
+pub none_below_first : (knobs : KnobsView) (r : RecordView) (slots : List (Option ReplayView))
+    → IsLeastFaultLine knobs r slots 0 None
+none_below_first knobs r slots = none_yet knobs r slots

@@ -2,7 +2,7 @@
 use Rattle.std.proofs.Common.{◌≡◌, ℕ, ◌<◌, ◌≤◌, Some, None, List, length, sym, ap, ◌∙◌, subst}
 use Rattle.cfs_model.specs.Laws.{GreatestTellBadAtAll}
 use Rattle.cfs_model.specs.Least.{AreLeast, greatest_settings}
-use Rattle.cfs_model.specs.Settings.{AreInRange}
+use Rattle.cfs_model.specs.Knobs.{AreInRange}
 use Rattle.cfs_model.specs.Start.{start_machine}
 use Rattle.replay_laws.specs.FirstFaults.{FaultIsFirstBad}
 use Rattle.replay_laws.specs.Closing.{PagesTellFault, PagesTellRun, SilentPagesAreDone}

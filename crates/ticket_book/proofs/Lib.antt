@@ -17,11 +17,11 @@ mod OneAnswer
 mod Owned
 mod Counting
 mod PagesAdded
-pub mod BookPlaces
+pub mod BookSlots
 mod Same
 mod SameTicket
 mod Saying
-mod Standing
+mod WalkKept
 mod Summed
 mod Tasks
 mod TicketOrder

@@ -6,7 +6,7 @@ use Rattle.cfs_model.specs.Laws.{OneLeast, OneList, RunPrefix}
 use Rattle.cfs_model.specs.Least.{greatest_settings}
 use Rattle.cfs_model.specs.Order.{IsStart}
 use Rattle.cfs_model.specs.Run.{IsRun}
-use Rattle.cfs_model.specs.Settings.{Settings}
+use Rattle.cfs_model.specs.Knobs.{KnobsView}
 use Rattle.cfs_model.specs.Start.{start_machine}
 use Rattle.cfs_model.specs.declared.kind.Kind.{Kind}
 use Rattle.replay_laws.specs.FirstFaults.{OneFirstFault, RunHasNoFault}
@@ -24,7 +24,7 @@ use Rattle.ticket_book.specs.declared.least_settings.LeastSettings.TheVariants a
 use Rattle.ticket_book.specs.declared.verdict.Verdict.TheVariants.{Run, Fault}
 
 -- a run has one summary
-one_summary : OneList → (knobs : Settings) (r : RecordView) (one other : SummaryView) → IsScheduled knobs r one
+one_summary : OneList → (knobs : KnobsView) (r : RecordView) (one other : SummaryView) → IsScheduled knobs r one
     → IsScheduled knobs r other → one ≡ other
 one_summary list knobs r one other p q =
     let first = start_machine r.start r.floors r.tasks in
@@ -37,7 +37,7 @@ fault_of_parts : (l m c d p q : ℕ) (k j : Kind) → l ≡ m → c ≡ d → p 
     (record { line = m; cpu = d; pid = q; kind = j })
 fault_of_parts l m c d p q k j a b e f = cc
 
-one_fault : OneFirstFault → (knobs : Settings) (r : RecordView) (one other : FirstFault) → IsStart r.floors r.tasks
+one_fault : OneFirstFault → (knobs : KnobsView) (r : RecordView) (one other : FirstFault) → IsStart r.floors r.tasks
     → IsFaulty knobs r one → IsFaulty knobs r other → one ≡ other
 one_fault law knobs r one other start p q =
     let same = law knobs r.start r.floors r.tasks (events_of r) one.line other.line (cause_view one) (cause_view other)
@@ -46,7 +46,7 @@ one_fault law knobs r one other start p q =
     (ap (λ (c : FaultCause). c.cpu) same.1) (ap (λ (c : FaultCause). c.pid) same.1)
     (ap (λ (c : FaultCause). c.kind) same.1)
 
-not_both : RunHasNoFault → (knobs : Settings) (r : RecordView) (summary : SummaryView) (fault : FirstFault)
+not_both : RunHasNoFault → (knobs : KnobsView) (r : RecordView) (summary : SummaryView) (fault : FirstFault)
     → IsScheduled knobs r summary → IsFaulty knobs r fault → ⊥
 not_both law knobs r summary fault p q =
     law knobs r.start r.floors r.tasks (events_of r) fault.line (cause_view fault) p.run q.cause
@@ -62,7 +62,7 @@ one_verdict list none once knobs r (Fault one) start p (Fault other) q =
     ap faulted (one_fault once knobs r one other start p q)
 
 -- where there are least settings in range, no event is bad at all settings in range
-found_or_bad : RunPrefix → (r : RecordView) (knobs : Settings) (fault : FirstFault)
+found_or_bad : RunPrefix → (r : RecordView) (knobs : KnobsView) (fault : FirstFault)
     → IsLeastAnswer r (leasts.Found knobs) → IsLeastAnswer r (leasts.Fault fault) → ⊥
 found_or_bad prefix r knobs fault p q =
     let first = start_machine r.start r.floors r.tasks in

@@ -2,7 +2,7 @@
 use Rattle.std.proofs.Common.{◌≡◌, Bool, true, false, not, Decides, Option, Some, None, refl, sym, ap, ◌∙◌, true≢false}
 use Rattle.std.specs.Bool.{OnFalse, OnTrue}
 use Rattle.std.proofs.lemmas.Bool.{OnFalse_from, OnTrue_from}
-use Rattle.std.specs.Cmp.{booleans_Decides}
+use Rattle.std.specs.Cmp.{policies_decide}
 use Rattle.std.specs.Option.{option_eq}
 use Rattle.std.proofs.lemmas.Bool.Decides.{Decides-eqb, Decides-int_eq, Decides-and, Decides-like}
 use Rattle.cfs_model.proofs.Deciding.{place_decides}
@@ -16,14 +16,14 @@ ticket_decides a b =
       line = h.0 i;
       pid = h.1.0 i;
       nice = h.1.1.0 i;
-      idle = h.1.1.1.0 i;
+      policy = h.1.1.1.0 i;
       place = h.1.1.1.1.0 i;
       offset =
           h.1.1.1.1.1 i;
     })
     (λ e. (cc, (cc, (cc, (cc, (cc, cc))))))
     (Decides-and _ _ (Decides-eqb a.line b.line) (Decides-and _ _ (Decides-eqb a.pid b.pid)
-    (Decides-and _ _ (Decides-int_eq a.nice b.nice) (Decides-and _ _ (booleans_Decides a.idle b.idle)
+    (Decides-and _ _ (Decides-int_eq a.nice b.nice) (Decides-and _ _ (policies_decide a.policy b.policy)
     (Decides-and _ _ (place_decides a.place b.place) (Decides-int_eq a.offset b.offset))))))
 
 pub tickets_decide : (a b : Option Ticket) → Decides (option_eq (ticket_eq.ghosts).eq a b) (a ≡ b)

@@ -23,22 +23,22 @@ set_elsewhere (y ∷ ys) (suc i) zero x ne = refl
 set_elsewhere (y ∷ ys) (suc i) (suc j) x ne = set_elsewhere ys i j x (λ e. ne (ap suc e))
 
 -- one more step at a processor that has a cursor
-pub followed_here : (places : List (Option ReplayView)) (cursors : List Cursor) (cpu : ℕ) (steps dealt : List Step)
+pub followed_here : (slots : List (Option ReplayView)) (cursors : List Cursor) (cpu : ℕ) (steps dealt : List Step)
     (start new : Cursor) (step : Step)
-    → steps ≡ steps_in (page_at places cpu) → cpu < length cursors
+    → steps ≡ steps_in (page_at slots cpu) → cpu < length cursors
     → (IsCursor steps dealt (get_or cursors cpu start) → IsCursor steps (dealt ++ step ∷ []) new)
-    → IsFollowed places cursors cpu dealt → IsFollowed places (set cursors cpu new) cpu (dealt ++ step ∷ [])
-followed_here places cursors cpu steps dealt start new step same h after followed cursor e =
+    → IsFollowed slots cursors cpu dealt → IsFollowed slots (set cursors cpu new) cpu (dealt ++ step ∷ [])
+followed_here slots cursors cpu steps dealt start new step same h after followed cursor e =
     let is : new ≡ cursor = same_Some new cursor (sym (set_here cursors cpu new h) ∙ e) in
-    let before : IsCursor (steps_in (page_at places cpu)) dealt (get_or cursors cpu start) =
+    let before : IsCursor (steps_in (page_at slots cpu)) dealt (get_or cursors cpu start) =
     followed (get_or cursors cpu start) (slice_get-get_or cursors cpu start h) in
     let now : IsCursor steps (dealt ++ step ∷ []) new =
     after (subst (λ (s : List Step). IsCursor s dealt (get_or cursors cpu start)) (sym same) before) in
-    subst (λ (c : Cursor). IsCursor (steps_in (page_at places cpu)) (dealt ++ step ∷ []) c) is
+    subst (λ (c : Cursor). IsCursor (steps_in (page_at slots cpu)) (dealt ++ step ∷ []) c) is
     (subst (λ (s : List Step). IsCursor s (dealt ++ step ∷ []) new) same now)
 
 -- a processor without a cursor
-pub followed_past : (places : List (Option ReplayView)) (cursors : List Cursor) (cpu : ℕ) (dealt : List Step)
+pub followed_past : (slots : List (Option ReplayView)) (cursors : List Cursor) (cpu : ℕ) (dealt : List Step)
     → length cursors ≤ cpu
-    → IsFollowed places cursors cpu dealt
-followed_past places cursors cpu dealt past cursor e = absurd (let none = slice_get_past cursors cpu past in cc)
+    → IsFollowed slots cursors cpu dealt
+followed_past slots cursors cpu dealt past cursor e = absurd (let none = slice_get_past cursors cpu past in cc)

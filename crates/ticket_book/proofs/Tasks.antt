@@ -34,11 +34,11 @@ tasks_more cpu tasks i task b h is here =
     ∙ ap (λ c. tasks_at cpu (take i tasks) ++ cond c (task ∷ []) []) here
 
 -- one that differs, or that is one too many
-pub tasks_differ : (cpu : ℕ) (tasks here : List Task) (i place : ℕ) (task : Task) → i < length tasks
+pub tasks_differ : (cpu : ℕ) (tasks here : List Task) (i index : ℕ) (task : Task) → i < length tasks
     → task ≡ get_or tasks i task
-    → eqb task.cpu cpu ≡ true → place ≡ length (tasks_at cpu (take i tasks))
-    → (place < length here → get_or here place task ≡ task → ⊥) → here ≢ tasks_at cpu tasks
-tasks_differ cpu tasks here i place task h is stands count differs same =
+    → eqb task.cpu cpu ≡ true → index ≡ length (tasks_at cpu (take i tasks))
+    → (index < length here → get_or here index task ≡ task → ⊥) → here ≢ tasks_at cpu tasks
+tasks_differ cpu tasks here i index task h is stands count differs same =
     let front = tasks_at cpu (take i tasks) in
     let rest = tasks_at cpu (drop (i + 1) tasks) in
     let all : here ≡ (front ++ task ∷ []) ++ rest =
@@ -47,33 +47,33 @@ tasks_differ cpu tasks here i place task h is stands count differs same =
     ∙ ap (λ ts. ts ++ rest) (tasks_more cpu tasks i task true h is stands) in
     let pushed = length_push front task in
     let long = ap length all ∙ length-append (front ++ task ∷ []) rest in
-    let within : place < length (front ++ task ∷ []) = omega (arith, pushed, count) in
+    let within : index < length (front ++ task ∷ []) = omega (arith, pushed, count) in
     differs (omega (arith, pushed, count, long))
-    (ap (λ ts. get_or ts place task) all ∙ get_or_append_left (front ++ task ∷ []) rest task place within
-    ∙ get_or_push front task task place (sym count))
+    (ap (λ ts. get_or ts index task) all ∙ get_or_append_left (front ++ task ∷ []) rest task index within
+    ∙ get_or_push front task task index (sym count))
 
 -- a walk of the tasks has come to so many of those there
-pub record HasWalked (cpu : ℕ) (tasks here : List Task) (place : ℕ) : Type 0 where
-  pub within : place ≤ length here
-  pub count : place ≡ length (tasks_at cpu tasks)
-  pub same : tasks_at cpu tasks ≡ take place here
+pub record HasWalked (cpu : ℕ) (tasks here : List Task) (index : ℕ) : Type 0 where
+  pub within : index ≤ length here
+  pub count : index ≡ length (tasks_at cpu tasks)
+  pub same : tasks_at cpu tasks ≡ take index here
 
 -- one that stands there, and is the same
-pub walked_here : (cpu : ℕ) (tasks here : List Task) (i place : ℕ) (task : Task) → i < length tasks
+pub walked_here : (cpu : ℕ) (tasks here : List Task) (i index : ℕ) (task : Task) → i < length tasks
     → task ≡ get_or tasks i task
-    → eqb task.cpu cpu ≡ true → HasWalked cpu (take i tasks) here place → place < length here
-    → get_or here place task ≡ task
-    → HasWalked cpu (take (i + 1) tasks) here (place + 1)
-walked_here cpu tasks here i place task h is stands walked more equal =
+    → eqb task.cpu cpu ≡ true → HasWalked cpu (take i tasks) here index → index < length here
+    → get_or here index task ≡ task
+    → HasWalked cpu (take (i + 1) tasks) here (index + 1)
+walked_here cpu tasks here i index task h is stands walked more equal =
     let front = tasks_at cpu (take i tasks) in
-    let next = keeps_up here front place task walked.count walked.same more equal in
+    let next = keeps_up here front index task walked.count walked.same more equal in
     let push = tasks_more cpu tasks i task true h is stands in
     record { within = omega (arith, more); count = next.0 ∙ ap length (sym push); same = push ∙ next.1 }
 
 -- one that stands elsewhere
-pub walked_past : (cpu : ℕ) (tasks here : List Task) (i place : ℕ) (task : Task) → i < length tasks
+pub walked_past : (cpu : ℕ) (tasks here : List Task) (i index : ℕ) (task : Task) → i < length tasks
     → task ≡ get_or tasks i task
-    → eqb task.cpu cpu ≡ false → HasWalked cpu (take i tasks) here place → HasWalked cpu (take (i + 1) tasks) here place
-walked_past cpu tasks here i place task h is stands walked =
+    → eqb task.cpu cpu ≡ false → HasWalked cpu (take i tasks) here index → HasWalked cpu (take (i + 1) tasks) here index
+walked_past cpu tasks here i index task h is stands walked =
     let same = tasks_more cpu tasks i task false h is stands ∙ append-nil (tasks_at cpu (take i tasks)) in
     record { within = walked.within; count = walked.count ∙ ap length (sym same); same = same ∙ walked.same }

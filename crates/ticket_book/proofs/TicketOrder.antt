@@ -5,7 +5,7 @@ use Rattle.std.proofs.Common.{None, inl, inr, List, [], ◌∷◌, ◌++◌, len
 use Rattle.std.specs.Prelude.{slice_get}
 use Rattle.std.specs.List.{AllByRecursion, AllPairs}
 use Rattle.std.proofs.lemmas.List.Elements.{All-from_recursion}
-use Rattle.cfs_model.specs.Settings.{Settings}
+use Rattle.cfs_model.specs.Knobs.{KnobsView}
 use Rattle.replay_model.specs.Cut.{StreamView}
 use Rattle.replay_model.specs.Noted.{PageView}
 use Rattle.replay_model.specs.Page.{ReplayStateView, IsStartOf, IsReplayStep, IsReplay, IsPageOf, end_page}
@@ -92,7 +92,7 @@ module _ (tickets : PageView → List Ticket) (by : Part → Step → List Ticke
     all_map (λ t. t.line ≤ line) (λ t. t.line ≤ later) (λ t h. omega arith) (tickets page) keep.1,
   )
 
-  one_step : (knobs : Settings) (cpu line : ℕ) (o : Option StepFault) (before : ReplayStateView) (step : Step)
+  one_step : (knobs : KnobsView) (cpu line : ℕ) (o : Option StepFault) (before : ReplayStateView) (step : Step)
       (after : ReplayStateView) → line ≤ step.line → IsReplayStep knobs cpu o before step after → Keep line before.page
       → Keep step.line after.page
   one_step knobs cpu line (Some fault) before step after le same keep =
@@ -113,7 +113,7 @@ module _ (tickets : PageView → List Ticket) (by : Part → Step → List Ticke
             (by passes.found step) same),
       )
 
-  rise_by_steps : (knobs : Settings) (cpu line : ℕ) (before : ReplayStateView) (steps : List Step)
+  rise_by_steps : (knobs : KnobsView) (cpu line : ℕ) (before : ReplayStateView) (steps : List Step)
       (end : ReplayStateView)
       → StepsFrom line steps → IsReplay knobs cpu before steps end → Keep line before.page
       → LinesNeverFall (tickets end.page)
@@ -144,7 +144,7 @@ module _ (tickets : PageView → List Ticket) (by : Part → Step → List Ticke
       go true = kept page _
       go false = refl
 
-  rise_on : (stream : StreamView) (knobs : Settings) (made : ℕ) (page : PageView) → StepsFrom 0 stream.steps
+  rise_on : (stream : StreamView) (knobs : KnobsView) (made : ℕ) (page : PageView) → StepsFrom 0 stream.steps
       → ((start : PageView) → tickets start ≡ [] → Keep 0 start)
       → ((s : ReplayStateView) → IsStartOf stream s → tickets s.page ≡ [])
       → IsPageOf stream knobs made page → LinesNeverFall (tickets page)

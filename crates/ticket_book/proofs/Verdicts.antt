@@ -6,7 +6,7 @@ use Rattle.std.specs.List.{AllPairs}
 use Rattle.std.proofs.lemmas.List.{length-map}
 use Rattle.std.proofs.lemmas.Option.{slice_get_within}
 use Rattle.cfs_model.specs.Claimed.{with_claim}
-use Rattle.cfs_model.specs.Settings.{Settings}
+use Rattle.cfs_model.specs.Knobs.{KnobsView}
 use Rattle.cfs_model.specs.declared.act.Entry.{Entry}
 use Rattle.cfs_model.specs.Start.{start_machine}
 use Rattle.replay_model.specs.Cause.{IsFirstFault}
@@ -24,7 +24,7 @@ use Rattle.replay_model.proofs.RecordFrom.{record_from}
 use Rattle.replay_model.proofs.StartFrom.{start_from}
 use Rattle.queue_replay.specs.Replay.{ReplayView}
 use Rattle.sched_record.specs.RecordView.{policy_of}
-use Rattle.sched_record.proofs.Shares.{share_of_record}
+use Rattle.sched_record.proofs.StreamsKept.{stream_of_record}
 use Rattle.sched_record.specs.Record.{RecordView, IsRecordInOrder, record_last_line, record_last_time}
 use Rattle.sched_record.specs.Stream.{cut_of}
 use Rattle.ticket_book.specs.SaidEvents.{events_of}
@@ -50,7 +50,7 @@ record_in_order r o =
     (λ k d h. (o.companion.tasks_in_limits k d h).cpu) o.inside (λ k d h. (o.companion.claims_in_limits k d h).v)
     o.events.never_falls o.started o.events.lines_rise o.events.from_one
 
--- the page at a place
+-- the page at an index
 pub page_there : (pages : List ReplayView) (cpu : ℕ) → cpu < length pages
     → (page : ReplayView) × (slice_get pages cpu ≡ Some page) × (view_at pages cpu ≡ page.page)
 page_there [] cpu h = absurd (omega arith)
@@ -58,7 +58,7 @@ page_there (page ∷ pages) zero h = (page, refl, refl)
 page_there (page ∷ pages) (suc cpu) h = page_there pages cpu (omega arith)
 
 -- a page that suffices, as the laws of the closing take it
-abbrev pub suffices_among : (knobs : Settings) (r : RecordView) (pages : List ReplayView) (cpu : ℕ) (page : ReplayView)
+abbrev pub suffices_among : (knobs : KnobsView) (r : RecordView) (pages : List ReplayView) (cpu : ℕ) (page : ReplayView)
     → SufficesBeside knobs r pages cpu page → view_at pages cpu ≡ page.page
     → SufficesAmong knobs r.start r.floors r.tasks (events_of r) (length pages) (view_at pages) cpu
 suffices_among knobs r pages cpu page s is = record {
@@ -70,7 +70,7 @@ suffices_among knobs r pages cpu page s is = record {
       ⊎ HasFaultBy (view_at pages) (length pages) v.line) (sym is) s.enough;
 }
 
-module _ (knobs : Settings) (r : RecordView) (pages : List ReplayView) (sufficient : AreSufficient knobs r pages) where
+module _ (knobs : KnobsView) (r : RecordView) (pages : List ReplayView) (sufficient : AreSufficient knobs r pages) where
   -- each processor's page suffices
   abbrev pub AreTold : Type 0
   AreTold = (cpu : ℕ) → cpu < length pages
@@ -138,6 +138,6 @@ module _ (knobs : Settings) (r : RecordView) (pages : List ReplayView) (sufficie
         is_page = (sufficient.each cpu page is).is_page;
         lines = subst (λ (s : StreamView). AllPairs (λ a b. a.line < b.line) s.steps)
             (sym (sufficient.each cpu page is).stream)
-            (share_of_record r cpu o (let h = slice_get_within pages cpu page is in let n = sufficient.count in
+            (stream_of_record r cpu o (let h = slice_get_within pages cpu page is in let n = sufficient.count in
             omega arith)).lines_rise;
       })

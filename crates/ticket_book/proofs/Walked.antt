@@ -24,7 +24,7 @@ use Rattle.ticket_book.specs.Idling.{NoneFirst}
 use Rattle.ticket_book.specs.Told.{Allow, TellFault, view_at}
 use Rattle.ticket_book.specs.Walk.{AreBehind, StandsAt}
 use Rattle.ticket_book.specs.declared.walk.Walk.{Walk}
-use Rattle.ticket_book.proofs.Standing.{stands_later}
+use Rattle.ticket_book.proofs.WalkKept.{stands_later}
 
 -- how far a walk has come
 pub record HasCome (pages : List ReplayView) (tasks : List Task) (claims : List Claim) (nices : List NiceLine)

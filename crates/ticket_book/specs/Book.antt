@@ -16,29 +16,29 @@ abbrev pub line_of_fault : Option StepFault → ℕ
 line_of_fault None = no_fault
 line_of_fault (Some fault) = fault.line
 
--- the line of the fault of the page at a place, if there is a page and it has a fault
-abbrev pub place_line : Option ReplayView → ℕ
-place_line None = no_fault
-place_line (Some page) = line_of_fault page.page.fault
+-- the line of the fault of the page at a slot, if there is a page and it has a fault
+abbrev pub slot_line : Option ReplayView → ℕ
+slot_line None = no_fault
+slot_line (Some page) = line_of_fault page.page.fault
 
--- the least line of a fault on the pages at some places
+-- the least line of a fault on the pages at some slots
 abbrev pub least_line : List (Option ReplayView) → ℕ
 least_line [] = no_fault
-least_line (place ∷ places) = min (place_line place) (least_line places)
+least_line (slot ∷ slots) = min (slot_line slot) (least_line slots)
 
--- the page at the place of a processor, if there is one; behind the last there is none
+-- the page at the slot of a processor, if there is one; behind the last there is none
 abbrev pub page_at : List (Option ReplayView) → ℕ → Option ReplayView
-page_at places cpu = slice_index_or places cpu None
+page_at slots cpu = slice_index_or slots cpu None
 
--- what every book keeps: it has a place for each of its processors, where a page of that processor alone can stand, and
+-- what every book keeps: it has a slot for each of its processors, where a page of that processor alone can stand, and
 -- the least line is the one over its pages
-pub record IsBook (places : List (Option ReplayView)) (least : ℕ) : Type 0 where
-  pub some : 0 < length places
-  pub at_most : length places ≤ most_processors
-  pub own : (cpu : ℕ) (page : ReplayView) → page_at places cpu ≡ Some page → page.stream.cpu ≡ cpu
-  pub least_is : least ≡ least_line places
+pub record IsBook (slots : List (Option ReplayView)) (least : ℕ) : Type 0 where
+  pub some : 0 < length slots
+  pub at_most : length slots ≤ most_processors
+  pub own : (cpu : ℕ) (page : ReplayView) → page_at slots cpu ≡ Some page → page.stream.cpu ≡ cpu
+  pub least_is : least ≡ least_line slots
 
--- why no page can be posted to a place, if so: there is no such place, or it has a page
+-- why no page can be posted to a slot, if so: there is no such slot, or it has a page
 abbrev pub refusal_at : Option (Option ReplayView) → Option PostFault
 refusal_at None = Some Outside
 refusal_at (Some (Some page)) = Some Twice
@@ -46,7 +46,7 @@ refusal_at (Some None) = None
 
 -- why a page of a processor can't be posted, if so
 abbrev pub post_refusal : List (Option ReplayView) → ℕ → Option PostFault
-post_refusal places cpu = refusal_at (slice_get places cpu)
+post_refusal slots cpu = refusal_at (slice_get slots cpu)
 
 -- why a post was refused, if it was
 abbrev pub refusal_in : Result ℕ (ReplayView × PostFault) → Option PostFault

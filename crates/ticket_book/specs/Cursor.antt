@@ -8,21 +8,21 @@ use Rattle.ticket_book.specs.Book.{page_at}
 use Rattle.ticket_book.specs.declared.cursor.Cursor.{Cursor}
 use Rattle.ticket_book.specs.declared.cursor.Cursor.TheVariants.{At, Apart}
 
--- the steps of the page at a place; where there is no page there are none
+-- the steps of the page at an index; where there is no page there are none
 abbrev pub steps_in : Option ReplayView → List Step
 steps_in None = []
 steps_in (Some page) = page.stream.steps
 
--- the steps dealt so far are the first of these, up to the place; or they aren't the first of these
+-- the steps dealt so far are the first of these, up to the index; or they aren't the first of these
 abbrev pub IsCursor : List Step → List Step → Cursor → Type 0
-IsCursor steps dealt (At place) = (place ≡ length dealt) × (dealt ≡ take place steps)
+IsCursor steps dealt (At index) = (index ≡ length dealt) × (dealt ≡ take index steps)
 IsCursor steps dealt Apart = dealt ≢ take (length dealt) steps
 
--- the cursor of a processor, if it has one, is that of the page at its place
+-- the cursor of a processor, if it has one, is that of the page at its index
 abbrev pub IsFollowed : List (Option ReplayView) → List Cursor → ℕ → List Step → Type 0
-IsFollowed places cursors cpu dealt =
-    (cursor : Cursor) → slice_get cursors cpu ≡ Some cursor → IsCursor (steps_in (page_at places cpu)) dealt cursor
+IsFollowed slots cursors cpu dealt =
+    (cursor : Cursor) → slice_get cursors cpu ≡ Some cursor → IsCursor (steps_in (page_at slots cpu)) dealt cursor
 
 -- so is each, with these events dealt
 abbrev pub AreFollowed : List (Option ReplayView) → List Cursor → List Claimed → Type 0
-AreFollowed places cursors events = (cpu : ℕ) → IsFollowed places cursors cpu (steps_at cpu events)
+AreFollowed slots cursors events = (cpu : ℕ) → IsFollowed slots cursors cpu (steps_at cpu events)

@@ -1,6 +1,6 @@
 -- The least settings of a record: the second headline (this project's profile). What they are is said by cfs_model.
 use Rattle.cfs_model.specs.Least.{AreLeast, IsFirstBadAtAll, greatest_settings}
-use Rattle.cfs_model.specs.Settings.{AreInRange}
+use Rattle.cfs_model.specs.Knobs.{AreInRange}
 use Rattle.cfs_model.specs.Start.{start_machine}
 use Rattle.sched_record.specs.Record.{RecordView}
 use Rattle.ticket_book.specs.SaidEvents.{events_of}

@@ -18,7 +18,7 @@ pub mod NeedsOfPages
 pub mod Same
 pub mod SummaryView
 pub mod Tallying
-pub mod TicketPlaces
+pub mod TicketIndices
 pub mod Told
 pub mod Verdict
 pub mod Walk

@@ -1,12 +1,12 @@
 -- What the pages of a record's processors need of the settings (this project's profile).
 use Rattle.std.specs.Prelude.{◌≡◌, ℕ, zero, suc, Some, List, [], ◌∷◌, slice_get}
-use Rattle.cfs_model.specs.Settings.{Settings}
+use Rattle.cfs_model.specs.Knobs.{KnobsView}
 use Rattle.queue_replay.specs.Needing.{HasNeeds}
 use Rattle.queue_replay.specs.Replay.{ReplayView}
 use Rattle.replay_model.specs.Needs.{only_slack}
 
 -- the needs on the page of a processor, of some pages in the order of their numbers; none behind the last
-abbrev pub needs_at : List ReplayView → ℕ → Settings
+abbrev pub needs_at : List ReplayView → ℕ → KnobsView
 needs_at [] cpu = only_slack 0
 needs_at (page ∷ pages) zero = page.needs
 needs_at (page ∷ pages) (suc cpu) = needs_at pages cpu

@@ -1,7 +1,7 @@
 -- A record has one verdict, and one answer of its least settings (this project's profile).
 use Rattle.std.specs.Prelude.{◌≡◌}
 use Rattle.cfs_model.specs.Order.{IsStart}
-use Rattle.cfs_model.specs.Settings.{Settings}
+use Rattle.cfs_model.specs.Knobs.{KnobsView}
 use Rattle.replay_model.specs.Summary.{SummaryView}
 use Rattle.replay_model.specs.declared.first_fault.FirstFault.{FirstFault}
 use Rattle.sched_record.specs.Record.{RecordView}
@@ -25,12 +25,12 @@ verdict_view (Run summary) = ran (summary_view summary)
 verdict_view (Fault fault) = faulted fault
 
 -- each verdict on the record tells what this one tells
-abbrev pub IsOneVerdict : Settings → RecordView → Verdict → Type 0
+abbrev pub IsOneVerdict : KnobsView → RecordView → Verdict → Type 0
 IsOneVerdict knobs r verdict = (other : Verdict) → IsVerdict knobs r other → verdict_view verdict ≡ verdict_view other
 
 -- two verdicts on one record, by the same settings, tell the same, the summary included
 abbrev pub OneVerdict : Type 0
-OneVerdict = (knobs : Settings) (r : RecordView) (verdict : Verdict) → IsStart r.floors r.tasks
+OneVerdict = (knobs : KnobsView) (r : RecordView) (verdict : Verdict) → IsStart r.floors r.tasks
     → IsVerdict knobs r verdict → IsOneVerdict knobs r verdict
 
 -- two answers of one record's least settings are the same

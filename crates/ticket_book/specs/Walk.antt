@@ -11,7 +11,7 @@ use Rattle.replay_model.specs.declared.page.StepFault.{StepFault}
 use Rattle.replay_model.specs.declared.page.Ticket.{Ticket}
 use Rattle.queue_replay.specs.Replay.{ReplayView}
 use Rattle.ticket_book.specs.Idling.{NoneFirst}
-use Rattle.ticket_book.specs.TicketPlaces.{AreBelow}
+use Rattle.ticket_book.specs.TicketIndices.{AreBelow}
 use Rattle.ticket_book.specs.Told.{view_at}
 use Rattle.replay_model.specs.declared.first_fault.FirstFault.{FirstFault}
 use Rattle.ticket_book.specs.declared.walk.Walk.{Walk}
@@ -21,12 +21,12 @@ pub record TicketsRise (pages : List ReplayView) : Type 0 where
   pub left : (cpu : ℕ) → AllPairs (λ t u. t.line ≤ u.line) (view_at pages cpu).left
   pub came : (cpu : ℕ) → AllPairs (λ t u. t.line ≤ u.line) (view_at pages cpu).came
 
--- a place in each processor's tickets: those before it are of lines below this one
+-- an index in each processor's tickets: those before it are of lines below this one
 pub record AreBehind (tickets : PageView → List Ticket) (pages : List ReplayView) (line : ℕ)
-    (places : List ℕ) : Type 0 where
-  pub count : length places ≡ length pages
+    (indices : List ℕ) : Type 0 where
+  pub count : length indices ≡ length pages
   pub below : (cpu : ℕ) → cpu < length pages
-      → AreBelow line (take (slice_index places cpu) (tickets (view_at pages cpu)))
+      → AreBelow line (take (slice_index indices cpu) (tickets (view_at pages cpu)))
 
 -- the walk stands before an event on this line
 pub record StandsAt (pages : List ReplayView) (line : ℕ) (walk : Walk) : Type 0 where

@@ -19,10 +19,10 @@ pub const NO_FAULT: u64 = u64::MAX;
 /// The pages of a record's processors, at most one for each.
 #[derive(Debug, Drop)]
 pub struct Book {
-    places: Vec<Option<Page>>,
+    slots: Vec<Option<Page>>,
     least: u64,
     hasher: PidHasher,
-    pub ghost kept: { IsBook places.items least },
+    pub ghost kept: { IsBook slots.items least },
 }
 
 impl Book {
@@ -51,12 +51,12 @@ impl Book {
         requires at_most { cpus ≤ most_processors }
         ensures { IfOk result (λ book. book_view book ≡ replicate cpus None) }
     {
-        let mut places = Vec::with_capacity(alloc, cpus as usize)?;
+        let mut slots = Vec::with_capacity(alloc, cpus as usize)?;
         for _cpu in 0..cpus {
-            places.push(None)?;
+            slots.push(None)?;
         }
         Ok(Book {
-            places,
+            slots,
             least: NO_FAULT,
             hasher,
         })
@@ -76,7 +76,7 @@ impl Book {
             return Err((page, fault));
         }
         self.least = self.least.min(line_of_fault(page.fault()));
-        self.places[cpu as usize] = Some(page);
+        self.slots[cpu as usize] = Some(page);
         Ok(self.least)
     }
 
@@ -84,7 +84,7 @@ impl Book {
     fn refusal(&self, cpu: u32) -> Option<PostFault>
         ensures { result ≡ post_refusal (book_view self.now) cpu }
     {
-        match self.places.get(cpu as usize) {
+        match self.slots.get(cpu as usize) {
             None => Some(PostFault::Outside),
             Some(Some(_)) => Some(PostFault::Twice),
             Some(None) => None,
@@ -107,7 +107,7 @@ impl Book {
         ensures nothing_remade { IfOk result (λ closed. AreLeft knobs (record_view joined.now) (book_view self)
             → closed.remade ≡ 0) }
     {
-        let alloc = *self.places.allocator();
+        let alloc = *self.slots.allocator();
         let hasher = self.hasher;
         let (pages, remade) = sufficing_pages(alloc, self, joined, knobs, hasher)?;
         let verdict = verdict_on(alloc, &pages, joined, knobs, hasher)?;
@@ -125,7 +125,7 @@ impl Book {
             → closed.remade ≡ 0) }
         ensures few { IfOk result (λ closed. closed.remade ≤ (record_view joined.now).cpus) }
     {
-        let alloc = *self.places.allocator();
+        let alloc = *self.slots.allocator();
         let hasher = self.hasher;
         let (pages, remade) = sufficing_own_pages(alloc, self, joined, knobs, hasher)?;
         Ok(Closed {
@@ -145,18 +145,18 @@ impl Book {
             (λ closed. AreLeft greatest_settings (record_view joined.now) (book_view self) → closed.remade ≡ 0) }
         ensures few { IfOk result (λ closed. closed.remade ≤ (record_view joined.now).cpus) }
     {
-        let alloc = *self.places.allocator();
+        let alloc = *self.slots.allocator();
         let hasher = self.hasher;
         let (pages, remade) = sufficing_own_pages(alloc, self, joined, Knobs::greatest(), hasher)?;
         let least = least_on(alloc, &pages, joined)?;
         Ok(ClosedLeast { least, remade })
     }
 
-    /// The places of the book's processors.
-    pub(crate) fn into_places(self) -> Vec<Option<Page>>
+    /// The slots of the book's processors.
+    pub(crate) fn into_slots(self) -> Vec<Option<Page>>
         ensures { result.items ≡ book_view self }
     {
-        self.places
+        self.slots
     }
 }
 

@@ -20,9 +20,9 @@ impl Cursor {
         ensures { (dealt : List Step) → IsCursor steps.now dealt self → IsCursor steps.now (dealt ++ step ∷ []) result }
     {
         match self {
-            Cursor::At(place) => {
-                if place < steps.len() && steps[place] == step {
-                    Cursor::At(place + 1)
+            Cursor::At(index) => {
+                if index < steps.len() && steps[index] == step {
+                    Cursor::At(index + 1)
                 } else {
                     Cursor::Apart
                 }
@@ -36,7 +36,7 @@ impl Cursor {
         ensures { (dealt : List Step) → IsCursor steps.now dealt self → IsTrue result ↔ (steps.now ≡ dealt) }
     {
         match self {
-            Cursor::At(place) => place == steps.len(),
+            Cursor::At(index) => index == steps.len(),
             Cursor::Apart => false,
         }
     }

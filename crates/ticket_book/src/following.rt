@@ -16,26 +16,26 @@ use replay_model::Step;
 use sched_record::{Record, step_at};
 use std::alloc::Global;
 
-/// For each of the record's processors the cursor of the page at its place, with all events dealt.
+/// For each of the record's processors the cursor of the page at its index, with all events dealt.
 pub(crate) fn cursors_of(
     alloc: Global,
-    places: &[Option<Page>],
+    slots: &[Option<Page>],
     joined: &Record,
 ) -> Result<Vec<Cursor>, Memory>
     ensures count { IfOk result (λ cursors. vec_len cursors ≡ (record_view joined.now).cpus) }
-    ensures followed { IfOk result (λ cursors. AreFollowed places.now cursors.items
+    ensures followed { IfOk result (λ cursors. AreFollowed slots.now cursors.items
         (events_of (record_view joined.now))) }
 {
     let mut cursors = Vec::from_elem(alloc, Cursor::At(0), joined.cpus() as usize)?;
-    let mut claim_place = 0;
-    let mut nice_place = 0;
+    let mut claim_index = 0;
+    let mut nice_index = 0;
     for (index, event) in joined.events().iter().enumerate() {
-        let (claim, next_claim) = joined.claim_beside(index, claim_place);
-        let (nice, next_nice) = joined.nice_beside(index, nice_place);
-        let idle = joined.policy_at(index);
-        follow(&mut cursors, places, event, claim, &nice, idle);
-        claim_place = next_claim;
-        nice_place = next_nice;
+        let (claim, next_claim) = joined.claim_beside(index, claim_index);
+        let (nice, next_nice) = joined.nice_beside(index, nice_index);
+        let policy = joined.policy_at(index);
+        follow(&mut cursors, slots, event, claim, &nice, policy);
+        claim_index = next_claim;
+        nice_index = next_nice;
     }
     Ok(cursors)
 }
@@ -44,42 +44,42 @@ pub(crate) fn cursors_of(
 /// bears or moves.
 fn follow(
     cursors: &mut [Cursor],
-    places: &[Option<Page>],
+    slots: &[Option<Page>],
     event: &Entry,
     claim: Option<Claim>,
     nice: &Option<NiceLine>,
-    idle: bool,
+    policy: Policy,
 )
-    ensures { (events : List Claimed) → AreFollowed places.now cursors.old events
-        → AreFollowed places.now cursors.new
-        (events ++ record { entry = event.now; claim = claim; nice = nice.now; idle = idle } ∷ []) }
+    ensures { (events : List Claimed) → AreFollowed slots.now cursors.old events
+        → AreFollowed slots.now cursors.new
+        (events ++ record { entry = event.now; claim = claim; nice = nice.now; policy = policy } ∷ []) }
 {
     let (first, second) = event.act.ends();
-    let step = step_at(*event, claim, *nice, idle, first);
-    follow_at(cursors, places, first, step);
+    let step = step_at(*event, claim, *nice, policy, first);
+    follow_at(cursors, slots, first, step);
     if second != first {
-        let step = step_at(*event, claim, *nice, idle, second);
-        follow_at(cursors, places, second, step);
+        let step = step_at(*event, claim, *nice, policy, second);
+        follow_at(cursors, slots, second, step);
     }
 }
 
 /// Deals one more step to a processor.
-fn follow_at(cursors: &mut [Cursor], places: &[Option<Page>], cpu: u32, step: Step)
-    ensures here { (dealt : List Step) → IsFollowed places.now cursors.old cpu dealt
-        → IsFollowed places.now cursors.new cpu (dealt ++ step ∷ []) }
+fn follow_at(cursors: &mut [Cursor], slots: &[Option<Page>], cpu: u32, step: Step)
+    ensures here { (dealt : List Step) → IsFollowed slots.now cursors.old cpu dealt
+        → IsFollowed slots.now cursors.new cpu (dealt ++ step ∷ []) }
     ensures others { (other : ℕ) → other ≢ cpu → slice_get cursors.new other ≡ slice_get cursors.old other }
 {
-    let place = cpu as usize;
-    if place < cursors.len() {
-        cursors[place] = cursors[place].after(steps_of(places, cpu), step);
+    let index = cpu as usize;
+    if index < cursors.len() {
+        cursors[index] = cursors[index].after(steps_of(slots, cpu), step);
     }
 }
 
 /// The steps of a processor's page, none where it has no page.
-fn steps_of(places: &[Option<Page>], cpu: u32) -> &[Step]
-    ensures { result.now ≡ steps_in (page_at places.now cpu) }
+fn steps_of(slots: &[Option<Page>], cpu: u32) -> &[Step]
+    ensures { result.now ≡ steps_in (page_at slots.now cpu) }
 {
-    match places.get(cpu as usize) {
+    match slots.get(cpu as usize) {
         Some(Some(page)) => page.stream().steps(),
         _ => &[],
     }

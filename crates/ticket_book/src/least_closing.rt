@@ -1,7 +1,7 @@
 //! The least settings of a record, by its processors' pages at the greatest settings.
 ghost use Rattle.std.specs.Prelude.{◌≡◌, IfOk, length};
 ghost use Rattle.cfs_model.specs.Least.{greatest_settings};
-ghost use Rattle.cfs_model.specs.Settings.{AreInRange};
+ghost use Rattle.cfs_model.specs.Knobs.{AreInRange};
 ghost use Rattle.replay_model.specs.Needs.{largest};
 ghost use Rattle.sched_record.specs.Record.{record_view};
 ghost use Rattle.ticket_book.specs.LeastAnswer.{IsLeastAnswer};

@@ -22,7 +22,7 @@ mod remaking;
 mod summary;
 mod summing;
 mod task_sums;
-mod ticket_places;
+mod ticket_indices;
 mod verdict;
 mod walk;
 

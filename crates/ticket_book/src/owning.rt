@@ -14,40 +14,40 @@ use queue_replay::Page;
 use sched_record::Record;
 use std::alloc::Global;
 
-/// For each of the record's processors whether the page at its place is of the record's stream for it, with these
+/// For each of the record's processors whether the page at its slot is of the record's stream for it, with these
 /// settings.
-pub(crate) fn own_places(
+pub(crate) fn own_slots(
     alloc: Global,
-    places: &[Option<Page>],
+    slots: &[Option<Page>],
     joined: &Record,
     knobs: Knobs,
 ) -> Result<Vec<bool>, Memory>
     ensures count { IfOk result (λ own. vec_len own ≡ (record_view joined.now).cpus) }
-    ensures told { IfOk result (λ own. AreToldOwn knobs (record_view joined.now) places.now own.items) }
+    ensures told { IfOk result (λ own. AreToldOwn knobs (record_view joined.now) slots.now own.items) }
 {
-    let cursors = cursors_of(alloc, places, joined)?;
+    let cursors = cursors_of(alloc, slots, joined)?;
     let mut own = Vec::with_capacity(alloc, joined.cpus() as usize)?;
     for cpu in 0..joined.cpus() {
-        own.push(is_own_at(places, joined, cpu, knobs, cursors[cpu as usize]))?;
+        own.push(is_own_at(slots, joined, cpu, knobs, cursors[cpu as usize]))?;
     }
     Ok(own)
 }
 
-/// Whether the page at a processor's place is of the record's stream for it, with these settings. The cursor is that of
+/// Whether the page at a processor's slot is of the record's stream for it, with these settings. The cursor is that of
 /// the page's stream, with all events dealt.
 fn is_own_at(
-    places: &[Option<Page>],
+    slots: &[Option<Page>],
     joined: &Record,
     cpu: u32,
     knobs: Knobs,
     cursor: Cursor,
 ) -> bool
     requires below { cpu < (record_view joined.now).cpus }
-    requires followed { IsCursor (steps_in (page_at places.now cpu))
+    requires followed { IsCursor (steps_in (page_at slots.now cpu))
         (cut_of (record_view joined.now) cpu).steps cursor }
-    ensures { IsToldOwn knobs (record_view joined.now) cpu (page_at places.now cpu) result }
+    ensures { IsToldOwn knobs (record_view joined.now) cpu (page_at slots.now cpu) result }
 {
-    match places.get(cpu as usize) {
+    match slots.get(cpu as usize) {
         Some(Some(page)) => page.knobs() == knobs && is_cut_of(page.stream(), joined, cpu, cursor),
         _ => false,
     }

@@ -60,14 +60,14 @@ fn is_framed(stream: &Stream, joined: &Record, cpu: u32) -> bool
 fn are_tasks_at(here: &[Task], tasks: &[Task], cpu: u32) -> bool
     ensures { IsTrue result ↔ (here.now ≡ tasks_at cpu tasks.now) }
 {
-    let mut place = 0;
+    let mut index = 0;
     for task in tasks {
         if task.cpu == cpu {
-            if place == here.len() || here[place] != *task {
+            if index == here.len() || here[index] != *task {
                 return false;
             }
-            place += 1;
+            index += 1;
         }
     }
-    place == here.len()
+    index == here.len()
 }

@@ -13,7 +13,7 @@ ghost use Rattle.ticket_book.specs.Whole.{AreSufficient, IsWholePageOf};
 
 use crate::Book;
 use crate::least_fault::least_fault;
-use crate::owning::own_places;
+use crate::owning::own_slots;
 use crate::relying::is_enough;
 use cfs_model::{Knobs, Memory};
 use pid_table::PidHasher;
@@ -34,9 +34,9 @@ pub(crate) fn sufficing_pages(
     ensures nothing_remade { IfOk result (λ made. AreLeft knobs (record_view joined.now) (book_view book)
         → made.1 ≡ 0) }
 {
-    let places = book.into_places();
-    let own = own_places(alloc, &places, joined, knobs)?;
-    gathered_pages(alloc, places, &own, joined, knobs, hasher)
+    let slots = book.into_slots();
+    let own = own_slots(alloc, &slots, joined, knobs)?;
+    gathered_pages(alloc, slots, &own, joined, knobs, hasher)
 }
 
 /// The same of a book whose pages are all the record's own, so that none is compared with it.
@@ -55,32 +55,32 @@ pub(crate) fn sufficing_own_pages(
     ensures few { IfOk result (λ made. made.1 ≤ (record_view joined.now).cpus) }
 {
     let own = Vec::from_elem(alloc, true, joined.cpus() as usize)?;
-    gathered_pages(alloc, book.into_places(), &own, joined, knobs, hasher)
+    gathered_pages(alloc, book.into_slots(), &own, joined, knobs, hasher)
 }
 
-/// The same of a book's places, where it is told of each whether its page is the record's own.
+/// The same of a book's slots, where it is told of each whether its page is the record's own.
 fn gathered_pages(
     alloc: Global,
-    mut places: Vec<Option<Page>>,
+    mut slots: Vec<Option<Page>>,
     own: &[bool],
     joined: &Record,
     knobs: Knobs,
     hasher: PidHasher,
 ) -> Result<(Vec<Page>, u32), Memory>
     requires count { length own.now ≡ (record_view joined.now).cpus }
-    requires told { AreToldOwn knobs (record_view joined.now) places.items own.now }
+    requires told { AreToldOwn knobs (record_view joined.now) slots.items own.now }
     ensures suffice { IfOk result (λ made. AreSufficient knobs (record_view joined.now) made.0.items) }
-    ensures remade { IfOk result (λ made. AreRemade knobs (record_view joined.now) places.items made.1) }
-    ensures nothing_remade { IfOk result (λ made. AreLeft knobs (record_view joined.now) places.items → made.1 ≡ 0) }
+    ensures remade { IfOk result (λ made. AreRemade knobs (record_view joined.now) slots.items made.1) }
+    ensures nothing_remade { IfOk result (λ made. AreLeft knobs (record_view joined.now) slots.items → made.1 ≡ 0) }
     ensures few { IfOk result (λ made. made.1 ≤ (record_view joined.now).cpus) }
 {
-    let least = least_fault(&places, own);
-    let left = places.as_mut_slice();
+    let least = least_fault(&slots, own);
+    let left = slots.as_mut_slice();
     let mut pages = Vec::with_capacity(alloc, joined.cpus() as usize)?;
     let mut remade = 0;
     for cpu in 0..joined.cpus() {
-        let place = take_page(left, cpu);
-        let page = match relied_on(place, own[cpu as usize], least) {
+        let slot = take_page(left, cpu);
+        let page = match relied_on(slot, own[cpu as usize], least) {
             Some(page) => page,
             None => {
                 remade += 1;
@@ -92,28 +92,28 @@ fn gathered_pages(
     Ok((pages, remade))
 }
 
-/// Takes a processor's page out of its place.
-fn take_page(places: &mut [Option<Page>], cpu: u32) -> Option<Page>
-    ensures page { result ≡ page_at places.old cpu }
-    ensures others { (other : ℕ) → other ≢ cpu → page_at places.new other ≡ page_at places.old other }
+/// Takes a processor's page out of its slot.
+fn take_page(slots: &mut [Option<Page>], cpu: u32) -> Option<Page>
+    ensures page { result ≡ page_at slots.old cpu }
+    ensures others { (other : ℕ) → other ≢ cpu → page_at slots.new other ≡ page_at slots.old other }
 {
-    let place = cpu as usize;
-    if place < places.len() {
-        places[place].take()
+    let slot = cpu as usize;
+    if slot < slots.len() {
+        slots[slot].take()
     } else {
         None
     }
 }
 
-/// The page from a place, where a verdict can rest on it beside the least line of a fault. It is told whether the page
+/// The page from a slot, where a verdict can rest on it beside the least line of a fault. It is told whether the page
 /// is the record's own.
-fn relied_on(place: Option<Page>, own: bool, least: Option<u64>) -> Option<Page>
+fn relied_on(slot: Option<Page>, own: bool, least: Option<u64>) -> Option<Page>
     ensures reliable { IfSome result (λ page. IsReliable own least (Some page)) }
     ensures is_page { IfSome result (λ page. IsPageOf page.stream page.knobs page.made page.page) }
-    ensures same { IfSome result (λ page. place ≡ Some page) }
-    ensures none { result ≡ None → ¬ IsReliable own least place }
+    ensures same { IfSome result (λ page. slot ≡ Some page) }
+    ensures none { result ≡ None → ¬ IsReliable own least slot }
 {
-    match place {
+    match slot {
         Some(page) => {
             page.replayed();
             if own && is_enough(&page, least) {

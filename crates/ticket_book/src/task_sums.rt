@@ -20,8 +20,8 @@ fn add(sums: &mut TallyBook, tally: Tally)
     requires { All (λ sum. FitsTally (with_tallies (tally ∷ []) sum)) sums.old.table.rows }
     ensures { sums.new.table.rows ≡ map (with_tallies (tally ∷ [])) sums.old.table.rows }
 {
-    if let Some(place) = sums.place_of(tally.pid) {
-        add_to(sums.table.row_mut(place), tally);
+    if let Some(index) = sums.index_of(tally.pid) {
+        add_to(sums.table.row_mut(index), tally);
     }
 }
 

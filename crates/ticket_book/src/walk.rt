@@ -12,7 +12,7 @@ ghost use Rattle.ticket_book.specs.Walk.{AllowShift, IsShiftCause, StandsAt, Tic
 
 use crate::alive::Alive;
 use crate::idling::{first_deadline, late};
-use crate::ticket_places::TicketPlaces;
+use crate::ticket_indices::TicketIndices;
 use cfs_model::{Act, Entry, Kind, Memory, Task};
 use queue_replay::Page;
 use replay_model::{FirstFault, StepFault, Ticket};
@@ -24,8 +24,8 @@ pub(crate) struct Walk {
     /// The first deadline on the pages.
     deadline: Option<u64>,
     /// How far the walk has come in the tickets of the tasks that left, and of those that came.
-    left: TicketPlaces,
-    came: TicketPlaces,
+    left: TicketIndices,
+    came: TicketIndices,
     /// Who is alive before the next event.
     alive: Alive,
 }
@@ -38,8 +38,8 @@ impl Walk {
     {
         Ok(Walk {
             deadline: first_deadline(pages),
-            left: TicketPlaces::new(alloc, pages.len())?,
-            came: TicketPlaces::new(alloc, pages.len())?,
+            left: TicketIndices::new(alloc, pages.len())?,
+            came: TicketIndices::new(alloc, pages.len())?,
             alive: Alive::new(alloc, tasks)?,
         })
     }

@@ -3,7 +3,7 @@ ghost use Rattle.cfs_model.specs.Limits.{no_line};
 ghost use Rattle.companion_file.specs.Shape.{idle_line};
 ghost use Rattle.companion_file.specs.Earlier.{is_task};
 ghost use Rattle.companion_file.specs.Spans.{AreSpansOf};
-ghost use Rattle.companion_file.specs.Draft.{Adds, AddsTested, KeepsOrder, IsTaskPlace};
+ghost use Rattle.companion_file.specs.Draft.{Adds, AddsTested, KeepsOrder, IsTaskIndex};
 
 use crate::draft::Draft;
 use crate::fault::{CompanionCause, Refusal};
@@ -14,9 +14,9 @@ use std::alloc::AllocError;
 
 impl Draft {
     /// Where the task of this pid stands in the list.
-    fn place_of(&self, pid: u32) -> Option<usize>
+    fn index_of(&self, pid: u32) -> Option<usize>
         requires { AllPairs (λ t u. t.pid < u.pid) self.now.tasks }
-        ensures { MatchOption result (is_task self.now.tasks pid ≡ false) (IsTaskPlace self.now.tasks pid) }
+        ensures { MatchOption result (is_task self.now.tasks pid ≡ false) (IsTaskIndex self.now.tasks pid) }
     {
         self.tasks.binary_search_by_key(&pid, |task| task.pid).ok()
     }
@@ -30,14 +30,14 @@ impl Draft {
         Ok(())
     }
 
-    fn add_from_start(&mut self, idle: IdleLine, place: usize) -> Result<(), Refusal>
+    fn add_from_start(&mut self, idle: IdleLine, index: usize) -> Result<(), Refusal>
         requires order { KeepsOrder self.old }
         requires start { idle.line ≡ no_line }
-        requires task { IsTaskPlace self.old.tasks idle.pid place }
+        requires task { IsTaskIndex self.old.tasks idle.pid index }
         ensures { Adds self.old (idle_line idle) result self.new }
     {
         self.idles.push(idle)?;
-        self.tasks[place].idle = true;
+        self.tasks[index].idle = true;
         Ok(())
     }
 
@@ -58,10 +58,10 @@ impl Draft {
         if idle.line != NO_LINE {
             return self.add_from_birth(idle);
         }
-        let Some(place) = self.place_of(idle.pid) else {
+        let Some(index) = self.index_of(idle.pid) else {
             return Err(Refusal::Bad(CompanionCause::NoTask));
         };
-        self.add_from_start(idle, place)
+        self.add_from_start(idle, index)
     }
 
     /// The spans that the idle lines begin.

@@ -5,8 +5,8 @@ ghost use Rattle.companion_file.specs.Statement.{stated};
 
 use crate::draft::Draft;
 use crate::fault::{CompanionCause, Refusal};
+use crate::known_lines::{is_group, version_of};
 use crate::limits::{change_within, claim_within, is_value};
-use crate::marks::{is_group, version_of};
 use crate::shapes::statement_of;
 use crate::statement::Statement;
 use cfs_model::{ClaimSort, GREATEST_SECONDS, MOST_PROCESSORS, NANOSECONDS_PER_SECOND, Place};
@@ -67,7 +67,7 @@ impl Draft {
         ensures { AddsTested self.old (task_line (record {
           pid = pid;
           nice = nice;
-          idle = false;
+          policy = Normal;
           cpu = cpu;
           place = place;
           v = v;

@@ -1,7 +1,7 @@
 -- A step of the machine by a migration, and the steps of the parts at its two ends.
 use Rattle.std.proofs.Common.{◌≡◌, ◌≢◌, ℕ, Bool, cond, Option, None, ℤ, [], ◌∷◌, refl, sym, ap, ◌∙◌, subst}
 use Rattle.std.proofs.lemmas.Bool.{eq-eqb, ne_eqb}
-use Rattle.cfs_model.specs.Settings.{Settings}
+use Rattle.cfs_model.specs.Knobs.{KnobsView}
 use Rattle.cfs_model.specs.Machine.{Machine}
 use Rattle.cfs_model.specs.Claimed.{Claimed}
 use Rattle.cfs_model.specs.Touch.{touched}
@@ -30,18 +30,19 @@ use Rattle.cfs_model.specs.declared.act.Act.{Act}
 use Rattle.cfs_model.specs.declared.act.Act.TheVariants.{Shift}
 use Rattle.cfs_model.specs.declared.nice_line.NiceLine.{NiceLine}
 use Rattle.replay_model.specs.declared.step.Deed.TheVariants.{Leave, Arrive}
+use Rattle.cfs_model.specs.declared.policy.Policy.{Policy}
 
 -- what a migration is at its two ends
-pub leave_deed : (act : Act) (idle : Bool) (orig dest pid : ℕ) (nice : ℤ) → act ≡ Shift orig dest pid nice
-    → deed_at orig idle act ≡ Leave pid nice dest
-leave_deed act idle orig dest pid nice e = ap (deed_at orig idle) e
-    ∙ ap (λ b. cond b (Leave pid nice dest) (Arrive pid nice orig idle)) (eq-eqb orig orig refl)
+pub leave_deed : (act : Act) (policy : Policy) (orig dest pid : ℕ) (nice : ℤ) → act ≡ Shift orig dest pid nice
+    → deed_at orig policy act ≡ Leave pid nice dest
+leave_deed act policy orig dest pid nice e = ap (deed_at orig policy) e
+    ∙ ap (λ b. cond b (Leave pid nice dest) (Arrive pid nice orig policy)) (eq-eqb orig orig refl)
 
-pub arrive_deed : (act : Act) (idle : Bool) (orig dest pid : ℕ) (nice : ℤ) → act ≡ Shift orig dest pid nice
+pub arrive_deed : (act : Act) (policy : Policy) (orig dest pid : ℕ) (nice : ℤ) → act ≡ Shift orig dest pid nice
     → orig ≢ dest
-    → deed_at dest idle act ≡ Arrive pid nice orig idle
-arrive_deed act idle orig dest pid nice e ne = ap (deed_at dest idle) e
-    ∙ ap (λ b. cond b (Leave pid nice dest) (Arrive pid nice orig idle)) (ne_eqb orig dest ne)
+    → deed_at dest policy act ≡ Arrive pid nice orig policy
+arrive_deed act policy orig dest pid nice e ne = ap (deed_at dest policy) e
+    ∙ ap (λ b. cond b (Leave pid nice dest) (Arrive pid nice orig policy)) (ne_eqb orig dest ne)
 
 -- a lift at both ends, end by end
 pub record LiftsBoth (time orig dest : ℕ) (before lifted : Machine) : Type 0 where
@@ -70,14 +71,15 @@ both_lifted time orig dest before lifted a ne l =
     }
 
 -- the change of a nice value at the two ends
-leave_nice : (act : Act) (idle : Bool) (orig dest pid : ℕ) (nice : ℤ) (change : Option NiceLine)
-    → act ≡ Shift orig dest pid nice → nice_for (deed_at orig idle act) change ≡ change
-leave_nice act idle orig dest pid nice change e = ap (λ d. nice_for d change) (leave_deed act idle orig dest pid nice e)
+leave_nice : (act : Act) (policy : Policy) (orig dest pid : ℕ) (nice : ℤ) (change : Option NiceLine)
+    → act ≡ Shift orig dest pid nice → nice_for (deed_at orig policy act) change ≡ change
+leave_nice act policy orig dest pid nice change e = ap (λ d. nice_for d change) (leave_deed act policy orig dest pid
+    nice e)
 
-arrive_nice : (act : Act) (idle : Bool) (orig dest pid : ℕ) (nice : ℤ) (change : Option NiceLine)
-    → act ≡ Shift orig dest pid nice → orig ≢ dest → nice_for (deed_at dest idle act) change ≡ None
-arrive_nice act idle orig dest pid nice change e ne =
-    ap (λ d. nice_for d change) (arrive_deed act idle orig dest pid nice e ne)
+arrive_nice : (act : Act) (policy : Policy) (orig dest pid : ℕ) (nice : ℤ) (change : Option NiceLine)
+    → act ≡ Shift orig dest pid nice → orig ≢ dest → nice_for (deed_at dest policy act) change ≡ None
+arrive_nice act policy orig dest pid nice change e ne =
+    ap (λ d. nice_for d change) (arrive_deed act policy orig dest pid nice e ne)
 
 pub parts_migrate : PartsMigrate
 parts_migrate knobs before after event orig dest pid nice o e s =
@@ -88,15 +90,15 @@ parts_migrate knobs before after event orig dest pid nice o e s =
     (ap home_of e) s.is_reniced in
     let n = reniced_here s.lifted lifted_order orig event.nice s.found r in
     let a = reniced_apart orig event.nice s.lifted s.found r lifted_order in
-    let m : IsMigration s.found orig dest pid nice event.claim event.idle after = subst
-    (λ x. Changes knobs s.found x event.claim event.idle after) e s.changes in
+    let m : IsMigration s.found orig dest pid nice event.claim event.policy after = subst
+    (λ x. Changes knobs s.found x event.claim event.policy after) e s.changes in
     let l = both_lifted time orig dest before s.lifted (apart_of before o) m.differ
     (subst (λ x. IsLifted time (touched x) before s.lifted) e s.is_lifted) in
-    let p = migration_parts s.found a orig dest pid nice event.claim event.idle after m in
-    let leave = leave_deed act event.idle orig dest pid nice e in
-    let arrive = arrive_deed act event.idle orig dest pid nice e m.differ in
-    let left_nice = leave_nice act event.idle orig dest pid nice event.nice e in
-    let came_nice = arrive_nice act event.idle orig dest pid nice event.nice e m.differ in (
+    let p = migration_parts s.found a orig dest pid nice event.claim event.policy after m in
+    let leave = leave_deed act event.policy orig dest pid nice e in
+    let arrive = arrive_deed act event.policy orig dest pid nice e m.differ in
+    let left_nice = leave_nice act event.policy orig dest pid nice event.nice e in
+    let came_nice = arrive_nice act event.policy orig dest pid nice event.nice e m.differ in (
       m.differ,
       record {
         leave = record {
@@ -111,7 +113,7 @@ parts_migrate knobs before after event orig dest pid nice o e s =
             none = none_of knobs orig (part_of s.found orig) (step_at orig event)
                 (subst (λ x. (q : ℕ) → ¬ IsStrangeNice (part_of s.found orig) x q) (sym left_nice) n.2)
                 (subst (λ d. IsClear knobs orig (part_of s.found orig) d (claim_for d event.claim)) (sym leave)
-                (leave_clear knobs s.found a orig dest pid nice event.claim event.idle after m));
+                (leave_clear knobs s.found a orig dest pid nice event.claim event.policy after m));
           };
           result = p.0 ∙ ap (λ d. after_deed (part_of s.found orig) d (claim_for d event.claim)) (sym leave);
         };
@@ -128,26 +130,26 @@ parts_migrate knobs before after event orig dest pid nice o e s =
             none = none_of knobs dest (part_of s.found dest) (step_at dest event)
                 (subst (λ x. (q : ℕ) → ¬ IsStrangeNice (part_of s.found dest) x q) (sym came_nice) (λ q h. h))
                 (subst (λ d. IsClear knobs dest (part_of s.found dest) d (claim_for d event.claim)) (sym arrive)
-                (arrive_clear knobs s.found a orig dest pid nice event.claim event.idle after m));
+                (arrive_clear knobs s.found a orig dest pid nice event.claim event.policy after m));
           };
           result = p.1 ∙ ap (λ d. after_deed (part_of s.found dest) d (claim_for d event.claim)) (sym arrive);
         };
-        tickets = tickets_equal s.found a orig dest pid event.entry.line nice event.claim event.idle after m;
+        tickets = tickets_equal s.found a orig dest pid event.entry.line nice event.claim event.policy after m;
       },
       (λ d ne other. p.2 d ne other ∙ n.1 d ne ∙ l.others d ne other),
     )
 
 -- a migration to its own processor is no step of the part
-not_home : (knobs : Settings) (before : Machine) (event : Claimed) (orig dest pid : ℕ) (nice : ℤ) (left came : Part)
+not_home : (knobs : KnobsView) (before : Machine) (event : Claimed) (orig dest pid : ℕ) (nice : ℤ) (left came : Part)
     → event.entry.act ≡ Shift orig dest pid nice
     → MovesBetween knobs before event orig dest pid nice left came → orig ≢ dest
 not_home knobs before event orig dest pid nice left came e s same =
     (subst (λ d. IsClear knobs orig s.leave.found d (claim_for d event.claim))
-    (leave_deed event.entry.act event.idle orig dest pid nice e)
+    (leave_deed event.entry.act event.policy orig dest pid nice e)
     (clear_of knobs orig s.leave.found (step_at orig event) s.leave.passes.none)).home pid (sym same, refl)
 
 -- what is told of a migration by its ends
-module _ (knobs : Settings) (before : Machine) (event : Claimed) (orig dest pid : ℕ) (nice : ℤ) (left came : Part)
+module _ (knobs : KnobsView) (before : Machine) (event : Claimed) (orig dest pid : ℕ) (nice : ℤ) (left came : Part)
     (o : IsInOrder before) (range : ClaimInRange event) (e : event.entry.act ≡ Shift orig dest pid nice)
     (ne : orig ≢ dest) (s : MovesBetween knobs before event orig dest pid nice left came) where
   -- the machine's step, and the parts after it
@@ -160,26 +162,26 @@ module _ (knobs : Settings) (before : Machine) (event : Claimed) (orig dest pid 
   after_change : (lifted found : Machine) → IsLifted event.entry.time (orig ∷ dest ∷ []) before lifted
       → IsReniced orig event.nice lifted found → IsApart found → part_of found orig ≡ s.leave.found
       → part_of found dest ≡ s.arrive.found → RestStays before found orig dest → (after : Machine)
-      → IsMigration found orig dest pid nice event.claim event.idle after → Migrates
+      → IsMigration found orig dest pid nice event.claim event.policy after → Migrates
   after_change lifted found both r a here there rest after m =
       let act = event.entry.act in
       let time = event.entry.time in
-      let leave = leave_deed act event.idle orig dest pid nice e in
-      let arrive = arrive_deed act event.idle orig dest pid nice e ne in
-      let p = migration_parts found a orig dest pid nice event.claim event.idle after m in
+      let leave = leave_deed act event.policy orig dest pid nice e in
+      let arrive = arrive_deed act event.policy orig dest pid nice e ne in
+      let p = migration_parts found a orig dest pid nice event.claim event.policy after m in
       let is_lifted : IsLifted time (touched act) before lifted = subst
       (λ x. IsLifted time (touched x) before lifted) (sym e) both in
       let is_reniced : IsReniced (home_of act) event.nice lifted found = subst
       (λ x. IsReniced (home_of x) event.nice lifted found) (sym e) r in
-      let changes : Changes knobs found act event.claim event.idle after = subst
-      (λ x. Changes knobs found x event.claim event.idle after) (sym e) m in
+      let changes : Changes knobs found act event.claim event.policy after = subst
+      (λ x. Changes knobs found x event.claim event.policy after) (sym e) m in
       let step : IsStep knobs before event after = record {
         lifted = lifted;
         is_lifted = is_lifted;
         found = found;
         is_reniced = is_reniced;
         changes = changes;
-        in_range = change_range knobs found act event.claim event.idle after changes range
+        in_range = change_range knobs found act event.claim event.policy after changes range
             (reniced_range orig event.nice lifted found r
             (lifted_range time (touched act) before lifted is_lifted o.in_range));
       } in (
@@ -188,7 +190,7 @@ module _ (knobs : Settings) (before : Machine) (event : Claimed) (orig dest pid 
         step_in_order knobs before event after o step,
         p.0 ∙ ap (λ x. after_deed x (Leave pid nice dest) None) here
             ∙ ap (λ d. after_deed s.leave.found d (claim_for d event.claim)) (sym leave) ∙ sym s.leave.result,
-        p.1 ∙ ap (λ x. after_deed x (Arrive pid nice orig event.idle) event.claim) there
+        p.1 ∙ ap (λ x. after_deed x (Arrive pid nice orig event.policy) event.claim) there
             ∙ ap (λ d. after_deed s.arrive.found d (claim_for d event.claim)) (sym arrive) ∙ sym s.arrive.result,
         (λ d no_orig no_dest. p.2 d no_orig no_dest ∙ rest d no_orig no_dest),
       )
@@ -199,17 +201,17 @@ module _ (knobs : Settings) (before : Machine) (event : Claimed) (orig dest pid 
       → part_of found dest ≡ s.arrive.found → RestStays before found orig dest → Migrates
   after_found lifted found both r a here there rest =
       let act = event.entry.act in
-      let leave = leave_deed act event.idle orig dest pid nice e in
-      let arrive = arrive_deed act event.idle orig dest pid nice e ne in
-      let c = migration_exists knobs found a orig dest pid event.entry.line nice event.claim event.idle
+      let leave = leave_deed act event.policy orig dest pid nice e in
+      let arrive = arrive_deed act event.policy orig dest pid nice e ne in
+      let c = migration_exists knobs found a orig dest pid event.entry.line nice event.claim event.policy
       (subst (λ p. IsClear knobs orig p (Leave pid nice dest) None) (sym here)
       (subst (λ d. IsClear knobs orig s.leave.found d (claim_for d event.claim)) leave
       (clear_of knobs orig s.leave.found (step_at orig event) s.leave.passes.none)))
-      (subst (λ p. IsClear knobs dest p (Arrive pid nice orig event.idle) event.claim) (sym there)
+      (subst (λ p. IsClear knobs dest p (Arrive pid nice orig event.policy) event.claim) (sym there)
       (subst (λ d. IsClear knobs dest s.arrive.found d (claim_for d event.claim)) arrive
       (clear_of knobs dest s.arrive.found (step_at dest event) s.arrive.passes.none)))
       (ap (λ p. left_ticket p event.entry.line pid) here ∙ s.tickets
-      ∙ ap (λ p. came_ticket p event.entry.line pid nice event.idle event.claim) (sym there)) in
+      ∙ ap (λ p. came_ticket p event.entry.line pid nice event.policy event.claim) (sym there)) in
       after_change lifted found both r a here there rest c.0 c.1
 
   -- from a machine lifted at both ends to the machine after
@@ -218,8 +220,8 @@ module _ (knobs : Settings) (before : Machine) (event : Claimed) (orig dest pid 
       → part_of lifted dest ≡ s.arrive.passes.is_found.lifted → RestStays before lifted orig dest → Migrates
   after_lift lifted both here there rest =
       let act = event.entry.act in
-      let left_nice = leave_nice act event.idle orig dest pid nice event.nice e in
-      let came_nice = arrive_nice act event.idle orig dest pid nice event.nice e ne in
+      let left_nice = leave_nice act event.policy orig dest pid nice event.nice e in
+      let came_nice = arrive_nice act event.policy orig dest pid nice event.nice e ne in
       let a = lifted_apart event.entry.time (orig ∷ dest ∷ []) before lifted both (apart_of before o) in
       let leaves = s.leave.passes.is_found in
       let arrives = s.arrive.passes.is_found in

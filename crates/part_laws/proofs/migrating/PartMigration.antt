@@ -2,7 +2,7 @@
 use Rattle.std.proofs.Common.{◌≡◌, ◌≢◌, ℕ, Bool, true, false, Option, Some, None, option_map, ℤ, ◌+ℤ◌, ◌-ℤ◌, inl, inr}
 use Rattle.std.proofs.Common.{refl, sym, ap, ◌∙◌, subst, arith}
 use Rattle.std.proofs.lemmas.Int.{ints}
-use Rattle.cfs_model.specs.Settings.{Settings}
+use Rattle.cfs_model.specs.Knobs.{KnobsView}
 use Rattle.cfs_model.specs.Machine.{Machine, Stands, put_pair, pairs_of, with_move, without_task, with_runtime}
 use Rattle.cfs_model.specs.Claimed.{ClaimSays}
 use Rattle.cfs_model.specs.Step.{MovesBy, IsMigration}
@@ -14,7 +14,7 @@ use Rattle.cfs_model.proofs.FloorsRise.{floor-with_pairs}
 use Rattle.cfs_model.proofs.KeptOrder.{IsApart, same_sets}
 use Rattle.cfs_model.proofs.MarksMove.{mark-with_pairs}
 use Rattle.cfs_model.proofs.Moves.{put-same, put-other, same_or_not, IsPutAt, move_placed}
-use Rattle.cfs_model.proofs.StepOrder.{alone, placed_same, runtime-with_pairs, nice-with_pairs, idle-with_pairs}
+use Rattle.cfs_model.proofs.StepOrder.{alone, placed_same, runtime-with_pairs, nice-with_pairs, policy-with_pairs}
 use Rattle.replay_model.proofs.PartFacts.{stands_as, is_stander, is_in, stands_at}
 use Rattle.replay_model.proofs.Options.{same_some, no_some, some_no}
 use Rattle.replay_model.proofs.Clear.{IsClear}
@@ -29,6 +29,7 @@ use Rattle.cfs_model.specs.declared.task.Place.{Place}
 use Rattle.cfs_model.specs.declared.task.Place.TheVariants.{Run, Wait, Rest}
 use Rattle.replay_model.specs.declared.page.Ticket.{Ticket}
 use Rattle.replay_model.specs.declared.step.Deed.TheVariants.{Leave, Arrive}
+use Rattle.cfs_model.specs.declared.policy.Policy.{Policy}
 
 module _ (m : Machine) (place : Place) (orig dest pid : ℕ) (w : ℤ) where
   moved : Machine
@@ -57,11 +58,11 @@ module _ (m : Machine) (place : Place) (orig dest pid : ℕ) (w : ℤ) where
       (put_pair (pairs_of (without_task m place orig pid) place) dest pid true)
       ∙ nice-with_pairs m place (put_pair (pairs_of m place) orig pid false)
 
-  same_policy : (with_move m pid place orig place dest).idle ≡ m.idle
+  same_policy : (with_move m pid place orig place dest).policy ≡ m.policy
   same_policy =
-      idle-with_pairs (without_task m place orig pid) place
+      policy-with_pairs (without_task m place orig pid) place
       (put_pair (pairs_of (without_task m place orig pid) place) dest pid true)
-      ∙ idle-with_pairs m place (put_pair (pairs_of m place) orig pid false)
+      ∙ policy-with_pairs m place (put_pair (pairs_of m place) orig pid false)
 
   pub moved_keeps : KeepsRest m (with_runtime (with_move m pid place orig place dest) pid w) pid
   moved_keeps = record {
@@ -81,9 +82,9 @@ module _ (m : Machine) (place : Place) (orig dest pid : ℕ) (w : ℤ) where
       → (with_runtime (with_move m pid place orig place dest) pid w).nice pid ≡ Some nice
   moved_nice nice e = ap (λ f. f pid) same_nice ∙ e
 
-  pub moved_policy : (idle : Bool) → m.idle pid ≡ idle
-      → (with_runtime (with_move m pid place orig place dest) pid w).idle pid ≡ idle
-  moved_policy idle e = ap (λ f. f pid) same_policy ∙ e
+  pub moved_policy : (policy : Policy) → m.policy pid ≡ policy
+      → (with_runtime (with_move m pid place orig place dest) pid w).policy pid ≡ policy
+  moved_policy policy e = ap (λ f. f pid) same_policy ∙ e
 
 sort_place : (place : Place) (sort : ClaimSort) → MovesBy place sort → place_of_sort sort ≡ place
 sort_place Wait At h = refl
@@ -98,35 +99,35 @@ moves_by place At e = subst (λ x. MovesBy x At) (sym e) tt
 moves_by place Pass e = subst (λ x. MovesBy x Pass) (sym e) tt
 
 -- the place and value of a task that comes
-comes_to : (claim : Option Claim) (sort : ClaimSort) (place : Place) (pid : ℕ) (nice : ℤ) (idle : Bool) (v : ℤ)
+comes_to : (claim : Option Claim) (sort : ClaimSort) (place : Place) (pid : ℕ) (nice : ℤ) (policy : Policy) (v : ℤ)
     → MovesBy place sort → ClaimSays claim sort pid v
     → option_map (λ (c : Claim). let s : Entity = record
-    { place = place_of_sort c.sort; nice = nice; idle = idle; runtime = c.v } in s) claim ≡ Some
-    (record { place = place; nice = nice; idle = idle; runtime = v })
-comes_to None sort place pid nice idle v b h = absurd h
-comes_to (Some claim) sort place pid nice idle v b h =
-    ap (λ x. Some (record { place = place_of_sort x; nice = nice; idle = idle; runtime = claim.v })) h.0
-    ∙ ap (λ x. Some (record { place = x; nice = nice; idle = idle; runtime = claim.v })) (sort_place place sort b)
-    ∙ ap (λ x. Some (record { place = place; nice = nice; idle = idle; runtime = x })) h.2
+    { place = place_of_sort c.sort; nice = nice; policy = policy; runtime = c.v } in s) claim ≡ Some
+    (record { place = place; nice = nice; policy = policy; runtime = v })
+comes_to None sort place pid nice policy v b h = absurd h
+comes_to (Some claim) sort place pid nice policy v b h =
+    ap (λ x. Some (record { place = place_of_sort x; nice = nice; policy = policy; runtime = claim.v })) h.0
+    ∙ ap (λ x. Some (record { place = x; nice = nice; policy = policy; runtime = claim.v })) (sort_place place sort b)
+    ∙ ap (λ x. Some (record { place = place; nice = nice; policy = policy; runtime = x })) h.2
 
 -- the parts after a migration
 pub migration_parts : (m : Machine) → IsApart m
-    → (orig dest pid : ℕ) (nice : ℤ) (claim : Option Claim) (idle : Bool) (after : Machine)
-    → IsMigration m orig dest pid nice claim idle after
+    → (orig dest pid : ℕ) (nice : ℤ) (claim : Option Claim) (policy : Policy) (after : Machine)
+    → IsMigration m orig dest pid nice claim policy after
     → (part_of after orig ≡ after_deed (part_of m orig) (Leave pid nice dest) None)
-    × (part_of after dest ≡ after_deed (part_of m dest) (Arrive pid nice orig idle) claim)
+    × (part_of after dest ≡ after_deed (part_of m dest) (Arrive pid nice orig policy) claim)
     × ((d : ℕ) → d ≢ orig → d ≢ dest → part_of after d ≡ part_of m d)
-migration_parts m a orig dest pid nice claim idle after s =
+migration_parts m a orig dest pid nice claim policy after s =
     let w : ℤ = (s.own -ℤ m.floor orig) +ℤ m.floor dest in
     let next = with_runtime (with_move m pid s.place orig s.place dest) pid w in
     let p = moved_placed m s.place orig dest pid w a s.stands in
     let k = moved_keeps m s.place orig dest pid w in (
       ap (λ x. part_of x orig) s.result ∙ placed_away m next pid s.place dest p k orig s.differ,
       ap (λ x. part_of x dest) s.result
-          ∙ placed_part m next pid s.place dest nice idle w p k (moved_nice m s.place orig dest pid w nice s.prio)
-          (moved_policy m s.place orig dest pid w idle s.policy)
+          ∙ placed_part m next pid s.place dest nice policy w p k (moved_nice m s.place orig dest pid w nice s.prio)
+          (moved_policy m s.place orig dest pid w policy s.policy)
           (put-same (with_move m pid s.place orig s.place dest).runtime pid (Some w))
-          ∙ ap (with_entity (part_of m dest) pid) (sym (comes_to claim s.sort s.place pid nice idle w s.moves
+          ∙ ap (with_entity (part_of m dest) pid) (sym (comes_to claim s.sort s.place pid nice policy w s.moves
           s.claimed)),
       (λ d ne other. ap (λ x. part_of x d) s.result ∙ placed_away m next pid s.place dest p k d other
           ∙ none_there m d pid (elsewhere m a s.place orig pid s.stands d ne)),
@@ -139,11 +140,11 @@ not_run Wait sort h e = cc
 not_run Rest sort h e = cc
 
 -- the part at the origin passes the tests of the leave
-pub leave_clear : (knobs : Settings) (m : Machine) → IsApart m
-    → (orig dest pid : ℕ) (nice : ℤ) (claim : Option Claim) (idle : Bool) (after : Machine)
-    → IsMigration m orig dest pid nice claim idle after
+pub leave_clear : (knobs : KnobsView) (m : Machine) → IsApart m
+    → (orig dest pid : ℕ) (nice : ℤ) (claim : Option Claim) (policy : Policy) (after : Machine)
+    → IsMigration m orig dest pid nice claim policy after
     → IsClear knobs orig (part_of m orig) (Leave pid nice dest) None
-leave_clear knobs m a orig dest pid nice claim idle after s = record {
+leave_clear knobs m a orig dest pid nice claim policy after s = record {
   home = λ q h. s.differ (sym h.0);
   self = λ q h. h;
   prev = λ q h. h;
@@ -159,31 +160,31 @@ leave_clear knobs m a orig dest pid nice claim idle after s = record {
   wake = λ q h. h;
   fork = λ q h. h;
   next = λ q h. h;
-  idle = λ q h. h;
+  beside = λ q h. h;
   least = λ q h. h;
 }
 
-said_come : (part : Part) (pid orig : ℕ) (nice : ℤ) (idle : Bool) (claim : Option Claim) (sort : ClaimSort) (v : ℤ)
-    → ClaimSays claim sort pid v → (q : ℕ) → ¬ IsClaimMissing part (Arrive pid nice orig idle) claim q
-said_come part pid orig nice idle None sort v h q k = h
-said_come part pid orig nice idle (Some claim) sort v h q k = k.1 tt
+said_come : (part : Part) (pid orig : ℕ) (nice : ℤ) (policy : Policy) (claim : Option Claim) (sort : ClaimSort) (v : ℤ)
+    → ClaimSays claim sort pid v → (q : ℕ) → ¬ IsClaimMissing part (Arrive pid nice orig policy) claim q
+said_come part pid orig nice policy None sort v h q k = h
+said_come part pid orig nice policy (Some claim) sort v h q k = k.1 tt
 
-no_extra_come : (part : Part) (pid orig : ℕ) (nice : ℤ) (idle : Bool) (claim : Option Claim) (q : ℕ)
-    → ¬ IsClaimExtra part (Arrive pid nice orig idle) claim q
-no_extra_come part pid orig nice idle None q k = k
-no_extra_come part pid orig nice idle (Some claim) q k = some_no pid k.0
+no_extra_come : (part : Part) (pid orig : ℕ) (nice : ℤ) (policy : Policy) (claim : Option Claim) (q : ℕ)
+    → ¬ IsClaimExtra part (Arrive pid nice orig policy) claim q
+no_extra_come part pid orig nice policy None q k = k
+no_extra_come part pid orig nice policy (Some claim) q k = some_no pid k.0
 
-own_come : (part : Part) (pid orig : ℕ) (nice : ℤ) (idle : Bool) (claim : Option Claim) (sort : ClaimSort) (v : ℤ)
-    → ClaimSays claim sort pid v → (q : ℕ) → ¬ IsClaimPid part (Arrive pid nice orig idle) claim q
-own_come part pid orig nice idle None sort v h q k = h
-own_come part pid orig nice idle (Some claim) sort v h q k = k.0.2 (h.1 ∙ same_some (Some pid) pid k.0.0 refl k.0.1)
+own_come : (part : Part) (pid orig : ℕ) (nice : ℤ) (policy : Policy) (claim : Option Claim) (sort : ClaimSort) (v : ℤ)
+    → ClaimSays claim sort pid v → (q : ℕ) → ¬ IsClaimPid part (Arrive pid nice orig policy) claim q
+own_come part pid orig nice policy None sort v h q k = h
+own_come part pid orig nice policy (Some claim) sort v h q k = k.0.2 (h.1 ∙ same_some (Some pid) pid k.0.0 refl k.0.1)
 
 -- the part at the destination passes the tests of the arrival
-pub arrive_clear : (knobs : Settings) (m : Machine) → IsApart m
-    → (orig dest pid : ℕ) (nice : ℤ) (claim : Option Claim) (idle : Bool) (after : Machine)
-    → IsMigration m orig dest pid nice claim idle after
-    → IsClear knobs dest (part_of m dest) (Arrive pid nice orig idle) claim
-arrive_clear knobs m a orig dest pid nice claim idle after s = record {
+pub arrive_clear : (knobs : KnobsView) (m : Machine) → IsApart m
+    → (orig dest pid : ℕ) (nice : ℤ) (claim : Option Claim) (policy : Policy) (after : Machine)
+    → IsMigration m orig dest pid nice claim policy after
+    → IsClear knobs dest (part_of m dest) (Arrive pid nice orig policy) claim
+arrive_clear knobs m a orig dest pid nice claim policy after s = record {
   home = λ q h. h;
   self = λ q h. h;
   prev = λ q h. h;
@@ -191,79 +192,101 @@ arrive_clear knobs m a orig dest pid nice claim idle after s = record {
   already = λ q h. nowhere_none m dest pid (elsewhere m a s.place orig pid s.stands dest (λ e. s.differ (sym e))) h.0;
   running = λ q h. h;
   prio = λ q h. h;
-  missing = said_come (part_of m dest) pid orig nice idle claim s.sort ((s.own -ℤ m.floor orig) +ℤ m.floor dest)
+  missing = said_come (part_of m dest) pid orig nice policy claim s.sort ((s.own -ℤ m.floor orig) +ℤ m.floor dest)
       s.claimed;
-  extra = no_extra_come (part_of m dest) pid orig nice idle claim;
-  other = own_come (part_of m dest) pid orig nice idle claim s.sort ((s.own -ℤ m.floor orig) +ℤ m.floor dest) s.claimed;
+  extra = no_extra_come (part_of m dest) pid orig nice policy claim;
+  other = own_come (part_of m dest) pid orig nice policy claim s.sort ((s.own -ℤ m.floor orig) +ℤ m.floor dest)
+      s.claimed;
   put_back = λ q h. h;
   wake = λ q h. h;
   fork = λ q h. h;
   next = λ q h. h;
-  idle = λ q h. h;
+  beside = λ q h. h;
   least = λ q h. h;
 }
 
 offsets : (own fo fd : ℤ) → (own -ℤ fo) ≡ ((own -ℤ fo) +ℤ fd) -ℤ fd
 offsets own fo fd = omega (arith, ints)
 
-claim_ticket : (part : Part) (line pid : ℕ) (nice : ℤ) (idle : Bool) (claim : Option Claim) (sort : ClaimSort)
+claim_ticket : (part : Part) (line pid : ℕ) (nice : ℤ) (policy : Policy) (claim : Option Claim) (sort : ClaimSort)
     (place : Place) (v : ℤ) → MovesBy place sort → ClaimSays claim sort pid v
-    → came_ticket part line pid nice idle claim ≡ Some
-    (record { line = line; pid = pid; nice = nice; idle = idle; place = place; offset = v -ℤ part.floor })
-claim_ticket part line pid nice idle None sort place v b h = absurd h
-claim_ticket part line pid nice idle (Some claim) sort place v b h =
-    ap (λ x. Some (record
-    { line = line; pid = pid; nice = nice; idle = idle; place = place_of_sort x; offset = claim.v -ℤ part.floor })) h.0
+    → came_ticket part line pid nice policy claim ≡ Some
+    (record { line = line; pid = pid; nice = nice; policy = policy; place = place; offset = v -ℤ part.floor })
+claim_ticket part line pid nice policy None sort place v b h = absurd h
+claim_ticket part line pid nice policy (Some claim) sort place v b h =
+    ap (λ x. Some (record {
+      line = line;
+      pid = pid;
+      nice = nice;
+      policy = policy;
+      place = place_of_sort x;
+      offset = claim.v -ℤ part.floor;
+    })) h.0
     ∙ ap (λ x. Some (record
-    { line = line; pid = pid; nice = nice; idle = idle; place = x; offset = claim.v -ℤ part.floor }))
+    { line = line; pid = pid; nice = nice; policy = policy; place = x; offset = claim.v -ℤ part.floor }))
     (sort_place place sort b)
     ∙ ap (λ x. Some (record
-    { line = line; pid = pid; nice = nice; idle = idle; place = place; offset = x -ℤ part.floor })) h.2
+    { line = line; pid = pid; nice = nice; policy = policy; place = place; offset = x -ℤ part.floor })) h.2
 
 -- the two tickets of a migration are equal
 pub tickets_equal : (m : Machine) → IsApart m
-    → (orig dest pid line : ℕ) (nice : ℤ) (claim : Option Claim) (idle : Bool) (after : Machine)
-    → IsMigration m orig dest pid nice claim idle after
-    → left_ticket (part_of m orig) line pid ≡ came_ticket (part_of m dest) line pid nice idle claim
-tickets_equal m a orig dest pid line nice claim idle after s =
+    → (orig dest pid line : ℕ) (nice : ℤ) (claim : Option Claim) (policy : Policy) (after : Machine)
+    → IsMigration m orig dest pid nice claim policy after
+    → left_ticket (part_of m orig) line pid ≡ came_ticket (part_of m dest) line pid nice policy claim
+tickets_equal m a orig dest pid line nice claim policy after s =
     ap (option_map (λ (t : Entity). let x : Ticket = record
-    { line = line; pid = pid; nice = t.nice; idle = t.idle; place = t.place; offset = t.runtime -ℤ m.floor orig } in x))
+    { line = line; pid = pid; nice = t.nice; policy = t.policy; place = t.place; offset = t.runtime -ℤ m.floor orig }
+    in x))
     (is_stander m a s.place orig pid nice s.own s.stands s.prio s.runtime)
     ∙ ap (λ x. Some (record
-    { line = line; pid = pid; nice = nice; idle = x; place = s.place; offset = s.own -ℤ m.floor orig })) s.policy
-    ∙ ap (λ x. Some (record { line = line; pid = pid; nice = nice; idle = idle; place = s.place; offset = x }))
+    { line = line; pid = pid; nice = nice; policy = x; place = s.place; offset = s.own -ℤ m.floor orig })) s.policy
+    ∙ ap (λ x. Some (record { line = line; pid = pid; nice = nice; policy = policy; place = s.place; offset = x }))
     (offsets s.own (m.floor orig) (m.floor dest))
-    ∙ sym (claim_ticket (part_of m dest) line pid nice idle claim s.sort s.place
+    ∙ sym (claim_ticket (part_of m dest) line pid nice policy claim s.sort s.place
     ((s.own -ℤ m.floor orig) +ℤ m.floor dest) s.moves s.claimed)
 
 moved_value : (own fo v fd : ℤ) → (own -ℤ fo) ≡ (v -ℤ fd) → v ≡ ((own -ℤ fo) +ℤ fd)
 moved_value own fo v fd e = omega (arith, ints)
 
 -- parts that pass the tests of a leave and an arrival, with equal tickets, let the machine move the task
-pub migration_exists : (knobs : Settings) (m : Machine) → IsApart m
-    → (orig dest pid line : ℕ) (nice : ℤ) (claim : Option Claim) (idle : Bool)
+pub migration_exists : (knobs : KnobsView) (m : Machine) → IsApart m
+    → (orig dest pid line : ℕ) (nice : ℤ) (claim : Option Claim) (policy : Policy)
     → IsClear knobs orig (part_of m orig) (Leave pid nice dest) None
-    → IsClear knobs dest (part_of m dest) (Arrive pid nice orig idle) claim
-    → left_ticket (part_of m orig) line pid ≡ came_ticket (part_of m dest) line pid nice idle claim
-    → (after : Machine) × IsMigration m orig dest pid nice claim idle after
-migration_exists knobs m a orig dest pid line nice None idle l c t = absurd (c.missing pid (refl, (λ x. x)))
-migration_exists knobs m a orig dest pid line nice (Some claim) idle l c t = go (entity_at m orig pid) refl t
+    → IsClear knobs dest (part_of m dest) (Arrive pid nice orig policy) claim
+    → left_ticket (part_of m orig) line pid ≡ came_ticket (part_of m dest) line pid nice policy claim
+    → (after : Machine) × IsMigration m orig dest pid nice claim policy after
+migration_exists knobs m a orig dest pid line nice None policy l c t = absurd (c.missing pid (refl, (λ x. x)))
+migration_exists knobs m a orig dest pid line nice (Some claim) policy l c t = go (entity_at m orig pid) refl t
   where
     go : (o : Option Entity) → entity_at m orig pid ≡ o
-        → option_map (λ (s : Entity). let x : Ticket = record
-        { line = line; pid = pid; nice = s.nice; idle = s.idle; place = s.place; offset = s.runtime -ℤ m.floor orig } in
+        → option_map (λ (s : Entity). let x : Ticket = record {
+          line = line;
+          pid = pid;
+          nice = s.nice;
+          policy = s.policy;
+          place = s.place;
+          offset = s.runtime -ℤ m.floor
+              orig;
+        } in
         x) o
-        ≡ came_ticket (part_of m dest) line pid nice idle (Some claim)
-        → (after : Machine) × IsMigration m orig dest pid nice (Some claim) idle after
+        ≡ came_ticket (part_of m dest) line pid nice policy (Some claim)
+        → (after : Machine) × IsMigration m orig dest pid nice (Some claim) policy after
     go None e t = absurd (l.strange pid (e, refl))
     go (Some s) e t =
-        let left : Ticket = record
-        { line = line; pid = pid; nice = s.nice; idle = s.idle; place = s.place; offset = s.runtime -ℤ m.floor orig } in
+        let left : Ticket = record {
+          line = line;
+          pid = pid;
+          nice = s.nice;
+          policy = s.policy;
+          place = s.place;
+          offset = s.runtime -ℤ m.floor
+              orig;
+        } in
         let came : Ticket = record {
           line = line;
           pid = pid;
           nice = nice;
-          idle = idle;
+          policy = policy;
           place = place_of_sort claim.sort;
           offset = claim.v -ℤ m.floor dest;
         } in
@@ -279,7 +302,7 @@ migration_exists knobs m a orig dest pid line nice (Some claim) idle l c t = go 
             place = s.place;
             stands = k.stands;
             prio = own_nice m a s.place orig pid nice k.stands (λ h. l.prio pid (h, refl));
-            policy = k.policy ∙ ap (λ (x : Ticket). x.idle) same;
+            policy = k.policy ∙ ap (λ (x : Ticket). x.policy) same;
             own = s.runtime;
             runtime = k.runtime;
             sort = claim.sort;

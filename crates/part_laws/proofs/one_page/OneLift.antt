@@ -3,7 +3,7 @@
 use Rattle.std.proofs.Common.{◌≡◌, ℕ, Option, ℤ, ◌≤ℤ◌, inl, inr, List, [], ◌∷◌, sym, ap, ◌∙◌, subst, arith}
 use Rattle.std.proofs.lemmas.Int.{ints}
 use Rattle.std.specs.Int.{int_max}
-use Rattle.cfs_model.specs.Settings.{Settings}
+use Rattle.cfs_model.specs.Knobs.{KnobsView}
 use Rattle.replay_model.specs.Part.{Part, charged_part, IsLeastHere, IsRaisedHere, IsLiftedPart}
 use Rattle.replay_model.specs.Found.{IsFound}
 use Rattle.replay_model.specs.Deeds.{reniced}
@@ -56,7 +56,7 @@ none_first (test ∷ tests) kind pid none (inl h) = none.0 pid h.0
 none_first (test ∷ tests) kind pid none (inr h) = none_first tests kind pid none.1 h.1
 
 -- a step of the part that keeps the slack doesn't fail
-pub step_no_fault : (knobs : Settings) (cpu : ℕ) (before : ReplayStateView) (step : Step) (part : Part)
+pub step_no_fault : (knobs : KnobsView) (cpu : ℕ) (before : ReplayStateView) (step : Step) (part : Part)
     (after : ReplayStateView)
     → PartStep knobs cpu before.part step part
     → ((pid : ℕ) → ¬ IsIdleTooLong knobs.slack before.since step.time pid) → FailsStep knobs cpu before step after → ⊥
@@ -71,7 +71,7 @@ step_no_fault knobs cpu before step part after s in_time f = go f.fails
         (same_found step before.part s.found late.0 s.passes.is_found late.2) s.passes.none) late.3
 
 -- the part after a step that passes is that of the part's step
-pub step_same_part : (knobs : Settings) (cpu : ℕ) (before : ReplayStateView) (step : Step) (part : Part)
+pub step_same_part : (knobs : KnobsView) (cpu : ℕ) (before : ReplayStateView) (step : Step) (part : Part)
     (after : ReplayStateView)
     → PartStep knobs cpu before.part step part
     → PassesStep knobs cpu before step after → after.part ≡ part

@@ -1,7 +1,7 @@
 -- A stream has at most one page by its first steps.
 use Rattle.std.proofs.Common.{◌≡◌, ℕ, nat_le, cond, Option, Some, None, inl, inr, List, [], ◌∷◌, length, take, sym, ap}
 use Rattle.std.proofs.Common.{◌∙◌, subst}
-use Rattle.cfs_model.specs.Settings.{Settings}
+use Rattle.cfs_model.specs.Knobs.{KnobsView}
 use Rattle.replay_model.specs.AfterDeed.{after_deed}
 use Rattle.replay_model.specs.Tests.{FirstHolds, early_tests, late_tests}
 use Rattle.replay_model.specs.Cut.{StreamView}
@@ -26,12 +26,12 @@ same_progress a b e f g =
     ∙ ap (λ x. record { part = b.part; since = b.since; page = x }) g
 
 -- the part's step of a step that passes
-mine : (knobs : Settings) (cpu : ℕ) (s : ReplayStateView) (step : Step) (a : ReplayStateView)
+mine : (knobs : KnobsView) (cpu : ℕ) (s : ReplayStateView) (step : Step) (a : ReplayStateView)
     → PassesStep knobs cpu s step a
     → PartStep knobs cpu s.part step a.part
 mine knobs cpu s step a p = record { found = p.found; passes = p.passes; result = p.part }
 
-pass_one : (knobs : Settings) (cpu : ℕ) (s : ReplayStateView) (step : Step) (a b : ReplayStateView)
+pass_one : (knobs : KnobsView) (cpu : ℕ) (s : ReplayStateView) (step : Step) (a b : ReplayStateView)
     → PassesStep knobs cpu s step a
     → PassesStep knobs cpu s step b → a ≡ b
 pass_one knobs cpu s step a b p q =
@@ -42,7 +42,7 @@ pass_one knobs cpu s step a b p q =
     (subst (λ x. IsSince s.since step.time x a.since) part p.since) q.since)
     (p.page ∙ ap (λ x. noted s.page s.part x step) found ∙ sym q.page)
 
-fail_test_one : (knobs : Settings) (cpu : ℕ) (s : ReplayStateView) (step : Step) → OneRunsIn s.part
+fail_test_one : (knobs : KnobsView) (cpu : ℕ) (s : ReplayStateView) (step : Step) → OneRunsIn s.part
     → (kind other : Kind) (p q : ℕ) → FailsTest knobs cpu s step kind p → FailsTest knobs cpu s step other q
     → (kind ≡ other) × (p ≡ q)
 fail_test_one knobs cpu s step one kind other p q (inl h) (inl k) = one_first (early_tests knobs s.since s.part step)
@@ -55,7 +55,8 @@ fail_test_one knobs cpu s step one kind other p q (inr h) (inr k) =
     one_first (late_tests knobs cpu k.0 step) (late_one knobs cpu k.0 step) kind other p q
     (subst (λ x. FirstHolds (late_tests knobs cpu x step) kind p) (same_found step s.part h.0 k.0 h.2 k.2) h.3) k.3
 
-fail_one : (knobs : Settings) (cpu : ℕ) (s : ReplayStateView) (step : Step) → OneRunsIn s.part → (a b : ReplayStateView)
+fail_one : (knobs : KnobsView) (cpu : ℕ) (s : ReplayStateView) (step : Step) → OneRunsIn s.part
+    → (a b : ReplayStateView)
     → FailsStep knobs cpu s step a → FailsStep knobs cpu s step b → a ≡ b
 fail_one knobs cpu s step one a b p q =
     let e = fail_test_one knobs cpu s step one p.kind q.kind p.pid q.pid p.fails q.fails in
@@ -64,7 +65,7 @@ fail_one knobs cpu s step one a b p q =
     p.result ∙ ap (λ kind. with_fault s (fault kind p.pid)) e.0 ∙ ap (λ pid. with_fault s (fault q.kind pid)) e.1
     ∙ sym q.result
 
-step_one : (knobs : Settings) (cpu : ℕ) (s : ReplayStateView) (step : Step) → OneRunsIn s.part
+step_one : (knobs : KnobsView) (cpu : ℕ) (s : ReplayStateView) (step : Step) → OneRunsIn s.part
     → (o : Option StepFault) (a b : ReplayStateView) → IsReplayStep knobs cpu o s step a
     → IsReplayStep knobs cpu o s step b
     → a ≡ b
@@ -76,7 +77,7 @@ step_one knobs cpu s step one None a b (inr p) (inl q) = absurd
     (step_no_fault knobs cpu s step b.part a (mine knobs cpu s step b q) q.in_time p)
 step_one knobs cpu s step one None a b (inr p) (inr q) = fail_one knobs cpu s step one a b p q
 
-step_keeps : (knobs : Settings) (cpu : ℕ) (s : ReplayStateView) (step : Step) → OneRunsIn s.part
+step_keeps : (knobs : KnobsView) (cpu : ℕ) (s : ReplayStateView) (step : Step) → OneRunsIn s.part
     → (o : Option StepFault) (a : ReplayStateView) → IsReplayStep knobs cpu o s step a → OneRunsIn a.part
 step_keeps knobs cpu s step one (Some fault) a p = subst (λ x. OneRunsIn x.part) (sym p) one
 step_keeps knobs cpu s step one None a (inl p) =
@@ -85,7 +86,7 @@ step_keeps knobs cpu s step one None a (inl p) =
     (clear_of knobs cpu p.found step p.passes.none))
 step_keeps knobs cpu s step one None a (inr p) = subst (λ x. OneRunsIn x.part) (sym p.result) one
 
-pub replay_one : (knobs : Settings) (cpu : ℕ) (s : ReplayStateView) (steps : List Step) (a b : ReplayStateView)
+pub replay_one : (knobs : KnobsView) (cpu : ℕ) (s : ReplayStateView) (steps : List Step) (a b : ReplayStateView)
     → OneRunsIn s.part
     → IsReplay knobs cpu s steps a → IsReplay knobs cpu s steps b → a ≡ b
 replay_one knobs cpu s [] a b one p q = p ∙ sym q

@@ -1,7 +1,7 @@
 -- Each test of a step holds of at most one pid, so the first that holds is one, with one pid.
 use Rattle.std.proofs.Common.{◌≡◌, ℕ, zero, suc, Option, Some, None, option_map, inl, inr, List, [], ◌∷◌, sym, ap, ◌∙◌}
 use Rattle.std.specs.Bool.{⊤}
-use Rattle.cfs_model.specs.Settings.{Settings}
+use Rattle.cfs_model.specs.Knobs.{KnobsView}
 use Rattle.replay_model.specs.Part.{Part, Entity, IsIn}
 use Rattle.replay_model.specs.PartWords.{OneRunsIn}
 use Rattle.replay_model.specs.QueueTests.{IsIdleTooLong, IsOutOfRange, IsStrangeNice, IsMoveHome, IsSelfSwitch}
@@ -59,44 +59,44 @@ module _ (cpu : ℕ) (part : Part) where
   home_one : (deed : Deed) → OfOne (IsMoveHome cpu deed)
   home_one (Switch prev pn way next nn) p q h k = absurd h
   home_one (Wake task nice) p q h k = absurd h
-  home_one (Born task nice idle) p q h k = absurd h
+  home_one (Born task nice policy) p q h k = absurd h
   home_one (Leave task nice dest) p q h k = both task p q h.1 k.1
-  home_one (Arrive task nice orig idle) p q h k = absurd h
+  home_one (Arrive task nice orig policy) p q h k = absurd h
 
   self_one : (deed : Deed) → OfOne (IsSelfSwitch deed)
   self_one (Switch prev pn way next nn) p q h k = both prev p q h.1 k.1
   self_one (Wake task nice) p q h k = absurd h
-  self_one (Born task nice idle) p q h k = absurd h
+  self_one (Born task nice policy) p q h k = absurd h
   self_one (Leave task nice dest) p q h k = absurd h
-  self_one (Arrive task nice orig idle) p q h k = absurd h
+  self_one (Arrive task nice orig policy) p q h k = absurd h
 
   prev_one : (deed : Deed) → OfOne (IsPrevNotRunning part deed)
   prev_one (Switch prev pn way next nn) p q h k = both prev p q h.1 k.1
   prev_one (Wake task nice) p q h k = absurd h
-  prev_one (Born task nice idle) p q h k = absurd h
+  prev_one (Born task nice policy) p q h k = absurd h
   prev_one (Leave task nice dest) p q h k = absurd h
-  prev_one (Arrive task nice orig idle) p q h k = absurd h
+  prev_one (Arrive task nice orig policy) p q h k = absurd h
 
   strange_one : (deed : Deed) → OfOne (IsStrange part deed)
   strange_one (Switch prev pn way next nn) p q h k = absurd h
   strange_one (Wake task nice) p q h k = both task p q h.1 k.1
-  strange_one (Born task nice idle) p q h k = absurd h
+  strange_one (Born task nice policy) p q h k = absurd h
   strange_one (Leave task nice dest) p q h k = both task p q h.1 k.1
-  strange_one (Arrive task nice orig idle) p q h k = absurd h
+  strange_one (Arrive task nice orig policy) p q h k = absurd h
 
   already_one : (deed : Deed) → OfOne (IsAlready part deed)
   already_one (Switch prev pn way next nn) p q h k = absurd h
   already_one (Wake task nice) p q h k = absurd h
-  already_one (Born task nice idle) p q h k = both task p q h.1 k.1
+  already_one (Born task nice policy) p q h k = both task p q h.1 k.1
   already_one (Leave task nice dest) p q h k = absurd h
-  already_one (Arrive task nice orig idle) p q h k = both task p q h.1 k.1
+  already_one (Arrive task nice orig policy) p q h k = both task p q h.1 k.1
 
   running_one : (deed : Deed) → OfOne (IsMoveRunning part deed)
   running_one (Switch prev pn way next nn) p q h k = absurd h
   running_one (Wake task nice) p q h k = absurd h
-  running_one (Born task nice idle) p q h k = absurd h
+  running_one (Born task nice policy) p q h k = absurd h
   running_one (Leave task nice dest) p q h k = both task p q h.1 k.1
-  running_one (Arrive task nice orig idle) p q h k = absurd h
+  running_one (Arrive task nice orig policy) p q h k = absurd h
 
   prio_one : (deed : Deed) → OfOne (IsWrongPrio part deed)
   prio_one (Switch prev pn way next nn) p q (inl h) (inl k) = both prev p q h.1 k.1
@@ -104,9 +104,9 @@ module _ (cpu : ℕ) (part : Part) where
   prio_one (Switch prev pn way next nn) p q (inr h) (inl k) = absurd (h.0 k.0)
   prio_one (Switch prev pn way next nn) p q (inr h) (inr k) = both next p q h.2 k.2
   prio_one (Wake task nice) p q h k = both task p q h.1 k.1
-  prio_one (Born task nice idle) p q h k = absurd h
+  prio_one (Born task nice policy) p q h k = absurd h
   prio_one (Leave task nice dest) p q h k = both task p q h.1 k.1
-  prio_one (Arrive task nice orig idle) p q h k = absurd h
+  prio_one (Arrive task nice orig policy) p q h k = absurd h
 
   missing_one : (deed : Deed) (claim : Option Claim) → OfOne (IsClaimMissing part deed claim)
   missing_one deed claim p q h k = same_some (claimant part deed) p q h.0 k.0
@@ -115,12 +115,12 @@ module _ (cpu : ℕ) (part : Part) where
   extra_one (Leave task nice dest) claim p q h k = absurd h
   extra_one (Switch prev pn way next nn) None p q h k = absurd h
   extra_one (Wake task nice) None p q h k = absurd h
-  extra_one (Born task nice idle) None p q h k = absurd h
-  extra_one (Arrive task nice orig idle) None p q h k = absurd h
+  extra_one (Born task nice policy) None p q h k = absurd h
+  extra_one (Arrive task nice orig policy) None p q h k = absurd h
   extra_one (Switch prev pn way next nn) (Some claim) p q h k = both claim.pid p q h.1 k.1
   extra_one (Wake task nice) (Some claim) p q h k = both claim.pid p q h.1 k.1
-  extra_one (Born task nice idle) (Some claim) p q h k = both claim.pid p q h.1 k.1
-  extra_one (Arrive task nice orig idle) (Some claim) p q h k = both claim.pid p q h.1 k.1
+  extra_one (Born task nice policy) (Some claim) p q h k = both claim.pid p q h.1 k.1
+  extra_one (Arrive task nice orig policy) (Some claim) p q h k = both claim.pid p q h.1 k.1
 
   other_one : (deed : Deed) (claim : Option Claim) → OfOne (IsClaimPid part deed claim)
   other_one deed None p q h k = absurd h
@@ -133,55 +133,55 @@ module _ (cpu : ℕ) (part : Part) where
   put_back_one (Switch (suc n) pn Sleeps next nn) claim p q h k = absurd h
   put_back_one (Switch (suc n) pn Ends next nn) claim p q h k = absurd h
   put_back_one (Wake task nice) claim p q h k = absurd h
-  put_back_one (Born task nice idle) claim p q h k = absurd h
+  put_back_one (Born task nice policy) claim p q h k = absurd h
   put_back_one (Leave task nice dest) claim p q h k = absurd h
-  put_back_one (Arrive task nice orig idle) claim p q h k = absurd h
+  put_back_one (Arrive task nice orig policy) claim p q h k = absurd h
 
   wake_one : (credit : ℕ) (deed : Deed) (claim : Option Claim) → OfOne (IsWakeOutside credit part deed claim)
   wake_one credit (Switch prev pn way next nn) claim p q h k = absurd h
   wake_one credit (Wake task nice) None p q h k = absurd h
   wake_one credit (Wake task nice) (Some claim) p q h k = both task p q h.1 k.1
-  wake_one credit (Born task nice idle) claim p q h k = absurd h
+  wake_one credit (Born task nice policy) claim p q h k = absurd h
   wake_one credit (Leave task nice dest) claim p q h k = absurd h
-  wake_one credit (Arrive task nice orig idle) claim p q h k = absurd h
+  wake_one credit (Arrive task nice orig policy) claim p q h k = absurd h
 
   fork_one : (debit : ℕ) (deed : Deed) (claim : Option Claim) → OfOne (IsForkOutside debit part deed claim)
   fork_one debit (Switch prev pn way next nn) claim p q h k = absurd h
   fork_one debit (Wake task nice) claim p q h k = absurd h
-  fork_one debit (Born task nice idle) None p q h k = absurd h
-  fork_one debit (Born task nice idle) (Some claim) p q h k = both task p q h.1 k.1
+  fork_one debit (Born task nice policy) None p q h k = absurd h
+  fork_one debit (Born task nice policy) (Some claim) p q h k = both task p q h.1 k.1
   fork_one debit (Leave task nice dest) claim p q h k = absurd h
-  fork_one debit (Arrive task nice orig idle) claim p q h k = absurd h
+  fork_one debit (Arrive task nice orig policy) claim p q h k = absurd h
 
   next_one : (deed : Deed) → OfOne (IsNextNotWaiting part deed)
   next_one (Switch prev pn way zero nn) p q h k = absurd h
   next_one (Switch prev pn way (suc n) nn) p q h k = both (suc n) p q h.1 k.1
   next_one (Wake task nice) p q h k = absurd h
-  next_one (Born task nice idle) p q h k = absurd h
+  next_one (Born task nice policy) p q h k = absurd h
   next_one (Leave task nice dest) p q h k = absurd h
-  next_one (Arrive task nice orig idle) p q h k = absurd h
+  next_one (Arrive task nice orig policy) p q h k = absurd h
 
   beside_one : (deed : Deed) → OfOne (IsIdleBesideWaiting part deed)
   beside_one (Switch prev pn way zero nn) p q h k = both 0 p q h.1 k.1
   beside_one (Switch prev pn way (suc n) nn) p q h k = absurd h
   beside_one (Wake task nice) p q h k = absurd h
-  beside_one (Born task nice idle) p q h k = absurd h
+  beside_one (Born task nice policy) p q h k = absurd h
   beside_one (Leave task nice dest) p q h k = absurd h
-  beside_one (Arrive task nice orig idle) p q h k = absurd h
+  beside_one (Arrive task nice orig policy) p q h k = absurd h
 
   least_one : (granularity : ℕ) (deed : Deed) → OfOne (IsNotLeast granularity part deed)
   least_one granularity (Switch prev pn way zero nn) p q h k = absurd h
   least_one granularity (Switch prev pn way (suc n) nn) p q h k = both (suc n) p q h.1 k.1
   least_one granularity (Wake task nice) p q h k = absurd h
-  least_one granularity (Born task nice idle) p q h k = absurd h
+  least_one granularity (Born task nice policy) p q h k = absurd h
   least_one granularity (Leave task nice dest) p q h k = absurd h
-  least_one granularity (Arrive task nice orig idle) p q h k = absurd h
+  least_one granularity (Arrive task nice orig policy) p q h k = absurd h
 
-pub early_one : (knobs : Settings) (since : Option ℕ) (part : Part) (step : Step) → OneRunsIn part
+pub early_one : (knobs : KnobsView) (since : Option ℕ) (part : Part) (step : Step) → OneRunsIn part
     → EachOfOne (early_tests knobs since part step)
 early_one knobs since part step one = (idle_one knobs.slack since step.time, (range_one part step.time one, tt))
 
-pub late_one : (knobs : Settings) (cpu : ℕ) (part : Part) (step : Step) → EachOfOne (late_tests knobs cpu part step)
+pub late_one : (knobs : KnobsView) (cpu : ℕ) (part : Part) (step : Step) → EachOfOne (late_tests knobs cpu part step)
 late_one knobs cpu part step =
     let d = step.deed in let c = step.claim in (
       nice_one part step.nice,

@@ -1,7 +1,7 @@
 -- A step that passes the tests leaves at most one task running.
 use Rattle.std.proofs.Common.{◌≡◌, ◌≢◌, ℕ, zero, suc, Bool, Option, Some, None, option_map, ℤ, ◌⊎◌, inl, inr, refl, sym}
 use Rattle.std.proofs.Common.{ap, ◌∙◌, subst}
-use Rattle.cfs_model.specs.Settings.{Settings}
+use Rattle.cfs_model.specs.Knobs.{KnobsView}
 use Rattle.replay_model.specs.Part.{Part, Entity, place_in, IsIn, NobodyIn, charged_in, IsLiftedPart}
 use Rattle.replay_model.specs.PartWords.{OneRunsIn}
 use Rattle.replay_model.specs.Found.{IsFound}
@@ -22,6 +22,7 @@ use Rattle.cfs_model.specs.declared.task.Place.TheVariants.{Run, Wait, Rest}
 use Rattle.replay_model.specs.declared.step.Deed.{Deed}
 use Rattle.replay_model.specs.declared.step.Deed.TheVariants.{Switch, Wake, Born, Leave, Arrive}
 use Rattle.replay_model.specs.declared.step.Step.{Step}
+use Rattle.cfs_model.specs.declared.policy.Policy.{Policy}
 
 abbrev place_of : Option Entity → Option Place
 place_of o = option_map (λ (s : Entity). s.place) o
@@ -96,37 +97,37 @@ wake_run : (claim : Option Claim) (o : Option Entity) → place_of (option_map (
 wake_run claim None h = h
 wake_run claim (Some s) h = ap Some (woken_run claim s s.place refl cc)
 
-born_run : (nice : ℤ) (idle : Bool) (claim : Option Claim)
+born_run : (nice : ℤ) (policy : Policy) (claim : Option Claim)
     → place_of (option_map
-    (λ (c : Claim). let s : Entity = record { place = Wait; nice = nice; idle = idle; runtime = c.v } in s) claim)
+    (λ (c : Claim). let s : Entity = record { place = Wait; nice = nice; policy = policy; runtime = c.v } in s) claim)
     ≡ Some Run → ⊥
-born_run nice idle None h = no_some Run h
-born_run nice idle (Some claim) h = cc
+born_run nice policy None h = no_some Run h
+born_run nice policy (Some claim) h = cc
 
-come_run : (nice : ℤ) (idle : Bool) (claim : Option Claim)
+come_run : (nice : ℤ) (policy : Policy) (claim : Option Claim)
     → place_of (option_map
     (λ (c : Claim). let s : Entity = record
-    { place = place_of_sort c.sort; nice = nice; idle = idle; runtime = c.v } in s) claim)
+    { place = place_of_sort c.sort; nice = nice; policy = policy; runtime = c.v } in s) claim)
     ≡ Some Run → ⊥
-come_run nice idle None h = no_some Run h
-come_run nice idle (Some claim) h = go claim.sort h
+come_run nice policy None h = no_some Run h
+come_run nice policy (Some claim) h = go claim.sort h
   where
     go : (sort : ClaimSort) → Some (place_of_sort sort) ≡ Some Run → ⊥
     go At h = cc
     go Pass h = cc
 
-deed_one_runs : (knobs : Settings) (cpu : ℕ) (l : Part) (deed : Deed) (claim : Option Claim) → OneRunsIn l
+deed_one_runs : (knobs : KnobsView) (cpu : ℕ) (l : Part) (deed : Deed) (claim : Option Claim) → OneRunsIn l
     → IsClear knobs cpu l deed claim → OneRunsIn (after_deed l deed claim)
 deed_one_runs knobs cpu l (Switch prev pn way next nn) claim one c =
     next_one_runs (part_after_prev l prev way)
     (prev_nobody l one prev way (runner_is l prev (λ h. c.prev prev (h, refl)))) next
 deed_one_runs knobs cpu l (Wake pid nice) claim one c =
     none_more l one pid (option_map (λ s. woken claim s.place s) (l.tasks pid)) (wake_run claim (l.tasks pid))
-deed_one_runs knobs cpu l (Born pid nice idle) claim one c = none_more l one pid _
-    (λ h. absurd (born_run nice idle claim h))
+deed_one_runs knobs cpu l (Born pid nice policy) claim one c = none_more l one pid _
+    (λ h. absurd (born_run nice policy claim h))
 deed_one_runs knobs cpu l (Leave pid nice dest) claim one c = none_more l one pid None (λ h. no_some Run h)
-deed_one_runs knobs cpu l (Arrive pid nice orig idle) claim one c = none_more l one pid _
-    (λ h. absurd (come_run nice idle claim h))
+deed_one_runs knobs cpu l (Arrive pid nice orig policy) claim one c = none_more l one pid _
+    (λ h. absurd (come_run nice policy claim h))
 
 -- nor does a change of a nice value
 place_in_found : (step : Step) (part found : Part) → IsFound step part found → (pid : ℕ)
@@ -136,7 +137,7 @@ place_in_found step part found f pid =
     ∙ lifted_in step.time part f.lifted f.is_lifted pid
 
 -- after a step that passes
-pub step_one_runs : (knobs : Settings) (cpu : ℕ) (part found : Part) (step : Step)
+pub step_one_runs : (knobs : KnobsView) (cpu : ℕ) (part found : Part) (step : Step)
     → OneRunsIn part → IsFound step part found → IsClear knobs cpu found step.deed step.claim
     → OneRunsIn (after_deed found step.deed step.claim)
 step_one_runs knobs cpu part found step one f c =

@@ -1,6 +1,6 @@
 -- A step of the machine by an event that touches one processor is a step of the part there, and other parts stay.
 use Rattle.std.proofs.Common.{◌≡◌, ℕ, Bool, Option, [], ◌∷◌, sym, ap, ◌∙◌, subst}
-use Rattle.cfs_model.specs.Settings.{Settings}
+use Rattle.cfs_model.specs.Knobs.{KnobsView}
 use Rattle.cfs_model.specs.Machine.{Machine, Stands, with_floor}
 use Rattle.cfs_model.specs.Touch.{touched}
 use Rattle.cfs_model.specs.Lifted.{charged, IsLiftedAt, IsLifted}
@@ -29,22 +29,24 @@ use Rattle.cfs_model.specs.declared.act.Act.TheVariants.{Switch, Wake, Born, Shi
 use Rattle.cfs_model.specs.declared.claim.Claim.{Claim}
 use Rattle.cfs_model.specs.declared.task.Place.{Place}
 use Rattle.cfs_model.specs.declared.task.Place.TheVariants.{Run, Wait, Rest}
+use Rattle.cfs_model.specs.declared.policy.Policy.{Policy}
 
 -- what an event's own change says of the parts
-record SaysParts (knobs : Settings) (m : Machine) (cpu : ℕ) (act : Act) (claim : Option Claim) (idle : Bool)
+record SaysParts (knobs : KnobsView) (m : Machine) (cpu : ℕ) (act : Act) (claim : Option Claim) (policy : Policy)
     (after : Machine) : Type 0 where
-  clear : IsClear knobs cpu (part_of m cpu) (deed_at cpu idle act) (claim_for (deed_at cpu idle act) claim)
-  here : part_of after cpu ≡ after_deed (part_of m cpu) (deed_at cpu idle act) (claim_for (deed_at cpu idle act) claim)
+  clear : IsClear knobs cpu (part_of m cpu) (deed_at cpu policy act) (claim_for (deed_at cpu policy act) claim)
+  here : part_of after cpu ≡ after_deed (part_of m cpu) (deed_at cpu policy act) (claim_for (deed_at cpu policy act)
+      claim)
   others : OthersStay m after cpu
   nowhere : BornNowhere m act
 
-change_says : (knobs : Settings) (m : Machine) → IsApart m
-    → (cpu : ℕ) (act : Act) (claim : Option Claim) (idle : Bool) (after : Machine) → touched act ≡ cpu ∷ []
-    → Changes knobs m act claim idle after
-    → SaysParts knobs m cpu act claim idle after
-change_says knobs m a cpu (Switch here prev pn way next nn) claim idle after t s =
+change_says : (knobs : KnobsView) (m : Machine) → IsApart m
+    → (cpu : ℕ) (act : Act) (claim : Option Claim) (policy : Policy) (after : Machine) → touched act ≡ cpu ∷ []
+    → Changes knobs m act claim policy after
+    → SaysParts knobs m cpu act claim policy after
+change_says knobs m a cpu (Switch here prev pn way next nn) claim policy after t s =
     let p = switch_part knobs m a here prev pn way next nn claim after s in
-    subst (λ x. SaysParts knobs m x (Switch here prev pn way next nn) claim idle after) (heads here cpu t)
+    subst (λ x. SaysParts knobs m x (Switch here prev pn way next nn) claim policy after) (heads here cpu t)
     (record {
       clear = switch_clear knobs m a here prev pn way next nn claim after s;
       here = p.0;
@@ -52,20 +54,20 @@ change_says knobs m a cpu (Switch here prev pn way next nn) claim idle after t s
       nowhere =
           tt;
     })
-change_says knobs m a cpu (Wake here pid nice) claim idle after t s =
+change_says knobs m a cpu (Wake here pid nice) claim policy after t s =
     let p = wake_part knobs m a here pid nice claim after s in
-    subst (λ x. SaysParts knobs m x (Wake here pid nice) claim idle after) (heads here cpu t)
+    subst (λ x. SaysParts knobs m x (Wake here pid nice) claim policy after) (heads here cpu t)
     (record { clear = wake_clear knobs m a here pid nice claim after s; here = p.0; others = p.1; nowhere = tt })
-change_says knobs m a cpu (Born here pid nice) claim idle after t s =
-    let p = birth_part knobs m here pid nice claim idle after s in
-    subst (λ x. SaysParts knobs m x (Born here pid nice) claim idle after) (heads here cpu t)
+change_says knobs m a cpu (Born here pid nice) claim policy after t s =
+    let p = birth_part knobs m here pid nice claim policy after s in
+    subst (λ x. SaysParts knobs m x (Born here pid nice) claim policy after) (heads here cpu t)
     (record {
-      clear = birth_clear knobs m here pid nice claim idle after s;
+      clear = birth_clear knobs m here pid nice claim policy after s;
       here = p.0;
       others = p.1;
       nowhere = s.nowhere;
     })
-change_says knobs m a cpu (Shift orig dest pid nice) claim idle after t s = absurd cc
+change_says knobs m a cpu (Shift orig dest pid nice) claim policy after t s = absurd cc
 
 -- who stands somewhere stands there in the lifted machine too
 pub still_stands : (m lifted : Machine) (time cpu : ℕ) → IsLiftedAt time cpu m lifted → (place : Place) (d pid : ℕ)
@@ -96,9 +98,9 @@ part_steps knobs before after event cpu o t s =
     let r : IsReniced cpu event.nice s.lifted s.found = subst (λ x. IsReniced x event.nice s.lifted s.found)
     (home_is act cpu t) s.is_reniced in
     let n = reniced_here s.lifted a cpu event.nice s.found r in
-    let nice = nice_is act event.idle cpu event.nice t in
+    let nice = nice_is act event.policy cpu event.nice t in
     let c = change_says knobs s.found (reniced_apart cpu event.nice s.lifted s.found r a) cpu act event.claim
-    event.idle after t s.changes in (
+    event.policy after t s.changes in (
       nowhere_before before s.found
           (λ place d pid k. reniced_stands cpu event.nice s.lifted s.found r place d pid
           (still_stands before s.lifted time cpu l place d pid k)) act c.nowhere,

@@ -14,28 +14,29 @@ use Rattle.cfs_model.proofs.Moves.{put-same, put-other}
 use Rattle.replay_model.proofs.PartFacts.{same_part, StandsAs, stands_as, is_stander, values_of, no_place}
 use Rattle.cfs_model.specs.declared.task.Place.{Place}
 use Rattle.cfs_model.specs.declared.task.Place.TheVariants.{Run, Wait, Rest}
+use Rattle.cfs_model.specs.declared.policy.Policy.{Policy}
 
 -- a task after the charge, by its marks and its values
-charged_place : (r w s idle : Bool) (n v : Option ℤ) (cost : ℤ → Bool → ℕ)
-    → entity_by idle (place_by r w s) n
-    (cond r (option_and_then (λ nice. option_map (λ u. u +ℤ pos (cost nice idle)) v) n) v)
-    ≡ option_map (λ (t : Entity). record t { runtime = runtime_after t.place (cost t.nice t.idle) t.runtime })
-    (entity_by idle (place_by r w s) n v)
-charged_place true w s idle None v cost = refl
-charged_place true w s idle (Some n) None cost = refl
-charged_place true w s idle (Some n) (Some v) cost = refl
-charged_place false true s idle None v cost = refl
-charged_place false true s idle (Some n) None cost = refl
-charged_place false true s idle (Some n) (Some v) cost = refl
-charged_place false false true idle None v cost = refl
-charged_place false false true idle (Some n) None cost = refl
-charged_place false false true idle (Some n) (Some v) cost = refl
-charged_place false false false idle n v cost = refl
+charged_place : (r w s policy : Policy) (n v : Option ℤ) (cost : ℤ → Bool → ℕ)
+    → entity_by policy (place_by r w s) n
+    (cond r (option_and_then (λ nice. option_map (λ u. u +ℤ pos (cost nice policy)) v) n) v)
+    ≡ option_map (λ (t : Entity). record t { runtime = runtime_after t.place (cost t.nice t.policy) t.runtime })
+    (entity_by policy (place_by r w s) n v)
+charged_place true w s policy None v cost = refl
+charged_place true w s policy (Some n) None cost = refl
+charged_place true w s policy (Some n) (Some v) cost = refl
+charged_place false true s policy None v cost = refl
+charged_place false true s policy (Some n) None cost = refl
+charged_place false true s policy (Some n) (Some v) cost = refl
+charged_place false false true policy None v cost = refl
+charged_place false false true policy (Some n) None cost = refl
+charged_place false false true policy (Some n) (Some v) cost = refl
+charged_place false false false policy n v cost = refl
 
 charged_here : (m : Machine) (cpu time pid : ℕ)
     → entity_at (charged m cpu time) cpu pid ≡ option_map (charged_in (part_of m cpu) time) (entity_at m cpu pid)
 charged_here m cpu time pid = charged_place (m.running cpu pid) (m.waiting cpu pid) (m.resting cpu pid)
-    (m.idle pid) (m.nice pid) (m.runtime pid) (cost_at m cpu time)
+    (m.policy pid) (m.nice pid) (m.runtime pid) (cost_at m cpu time)
 
 -- the part of a charged machine with a floor
 charged_floor_part : (m : Machine) (cpu time : ℕ) (f : ℤ)
@@ -46,17 +47,17 @@ charged_floor_part m cpu time f =
     (charged_here m cpu time) (put-same m.floor cpu f) (put-same m.mark cpu time)
 
 -- a task elsewhere isn't charged
-kept_by : (b idle : Bool) (place : Option Place) (n x v : Option ℤ) → (b ≡ true → place ≡ None)
-    → entity_by idle place n (cond b x v) ≡ entity_by idle place n v
-kept_by true idle place n x v h = ap (λ p. entity_by idle p n x) (h refl)
-    ∙ ap (λ p. entity_by idle p n v) (sym (h refl))
-kept_by false idle place n x v h = refl
+kept_by : (b policy : Policy) (place : Option Place) (n x v : Option ℤ) → (b ≡ true → place ≡ None)
+    → entity_by policy place n (cond b x v) ≡ entity_by policy place n v
+kept_by true policy place n x v h = ap (λ p. entity_by policy p n x) (h refl)
+    ∙ ap (λ p. entity_by policy p n v) (sym (h refl))
+kept_by false policy place n x v h = refl
 
 charged_elsewhere : (m : Machine) → IsApart m → (cpu time : ℕ) (f : ℤ) (d : ℕ) → d ≢ cpu
     → part_of (with_floor (charged m cpu time) cpu f) d ≡ part_of m d
 charged_elsewhere m a cpu time f d ne =
     same_part (part_of (with_floor (charged m cpu time) cpu f) d) (part_of m d)
-    (λ pid. kept_by (m.running cpu pid) (m.idle pid) (place_by (m.running d pid) (m.waiting d pid) (m.resting d pid))
+    (λ pid. kept_by (m.running cpu pid) (m.policy pid) (place_by (m.running d pid) (m.waiting d pid) (m.resting d pid))
     (m.nice pid) (charged_runtime m cpu time pid) (m.runtime pid)
     (λ h. no_place m d pid (λ place k. ne (a.one_place pid place Run d cpu k h).1)))
     (put-other m.floor cpu f d ne) (put-other m.mark cpu time d ne)
@@ -143,9 +144,9 @@ raised_in m cpu f g (inr h) =
 can_charge : (m : Machine) → IsApart m → (cpu time : ℕ) → ((pid : ℕ) → ¬ IsOutOfRange (part_of m cpu) time pid)
     → CanCharge m cpu time
 can_charge m a cpu time h pid nice v r e f =
-    let s : Entity = record { place = Run; nice = nice; idle = m.idle pid; runtime = v } in
+    let s : Entity = record { place = Run; nice = nice; policy = m.policy pid; runtime = v } in
     let here = is_stander m a Run cpu pid nice v r e f in
-    let cost : ℕ = cost_at m cpu time nice (m.idle pid) in (
+    let cost : ℕ = cost_at m cpu time nice (m.policy pid) in (
       elim (cases_lt greatest cost)
           [ inl k ↦ absurd (h pid (record { task = s; stands = here; runs = refl; above = inl k })) | inr k ↦ k ],
       by_lt_z (pos greatest) (v +ℤ pos cost)

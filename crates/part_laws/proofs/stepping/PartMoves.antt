@@ -9,6 +9,7 @@ use Rattle.cfs_model.proofs.Moves.{put-same, put-other, same_or_not, IsPutAt, Is
 use Rattle.replay_model.proofs.PartFacts.{same_part, stander_at, values_of, no_stander}
 use Rattle.cfs_model.specs.declared.task.Place.{Place}
 use Rattle.cfs_model.specs.declared.task.Place.TheVariants.{Run, Wait, Rest}
+use Rattle.cfs_model.specs.declared.policy.Policy.{Policy}
 
 same_truth : (b c : Bool) → (b ≡ true → c ≡ true) → (c ≡ true → b ≡ true) → b ≡ c
 same_truth true c f g = sym (f refl)
@@ -18,7 +19,7 @@ same_truth false false f g = refl
 -- a pid that stands in the same places with the same values is the same task
 same_stander : (m after : Machine) (d q : ℕ) → ((r : Place) → Stands m r d q → Stands after r d q)
     → ((r : Place) → Stands after r d q → Stands m r d q)
-    → after.idle q ≡ m.idle q → after.nice q ≡ m.nice q → after.runtime q ≡ m.runtime q
+    → after.policy q ≡ m.policy q → after.nice q ≡ m.nice q → after.runtime q ≡ m.runtime q
     → entity_at after d q ≡ entity_at m d q
 same_stander m after d q up down i e f =
     let r : after.running d q ≡ m.running d q = same_truth _ _ (down Run) (up Run) in
@@ -27,12 +28,13 @@ same_stander m after d q up down i e f =
     let at = place_by (m.running d q) (m.waiting d q) (m.resting d q) in
     ap (λ x. entity_by x (place_by (after.running d q) (after.waiting d q) (after.resting d q)) (after.nice q)
     (after.runtime q)) i
-    ∙ ap (λ x. entity_by (m.idle q) (place_by x (after.waiting d q) (after.resting d q)) (after.nice q)
+    ∙ ap (λ x. entity_by (m.policy q) (place_by x (after.waiting d q) (after.resting d q)) (after.nice q)
     (after.runtime q)) r
-    ∙ ap (λ x. entity_by (m.idle q) (place_by (m.running d q) x (after.resting d q)) (after.nice q) (after.runtime q)) w
-    ∙ ap (λ x. entity_by (m.idle q) (place_by (m.running d q) (m.waiting d q) x) (after.nice q) (after.runtime q)) s
-    ∙ ap (λ x. entity_by (m.idle q) at x (after.runtime q)) e
-    ∙ ap (λ x. entity_by (m.idle q) at (m.nice q) x) f
+    ∙ ap (λ x. entity_by (m.policy q) (place_by (m.running d q) x (after.resting d q)) (after.nice q) (after.runtime
+    q)) w
+    ∙ ap (λ x. entity_by (m.policy q) (place_by (m.running d q) (m.waiting d q) x) (after.nice q) (after.runtime q)) s
+    ∙ ap (λ x. entity_by (m.policy q) at x (after.runtime q)) e
+    ∙ ap (λ x. entity_by (m.policy q) at (m.nice q) x) f
 
 -- tasks that agree with a map with one pid changed, at that pid and elsewhere
 pub put_tasks : (f g : ℕ → Option Entity) (pid : ℕ) (o : Option Entity) → g pid ≡ o → ((q : ℕ) → q ≢ pid → g q ≡ f q)
@@ -47,23 +49,23 @@ put_tasks f g pid o here others q = go (same_or_not q pid)
 pub record KeepsRest (m after : Machine) (pid : ℕ) : Type 0 where
   pub runtimes : (q : ℕ) → q ≢ pid → after.runtime q ≡ m.runtime q
   pub nices : (q : ℕ) → q ≢ pid → after.nice q ≡ m.nice q
-  pub policies : (q : ℕ) → q ≢ pid → after.idle q ≡ m.idle q
+  pub policies : (q : ℕ) → q ≢ pid → after.policy q ≡ m.policy q
   pub floors : after.floor ≡ m.floor
   pub marks : after.mark ≡ m.mark
 
 -- the part to which a task comes
-pub placed_part : (m after : Machine) (pid : ℕ) (to : Place) (dest : ℕ) (nice : ℤ) (idle : Bool) (v : ℤ)
+pub placed_part : (m after : Machine) (pid : ℕ) (to : Place) (dest : ℕ) (nice : ℤ) (policy : Policy) (v : ℤ)
     → IsPutAt m after pid to dest → KeepsRest m after pid
-    → after.nice pid ≡ Some nice → after.idle pid ≡ idle → after.runtime pid ≡ Some v
+    → after.nice pid ≡ Some nice → after.policy pid ≡ policy → after.runtime pid ≡ Some v
     → part_of after dest
-    ≡ with_entity (part_of m dest) pid (Some (record { place = to; nice = nice; idle = idle; runtime = v }))
-placed_part m after pid to dest nice idle v p k e i f =
-    let s : Option Entity = Some (record { place = to; nice = nice; idle = idle; runtime = v }) in
+    ≡ with_entity (part_of m dest) pid (Some (record { place = to; nice = nice; policy = policy; runtime = v }))
+placed_part m after pid to dest nice policy v p k e i f =
+    let s : Option Entity = Some (record { place = to; nice = nice; policy = policy; runtime = v }) in
     same_part (part_of after dest) (with_entity (part_of m dest) pid s)
     (put_tasks (entity_at m dest) (entity_at after dest) pid s
     (stander_at after to dest pid nice v p.itself
     (λ r h. elim (p.cases r dest pid h) [ inl x ↦ x.1 | inr x ↦ absurd (x.0 refl) ]) e f
-    ∙ ap (λ x. Some (record { place = to; nice = nice; idle = x; runtime = v })) i)
+    ∙ ap (λ x. Some (record { place = to; nice = nice; policy = x; runtime = v })) i)
     (λ q ne. same_stander m after dest q (λ r h. p.kept r dest q ne h)
     (λ r h. elim (p.cases r dest q h) [ inl x ↦ absurd (ne x.0) | inr x ↦ x.1 ])
     (k.policies q ne) (k.nices q ne) (k.runtimes q ne)))
@@ -108,7 +110,7 @@ elsewhere m a place cpu pid h d ne r k = ne (a.one_place pid r place d cpu k h).
 -- a task that goes to another place at its processor
 pub goes_here : (m after : Machine) → IsApart m → (place : Place) (cpu pid : ℕ) (to : Place) → Stands m place cpu pid
     → IsPutAt m after pid to cpu
-    → after.runtime ≡ m.runtime → after.nice ≡ m.nice → after.idle ≡ m.idle → after.floor ≡ m.floor
+    → after.runtime ≡ m.runtime → after.nice ≡ m.nice → after.policy ≡ m.policy → after.floor ≡ m.floor
     → after.mark ≡ m.mark
     → (part_of after cpu ≡ goes (part_of m cpu) pid to) × ((d : ℕ) → d ≢ cpu → part_of after d ≡ part_of m d)
 goes_here m after a place cpu pid to h p e f i g k =
@@ -120,7 +122,7 @@ goes_here m after a place cpu pid to h p e f i g k =
       marks = k;
     } in
     let s = values_of m a place cpu pid h in (
-      placed_part m after pid to cpu s.0.nice s.0.idle s.0.runtime p keeps (ap (λ g. g pid) f ∙ s.3.nice)
+      placed_part m after pid to cpu s.0.nice s.0.policy s.0.runtime p keeps (ap (λ g. g pid) f ∙ s.3.nice)
           (ap (λ h. h pid) i ∙ s.3.policy) (ap (λ g. g pid) e ∙ s.3.runtime)
           ∙ ap (with_entity (part_of m cpu) pid)
           (sym (ap (option_map (λ (t : Entity). record t { place = to })) s.2)),

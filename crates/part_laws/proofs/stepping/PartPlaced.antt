@@ -4,7 +4,7 @@ use Rattle.std.proofs.Common.{◌≡◌, ◌≢◌, ℕ, Bool, Option, Some, Non
 use Rattle.std.proofs.Common.{inl, inr, refl, sym, ap, ◌∙◌, subst, arith}
 use Rattle.std.proofs.lemmas.Int.{ints, by_lt_z}
 use Rattle.std.specs.Int.{int_max}
-use Rattle.cfs_model.specs.Settings.{Settings}
+use Rattle.cfs_model.specs.Knobs.{KnobsView}
 use Rattle.cfs_model.specs.Machine.{Machine, Stands, with_move, with_runtime, with_nice, with_task, with_policy}
 use Rattle.cfs_model.specs.Claimed.{ClaimSays}
 use Rattle.cfs_model.specs.Step.{IsWakeQueued, IsWakeResting, IsBirth}
@@ -24,6 +24,7 @@ use Rattle.cfs_model.specs.declared.claim.ClaimSort.TheVariants.{At}
 use Rattle.cfs_model.specs.declared.task.Place.{Place}
 use Rattle.cfs_model.specs.declared.task.Place.TheVariants.{Run, Wait, Rest}
 use Rattle.replay_model.specs.declared.step.Deed.TheVariants.{Wake, Born}
+use Rattle.cfs_model.specs.declared.policy.Policy.{Policy}
 
 -- a wakeup without a claim changes nothing
 wakes_none : (p : Part) (pid : ℕ) → wakes p pid None ≡ p
@@ -37,22 +38,34 @@ wakes_none p pid =
     go (Some s) = refl
 
 -- the claimed place of a woken task
-woken_to : (claim : Option Claim) (pid : ℕ) (nice : ℤ) (idle : Bool) (own placed : ℤ) → ClaimSays claim At pid placed
-    → option_map (λ s. woken claim s.place s) (Some (record { place = Rest; nice = nice; idle = idle; runtime = own }))
-    ≡ Some (record { place = Wait; nice = nice; idle = idle; runtime = placed })
-woken_to None pid nice idle own placed h = absurd h
-woken_to (Some claim) pid nice idle own placed h =
-    ap (λ v. Some (record { place = Wait; nice = nice; idle = idle; runtime = v })) h.2
+woken_to : (claim : Option Claim) (pid : ℕ) (nice : ℤ) (policy : Policy) (own placed : ℤ)
+    → ClaimSays claim At pid placed
+    → option_map (λ s. woken claim s.place s) (Some (record {
+      place = Rest;
+      nice = nice;
+      policy = policy;
+      runtime =
+          own;
+    }))
+    ≡ Some (record { place = Wait; nice = nice; policy = policy; runtime = placed })
+woken_to None pid nice policy own placed h = absurd h
+woken_to (Some claim) pid nice policy own placed h =
+    ap (λ v. Some (record { place = Wait; nice = nice; policy = policy; runtime = v })) h.2
 
-born_to : (claim : Option Claim) (pid : ℕ) (nice : ℤ) (idle : Bool) (placed : ℤ) → ClaimSays claim At pid placed
-    → option_map (λ (c : Claim). let s : Entity = record { place = Wait; nice = nice; idle = idle; runtime = c.v } in s)
-    claim ≡ Some (record { place = Wait; nice = nice; idle = idle; runtime = placed })
-born_to None pid nice idle placed h = absurd h
-born_to (Some claim) pid nice idle placed h =
-    ap (λ v. Some (record { place = Wait; nice = nice; idle = idle; runtime = v })) h.2
+born_to : (claim : Option Claim) (pid : ℕ) (nice : ℤ) (policy : Policy) (placed : ℤ) → ClaimSays claim At pid placed
+    → option_map (λ (c : Claim). let s : Entity = record {
+      place = Wait;
+      nice = nice;
+      policy = policy;
+      runtime = c.v;
+    } in s)
+    claim ≡ Some (record { place = Wait; nice = nice; policy = policy; runtime = placed })
+born_to None pid nice policy placed h = absurd h
+born_to (Some claim) pid nice policy placed h =
+    ap (λ v. Some (record { place = Wait; nice = nice; policy = policy; runtime = v })) h.2
 
 -- a wakeup of the machine is one of the part, and other parts stay
-pub wake_part : (knobs : Settings) (m : Machine) → IsApart m
+pub wake_part : (knobs : KnobsView) (m : Machine) → IsApart m
     → (cpu pid : ℕ) (nice : ℤ) (claim : Option Claim) (after : Machine)
     → IsWakeQueued m cpu pid nice claim after ⊎ IsWakeResting knobs m cpu pid nice claim after
     → (part_of after cpu ≡ after_deed (part_of m cpu) (Wake pid nice) claim)
@@ -75,37 +88,37 @@ wake_part knobs m a cpu pid nice claim after (inr s) =
       marks = refl;
     } in (
       ap (λ x. part_of x cpu) s.result
-          ∙ placed_part m next pid Wait cpu nice (m.idle pid) s.placed p keeps s.prio refl
+          ∙ placed_part m next pid Wait cpu nice (m.policy pid) s.placed p keeps s.prio refl
           (put-same m.runtime pid (Some s.placed))
           ∙ ap (with_entity (part_of m cpu) pid)
           (sym (ap (option_map (λ (t : Entity). woken claim t.place t))
           (is_stander m a Rest cpu pid nice s.own s.rests s.prio s.runtime)
-          ∙ woken_to claim pid nice (m.idle pid) s.own s.placed s.claimed)),
+          ∙ woken_to claim pid nice (m.policy pid) s.own s.placed s.claimed)),
       (λ d ne. ap (λ x. part_of x d) s.result ∙ placed_away m next pid Wait cpu p keeps d ne
           ∙ none_there m d pid (elsewhere m a Rest cpu pid s.rests d ne)),
     )
 
 -- a birth of the machine is one of the part, and other parts stay
-pub birth_part : (knobs : Settings) (m : Machine) (cpu pid : ℕ) (nice : ℤ) (claim : Option Claim) (idle : Bool)
-    (after : Machine) → IsBirth knobs m cpu pid nice claim idle after
-    → (part_of after cpu ≡ after_deed (part_of m cpu) (Born pid nice idle) claim)
+pub birth_part : (knobs : KnobsView) (m : Machine) (cpu pid : ℕ) (nice : ℤ) (claim : Option Claim) (policy : Policy)
+    (after : Machine) → IsBirth knobs m cpu pid nice claim policy after
+    → (part_of after cpu ≡ after_deed (part_of m cpu) (Born pid nice policy) claim)
     × ((d : ℕ) → d ≢ cpu → part_of after d ≡ part_of m d)
-birth_part knobs m cpu pid nice claim idle after s =
+birth_part knobs m cpu pid nice claim policy after s =
     let joined = with_task m Wait cpu pid in
-    let next = with_policy (with_nice (with_runtime joined pid s.placed) pid nice) pid idle in
+    let next = with_policy (with_nice (with_runtime joined pid s.placed) pid nice) pid policy in
     let p = placed_same m joined next pid Wait cpu (same_sets joined next refl refl refl)
     (join_placed m pid Wait cpu s.nowhere) in
     let keeps : KeepsRest m next pid = record {
       runtimes = put-other m.runtime pid (Some s.placed);
       nices = put-other m.nice pid (Some nice);
-      policies = put-other m.idle pid idle;
+      policies = put-other m.policy pid policy;
       floors = refl;
       marks = refl;
     } in (
       ap (λ x. part_of x cpu) s.result
-          ∙ placed_part m next pid Wait cpu nice idle s.placed p keeps (put-same m.nice pid (Some nice))
-          (put-same m.idle pid idle) (put-same m.runtime pid (Some s.placed))
-          ∙ ap (with_entity (part_of m cpu) pid) (sym (born_to claim pid nice idle s.placed s.claimed)),
+          ∙ placed_part m next pid Wait cpu nice policy s.placed p keeps (put-same m.nice pid (Some nice))
+          (put-same m.policy pid policy) (put-same m.runtime pid (Some s.placed))
+          ∙ ap (with_entity (part_of m cpu) pid) (sym (born_to claim pid nice policy s.placed s.claimed)),
       (λ d ne. ap (λ x. part_of x d) s.result ∙ placed_away m next pid Wait cpu p keeps d ne
           ∙ none_there m d pid (λ r. s.nowhere r d)),
     )
@@ -122,7 +135,7 @@ bounds_of low high v h =
     (not_above low v (λ k. h (λ b. below_not low v b.0 k)), not_above v high (λ k. h (λ b. below_not v high b.1 k)))
 
 -- a wakeup of one who runs or waits
-queued_exists : (knobs : Settings) (m : Machine) → IsApart m
+queued_exists : (knobs : KnobsView) (m : Machine) → IsApart m
     → (cpu pid : ℕ) (nice : ℤ) (claim : Option Claim) (s : Entity) → entity_at m cpu pid ≡ Some s
     → if_resting pid (Some s.place) ≡ None → Stands m Run cpu pid ⊎ Stands m Wait cpu pid
     → IsClear knobs cpu (part_of m cpu) (Wake pid nice) claim → IsWakeQueued m cpu pid nice claim m
@@ -138,7 +151,7 @@ queued_exists knobs m a cpu pid nice (Some claim) s e f q c =
     absurd (c.extra claim.pid (ap (λ o. if_resting pid (option_map (λ (t : Entity). t.place) o)) e ∙ f, refl))
 
 -- a wakeup of one who rests
-resting_exists : (knobs : Settings) (m : Machine) → IsApart m
+resting_exists : (knobs : KnobsView) (m : Machine) → IsApart m
     → (cpu pid : ℕ) (nice : ℤ) (claim : Option Claim) (s : Entity) → entity_at m cpu pid ≡ Some s → s.place ≡ Rest
     → IsClear knobs cpu (part_of m cpu) (Wake pid nice) claim
     → (after : Machine) × IsWakeResting knobs m cpu pid nice claim after
@@ -172,7 +185,7 @@ resting_exists knobs m a cpu pid nice (Some claim) s e f c =
     )
 
 -- a part that passes the tests of a wakeup lets the machine wake the task
-pub wake_exists : (knobs : Settings) (m : Machine) → IsApart m → (cpu pid : ℕ) (nice : ℤ) (claim : Option Claim)
+pub wake_exists : (knobs : KnobsView) (m : Machine) → IsApart m → (cpu pid : ℕ) (nice : ℤ) (claim : Option Claim)
     → IsClear knobs cpu (part_of m cpu) (Wake pid nice) claim
     → (after : Machine) × (IsWakeQueued m cpu pid nice claim after ⊎ IsWakeResting knobs m cpu pid nice claim after)
 wake_exists knobs m a cpu pid nice claim c = go (entity_at m cpu pid) refl
@@ -199,16 +212,16 @@ wake_exists knobs m a cpu pid nice claim c = go (entity_at m cpu pid) refl
     go (Some s) e = at s e s.place refl
 
 -- a part that passes the tests of a birth lets the machine have it, where the pid stands nowhere
-pub birth_exists : (knobs : Settings) (m : Machine) (cpu pid : ℕ) (nice : ℤ) (claim : Option Claim) (idle : Bool)
-    → IsClear knobs cpu (part_of m cpu) (Born pid nice idle) claim
+pub birth_exists : (knobs : KnobsView) (m : Machine) (cpu pid : ℕ) (nice : ℤ) (claim : Option Claim) (policy : Policy)
+    → IsClear knobs cpu (part_of m cpu) (Born pid nice policy) claim
     → ((place : Place) (other : ℕ) → ¬ Stands m place other pid)
-    → (after : Machine) × IsBirth knobs m cpu pid nice claim idle after
-birth_exists knobs m cpu pid nice None idle c nowhere = absurd (c.missing pid (refl, (λ x. x)))
-birth_exists knobs m cpu pid nice (Some claim) idle c nowhere =
+    → (after : Machine) × IsBirth knobs m cpu pid nice claim policy after
+birth_exists knobs m cpu pid nice None policy c nowhere = absurd (c.missing pid (refl, (λ x. x)))
+birth_exists knobs m cpu pid nice (Some claim) policy c nowhere =
     let sort : claim.sort ≡ At = is_at claim.sort (λ ne. c.missing pid (refl, ne)) in
     let who : claim.pid ≡ pid = elim
     (same_or_not claim.pid pid) [ inl e ↦ e | inr ne ↦ absurd (c.other claim.pid ((pid, refl, ne), refl)) ] in
     let b = bounds_of (m.floor cpu) (m.floor cpu +ℤ pos knobs.debit) claim.v (λ h. c.fork pid (h, refl)) in (
-      with_policy (with_nice (with_runtime (with_task m Wait cpu pid) pid claim.v) pid nice) pid idle,
+      with_policy (with_nice (with_runtime (with_task m Wait cpu pid) pid claim.v) pid nice) pid policy,
       record { nowhere = nowhere; placed = claim.v; claimed = (sort, who, refl); from = b.0; to = b.1; result = refl },
     )

@@ -18,6 +18,7 @@ use Rattle.cfs_model.specs.declared.act.Act.TheVariants.{Switch, Wake, Born, Shi
 use Rattle.cfs_model.specs.declared.nice_line.NiceLine.{NiceLine}
 use Rattle.cfs_model.specs.declared.task.Place.{Place}
 use Rattle.cfs_model.specs.declared.task.Place.TheVariants.{Run, Wait, Rest}
+use Rattle.cfs_model.specs.declared.policy.Policy.{Policy}
 
 -- a task with another nice value
 abbrev pub with_new : ℤ → Entity → Entity
@@ -55,11 +56,11 @@ reniced_some change part pid = kept is_some go change part pid
     go nice None = refl
     go nice (Some s) = refl
 
-nice_by : (idle : Bool) (place : Option Place) (old nice : ℤ) (v : Option ℤ)
-    → entity_by idle place (Some nice) v ≡ option_map (with_new nice) (entity_by idle place (Some old) v)
-nice_by idle None old nice v = refl
-nice_by idle (Some place) old nice None = refl
-nice_by idle (Some place) old nice (Some v) = refl
+nice_by : (policy : Policy) (place : Option Place) (old nice : ℤ) (v : Option ℤ)
+    → entity_by policy place (Some nice) v ≡ option_map (with_new nice) (entity_by policy place (Some old) v)
+nice_by policy None old nice v = refl
+nice_by policy (Some place) old nice None = refl
+nice_by policy (Some place) old nice (Some v) = refl
 
 -- where a pid stands
 abbrev place_at : Machine → ℕ → ℕ → Option Place
@@ -69,21 +70,21 @@ module _ (m : Machine) (a : IsApart m) (cpu pid : ℕ) (nice : ℤ) (place : Pla
   nice_here : entity_at (with_nice m pid nice) cpu pid ≡ option_map (with_new nice) (entity_at m cpu pid)
   nice_here =
       let s = values_of m a place cpu pid h in
-      ap (λ n. entity_by (m.idle pid) (place_at m cpu pid) n (m.runtime pid)) (put-same m.nice pid (Some nice))
-      ∙ nice_by (m.idle pid) (place_at m cpu pid) s.0.nice nice (m.runtime pid)
-      ∙ ap (λ n. option_map (with_new nice) (entity_by (m.idle pid) (place_at m cpu pid) n (m.runtime pid)))
+      ap (λ n. entity_by (m.policy pid) (place_at m cpu pid) n (m.runtime pid)) (put-same m.nice pid (Some nice))
+      ∙ nice_by (m.policy pid) (place_at m cpu pid) s.0.nice nice (m.runtime pid)
+      ∙ ap (λ n. option_map (with_new nice) (entity_by (m.policy pid) (place_at m cpu pid) n (m.runtime pid)))
       (sym s.3.nice)
 
   nice_other : (d q : ℕ) → q ≢ pid → entity_at (with_nice m pid nice) d q ≡ entity_at m d q
-  nice_other d q ne = ap (λ n. entity_by (m.idle q) (place_at m d q) n (m.runtime q))
+  nice_other d q ne = ap (λ n. entity_by (m.policy q) (place_at m d q) n (m.runtime q))
       (put-other m.nice pid (Some nice) q ne)
 
   -- the pid stands at no other processor
   nice_elsewhere : (d : ℕ) → d ≢ cpu → entity_at (with_nice m pid nice) d pid ≡ entity_at m d pid
   nice_elsewhere d ne =
       let none = no_place m d pid (λ other k. ne (a.one_place pid other place d cpu k h).1) in
-      ap (λ p. entity_by (m.idle pid) p ((with_nice m pid nice).nice pid) (m.runtime pid)) none
-      ∙ ap (λ p. entity_by (m.idle pid) p (m.nice pid) (m.runtime pid)) (sym none)
+      ap (λ p. entity_by (m.policy pid) p ((with_nice m pid nice).nice pid) (m.runtime pid)) none
+      ∙ ap (λ p. entity_by (m.policy pid) p (m.nice pid) (m.runtime pid)) (sym none)
 
 -- a change in the machine is one in the part where the task stands, which it does there; no other part changes
 pub reniced_here : (m : Machine) → IsApart m → (cpu : ℕ) (change : Option NiceLine) (found : Machine)
@@ -179,9 +180,9 @@ home_is (Wake here pid nice) cpu t = cc
 home_is (Born here pid nice) cpu t = cc
 home_is (Shift orig dest pid nice) cpu t = absurd cc
 
-pub nice_is : (act : Act) (idle : Bool) (cpu : ℕ) (change : Option NiceLine) → touched act ≡ cpu ∷ []
-    → nice_for (deed_at cpu idle act) change ≡ change
-nice_is (Switch here prev pn way next nn) idle cpu change t = refl
-nice_is (Wake here pid nice) idle cpu change t = refl
-nice_is (Born here pid nice) idle cpu change t = refl
-nice_is (Shift orig dest pid nice) idle cpu change t = absurd cc
+pub nice_is : (act : Act) (policy : Policy) (cpu : ℕ) (change : Option NiceLine) → touched act ≡ cpu ∷ []
+    → nice_for (deed_at cpu policy act) change ≡ change
+nice_is (Switch here prev pn way next nn) policy cpu change t = refl
+nice_is (Wake here pid nice) policy cpu change t = refl
+nice_is (Born here pid nice) policy cpu change t = refl
+nice_is (Shift orig dest pid nice) policy cpu change t = absurd cc

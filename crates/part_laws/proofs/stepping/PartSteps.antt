@@ -1,6 +1,6 @@
 -- A step of the machine by an event that touches one processor, from the step of the part there.
 use Rattle.std.proofs.Common.{◌≡◌, ℕ, Bool, Option, ℤ, [], ◌∷◌, refl, sym, ap, ◌∙◌, subst}
-use Rattle.cfs_model.specs.Settings.{Settings}
+use Rattle.cfs_model.specs.Knobs.{KnobsView}
 use Rattle.cfs_model.specs.Machine.{Machine, Stands, with_floor}
 use Rattle.cfs_model.specs.Touch.{touched}
 use Rattle.cfs_model.specs.Lifted.{charged, IsLifted}
@@ -28,47 +28,48 @@ use Rattle.cfs_model.specs.declared.act.Act.TheVariants.{Switch, Wake, Born, Shi
 use Rattle.cfs_model.specs.declared.claim.Claim.{Claim}
 use Rattle.cfs_model.specs.declared.task.Place.{Place}
 use Rattle.cfs_model.specs.declared.task.Place.TheVariants.{Run, Wait, Rest}
+use Rattle.cfs_model.specs.declared.policy.Policy.{Policy}
 
 -- an event's own change, and the parts after it
-pub record ChangesPart (knobs : Settings) (m : Machine) (cpu : ℕ) (act : Act) (claim : Option Claim) (idle : Bool)
+pub record ChangesPart (knobs : KnobsView) (m : Machine) (cpu : ℕ) (act : Act) (claim : Option Claim) (policy : Policy)
     : Type 0 where
   pub after : Machine
-  pub changes : Changes knobs m act claim idle after
-  pub here : part_of after cpu ≡ after_deed (part_of m cpu) (deed_at cpu idle act)
-      (claim_for (deed_at cpu idle act) claim)
+  pub changes : Changes knobs m act claim policy after
+  pub here : part_of after cpu ≡ after_deed (part_of m cpu) (deed_at cpu policy act)
+      (claim_for (deed_at cpu policy act) claim)
   pub others : OthersStay m after cpu
 
 pub heads : (a b : ℕ) → a ∷ [] ≡ b ∷ [] → a ≡ b
 heads a b e = cc
 
-change_exists : (knobs : Settings) (m : Machine) → IsApart m
-    → (cpu : ℕ) (act : Act) (claim : Option Claim) (idle : Bool)
+change_exists : (knobs : KnobsView) (m : Machine) → IsApart m
+    → (cpu : ℕ) (act : Act) (claim : Option Claim) (policy : Policy)
     → touched act ≡ cpu ∷ [] → BornNowhere m act
-    → IsClear knobs cpu (part_of m cpu) (deed_at cpu idle act) (claim_for (deed_at cpu idle act) claim)
-    → ChangesPart knobs m cpu act claim idle
-change_exists knobs m a cpu (Switch here prev pn way next nn) claim idle t b =
-    subst (λ x. IsClear knobs x (part_of m x) (deed_at x idle (Switch here prev pn way next nn)) claim
-    → ChangesPart knobs m x (Switch here prev pn way next nn) claim idle)
+    → IsClear knobs cpu (part_of m cpu) (deed_at cpu policy act) (claim_for (deed_at cpu policy act) claim)
+    → ChangesPart knobs m cpu act claim policy
+change_exists knobs m a cpu (Switch here prev pn way next nn) claim policy t b =
+    subst (λ x. IsClear knobs x (part_of m x) (deed_at x policy (Switch here prev pn way next nn)) claim
+    → ChangesPart knobs m x (Switch here prev pn way next nn) claim policy)
     (heads here cpu t)
     (λ c. let s = switch_exists knobs m a here prev pn way next nn claim c in
     let after = after_next (after_prev m here prev way) here next in
     let p = switch_part knobs m a here prev pn way next nn claim after s in
     record { after = after; changes = s; here = p.0; others = p.1 })
-change_exists knobs m a cpu (Wake here pid nice) claim idle t b =
-    subst (λ x. IsClear knobs x (part_of m x) (deed_at x idle (Wake here pid nice)) claim
-    → ChangesPart knobs m x (Wake here pid nice) claim idle)
+change_exists knobs m a cpu (Wake here pid nice) claim policy t b =
+    subst (λ x. IsClear knobs x (part_of m x) (deed_at x policy (Wake here pid nice)) claim
+    → ChangesPart knobs m x (Wake here pid nice) claim policy)
     (heads here cpu t)
     (λ c. let s = wake_exists knobs m a here pid nice claim c in
     let p = wake_part knobs m a here pid nice claim s.0 s.1 in
     record { after = s.0; changes = s.1; here = p.0; others = p.1 })
-change_exists knobs m a cpu (Born here pid nice) claim idle t b =
-    subst (λ x. IsClear knobs x (part_of m x) (deed_at x idle (Born here pid nice)) claim
-    → ChangesPart knobs m x (Born here pid nice) claim idle)
+change_exists knobs m a cpu (Born here pid nice) claim policy t b =
+    subst (λ x. IsClear knobs x (part_of m x) (deed_at x policy (Born here pid nice)) claim
+    → ChangesPart knobs m x (Born here pid nice) claim policy)
     (heads here cpu t)
-    (λ c. let s = birth_exists knobs m here pid nice claim idle c b in
-    let p = birth_part knobs m here pid nice claim idle s.0 s.1 in
+    (λ c. let s = birth_exists knobs m here pid nice claim policy c b in
+    let p = birth_part knobs m here pid nice claim policy s.0 s.1 in
     record { after = s.0; changes = s.1; here = p.0; others = p.1 })
-change_exists knobs m a cpu (Shift orig dest pid nice) claim idle t b = absurd cc
+change_exists knobs m a cpu (Shift orig dest pid nice) claim policy t b = absurd cc
 
 -- a lift leaves everybody where they stood
 lifted_sets : (m : Machine) (cpu time : ℕ) (f : ℤ) (place : Place) (d pid : ℕ)
@@ -93,7 +94,7 @@ machine_steps knobs before event cpu part o r t b s =
     let lifted : IsLifted time (touched act) before l.0 = subst (λ cpus. IsLifted time cpus before l.0) (sym t)
     (l.0, l.1, refl) in
     let a = lifted_apart time (touched act) before l.0 lifted (apart_of before o) in
-    let nice = nice_is act event.idle cpu event.nice t in
+    let nice = nice_is act event.policy cpu event.nice t in
     let n = renice_exists l.0 a cpu event.nice s.found
     (f.is_reniced ∙ ap (λ x. reniced x f.lifted) nice ∙ ap (reniced event.nice) (sym l.2))
     (subst (λ x. (pid : ℕ) → ¬ IsStrangeNice s.found x pid) nice
@@ -104,7 +105,7 @@ machine_steps knobs before event cpu part o r t b s =
     (subst (λ p. NoneHolds (late_tests knobs cpu p (step_at cpu event))) (sym n.2) s.passes.none) in
     let nowhere = found_nowhere before n.0 (λ place d pid h. lifted_sets before cpu time l.1.floor place d pid
     (subst (λ x. Stands x place d pid) l.1.result (reniced_stood cpu event.nice l.0 n.0 n.1 place d pid h))) act b in
-    let c = change_exists knobs n.0 (reniced_apart cpu event.nice l.0 n.0 n.1 a) cpu act event.claim event.idle t
+    let c = change_exists knobs n.0 (reniced_apart cpu event.nice l.0 n.0 n.1 a) cpu act event.claim event.policy t
     nowhere
     clear in
     let step : IsStep knobs before event c.after = record {
@@ -113,13 +114,14 @@ machine_steps knobs before event cpu part o r t b s =
       found = n.0;
       is_reniced = renices;
       changes = c.changes;
-      in_range = change_range knobs n.0 act event.claim event.idle c.after c.changes r
+      in_range = change_range knobs n.0 act event.claim event.policy c.after c.changes r
           (reniced_range cpu event.nice l.0 n.0 n.1 (lifted_range time (touched act) before l.0 lifted o.in_range));
     } in (
       c.after,
       step,
       step_in_order knobs before event c.after o step,
-      c.here ∙ ap (λ p. after_deed p (deed_at cpu event.idle act) (claim_for (deed_at cpu event.idle act) event.claim))
+      c.here ∙ ap (λ p. after_deed p (deed_at cpu event.policy act) (claim_for (deed_at cpu event.policy act)
+          event.claim))
           n.2
           ∙ sym s.result,
       (λ d ne. c.others d ne ∙ n.3 d ne ∙ l.3 d ne),

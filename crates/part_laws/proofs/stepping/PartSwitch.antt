@@ -2,7 +2,7 @@
 use Rattle.std.proofs.Common.{◌≡◌, ◌≢◌, ℕ, zero, suc, Option, Some, None, ℤ, pos, ◌+ℤ◌, ◌<ℤ◌, inl, inr, refl, sym, ap}
 use Rattle.std.proofs.Common.{◌∙◌, subst}
 use Rattle.std.proofs.lemmas.Int.{by_lt_z}
-use Rattle.cfs_model.specs.Settings.{Settings}
+use Rattle.cfs_model.specs.Knobs.{KnobsView}
 use Rattle.cfs_model.specs.Machine.{Machine, Stands, with_move, without_task, without_values}
 use Rattle.cfs_model.specs.Step.{IsCurrent, PrintsOwn, IsPutBack, after_prev, IsPick, after_next, IsSwitch}
 use Rattle.replay_model.specs.Part.{Part, part_of, entity_at, place_in, IsIn}
@@ -61,7 +61,7 @@ next_part granularity m a cpu (suc n) h =
     (move_placed m (suc n) Wait cpu Run cpu (alone m a Wait cpu (suc n) h.2)) refl refl refl refl refl
 
 -- a switch of the machine is one of the part, and other parts stay
-pub switch_part : (knobs : Settings) (m : Machine) → IsApart m
+pub switch_part : (knobs : KnobsView) (m : Machine) → IsApart m
     → (cpu prev : ℕ) (pn : ℤ) (way : Way) (next : ℕ) (nn : ℤ) (claim : Option Claim) (after : Machine)
     → IsSwitch knobs m cpu prev pn way next nn claim after
     → (part_of after cpu ≡ after_deed (part_of m cpu) (Switch prev pn way next nn) claim)
@@ -96,7 +96,7 @@ stands_current m cpu zero h n e = absurd cc
 stands_current m cpu (suc k) h n e = h
 
 stands_next : (m : Machine) (cpu prev : ℕ) (pn : ℤ) (way : Way) (next : ℕ) (nn : ℤ) (claim : Option Claim)
-    (knobs : Settings)
+    (knobs : KnobsView)
     → IsClear knobs cpu (part_of m cpu) (Switch prev pn way next nn) claim → (n : ℕ) → next ≡ suc n
     → Stands m Wait cpu next
 stands_next m cpu prev pn way zero nn claim knobs c n e = absurd cc
@@ -104,7 +104,7 @@ stands_next m cpu prev pn way (suc k) nn claim knobs c n e =
     elim (place_or (place_in (part_of m cpu) (suc k)) Wait)
     [ inl f ↦ stands_at m Wait cpu (suc k) f | inr ne ↦ absurd (c.next (suc k) (ne, refl)) ]
 
-put_back_of : (knobs : Settings) (m : Machine) → IsApart m
+put_back_of : (knobs : KnobsView) (m : Machine) → IsApart m
     → (cpu prev : ℕ) (pn : ℤ) (way : Way) (next : ℕ) (nn : ℤ) (claim : Option Claim)
     → IsClear knobs cpu (part_of m cpu) (Switch prev pn way next nn) claim → IsCurrent m cpu prev
     → IsPutBack m prev way claim
@@ -131,12 +131,12 @@ prev_others p (suc n) Stays pid ne = put-other p.tasks (suc n) _ pid ne
 prev_others p (suc n) Sleeps pid ne = put-other p.tasks (suc n) _ pid ne
 prev_others p (suc n) Ends pid ne = put-other p.tasks (suc n) None pid ne
 
-pick_of : (knobs : Settings) (m between : Machine) → IsApart between
+pick_of : (knobs : KnobsView) (m between : Machine) → IsApart between
     → (cpu prev : ℕ) (pn : ℤ) (way : Way) (next : ℕ) (nn : ℤ) (claim : Option Claim)
     → part_of between cpu ≡ part_after_prev (part_of m cpu) prev way → prev ≢ next
     → IsClear knobs cpu (part_of m cpu) (Switch prev pn way next nn) claim → IsPick knobs.granularity between cpu next
 pick_of knobs m between a cpu prev pn way zero nn claim e ne c =
-    λ o k. c.idle 0 ((o, subst (λ x. IsIn x Wait o) e (is_in between a Wait cpu o k)), refl)
+    λ o k. c.beside 0 ((o, subst (λ x. IsIn x Wait o) e (is_in between a Wait cpu o k)), refl)
 pick_of knobs m between a cpu prev pn way (suc n) nn claim e ne c =
     let here : IsIn (part_of m cpu) Wait (suc n) =
     elim (place_or (place_in (part_of m cpu) (suc n)) Wait)
@@ -172,7 +172,7 @@ pick_of knobs m between a cpu prev pn way (suc n) nn claim e ne c =
     some_same u v e = cc
 
 -- a part that passes the tests of a switch lets the machine switch
-pub switch_exists : (knobs : Settings) (m : Machine) → IsApart m
+pub switch_exists : (knobs : KnobsView) (m : Machine) → IsApart m
     → (cpu prev : ℕ) (pn : ℤ) (way : Way) (next : ℕ) (nn : ℤ) (claim : Option Claim)
     → IsClear knobs cpu (part_of m cpu) (Switch prev pn way next nn) claim
     → IsSwitch knobs m cpu prev pn way next nn claim (after_next (after_prev m cpu prev way) cpu next)

@@ -1,7 +1,7 @@
 -- Where the machine wakes a task or has a birth, the processor's part passes the tests of it.
 use Rattle.std.proofs.Common.{◌≡◌, ℕ, Bool, Option, Some, None, IsSome, option_map, ℤ, ◌⊎◌, inl, inr, refl, sym, ap}
 use Rattle.std.proofs.Common.{◌∙◌, subst, true≢false}
-use Rattle.cfs_model.specs.Settings.{Settings}
+use Rattle.cfs_model.specs.Knobs.{KnobsView}
 use Rattle.cfs_model.specs.Machine.{Machine, Stands, IsQueued}
 use Rattle.cfs_model.specs.Claimed.{ClaimSays}
 use Rattle.cfs_model.specs.Step.{IsWakeQueued, IsWakeResting, IsBirth}
@@ -19,6 +19,7 @@ use Rattle.cfs_model.specs.declared.task.Place.{Place}
 use Rattle.cfs_model.specs.declared.task.Place.TheVariants.{Run, Wait, Rest}
 use Rattle.replay_model.specs.declared.step.Deed.{Deed}
 use Rattle.replay_model.specs.declared.step.Deed.TheVariants.{Wake, Born}
+use Rattle.cfs_model.specs.declared.policy.Policy.{Policy}
 
 -- a deed whose claim says what is needed has it, of the right pid, and not too much
 pub said_missing : (part : Part) (deed : Deed) (claim : Option Claim) (task : ℕ) (v : ℤ) → ClaimSays claim At task v
@@ -36,10 +37,10 @@ no_extra_wake : (part : Part) (task : ℕ) (nice : ℤ) (claim : Option Claim) �
 no_extra_wake part task nice None e pid k = k
 no_extra_wake part task nice (Some claim) e pid k = some_no task (sym e ∙ k.0)
 
-no_extra_born : (part : Part) (task : ℕ) (nice : ℤ) (idle : Bool) (claim : Option Claim) (pid : ℕ)
-    → ¬ IsClaimExtra part (Born task nice idle) claim pid
-no_extra_born part task nice idle None pid k = k
-no_extra_born part task nice idle (Some claim) pid k = some_no task k.0
+no_extra_born : (part : Part) (task : ℕ) (nice : ℤ) (policy : Policy) (claim : Option Claim) (pid : ℕ)
+    → ¬ IsClaimExtra part (Born task nice policy) claim pid
+no_extra_born part task nice policy None pid k = k
+no_extra_born part task nice policy (Some claim) pid k = some_no task k.0
 
 queued_place : (m : Machine) → IsApart m → (cpu pid : ℕ) → IsQueued m cpu pid
     → (place : Place) × (if_resting pid (Some place) ≡ None) × IsIn (part_of m cpu) place pid
@@ -50,7 +51,7 @@ pub not_strange : (m : Machine) (place : Place) (cpu pid : ℕ) → IsIn (part_o
     → entity_at m cpu pid ≡ None → ⊥
 not_strange m place cpu pid h e = no_some place (sym (ap (option_map (λ (t : Entity). t.place)) e) ∙ h)
 
-queued_clear : (knobs : Settings) (m : Machine) → IsApart m → (cpu pid : ℕ) (nice : ℤ) (after : Machine)
+queued_clear : (knobs : KnobsView) (m : Machine) → IsApart m → (cpu pid : ℕ) (nice : ℤ) (after : Machine)
     → IsWakeQueued m cpu pid nice None after → IsClear knobs cpu (part_of m cpu) (Wake pid nice) None
 queued_clear knobs m a cpu pid nice after s =
     let w = queued_place m a cpu pid s.queued in
@@ -70,11 +71,11 @@ queued_clear knobs m a cpu pid nice after s =
       wake = λ q h. h;
       fork = λ q h. h;
       next = λ q h. h;
-      idle = λ q h. h;
+      beside = λ q h. h;
       least = λ q h. h;
     }
 
-resting_wake : (knobs : Settings) (m : Machine) → IsApart m
+resting_wake : (knobs : KnobsView) (m : Machine) → IsApart m
     → (cpu pid : ℕ) (nice : ℤ) (claim : Option Claim) (after : Machine) → IsWakeResting knobs m cpu pid nice claim after
     → (q : ℕ) → ¬ IsWakeOutside knobs.credit (part_of m cpu) (Wake pid nice) claim q
 resting_wake knobs m a cpu pid nice None after s q k = k
@@ -84,7 +85,7 @@ resting_wake knobs m a cpu pid nice (Some claim) after s q k =
     k.0.3 (subst (λ x. IsInWakeBounds knobs.credit (m.floor cpu) x claim.v) own
     (subst (λ x. IsInWakeBounds knobs.credit (m.floor cpu) s.own x) (sym s.claimed.2) (s.from, s.to)))
 
-resting_clear : (knobs : Settings) (m : Machine) → IsApart m
+resting_clear : (knobs : KnobsView) (m : Machine) → IsApart m
     → (cpu pid : ℕ) (nice : ℤ) (claim : Option Claim) (after : Machine) → IsWakeResting knobs m cpu pid nice claim after
     → IsClear knobs cpu (part_of m cpu) (Wake pid nice) claim
 resting_clear knobs m a cpu pid nice claim after s =
@@ -105,11 +106,11 @@ resting_clear knobs m a cpu pid nice claim after s =
       wake = resting_wake knobs m a cpu pid nice claim after s;
       fork = λ q h. h;
       next = λ q h. h;
-      idle = λ q h. h;
+      beside = λ q h. h;
       least = λ q h. h;
     }
 
-pub wake_clear : (knobs : Settings) (m : Machine) → IsApart m
+pub wake_clear : (knobs : KnobsView) (m : Machine) → IsApart m
     → (cpu pid : ℕ) (nice : ℤ) (claim : Option Claim) (after : Machine)
     → IsWakeQueued m cpu pid nice claim after ⊎ IsWakeResting knobs m cpu pid nice claim after
     → IsClear knobs cpu (part_of m cpu) (Wake pid nice) claim
@@ -119,11 +120,11 @@ wake_clear knobs m a cpu pid nice claim after (inl s) =
     (record { queued = s.queued; prio = s.prio; no_claim = refl; result = s.result }))
 wake_clear knobs m a cpu pid nice claim after (inr s) = resting_clear knobs m a cpu pid nice claim after s
 
-birth_fork : (knobs : Settings) (m : Machine) (cpu pid : ℕ) (nice : ℤ) (claim : Option Claim) (idle : Bool)
-    (after : Machine) → IsBirth knobs m cpu pid nice claim idle after
-    → (q : ℕ) → ¬ IsForkOutside knobs.debit (part_of m cpu) (Born pid nice idle) claim q
-birth_fork knobs m cpu pid nice None idle after s q k = k
-birth_fork knobs m cpu pid nice (Some claim) idle after s q k =
+birth_fork : (knobs : KnobsView) (m : Machine) (cpu pid : ℕ) (nice : ℤ) (claim : Option Claim) (policy : Policy)
+    (after : Machine) → IsBirth knobs m cpu pid nice claim policy after
+    → (q : ℕ) → ¬ IsForkOutside knobs.debit (part_of m cpu) (Born pid nice policy) claim q
+birth_fork knobs m cpu pid nice None policy after s q k = k
+birth_fork knobs m cpu pid nice (Some claim) policy after s q k =
     k.0 (subst (λ x. IsInForkBounds knobs.debit (m.floor cpu) x) (sym s.claimed.2) (s.from, s.to))
 
 pub nowhere_none : (m : Machine) (cpu pid : ℕ) → ((place : Place) → ¬ Stands m place cpu pid)
@@ -134,10 +135,10 @@ nowhere_none m cpu pid h k = go (entity_at m cpu pid) refl k
     go None e k = true≢false (sym k)
     go (Some s) e k = h s.place (stands_as m cpu pid s e).stands
 
-pub birth_clear : (knobs : Settings) (m : Machine) (cpu pid : ℕ) (nice : ℤ) (claim : Option Claim) (idle : Bool)
-    (after : Machine) → IsBirth knobs m cpu pid nice claim idle after
-    → IsClear knobs cpu (part_of m cpu) (Born pid nice idle) claim
-birth_clear knobs m cpu pid nice claim idle after s = record {
+pub birth_clear : (knobs : KnobsView) (m : Machine) (cpu pid : ℕ) (nice : ℤ) (claim : Option Claim) (policy : Policy)
+    (after : Machine) → IsBirth knobs m cpu pid nice claim policy after
+    → IsClear knobs cpu (part_of m cpu) (Born pid nice policy) claim
+birth_clear knobs m cpu pid nice claim policy after s = record {
   home = λ q h. h;
   self = λ q h. h;
   prev = λ q h. h;
@@ -145,13 +146,13 @@ birth_clear knobs m cpu pid nice claim idle after s = record {
   already = λ q h. nowhere_none m cpu pid (λ place. s.nowhere place cpu) h.0;
   running = λ q h. h;
   prio = λ q h. h;
-  missing = said_missing (part_of m cpu) (Born pid nice idle) claim pid s.placed s.claimed (λ c h. h);
-  extra = no_extra_born (part_of m cpu) pid nice idle claim;
-  other = said_pid (part_of m cpu) (Born pid nice idle) claim pid s.placed s.claimed refl;
+  missing = said_missing (part_of m cpu) (Born pid nice policy) claim pid s.placed s.claimed (λ c h. h);
+  extra = no_extra_born (part_of m cpu) pid nice policy claim;
+  other = said_pid (part_of m cpu) (Born pid nice policy) claim pid s.placed s.claimed refl;
   put_back = λ q h. h;
   wake = λ q h. h;
-  fork = birth_fork knobs m cpu pid nice claim idle after s;
+  fork = birth_fork knobs m cpu pid nice claim policy after s;
   next = λ q h. h;
-  idle = λ q h. h;
+  beside = λ q h. h;
   least = λ q h. h;
 }

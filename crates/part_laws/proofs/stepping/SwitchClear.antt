@@ -2,7 +2,7 @@
 use Rattle.std.proofs.Common.{◌≡◌, ◌≢◌, ℕ, zero, suc, Option, Some, None, option_map, ℤ, pos, ◌+ℤ◌, ◌≤ℤ◌, ◌<ℤ◌, inl}
 use Rattle.std.proofs.Common.{inr, refl, sym, ap, ◌∙◌, subst, arith}
 use Rattle.std.proofs.lemmas.Int.{ints}
-use Rattle.cfs_model.specs.Settings.{Settings}
+use Rattle.cfs_model.specs.Knobs.{KnobsView}
 use Rattle.cfs_model.specs.Machine.{Machine, Stands}
 use Rattle.cfs_model.specs.Step.{IsCurrent, PrintsOwn, IsPutBack, after_prev, IsPick, IsSwitch}
 use Rattle.replay_model.specs.Part.{Entity, part_of, entity_at, IsIn}
@@ -105,7 +105,7 @@ module _ (granularity : ℕ) (m between : Machine) (a : IsApart between) (cpu pr
       (subst (λ z. z ≤ℤ (t.runtime +ℤ pos granularity)) v
       (h.3 other t.runtime (subst (λ z. Stands between z cpu other) k.0.5 y.stands) y.runtime)) k.0.6
 
-pub switch_clear : (knobs : Settings) (m : Machine) → IsApart m
+pub switch_clear : (knobs : KnobsView) (m : Machine) → IsApart m
     → (cpu prev : ℕ) (pn : ℤ) (way : Way) (next : ℕ) (nn : ℤ) (claim : Option Claim) (after : Machine)
     → IsSwitch knobs m cpu prev pn way next nn claim after
     → IsClear knobs cpu (part_of m cpu) (Switch prev pn way next nn) claim
@@ -129,6 +129,6 @@ switch_clear knobs m a cpu prev pn way next nn claim after s =
       wake = λ pid h. h;
       fork = λ pid h. h;
       next = next_waits knobs.granularity m between apart cpu prev pn way nn e next s.differ s.pick;
-      idle = nobody_waits knobs.granularity m between apart cpu prev pn way nn e next s.pick;
+      beside = nobody_waits knobs.granularity m between apart cpu prev pn way nn e next s.pick;
       least = next_least knobs.granularity m between apart cpu prev pn way nn e next s.differ s.pick;
     }

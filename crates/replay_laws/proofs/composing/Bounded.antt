@@ -3,7 +3,7 @@
 use Rattle.std.proofs.Common.{◌≡◌, ℕ, ◌+◌, ◌≤◌, Bool, true, false, Option, Some, None, inl, inr, List, [], ◌∷◌, refl}
 use Rattle.std.proofs.Common.{sym, ap, ◌∙◌, subst, arith}
 use Rattle.std.proofs.lemmas.Bool.{cases_lt}
-use Rattle.cfs_model.specs.Settings.{Settings}
+use Rattle.cfs_model.specs.Knobs.{KnobsView}
 use Rattle.cfs_model.specs.Claimed.{Claimed}
 use Rattle.replay_model.specs.QueueTests.{IsIdleTooLong}
 use Rattle.replay_model.specs.Cut.{touches, steps_at, last_time_of}
@@ -19,7 +19,7 @@ kept_within slack since x time e h = elim
     (cases_lt (x + slack) time)
     [ inl k ↦ absurd (h 0 (subst (λ o. IsIdleTooLong slack o time 0) (sym e) (k, refl))) | inr k ↦ k ]
 
-pub bounded : (knobs : Settings) (cpu : ℕ) (s : ReplayStateView) (event : Claimed) (events : List Claimed)
+pub bounded : (knobs : KnobsView) (cpu : ℕ) (s : ReplayStateView) (event : Claimed) (events : List Claimed)
     (end : ReplayStateView)
     (x : ℕ) → s.since ≡ Some x → s.page.fault ≡ None
     → IsReplay knobs cpu s (steps_at cpu (event ∷ events)) end → end.page.fault ≡ None

@@ -2,11 +2,11 @@
 use Rattle.std.proofs.Common.{◌≡◌, ℕ, zero, suc, ◌+◌, ◌<◌, ◌≤◌, Bool, Some, None, inl, inr, List, [], ◌∷◌, length}
 use Rattle.std.proofs.Common.{slice_index, sym, subst, arith}
 use Rattle.std.specs.List.{AllByRecursion}
-use Rattle.cfs_model.specs.Settings.{Settings}
+use Rattle.cfs_model.specs.Knobs.{KnobsView}
 use Rattle.cfs_model.specs.Machine.{Machine}
 use Rattle.cfs_model.specs.Claimed.{Claimed}
 use Rattle.cfs_model.specs.Step.{IsStep}
-use Rattle.cfs_model.specs.Idle.{IdlesFrom, KeepsSlack}
+use Rattle.cfs_model.specs.Idling.{IdlesFrom, KeepsSlack}
 use Rattle.cfs_model.specs.Run.{AreSteps, times_of}
 use Rattle.replay_model.specs.QueueTests.{IsIdleTooLong}
 use Rattle.replay_model.specs.StepAt.{step_at}
@@ -17,14 +17,14 @@ use Rattle.replay_model.specs.Roll.{roll_after, BirthsAreNew}
 use Rattle.replay_model.specs.Tickets.{TicketsAgree}
 use Rattle.replay_model.proofs.TicketLines.{all_map, lines_up_to, left_of, came_of, left_tickets, came_tickets}
 use Rattle.replay_laws.proofs.composing.Bounded.{bounded}
-use Rattle.replay_laws.proofs.following.Follow.{KeepsUp, part_idles, Advanced, advance}
+use Rattle.replay_laws.proofs.following.Follow.{KeepsUp, replay_idles, Advanced, advance}
 use Rattle.replay_laws.proofs.following.Followed.{idles_rest, idles_tail, Still}
 use Rattle.replay_laws.proofs.following.Roll.{RollIs, roll_step}
 use Rattle.replay_laws.proofs.composing.StepExists.{LinesUpTo, step_exists}
 use Rattle.replay_model.specs.declared.page.Ticket.{Ticket}
 
 -- all replays at a machine before some events
-pub record AtEvents (knobs : Settings) (m : Machine) (time : ℕ) (s : ℕ → ReplayStateView) (events : List Claimed)
+pub record AtEvents (knobs : KnobsView) (m : Machine) (time : ℕ) (s : ℕ → ReplayStateView) (events : List Claimed)
     (end : ℕ → ReplayStateView) (alive : ℕ → Bool) : Type 0 where
   pub follows : (cpu : ℕ) → KeepsUp cpu m time (s cpu)
   pub replays : (cpu : ℕ) → IsReplay knobs cpu (s cpu) (steps_at cpu events) (end cpu)
@@ -39,7 +39,7 @@ pub record AtEvents (knobs : Settings) (m : Machine) (time : ℕ) (s : ℕ → R
   pub roll : RollIs alive m
   pub new : BirthsAreNew alive events
 
-pub record ComposedAll (knobs : Settings) (m : Machine) (time : ℕ) (s : ℕ → ReplayStateView)
+pub record ComposedAll (knobs : KnobsView) (m : Machine) (time : ℕ) (s : ℕ → ReplayStateView)
     (events : List Claimed) : Type 0 where
   pub states : List Machine
   pub steps : AreSteps knobs m events states
@@ -47,7 +47,7 @@ pub record ComposedAll (knobs : Settings) (m : Machine) (time : ℕ) (s : ℕ �
   pub stills : (cpu : ℕ) → Still knobs.slack cpu m time (s cpu) events states
 
 -- a machine's step by the first event
-first_of_steps : (knobs : Settings) (m : Machine) (time : ℕ) (s : ℕ → ReplayStateView) (event : Claimed)
+first_of_steps : (knobs : KnobsView) (m : Machine) (time : ℕ) (s : ℕ → ReplayStateView) (event : Claimed)
     (events : List Claimed)
     (end : ℕ → ReplayStateView) (alive : ℕ → Bool)
     → AtEvents knobs m time s (event ∷ events) end alive → (after : Machine) × IsStep knobs m event after
@@ -66,7 +66,7 @@ first_of_steps knobs m time s event events end alive at =
       new = at.new.0;
     })
 
-in_slack : (knobs : Settings) (m : Machine) (time : ℕ) (s : ℕ → ReplayStateView) (event : Claimed)
+in_slack : (knobs : KnobsView) (m : Machine) (time : ℕ) (s : ℕ → ReplayStateView) (event : Claimed)
     (events : List Claimed)
     (end : ℕ → ReplayStateView) (alive : ℕ → Bool)
     → AtEvents knobs m time s (event ∷ events) end alive → (cpu x : ℕ) → (s cpu).since ≡ Some x
@@ -75,7 +75,7 @@ in_slack knobs m time s event events end alive at cpu x e =
     bounded knobs cpu (s cpu) event events (end cpu) x e (at.follows cpu).fault (at.replays cpu)
     (at.no_fault cpu) at.times_rise.1 (at.in_time cpu)
 
-advanced : (knobs : Settings) (m : Machine) (time : ℕ) (s : ℕ → ReplayStateView) (event : Claimed)
+advanced : (knobs : KnobsView) (m : Machine) (time : ℕ) (s : ℕ → ReplayStateView) (event : Claimed)
     (events : List Claimed)
     (end : ℕ → ReplayStateView) (alive : ℕ → Bool)
     → AtEvents knobs m time s (event ∷ events) end alive → (after : Machine) → IsStep knobs m event after → (cpu : ℕ)
@@ -85,7 +85,7 @@ advanced knobs m time s event events end alive at after step cpu =
     (in_slack knobs m time s event events end alive at cpu) (at.replays cpu)
 
 -- the lines of the tickets one event later
-lines_later : (knobs : Settings) (cpu n : ℕ) (event : Claimed) (after : Machine) (s : ReplayStateView)
+lines_later : (knobs : KnobsView) (cpu n : ℕ) (event : Claimed) (after : Machine) (s : ReplayStateView)
     (events : List Claimed)
     (end : ReplayStateView) (a : Advanced knobs cpu event after s events end)
     → LinesUpTo n s → n < event.entry.line → LinesUpTo event.entry.line a.next
@@ -107,7 +107,7 @@ lines_later knobs cpu n event after s events end a h l = elim a.page [
 ]
 
 -- all replays one event later
-later : (knobs : Settings) (m : Machine) (time : ℕ) (s : ℕ → ReplayStateView) (event : Claimed) (events : List Claimed)
+later : (knobs : KnobsView) (m : Machine) (time : ℕ) (s : ℕ → ReplayStateView) (event : Claimed) (events : List Claimed)
     (end : ℕ → ReplayStateView) (alive : ℕ → Bool)
     → (at : AtEvents knobs m time s (event ∷ events) end alive) → (after : Machine)
     → (step : IsStep knobs m event after)
@@ -130,7 +130,7 @@ later knobs m time s event events end alive at after step a = record {
 }
 
 -- a processor that idles on does so since it was told
-still_later : (knobs : Settings) (cpu : ℕ) (m : Machine) (time : ℕ) (s : ReplayStateView) (event : Claimed)
+still_later : (knobs : KnobsView) (cpu : ℕ) (m : Machine) (time : ℕ) (s : ReplayStateView) (event : Claimed)
     (events : List Claimed) (after : Machine) (states : List Machine) (end : ReplayStateView)
     → ((x : ℕ) → s.since ≡ Some x → event.entry.time ≤ x + knobs.slack)
     → (a : Advanced knobs cpu event after s events end)
@@ -139,7 +139,8 @@ still_later : (knobs : Settings) (cpu : ℕ) (m : Machine) (time : ℕ) (s : Rep
 still_later knobs cpu m time s event events after states end now a still x e zero h k idles = absurd (omega arith)
 still_later knobs cpu m time s event events after states end now a still x e (suc zero) h k idles = now x e
 still_later knobs cpu m time s event events after states end now a still x e (suc (suc j)) h k idles =
-    still x (a.kept x e (part_idles cpu after event.entry.time a.next a.follows (idles 1 (omega arith) (omega arith))))
+    still x (a.kept x e (replay_idles cpu after event.entry.time a.next a.follows (idles 1 (omega arith) (omega
+    arith))))
     (suc j) (omega arith) (omega arith)
     (idles_rest m (after ∷ states) cpu (suc j) idles)
 
@@ -153,14 +154,14 @@ slack_before : (slack : ℕ) (m : Machine) (states : List Machine) (time : ℕ) 
     → slice_index (time ∷ times) j ≤ x + slack)
     → KeepsSlack slack times states → KeepsSlack slack (time ∷ times) (m ∷ states)
 slack_before slack m states time times s f still rest cpu zero j h k idles =
-    let x = (f cpu).told (part_idles cpu m time (s cpu) (f cpu) (idles 0 (omega arith) h)) in
+    let x = (f cpu).told (replay_idles cpu m time (s cpu) (f cpu) (idles 0 (omega arith) h)) in
     at_most (slice_index (time ∷ times) j) x.0 time slack ((f cpu).early x.0 x.1) (still cpu x.0 x.1 j h k idles)
 slack_before slack m states time times s f still rest cpu (suc i) zero h k idles = absurd (omega arith)
 slack_before slack m states time times s f still rest cpu (suc i) (suc j) h k idles = rest cpu i j (omega arith)
     (omega arith) (idles_tail m states cpu i j idles)
 
 -- one more event before a composed run
-add_first : (knobs : Settings) (m after : Machine) (time : ℕ) (s : ℕ → ReplayStateView) (event : Claimed)
+add_first : (knobs : KnobsView) (m after : Machine) (time : ℕ) (s : ℕ → ReplayStateView) (event : Claimed)
     (events : List Claimed) (end : ℕ → ReplayStateView) → ((cpu : ℕ) → KeepsUp cpu m time (s cpu))
     → IsStep knobs m event after → ((cpu x : ℕ) → (s cpu).since ≡ Some x → event.entry.time ≤ x + knobs.slack)
     → (a : (cpu : ℕ) → Advanced knobs cpu event after (s cpu) events (end cpu))
@@ -178,7 +179,7 @@ add_first knobs m after time s event events end f step now a rest =
       stills = stills;
     }
 
-pub compose_all : (knobs : Settings) (m : Machine) (time : ℕ) (s : ℕ → ReplayStateView) (events : List Claimed)
+pub compose_all : (knobs : KnobsView) (m : Machine) (time : ℕ) (s : ℕ → ReplayStateView) (events : List Claimed)
     (end : ℕ → ReplayStateView) (alive : ℕ → Bool)
     → AtEvents knobs m time s events end alive → ComposedAll knobs m time s events
 compose_all knobs m time s [] end alive at = record {

@@ -1,7 +1,7 @@
 -- The replays of all processors, and so their pages, make a run.
 use Rattle.std.proofs.Common.{◌≡◌, ℕ, ◌<◌, ◌≤◌, ℤ, List, [], ◌∷◌, sym, ap, ◌∙◌, subst}
 use Rattle.std.specs.List.{AllByRecursion}
-use Rattle.cfs_model.specs.Settings.{Settings}
+use Rattle.cfs_model.specs.Knobs.{KnobsView}
 use Rattle.cfs_model.specs.Start.{start_machine}
 use Rattle.cfs_model.specs.Claimed.{Claimed}
 use Rattle.cfs_model.specs.Touch.{touched}
@@ -10,11 +10,11 @@ use Rattle.replay_model.specs.Noted.{PageView}
 use Rattle.replay_model.specs.Roll.{named, BirthsAreNew}
 use Rattle.replay_model.specs.Tickets.{ticket_at, TicketsAgree}
 use Rattle.replay_model.specs.Record.{IsRecord}
-use Rattle.replay_laws.specs.Composition.{SharesCompose, PagesCompose}
+use Rattle.replay_laws.specs.Composition.{CutsCompose, PagesCompose}
 use Rattle.replay_laws.proofs.following.FollowLaws.{follows_start}
 use Rattle.replay_laws.proofs.following.Roll.{start_roll}
 use Rattle.replay_laws.proofs.composing.ComposeAll.{compose_all}
-use Rattle.replay_laws.proofs.composing.Shares.{ShareOf, share_of, share_from}
+use Rattle.replay_laws.proofs.composing.CutReplays.{CutOf, cut_of, cut_from}
 use Rattle.cfs_model.specs.declared.act.Act.{Act}
 use Rattle.cfs_model.specs.declared.act.Act.TheVariants.{Switch, Wake, Born, Shift}
 use Rattle.cfs_model.specs.declared.task.Task.{Task}
@@ -46,26 +46,26 @@ all_agree cpus pages ends l c (event ∷ events) h a = (
 )
 
 -- all processors' replays make a run
-pub compose_shares : (knobs : Settings) (start : ℕ) (floors : List ℤ) (tasks : List Task) (events : List Claimed)
+pub compose_cuts : (knobs : KnobsView) (start : ℕ) (floors : List ℤ) (tasks : List Task) (events : List Claimed)
     (cpus : ℕ) (pages : ℕ → PageView) → IsRecord start floors tasks events cpus
-    → ((cpu : ℕ) → ShareOf knobs start floors tasks events cpus (pages cpu) cpu)
+    → ((cpu : ℕ) → CutOf knobs start floors tasks events cpus (pages cpu) cpu)
     → AllByRecursion (λ (event : Claimed). TicketsAgree pages event.entry.line event.entry.act) events
     → BirthsAreNew (named tasks) events → IsRun knobs start (start_machine start floors tasks) events
-compose_shares knobs start floors tasks events cpus pages r each agree new =
-    let ends : ℕ → PageView = λ cpu. (each cpu).share.end.page in
-    let c = compose_all knobs (start_machine start floors tasks) start (λ cpu. (each cpu).share.first) events
-    (λ cpu. (each cpu).share.end) (named tasks) (record {
-      follows = λ cpu. follows_start start floors tasks events cpu (each cpu).share.first r.is_start
-          (each cpu).share.is_start;
-      replays = λ cpu. (each cpu).share.replay;
-      no_fault = λ cpu. (each cpu).share.no_fault;
-      in_time = λ cpu. (each cpu).share.in_time;
+compose_cuts knobs start floors tasks events cpus pages r each agree new =
+    let ends : ℕ → PageView = λ cpu. (each cpu).cut_replay.end.page in
+    let c = compose_all knobs (start_machine start floors tasks) start (λ cpu. (each cpu).cut_replay.first) events
+    (λ cpu. (each cpu).cut_replay.end) (named tasks) (record {
+      follows = λ cpu. follows_start start floors tasks events cpu (each cpu).cut_replay.first r.is_start
+          (each cpu).cut_replay.is_start;
+      replays = λ cpu. (each cpu).cut_replay.replay;
+      no_fault = λ cpu. (each cpu).cut_replay.no_fault;
+      in_time = λ cpu. (each cpu).cut_replay.in_time;
       lines = 0;
       tickets = λ cpu. record {
         left = subst (λ (page : PageView). AllByRecursion (λ t. t.line ≤ 0) page.left)
-            (sym (each cpu).share.is_start.page) tt;
+            (sym (each cpu).cut_replay.is_start.page) tt;
         came = subst (λ (page : PageView). AllByRecursion (λ t. t.line ≤ 0) page.came)
-            (sym (each cpu).share.is_start.page) tt;
+            (sym (each cpu).cut_replay.is_start.page) tt;
       };
       lines_rise = r.lines_rise;
       times_rise = r.times_rise;
@@ -77,12 +77,12 @@ compose_shares knobs start floors tasks events cpus pages r each agree new =
     }) in
     record { states = c.states; steps = c.steps; slack = c.slack }
 
-pub shares_compose : SharesCompose
-shares_compose knobs start floors tasks events cpus last r passes agree new =
-    compose_shares knobs start floors tasks events cpus (λ cpu. (last cpu).page) r
-    (λ cpu. share_from knobs start floors tasks events cpus (last cpu) r cpu (passes cpu)) agree new
+pub cuts_compose : CutsCompose
+cuts_compose knobs start floors tasks events cpus last r passes agree new =
+    compose_cuts knobs start floors tasks events cpus (λ cpu. (last cpu).page) r
+    (λ cpu. cut_from knobs start floors tasks events cpus (last cpu) r cpu (passes cpu)) agree new
 
 pub pages_compose : PagesCompose
 pages_compose knobs start floors tasks events cpus pages r done agree new =
-    compose_shares knobs start floors tasks events cpus pages r
-    (λ cpu. share_of knobs start floors tasks events cpus (pages cpu) r cpu (done cpu)) agree new
+    compose_cuts knobs start floors tasks events cpus pages r
+    (λ cpu. cut_of knobs start floors tasks events cpus (pages cpu) r cpu (done cpu)) agree new

@@ -1,7 +1,7 @@
 -- The two tickets of a migration whose steps pass, as they stand on the pages of its ends: those that its deeds make.
 use Rattle.std.proofs.Common.{◌≡◌, ◌≢◌, ℕ, ◌<◌, ℤ, ◌-ℤ◌, List, refl, sym, ap, ◌∙◌, subst}
 use Rattle.std.specs.List.{AllByRecursion}
-use Rattle.cfs_model.specs.Settings.{Settings}
+use Rattle.cfs_model.specs.Knobs.{KnobsView}
 use Rattle.cfs_model.specs.Claimed.{Claimed}
 use Rattle.replay_model.specs.Part.{Entity}
 use Rattle.replay_model.specs.Deeds.{left_ticket, came_ticket, place_of_sort}
@@ -19,13 +19,13 @@ use Rattle.cfs_model.specs.declared.act.Act.TheVariants.{Shift}
 use Rattle.cfs_model.specs.declared.claim.Claim.{Claim}
 use Rattle.replay_model.specs.declared.page.Ticket.{Ticket}
 
-module _ (knobs : Settings) (event : Claimed) (orig dest pid : ℕ) (nice : ℤ)
+module _ (knobs : KnobsView) (event : Claimed) (orig dest pid : ℕ) (nice : ℤ)
     (e : event.entry.act ≡ Shift orig dest pid nice) where
   -- a task whose leave passes goes elsewhere
   pub goes_elsewhere : (s next : ReplayStateView) → PassesStep knobs orig s (step_at orig event) next → orig ≢ dest
   goes_elsewhere s next p same =
       (subst (λ x. IsClear knobs orig p.found x (claim_for x event.claim))
-      (leave_deed event.entry.act event.idle orig dest pid nice e)
+      (leave_deed event.entry.act event.policy orig dest pid nice e)
       (clear_of knobs orig p.found (step_at orig event) p.passes.none)).home pid (sym same, refl)
 
   pub left_is : (events : List Claimed) (s next end : ReplayStateView)
@@ -37,19 +37,27 @@ module _ (knobs : Settings) (event : Claimed) (orig dest pid : ℕ) (nice : ℤ)
       ticket_found (λ page. page.left) left_of left_tickets knobs orig s (step_at orig event) next
       (steps_at orig events) end p r low (steps_above line orig events rise)
       ∙ ap (λ x. ticket_at line (left_by p.found (step_at orig event) x))
-      (leave_deed event.entry.act event.idle orig dest pid nice e)
-      ∙ only_ticket (λ (t : Entity). let x : Ticket = record
-      { line = line; pid = pid; nice = t.nice; idle = t.idle; place = t.place; offset = t.runtime -ℤ p.found.floor } in
+      (leave_deed event.entry.act event.policy orig dest pid nice e)
+      ∙ only_ticket (λ (t : Entity). let x : Ticket = record {
+        line = line;
+        pid = pid;
+        nice = t.nice;
+        policy = t.policy;
+        place = t.place;
+        offset = t.runtime -ℤ
+            p.found.floor;
+      } in
       x)
       line (λ t. refl) (p.found.tasks pid)
 
   pub came_is : (events : List Claimed) (s next end : ReplayStateView) → orig ≢ dest
       → (p : PassesStep knobs dest s (step_at dest event) next) → IsReplay knobs dest next (steps_at dest events) end
       → AllByRecursion (λ (t : Ticket). t.line < event.entry.line) s.page.came → LinesRise event.entry.line events
-      → ticket_at event.entry.line end.page.came ≡ came_ticket p.found event.entry.line pid nice event.idle event.claim
+      → ticket_at event.entry.line end.page.came ≡ came_ticket p.found event.entry.line pid nice event.policy
+      event.claim
   came_is events s next end ne p r low rise =
       let line = event.entry.line in
-      let arrive = arrive_deed event.entry.act event.idle orig dest pid nice e ne in
+      let arrive = arrive_deed event.entry.act event.policy orig dest pid nice e ne in
       ticket_found (λ page. page.came) came_of came_tickets knobs dest s (step_at dest event) next
       (steps_at dest events) end p r low (steps_above line dest events rise)
       ∙ ap (λ x. ticket_at line (came_by p.found (step_at dest event) x)) arrive
@@ -57,8 +65,8 @@ module _ (knobs : Settings) (event : Claimed) (orig dest pid : ℕ) (nice : ℤ)
         line = line;
         pid = pid;
         nice = nice;
-        idle = event.idle;
+        policy = event.policy;
         place = place_of_sort c.sort;
         offset = c.v -ℤ p.found.floor;
-      } in x) line (λ c. refl) (claim_for (deed_at dest event.idle event.entry.act) event.claim)
-      ∙ ap (λ x. came_ticket p.found line pid nice event.idle (claim_for x event.claim)) arrive
+      } in x) line (λ c. refl) (claim_for (deed_at dest event.policy event.entry.act) event.claim)
+      ∙ ap (λ x. came_ticket p.found line pid nice event.policy (claim_for x event.claim)) arrive

@@ -4,7 +4,7 @@ use Rattle.std.proofs.Common.{◌≡◌, ℕ, ◌<◌, ◌≤◌, nat_eq, Bool, 
 use Rattle.std.proofs.Common.{◌∙◌, subst, arith}
 use Rattle.std.proofs.lemmas.Bool.{eq-eqb}
 use Rattle.std.specs.List.{AllByRecursion, list_any}
-use Rattle.cfs_model.specs.Settings.{Settings}
+use Rattle.cfs_model.specs.Knobs.{KnobsView}
 use Rattle.cfs_model.specs.Machine.{Machine}
 use Rattle.cfs_model.specs.Claimed.{Claimed}
 use Rattle.cfs_model.specs.Touch.{touched}
@@ -35,13 +35,13 @@ pub record LinesUpTo (n : ℕ) (s : ReplayStateView) : Type 0 where
   pub came : AllByRecursion (λ (t : Ticket). t.line ≤ n) s.page.came
 
 -- a replay that ends without a fault, at an event that touches its processor
-pub record PassesHere (knobs : Settings) (cpu : ℕ) (s : ReplayStateView) (event : Claimed) (events : List Claimed)
+pub record PassesHere (knobs : KnobsView) (cpu : ℕ) (s : ReplayStateView) (event : Claimed) (events : List Claimed)
     (end : ReplayStateView) : Type 0 where
   pub next : ReplayStateView
   pub passes : PassesStep knobs cpu s (step_at cpu event) next
   pub replay : IsReplay knobs cpu next (steps_at cpu events) end
 
-pub passes_here : (knobs : Settings) (cpu : ℕ) (s : ReplayStateView) (event : Claimed) (events : List Claimed)
+pub passes_here : (knobs : KnobsView) (cpu : ℕ) (s : ReplayStateView) (event : Claimed) (events : List Claimed)
     (end : ReplayStateView)
     → s.page.fault ≡ None
     → IsReplay knobs cpu s (steps_at cpu (event ∷ events)) end → end.page.fault ≡ None → touches cpu event ≡ true
@@ -52,7 +52,7 @@ passes_here knobs cpu s event events end f r g t =
     record { next = h.0; passes = p.0; replay = h.2 }
 
 -- the step of the machine's part that a replay makes
-pub part_step : (knobs : Settings) (cpu : ℕ) (m : Machine) (s : ReplayStateView) (event : Claimed)
+pub part_step : (knobs : KnobsView) (cpu : ℕ) (m : Machine) (s : ReplayStateView) (event : Claimed)
     (next : ReplayStateView)
     → part_of m cpu ≡ s.part → PassesStep knobs cpu s (step_at cpu event) next
     → PartStep knobs cpu (part_of m cpu) (step_at cpu event) next.part
@@ -63,7 +63,7 @@ part_step knobs cpu m s event next e p = record {
 }
 
 -- all replays at a machine, and what they come to
-pub record AtEvent (knobs : Settings) (m : Machine) (time : ℕ) (s : ℕ → ReplayStateView) (event : Claimed)
+pub record AtEvent (knobs : KnobsView) (m : Machine) (time : ℕ) (s : ℕ → ReplayStateView) (event : Claimed)
     (events : List Claimed) (end : ℕ → ReplayStateView) (alive : ℕ → Bool) : Type 0 where
   pub follows : (cpu : ℕ) → KeepsUp cpu m time (s cpu)
   pub replays : (cpu : ℕ) → IsReplay knobs cpu (s cpu) (steps_at cpu (event ∷ events)) (end cpu)
@@ -91,7 +91,8 @@ touches_second cpu first act e = ap (list_any (λ other. nat_eq other cpu)) e
     or_true true = refl
     or_true false = refl
 
-module _ (knobs : Settings) (m : Machine) (time : ℕ) (s : ℕ → ReplayStateView) (event : Claimed) (events : List Claimed)
+module _ (knobs : KnobsView) (m : Machine) (time : ℕ) (s : ℕ
+    → ReplayStateView) (event : Claimed) (events : List Claimed)
     (end : ℕ → ReplayStateView) (alive : ℕ → Bool) (at : AtEvent knobs m time s event events end alive) where
   here : (cpu : ℕ) → touches cpu event ≡ true → PassesHere knobs cpu (s cpu) event events (end cpu)
   here cpu t = passes_here knobs cpu (s cpu) event events (end cpu) (at.follows cpu).fault (at.replays cpu)

@@ -1,11 +1,11 @@
 -- What ends a run beside a step that fails on its own processor.
 use Rattle.std.proofs.Common.{◌≡◌, ℕ, Bool, List, [], ◌∷◌, ◌++◌, sym, ap, ◌∙◌, subst}
-use Rattle.cfs_model.specs.Settings.{Settings}
+use Rattle.cfs_model.specs.Knobs.{KnobsView}
 use Rattle.cfs_model.specs.Machine.{Machine}
 use Rattle.cfs_model.specs.Start.{start_machine}
 use Rattle.cfs_model.specs.Claimed.{Claimed}
 use Rattle.cfs_model.specs.Touch.{touched}
-use Rattle.cfs_model.specs.Idle.{KeepsSlack}
+use Rattle.cfs_model.specs.Idling.{KeepsSlack}
 use Rattle.cfs_model.specs.Run.{AreSteps, times_of, IsRun, last_of}
 use Rattle.cfs_model.specs.Order.{IsInOrder}
 use Rattle.replay_model.specs.Found.{IsFound}
@@ -26,7 +26,7 @@ use Rattle.replay_laws.proofs.following.Roll.{RollIs, roll_step, start_roll}
 use Rattle.cfs_model.specs.declared.act.Act.TheVariants.{Born}
 
 -- the run without its last event
-front_of_run : (knobs : Settings) (start : ℕ) (m : Machine) (before : List Claimed) (event : Claimed)
+front_of_run : (knobs : KnobsView) (start : ℕ) (m : Machine) (before : List Claimed) (event : Claimed)
     (run : IsRun knobs start m (before ++ event ∷ [])) → (l : LastStep knobs m before event run.states)
     → KeepsSlack knobs.slack (times_of start before) (m ∷ l.front)
 front_of_run knobs start m before event run l =
@@ -45,7 +45,7 @@ idling_ends_run knobs start floors tasks before event cpu last s rise r late run
     ((slack_follows knobs start floors tasks before cpu last event.entry.time s rise front r).1 late)
 
 -- the order and the roll at the end of some steps
-pub order_after : (knobs : Settings) (m : Machine) (events : List Claimed) (states : List Machine)
+pub order_after : (knobs : KnobsView) (m : Machine) (events : List Claimed) (states : List Machine)
     → AreSteps knobs m events states → IsInOrder m → IsInOrder (last_of m states)
 order_after knobs m [] [] steps o = o
 order_after knobs m [] (after ∷ states) steps o = absurd steps
@@ -53,7 +53,7 @@ order_after knobs m (event ∷ events) [] steps o = absurd steps
 order_after knobs m (event ∷ events) (after ∷ states) steps o =
     order_after knobs after events states steps.1 (step_in_order knobs m event after o steps.0)
 
-pub roll_run : (alive : ℕ → Bool) (knobs : Settings) (m : Machine) (events : List Claimed) (states : List Machine)
+pub roll_run : (alive : ℕ → Bool) (knobs : KnobsView) (m : Machine) (events : List Claimed) (states : List Machine)
     → AreSteps knobs m events states → IsInOrder m → RollIs alive m → RollIs (roll_of alive events) (last_of m states)
 roll_run alive knobs m [] [] steps o h = h
 roll_run alive knobs m [] (after ∷ states) steps o h = absurd steps
@@ -93,4 +93,4 @@ tickets_end_run knobs start floors tasks before event orig dest pid nice at_orig
     (subst (λ x. IsFound (step_at dest event) x p.arrive.found) d.at.part p.arrive.passes.is_found)
     arrive.passes.is_found in
     differ (ap (λ x. left_ticket x event.entry.line pid) (sym at) ∙ p.tickets
-    ∙ ap (λ x. came_ticket x event.entry.line pid nice event.idle event.claim) to)
+    ∙ ap (λ x. came_ticket x event.entry.line pid nice event.policy event.claim) to)

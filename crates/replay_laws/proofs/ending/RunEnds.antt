@@ -2,12 +2,12 @@
 use Rattle.std.proofs.Common.{◌≡◌, ℕ, suc, ◌+◌, ◌<◌, ◌≤◌, Option, Some, None, IsSomeAnd, inl, inr, List, [], ◌∷◌, ◌++◌}
 use Rattle.std.proofs.Common.{map, length, get_or, slice_index, refl, sym, ap, ◌∙◌, subst, true≢false, arith}
 use Rattle.std.proofs.Common.{length-append}
-use Rattle.cfs_model.specs.Settings.{Settings}
+use Rattle.cfs_model.specs.Knobs.{KnobsView}
 use Rattle.cfs_model.specs.Machine.{Machine}
 use Rattle.cfs_model.specs.Start.{start_machine}
 use Rattle.cfs_model.specs.Claimed.{Claimed}
 use Rattle.cfs_model.specs.Step.{IsStep}
-use Rattle.cfs_model.specs.Idle.{IsIdle, KeepsSlack}
+use Rattle.cfs_model.specs.Idling.{Idles, KeepsSlack}
 use Rattle.cfs_model.specs.Run.{AreSteps, times_of, IsRun, last_of}
 use Rattle.replay_model.specs.Part.{part_of}
 use Rattle.replay_model.specs.QueueTests.{IsIdleTooLong}
@@ -21,7 +21,7 @@ use Rattle.part_laws.proofs.Touching.{steps_at_cpu}
 use Rattle.replay_laws.proofs.following.FollowLaws.{followed_run, slack_follows}
 
 -- the last step of a list of events
-pub record LastStep (knobs : Settings) (m : Machine) (before : List Claimed) (event : Claimed)
+pub record LastStep (knobs : KnobsView) (m : Machine) (before : List Claimed) (event : Claimed)
     (states : List Machine) : Type 0 where
   pub front : List Machine
   pub after : Machine
@@ -29,7 +29,7 @@ pub record LastStep (knobs : Settings) (m : Machine) (before : List Claimed) (ev
   pub steps : AreSteps knobs m before front
   pub last : IsStep knobs (last_of m front) event after
 
-pub last_step : (knobs : Settings) (m : Machine) (before : List Claimed) (event : Claimed) (states : List Machine)
+pub last_step : (knobs : KnobsView) (m : Machine) (before : List Claimed) (event : Claimed) (states : List Machine)
     → AreSteps knobs m (before ++ event ∷ []) states → LastStep knobs m before event states
 last_step knobs m [] event [] s = absurd s
 last_step knobs m [] event (after ∷ []) s = record { front = []; after = after; whole = refl; steps = tt; last = s.0 }
@@ -71,7 +71,7 @@ slack_holds slack start m before event front after same keeps cpu f =
     let most : slice_index (times_of start (before ++ event ∷ [])) (suc (length front)) ≤ slice_index
     (times_of start (before ++ event ∷ [])) from + slack =
     keeps cpu from (suc (length front)) below (omega (arith, length-append front (after ∷ [])))
-    (λ n low high. subst (λ o. IsSomeAnd o (λ x. IsIdle x cpu))
+    (λ n low high. subst (λ o. IsSomeAnd o (λ x. Idles x cpu))
     (sym (slice_get-append_left (m ∷ front) (after ∷ []) n high)) (f.idles n low high)) in
     absurd (omega arith)
 

@@ -1,14 +1,14 @@
--- While events are a run, the replay of a processor's share of them passes and keeps up with the processor's part.
+-- While events are a run, the replay of a processor's cut_replay of them passes and keeps up with the processor's part.
 use Rattle.std.proofs.Common.{◌≡◌, ℕ, ◌+◌, ◌<◌, ◌≤◌, true, false, cond, Option, Some, None, unwrap_or, ◌⊎◌, inl, inr}
 use Rattle.std.proofs.Common.{List, ◌∷◌, map, filter, refl, sym, ap, ◌∙◌, subst, arith}
-use Rattle.cfs_model.specs.Settings.{Settings}
+use Rattle.cfs_model.specs.Knobs.{KnobsView}
 use Rattle.cfs_model.specs.Machine.{Machine}
 use Rattle.cfs_model.specs.Claimed.{Claimed}
 use Rattle.cfs_model.specs.Step.{IsStep}
-use Rattle.cfs_model.specs.Idle.{IsIdle}
+use Rattle.cfs_model.specs.Idling.{Idles}
 use Rattle.cfs_model.specs.Order.{IsInOrder}
 use Rattle.replay_model.specs.Part.{Part, part_of}
-use Rattle.replay_model.specs.PartWords.{IsIdlePart}
+use Rattle.replay_model.specs.PartWords.{PartIdles}
 use Rattle.replay_model.specs.QueueTests.{IsIdleTooLong}
 use Rattle.replay_model.specs.Cut.{touches, steps_at}
 use Rattle.replay_model.specs.StepAt.{step_at}
@@ -19,45 +19,46 @@ use Rattle.cfs_model.proofs.StepOrder.{apart_of, step_in_order}
 use Rattle.replay_model.proofs.Options.{no_some, same_some}
 use Rattle.part_laws.proofs.one_page.OneLift.{step_no_fault, step_same_part}
 use Rattle.part_laws.proofs.Touching.{steps_at_cpu}
-use Rattle.replay_laws.proofs.following.Idles.{idle_part, part_idle}
+use Rattle.replay_laws.proofs.following.PartIdling.{idles_in_part, idles_in_machine}
 
 -- a replay is where the machine is: its part, and since when the processor has idled, if it does
 pub record KeepsUp (cpu : ℕ) (m : Machine) (time : ℕ) (s : ReplayStateView) : Type 0 where
   pub order : IsInOrder m
   pub part : part_of m cpu ≡ s.part
-  pub told : IsIdlePart s.part → (x : ℕ) × (s.since ≡ Some x)
-  pub idles : (x : ℕ) → s.since ≡ Some x → IsIdlePart s.part
+  pub told : PartIdles s.part → (x : ℕ) × (s.since ≡ Some x)
+  pub idles : (x : ℕ) → s.since ≡ Some x → PartIdles s.part
   pub early : (x : ℕ) → s.since ≡ Some x → x ≤ time
   pub fault : s.page.fault ≡ None
 
 -- the machine's state idles where the replay tells since when
-pub state_idles : (cpu : ℕ) (m : Machine) (time : ℕ) (s : ReplayStateView) → KeepsUp cpu m time s → (x : ℕ)
+pub machine_idles : (cpu : ℕ) (m : Machine) (time : ℕ) (s : ReplayStateView) → KeepsUp cpu m time s → (x : ℕ)
     → s.since ≡ Some x
-    → IsIdle m cpu
-state_idles cpu m time s f x e = part_idle m (apart_of m f.order) cpu (subst IsIdlePart (sym f.part) (f.idles x e))
+    → Idles m cpu
+machine_idles cpu m time s f x e = idles_in_machine m (apart_of m f.order) cpu (subst PartIdles (sym f.part) (f.idles
+    x e))
 
-pub part_idles : (cpu : ℕ) (m : Machine) (time : ℕ) (s : ReplayStateView) → KeepsUp cpu m time s → IsIdle m cpu
-    → IsIdlePart s.part
-part_idles cpu m time s f i = subst IsIdlePart f.part (idle_part m (apart_of m f.order) cpu i)
+pub replay_idles : (cpu : ℕ) (m : Machine) (time : ℕ) (s : ReplayStateView) → KeepsUp cpu m time s → Idles m cpu
+    → PartIdles s.part
+replay_idles cpu m time s f i = subst PartIdles f.part (idles_in_part m (apart_of m f.order) cpu i)
 
 -- the replay one event later
-pub record Advanced (knobs : Settings) (cpu : ℕ) (event : Claimed) (after : Machine) (s : ReplayStateView)
+pub record Advanced (knobs : KnobsView) (cpu : ℕ) (event : Claimed) (after : Machine) (s : ReplayStateView)
     (events : List Claimed) (last : ReplayStateView) : Type 0 where
   pub next : ReplayStateView
   pub follows : KeepsUp cpu after event.entry.time next
   pub replay : IsReplay knobs cpu next (steps_at cpu events) last
   pub begun : (x : ℕ) → next.since ≡ Some x → (s.since ≡ Some x) ⊎ (x ≡ event.entry.time)
-  pub kept : (x : ℕ) → s.since ≡ Some x → IsIdlePart next.part → next.since ≡ Some x
+  pub kept : (x : ℕ) → s.since ≡ Some x → PartIdles next.part → next.since ≡ Some x
   pub page : (next.page ≡ s.page) ⊎ ((found : Part) × (next.page ≡ noted s.page s.part found (step_at cpu event)))
 
 -- what a since says of the one before
 pub since_idles : (before : Option ℕ) (time : ℕ) (part : Part) (since : Option ℕ) → IsSince before time part since
-    → (x : ℕ) → since ≡ Some x → IsIdlePart part
+    → (x : ℕ) → since ≡ Some x → PartIdles part
 since_idles before time part since (inl h) x e = h.0
 since_idles before time part since (inr h) x e = no_some x (sym h.1 ∙ e)
 
 pub since_told : (before : Option ℕ) (time : ℕ) (part : Part) (since : Option ℕ) → IsSince before time part since
-    → IsIdlePart part → since ≡ Some (unwrap_or before time)
+    → PartIdles part → since ≡ Some (unwrap_or before time)
 since_told before time part since (inl h) i = h.1
 since_told before time part since (inr h) i = absurd (h.0 i)
 
@@ -88,7 +89,7 @@ not_too_long slack (Some x) time pid h k = let a : time ≤ x + slack = h x refl
     absurd (omega arith)
 
 -- an event that touches the processor
-advance_here : (knobs : Settings) (cpu : ℕ) (m : Machine) (time : ℕ) (s : ReplayStateView) (event : Claimed)
+advance_here : (knobs : KnobsView) (cpu : ℕ) (m : Machine) (time : ℕ) (s : ReplayStateView) (event : Claimed)
     (after : Machine)
     (events : List Claimed) (last : ReplayStateView)
     → KeepsUp cpu m time s → IsInOrder after → time ≤ event.entry.time
@@ -131,7 +132,7 @@ advance_here knobs cpu m time s event after events last f o late slack step r = 
     }
 
 -- an event that touches another
-advance_away : (knobs : Settings) (cpu : ℕ) (m : Machine) (time : ℕ) (s : ReplayStateView) (event : Claimed)
+advance_away : (knobs : KnobsView) (cpu : ℕ) (m : Machine) (time : ℕ) (s : ReplayStateView) (event : Claimed)
     (after : Machine)
     (events : List Claimed) (last : ReplayStateView)
     → KeepsUp cpu m time s → IsInOrder after → time ≤ event.entry.time → part_of after cpu ≡ part_of m cpu
@@ -152,7 +153,7 @@ advance_away knobs cpu m time s event after events last f o late same r = record
   page = inl refl;
 }
 
-pub advance : (knobs : Settings) (cpu : ℕ) (m : Machine) (time : ℕ) (s : ReplayStateView) (event : Claimed)
+pub advance : (knobs : KnobsView) (cpu : ℕ) (m : Machine) (time : ℕ) (s : ReplayStateView) (event : Claimed)
     (after : Machine)
     (events : List Claimed) (last : ReplayStateView)
     → KeepsUp cpu m time s → IsStep knobs m event after → time ≤ event.entry.time

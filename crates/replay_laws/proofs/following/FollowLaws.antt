@@ -1,11 +1,11 @@
 -- The replay follows a run from its start, and tells where the slack fails with one more event.
 use Rattle.std.proofs.Common.{◌≡◌, ℕ, ◌+◌, ◌<◌, ◌≤◌, Option, Some, None, IsSomeAnd, ℤ, inl, inr, List, [], ◌∷◌, length}
 use Rattle.std.proofs.Common.{slice_get, slice_index, refl, sym, ap, ◌∙◌, subst, arith}
-use Rattle.cfs_model.specs.Settings.{Settings}
+use Rattle.cfs_model.specs.Knobs.{KnobsView}
 use Rattle.cfs_model.specs.Machine.{Machine}
 use Rattle.cfs_model.specs.Start.{start_machine}
 use Rattle.cfs_model.specs.Claimed.{Claimed}
-use Rattle.cfs_model.specs.Idle.{IsIdle, IdlesFrom, KeepsSlack}
+use Rattle.cfs_model.specs.Idling.{Idles, IdlesFrom, KeepsSlack}
 use Rattle.cfs_model.specs.Run.{times_of, IsRun, last_of}
 use Rattle.cfs_model.specs.Order.{IsStart}
 use Rattle.replay_model.specs.Part.{Part}
@@ -14,12 +14,12 @@ use Rattle.replay_model.specs.Cut.{cut}
 use Rattle.replay_model.specs.Record.{TimesRise}
 use Rattle.replay_model.specs.Cause.{SlackFails}
 use Rattle.replay_model.specs.Page.{ReplayStateView, IsSince, IsStartOf}
-use Rattle.replay_laws.specs.Share.{IsShareReplay}
+use Rattle.replay_laws.specs.CutReplay.{IsCutReplay}
 use Rattle.replay_laws.specs.Replays.{ReplayFollows, SlackFollows}
 use Rattle.cfs_model.proofs.StartOrder.{start_in_order}
 use Rattle.replay_model.proofs.Options.{no_some}
 use Rattle.replay_laws.proofs.following.StartPart.{start_part_is}
-use Rattle.replay_laws.proofs.following.Follow.{KeepsUp, since_idles, since_told, since_begun, part_idles}
+use Rattle.replay_laws.proofs.following.Follow.{KeepsUp, since_idles, since_told, since_begun, replay_idles}
 use Rattle.replay_laws.proofs.following.Followed.{Still, Followed, follow}
 use Rattle.cfs_model.specs.declared.task.Task.{Task}
 
@@ -47,11 +47,11 @@ still_start slack start m cpu first events states h keeps x e j a b idles =
     subst (λ y. slice_index (times_of start events) j ≤ y + slack) (sym (starts_at start first.part first.since h x e))
     (keeps cpu 0 j a b idles)
 
-pub followed_run : (knobs : Settings) (start : ℕ) (floors : List ℤ) (tasks : List Task) (events : List Claimed)
+pub followed_run : (knobs : KnobsView) (start : ℕ) (floors : List ℤ) (tasks : List Task) (events : List Claimed)
     (cpu : ℕ) (last : ReplayStateView)
     → IsStart floors tasks → TimesRise start events
     → (run : IsRun knobs start (start_machine start floors tasks) events)
-    → (r : IsShareReplay knobs start floors tasks events cpu last)
+    → (r : IsCutReplay knobs start floors tasks events cpu last)
     → Followed cpu (start_machine start floors tasks) start r.first events run.states last
 followed_run knobs start floors tasks events cpu last s rise run r =
     follow knobs cpu (start_machine start floors tasks) start r.first events run.states last
@@ -71,9 +71,9 @@ last_state m [] = refl
 last_state m (after ∷ states) = last_state after states
 
 pub last_idles : (m : Machine) (states : List Machine) (cpu i : ℕ) → i < length (m ∷ states)
-    → IdlesFrom (m ∷ states) cpu i (length (m ∷ states)) → IsIdle (last_of m states) cpu
+    → IdlesFrom (m ∷ states) cpu i (length (m ∷ states)) → Idles (last_of m states) cpu
 last_idles m states cpu i h idles =
-    subst (λ o. IsSomeAnd o (λ x. IsIdle x cpu)) (last_state m states)
+    subst (λ o. IsSomeAnd o (λ x. Idles x cpu)) (last_state m states)
     (idles (length states) (omega arith) (omega arith))
 
 too_long : (slack : ℕ) (since : Option ℕ) (x time : ℕ) → since ≡ Some x → x + slack < time
@@ -89,7 +89,7 @@ slack_follows knobs start floors tasks events cpu last time s rise run r = (down
     down : SlackFails knobs.slack (times_of start events) (start_machine start floors tasks ∷ run.states) cpu time
         → IsIdleTooLong knobs.slack last.since time 0
     down h =
-        let x = f.at.told (part_idles cpu _ _ last f.at
+        let x = f.at.told (replay_idles cpu _ _ last f.at
         (last_idles (start_machine start floors tasks) run.states cpu h.from h.is_state h.idles)) in
         let early = f.longest h.from h.is_state h.idles x.0 x.1 in
         let late = h.late in

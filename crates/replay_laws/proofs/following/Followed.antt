@@ -1,19 +1,19 @@
 -- The replay along a whole run, and since when it says that a processor has idled.
 use Rattle.std.proofs.Common.{◌≡◌, ℕ, zero, suc, ◌+◌, ◌<◌, ◌≤◌, Some, ◌⊎◌, inl, inr, List, [], ◌∷◌, length, slice_index}
 use Rattle.std.proofs.Common.{sym, subst, arith}
-use Rattle.cfs_model.specs.Settings.{Settings}
+use Rattle.cfs_model.specs.Knobs.{KnobsView}
 use Rattle.cfs_model.specs.Machine.{Machine}
 use Rattle.cfs_model.specs.Claimed.{Claimed}
-use Rattle.cfs_model.specs.Idle.{IsIdle, IdlesFrom, KeepsSlack}
+use Rattle.cfs_model.specs.Idling.{Idles, IdlesFrom, KeepsSlack}
 use Rattle.cfs_model.specs.Run.{AreSteps, times_of, last_of}
 use Rattle.replay_model.specs.Cut.{steps_at, last_time_of}
 use Rattle.replay_model.specs.Record.{TimesRise}
 use Rattle.replay_model.specs.Page.{ReplayStateView, IsReplay}
 use Rattle.replay_model.proofs.Options.{same_some}
-use Rattle.replay_laws.proofs.following.Follow.{KeepsUp, state_idles, part_idles, advance}
+use Rattle.replay_laws.proofs.following.Follow.{KeepsUp, machine_idles, replay_idles, advance}
 
 -- more idle states: one before, and all but the first
-pub idles_before : (m : Machine) (states : List Machine) (cpu k : ℕ) → IsIdle m cpu → IdlesFrom states cpu 0 k
+pub idles_before : (m : Machine) (states : List Machine) (cpu k : ℕ) → Idles m cpu → IdlesFrom states cpu 0 k
     → IdlesFrom (m ∷ states) cpu 0 (suc k)
 idles_before m states cpu k i h zero a b = i
 idles_before m states cpu k i h (suc n) a b = h n (omega arith) (omega arith)
@@ -31,7 +31,7 @@ pub idles_rest : (m : Machine) (states : List Machine) (cpu k : ℕ) → IdlesFr
     → IdlesFrom states cpu 0 k
 idles_rest m states cpu k h n a b = h (suc n) (omega arith) (omega arith)
 
-pub idles_one : (m : Machine) (states : List Machine) (cpu : ℕ) → IsIdle m cpu → IdlesFrom (m ∷ states) cpu 0 1
+pub idles_one : (m : Machine) (states : List Machine) (cpu : ℕ) → Idles m cpu → IdlesFrom (m ∷ states) cpu 0 1
 idles_one m states cpu i zero a b = i
 idles_one m states cpu i (suc n) a b = absurd (omega arith)
 
@@ -63,7 +63,7 @@ followed_none : (cpu : ℕ) (m : Machine) (time : ℕ) (s last : ReplayStateView
     → Followed cpu m time s [] [] last
 followed_none cpu m time s last f e = subst (Followed cpu m time s [] []) (sym e) (record {
   at = f;
-  begun = λ x h. inl (h, idles_one m [] cpu (state_idles cpu m time s f x h));
+  begun = λ x h. inl (h, idles_one m [] cpu (machine_idles cpu m time s f x h));
   kept = λ x h k. h;
   longest = λ i below h x e. early i below x e;
 })
@@ -84,7 +84,7 @@ still_more slack cpu m time s event events after states next f still keeps begun
   where
     go : (s.since ≡ Some x) ⊎ (x ≡ event.entry.time) → slice_index (times_of event.entry.time events) j ≤ x + slack
     go (inl h) = still x h (suc j) (omega arith) (omega arith)
-        (idles_before m (after ∷ states) cpu j (state_idles cpu m time s f x h) idles)
+        (idles_before m (after ∷ states) cpu j (machine_idles cpu m time s f x h) idles)
     go (inr h) = subst (λ y. slice_index (times_of event.entry.time events) j ≤ y + slack) (sym h)
         (keeps cpu 1 (suc j) (omega arith) (omega arith) (idles_later m (after ∷ states) cpu 0 j idles))
 
@@ -98,7 +98,7 @@ followed_more : (cpu : ℕ) (m : Machine) (time : ℕ) (s : ReplayStateView) (ev
     (after : Machine) (states : List Machine) (next last : ReplayStateView)
     → KeepsUp cpu m time s → KeepsUp cpu after event.entry.time next
     → ((x : ℕ) → next.since ≡ Some x → (s.since ≡ Some x) ⊎ (x ≡ event.entry.time))
-    → ((x : ℕ) → s.since ≡ Some x → IsIdle after cpu → next.since ≡ Some x)
+    → ((x : ℕ) → s.since ≡ Some x → Idles after cpu → next.since ≡ Some x)
     → Followed cpu after event.entry.time next events states last
     → Followed cpu m time s (event ∷ events) (after ∷ states) last
 followed_more cpu m time s event events after states next last f g begun kept h =
@@ -112,7 +112,7 @@ followed_more cpu m time s event events after states next last f g begun kept h 
         | inl l ↦ inl (
           l,
           idles_before m (after ∷ states) cpu (length (after ∷ states))
-              (state_idles cpu m time s f x l) k.1,
+              (machine_idles cpu m time s f x l) k.1,
         )
         | inr l ↦ inr (record {
           at = 1;
@@ -140,12 +140,12 @@ followed_more cpu m time s event events after states next last f g begun kept h 
         → IdlesFrom (m ∷ after ∷ states) cpu i (length (m ∷ after ∷ states)) → (x : ℕ) → last.since ≡ Some x
         → x ≤ slice_index (times_of time (event ∷ events)) i
     longest_now zero below idles x e =
-        let y = f.told (part_idles cpu m time s f (idles 0 (omega arith) (omega arith))) in
+        let y = f.told (replay_idles cpu m time s f (idles 0 (omega arith) (omega arith))) in
         subst (λ z. z ≤ time) (same_some last.since y.0 x (kept_now y.0 y.1 idles) e) (f.early y.0 y.1)
     longest_now (suc i) below idles x e = h.longest i (omega arith)
         (idles_tail m (after ∷ states) cpu i (length (after ∷ states)) idles) x e
 
-pub follow : (knobs : Settings) (cpu : ℕ) (m : Machine) (time : ℕ) (s : ReplayStateView) (events : List Claimed)
+pub follow : (knobs : KnobsView) (cpu : ℕ) (m : Machine) (time : ℕ) (s : ReplayStateView) (events : List Claimed)
     (states : List Machine) (last : ReplayStateView)
     → KeepsUp cpu m time s → AreSteps knobs m events states → TimesRise time events
     → Still knobs.slack cpu m time s events states
@@ -156,10 +156,11 @@ follow knobs cpu m time s [] (after ∷ states) last f steps rise still keeps r 
 follow knobs cpu m time s (event ∷ events) [] last f steps rise still keeps r = absurd steps
 follow knobs cpu m time s (event ∷ events) (after ∷ states) last f steps rise still keeps r =
     let adv = advance knobs cpu m time s event after events last f steps.0 rise.0
-    (λ x e. still x e 1 (omega arith) (omega arith) (idles_one m (after ∷ states) cpu (state_idles cpu m time s f x e)))
+    (λ x e. still x e 1 (omega arith) (omega arith) (idles_one m (after ∷ states) cpu (machine_idles cpu m time s f x
+    e)))
     r in
     followed_more cpu m time s event events after states adv.next last f adv.follows adv.begun
-    (λ x e i. adv.kept x e (part_idles cpu after event.entry.time adv.next adv.follows i))
+    (λ x e i. adv.kept x e (replay_idles cpu after event.entry.time adv.next adv.follows i))
     (follow knobs cpu after event.entry.time adv.next events states last adv.follows steps.1 rise.1
     (still_more knobs.slack cpu m time s event events after states adv.next f still keeps adv.begun)
     (keeps_more knobs.slack time (times_of event.entry.time events) m (after ∷ states) keeps) adv.replay)

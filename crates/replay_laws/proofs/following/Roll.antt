@@ -1,7 +1,7 @@
 -- The roll of births and ends tells who stands somewhere in the machine: whoever has a nice value.
 use Rattle.std.proofs.Common.{◌≡◌, ℕ, zero, suc, Bool, true, false, Option, Some, None, is_some, ℤ, inl, inr, List, []}
 use Rattle.std.proofs.Common.{◌∷◌, refl, sym, ap, ◌∙◌, subst, true≢false, option_map}
-use Rattle.cfs_model.specs.Settings.{Settings}
+use Rattle.cfs_model.specs.Knobs.{KnobsView}
 use Rattle.cfs_model.specs.Machine.{Machine, put, put_pair, pairs_of, without_task}
 use Rattle.cfs_model.specs.Claimed.{Claimed}
 use Rattle.cfs_model.specs.Touch.{touched}
@@ -22,6 +22,7 @@ use Rattle.cfs_model.specs.declared.act.Way.{Way}
 use Rattle.cfs_model.specs.declared.act.Way.TheVariants.{Stays, Sleeps, Ends}
 use Rattle.cfs_model.specs.declared.claim.Claim.{Claim}
 use Rattle.cfs_model.specs.declared.task.Task.{Task}
+use Rattle.cfs_model.specs.declared.policy.Policy.{Policy}
 
 -- the pids with a nice value are those alive
 abbrev pub RollIs : (ℕ → Bool) → Machine → Type 0
@@ -51,19 +52,19 @@ next_roll : (alive : ℕ → Bool) (m : Machine) (cpu next : ℕ) → RollIs ali
 next_roll alive m cpu zero h = h
 next_roll alive m cpu (suc n) h = h
 
-change_roll : (alive : ℕ → Bool) (knobs : Settings) (m : Machine) (act : Act) (claim : Option Claim) (idle : Bool)
+change_roll : (alive : ℕ → Bool) (knobs : KnobsView) (m : Machine) (act : Act) (claim : Option Claim) (policy : Policy)
     (after : Machine)
-    → RollIs alive m → Changes knobs m act claim idle after → RollIs (roll_after alive act) after
-change_roll alive knobs m (Switch cpu prev pn way next nn) claim idle after h s =
+    → RollIs alive m → Changes knobs m act claim policy after → RollIs (roll_after alive act) after
+change_roll alive knobs m (Switch cpu prev pn way next nn) claim policy after h s =
     subst (RollIs (roll_after alive (Switch cpu prev pn way next nn))) (sym s.result)
     (next_roll (roll_after alive (Switch cpu prev pn way next nn)) (after_prev m cpu prev way) cpu next
     (prev_roll alive m cpu prev pn way next nn h))
-change_roll alive knobs m (Wake cpu pid nice) claim idle after h (inl s) = subst (RollIs alive) (sym s.result) h
-change_roll alive knobs m (Wake cpu pid nice) claim idle after h (inr s) = subst (RollIs alive) (sym s.result) h
-change_roll alive knobs m (Born cpu pid nice) claim idle after h s = subst
+change_roll alive knobs m (Wake cpu pid nice) claim policy after h (inl s) = subst (RollIs alive) (sym s.result) h
+change_roll alive knobs m (Wake cpu pid nice) claim policy after h (inr s) = subst (RollIs alive) (sym s.result) h
+change_roll alive knobs m (Born cpu pid nice) claim policy after h s = subst
     (RollIs (roll_after alive (Born cpu pid nice)))
     (sym s.result) (put_roll m.nice alive pid (Some nice) true refl h)
-change_roll alive knobs m (Shift orig dest pid nice) claim idle after h s =
+change_roll alive knobs m (Shift orig dest pid nice) claim policy after h s =
     subst (RollIs alive) (sym s.result)
     (λ q. ap (λ f. is_some (f q))
     (nice-with_pairs (without_task m s.place orig pid) s.place
@@ -71,7 +72,7 @@ change_roll alive knobs m (Shift orig dest pid nice) claim idle after h s =
     ∙ nice-with_pairs m s.place (put_pair (pairs_of m s.place) orig pid false)) ∙ h q)
 
 -- the same pids have a nice value in the machine as an event finds it
-pub found_keys : (knobs : Settings) (m : Machine) (event : Claimed) (after : Machine) → IsInOrder m
+pub found_keys : (knobs : KnobsView) (m : Machine) (event : Claimed) (after : Machine) → IsInOrder m
     → (s : IsStep knobs m event after) → (q : ℕ) → is_some (s.found.nice q) ≡ is_some (m.nice q)
 found_keys knobs m event after o s q =
     let act = event.entry.act in
@@ -81,10 +82,10 @@ found_keys knobs m event after o s q =
     ∙ ap (λ f. is_some (f q)) (lifted_nice time (touched act) m s.lifted s.is_lifted)
 
 -- the roll after a step
-pub roll_step : (alive : ℕ → Bool) (knobs : Settings) (m : Machine) (event : Claimed) (after : Machine) → IsInOrder m
+pub roll_step : (alive : ℕ → Bool) (knobs : KnobsView) (m : Machine) (event : Claimed) (after : Machine) → IsInOrder m
     → RollIs alive m → IsStep knobs m event after → RollIs (roll_after alive event.entry.act) after
 roll_step alive knobs m event after o h s =
-    change_roll alive knobs s.found event.entry.act event.claim event.idle after
+    change_roll alive knobs s.found event.entry.act event.claim event.policy after
     (λ q. found_keys knobs m event after o s q ∙ h q) s.changes
 
 -- who isn't alive stands nowhere

@@ -3,12 +3,12 @@
 use Rattle.std.proofs.Common.{◌≡◌, ℕ, zero, suc, ◌+◌, ◌<◌, ◌≤◌, true, false, Some, None, ℤ, ◌⊎◌, inl, inr, List, []}
 use Rattle.std.proofs.Common.{◌∷◌, refl, sym, ap, ◌∙◌, subst, arith}
 use Rattle.std.proofs.lemmas.Bool.{cases_lt}
-use Rattle.cfs_model.specs.Settings.{Settings}
+use Rattle.cfs_model.specs.Knobs.{KnobsView}
 use Rattle.cfs_model.specs.Machine.{Machine}
 use Rattle.cfs_model.specs.Start.{start_machine}
 use Rattle.cfs_model.specs.Claimed.{Claimed}
 use Rattle.cfs_model.specs.Step.{IsStep}
-use Rattle.cfs_model.specs.Idle.{KeepsSlack}
+use Rattle.cfs_model.specs.Idling.{KeepsSlack}
 use Rattle.cfs_model.specs.Run.{AreSteps, times_of, IsRun}
 use Rattle.cfs_model.specs.Least.{AtMost, larger}
 use Rattle.replay_model.specs.Part.{part_of}
@@ -19,26 +19,26 @@ use Rattle.replay_model.specs.Page.{ReplayStateView, IsReplayStep, IsReplay}
 use Rattle.replay_model.specs.Record.{TimesRise, IsRecord}
 use Rattle.replay_model.specs.Needs.{idle_need, only_slack, AllPassNeeding, IsPageNeeding, largest}
 use Rattle.part_laws.specs.TouchedParts.{PartStep}
-use Rattle.replay_laws.specs.Share.{PassesShare}
+use Rattle.replay_laws.specs.CutReplay.{PassesCut}
 use Rattle.replay_laws.specs.LeastSettings.{PagesTellLeast}
 use Rattle.cfs_model.proofs.LeastSettings.{below_larger, other_below_larger, at_most_trans, larger_at_most}
 use Rattle.cfs_model.proofs.LeastSettings.{slack_at_most}
 use Rattle.part_laws.proofs.one_page.OneLift.{same_found}
 use Rattle.part_laws.proofs.Touching.{steps_at_cpu}
-use Rattle.replay_laws.proofs.following.Follow.{KeepsUp, state_idles, touched_steps, untouched_steps, advance}
+use Rattle.replay_laws.proofs.following.Follow.{KeepsUp, machine_idles, touched_steps, untouched_steps, advance}
 use Rattle.replay_laws.proofs.following.Followed.{Still, idles_one, still_more, keeps_more}
 use Rattle.replay_laws.proofs.following.FollowLaws.{starts_at, follows_start, still_start}
-use Rattle.replay_laws.proofs.composing.PagesCompose.{compose_shares}
-use Rattle.replay_laws.proofs.composing.Shares.{ShareOf, past_share_of, share_from}
+use Rattle.replay_laws.proofs.composing.PagesCompose.{compose_cuts}
+use Rattle.replay_laws.proofs.composing.CutReplays.{CutOf, past_cut_of, cut_from}
 use Rattle.replay_laws.proofs.needing.StepNeeds.{idle_within, idle_needs, passes_within, needs_of_tests}
 use Rattle.cfs_model.specs.declared.setting.Setting.TheVariants.{Slack}
 use Rattle.cfs_model.specs.declared.task.Task.{Task}
 use Rattle.replay_model.specs.declared.step.Step.{Step}
 
 -- steps that pass are a replay under any settings that are at least what they need
-replay_within : (knobs other : Settings) (cpu : ℕ) (before : ReplayStateView) (steps : List Step)
+replay_within : (knobs other : KnobsView) (cpu : ℕ) (before : ReplayStateView) (steps : List Step)
     (after : ReplayStateView)
-    (needs : Settings)
+    (needs : KnobsView)
     → before.page.fault ≡ None → AllPassNeeding knobs cpu before steps after needs → AtMost needs other
     → IsReplay other cpu before steps after × (after.page.fault ≡ None)
 replay_within knobs other cpu before [] after needs f p h = (p.0, ap (λ x. x.page.fault) p.0 ∙ f)
@@ -52,12 +52,12 @@ replay_within knobs other cpu before (step ∷ steps) after needs f p h =
       rest.1,
     )
 
--- a share passes under any settings that are at least what its page needs
-share_within : (knobs other : Settings) (start : ℕ) (floors : List ℤ) (tasks : List Task) (events : List Claimed)
-    (cpu : ℕ) (page : PageView) (needs : Settings)
+-- a cut_replay passes under any settings that are at least what its page needs
+cut_within : (knobs other : KnobsView) (start : ℕ) (floors : List ℤ) (tasks : List Task) (events : List Claimed)
+    (cpu : ℕ) (page : PageView) (needs : KnobsView)
     → (p : IsPageNeeding (cut start floors tasks events cpu) knobs page needs) → AtMost needs other
-    → PassesShare other start floors tasks events cpu p.end
-share_within knobs other start floors tasks events cpu page needs p h =
+    → PassesCut other start floors tasks events cpu p.end
+cut_within knobs other start floors tasks events cpu page needs p h =
     let still = idle_need p.end.since (last_time_of start events) in
     let k : AtMost (larger p.of_steps (only_slack still)) other = subst (λ x. AtMost x other) p.needs_are h in
     let r = replay_within knobs other cpu p.start (steps_at cpu events) p.end p.of_steps
@@ -65,40 +65,40 @@ share_within knobs other start floors tasks events cpu page needs p h =
     (at_most_trans p.of_steps (larger p.of_steps (only_slack still)) other (below_larger p.of_steps (only_slack still))
     k) in
     record {
-      share = record { first = p.start; is_start = p.is_start; replay = r.0 };
+      cut_replay = record { first = p.start; is_start = p.is_start; replay = r.0 };
       no_fault = r.1;
       in_time = idle_within other.slack p.end.since (last_time_of start events)
           (at_most_trans (only_slack still) (larger p.of_steps (only_slack still)) other
           (other_below_larger p.of_steps (only_slack still)) k Slack) 0;
     }
 
--- the share has the page's tickets, as every processor's is wanted
-share_needing : (knobs other : Settings) (start : ℕ) (floors : List ℤ) (tasks : List Task) (events : List Claimed)
-    (cpus : ℕ) (page : PageView) (needs : Settings) → IsRecord start floors tasks events cpus → (cpu : ℕ)
+-- the cut_replay has the page's tickets, as every processor's is wanted
+cut_needing : (knobs other : KnobsView) (start : ℕ) (floors : List ℤ) (tasks : List Task) (events : List Claimed)
+    (cpus : ℕ) (page : PageView) (needs : KnobsView) → IsRecord start floors tasks events cpus → (cpu : ℕ)
     → (cpu < cpus → IsPageNeeding (cut start floors tasks events cpu) knobs page needs)
     → (cpu < cpus → AtMost needs other)
-    → ShareOf other start floors tasks events cpus page cpu
-share_needing knobs other start floors tasks events cpus page needs r cpu passes within = elim (cases_lt cpu cpus) [
+    → CutOf other start floors tasks events cpus page cpu
+cut_needing knobs other start floors tasks events cpus page needs r cpu passes within = elim (cases_lt cpu cpus) [
   | inl k ↦ (let p = passes k in
-      subst (λ shown. ShareOf other start floors tasks events cpus shown cpu) (sym p.page_is)
-      (share_from other start floors tasks events cpus p.end r cpu
-      (λ h. share_within knobs other start floors tasks events cpu page needs p (within h))))
-  | inr k ↦ past_share_of other start floors tasks events cpus page r cpu k
+      subst (λ shown. CutOf other start floors tasks events cpus shown cpu) (sym p.page_is)
+      (cut_from other start floors tasks events cpus p.end r cpu
+      (λ h. cut_within knobs other start floors tasks events cpu page needs p (within h))))
+  | inr k ↦ past_cut_of other start floors tasks events cpus page r cpu k
 ]
 
 -- a replay that keeps up with a run under other settings, one event later, and what the event's step needs
-record OneLater (knobs other : Settings) (cpu : ℕ) (event : Claimed) (after : Machine) (s : ReplayStateView)
-    (events : List Claimed) (last : ReplayStateView) (needs : Settings) : Type 0 where
+record OneLater (knobs other : KnobsView) (cpu : ℕ) (event : Claimed) (after : Machine) (s : ReplayStateView)
+    (events : List Claimed) (last : ReplayStateView) (needs : KnobsView) : Type 0 where
   next : ReplayStateView
   follows : KeepsUp cpu after event.entry.time next
   begun : (x : ℕ) → next.since ≡ Some x → (s.since ≡ Some x) ⊎ (x ≡ event.entry.time)
-  later : Settings
+  later : KnobsView
   rest : AllPassNeeding knobs cpu next (steps_at cpu events) last later
   within : AtMost later other → AtMost needs other
 
 -- an event that touches the processor
-one_here : (knobs other : Settings) (cpu : ℕ) (m : Machine) (time : ℕ) (s : ReplayStateView) (event : Claimed)
-    (after : Machine) (events : List Claimed) (last : ReplayStateView) (needs : Settings)
+one_here : (knobs other : KnobsView) (cpu : ℕ) (m : Machine) (time : ℕ) (s : ReplayStateView) (event : Claimed)
+    (after : Machine) (events : List Claimed) (last : ReplayStateView) (needs : KnobsView)
     → KeepsUp cpu m time s → IsStep other m event after → time ≤ event.entry.time
     → ((x : ℕ) → s.since ≡ Some x → event.entry.time ≤ x + other.slack)
     → touches cpu event ≡ true
@@ -126,8 +126,8 @@ one_here knobs other cpu m time s event after events last needs f step late soon
     }
 
 -- an event that touches another
-one_away : (knobs other : Settings) (cpu : ℕ) (m : Machine) (time : ℕ) (s : ReplayStateView) (event : Claimed)
-    (after : Machine) (events : List Claimed) (last : ReplayStateView) (needs : Settings)
+one_away : (knobs other : KnobsView) (cpu : ℕ) (m : Machine) (time : ℕ) (s : ReplayStateView) (event : Claimed)
+    (after : Machine) (events : List Claimed) (last : ReplayStateView) (needs : KnobsView)
     → KeepsUp cpu m time s → IsStep other m event after → time ≤ event.entry.time
     → ((x : ℕ) → s.since ≡ Some x → event.entry.time ≤ x + other.slack)
     → touches cpu event ≡ false
@@ -145,8 +145,8 @@ one_away knobs other cpu m time s event after events last needs f step late soon
       within = λ h. h;
     }
 
-one_later : (knobs other : Settings) (cpu : ℕ) (m : Machine) (time : ℕ) (s : ReplayStateView) (event : Claimed)
-    (after : Machine) (events : List Claimed) (last : ReplayStateView) (needs : Settings)
+one_later : (knobs other : KnobsView) (cpu : ℕ) (m : Machine) (time : ℕ) (s : ReplayStateView) (event : Claimed)
+    (after : Machine) (events : List Claimed) (last : ReplayStateView) (needs : KnobsView)
     → KeepsUp cpu m time s → IsStep other m event after → time ≤ event.entry.time
     → ((x : ℕ) → s.since ≡ Some x → event.entry.time ≤ x + other.slack)
     → AllPassNeeding knobs cpu s (steps_at cpu (event ∷ events)) last needs
@@ -161,8 +161,8 @@ one_later knobs other cpu m time s event after events last needs f step late soo
 
 -- along a run under other settings these are at least what the steps of a replay need, and no processor idles for
 -- longer than their slack
-needs_along : (knobs other : Settings) (cpu : ℕ) (m : Machine) (time : ℕ) (s : ReplayStateView) (events : List Claimed)
-    (states : List Machine) (last : ReplayStateView) (needs : Settings)
+needs_along : (knobs other : KnobsView) (cpu : ℕ) (m : Machine) (time : ℕ) (s : ReplayStateView) (events : List Claimed)
+    (states : List Machine) (last : ReplayStateView) (needs : KnobsView)
     → KeepsUp cpu m time s → AreSteps other m events states → TimesRise time events
     → Still other.slack cpu m time s events states
     → KeepsSlack other.slack (times_of time events) (m ∷ states)
@@ -178,7 +178,7 @@ needs_along knobs other cpu m time s (event ∷ events) [] last needs f steps ri
 needs_along knobs other cpu m time s (event ∷ events) (after ∷ states) last needs f steps rise still keeps now p =
     let soon : (x : ℕ) → s.since ≡ Some x → event.entry.time ≤ x + other.slack =
     λ x e. still x e 1 (omega arith) (omega arith) (idles_one m (after ∷ states) cpu
-    (state_idles cpu m time s f x e)) in
+    (machine_idles cpu m time s f x e)) in
     let l = one_later knobs other cpu m time s event after events last needs f steps.0 rise.0 soon p in
     let rest = needs_along knobs other cpu after event.entry.time l.next events states last l.later l.follows steps.1
     rise.1
@@ -189,8 +189,8 @@ needs_along knobs other cpu m time s (event ∷ events) (after ∷ states) last 
     (l.within rest.0, rest.1)
 
 -- the settings of a run are at least what a page needs
-page_needs : (knobs other : Settings) (start : ℕ) (floors : List ℤ) (tasks : List Task) (events : List Claimed)
-    (cpus cpu : ℕ) (page : PageView) (needs : Settings)
+page_needs : (knobs other : KnobsView) (start : ℕ) (floors : List ℤ) (tasks : List Task) (events : List Claimed)
+    (cpus cpu : ℕ) (page : PageView) (needs : KnobsView)
     → IsRecord start floors tasks events cpus
     → IsPageNeeding (cut start floors tasks events cpu) knobs page needs
     → IsRun other start (start_machine start floors tasks) events → AtMost needs other
@@ -207,7 +207,7 @@ page_needs knobs other start floors tasks events cpus cpu page needs r p run =
     (slack_at_most still other (idle_needs other.slack p.end.since (last_time_of start events) a.1)))
 
 -- the largest needs are at least each, and at most what each is at most
-above_each : (needs : ℕ → Settings) (cpus cpu : ℕ) → cpu < cpus → AtMost (needs cpu) (largest needs cpus)
+above_each : (needs : ℕ → KnobsView) (cpus cpu : ℕ) → cpu < cpus → AtMost (needs cpu) (largest needs cpus)
 above_each needs zero cpu h = absurd (omega arith)
 above_each needs (suc cpus) cpu h = elim (cases_lt cpu cpus) [
   | inl k ↦ at_most_trans (needs cpu) (largest needs cpus) (largest needs (suc cpus)) (above_each needs cpus cpu k)
@@ -219,7 +219,7 @@ above_each needs (suc cpus) cpu h = elim (cases_lt cpu cpus) [
     same : (a b : ℕ) → a < suc b → b ≤ a → b ≡ a
     same a b h k = omega arith
 
-largest_within : (needs : ℕ → Settings) (cpus : ℕ) (other : Settings)
+largest_within : (needs : ℕ → KnobsView) (cpus : ℕ) (other : KnobsView)
     → ((cpu : ℕ) → cpu < cpus → AtMost (needs cpu) other) → AtMost (largest needs cpus) other
 largest_within needs zero other h = slack_at_most 0 other (omega arith)
 largest_within needs (suc cpus) other h =
@@ -228,8 +228,8 @@ largest_within needs (suc cpus) other h =
 
 pub pages_tell_least : PagesTellLeast
 pages_tell_least knobs start floors tasks events cpus pages needs r passes agree new = record {
-  run = compose_shares (largest needs cpus) start floors tasks events cpus pages r
-      (λ cpu. share_needing knobs (largest needs cpus) start floors tasks events cpus (pages cpu) (needs cpu) r cpu
+  run = compose_cuts (largest needs cpus) start floors tasks events cpus pages r
+      (λ cpu. cut_needing knobs (largest needs cpus) start floors tasks events cpus (pages cpu) (needs cpu) r cpu
       (passes cpu) (above_each needs cpus cpu)) agree new;
   least = λ other run. largest_within needs cpus other
       (λ cpu k. page_needs knobs other start floors tasks events cpus cpu (pages cpu) (needs cpu) r (passes cpu k) run);

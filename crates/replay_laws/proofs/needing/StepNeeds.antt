@@ -3,7 +3,7 @@ use Rattle.std.proofs.Common.{◌≡◌, ◌≢◌, ℕ, zero, suc, ◌+◌, ◌
 use Rattle.std.proofs.Common.{inr, refl, sym, ap, subst, arith}
 use Rattle.std.proofs.lemmas.Int.{ints, clamps}
 use Rattle.std.proofs.lemmas.Bool.{cases_lt}
-use Rattle.cfs_model.specs.Settings.{Settings}
+use Rattle.cfs_model.specs.Knobs.{KnobsView}
 use Rattle.cfs_model.specs.Least.{AtMost}
 use Rattle.replay_model.specs.Part.{Part, Entity, IsIn, place_in}
 use Rattle.replay_model.specs.QueueTests.{IsIdleTooLong}
@@ -57,9 +57,9 @@ pick_within bound need part (Switch prev pn way (suc next) nn) n h pid k =
     (subst (λ x. x ≤ℤ (n.1 +ℤ pos bound)) same (excess_within s.runtime n.1 need bound n.4 h))
     (n.3.least far.2 far.1 far.4 far.5) far.6
 pick_within bound need part (Wake task nice) n h pid k = k
-pick_within bound need part (Born task nice idle) n h pid k = k
+pick_within bound need part (Born task nice policy) n h pid k = k
 pick_within bound need part (Leave task nice dest) n h pid k = k
-pick_within bound need part (Arrive task nice orig idle) n h pid k = k
+pick_within bound need part (Arrive task nice orig policy) n h pid k = k
 
 pick_needs : (bound need : ℕ) (part : Part) (deed : Deed) → IsPickNeed part deed need
     → ((pid : ℕ) → ¬ IsNotLeast bound part deed pid) → need ≤ bound
@@ -79,9 +79,9 @@ pick_needs bound need part (Switch prev pn way (suc next) nn) n h = at_most_or n
       refl,
     ))
 pick_needs bound need part (Wake task nice) n h = none_needed need bound n
-pick_needs bound need part (Born task nice idle) n h = none_needed need bound n
+pick_needs bound need part (Born task nice policy) n h = none_needed need bound n
 pick_needs bound need part (Leave task nice dest) n h = none_needed need bound n
-pick_needs bound need part (Arrive task nice orig idle) n h = none_needed need bound n
+pick_needs bound need part (Arrive task nice orig policy) n h = none_needed need bound n
 
 -- a wakeup
 wake_bounds : (known bound : ℕ) (floor own v : ℤ) → IsInWakeBounds known floor own v → floor ≤ℤ (v +ℤ pos bound)
@@ -106,9 +106,9 @@ wake_within known bound need part (Wake task nice) (Some claim) n h none pid k =
     )
 wake_within known bound need part (Wake task nice) None n h none pid k = k
 wake_within known bound need part (Switch prev pn way next nn) claim n h none pid k = k
-wake_within known bound need part (Born task nice idle) claim n h none pid k = k
+wake_within known bound need part (Born task nice policy) claim n h none pid k = k
 wake_within known bound need part (Leave task nice dest) claim n h none pid k = k
-wake_within known bound need part (Arrive task nice orig idle) claim n h none pid k = k
+wake_within known bound need part (Arrive task nice orig policy) claim n h none pid k = k
 
 -- a woken task with a claim rests
 none_resting : (pid : ℕ) (o : Option Place) → o ≢ Some Rest → if_resting pid o ≡ None
@@ -145,35 +145,35 @@ wake_needs bound need part (Wake task nice) (Some claim) n extra h =
     ))
 wake_needs bound need part (Wake task nice) None n extra h = none_needed need bound n
 wake_needs bound need part (Switch prev pn way next nn) claim n extra h = none_needed need bound n
-wake_needs bound need part (Born task nice idle) claim n extra h = none_needed need bound n
+wake_needs bound need part (Born task nice policy) claim n extra h = none_needed need bound n
 wake_needs bound need part (Leave task nice dest) claim n extra h = none_needed need bound n
-wake_needs bound need part (Arrive task nice orig idle) claim n extra h = none_needed need bound n
+wake_needs bound need part (Arrive task nice orig policy) claim n extra h = none_needed need bound n
 
 -- a birth
 birth_within : (known bound need : ℕ) (part : Part) (deed : Deed) (claim : Option Claim)
     → IsBirthNeed part deed claim need
     → need ≤ bound → ((pid : ℕ) → ¬ IsForkOutside known part deed claim pid) → (pid : ℕ)
     → ¬ IsForkOutside bound part deed claim pid
-birth_within known bound need part (Born task nice idle) (Some claim) n h none pid k =
+birth_within known bound need part (Born task nice policy) (Some claim) n h none pid k =
     none pid ((λ inside. k.0 (inside.0, excess_within claim.v part.floor need bound n h)), k.1)
-birth_within known bound need part (Born task nice idle) None n h none pid k = k
+birth_within known bound need part (Born task nice policy) None n h none pid k = k
 birth_within known bound need part (Switch prev pn way next nn) claim n h none pid k = k
 birth_within known bound need part (Wake task nice) claim n h none pid k = k
 birth_within known bound need part (Leave task nice dest) claim n h none pid k = k
-birth_within known bound need part (Arrive task nice orig idle) claim n h none pid k = k
+birth_within known bound need part (Arrive task nice orig policy) claim n h none pid k = k
 
 above_bounds : (bound : ℕ) (floor v : ℤ) → (floor +ℤ pos bound) <ℤ v → ¬ IsInForkBounds bound floor v
 above_bounds bound floor v h k = let a = k.1 in omega (arith, ints)
 
 birth_needs : (bound need : ℕ) (part : Part) (deed : Deed) (claim : Option Claim) → IsBirthNeed part deed claim need
     → ((pid : ℕ) → ¬ IsForkOutside bound part deed claim pid) → need ≤ bound
-birth_needs bound need part (Born task nice idle) (Some claim) n h = at_most_or need bound
+birth_needs bound need part (Born task nice policy) (Some claim) n h = at_most_or need bound
     (λ k. h task (above_bounds bound part.floor claim.v (excess_beyond claim.v part.floor need bound n k), refl))
-birth_needs bound need part (Born task nice idle) None n h = none_needed need bound n
+birth_needs bound need part (Born task nice policy) None n h = none_needed need bound n
 birth_needs bound need part (Switch prev pn way next nn) claim n h = none_needed need bound n
 birth_needs bound need part (Wake task nice) claim n h = none_needed need bound n
 birth_needs bound need part (Leave task nice dest) claim n h = none_needed need bound n
-birth_needs bound need part (Arrive task nice orig idle) claim n h = none_needed need bound n
+birth_needs bound need part (Arrive task nice orig policy) claim n h = none_needed need bound n
 
 -- an idle stretch
 pub idle_within : (bound : ℕ) (since : Option ℕ) (time : ℕ) → idle_need since time ≤ bound → (pid : ℕ)
@@ -192,8 +192,8 @@ in_time_by bound since time h x e = at_most_or time (x + bound)
     (λ k. h 0 (subst (λ o. IsIdleTooLong bound o time 0) (sym e) (k, refl)))
 
 -- the tests of a step that passes, under other settings
-tests_within : (knobs other : Settings) (cpu : ℕ) (part : Part) (step : Step) (found : Part) (since : Option ℕ)
-    (needs : Settings)
+tests_within : (knobs other : KnobsView) (cpu : ℕ) (part : Part) (step : Step) (found : Part) (since : Option ℕ)
+    (needs : KnobsView)
     → PassesTests knobs cpu part step found → AreStepNeeds since found step needs → AtMost needs other
     → PassesTests other cpu part step found
 tests_within knobs other cpu part step found since needs p n h =
@@ -216,14 +216,14 @@ tests_within knobs other cpu part step found since needs p n h =
         wake = wake_within knobs.credit other.credit needs.credit found step.deed step.claim n.credit (h Credit) c.wake;
         fork = birth_within knobs.debit other.debit needs.debit found step.deed step.claim n.debit (h Debit) c.fork;
         next = c.next;
-        idle = c.idle;
+        beside = c.beside;
         least = pick_within other.granularity needs.granularity found step.deed n.granularity (h Granularity);
       });
     }
 
-pub passes_within : (knobs other : Settings) (cpu : ℕ) (before : ReplayStateView) (step : Step)
+pub passes_within : (knobs other : KnobsView) (cpu : ℕ) (before : ReplayStateView) (step : Step)
     (after : ReplayStateView)
-    (needs : Settings)
+    (needs : KnobsView)
     → PassesNeeding knobs cpu before step after needs → AtMost needs other → PassesStep other cpu before step after
 passes_within knobs other cpu before step after needs p h = record {
   in_time = idle_within other.slack before.since step.time
@@ -237,11 +237,11 @@ passes_within knobs other cpu before step after needs p h = record {
 }
 
 -- settings under which a step's tests pass are at least what it needs
-pub needs_of_tests : (other : Settings) (cpu : ℕ) (part : Part) (step : Step) (found mine : Part) (since : Option ℕ)
-    (needs : Settings)
+pub needs_of_tests : (other : KnobsView) (cpu : ℕ) (part : Part) (step : Step) (found mine : Part) (since : Option ℕ)
+    (needs : KnobsView)
     → PassesTests other cpu part step mine → mine ≡ found → AreStepNeeds since found step needs
     → ((x : ℕ) → since ≡ Some x → step.time ≤ x + other.slack) → AtMost needs other
-needs_of_tests other cpu part step found mine since needs p e n idle = each
+needs_of_tests other cpu part step found mine since needs p e n policy = each
   where
     c : IsClear other cpu found step.deed step.claim
     c = subst (λ x. IsClear other cpu x step.deed step.claim) e (clear_of other cpu mine step p.none)
@@ -250,7 +250,7 @@ needs_of_tests other cpu part step found mine since needs p e n idle = each
     each Granularity = pick_needs other.granularity needs.granularity found step.deed n.granularity c.least
     each Credit = wake_needs other.credit needs.credit found step.deed step.claim n.credit c.extra c.wake
     each Debit = birth_needs other.debit needs.debit found step.deed step.claim n.debit c.fork
-    each Slack = subst (λ x. x ≤ other.slack) (sym n.slack) (idle_needs other.slack since step.time idle)
+    each Slack = subst (λ x. x ≤ other.slack) (sym n.slack) (idle_needs other.slack since step.time policy)
 
 pub passes_from_needs : PassesFromNeeds
 passes_from_needs knobs other cpu before step after needs p = (

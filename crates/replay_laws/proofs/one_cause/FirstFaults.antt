@@ -1,7 +1,7 @@
 -- A first fault is at the first bad line, a run has none, and there is at most one: of two, the events before one and
 -- itself would be a run, as a prefix of those before the other.
 use Rattle.std.proofs.Common.{◌≡◌, ℕ, ◌⊎◌, inl, inr, List, [], ◌∷◌, ◌++◌, append_assoc, refl, sym, ap, ◌∙◌, subst}
-use Rattle.cfs_model.specs.Settings.{Settings}
+use Rattle.cfs_model.specs.Knobs.{KnobsView}
 use Rattle.cfs_model.specs.Machine.{Machine}
 use Rattle.cfs_model.specs.Start.{start_machine}
 use Rattle.cfs_model.specs.Claimed.{Claimed}
@@ -24,7 +24,7 @@ fault_is_first_bad knobs start floors tasks events line cause f = record {
 }
 
 -- a run's events up to one are a run
-run_up_to : (knobs : Settings) (start : ℕ) (first : Machine) (before rest : List Claimed) (event : Claimed)
+run_up_to : (knobs : KnobsView) (start : ℕ) (first : Machine) (before rest : List Claimed) (event : Claimed)
     → IsRun knobs start first (before ++ event ∷ rest) → IsRun knobs start first (before ++ event ∷ [])
 run_up_to knobs start first before rest event run =
     run_prefix knobs start first (before ++ event ∷ []) rest

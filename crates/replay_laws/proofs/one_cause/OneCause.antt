@@ -2,7 +2,7 @@
 -- part, since at most one task runs at a processor, and no test fails on a part that passes.
 use Rattle.std.proofs.Common.{◌≡◌, ℕ, ℤ, ◌⊎◌, inl, inr, List, ◌∷◌, sym, ap, ◌∙◌, subst, arith}
 use Rattle.std.proofs.lemmas.Bool.{cases_lt}
-use Rattle.cfs_model.specs.Settings.{Settings}
+use Rattle.cfs_model.specs.Knobs.{KnobsView}
 use Rattle.cfs_model.specs.Machine.{Machine}
 use Rattle.cfs_model.specs.Claimed.{Claimed}
 use Rattle.cfs_model.specs.Order.{IsInOrder}
@@ -31,7 +31,7 @@ same_cause a b e f g =
     ∙ ap (λ x. record { cpu = b.cpu; pid = b.pid; kind = x }) g
 
 -- at most one test is the first that fails on a part
-one_test : (knobs : Settings) (cpu : ℕ) (part : Part) (step : Step) → OneRunsIn part → (kind other : Kind) (p q : ℕ)
+one_test : (knobs : KnobsView) (cpu : ℕ) (part : Part) (step : Step) → OneRunsIn part → (kind other : Kind) (p q : ℕ)
     → FailsOn knobs cpu part step kind p → FailsOn knobs cpu part step other q → (kind ≡ other) × (p ≡ q)
 one_test knobs cpu part step one kind other p q (inl h) (inl k) =
     (h.1 ∙ sym k.1, range_one part step.time one p q h.0 k.0)
@@ -43,7 +43,7 @@ one_test knobs cpu part step one kind other p q (inr h) (inr k) =
     h.1.2) k.1.2
 
 -- none fails on a part that passes
-passes_or_fails : (knobs : Settings) (cpu : ℕ) (part : Part) (step : Step) (found : Part) (kind : Kind) (pid : ℕ)
+passes_or_fails : (knobs : KnobsView) (cpu : ℕ) (part : Part) (step : Step) (found : Part) (kind : Kind) (pid : ℕ)
     → PassesTests knobs cpu part step found → FailsOn knobs cpu part step kind pid → ⊥
 passes_or_fails knobs cpu part step found kind pid p (inl h) = p.in_range pid h.0
 passes_or_fails knobs cpu part step found kind pid p (inr h) =
@@ -55,7 +55,7 @@ passes_or_fails knobs cpu part step found kind pid p (inr h) =
 one_runs_at : (m : Machine) → IsInOrder m → (cpu : ℕ) → OneRunsIn (part_of m cpu)
 one_runs_at m o cpu pid other h k = o.one_runs cpu pid other (stands_at m Run cpu pid h) (stands_at m Run cpu other k)
 
-module _ (knobs : Settings) (m : Machine) (o : IsInOrder m) (event : Claimed) (a b : FaultCause) where
+module _ (knobs : KnobsView) (m : Machine) (o : IsInOrder m) (event : Claimed) (a b : FaultCause) where
   one_failure : (cpu : ℕ) → FailsAt knobs m cpu event a → FailsAt knobs m cpu event b → a ≡ b
   one_failure cpu f g =
       let t = one_test knobs cpu (part_of m cpu) (step_at cpu event) (one_runs_at m o cpu) a.kind b.kind a.pid b.pid
@@ -99,13 +99,13 @@ one_lowest slack times states time a b f g =
     same_cause a b cpu (f.pid ∙ sym g.pid) (f.kind ∙ sym g.kind)
 
 -- what is wrong with an event behind these states
-abbrev Why : Settings → ℕ → Machine → List Claimed → Claimed → List Machine → FaultCause → Type 0
+abbrev Why : KnobsView → ℕ → Machine → List Claimed → Claimed → List Machine → FaultCause → Type 0
 Why knobs start first before event states cause =
     IsIdlingCause knobs.slack (times_of start before) (first ∷ states) event.entry.time cause
     ⊎ (((cpu : ℕ) → ¬ SlackFails knobs.slack (times_of start before) (first ∷ states) cpu event.entry.time)
     × IsActCause knobs (last_of first states) event event.entry.act cause)
 
-one_why : (knobs : Settings) (start : ℕ) (first : Machine) (before : List Claimed) (event : Claimed)
+one_why : (knobs : KnobsView) (start : ℕ) (first : Machine) (before : List Claimed) (event : Claimed)
     (states : List Machine) (a b : FaultCause) → IsInOrder (last_of first states)
     → Why knobs start first before event states a → Why knobs start first before event states b → a ≡ b
 one_why knobs start first before event states a b o (inl f) (inl g) =
@@ -115,7 +115,7 @@ one_why knobs start first before event states a b o (inr f) (inl g) = absurd (f.
 one_why knobs start first before event states a b o (inr f) (inr g) =
     one_act knobs (last_of first states) o event a b event.entry.act f.1 g.1
 
-pub one_cause : (knobs : Settings) (start : ℕ) (first : Machine) (before : List Claimed) (event : Claimed)
+pub one_cause : (knobs : KnobsView) (start : ℕ) (first : Machine) (before : List Claimed) (event : Claimed)
     (a b : FaultCause) → IsInOrder first → IsCause knobs start first before event a
     → IsCause knobs start first before event b → a ≡ b
 one_cause knobs start first before event a b o f g =

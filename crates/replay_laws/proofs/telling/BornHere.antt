@@ -1,6 +1,6 @@
 -- A pid whose birth passes the tests at a processor doesn't stand there.
 use Rattle.std.proofs.Common.{◌≡◌, ℕ, IsSome, is_some, option_map, ℤ, refl, sym, ap, ◌∙◌, subst}
-use Rattle.cfs_model.specs.Settings.{Settings}
+use Rattle.cfs_model.specs.Knobs.{KnobsView}
 use Rattle.cfs_model.specs.Machine.{Machine, Stands}
 use Rattle.cfs_model.specs.Claimed.{Claimed}
 use Rattle.cfs_model.specs.Order.{IsInOrder}
@@ -15,12 +15,12 @@ use Rattle.part_laws.proofs.stepping.PartRenice.{reniced_some}
 use Rattle.cfs_model.specs.declared.act.Act.TheVariants.{Born}
 use Rattle.cfs_model.specs.declared.task.Place.{Place}
 
-pub not_born_here : (knobs : Settings) (m : Machine) → IsInOrder m → (event : Claimed) (cpu here pid : ℕ) (nice : ℤ)
+pub not_born_here : (knobs : KnobsView) (m : Machine) → IsInOrder m → (event : Claimed) (cpu here pid : ℕ) (nice : ℤ)
     (found : Part) → event.entry.act ≡ Born here pid nice
     → PassesTests knobs cpu (part_of m cpu) (step_at cpu event) found → (place : Place) → ¬ Stands m place cpu pid
 not_born_here knobs m o event cpu here pid nice found e p place h =
     (clear_of knobs cpu found (step_at cpu event) p.none).already pid
-    (subst (λ act. IsAlready found (deed_at cpu event.idle act) pid) (sym e) (there, refl))
+    (subst (λ act. IsAlready found (deed_at cpu event.policy act) pid) (sym e) (there, refl))
   where
     there : IsSome (found.tasks pid)
     there = ap (λ (x : Part). is_some (x.tasks pid)) p.is_found.is_reniced

@@ -3,7 +3,7 @@
 use Rattle.std.proofs.lemmas.Bool.{and_parts}
 use Rattle.std.proofs.Common.{◌≡◌, ℕ, ◌+◌, ◌<◌, Bool, true, false, ◌&&◌, true≢false, Option, Some, None, inl, inr, List}
 use Rattle.std.proofs.Common.{[], ◌∷◌, refl, sym, ap, ◌∙◌, subst}
-use Rattle.cfs_model.specs.Settings.{Settings}
+use Rattle.cfs_model.specs.Knobs.{KnobsView}
 use Rattle.replay_model.specs.Part.{Part}
 use Rattle.replay_model.specs.QueueTests.{IsIdleTooLong}
 use Rattle.replay_model.specs.Tests.{Test, FirstHolds, late_tests}
@@ -37,7 +37,7 @@ first_timeless (test ∷ tests) kind pid all (inl h) =
 first_timeless (test ∷ tests) kind pid all (inr h) =
     first_timeless tests kind pid (and_parts (is_timeless test.kind) (all_timeless tests) all).1 h.1
 
-late_timeless : (knobs : Settings) (cpu : ℕ) (part : Part) (step : Step) (kind : Kind) (pid slack : ℕ)
+late_timeless : (knobs : KnobsView) (cpu : ℕ) (part : Part) (step : Step) (kind : Kind) (pid slack : ℕ)
     (since : Option ℕ) → FirstHolds (late_tests knobs cpu part step) kind pid → deadline_of kind slack since ≡ None
 late_timeless knobs cpu part step kind pid slack since h =
     timeless kind (first_timeless (late_tests knobs cpu part step) kind pid refl h) slack since
@@ -57,7 +57,7 @@ idle_due slack (Some x) deadline time pid h e =
     record { from = x; idles = refl; deadline_is = sym same; late = subst (λ d. d < time) same h.0 }
 
 -- a fault with a deadline is of a processor that had idled for too long
-pub with_deadline : (knobs : Settings) (cpu : ℕ) (s : ReplayStateView) (step : Step) (kind : Kind) (pid deadline : ℕ)
+pub with_deadline : (knobs : KnobsView) (cpu : ℕ) (s : ReplayStateView) (step : Step) (kind : Kind) (pid deadline : ℕ)
     → FailsTest knobs cpu s step kind pid → deadline_of kind knobs.slack s.since ≡ Some deadline
     → IsDue knobs.slack s.since deadline step.time
 with_deadline knobs cpu s step kind pid deadline (inl (inl h)) e =
@@ -74,7 +74,7 @@ idle_has_deadline slack None time pid h e = h
 idle_has_deadline slack (Some x) time pid h e = some_no (x + slack) e
 
 -- a fault without one is of a test on the part
-pub without_deadline : (knobs : Settings) (cpu : ℕ) (s : ReplayStateView) (step : Step) (kind : Kind) (pid : ℕ)
+pub without_deadline : (knobs : KnobsView) (cpu : ℕ) (s : ReplayStateView) (step : Step) (kind : Kind) (pid : ℕ)
     → FailsTest knobs cpu s step kind pid → deadline_of kind knobs.slack s.since ≡ None
     → FailsOn knobs cpu s.part step kind pid
 without_deadline knobs cpu s step kind pid (inl (inl h)) e =
@@ -85,7 +85,7 @@ without_deadline knobs cpu s step kind pid (inl (inr (h, inr k))) e = absurd k.1
 without_deadline knobs cpu s step kind pid (inr h) e = inr (h.1.1.0, (h.0, h.2, h.3))
 
 -- a processor that has idled for too long at a step has that fault, with that deadline
-pub idling_fails : (knobs : Settings) (cpu : ℕ) (s : ReplayStateView) (step : Step) (kind : Kind) (pid x : ℕ)
+pub idling_fails : (knobs : KnobsView) (cpu : ℕ) (s : ReplayStateView) (step : Step) (kind : Kind) (pid x : ℕ)
     → FailsTest knobs cpu s step kind pid → s.since ≡ Some x → x + knobs.slack < step.time
     → deadline_of kind knobs.slack s.since ≡ Some (x + knobs.slack)
 idling_fails knobs cpu s step kind pid x fails e late = go fails

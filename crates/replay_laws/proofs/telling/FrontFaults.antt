@@ -4,7 +4,7 @@ use Rattle.std.proofs.Common.{◌≡◌, ℕ, ◌<◌, ◌≤◌, Bool, true, fa
 use Rattle.std.proofs.Common.{sym, ap, ◌∙◌, subst, arith}
 use Rattle.std.proofs.lemmas.Bool.{cases_lt}
 use Rattle.cfs_model.specs.Limits.{no_line}
-use Rattle.cfs_model.specs.Settings.{Settings}
+use Rattle.cfs_model.specs.Knobs.{KnobsView}
 use Rattle.cfs_model.specs.Claimed.{Claimed}
 use Rattle.replay_model.specs.Cut.{touches, steps_at, last_line_after}
 use Rattle.replay_model.specs.StepAt.{step_at}
@@ -19,7 +19,7 @@ use Rattle.cfs_model.specs.declared.task.Task.{Task}
 use Rattle.replay_model.specs.declared.page.StepFault.{StepFault}
 
 -- a fault of a replay's steps is of a line above one below all of theirs
-fault_above : (knobs : Settings) (cpu : ℕ) (s : ReplayStateView) (events : List Claimed) (end : ReplayStateView)
+fault_above : (knobs : KnobsView) (cpu : ℕ) (s : ReplayStateView) (events : List Claimed) (end : ReplayStateView)
     (line : ℕ) (fault : StepFault) → s.page.fault ≡ None → LinesRise line events
     → IsReplay knobs cpu s (steps_at cpu events) end → end.page.fault ≡ Some fault → line < fault.line
 fault_above knobs cpu s [] end line fault n rise r f =
@@ -56,7 +56,7 @@ last_behind : (line : ℕ) (before rest : List Claimed) (event : Claimed)
 last_behind line [] rest event = refl
 last_behind line (x ∷ before) rest event = last_behind x.entry.line before rest event
 
-pub not_before : (knobs : Settings) (start : ℕ) (floors : List ℤ) (tasks : List Task) (before rest : List Claimed)
+pub not_before : (knobs : KnobsView) (start : ℕ) (floors : List ℤ) (tasks : List Task) (before rest : List Claimed)
     (event : Claimed) (cpus cpu : ℕ) (page : PageView) (fault : StepFault)
     → IsRecord start floors tasks (before ++ event ∷ rest) cpus → cpu < cpus
     → AtFront knobs start floors tasks before (event ∷ rest) cpus cpu page → page.fault ≡ Some fault

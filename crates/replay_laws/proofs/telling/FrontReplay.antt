@@ -2,7 +2,7 @@
 -- from there. Where a step fails, its fault is the page's: it is of the step's line, or has a deadline before its time.
 use Rattle.std.proofs.Common.{◌≡◌, ℕ, Bool, true, false, Option, Some, None, ◌⊎◌, inl, inr, List, [], ◌∷◌, ◌++◌, refl}
 use Rattle.std.proofs.Common.{sym, ap, ◌∙◌, subst}
-use Rattle.cfs_model.specs.Settings.{Settings}
+use Rattle.cfs_model.specs.Knobs.{KnobsView}
 use Rattle.cfs_model.specs.Claimed.{Claimed}
 use Rattle.replay_model.specs.Cut.{touches, steps_at}
 use Rattle.replay_model.specs.StepAt.{step_at}
@@ -15,13 +15,13 @@ use Rattle.replay_model.specs.declared.page.StepFault.{StepFault}
 use Rattle.replay_model.specs.declared.step.Step.{Step}
 
 -- the fault of a step that fails
-abbrev pub step_fault_of : (knobs : Settings) (cpu : ℕ) (s : ReplayStateView) (step : Step) (failed : ReplayStateView)
+abbrev pub step_fault_of : (knobs : KnobsView) (cpu : ℕ) (s : ReplayStateView) (step : Step) (failed : ReplayStateView)
     → FailsStep knobs cpu s step failed → StepFault
 step_fault_of knobs cpu s step failed f =
     record { line = step.line; kind = f.kind; pid = f.pid; deadline = deadline_of f.kind knobs.slack s.since }
 
 -- it is the last
-pub fails_last : (knobs : Settings) (cpu : ℕ) (s : ReplayStateView) (step : Step) (failed : ReplayStateView)
+pub fails_last : (knobs : KnobsView) (cpu : ℕ) (s : ReplayStateView) (step : Step) (failed : ReplayStateView)
     (steps : List Step) (end : ReplayStateView) (f : FailsStep knobs cpu s step failed)
     → IsReplay knobs cpu failed steps end → end.page.fault ≡ Some (step_fault_of knobs cpu s step failed f)
 fails_last knobs cpu s step failed steps end f r =
@@ -29,19 +29,19 @@ fails_last knobs cpu s step failed steps end f r =
     ap (λ x. x.page.fault) (stays_faulted knobs cpu failed steps end (step_fault_of knobs cpu s step failed f) e r) ∙ e
 
 -- an event's step passes, or fails with the replay's last fault
-pub record PassesFirst (knobs : Settings) (cpu : ℕ) (s : ReplayStateView) (event : Claimed) (events : List Claimed)
+pub record PassesFirst (knobs : KnobsView) (cpu : ℕ) (s : ReplayStateView) (event : Claimed) (events : List Claimed)
     (end : ReplayStateView) : Type 0 where
   pub next : ReplayStateView
   pub passes : PassesStep knobs cpu s (step_at cpu event) next
   pub replay : IsReplay knobs cpu next (steps_at cpu events) end
 
-pub record FailsFirst (knobs : Settings) (cpu : ℕ) (s : ReplayStateView) (event : Claimed)
+pub record FailsFirst (knobs : KnobsView) (cpu : ℕ) (s : ReplayStateView) (event : Claimed)
     (end : ReplayStateView) : Type 0 where
   pub failed : ReplayStateView
   pub fails : FailsStep knobs cpu s (step_at cpu event) failed
   pub last : end.page.fault ≡ Some (step_fault_of knobs cpu s (step_at cpu event) failed fails)
 
-pub first_step : (knobs : Settings) (cpu : ℕ) (s : ReplayStateView) (event : Claimed) (events : List Claimed)
+pub first_step : (knobs : KnobsView) (cpu : ℕ) (s : ReplayStateView) (event : Claimed) (events : List Claimed)
     (end : ReplayStateView) → s.page.fault ≡ None → touches cpu event ≡ true
     → IsReplay knobs cpu s (steps_at cpu (event ∷ events)) end
     → PassesFirst knobs cpu s event events end ⊎ FailsFirst knobs cpu s event end
@@ -61,14 +61,14 @@ first_step knobs cpu s event events end n t r =
     })
 
 -- an event that touches another processor has no step here
-pub away : (knobs : Settings) (cpu : ℕ) (s : ReplayStateView) (event : Claimed) (events : List Claimed)
+pub away : (knobs : KnobsView) (cpu : ℕ) (s : ReplayStateView) (event : Claimed) (events : List Claimed)
     (end : ReplayStateView) → touches cpu event ≡ false
     → IsReplay knobs cpu s (steps_at cpu (event ∷ events)) end → IsReplay knobs cpu s (steps_at cpu events) end
 away knobs cpu s event events end t r =
     subst (λ xs. IsReplay knobs cpu s xs end) (untouched_steps cpu event events t) r
 
 -- a page that says nothing against an event has no fault of its step
-pub no_fault_here : (knobs : Settings) (cpu : ℕ) (s : ReplayStateView) (event : Claimed) (end : ReplayStateView)
+pub no_fault_here : (knobs : KnobsView) (cpu : ℕ) (s : ReplayStateView) (event : Claimed) (end : ReplayStateView)
     (o : Option StepFault) → ((fault : StepFault) → end.page.fault ≡ Some fault → o ≡ Some fault)
     → (¬ IdlesBefore event o) → (¬ FailsHere event o) → ¬ FailsFirst knobs cpu s event end
 no_fault_here knobs cpu s event end o is idles here f = go (deadline_of f.fails.kind knobs.slack s.since) refl
@@ -85,14 +85,14 @@ no_fault_here knobs cpu s event end o is idles here f = go (deadline_of f.fails.
     ))
 
 -- a replay of some events and more, in two
-pub record FrontReplay (knobs : Settings) (cpu : ℕ) (s : ReplayStateView) (before rest : List Claimed)
+pub record FrontReplay (knobs : KnobsView) (cpu : ℕ) (s : ReplayStateView) (before rest : List Claimed)
     (end : ReplayStateView) : Type 0 where
   pub mid : ReplayStateView
   pub front : IsReplay knobs cpu s (steps_at cpu before) mid
   pub back : IsReplay knobs cpu mid (steps_at cpu rest) end
   pub no_fault : mid.page.fault ≡ None
 
-pub front_replay : (knobs : Settings) (cpu : ℕ) (s : ReplayStateView) (before rest : List Claimed)
+pub front_replay : (knobs : KnobsView) (cpu : ℕ) (s : ReplayStateView) (before rest : List Claimed)
     (end : ReplayStateView) (o : Option StepFault) → s.page.fault ≡ None
     → ((fault : StepFault) → end.page.fault ≡ Some fault → o ≡ Some fault)
     → IsReplay knobs cpu s (steps_at cpu (before ++ rest)) end → ComesAfter before cpu o

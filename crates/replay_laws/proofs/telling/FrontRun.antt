@@ -5,7 +5,7 @@
 use Rattle.std.proofs.Common.{◌≡◌, ℕ, ◌<◌, ◌≤◌, ℤ, Option, Some, None, is_some, IsSome, inl, inr, List, [], ◌∷◌, ◌++◌}
 use Rattle.std.proofs.Common.{length, refl, sym, ap, ◌∙◌, subst, true≢false}
 use Rattle.std.specs.List.{AllByRecursion}
-use Rattle.cfs_model.specs.Settings.{Settings}
+use Rattle.cfs_model.specs.Knobs.{KnobsView}
 use Rattle.cfs_model.specs.Start.{start_machine}
 use Rattle.cfs_model.specs.Claimed.{Claimed}
 use Rattle.cfs_model.specs.Touch.{touched}
@@ -21,13 +21,13 @@ use Rattle.replay_laws.specs.Closing.{SilentPagesAreDone, PagesTellRun}
 use Rattle.replay_model.proofs.TicketLines.{left_of, came_of, left_tickets, came_tickets, ticket_kept}
 use Rattle.replay_model.proofs.Options.{no_some}
 use Rattle.replay_laws.proofs.telling.Fronts.{AtFront, record_front, at_front}
-use Rattle.replay_laws.proofs.composing.PagesCompose.{agree_at, shares_compose}
+use Rattle.replay_laws.proofs.composing.PagesCompose.{agree_at, cuts_compose}
 use Rattle.replay_laws.proofs.composing.StepLines.{lines_back, steps_above}
 use Rattle.cfs_model.specs.declared.task.Task.{Task}
 use Rattle.replay_model.specs.declared.page.StepFault.{StepFault}
 
 -- each page may be of a record of its own, which begins with these events
-module _ (knobs : Settings) (start : ℕ) (floors : List ℤ) (tasks : List Task) (before : List Claimed)
+module _ (knobs : KnobsView) (start : ℕ) (floors : List ℤ) (tasks : List Task) (before : List Claimed)
     (rest : ℕ → List Claimed) (cpus : ℕ) (pages : ℕ → PageView)
     (r : (cpu : ℕ) → IsRecord start floors tasks (before ++ rest cpu) cpus)
     (at : (cpu : ℕ) → AtFront knobs start floors tasks before (rest cpu) cpus cpu (pages cpu)) where
@@ -64,7 +64,7 @@ module _ (knobs : Settings) (start : ℕ) (floors : List ℤ) (tasks : List Task
   pub front_run : SayNothing pages cpus tasks before → IsRun knobs start (start_machine start floors tasks) before
   front_run say =
       let front = record_front start floors tasks before (rest 0) cpus (r 0) in
-      shares_compose knobs start floors tasks before cpus (λ cpu. (at cpu).mid) front (λ cpu k. (at cpu).passes)
+      cuts_compose knobs start floors tasks before cpus (λ cpu. (at cpu).mid) front (λ cpu k. (at cpu).passes)
       (agree_front 0 before (λ cpu. (r cpu).lines_rise) front.events_within say.tickets) say.births
 
 pub append_none : (xs : List Claimed) → xs ++ [] ≡ xs
@@ -72,7 +72,7 @@ append_none [] = refl
 append_none (x ∷ xs) = ap (λ rest. x ∷ rest) (append_none xs)
 
 -- a page that suffices and has a fault is whole
-pub whole_by_fault : (knobs : Settings) (start : ℕ) (floors : List ℤ) (tasks : List Task) (events : List Claimed)
+pub whole_by_fault : (knobs : KnobsView) (start : ℕ) (floors : List ℤ) (tasks : List Task) (events : List Claimed)
     (cpus : ℕ) (pages : ℕ → PageView) (cpu : ℕ) (fault : StepFault)
     → SufficesAmong knobs start floors tasks events cpus pages cpu → (pages cpu).fault ≡ Some fault
     → IsWholePage knobs start floors tasks events cpu (pages cpu)
@@ -80,7 +80,7 @@ whole_by_fault knobs start floors tasks events cpus pages cpu fault w f =
     record { made = w.made; is_page = w.is_page; whole = inl (ap is_some f) }
 
 -- a whole page that says nothing against any event has no fault: the processor is in time at the last event
-no_fault_at_all : (knobs : Settings) (start : ℕ) (floors : List ℤ) (tasks : List Task) (events : List Claimed)
+no_fault_at_all : (knobs : KnobsView) (start : ℕ) (floors : List ℤ) (tasks : List Task) (events : List Claimed)
     (cpus cpu : ℕ) (page : PageView) (fault : StepFault) → IsRecord start floors tasks events cpus → cpu < cpus
     → IsWholePage knobs start floors tasks events cpu page → ComesAfter events cpu page.fault
     → page.fault ≡ Some fault → ⊥
@@ -97,7 +97,7 @@ no_fault_at_all knobs start floors tasks events cpus cpu page fault r k w c f =
     ]
 
 -- where the pages of all processors suffice and say nothing against any event
-module _ (knobs : Settings) (start : ℕ) (floors : List ℤ) (tasks : List Task) (events : List Claimed) (cpus : ℕ)
+module _ (knobs : KnobsView) (start : ℕ) (floors : List ℤ) (tasks : List Task) (events : List Claimed) (cpus : ℕ)
     (pages : ℕ → PageView) (r : IsRecord start floors tasks events cpus)
     (enough : (cpu : ℕ) → cpu < cpus → SufficesAmong knobs start floors tasks events cpus pages cpu)
     (say : SayNothing pages cpus tasks events) where

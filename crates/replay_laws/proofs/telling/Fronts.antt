@@ -6,7 +6,7 @@ use Rattle.std.proofs.Common.{sym, ap, ◌∙◌, subst, arith}
 use Rattle.std.proofs.lemmas.Bool.{cases_lt}
 use Rattle.std.specs.List.{AllByRecursion}
 use Rattle.cfs_model.specs.Limits.{no_line}
-use Rattle.cfs_model.specs.Settings.{Settings}
+use Rattle.cfs_model.specs.Knobs.{KnobsView}
 use Rattle.cfs_model.specs.Claimed.{Claimed}
 use Rattle.cfs_model.specs.Touch.{touched}
 use Rattle.replay_model.specs.QueueTests.{IsIdleTooLong}
@@ -14,13 +14,13 @@ use Rattle.replay_model.specs.Cut.{steps_at, last_time_of, last_line_after}
 use Rattle.replay_model.specs.Noted.{PageView}
 use Rattle.replay_model.specs.Record.{ClaimInRange, TimesRise, LinesRise, IsRecord}
 use Rattle.replay_model.specs.Page.{ReplayStateView, IsReplay}
-use Rattle.replay_laws.specs.Share.{IsShareReplay, PassesShare}
+use Rattle.replay_laws.specs.CutReplay.{IsCutReplay, PassesCut}
 use Rattle.replay_laws.specs.Telling.{IdlesBefore, ComesAfter}
 use Rattle.replay_laws.specs.Sufficing.{IsWholePage}
 use Rattle.replay_laws.proofs.following.FollowLaws.{starts_at}
 use Rattle.replay_laws.proofs.telling.FrontReplay.{front_replay}
 use Rattle.replay_laws.proofs.telling.IdleFaults.{HasDeadline, idling_is_told}
-use Rattle.replay_laws.proofs.composing.Shares.{past_share, never_too_long}
+use Rattle.replay_laws.proofs.composing.CutReplays.{past_cut, never_too_long}
 use Rattle.replay_laws.proofs.telling.WholeReplay.{PageFault, WholeReplay, whole_replay}
 use Rattle.cfs_model.specs.declared.task.Task.{Task}
 use Rattle.replay_model.specs.declared.page.StepFault.{StepFault}
@@ -62,7 +62,7 @@ record_front start floors tasks before rest cpus r = record {
 }
 
 -- the replay from the first events to the page's end
-pub record Back (knobs : Settings) (start : ℕ) (before rest : List Claimed) (cpu : ℕ) (page : PageView)
+pub record Back (knobs : KnobsView) (start : ℕ) (before rest : List Claimed) (cpu : ℕ) (page : PageView)
     (mid : ReplayStateView) : Type 0 where
   pub end : ReplayStateView
   pub replay : IsReplay knobs cpu mid (steps_at cpu rest) end
@@ -91,8 +91,8 @@ last_not_due time deadline [] h k = h
 last_not_due time deadline (event ∷ before) h k = last_not_due event.entry.time deadline before k.0 k.1
 
 -- a processor isn't late at the last of the events
-not_late : (knobs : Settings) (start : ℕ) (floors : List ℤ) (tasks : List Task) (before : List Claimed) (cpu : ℕ)
-    (mid : ReplayStateView) (o : Option StepFault) (x : ℕ) → IsShareReplay knobs start floors tasks before cpu mid
+not_late : (knobs : KnobsView) (start : ℕ) (floors : List ℤ) (tasks : List Task) (before : List Claimed) (cpu : ℕ)
+    (mid : ReplayStateView) (o : Option StepFault) (x : ℕ) → IsCutReplay knobs start floors tasks before cpu mid
     → mid.since ≡ Some x → ComesAfter before cpu o → HasDeadline o (x + knobs.slack)
     → last_time_of start before ≤ x + knobs.slack
 not_late knobs start floors tasks [] cpu mid o x s e c f =
@@ -102,8 +102,8 @@ not_late knobs start floors tasks (event ∷ before) cpu mid o x s e c f =
     let h = not_due (x + knobs.slack) cpu o (event ∷ before) f c in
     last_not_due event.entry.time (x + knobs.slack) before h.0 h.1
 
-in_time : (knobs : Settings) (start : ℕ) (floors : List ℤ) (tasks : List Task) (before rest : List Claimed) (cpu : ℕ)
-    (page : PageView) (mid : ReplayStateView) → IsShareReplay knobs start floors tasks before cpu mid
+in_time : (knobs : KnobsView) (start : ℕ) (floors : List ℤ) (tasks : List Task) (before rest : List Claimed) (cpu : ℕ)
+    (page : PageView) (mid : ReplayStateView) → IsCutReplay knobs start floors tasks before cpu mid
     → mid.page.fault ≡ None → TimesRise start (before ++ rest) → ComesAfter before cpu page.fault
     → Back knobs start before rest cpu page mid → ¬ IsIdleTooLong knobs.slack mid.since (last_time_of start before) 0
 in_time knobs start floors tasks before rest cpu page mid s n rise c b = go mid.since refl
@@ -119,21 +119,21 @@ in_time knobs start floors tasks before rest cpu page mid s n rise c b = go mid.
         absurd (omega arith)
 
 -- the replay up to some events, and on to the page's end
-pub record AtFront (knobs : Settings) (start : ℕ) (floors : List ℤ) (tasks : List Task) (before rest : List Claimed)
+pub record AtFront (knobs : KnobsView) (start : ℕ) (floors : List ℤ) (tasks : List Task) (before rest : List Claimed)
     (cpus cpu : ℕ) (page : PageView) : Type 0 where
   pub mid : ReplayStateView
-  pub passes : PassesShare knobs start floors tasks before cpu mid
+  pub passes : PassesCut knobs start floors tasks before cpu mid
   pub back : cpu < cpus → Back knobs start before rest cpu page mid
   pub past : cpus ≤ cpu → mid.since ≡ None
 
-within : (knobs : Settings) (start : ℕ) (floors : List ℤ) (tasks : List Task) (before rest : List Claimed)
+within : (knobs : KnobsView) (start : ℕ) (floors : List ℤ) (tasks : List Task) (before rest : List Claimed)
     (cpus cpu : ℕ) (page : PageView) → cpu < cpus → TimesRise start (before ++ rest)
     → WholeReplay knobs start floors tasks (before ++ rest) cpu page → ComesAfter before cpu page.fault
     → AtFront knobs start floors tasks before rest cpus cpu page
 within knobs start floors tasks before rest cpus cpu page k rise w c =
     let f = front_replay knobs cpu w.first before rest w.end page.fault (ap (λ p. p.fault) w.is_start.page)
     w.fault.of_step w.replay c in
-    let s : IsShareReplay knobs start floors tasks before cpu f.mid = record {
+    let s : IsCutReplay knobs start floors tasks before cpu f.mid = record {
       first = w.first;
       is_start = record { part = w.is_start.part; since = w.is_start.since; page = w.is_start.page };
       replay = f.front;
@@ -150,7 +150,7 @@ within knobs start floors tasks before rest cpus cpu page k rise w c =
     record {
       mid = f.mid;
       passes = record {
-        share = s;
+        cut_replay = s;
         no_fault = f.no_fault;
         in_time = in_time knobs start floors tasks before rest cpu page f.mid s f.no_fault rise c b;
       };
@@ -159,19 +159,19 @@ within knobs start floors tasks before rest cpus cpu page k rise w c =
     }
 
 -- of a whole replay
-pub front_of : (knobs : Settings) (start : ℕ) (floors : List ℤ) (tasks : List Task) (before rest : List Claimed)
+pub front_of : (knobs : KnobsView) (start : ℕ) (floors : List ℤ) (tasks : List Task) (before rest : List Claimed)
     (cpus cpu : ℕ) (page : PageView) → IsRecord start floors tasks (before ++ rest) cpus
     → (cpu < cpus → WholeReplay knobs start floors tasks (before ++ rest) cpu page)
     → (cpu < cpus → ComesAfter before cpu page.fault)
     → AtFront knobs start floors tasks before rest cpus cpu page
 front_of knobs start floors tasks before rest cpus cpu page r w c = elim (cases_lt cpu cpus) [
   | inl k ↦ within knobs start floors tasks before rest cpus cpu page k r.times_rise (w k) (c k)
-  | inr k ↦ (let p = past_share knobs start floors tasks before cpus cpu
+  | inr k ↦ (let p = past_cut knobs start floors tasks before cpus cpu
       (record_front start floors tasks before rest cpus r) k in
       record {
         mid = p.0;
         passes = record {
-          share = p.1;
+          cut_replay = p.1;
           no_fault = p.2;
           in_time = never_too_long knobs.slack p.0.since (last_time_of start before) 0 p.3;
         };
@@ -181,7 +181,7 @@ front_of knobs start floors tasks before rest cpus cpu page r w c = elim (cases_
 ]
 
 -- of a whole page
-pub at_front : (knobs : Settings) (start : ℕ) (floors : List ℤ) (tasks : List Task) (before rest : List Claimed)
+pub at_front : (knobs : KnobsView) (start : ℕ) (floors : List ℤ) (tasks : List Task) (before rest : List Claimed)
     (cpus cpu : ℕ) (page : PageView) → IsRecord start floors tasks (before ++ rest) cpus
     → (cpu < cpus → IsWholePage knobs start floors tasks (before ++ rest) cpu page)
     → (cpu < cpus → ComesAfter before cpu page.fault)

@@ -3,7 +3,7 @@
 -- later than the deadline.
 use Rattle.std.proofs.Common.{◌≡◌, ℕ, ◌+◌, ◌<◌, ◌≤◌, Bool, true, false, Option, Some, None, ◌⊎◌, inl, inr, List, []}
 use Rattle.std.proofs.Common.{◌∷◌, refl, sym, ap, ◌∙◌, subst, arith}
-use Rattle.cfs_model.specs.Settings.{Settings}
+use Rattle.cfs_model.specs.Knobs.{KnobsView}
 use Rattle.cfs_model.specs.Claimed.{Claimed}
 use Rattle.replay_model.specs.QueueTests.{IsIdleTooLong}
 use Rattle.replay_model.specs.Cut.{touches, steps_at, last_time_of}
@@ -22,7 +22,7 @@ abbrev pub HasDeadline : Option StepFault → ℕ → Type 0
 HasDeadline o deadline = (fault : StepFault) × (o ≡ Some fault) × (fault.deadline ≡ Some deadline)
 
 -- a processor that has idled for too long at a time has that fault by the next event or at the end
-pub idling_is_told : (knobs : Settings) (cpu : ℕ) (s : ReplayStateView) (events : List Claimed) (end : ReplayStateView)
+pub idling_is_told : (knobs : KnobsView) (cpu : ℕ) (s : ReplayStateView) (events : List Claimed) (end : ReplayStateView)
     (time x : ℕ) (o : Option StepFault) → s.page.fault ≡ None → s.since ≡ Some x → x + knobs.slack < time
     → TimesRise time events → IsReplay knobs cpu s (steps_at cpu events) end
     → PageFault knobs.slack (last_time_of time events) end o → HasDeadline o (x + knobs.slack)
@@ -49,7 +49,7 @@ idling_is_told knobs cpu s (event ∷ events) end time x o n e late rise r is = 
     ]
 
 -- what a fault that is due before some events says of the replay up to them
-pub told_idles : (knobs : Settings) (cpu : ℕ) (s : ReplayStateView) (events : List Claimed) (end : ReplayStateView)
+pub told_idles : (knobs : KnobsView) (cpu : ℕ) (s : ReplayStateView) (events : List Claimed) (end : ReplayStateView)
     (time bound deadline : ℕ) (o : Option StepFault) → s.page.fault ≡ None → deadline < bound → bound ≤ time
     → TimesRise time events → IsReplay knobs cpu s (steps_at cpu events) end
     → PageFault knobs.slack (last_time_of time events) end o → HasDeadline o deadline

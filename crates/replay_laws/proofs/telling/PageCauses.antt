@@ -3,7 +3,7 @@
 -- event's step, since lines rise.
 use Rattle.std.proofs.Common.{◌≡◌, ℕ, ◌<◌, Bool, true, false, ◌+◌, Option, Some, None, ◌⊎◌, inl, inr, List, [], ◌∷◌}
 use Rattle.std.proofs.Common.{refl, sym, ap, ◌∙◌, subst, arith}
-use Rattle.cfs_model.specs.Settings.{Settings}
+use Rattle.cfs_model.specs.Knobs.{KnobsView}
 use Rattle.cfs_model.specs.Claimed.{Claimed}
 use Rattle.replay_model.specs.Noted.{PageView}
 use Rattle.replay_model.specs.QueueTests.{IsIdleTooLong}
@@ -24,7 +24,7 @@ use Rattle.replay_laws.proofs.telling.WholeReplay.{PageFault}
 use Rattle.replay_model.specs.declared.page.StepFault.{StepFault}
 
 -- a replay has no fault of a line below those of its steps, but for one with a deadline
-no_later_fault : (knobs : Settings) (cpu : ℕ) (s : ReplayStateView) (events : List Claimed) (end : ReplayStateView)
+no_later_fault : (knobs : KnobsView) (cpu : ℕ) (s : ReplayStateView) (events : List Claimed) (end : ReplayStateView)
     (slack time line : ℕ) (o : Option StepFault) (fault : StepFault) → s.page.fault ≡ None → LinesRise line events
     → IsReplay knobs cpu s (steps_at cpu events) end → PageFault slack time end o → o ≡ Some fault
     → fault.deadline ≡ None → fault.line ≡ line → ⊥
@@ -59,14 +59,14 @@ no_later_fault knobs cpu s (event ∷ events) end slack time line o fault n rise
     ]
 
 -- the test of an event that fails on a replay's part
-pub record FailsThere (knobs : Settings) (cpu : ℕ) (mid : ReplayStateView) (event : Claimed) (cause : FaultCause)
+pub record FailsThere (knobs : KnobsView) (cpu : ℕ) (mid : ReplayStateView) (event : Claimed) (cause : FaultCause)
     : Type 0 where
   pub failed : ReplayStateView
   pub fails : FailsStep knobs cpu mid (step_at cpu event) failed
   pub on : FailsOn knobs cpu mid.part (step_at cpu event) cause.kind cause.pid
   pub here : cause.cpu ≡ cpu
 
-module _ (knobs : Settings) (start : ℕ) (before rest : List Claimed) (event : Claimed) (cpu : ℕ) (page : PageView)
+module _ (knobs : KnobsView) (start : ℕ) (before rest : List Claimed) (event : Claimed) (cpu : ℕ) (page : PageView)
     (mid : ReplayStateView) (none : mid.page.fault ≡ None)
     (b : Back knobs start before (event ∷ rest) cpu page mid) where
   pub idling_of_page : TimesRise event.entry.time rest → IdlesBefore event page.fault

@@ -4,7 +4,7 @@
 use Rattle.std.proofs.Common.{◌≡◌, ℕ, ◌<◌, ◌≤◌, nat_le, Bool, true, false, Option, Some, None, is_some, ℤ, inl, inr}
 use Rattle.std.proofs.Common.{List, ◌∷◌, ◌++◌, length, refl, ap, subst, arith}
 use Rattle.std.proofs.lemmas.Bool.{cases_lt, leb-true}
-use Rattle.cfs_model.specs.Settings.{Settings}
+use Rattle.cfs_model.specs.Knobs.{KnobsView}
 use Rattle.cfs_model.specs.Claimed.{Claimed}
 use Rattle.replay_model.specs.Cut.{steps_at}
 use Rattle.replay_model.specs.Noted.{PageView}
@@ -22,13 +22,13 @@ use Rattle.cfs_model.specs.declared.task.Task.{Task}
 use Rattle.replay_model.specs.declared.page.StepFault.{StepFault}
 
 -- the record up to where a page goes, and its replay
-record GoesTo (knobs : Settings) (start : ℕ) (floors : List ℤ) (tasks : List Task) (before : List Claimed)
+record GoesTo (knobs : KnobsView) (start : ℕ) (floors : List ℤ) (tasks : List Task) (before : List Claimed)
     (event : Claimed) (cpus cpu : ℕ) (page : PageView) : Type 0 where
   rest : List Claimed
   kept : IsRecord start floors tasks (before ++ event ∷ rest) cpus
   replay : cpu < cpus → WholeReplay knobs start floors tasks (before ++ event ∷ rest) cpu page
 
-module _ (knobs : Settings) (start : ℕ) (floors : List ℤ) (tasks : List Task) (before rest : List Claimed)
+module _ (knobs : KnobsView) (start : ℕ) (floors : List ℤ) (tasks : List Task) (before rest : List Claimed)
     (event : Claimed) (cpus : ℕ) (pages : ℕ → PageView)
     (r : IsRecord start floors tasks (before ++ event ∷ rest) cpus)
     (enough : (cpu : ℕ) → cpu < cpus → SufficesAmong knobs start floors tasks (before ++ event ∷ rest) cpus pages cpu)

@@ -5,7 +5,7 @@ use Rattle.std.proofs.Common.{◌≡◌, ◌≢◌, ℕ, ◌<◌, true, ℤ, ◌
 use Rattle.std.proofs.Common.{arith}
 use Rattle.std.proofs.lemmas.Bool.{cases_lt}
 use Rattle.std.specs.List.{AllByRecursion}
-use Rattle.cfs_model.specs.Settings.{Settings}
+use Rattle.cfs_model.specs.Knobs.{KnobsView}
 use Rattle.cfs_model.specs.Machine.{Machine, Stands}
 use Rattle.cfs_model.specs.Start.{start_machine}
 use Rattle.cfs_model.specs.Claimed.{Claimed}
@@ -25,7 +25,7 @@ use Rattle.replay_model.specs.Cause.{SlackFails, FaultCause, FailsOn, FailsAt, P
 use Rattle.replay_model.specs.Cause.{IsIdlingCause, IsCause}
 use Rattle.replay_model.specs.Roll.{named, roll_of}
 use Rattle.replay_model.specs.Tickets.{ticket_at}
-use Rattle.replay_laws.specs.Share.{IsShareReplay}
+use Rattle.replay_laws.specs.CutReplay.{IsCutReplay}
 use Rattle.replay_laws.specs.Telling.{IdlesBefore, FailsHere, IsPageCause, IsActCauseOf, IsIdlingCauseOf, IsCauseOf}
 use Rattle.cfs_model.proofs.StartOrder.{start_in_order}
 use Rattle.replay_model.proofs.TicketLines.{left_of, came_of, left_tickets, came_tickets, more_tickets}
@@ -38,7 +38,7 @@ use Rattle.replay_laws.proofs.following.Roll.{start_roll}
 use Rattle.replay_laws.proofs.ending.RunEndings.{order_after, roll_run, idling_ends_run, birth_ends_run}
 use Rattle.replay_laws.proofs.ending.RunEndings.{tickets_end_run}
 use Rattle.replay_laws.proofs.ending.RunEnds.{fault_ends_run}
-use Rattle.replay_laws.proofs.composing.Shares.{never_too_long}
+use Rattle.replay_laws.proofs.composing.CutReplays.{never_too_long}
 use Rattle.replay_laws.proofs.composing.ShiftTickets.{goes_elsewhere, left_is, came_is}
 use Rattle.replay_laws.proofs.composing.StepExists.{touches_first, touches_second}
 use Rattle.replay_laws.proofs.composing.StepLines.{lines_back, steps_below}
@@ -52,11 +52,11 @@ use Rattle.replay_model.specs.declared.page.Ticket.{Ticket}
 abbrev TicketsBelow : ℕ → List Ticket → Type 0
 TicketsBelow line tickets = AllByRecursion (λ (t : Ticket). t.line < line) tickets
 
-share_below : (knobs : Settings) (start : ℕ) (floors : List ℤ) (tasks : List Task) (before rest : List Claimed)
+cut_below : (knobs : KnobsView) (start : ℕ) (floors : List ℤ) (tasks : List Task) (before rest : List Claimed)
     (event : Claimed) (cpu : ℕ) (mid : ReplayStateView) → LinesRise 0 (before ++ event ∷ rest)
-    → IsShareReplay knobs start floors tasks before cpu mid
+    → IsCutReplay knobs start floors tasks before cpu mid
     → TicketsBelow event.entry.line mid.page.left × TicketsBelow event.entry.line mid.page.came
-share_below knobs start floors tasks before rest event cpu mid rise s =
+cut_below knobs start floors tasks before rest event cpu mid rise s =
     let below = steps_below cpu 0 before rest event rise in
     let left = more_tickets (λ page. page.left) left_of left_tickets (λ line. line < event.entry.line) knobs cpu
     s.first (steps_at cpu before) mid s.replay below in
@@ -73,7 +73,7 @@ all_at : (P : Claimed → Type 0) (before rest : List Claimed) (event : Claimed)
 all_at P [] rest event h = h.0
 all_at P (x ∷ before) rest event h = all_at P before rest event h.1
 
-module _ (knobs : Settings) (start : ℕ) (floors : List ℤ) (tasks : List Task) (before : List Claimed)
+module _ (knobs : KnobsView) (start : ℕ) (floors : List ℤ) (tasks : List Task) (before : List Claimed)
     (rest : ℕ → List Claimed) (event : Claimed) (cpus : ℕ) (pages : ℕ → PageView)
     (r : (cpu : ℕ) → IsRecord start floors tasks (before ++ event ∷ rest cpu) cpus)
     (at : (cpu : ℕ) → AtFront knobs start floors tasks before (event ∷ rest cpu) cpus cpu (pages cpu))
@@ -101,12 +101,12 @@ module _ (knobs : Settings) (start : ℕ) (floors : List ℤ) (tasks : List Task
 
   part_is : (cpu : ℕ) → part_of m cpu ≡ (at cpu).mid.part
   part_is cpu = (replay_follows knobs start floors tasks before cpu (at cpu).mid (r 0).is_start times run
-      (at cpu).passes.share).1
+      (at cpu).passes.cut_replay).1
 
   idles_is : (cpu : ℕ) → Idles cpu ↔ IsIdleTooLong knobs.slack (at cpu).mid.since event.entry.time 0
   idles_is cpu = slack_follows knobs start floors tasks before cpu (at cpu).mid event.entry.time (r 0).is_start times
       run
-      (at cpu).passes.share
+      (at cpu).passes.cut_replay
 
   -- a processor idles for too long just where its page says so
   idle_told : (cpu : ℕ) → cpu < cpus → IdlesBefore event (pages cpu).fault
@@ -139,7 +139,7 @@ module _ (knobs : Settings) (start : ℕ) (floors : List ℤ) (tasks : List Task
           kind = c.kind;
         },
         idling_ends_run knobs start floors tasks before event cause.cpu (at cause.cpu).mid (r 0).is_start times
-            (at cause.cpu).passes.share late,
+            (at cause.cpu).passes.cut_replay late,
       )
 
   fails_at : (cpu : ℕ) (cause : FaultCause) → cpu < cpus → touches cpu event ≡ true
@@ -153,7 +153,7 @@ module _ (knobs : Settings) (start : ℕ) (floors : List ℤ) (tasks : List Task
               f.on;
         },
         fault_ends_run knobs start floors tasks before event cpu (at cpu).mid f.failed (r 0).is_start times t
-            (at cpu).passes.share f.fails,
+            (at cpu).passes.cut_replay f.fails,
       )
 
   passes_at : (cpu : ℕ) → (k : cpu < cpus) → touches cpu event ≡ true → (¬ IdlesBefore event (pages cpu).fault)
@@ -209,17 +209,17 @@ module _ (knobs : Settings) (start : ℕ) (floors : List ℤ) (tasks : List Task
       → (d : PassesFirst knobs dest (at dest).mid event (rest dest) ((at dest).back l).end)
       → ticket_at event.entry.line (pages orig).left ≢ ticket_at event.entry.line (pages dest).came
       → left_ticket o.passes.found event.entry.line pid
-      ≢ came_ticket d.passes.found event.entry.line pid nice event.idle event.claim
+      ≢ came_ticket d.passes.found event.entry.line pid nice event.policy event.claim
   unequal orig dest pid nice e k l o d differ same =
       let line = event.entry.line in
       let left = left_is knobs event orig dest pid nice e (rest orig) (at orig).mid o.next ((at orig).back k).end
       o.passes
-      o.replay (share_below knobs start floors tasks before (rest orig) event orig (at orig).mid (r orig).lines_rise
-      (at orig).passes.share).0 (later_lines orig) in
+      o.replay (cut_below knobs start floors tasks before (rest orig) event orig (at orig).mid (r orig).lines_rise
+      (at orig).passes.cut_replay).0 (later_lines orig) in
       let came = came_is knobs event orig dest pid nice e (rest dest) (at dest).mid d.next ((at dest).back l).end
       (goes_elsewhere knobs event orig dest pid nice e (at orig).mid o.next o.passes) d.passes d.replay
-      (share_below knobs start floors tasks before (rest dest) event dest (at dest).mid (r dest).lines_rise
-      (at dest).passes.share).1 (later_lines dest) in
+      (cut_below knobs start floors tasks before (rest dest) event dest (at dest).mid (r dest).lines_rise
+      (at dest).passes.cut_replay).1 (later_lines dest) in
       differ (ap (ticket_at line) ((at orig).back k).left ∙ left ∙ same ∙ sym came
       ∙ ap (ticket_at line) (sym ((at dest).back l).came))
 
@@ -247,7 +247,8 @@ module _ (knobs : Settings) (start : ℕ) (floors : List ℤ) (tasks : List Task
           is = c.3;
         })),
         tickets_end_run knobs start floors tasks before event orig dest pid nice (at orig).mid (at dest).mid o.0.next
-            d.0.next (r 0).is_start times e (at orig).passes.share (at dest).passes.share o.0.passes d.0.passes differ,
+            d.0.next (r 0).is_start times e (at orig).passes.cut_replay (at dest).passes.cut_replay o.0.passes
+            d.0.passes differ,
       )
 
   act_cause : (cause : FaultCause) (act : Act) → event.entry.act ≡ act

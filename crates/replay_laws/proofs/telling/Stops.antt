@@ -4,7 +4,7 @@ use Rattle.std.proofs.Common.{◌≡◌, ℕ, zero, suc, ◌+◌, ◌<◌, ◌�
 use Rattle.std.proofs.Common.{inr, List, [], ◌∷◌, ◌++◌, length, take, refl, sym, ap, ◌∙◌, subst, arith}
 use Rattle.std.proofs.lemmas.Bool.{cases_lt, leb-false}
 use Rattle.cfs_model.specs.Limits.{no_line}
-use Rattle.cfs_model.specs.Settings.{Settings}
+use Rattle.cfs_model.specs.Knobs.{KnobsView}
 use Rattle.cfs_model.specs.Claimed.{Claimed}
 use Rattle.replay_model.specs.QueueTests.{IsIdleTooLong}
 use Rattle.replay_model.specs.Cut.{touches, steps_at, last_time_of, last_line_after, cut}
@@ -22,7 +22,7 @@ use Rattle.replay_laws.proofs.telling.WholeReplay.{WholeReplay}
 use Rattle.cfs_model.specs.declared.task.Task.{Task}
 
 -- the first events, of which a replay made all steps: the last of them is the last step's
-record Seen (knobs : Settings) (cpu : ℕ) (s end : ReplayStateView) (time line : ℕ) (events : List Claimed)
+record Seen (knobs : KnobsView) (cpu : ℕ) (s end : ReplayStateView) (time line : ℕ) (events : List Claimed)
     : Type 0 where
   seen : List Claimed
   more : List Claimed
@@ -32,7 +32,7 @@ record Seen (knobs : Settings) (cpu : ℕ) (s end : ReplayStateView) (time line 
   line_is : end.page.line ≡ last_line_after line seen
 
 -- a processor is in time right after a step that passed
-in_time_after : (knobs : Settings) (cpu : ℕ) (s : ReplayStateView) (event : Claimed) (next : ReplayStateView)
+in_time_after : (knobs : KnobsView) (cpu : ℕ) (s : ReplayStateView) (event : Claimed) (next : ReplayStateView)
     → PassesStep knobs cpu s (step_at cpu event) next → (x : ℕ) → next.since ≡ Some x
     → event.entry.time ≤ x + knobs.slack
 in_time_after knobs cpu s event next p x e =
@@ -45,12 +45,12 @@ in_time_after knobs cpu s event next p x e =
       | inr h ↦ omega arith
     ]
 
-line_after : (knobs : Settings) (cpu : ℕ) (s : ReplayStateView) (event : Claimed) (next : ReplayStateView)
+line_after : (knobs : KnobsView) (cpu : ℕ) (s : ReplayStateView) (event : Claimed) (next : ReplayStateView)
     → PassesStep knobs cpu s (step_at cpu event) next → next.page.line ≡ event.entry.line
 line_after knobs cpu s event next p = ap (λ y. y.line) p.page
 
 -- one more event before those seen: of another processor, or of a step
-untouched_seen : (knobs : Settings) (cpu : ℕ) (s end : ReplayStateView) (time line : ℕ) (event : Claimed)
+untouched_seen : (knobs : KnobsView) (cpu : ℕ) (s end : ReplayStateView) (time line : ℕ) (event : Claimed)
     (events : List Claimed) → touches cpu event ≡ false
     → Seen knobs cpu s end event.entry.time event.entry.line events → Seen knobs cpu s end time line (event ∷ events)
 untouched_seen knobs cpu s end time line event events t later = record {
@@ -62,7 +62,7 @@ untouched_seen knobs cpu s end time line event events t later = record {
   line_is = later.line_is;
 }
 
-replayed_first : (knobs : Settings) (cpu : ℕ) (s next end : ReplayStateView) (time line : ℕ) (event : Claimed)
+replayed_first : (knobs : KnobsView) (cpu : ℕ) (s next end : ReplayStateView) (time line : ℕ) (event : Claimed)
     (events : List Claimed) → touches cpu event ≡ true
     → IsReplayStep knobs cpu s.page.fault s (step_at cpu event) next
     → Seen knobs cpu next end event.entry.time event.entry.line events
@@ -77,7 +77,7 @@ replayed_first knobs cpu s next end time line event events t step later = record
   line_is = later.line_is;
 }
 
-seen_from : (knobs : Settings) (cpu : ℕ) (s end : ReplayStateView) (time line : ℕ) (events : List Claimed) (n : ℕ)
+seen_from : (knobs : KnobsView) (cpu : ℕ) (s end : ReplayStateView) (time line : ℕ) (events : List Claimed) (n : ℕ)
     → n ≤ length (steps_at cpu events) → s.page.fault ≡ None → end.page.fault ≡ None
     → (n ≡ 0 → (x : ℕ) → s.since ≡ Some x → time ≤ x + knobs.slack) → (n ≡ 0 → s.page.line ≡ line)
     → IsReplay knobs cpu s (take n (steps_at cpu events)) end → Seen knobs cpu s end time line events
@@ -142,7 +142,7 @@ among (b ∷ before) rest event (x ∷ seen) more line e rise by =
     record { rest = later.rest; is = ap (λ y. y ∷ seen) (sym h.0) ∙ ap (λ xs. b ∷ xs) later.is }
 
 -- the replay of a page that stopped at an event's line or past it, as that of the events up to where it stopped
-pub record StopsPast (knobs : Settings) (start : ℕ) (floors : List ℤ) (tasks : List Task) (before : List Claimed)
+pub record StopsPast (knobs : KnobsView) (start : ℕ) (floors : List ℤ) (tasks : List Task) (before : List Claimed)
     (event : Claimed) (cpus cpu : ℕ) (page : PageView) : Type 0 where
   pub rest : List Claimed
   pub kept : IsRecord start floors tasks (before ++ event ∷ rest) cpus
@@ -152,7 +152,7 @@ cut_off : {X : Type 0} (b : Bool) (x y : X) → b ≡ false → cond b x y ≡ y
 cut_off true x y e = absurd cc
 cut_off false x y e = refl
 
-pub stops_past : (knobs : Settings) (start : ℕ) (floors : List ℤ) (tasks : List Task) (before rest : List Claimed)
+pub stops_past : (knobs : KnobsView) (start : ℕ) (floors : List ℤ) (tasks : List Task) (before rest : List Claimed)
     (event : Claimed) (cpus cpu made : ℕ) (page : PageView)
     → IsRecord start floors tasks (before ++ event ∷ rest) cpus
     → IsPageOf (cut start floors tasks (before ++ event ∷ rest) cpu) knobs made page → page.fault ≡ None

@@ -6,7 +6,7 @@ use Rattle.std.proofs.Common.{take-append-drop}
 use Rattle.std.proofs.lemmas.Bool.{le-leb, lt-ltb, ltb-true, leb-true}
 use Rattle.std.proofs.lemmas.List.{take_all}
 use Rattle.cfs_model.specs.Limits.{no_line}
-use Rattle.cfs_model.specs.Settings.{Settings}
+use Rattle.cfs_model.specs.Knobs.{KnobsView}
 use Rattle.cfs_model.specs.Claimed.{Claimed}
 use Rattle.replay_model.specs.Cut.{StreamView, steps_at, last_time_of, last_line_after, cut}
 use Rattle.replay_model.specs.Noted.{PageView}
@@ -14,7 +14,7 @@ use Rattle.replay_model.specs.Page.{ReplayStateView, IsReplayStep, IsReplay, IsS
 use Rattle.replay_laws.specs.Sufficing.{IsWholePage}
 use Rattle.replay_model.proofs.Replayed.{IsReplay-append}
 use Rattle.replay_model.proofs.Options.{same_some}
-use Rattle.replay_laws.proofs.composing.Shares.{late_fault, end_left, end_came, end_tallies}
+use Rattle.replay_laws.proofs.composing.CutReplays.{late_fault, end_left, end_came, end_tallies}
 use Rattle.cfs_model.specs.declared.task.Task.{Task}
 use Rattle.replay_model.specs.declared.page.StepFault.{StepFault}
 use Rattle.replay_model.specs.declared.step.Step.{Step}
@@ -30,7 +30,7 @@ pub record PageFault (slack time : ℕ) (end : ReplayStateView) (o : Option Step
       × (x + slack < time))
 
 -- the replay by all steps that a page is of
-pub record WholeReplay (knobs : Settings) (start : ℕ) (floors : List ℤ) (tasks : List Task) (events : List Claimed)
+pub record WholeReplay (knobs : KnobsView) (start : ℕ) (floors : List ℤ) (tasks : List Task) (events : List Claimed)
     (cpu : ℕ) (page : PageView) : Type 0 where
   pub first : ReplayStateView
   pub is_start : IsStartOf (cut start floors tasks events cpu) first
@@ -45,13 +45,13 @@ pub record WholeReplay (knobs : Settings) (start : ℕ) (floors : List ℤ) (tas
   pub tallies : page.tallies ≡ end.page.tallies
 
 -- after a fault a replay goes on by any steps
-stay : (knobs : Settings) (cpu : ℕ) (s : ReplayStateView) (fault : StepFault) → s.page.fault ≡ Some fault
+stay : (knobs : KnobsView) (cpu : ℕ) (s : ReplayStateView) (fault : StepFault) → s.page.fault ≡ Some fault
     → (steps : List Step) → IsReplay knobs cpu s steps s
 stay knobs cpu s fault f [] = refl
 stay knobs cpu s fault f (step ∷ steps) =
     (s, subst (λ o. IsReplayStep knobs cpu o s step s) (sym f) refl, stay knobs cpu s fault f steps)
 
-faulted_by_all : (knobs : Settings) (cpu : ℕ) (first : ReplayStateView) (made : ℕ) (steps : List Step)
+faulted_by_all : (knobs : KnobsView) (cpu : ℕ) (first : ReplayStateView) (made : ℕ) (steps : List Step)
     (end : ReplayStateView) (fault : StepFault) → IsReplay knobs cpu first (take made steps) end
     → end.page.fault ≡ Some fault → IsReplay knobs cpu first steps end
 faulted_by_all knobs cpu first made steps end fault r f =
@@ -130,7 +130,7 @@ some_fault None h = absurd (true≢false (sym h))
 some_fault (Some fault) h = (fault, refl)
 
 -- a page whose replay the end test follows, whatever its fault
-by_end : (knobs : Settings) (start : ℕ) (floors : List ℤ) (tasks : List Task) (events : List Claimed) (cpu : ℕ)
+by_end : (knobs : KnobsView) (start : ℕ) (floors : List ℤ) (tasks : List Task) (events : List Claimed) (cpu : ℕ)
     (page : PageView) (first end : ReplayStateView) → IsStartOf (cut start floors tasks events cpu) first
     → IsReplay knobs cpu first (steps_at cpu events) end
     → page ≡ end_page knobs.slack (cut start floors tasks events cpu) end.since end.page.fault end.page
@@ -152,7 +152,7 @@ by_end knobs start floors tasks events cpu page first end s r e =
     }
 
 -- a page whose replay has a fault that the end test doesn't follow
-by_fault : (knobs : Settings) (start : ℕ) (floors : List ℤ) (tasks : List Task) (events : List Claimed) (cpu made : ℕ)
+by_fault : (knobs : KnobsView) (start : ℕ) (floors : List ℤ) (tasks : List Task) (events : List Claimed) (cpu made : ℕ)
     (page : PageView) (first end : ReplayStateView) (fault : StepFault)
     → IsStartOf (cut start floors tasks events cpu) first
     → IsReplay knobs cpu first (take made (steps_at cpu events)) end → page ≡ end.page → page.fault ≡ Some fault
@@ -165,7 +165,7 @@ by_fault knobs start floors tasks events cpu made page first end fault s r e f =
     (e ∙ sym (end_test_at_fault knobs.slack stream end.since fault end.page)
     ∙ ap (λ o. end_page knobs.slack stream end.since o end.page) (sym has_tally))
 
-pub whole_replay : (knobs : Settings) (start : ℕ) (floors : List ℤ) (tasks : List Task) (events : List Claimed)
+pub whole_replay : (knobs : KnobsView) (start : ℕ) (floors : List ℤ) (tasks : List Task) (events : List Claimed)
     (cpu : ℕ) (page : PageView) → IsWholePage knobs start floors tasks events cpu page
     → WholeReplay knobs start floors tasks events cpu page
 whole_replay knobs start floors tasks events cpu page w =

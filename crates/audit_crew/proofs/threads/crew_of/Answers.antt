@@ -12,7 +12,7 @@ pub new-requires : goal.new-requires
 new-requires g c =
     let empty : Option ReplayView = None in
     record {
-      places =
+      slots =
           ap length c.in_ok-with_hasher.ensures ∙ length-replicate c.cpus-cpus.result empty ∙ c.cpus-cpus.ensures
           ∙ sym (ap (λ (r : RecordView). r.cpus) c.requires.joined);
       own = subst (AreOwn _ _) (sym c.in_ok-with_hasher.ensures) (none_own _ _ c.cpus-cpus.result);

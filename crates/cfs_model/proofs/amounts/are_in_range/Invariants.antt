@@ -2,7 +2,7 @@
 use Rattle.std.proofs.Common.{◌≤◌, ◌↔◌, drop}
 use Rattle.std.specs.List.{AllByRecursion}
 use Rattle.cfs_model.specs.Limits.{greatest_setting}
-use Rattle.cfs_model.specs.Settings.{value_at}
+use Rattle.cfs_model.specs.Knobs.{value_at}
 use Rattle.cfs_model.specs.declared.setting.Setting.{Setting}
 use Rattle.cfs_model.proofs.amounts.are_in_range.Given as goal
 

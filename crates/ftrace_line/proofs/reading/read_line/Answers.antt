@@ -12,7 +12,7 @@ use Rattle.ftrace_line.specs.Meaning.{meaning_of}
 use Rattle.cfs_model.specs.Limits.{nanoseconds_per_second}
 use Rattle.ftrace_line.proofs.OneReading.{answer_only}
 use Rattle.ftrace_line.proofs.Answered.{answer_so}
-use Rattle.ftrace_line.proofs.Marks.{mark_within}
+use Rattle.ftrace_line.proofs.Labels.{label_within}
 use Rattle.ftrace_line.proofs.reading.read_line.Goals as goal
 
 -- what the contract says of an answer
@@ -41,7 +41,7 @@ told line answer e = record {
 }
 
 pub fields_of-requires : goal.fields_of-requires
-fields_of-requires c = mark_within c.in-Some.head.text.now c.in-Some-kind_of.which (sym c.in-Some-kind_of.ensures)
+fields_of-requires c = label_within c.in-Some.head.text.now c.in-Some-kind_of.which (sym c.in-Some-kind_of.ensures)
 
 pub returns-then-is_comment : goal.returns-then-is_comment
 unfolding meaning_of

@@ -14,23 +14,24 @@ pub returns-in-Some-clause-tried : goal.returns-in-Some-clause-tried
 returns-in-Some-clause-tried c knobs =
     let part = runqueue_view c.args.queue.now in
     let step = c.args.step.now in
-    let deed = Arrive c.args.pid c.args.nice c.requires.0 c.args.idle in
+    let deed = Arrive c.args.pid c.args.nice c.requires.0 c.args.policy in
     fails knobs c.args.cpu part step deed step.claim (arrival_tests part deed step.claim)
-    (arrival_row knobs c.args.cpu part c.args.pid c.args.nice c.requires.0 c.args.idle step.claim) c.requires.1 refl
+    (arrival_row knobs c.args.cpu part c.args.pid c.args.nice c.requires.0 c.args.policy step.claim) c.requires.1 refl
     part c.in-Some.failed
-    (c.in-Some.ensures part c.args.nice c.requires.0 c.args.idle c.task_at-task.ensures)
+    (c.in-Some.ensures part c.args.nice c.requires.0 c.args.policy c.task_at-task.ensures)
 
 pub add-requires-clause-apart : goal.add-requires-clause-apart
 add-requires-clause-apart c =
     let part = runqueue_view c.args.queue.now in
     ap part.tasks c.claimed_task.ensures.pid
-    ∙ is_apart part c.args.pid (c.in_default.ensures part c.args.nice c.requires.0 c.args.idle c.task_at-task.ensures).0
+    ∙ is_apart part c.args.pid (c.in_default.ensures part c.args.nice c.requires.0 c.args.policy
+    c.task_at-task.ensures).0
 
 pub unreachable-requires : goal.unreachable-requires
 unreachable-requires c =
     let part = runqueue_view c.args.queue.now in
-    arrival_claimed part c.args.pid c.args.nice c.requires.0 c.args.idle c.args.step.now.claim
-    (c.in_default.ensures part c.args.nice c.requires.0 c.args.idle c.task_at-task.ensures).1.0 c.in-None.is
+    arrival_claimed part c.args.pid c.args.nice c.requires.0 c.args.policy c.args.step.now.claim
+    (c.in_default.ensures part c.args.nice c.requires.0 c.args.policy c.task_at-task.ensures).1.0 c.in-None.is
 
 pub returns-clause-tried : goal.returns-clause-tried
 returns-clause-tried c knobs =
@@ -38,17 +39,17 @@ returns-clause-tried c knobs =
     let step = c.args.step.now in
     let pid = c.args.pid in
     let nice = c.args.nice in
-    let idle = c.args.idle in
-    let deed = Arrive pid nice c.requires.0 idle in
+    let policy = c.args.policy in
+    let deed = Arrive pid nice c.requires.0 policy in
     let claim = c.in-Some-claim.claim in
     let task = c.claimed_task in
     passes knobs c.args.cpu part step deed step.claim (arrival_tests part deed step.claim)
-    (arrival_row knobs c.args.cpu part pid nice c.requires.0 idle step.claim) c.requires.1 refl _ _
-    (c.in_default.ensures part nice c.requires.0 idle c.task_at-task.ensures)
+    (arrival_row knobs c.args.cpu part pid nice c.requires.0 policy step.claim) c.requires.1 refl _ _
+    (c.in_default.ensures part nice c.requires.0 policy c.task_at-task.ensures)
     (c.in_ok-add-in-Some-claim.ensures.part
     ∙ ap (λ p. with_entity part p (Some (entity_of task.result))) task.ensures.pid
     ∙ ap (λ (s : Entity). with_entity part pid (Some s)) task.ensures.entity
-    ∙ ap (λ p. with_entity part pid (Some (record { place = p; nice = nice; idle = idle; runtime = claim.v })))
+    ∙ ap (λ p. with_entity part pid (Some (record { place = p; nice = nice; policy = policy; runtime = claim.v })))
     c.place_of.ensures
     ∙ ap (after_deed part deed) (sym c.in-Some-claim.is))
-    (c.came_ticket-ticket.ensures ∙ ap (came_ticket part step.line pid nice idle) (sym c.in-Some-claim.is)) refl
+    (c.came_ticket-ticket.ensures ∙ ap (came_ticket part step.line pid nice policy) (sym c.in-Some-claim.is)) refl

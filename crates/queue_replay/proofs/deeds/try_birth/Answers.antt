@@ -17,20 +17,21 @@ pub returns-in-Some-clause-tried : goal.returns-in-Some-clause-tried
 returns-in-Some-clause-tried c =
     let part = runqueue_view c.args.queue.now in
     let step = c.args.step.now in
-    let deed = Born c.args.pid c.args.nice c.args.idle in
+    let deed = Born c.args.pid c.args.nice c.args.policy in
     fails c.args.knobs c.args.cpu part step deed step.claim (birth_tests c.args.knobs.debit part deed step.claim)
-    (birth_row c.args.knobs c.args.cpu part c.args.pid c.args.nice c.args.idle step.claim) c.requires refl part
+    (birth_row c.args.knobs c.args.cpu part c.args.pid c.args.nice c.args.policy step.claim) c.requires refl part
     c.in-Some.failed
-    (c.in-Some.ensures c.args.nice c.args.idle)
+    (c.in-Some.ensures c.args.nice c.args.policy)
 
 pub add-requires-clause-apart : goal.add-requires-clause-apart
 add-requires-clause-apart c =
     let part = runqueue_view c.args.queue.now in
-    ap part.tasks c.claimed_task.ensures.pid ∙ is_apart part c.args.pid (c.in_default.ensures c.args.nice c.args.idle).0
+    ap part.tasks c.claimed_task.ensures.pid ∙ is_apart part c.args.pid (c.in_default.ensures c.args.nice
+    c.args.policy).0
 
 pub unreachable-requires : goal.unreachable-requires
 unreachable-requires c = birth_claimed c.args.pid c.args.step.now.claim
-    (c.in_default.ensures c.args.nice c.args.idle).1.0 c.in-None.is
+    (c.in_default.ensures c.args.nice c.args.policy).1.0 c.in-None.is
 
 pub returns-clause-tried : goal.returns-clause-tried
 returns-clause-tried c =
@@ -38,15 +39,15 @@ returns-clause-tried c =
     let step = c.args.step.now in
     let pid = c.args.pid in
     let nice = c.args.nice in
-    let idle = c.args.idle in
-    let deed = Born pid nice idle in
+    let policy = c.args.policy in
+    let deed = Born pid nice policy in
     let claim = c.in-Some-claim.claim in
     let at : to_z w64 (of_z w64 claim.v) ≡ claim.v = search rules in
     let floor : to_z w64 (of_z w64 c.floor.result) ≡ c.floor.result = search rules in
     let task = c.claimed_task in
     passes c.args.knobs c.args.cpu part step deed step.claim (birth_tests c.args.knobs.debit part deed step.claim)
-    (birth_row c.args.knobs c.args.cpu part pid nice idle step.claim) c.requires refl _ _
-    (c.in_default.ensures nice idle)
+    (birth_row c.args.knobs c.args.cpu part pid nice policy step.claim) c.requires refl _ _
+    (c.in_default.ensures nice policy)
     (c.in_ok-add-in-Some-claim.ensures.part
     ∙ ap (λ p. with_entity part p (Some (entity_of task.result))) task.ensures.pid
     ∙ ap (λ (s : Entity). with_entity part pid (Some s)) task.ensures.entity

@@ -2,22 +2,22 @@ use Rattle.std.proofs.Common.{inl, inr, refl}
 use Rattle.queue_replay.proofs.step_table.first_arrival_test.Goals as goal
 
 pub returns-in-Some : goal.returns-in-Some
-returns-in-Some c part nice orig idle at = inl (c.in-Some.ensures part at, refl)
+returns-in-Some c part nice orig policy at = inl (c.in-Some.ensures part at, refl)
 
 pub returns-in-Some-arrival_claim_missing : goal.returns-in-Some-arrival_claim_missing
-returns-in-Some-arrival_claim_missing c part nice orig idle at =
-    inr (c.in_default.ensures part at, inl (c.in-Some-arrival_claim_missing.ensures part nice orig idle, refl))
+returns-in-Some-arrival_claim_missing c part nice orig policy at =
+    inr (c.in_default.ensures part at, inl (c.in-Some-arrival_claim_missing.ensures part nice orig policy, refl))
 
 pub returns-in-Some-claim_pid : goal.returns-in-Some-claim_pid
-returns-in-Some-claim_pid c part nice orig idle at =
+returns-in-Some-claim_pid c part nice orig policy at =
     inr (
       c.in_default.ensures part at,
       inr
-          (c.in_default-arrival_claim_missing.ensures part nice orig idle, inl (c.in-Some-claim_pid.ensures, refl)),
+          (c.in_default-arrival_claim_missing.ensures part nice orig policy, inl (c.in-Some-claim_pid.ensures, refl)),
     )
 
 pub returns : goal.returns
-returns c part nice orig idle at = (
+returns c part nice orig policy at = (
   c.in_default.ensures part at,
-  (c.in_default-arrival_claim_missing.ensures part nice orig idle, (c.in_default-claim_pid.ensures, tt)),
+  (c.in_default-arrival_claim_missing.ensures part nice orig policy, (c.in_default-claim_pid.ensures, tt)),
 )

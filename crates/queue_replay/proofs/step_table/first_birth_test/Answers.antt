@@ -5,21 +5,21 @@ use Rattle.runqueue.specs.Queue.{runqueue_view}
 use Rattle.queue_replay.proofs.step_table.first_birth_test.Goals as goal
 
 pub returns-in-Some : goal.returns-in-Some
-returns-in-Some c nice idle = inl (c.in-Some.ensures (runqueue_view c.args.queue.now) c.requires, refl)
+returns-in-Some c nice policy = inl (c.in-Some.ensures (runqueue_view c.args.queue.now) c.requires, refl)
 
 pub returns-in-Some-claim_missing : goal.returns-in-Some-claim_missing
-returns-in-Some-claim_missing c nice idle =
+returns-in-Some-claim_missing c nice policy =
     inr (c.in_default.ensures (runqueue_view c.args.queue.now) c.requires, inl (c.in-Some-claim_missing.ensures, refl))
 
 pub returns-in-Some-claim_pid : goal.returns-in-Some-claim_pid
-returns-in-Some-claim_pid c nice idle = inr (
+returns-in-Some-claim_pid c nice policy = inr (
   c.in_default.ensures (runqueue_view c.args.queue.now) c.requires,
   inr
       (c.in_default-claim_missing.ensures, inl (c.in-Some-claim_pid.ensures, refl)),
 )
 
 pub returns-in-Some-fork_outside : goal.returns-in-Some-fork_outside
-returns-in-Some-fork_outside c nice idle =
+returns-in-Some-fork_outside c nice policy =
     inr (
       c.in_default.ensures (runqueue_view c.args.queue.now) c.requires,
       inr (
@@ -28,8 +28,8 @@ returns-in-Some-fork_outside c nice idle =
           c.in_default-claim_pid.ensures,
           inl (
             subst (λ (k : ℕ). IsForkOutside k (runqueue_view c.args.queue.now)
-                (Born c.args.pid nice idle) c.args.claim c.in-Some-fork_outside.pid) c.debit.ensures.same
-                (c.in-Some-fork_outside.ensures nice idle),
+                (Born c.args.pid nice policy) c.args.claim c.in-Some-fork_outside.pid) c.debit.ensures.same
+                (c.in-Some-fork_outside.ensures nice policy),
             refl,
           ),
         ),
@@ -37,7 +37,7 @@ returns-in-Some-fork_outside c nice idle =
     )
 
 pub returns : goal.returns
-returns c nice idle = (
+returns c nice policy = (
   c.in_default.ensures (runqueue_view c.args.queue.now) c.requires,
   (
     c.in_default-claim_missing.ensures,
@@ -45,8 +45,8 @@ returns c nice idle = (
       c.in_default-claim_pid.ensures,
       (
         subst (λ (k : ℕ). (p : ℕ)
-            → ¬ IsForkOutside k (runqueue_view c.args.queue.now) (Born c.args.pid nice idle) c.args.claim p)
-            c.debit.ensures.same (c.in_default-fork_outside.ensures nice idle),
+            → ¬ IsForkOutside k (runqueue_view c.args.queue.now) (Born c.args.pid nice policy) c.args.claim p)
+            c.debit.ensures.same (c.in_default-fork_outside.ensures nice policy),
         tt,
       ),
     ),

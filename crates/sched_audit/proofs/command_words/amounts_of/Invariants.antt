@@ -1,7 +1,7 @@
 -- The values that are there, with those that are still to be gone over, are the whole.
 use Rattle.std.proofs.Common.{◌≡◌, drop}
 use Rattle.clap.specs.Words.{found_of, rows_of}
-use Rattle.cfs_model.specs.Settings.{nothing}
+use Rattle.cfs_model.specs.Knobs.{nothing}
 use Rattle.sched_audit.specs.CommandLine.{setting_of, with_values}
 use Rattle.sched_audit.proofs.command_words.amounts_of.Given as goal
 

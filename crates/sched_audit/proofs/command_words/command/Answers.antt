@@ -3,7 +3,7 @@ use Rattle.std.proofs.Common.{◌∙◌, ap, ap₂, true}
 use Rattle.std.proofs.lemmas.Result.{IfOk-weaker}
 use Rattle.clap.specs.Words.{App, with_rule}
 use Rattle.clap.specs.Simple.{app_of_fields, on_top}
-use Rattle.cfs_model.specs.Settings.{all_settings}
+use Rattle.cfs_model.specs.Knobs.{all_settings}
 use Rattle.sched_audit.specs.CommandLine.{with_settings}
 use Rattle.sched_audit.proofs.command_words.command.Goals as goal
 

@@ -27,11 +27,11 @@ returns-then-not-is_birth_at c =
     let idle = get_or idles i no_idle in
     let same = get_or_default idles i idle no_idle c.loop-idle-test.true in
     least_stray_idle events idles i idle c.requires.idles_rise c.loop-idle-test.true (sym same)
-    (no_birth_there events c.place_from-place.result idle c.requires.events_rise
-    (above_here line_of_event line_of_idle events idles c.loop-idle.place c.place_from-place.result i idle.line no_idle
+    (no_birth_there events c.index_from-index.result idle c.requires.events_rise
+    (above_here line_of_event line_of_idle events idles c.loop-idle.index c.index_from-index.result i idle.line no_idle
     refl
-    c.loop-idle-test.true c.loop-idle.invariant.passed c.place_from-place.ensures.below)
-    c.place_from-place.ensures.reached (omega (arith, c.if-idle-ne-NO_LINE.true)) (search rules))
+    c.loop-idle-test.true c.loop-idle.invariant.passed c.index_from-index.ensures.below)
+    c.index_from-index.ensures.reached (omega (arith, c.if-idle-ne-NO_LINE.true)) (search rules))
     c.loop-idle.invariant.born
 
 pub loop-idle-preserved : goal.loop-idle-preserved
@@ -43,14 +43,14 @@ loop-idle-preserved c =
     let same = get_or_default idles i idle no_idle c.loop-idle-test.true in
     let here : NamesBirth events idle = elim c.else-idle-ne-NO_LINE.branch [
       | else-idle-ne-NO_LINE-via-then-idle-ne-NO_LINE+else-not-is_birth_at w ↦
-          birth_there events c.place_from-place.result idle (search rules)
+          birth_there events c.index_from-index.result idle (search rules)
       | else-idle-ne-NO_LINE-via-else-idle-ne-NO_LINE w ↦
           (λ some. absurd (omega (arith, some, w.if-idle-ne-NO_LINE.false)))
     ] in record {
-      within = c.place_from-place.ensures.within.1;
-      passed = passed_idles events idles c.loop-idle.place c.place_from-place.result i idle c.requires.idles_rise
+      within = c.index_from-index.ensures.within.1;
+      passed = passed_idles events idles c.loop-idle.index c.index_from-index.result i idle c.requires.idles_rise
           (sym same) c.loop-idle-test.true
-          c.loop-idle.invariant.passed c.place_from-place.ensures.below;
+          c.loop-idle.invariant.passed c.index_from-index.ensures.below;
       born = λ k d lt.
           elim (cases_lt k i) [
             | inl less ↦ c.loop-idle.invariant.born k d less

@@ -7,8 +7,8 @@ use Rattle.sched_record.proofs.joining.first_stray_idle.Given as goal
 
 abbrev pub invariant-loop-idle : goal.invariant-loop-idle
 invariant-loop-idle l = record {
-  within : l.place ≤ length l.events;
-  passed : HasPassed (λ (event : Entry). event.line) (λ (idle : IdleLine). idle.line) l.events l.idles l.place
+  within : l.index ≤ length l.events;
+  passed : HasPassed (λ (event : Entry). event.line) (λ (idle : IdleLine). idle.line) l.events l.idles l.index
       l.idle-index;
   born : (k : ℕ) (d : IdleLine) → k < l.idle-index → NamesBirth l.events (get_or l.idles k d);
 }

@@ -19,7 +19,7 @@ returns-then-not-is_within-clause-found c =
       parts = split_at events i c.event-item.result c.loop-event-test.true c.event-item.is;
       inside = c.loop-event.invariant;
       outside = OnFalse_at c.if-not-is_within.true c.is_within.ensures.beyond;
-      placed = refl;
+      indexed = refl;
     }
 
 pub loop-event-preserved : goal.loop-event-preserved

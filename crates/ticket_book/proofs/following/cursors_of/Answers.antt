@@ -13,14 +13,14 @@ returns-clause-followed c =
     let r = record_view c.args.joined.now in
     let count = ap length c.events-event-items.ensures in
     let all : length r.events ≤ c.loop-index.index = let end = c.loop-index-test.false in omega (arith, count, end) in
-    subst (λ (events : List Entry). AreFollowed c.args.places.now c.loop-index.cursors.items
+    subst (λ (events : List Entry). AreFollowed c.args.slots.now c.loop-index.cursors.items
     (claimed r.claims r.nices (policy_of r) events))
     (take_all c.loop-index.index r.events all) c.loop-index.invariant.followed
 
 pub loop-index-preserved : goal.loop-index-preserved
 loop-index-preserved c =
     let r = record_view c.args.joined.now in
-    let places = c.args.places.now in
+    let slots = c.args.slots.now in
     let event = c.event-item.result in
     let before = c.loop-index.cursors.items in
     let after = c.follow.new.cursors in
@@ -30,20 +30,20 @@ loop-index-preserved c =
     c.event-item.is ∙ ap (λ es. get_or es c.loop-index.index event) c.events-event-items.ensures in
     let claim = c.claim_beside-claim.ensures.claim event ∙ ap (λ (e : Entry). claim_at r.claims e.line) (sym is) in
     let nice = c.nice_beside-nice.ensures.nice event ∙ ap (λ (e : Entry). nice_at r.nices e.line) (sym is) in
-    let idle = c.policy_at-idle.ensures event ∙ ap (policy_of r) (sym is) in
+    let policy = c.policy_at-idle.ensures event ∙ ap (policy_of r) (sym is) in
     let within = c.loop-index-test.true in
     let total = ap length c.events-event-items.ensures in
     record {
       count = search rules;
       claims = search rules;
       nices = search rules;
-      followed = subst (λ cs. AreFollowed places cs
+      followed = subst (λ cs. AreFollowed slots cs
           (claimed r.claims r.nices (policy_of r) (take (c.loop-index.index + 1) r.events)))
           (sym (lent_back after before c.loop-index.cursors.len count))
-          (followed_one_more places c.deref_mut.result.now after r.claims r.nices
+          (followed_one_more slots c.deref_mut.result.now after r.claims r.nices
           (policy_of r) r.events c.loop-index.index event _ _ _
-          (omega (arith, within, total)) is claim nice idle c.follow.ensures
-          (subst (λ cs. AreFollowed places cs
+          (omega (arith, within, total)) is claim nice policy c.follow.ensures
+          (subst (λ cs. AreFollowed slots cs
           (claimed r.claims r.nices (policy_of r) (take c.loop-index.index r.events)))
           (sym lent) c.loop-index.invariant.followed));
     }

@@ -1,6 +1,6 @@
 use Rattle.std.proofs.Common.{length, sym, ◌∙◌, subst}
 use Rattle.cfs_model.specs.Least.{AreLeast, greatest_settings}
-use Rattle.cfs_model.specs.Settings.{AreInRange}
+use Rattle.cfs_model.specs.Knobs.{AreInRange}
 use Rattle.cfs_model.specs.Start.{start_machine}
 use Rattle.replay_laws.specs.Telling.{SayNothing}
 use Rattle.sched_record.specs.Record.{record_view}

@@ -7,7 +7,7 @@ use Rattle.ticket_book.proofs.remaking.sufficing_own_pages.Goals as goal
 pub gathered_pages-requires-clause-told : goal.gathered_pages-requires-clause-told
 gathered_pages-requires-clause-told c =
     let r = record_view c.args.joined.now in
-    let places = c.into_places.result.items in
-    subst (AreToldOwn c.args.knobs r places)
+    let slots = c.into_slots.result.items in
+    subst (AreToldOwn c.args.knobs r slots)
     (sym (c.deref.ensures.value ∙ c.in_ok-own.ensures.items_if_clones_equal (λ y is. is)))
-    (all_own c.args.knobs r places _ (subst (AreOwn c.args.knobs r) (sym c.into_places.ensures) c.requires.own))
+    (all_own c.args.knobs r slots _ (subst (AreOwn c.args.knobs r) (sym c.into_slots.ensures) c.requires.own))

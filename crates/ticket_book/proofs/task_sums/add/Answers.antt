@@ -7,26 +7,26 @@ use Rattle.ticket_book.proofs.task_sums.add.Goals as goal
 pub invariant_of-sums : goal.invariant_of-sums
 invariant_of-sums c =
     let sums = c.args.sums.now in
-    let place = c.in-Some.place in
+    let index = c.in-Some.index in
     let before = c.row_mut.result.now in
-    let f = c.place_of.ensures.found place c.in-Some.is in
+    let f = c.index_of.ensures.found index c.in-Some.is in
     record {
-      own = added_own sums.table sums.own c.place_of.ensures.apart c.args.tally place before c.add_to.new.sum f.0
+      own = added_own sums.table sums.own c.index_of.ensures.apart c.args.tally index before c.add_to.new.sum f.0
           (f.1 before)
           (c.add_to.ensures ∙ ap (with_tallies (c.args.tally ∷ []))
-          (sym (get_or_from_slice_get sums.table.rows place before before c.row_mut.ensures.value)));
+          (sym (get_or_from_slice_get sums.table.rows index before before c.row_mut.ensures.value)));
     }
 
 pub returns-in-Some : goal.returns-in-Some
 returns-in-Some c =
     let sums = c.args.sums.now in
-    let place = c.in-Some.place in
+    let index = c.in-Some.index in
     let before = c.row_mut.result.now in
-    let f = c.place_of.ensures.found place c.in-Some.is in
-    added_there sums.table sums.own c.place_of.ensures.apart c.args.tally place before c.add_to.new.sum f.0 (f.1 before)
+    let f = c.index_of.ensures.found index c.in-Some.is in
+    added_there sums.table sums.own c.index_of.ensures.apart c.args.tally index before c.add_to.new.sum f.0 (f.1 before)
     (c.add_to.ensures ∙ ap (with_tallies (c.args.tally ∷ []))
-    (sym (get_or_from_slice_get sums.table.rows place before before c.row_mut.ensures.value)))
+    (sym (get_or_from_slice_get sums.table.rows index before before c.row_mut.ensures.value)))
 
 pub returns-in_default : goal.returns-in_default
 returns-in_default c =
-    added_nowhere c.args.sums.now.table.rows c.args.tally (c.place_of.ensures.none c.in_default.is)
+    added_nowhere c.args.sums.now.table.rows c.args.tally (c.index_of.ensures.none c.in_default.is)

@@ -10,16 +10,16 @@ use Rattle.audit_crew.proofs.shared_book.SharedBook.post.Goals as goal
 
 pub invariant_of-self : goal.invariant_of-self
 invariant_of-self g c =
-    let places = book_view c.args.self.now.book in
+    let slots = book_view c.args.self.now.book in
     let page = c.args.page in
     record {
-      places =
-          ap length c.in-Ok.ensures.added ∙ length-set places page.stream.cpu (Some page) ∙ c.args.self.now.places;
+      slots =
+          ap length c.in-Ok.ensures.added ∙ length-set slots page.stream.cpu (Some page) ∙ c.args.self.now.slots;
       own =
           subst (AreOwn _ _) (sym c.in-Ok.ensures.added)
-          (own_put _ _ places page c.args.self.now.own c.requires.own c.in-Ok.ensures.refused);
+          (own_put _ _ slots page c.args.self.now.own c.requires.own c.in-Ok.ensures.refused);
       counted =
-          ap filled c.in-Ok.ensures.added ∙ one_page_more places page.stream.cpu page c.in-Ok.ensures.refused
+          ap filled c.in-Ok.ensures.added ∙ one_page_more slots page.stream.cpu page c.in-Ok.ensures.refused
           ∙ ap (λ n. n + 1) c.args.self.now.counted ∙ sym c.add.ensures.total;
     }
 
@@ -27,7 +27,7 @@ pub invariant_of-self-in-Err-1 : goal.invariant_of-self-in-Err-1
 invariant_of-self-in-Err-1 g c =
     let same = c.in-Err.ensures.unchanged in
     record {
-      places = ap (λ (book : Book). length (book_view book)) same ∙ c.args.self.now.places;
+      slots = ap (λ (book : Book). length (book_view book)) same ∙ c.args.self.now.slots;
       own = subst (λ (book : Book). AreOwn _ _ (book_view book)) (sym same) c.args.self.now.own;
       counted = ap (λ (book : Book). filled (book_view book)) same ∙ c.args.self.now.counted;
     }

@@ -9,7 +9,7 @@ invariant_of-self-2 c =
     let task = rw (← c.self.view_is) at c.requires.task in
     let idle = c.args.idle in
     let tasks = c.self.inside.tasks.items in
-    let named = start_named c.self.inside.idles.items idle tasks c.args.place c.index_mut.result.now order.policies_kept
+    let named = start_named c.self.inside.idles.items idle tasks c.args.index c.index_mut.result.now order.policies_kept
     order.pids_rise c.requires.start task c.index_mut.ensures.value in
     record {
       few = c.self.invariant.few;
@@ -21,6 +21,6 @@ pub returns : goal.returns
 returns c =
     let order = rw (← c.self.view_is) at c.requires.order in
     let task = rw (← c.self.view_is) at c.requires.task in
-    let named = start_named c.self.inside.idles.items c.args.idle c.self.inside.tasks.items c.args.place
+    let named = start_named c.self.inside.idles.items c.args.idle c.self.inside.tasks.items c.args.index
     c.index_mut.result.now order.policies_kept order.pids_rise c.requires.start task c.index_mut.ensures.value in
     rw (← c.self.view_is, c.in_ok-push.ensures.items, ← named) refl

@@ -30,13 +30,13 @@ returns-then-idle-ne-NO_LINE c =
     (λ e. c.if-idle-ne-NO_LINE.true (ap (λ (idle : IdleLine). idle.line) c.in-Some.ensures.0 ∙ e)))))
     (rw c.in-Some.ensures.0 at c.add_from_birth.ensures)
 
-pub returns-in_default-place_of : goal.returns-in_default-place_of
-returns-in_default-place_of c =
+pub returns-in_default-index_of : goal.returns-in_default-index_of
+returns-in_default-index_of c =
     fault_known c.args.self.now (idle_line (record { line = c.args.line; pid = c.args.pid }))
     (sym c.is_at_start.ensures ∙ c.if-not-is_at_start.false) (c.in-Some.ensures.1 0) refl refl refl
     (rw c.in-Some.ensures.0 at (sym c.may_be_idle.ensures ∙ c.if-not-may_be_idle.false))
     (none_known c.args.line _ (eq-eqb c.args.line no_line (sym (ap (λ (idle : IdleLine). idle.line) c.in-Some.ensures.0)
-    ∙ c.if-idle-ne-NO_LINE.false)) (rw c.in-Some.ensures.0 at c.in_default-place_of.ensures))
+    ∙ c.if-idle-ne-NO_LINE.false)) (rw c.in-Some.ensures.0 at c.in_default-index_of.ensures))
 
 pub returns : goal.returns
 returns c =
@@ -45,6 +45,6 @@ returns c =
     (no_fault c.args.self.now (idle_line (record { line = c.args.line; pid = c.args.pid }))
     (sym c.is_at_start.ensures ∙ c.if-not-is_at_start.false) (c.in-Some.ensures.1 0) refl refl refl
     (rw c.in-Some.ensures.0 at (sym c.may_be_idle.ensures ∙ c.if-not-may_be_idle.false))
-    (start_known c.args.line _ (is_there c.args.self.now.tasks c.args.pid c.in-Some-place_of.place
-    (rw c.in-Some.ensures.0 at c.in-Some-place_of.ensures))))
+    (start_known c.args.line _ (is_there c.args.self.now.tasks c.args.pid c.in-Some-index_of.index
+    (rw c.in-Some.ensures.0 at c.in-Some-index_of.ensures))))
     (rw c.in-Some.ensures.0 at c.add_from_start.ensures)

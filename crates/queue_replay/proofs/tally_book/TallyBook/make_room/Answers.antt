@@ -1,4 +1,4 @@
-use Rattle.queue_replay.proofs.Placed.{own_same}
+use Rattle.queue_replay.proofs.Indexed.{own_same}
 use Rattle.queue_replay.proofs.tally_book.TallyBook.make_room.Goals as goal
 
 pub invariant_of-self : goal.invariant_of-self

@@ -1,4 +1,4 @@
-use Rattle.queue_replay.proofs.Placed.{own_none}
+use Rattle.queue_replay.proofs.Indexed.{own_none}
 use Rattle.queue_replay.proofs.tally_book.TallyBook.new.Goals as goal
 
 pub invariant_of-result : goal.invariant_of-result

@@ -1,6 +1,6 @@
 use Rattle.std.proofs.Common.{◌∙◌, ap}
 use Rattle.replay_model.specs.Noted.{with_tally}
-use Rattle.queue_replay.proofs.Placed.{one_more_tally}
+use Rattle.queue_replay.proofs.Indexed.{one_more_tally}
 use Rattle.queue_replay.proofs.tally_book.TallyBook.of_tasks.Goals as goal
 
 pub loop-task-preserved : goal.loop-task-preserved

@@ -1,7 +1,7 @@
 use Rattle.std.proofs.Common.{◌≡◌, ℤ, true, refl, subst, rules, to_z, of_z, w64}
 use Rattle.std.specs.BTreeSet as set
-use Rattle.runqueue.specs.Standing.{by_runtime, waiting_task}
-use Rattle.runqueue.proofs.Standings.{no_runner, same_queue}
+use Rattle.runqueue.specs.Entities.{by_runtime, waiting_task}
+use Rattle.runqueue.proofs.EntitiesKept.{no_runner, same_queue}
 use Rattle.runqueue.proofs.Moved.{same_entries, same_waiting_keys}
 use Rattle.runqueue.proofs.Coming.{come_runs_alone, run_part_alone, come_rests, come_waits, come_part, come_undone}
 use Rattle.runqueue.proofs.runqueue.Runqueue.add.Goals as goal

@@ -1,7 +1,7 @@
 use Rattle.std.proofs.Common.{◌≡◌, ℕ, Some, sym, subst}
 use Rattle.cfs_model.specs.declared.task.Task.{Task}
 use Rattle.replay_model.specs.Part.{Part, charged_part}
-use Rattle.runqueue.specs.Standing.{IsQueue, standing}
+use Rattle.runqueue.specs.Entities.{IsQueue, entities}
 use Rattle.runqueue.specs.Tasks.{CanBeCharged, charged_task}
 use Rattle.runqueue.specs.Queue.{runqueue_view}
 use Rattle.replay_model.specs.QueueTests.{IsOutOfRange}
@@ -45,7 +45,7 @@ returns-in-Ok-clause-charged c =
     let after = c.in-Ok.after in
     let P : ℕ → Type 0 = λ d. after ≡ charged_task d t in
     let K : Task → Type 0 = λ u.
-    (let p : Part = record { tasks = standing (Some u) q.tasks; floor = q.floor; mark = c.args.time } in
+    (let p : Part = record { tasks = entities (Some u) q.tasks; floor = q.floor; mark = c.args.time } in
     p ≡ charged_part (runqueue_view q) c.args.time) in
     subst K (sym (subst P c.saturating_sub.ensures c.in-Ok.ensures.fits.1))
     (charged_is q.runner q.tasks q.waiting q.floor q.mark c.args.time q.kept t c.in-Some.is)

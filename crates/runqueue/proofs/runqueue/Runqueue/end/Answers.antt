@@ -1,7 +1,7 @@
 use Rattle.std.proofs.Common.{refl, Some, None}
 use Rattle.cfs_model.specs.declared.act.Way.TheVariants.{Ends}
 use Rattle.runqueue.proofs.Moved.{kept_runner, away_queue, runner_leaves}
-use Rattle.runqueue.proofs.Standings.{nobody_runs}
+use Rattle.runqueue.proofs.EntitiesKept.{nobody_runs}
 use Rattle.runqueue.proofs.runqueue.Runqueue.end.Goals as goal
 
 pub invariant_of-self : goal.invariant_of-self

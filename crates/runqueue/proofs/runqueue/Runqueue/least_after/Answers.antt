@@ -4,7 +4,7 @@ use Rattle.cfs_model.specs.declared.act.Way.TheVariants.{Stays, Sleeps, Ends}
 use Rattle.replay_model.specs.Deeds.{part_after_prev}
 use Rattle.runqueue.specs.Queue.{IsLeastIfWaiting, runqueue_view}
 use Rattle.runqueue.proofs.LeastAfter.{stays_least, leaves_least}
-use Rattle.runqueue.proofs.Standings.{the_runner}
+use Rattle.runqueue.proofs.EntitiesKept.{the_runner}
 use Rattle.runqueue.proofs.runqueue.Runqueue.least_after.Goals as goal
 
 pub returns-in-Stays : goal.returns-in-Stays

@@ -2,7 +2,7 @@ use Rattle.std.proofs.Common.{◌≡◌, ℤ, subst, sym, ap, ◌∙◌, rules, 
 use Rattle.std.specs.Int.{int_min}
 use Rattle.replay_model.specs.Part.{IsLeastHere}
 use Rattle.runqueue.specs.Queue.{runqueue_view, IsTheRunner, IsLeastIfWaiting}
-use Rattle.runqueue.proofs.Standings.{the_runner}
+use Rattle.runqueue.proofs.EntitiesKept.{the_runner}
 use Rattle.runqueue.proofs.Lifts.{least_with_runner, least_of_runner, least_without_runner}
 use Rattle.runqueue.proofs.runqueue.Runqueue.least_queued.Goals as goal
 

@@ -1,9 +1,9 @@
 use Rattle.std.proofs.Common.{◌≡◌, ℤ, true, subst, refl, rules, Some, to_z, of_z, w64, None}
 use Rattle.std.specs.BTreeSet as set
 use Rattle.cfs_model.specs.declared.act.Way.TheVariants.{Stays}
-use Rattle.runqueue.specs.Standing.{by_runtime, waiting_task}
+use Rattle.runqueue.specs.Entities.{by_runtime, waiting_task}
 use Rattle.runqueue.proofs.Moved.{runner_listed, kept_runner, back_queue, runner_leaves}
-use Rattle.runqueue.proofs.Standings.{nobody_runs}
+use Rattle.runqueue.proofs.EntitiesKept.{nobody_runs}
 use Rattle.runqueue.proofs.runqueue.Runqueue.put_back.Goals as goal
 
 pub write_over-requires : goal.write_over-requires

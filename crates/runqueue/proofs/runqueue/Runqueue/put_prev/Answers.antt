@@ -4,7 +4,7 @@ use Rattle.replay_model.specs.Deeds.{part_after_prev}
 use Rattle.replay_model.specs.QueueTests.{IsRunner}
 use Rattle.runqueue.specs.Queue.{runqueue_view}
 use Rattle.runqueue.proofs.Moved.{nobody_leaves}
-use Rattle.runqueue.proofs.Standings.{nobody_runs}
+use Rattle.runqueue.proofs.EntitiesKept.{nobody_runs}
 use Rattle.runqueue.proofs.runqueue.Runqueue.put_prev.Goals as goal
 
 pub returns-in_default-clause-part : goal.returns-in_default-clause-part

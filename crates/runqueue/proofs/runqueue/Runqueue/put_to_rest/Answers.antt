@@ -1,7 +1,7 @@
 use Rattle.std.proofs.Common.{refl, Some, None}
 use Rattle.cfs_model.specs.declared.act.Way.TheVariants.{Sleeps}
 use Rattle.runqueue.proofs.Moved.{runner_listed, kept_runner, away_queue, runner_leaves}
-use Rattle.runqueue.proofs.Standings.{nobody_runs}
+use Rattle.runqueue.proofs.EntitiesKept.{nobody_runs}
 use Rattle.runqueue.proofs.runqueue.Runqueue.put_to_rest.Goals as goal
 
 pub write_over-requires : goal.write_over-requires

@@ -1,7 +1,7 @@
 use Rattle.std.proofs.Common.{◌≡◌, ℤ, false, subst, sym, ◌∙◌, rules, to_z, of_z, w64}
 use Rattle.std.specs.BTreeSet as set
-use Rattle.runqueue.specs.Standing.{by_runtime, waiting_task}
-use Rattle.runqueue.proofs.Moved.{gone_queue, nowhere_queue, gone_standing}
+use Rattle.runqueue.specs.Entities.{by_runtime, waiting_task}
+use Rattle.runqueue.proofs.Moved.{gone_queue, nowhere_queue, gone_entities}
 use Rattle.runqueue.proofs.runqueue.Runqueue.remove.Goals as goal
 
 pub invariant_of-self : goal.invariant_of-self
@@ -29,11 +29,11 @@ invariant_of-self-in_default c =
 pub returns-in-Some : goal.returns-in-Some
 returns-in-Some c =
     let q = c.args.self.now in
-    gone_standing q.runner q.tasks c.remove.new.self q.waiting q.kept c.args.pid c.requires c.remove.ensures.updates
+    gone_entities q.runner q.tasks c.remove.new.self q.waiting q.kept c.args.pid c.requires c.remove.ensures.updates
     q.floor q.mark
 
 pub returns-in_default : goal.returns-in_default
 returns-in_default c =
     let q = c.args.self.now in
-    gone_standing q.runner q.tasks c.remove.new.self q.waiting q.kept c.args.pid c.requires c.remove.ensures.updates
+    gone_entities q.runner q.tasks c.remove.new.self q.waiting q.kept c.args.pid c.requires c.remove.ensures.updates
     q.floor q.mark

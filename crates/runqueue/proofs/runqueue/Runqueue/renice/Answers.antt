@@ -1,6 +1,6 @@
 use Rattle.std.proofs.Common.{Option, sym, ap, subst, ◌∙◌}
 use Rattle.cfs_model.specs.declared.task.Task.{Task}
-use Rattle.runqueue.specs.Standing.{IsQueue, standing}
+use Rattle.runqueue.specs.Entities.{IsQueue, entities}
 use Rattle.runqueue.specs.Queue.{runqueue_view}
 use Rattle.runqueue.proofs.Parts.{part_with}
 use Rattle.runqueue.proofs.Renices.{nobody_changed, nobody_listed, reniced_part, reniced_queue, stands_listed, written}
@@ -38,7 +38,7 @@ returns-clause-part c =
     let n = c.write_over.new.tasks in
     let pid = c.args.pid in
     let nice = c.args.nice in
-    ap (λ (r : Option Task). part_with (standing r c.write_over.new.tasks) c.args.self.now.floor c.args.self.now.mark)
+    ap (λ (r : Option Task). part_with (entities r c.write_over.new.tasks) c.args.self.now.floor c.args.self.now.mark)
     c.reniced_runner-self.ensures
     ∙ reniced_part q.tasks n pid nice (written q.tasks n pid nice c.in_ok-task.field-0.now
     (sym c.in_ok-task.ensures.value) c.write_over.ensures)

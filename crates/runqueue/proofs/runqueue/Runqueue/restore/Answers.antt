@@ -1,8 +1,8 @@
 use Rattle.std.proofs.Common.{◌≡◌, ◌∙◌, Option, rules, sym, subst, to_z, of_z, w64}
 use Rattle.cfs_model.specs.declared.task.Task.{Task}
-use Rattle.runqueue.specs.Standing.{IsQueue}
+use Rattle.runqueue.specs.Entities.{IsQueue}
 use Rattle.runqueue.proofs.Moved.{restored_part}
-use Rattle.runqueue.proofs.Standings.{same_queue}
+use Rattle.runqueue.proofs.EntitiesKept.{same_queue}
 use Rattle.runqueue.proofs.runqueue.Runqueue.restore.Goals as goal
 
 pub invariant_of-self : goal.invariant_of-self

@@ -1,4 +1,4 @@
-use Rattle.runqueue.proofs.Standings.{the_runner}
+use Rattle.runqueue.proofs.EntitiesKept.{the_runner}
 use Rattle.runqueue.proofs.runqueue.Runqueue.runner.Goals as goal
 
 pub returns : goal.returns

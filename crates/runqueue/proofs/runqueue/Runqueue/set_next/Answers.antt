@@ -5,10 +5,10 @@ use Rattle.cfs_model.specs.declared.task.Place.TheVariants.{Run}
 use Rattle.cfs_model.specs.declared.task.Task.{Task}
 use Rattle.replay_model.specs.AfterDeed.{part_after_next}
 use Rattle.replay_model.specs.Part.{Part}
-use Rattle.runqueue.specs.Standing.{by_runtime, standing, waiting_task}
+use Rattle.runqueue.specs.Entities.{by_runtime, entities, waiting_task}
 use Rattle.runqueue.specs.Tasks.{entity_of}
-use Rattle.runqueue.proofs.Moved.{kept_runner, next_standing, next_queue, no_next}
-use Rattle.runqueue.proofs.Standings.{no_runner}
+use Rattle.runqueue.proofs.Moved.{kept_runner, next_entities, next_queue, no_next}
+use Rattle.runqueue.proofs.EntitiesKept.{no_runner}
 use Rattle.runqueue.proofs.runqueue.Runqueue.set_next.Goals as goal
 
 pub invariant_of-self : goal.invariant_of-self
@@ -17,9 +17,9 @@ invariant_of-self c =
     let none = no_runner q.runner q.tasks q.waiting q.floor q.mark q.kept c.requires.nobody in
     let t = c.in-Some.task in
     let whole : to_z w64 (of_z w64 t.v) ≡ t.v = search rules in
-    let has : Some (entity_of t) ≡ standing None q.tasks c.args.next =
+    let has : Some (entity_of t) ≡ entities None q.tasks c.args.next =
     sym (ap (option_map entity_of) c.in-Some.is) ∙ c.requires.task c.if-next-eq-IDLE_PID.false
-    ∙ ap (λ (r : Option Task). standing r q.tasks c.args.next) none in
+    ∙ ap (λ (r : Option Task). entities r q.tasks c.args.next) none in
     record {
       kept = next_queue q.tasks q.waiting c.remove.new.self t _
           (kept_runner q.runner q.tasks q.waiting None q.kept none) (sym has)
@@ -32,13 +32,13 @@ returns-in-Some c =
     let q = c.args.self.now in
     let none = no_runner q.runner q.tasks q.waiting q.floor q.mark q.kept c.requires.nobody in
     let t = c.in-Some.task in
-    let has : Some (entity_of t) ≡ standing None q.tasks c.args.next =
+    let has : Some (entity_of t) ≡ entities None q.tasks c.args.next =
     sym (ap (option_map entity_of) c.in-Some.is) ∙ c.requires.task c.if-next-eq-IDLE_PID.false
-    ∙ ap (λ (r : Option Task). standing r q.tasks c.args.next) none in
-    next_standing q.tasks t (record {
+    ∙ ap (λ (r : Option Task). entities r q.tasks c.args.next) none in
+    next_entities q.tasks t (record {
       pid = c.args.next;
       nice = t.nice;
-      idle = t.idle;
+      policy = t.policy;
       cpu = t.cpu;
       place = Run;
       v =
@@ -46,16 +46,16 @@ returns-in-Some c =
     }) q.floor q.mark (sym has) c.if-next-eq-IDLE_PID.false
     refl
     ∙ ap (λ (r : Option Task). part_after_next
-    (record { tasks = standing r q.tasks; floor = q.floor; mark = q.mark }) c.args.next) (sym none)
+    (record { tasks = entities r q.tasks; floor = q.floor; mark = q.mark }) c.args.next) (sym none)
 
 pub returns-in_default : goal.returns-in_default
 returns-in_default c =
     let q = c.args.self.now in
     let none = no_runner q.runner q.tasks q.waiting q.floor q.mark q.kept c.requires.nobody in
-    let e : standing None q.tasks c.args.next ≡ None =
-    ap (λ (r : Option Task). standing r q.tasks c.args.next) (sym none)
+    let e : entities None q.tasks c.args.next ≡ None =
+    ap (λ (r : Option Task). entities r q.tasks c.args.next) (sym none)
     ∙ sym (c.requires.task c.if-next-eq-IDLE_PID.false) ∙ ap (option_map entity_of) c.in_default.is in
     let P : Option Task → Type 0 = λ r.
-    (let p : Part = record { tasks = standing r q.tasks; floor = q.floor; mark = q.mark } in
+    (let p : Part = record { tasks = entities r q.tasks; floor = q.floor; mark = q.mark } in
     p ≡ part_after_next p c.args.next) in
     subst P (sym none) (no_next q.tasks c.args.next q.floor q.mark e c.if-next-eq-IDLE_PID.false)

@@ -1,4 +1,4 @@
-use Rattle.runqueue.proofs.Standings.{waiting_in}
+use Rattle.runqueue.proofs.EntitiesKept.{waiting_in}
 use Rattle.runqueue.proofs.runqueue.Runqueue.waiting.Goals as goal
 
 pub returns : goal.returns

@@ -2,7 +2,7 @@ use Rattle.std.proofs.Common.{◌≡◌, ℤ, true, refl, subst, sym, ap, ◌∙
 use Rattle.std.specs.BTreeSet as set
 use Rattle.cfs_model.specs.declared.task.Place.TheVariants.{Wait}
 use Rattle.runqueue.specs.Queue.{runqueue_view}
-use Rattle.runqueue.specs.Standing.{by_runtime, standing, waiting_task}
+use Rattle.runqueue.specs.Entities.{by_runtime, entities, waiting_task}
 use Rattle.runqueue.specs.Tasks.{entity_of}
 use Rattle.runqueue.proofs.Moved.{nobody_woken, not_woken, wake_has, woken_queue, woken_part}
 use Rattle.runqueue.proofs.runqueue.Runqueue.wake.Goals as goal
@@ -16,7 +16,7 @@ pub returns-in-Run : goal.returns-in-Run
 returns-in-Run c =
     let q = c.args.self.now in
     let t = c.in-Some.task in
-    let e : Some (entity_of t) ≡ standing q.runner q.tasks c.args.pid = ap (option_map entity_of) (sym c.in-Some.is)
+    let e : Some (entity_of t) ≡ entities q.runner q.tasks c.args.pid = ap (option_map entity_of) (sym c.in-Some.is)
     ∙ c.requires in
     record {
       part = not_woken (runqueue_view q) c.args.pid c.args.claim (entity_of t) (sym e) (search rules);
@@ -28,7 +28,7 @@ pub write_over-requires : goal.write_over-requires
 write_over-requires c =
     let q = c.args.self.now in
     let t = c.in-Some.task in
-    let e : Some (entity_of t) ≡ standing q.runner q.tasks c.args.pid = ap (option_map entity_of) (sym c.in-Some.is)
+    let e : Some (entity_of t) ≡ entities q.runner q.tasks c.args.pid = ap (option_map entity_of) (sym c.in-Some.is)
     ∙ c.requires in
     wake_has q.runner q.tasks q.tasks q.waiting q.kept c.args.pid t e c.in-Rest.is
 
@@ -37,13 +37,14 @@ invariant_of-self-in-Rest c =
     let q = c.args.self.now in
     let t = c.in-Some.task in
     let v = c.args.claim.v in
-    let e : Some (entity_of t) ≡ standing q.runner q.tasks c.args.pid = ap (option_map entity_of) (sym c.in-Some.is)
+    let e : Some (entity_of t) ≡ entities q.runner q.tasks c.args.pid = ap (option_map entity_of) (sym c.in-Some.is)
     ∙ c.requires in
     let whole : to_z w64 (of_z w64 v) ≡ v = search rules in
     record {
       kept = woken_queue q.runner q.tasks c.write_over.new.tasks q.waiting q.kept c.args.pid t e c.in-Rest.is _
           c.write_over.ensures v
-          (ap (λ (x : ℤ). record { place = Wait; nice = t.nice; idle = t.idle; runtime = x }) whole) c.insert.new.self
+          (ap (λ (x : ℤ). record { place = Wait; nice = t.nice; policy = t.policy; runtime = x }) whole)
+          c.insert.new.self
           (subst (λ (x : ℤ). set.Updates by_runtime q.waiting c.insert.new.self (waiting_task x c.args.pid) true) whole
           c.in_ok-insert-in-Rest.ensures.updates);
     }
@@ -53,10 +54,10 @@ returns-in_ok-insert-in-Rest-clause-part c =
     let q = c.args.self.now in
     let t = c.in-Some.task in
     let v = c.args.claim.v in
-    let e : Some (entity_of t) ≡ standing q.runner q.tasks c.args.pid = ap (option_map entity_of) (sym c.in-Some.is)
+    let e : Some (entity_of t) ≡ entities q.runner q.tasks c.args.pid = ap (option_map entity_of) (sym c.in-Some.is)
     ∙ c.requires in
     let whole : to_z w64 (of_z w64 v) ≡ v = search rules in
     woken_part q.runner q.tasks c.write_over.new.tasks q.waiting q.kept c.args.pid t e c.in-Rest.is _
     c.write_over.ensures v
-    (ap (λ (x : ℤ). record { place = Wait; nice = t.nice; idle = t.idle; runtime = x }) whole) q.floor q.mark
+    (ap (λ (x : ℤ). record { place = Wait; nice = t.nice; policy = t.policy; runtime = x }) whole) q.floor q.mark
     c.args.claim refl

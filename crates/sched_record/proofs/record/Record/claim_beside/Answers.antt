@@ -1,11 +1,11 @@
 use Rattle.sched_record.specs.Record.{record_view}
-use Rattle.sched_record.proofs.Beside.{next_place}
+use Rattle.sched_record.proofs.Beside.{next_index}
 use Rattle.sched_record.proofs.record.Record.claim_beside.Goals as goal
 
 pub returns-clause-next : goal.returns-clause-next
 returns-clause-next c =
-    next_place _ _ (record_view c.args.self.now).claims (record_view c.args.self.now).events c.events.result.now
+    next_index _ _ (record_view c.args.self.now).claims (record_view c.args.self.now).events c.events.result.now
     c.claims-claims.result.now c.args.event
     c.args.from _ c.index-events-event.result c.args.self.now.in_order.events.lines_rise c.events.ensures
     c.claims-claims.ensures c.requires.event
-    c.requires.from c.place_from-place.ensures.within.1 c.place_from-place.ensures.below
+    c.requires.from c.index_from-index.ensures.within.1 c.index_from-index.ensures.below

@@ -2,8 +2,8 @@ use Rattle.std.proofs.Common.{w64, rules, sym, subst}
 use Rattle.std.proofs.lemmas.Int.{to_z-of_z}
 use mir.Val.{SFits}
 use Rattle.sched_record.specs.Record.{record_view}
-use Rattle.sched_record.specs.Share.{IsShare}
-use Rattle.sched_record.proofs.Shares.{cut_is, share_of_record}
+use Rattle.sched_record.specs.StreamKept.{IsStream}
+use Rattle.sched_record.proofs.StreamsKept.{cut_is, stream_of_record}
 use Rattle.sched_record.proofs.record.Record.deal.Goals as goal
 
 pub invariant_of-result : goal.invariant_of-result
@@ -15,8 +15,8 @@ invariant_of-result c =
     c.start.ensures
     c.in_ok-steps.ensures c.last_time.ensures c.last_line.ensures in
     rw to_z-of_z (record {
-      share = subst IsShare (sym is_cut)
-          (share_of_record r c.args.cpu c.args.self.now.in_order c.requires);
+      kept = subst IsStream (sym is_cut)
+          (stream_of_record r c.args.cpu c.args.self.now.in_order c.requires);
     })
 
 pub returns : goal.returns

@@ -26,7 +26,7 @@ joined_in_order events companion kept in_order together = record {
 
 pub invariant_of-result : goal.invariant_of-result
 invariant_of-result c = record {
-  in_order = subst (λ companion. IsRecordInOrder (joined_record c.mark.new.self.events companion))
+  in_order = subst (λ companion. IsRecordInOrder (joined_record c.set_hints.new.self.events companion))
       (sym c.end_spans.ensures.others)
       (subst (λ events. IsRecordInOrder (joined_record events (companion_view c.args.companion))) (sym c.mark.ensures)
       (joined_in_order c.args.trace.events (companion_view c.args.companion) c.args.companion.in_order

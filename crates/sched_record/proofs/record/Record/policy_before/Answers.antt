@@ -2,7 +2,7 @@ use Rattle.std.proofs.Common.{◌≡◌, ℕ, ◌<◌, ◌||◌, List, Bool, fal
 use Rattle.std.proofs.lemmas.Bool.{eq-eqb, ne_eqb}
 use Rattle.std.proofs.lemmas.List.{get_or_default}
 use Rattle.cfs_model.specs.Claimed.{policies_before}
-use Rattle.cfs_model.specs.Start.{starts_idle}
+use Rattle.cfs_model.specs.Start.{policies_at_start}
 use Rattle.companion_file.specs.declared.idle_span.IdleSpan.{IdleSpan}
 use Rattle.sched_record.specs.Policies.{IsLastBefore, NoneBefore}
 use Rattle.sched_record.specs.Record.{record_view}
@@ -17,26 +17,28 @@ no_span = record { pid = 0; from = 0; until = 0 }
 abbrev is_idle : Record → ℕ → ℕ → Bool
 is_idle record_here line pid =
     let r = record_view record_here in
-    policies_before r.idles (starts_idle r.tasks) r.events line pid
+    policies_before r.idles (policies_at_start r.tasks) r.events line pid
 
 -- a record's spans tell it
-told_by_span : (r : Record) (spans : List IdleSpan) (line pid place : ℕ) → spans ≡ r.companion.spans → 0 < line
-    → IsLastBefore spans line pid place
-    → is_idle r line pid ≡ (eqb (get_or spans place no_span).until 0 || leb line (get_or spans place no_span).until)
-told_by_span r spans line pid place same some last =
-    idle_before r.companion.idles r.companion.spans (starts_idle r.companion.tasks) (record_view r).events line pid
-    place (get_or spans place no_span)
+told_by_span : (r : Record) (spans : List IdleSpan) (line pid index : ℕ) → spans ≡ r.companion.spans → 0 < line
+    → IsLastBefore spans line pid index
+    → is_idle r line pid ≡ (eqb (get_or spans index no_span).until 0 || leb line (get_or spans index no_span).until)
+told_by_span r spans line pid index same some last =
+    idle_before r.companion.idles r.companion.spans (policies_at_start r.companion.tasks) (record_view r).events line
+    pid
+    index (get_or spans index no_span)
     r.in_order.events.lines_rise r.in_order.events.from_one r.companion.spans_told r.in_order.born r.spans_end
     (sym (r.in_order.companion.policies_told pid)) some
-    (subst (λ ss. IsLastBefore ss line pid place) same last)
-    (get_or_default spans place no_span (get_or spans place no_span) last.within
-    ∙ ap (λ ss. get_or ss place (get_or spans place no_span)) same)
+    (subst (λ ss. IsLastBefore ss line pid index) same last)
+    (get_or_default spans index no_span (get_or spans index no_span) last.within
+    ∙ ap (λ ss. get_or ss index (get_or spans index no_span)) same)
 
 told_by_none : (r : Record) (spans : List IdleSpan) (line pid : ℕ) → spans ≡ r.companion.spans → 0 < line
     → NoneBefore spans line pid
     → is_idle r line pid ≡ false
 told_by_none r spans line pid same some none =
-    not_idle_before r.companion.idles r.companion.spans (starts_idle r.companion.tasks) (record_view r).events line pid
+    not_idle_before r.companion.idles r.companion.spans (policies_at_start r.companion.tasks) (record_view r).events
+    line pid
     r.companion.spans_told
     (sym (r.in_order.companion.policies_told pid)) some (subst (λ ss. NoneBefore ss line pid) same none)
 
@@ -51,17 +53,17 @@ ending until line idle some is = sym (is ∙ ap (λ b. b || leb line until)
 pub returns-then-until-eq-NO_LINE : goal.returns-then-until-eq-NO_LINE
 returns-then-until-eq-NO_LINE c =
     let spans = c.spans-spans.result.now in
-    endless (get_or spans c.in-Some.place no_span).until c.args.line (is_idle c.args.self.now c.args.line c.args.pid)
+    endless (get_or spans c.in-Some.index no_span).until c.args.line (is_idle c.args.self.now c.args.line c.args.pid)
     (omega (arith, c.if-until-eq-NO_LINE.true))
-    (told_by_span c.args.self.now spans c.args.line c.args.pid c.in-Some.place c.spans-spans.ensures c.requires
+    (told_by_span c.args.self.now spans c.args.line c.args.pid c.in-Some.index c.spans-spans.ensures c.requires
     c.in-Some.ensures.found)
 
 pub returns-else-until-eq-NO_LINE : goal.returns-else-until-eq-NO_LINE
 returns-else-until-eq-NO_LINE c =
     let spans = c.spans-spans.result.now in
-    ending (get_or spans c.in-Some.place no_span).until c.args.line (is_idle c.args.self.now c.args.line c.args.pid)
+    ending (get_or spans c.in-Some.index no_span).until c.args.line (is_idle c.args.self.now c.args.line c.args.pid)
     (omega (arith, c.if-until-eq-NO_LINE.false))
-    (told_by_span c.args.self.now spans c.args.line c.args.pid c.in-Some.place c.spans-spans.ensures c.requires
+    (told_by_span c.args.self.now spans c.args.line c.args.pid c.in-Some.index c.spans-spans.ensures c.requires
     c.in-Some.ensures.found)
 
 pub returns-in-None : goal.returns-in-None

@@ -11,10 +11,10 @@ use Rattle.sched_record.specs.RecordView.{policy_of}
 use Rattle.sched_record.specs.Record.{record_view}
 use Rattle.sched_record.specs.Seen.{trace_view}
 use Rattle.sched_record.specs.declared.trace.Trace.{Trace}
-use Rattle.sched_record.specs.Places.{places_touching, touches_cpu}
+use Rattle.sched_record.specs.Indices.{indices_touching, touches_cpu}
 use Rattle.sched_record.proofs.Dealt.{dealt_more}
 use Rattle.sched_record.proofs.Pairs.{pairs_filter}
-use Rattle.sched_record.proofs.Placing.{count_touching, next_touching, places_within, step_of, steps_are, touching}
+use Rattle.sched_record.proofs.Indexing.{count_touching, next_touching, indices_within, step_of, steps_are, touching}
 use Rattle.sched_record.proofs.Walk.{above_here, passed_more}
 use Rattle.sched_record.proofs.record.Record.steps_of.Goals as goal
 
@@ -34,99 +34,100 @@ touching_rise cpu events all same rise =
     pairs_filter (λ a b. a.line < b.line) (λ event. touches_cpu cpu event.act) events
     (subst (λ es. AllPairs (λ a b. a.line < b.line) es) (sym same) rise)
 
--- the places are those of the events at hand
-placed_here : (cpu : ℕ) (events all : List Entry) (places : List ℕ) → events ≡ all → places ≡ places_touching cpu all
-    → places ≡ places_touching cpu events
-placed_here cpu events all places same placed = placed ∙ ap (places_touching cpu) (sym same)
+-- the indices are those of the events at hand
+indexed_here : (cpu : ℕ) (events all : List Entry) (indices : List ℕ) → events ≡ all → indices
+    ≡ indices_touching cpu all
+    → indices ≡ indices_touching cpu events
+indexed_here cpu events all indices same indexed = indexed ∙ ap (indices_touching cpu) (sym same)
 
--- each is a place among the events
-place_below : (cpu : ℕ) (events : List Entry) (places : List ℕ) (i : ℕ) → places ≡ places_touching cpu events
-    → i < length places → get_or places i 0 < length events
-place_below cpu events places i is h =
+-- each is an index among the events
+index_below : (cpu : ℕ) (events : List Entry) (indices : List ℕ) (i : ℕ) → indices ≡ indices_touching cpu events
+    → i < length indices → get_or indices i 0 < length events
+index_below cpu events indices i is h =
     let size = ap length is in
-    let within = places_within cpu events i 0 (omega (arith, size, h)) in
+    let within = indices_within cpu events i 0 (omega (arith, size, h)) in
     let same = ap (λ (ps : List ℕ). get_or ps i 0) is in
     omega (arith, within, same)
 
-pub bounds-events-place : goal.bounds-events-place
-bounds-events-place c =
-    place_below c.args.cpu c.events-events.result.now c.places-places.result.now c.loop-place.place-index
-    (placed_here c.args.cpu c.events-events.result.now _ c.places-places.result.now c.events-events.ensures
-    (c.places-places.ensures ∙ ap (λ (trace : Trace). places_touching c.args.cpu (trace_view trace))
+pub bounds-events-index : goal.bounds-events-index
+bounds-events-index c =
+    index_below c.args.cpu c.events-events.result.now c.indices-indices.result.now c.loop-index.index-index
+    (indexed_here c.args.cpu c.events-events.result.now _ c.indices-indices.result.now c.events-events.ensures
+    (c.indices-indices.ensures ∙ ap (λ (trace : Trace). indices_touching c.args.cpu (trace_view trace))
     c.trace-trace.ensures))
-    c.loop-place-test.true
+    c.loop-index-test.true
 
 pub policy_of-idle-requires : goal.policy_of-idle-requires
 policy_of-idle-requires c =
     let r = record_view c.args.self.now in
-    let place = get_or c.places-places.result.now c.loop-place.place-index 0 in
-    let event = c.index-events-place.result in
-    let at = ap (λ (e : Entry). e.line) (c.index-events-place.is
-    ∙ ap (λ es. get_or es place event) c.events-events.ensures) in
-    let within = place_below c.args.cpu r.events c.places-places.result.now c.loop-place.place-index
-    (c.places-places.ensures ∙ ap (λ (trace : Trace). places_touching c.args.cpu (trace_view trace))
+    let index = get_or c.indices-indices.result.now c.loop-index.index-index 0 in
+    let event = c.index-events-index.result in
+    let at = ap (λ (e : Entry). e.line) (c.index-events-index.is
+    ∙ ap (λ es. get_or es index event) c.events-events.ensures) in
+    let within = index_below c.args.cpu r.events c.indices-indices.result.now c.loop-index.index-index
+    (c.indices-indices.ensures ∙ ap (λ (trace : Trace). indices_touching c.args.cpu (trace_view trace))
     c.trace-trace.ensures)
-    c.loop-place-test.true in
-    let above = c.args.self.now.in_order.events.from_one place event within in
+    c.loop-index-test.true in
+    let above = c.args.self.now.in_order.events.from_one index event within in
     omega (arith, at, above)
 
 pub item_on-claimed-requires-clause-above : goal.item_on-claimed-requires-clause-above
 item_on-claimed-requires-clause-above c =
     let events = c.events-events.result.now in
-    let i = c.loop-place.place-index in
-    let event = c.index-events-place.result in
-    let is = placed_here c.args.cpu events _ c.places-places.result.now c.events-events.ensures
-    (c.places-places.ensures ∙ ap (λ (trace : Trace). places_touching c.args.cpu (trace_view trace))
+    let i = c.loop-index.index-index in
+    let event = c.index-events-index.result in
+    let is = indexed_here c.args.cpu events _ c.indices-indices.result.now c.events-events.ensures
+    (c.indices-indices.ensures ∙ ap (λ (trace : Trace). indices_touching c.args.cpu (trace_view trace))
     c.trace-trace.ensures) in
-    let here = next_touching c.args.cpu events c.places-places.result.now i event is c.loop-place-test.true
-    c.index-events-place.is in
+    let here = next_touching c.args.cpu events c.indices-indices.result.now i event is c.loop-index-test.true
+    c.index-events-index.is in
     above_here line_of_claim line_of_event c.claims-claims.result.now (touching c.args.cpu events)
-    c.loop-place.claims_from c.place_near-claims_from.result i event.line
-    event (ap line_of_event here.1) here.0 c.loop-place.invariant.claims_passed c.place_near-claims_from.ensures.below
+    c.loop-index.claims_from c.index_near-claims_from.result i event.line
+    event (ap line_of_event here.1) here.0 c.loop-index.invariant.claims_passed c.index_near-claims_from.ensures.below
 
 pub item_on-change-requires-clause-above : goal.item_on-change-requires-clause-above
 item_on-change-requires-clause-above c =
     let events = c.events-events.result.now in
-    let i = c.loop-place.place-index in
-    let event = c.index-events-place.result in
-    let is = placed_here c.args.cpu events _ c.places-places.result.now c.events-events.ensures
-    (c.places-places.ensures ∙ ap (λ (trace : Trace). places_touching c.args.cpu (trace_view trace))
+    let i = c.loop-index.index-index in
+    let event = c.index-events-index.result in
+    let is = indexed_here c.args.cpu events _ c.indices-indices.result.now c.events-events.ensures
+    (c.indices-indices.ensures ∙ ap (λ (trace : Trace). indices_touching c.args.cpu (trace_view trace))
     c.trace-trace.ensures) in
-    let here = next_touching c.args.cpu events c.places-places.result.now i event is c.loop-place-test.true
-    c.index-events-place.is in
-    above_here line_of_nice line_of_event c.nices-nices.result.now (touching c.args.cpu events) c.loop-place.nices_from
-    c.place_near-nices_from.result i event.line
-    event (ap line_of_event here.1) here.0 c.loop-place.invariant.nices_passed c.place_near-nices_from.ensures.below
+    let here = next_touching c.args.cpu events c.indices-indices.result.now i event is c.loop-index-test.true
+    c.index-events-index.is in
+    above_here line_of_nice line_of_event c.nices-nices.result.now (touching c.args.cpu events) c.loop-index.nices_from
+    c.index_near-nices_from.result i event.line
+    event (ap line_of_event here.1) here.0 c.loop-index.invariant.nices_passed c.index_near-nices_from.ensures.below
 
-pub loop-place-preserved : goal.loop-place-preserved
-loop-place-preserved c =
+pub loop-index-preserved : goal.loop-index-preserved
+loop-index-preserved c =
     let r = record_view c.args.self.now in
     let events = c.events-events.result.now in
-    let i = c.loop-place.place-index in
-    let event = c.index-events-place.result in
+    let i = c.loop-index.index-index in
+    let event = c.index-events-index.result in
     let there = touching c.args.cpu events in
-    let is = placed_here c.args.cpu events _ c.places-places.result.now c.events-events.ensures
-    (c.places-places.ensures ∙ ap (λ (trace : Trace). places_touching c.args.cpu (trace_view trace))
+    let is = indexed_here c.args.cpu events _ c.indices-indices.result.now c.events-events.ensures
+    (c.indices-indices.ensures ∙ ap (λ (trace : Trace). indices_touching c.args.cpu (trace_view trace))
     c.trace-trace.ensures) in
-    let here = next_touching c.args.cpu events c.places-places.result.now i event is c.loop-place-test.true
-    c.index-events-place.is in
+    let here = next_touching c.args.cpu events c.indices-indices.result.now i event is c.loop-index-test.true
+    c.index-events-index.is in
     let rise = touching_rise c.args.cpu events _ c.events-events.ensures c.args.self.now.in_order.events.lines_rise in
     record {
-      claims_within = c.place_near-claims_from.ensures.within.1;
-      claims_passed = passed_more line_of_claim line_of_event c.claims-claims.result.now there c.loop-place.claims_from
-          c.place_near-claims_from.result i event.line event
-          rise (ap line_of_event here.1) here.0 c.loop-place.invariant.claims_passed
-          c.place_near-claims_from.ensures.below;
-      nices_within = c.place_near-nices_from.ensures.within.1;
-      nices_passed = passed_more line_of_nice line_of_event c.nices-nices.result.now there c.loop-place.nices_from
-          c.place_near-nices_from.result i event.line event
-          rise (ap line_of_event here.1) here.0 c.loop-place.invariant.nices_passed
-          c.place_near-nices_from.ensures.below;
+      claims_within = c.index_near-claims_from.ensures.within.1;
+      claims_passed = passed_more line_of_claim line_of_event c.claims-claims.result.now there c.loop-index.claims_from
+          c.index_near-claims_from.result i event.line event
+          rise (ap line_of_event here.1) here.0 c.loop-index.invariant.claims_passed
+          c.index_near-claims_from.ensures.below;
+      nices_within = c.index_near-nices_from.ensures.within.1;
+      nices_passed = passed_more line_of_nice line_of_event c.nices-nices.result.now there c.loop-index.nices_from
+          c.index_near-nices_from.result i event.line event
+          rise (ap line_of_event here.1) here.0 c.loop-index.invariant.nices_passed
+          c.index_near-nices_from.ensures.below;
       dealt =
           rw c.in_ok-push.ensures.items
           (dealt_more c.args.cpu c.claims-claims.result.now c.nices-nices.result.now (policy_of r) events i event
-          c.loop-place.steps.items _ _ _ _ _ here.0 here.1
-          c.loop-place.invariant.dealt (c.deed_at-deed.ensures
+          c.loop-index.steps.items _ _ _ _ _ here.0 here.1
+          c.loop-index.invariant.dealt (c.deed_at-deed.ensures
           ∙ ap (λ b. deed_at c.args.cpu b event.act) c.policy_of-idle.ensures) c.item_on-claimed.ensures
           c.claim_for-claim.ensures
           c.item_on-change.ensures c.nice_for-nice.ensures);
@@ -137,13 +138,13 @@ returns c =
     let r = record_view c.args.self.now in
     let events = c.events-events.result.now in
     let there = touching c.args.cpu events in
-    let is = placed_here c.args.cpu events _ c.places-places.result.now c.events-events.ensures
-    (c.places-places.ensures ∙ ap (λ (trace : Trace). places_touching c.args.cpu (trace_view trace))
+    let is = indexed_here c.args.cpu events _ c.indices-indices.result.now c.events-events.ensures
+    (c.indices-indices.ensures ∙ ap (λ (trace : Trace). indices_touching c.args.cpu (trace_view trace))
     c.trace-trace.ensures) in
-    let all = count_touching c.args.cpu events c.places-places.result.now is in
-    c.from_vec.ensures ∙ c.loop-place.invariant.dealt
+    let all = count_touching c.args.cpu events c.indices-indices.result.now is in
+    c.from_vec.ensures ∙ c.loop-index.invariant.dealt
     ∙ ap (map (step_of c.args.cpu c.claims-claims.result.now c.nices-nices.result.now (policy_of r)))
-    (take_all c.loop-place.place-index there (omega (arith, all)))
+    (take_all c.loop-index.index-index there (omega (arith, all)))
     ∙ sym (steps_are c.args.cpu c.claims-claims.result.now c.nices-nices.result.now (policy_of r) events)
     ∙ ap (λ es. steps_at c.args.cpu (claimed c.claims-claims.result.now c.nices-nices.result.now (policy_of r) es))
     c.events-events.ensures

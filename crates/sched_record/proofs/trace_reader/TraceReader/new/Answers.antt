@@ -1,6 +1,6 @@
 use Rattle.std.proofs.Common.{arith}
 use Rattle.sched_record.proofs.Order.{none_kept}
-use Rattle.sched_record.proofs.Placing.{none_placed}
+use Rattle.sched_record.proofs.Indexing.{none_indexed}
 use Rattle.sched_record.proofs.trace_reader.TraceReader.new.Goals as goal
 
 pub invariant_of-result : goal.invariant_of-result
@@ -9,5 +9,5 @@ invariant_of-result c =
       few = omega arith;
       kept = none_kept;
       counted = omega arith;
-      placed = none_placed;
+      indexed = none_indexed;
     })

@@ -3,7 +3,7 @@ use Rattle.std.proofs.Common.{rules, length, sym, ap, ◌∙◌, arith}
 use Rattle.std.proofs.lemmas.List.{length_push}
 use Rattle.sched_record.proofs.Lines.{passes_over, adds, turns_back}
 use Rattle.sched_record.proofs.Order.{keeps_event}
-use Rattle.sched_record.proofs.Placing.{placed_more}
+use Rattle.sched_record.proofs.Indexing.{indexed_more}
 use Rattle.sched_record.proofs.Reader.{where_none, as_none, as_told}
 use Rattle.sched_record.proofs.trace_reader.TraceReader.take_line.Goals as goal
 
@@ -20,9 +20,9 @@ invariant_of-self-else-time-self c =
         ap length c.reserve.ensures.items,
         length_push c.reserve.new.self.items c.in-Ok-Some.entry,
       );
-      placed = rw c.in_ok-push-in-Ok-Some.ensures.items
-          (placed_more c.reserve.new.self.items before.places c.add.new.self c.in-Ok-Some.entry _
-          (rw c.reserve.ensures.items before.placed) (search rules)
+      indexed = rw c.in_ok-push-in-Ok-Some.ensures.items
+          (indexed_more c.reserve.new.self.items before.indices c.add.new.self c.in-Ok-Some.entry _
+          (rw c.reserve.ensures.items before.indexed) (search rules)
           c.in_ok-add-in-Ok-Some.ensures.added);
       kept = rw (c.in_ok-push-in-Ok-Some.ensures.items, c.reserve.ensures.items)
           (keeps_event before.entries.items before.count before.last c.args.line.now c.in-Ok-Some.entry before.kept says

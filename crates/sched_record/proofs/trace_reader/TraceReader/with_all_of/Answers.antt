@@ -1,7 +1,7 @@
 use Rattle.std.proofs.Common.{rules}
 use Rattle.sched_record.specs.ReadLines.{shifted}
 use Rattle.sched_record.proofs.Following.{all_shifted, count_shifted, kept_append, more_shifted, read_append}
-use Rattle.sched_record.proofs.Placing.{placed_more}
+use Rattle.sched_record.proofs.Indexing.{indexed_more}
 use Rattle.sched_record.proofs.Reader.{where_none}
 use Rattle.sched_record.proofs.Rising.{started_from}
 use Rattle.sched_record.proofs.trace_reader.TraceReader.with_all_of.Goals as goal
@@ -14,9 +14,10 @@ loop-event-preserved c =
           (more_shifted c.args.self.count c.reserve.new.self.items c.loop-event.entries.items c.args.later.entries.items
           _ c.loop-event.event-index event
           c.as_slice-event-items.ensures.value c.loop-event-test.true c.event-item.is c.loop-event.invariant.added);
-      placed = rw c.in_ok-push.ensures.items
-          (placed_more c.loop-event.entries.items c.loop-event.places c.add.new.self (shifted c.args.self.count event) _
-          c.loop-event.invariant.placed (search rules)
+      indexed = rw c.in_ok-push.ensures.items
+          (indexed_more c.loop-event.entries.items c.loop-event.indices c.add.new.self (shifted c.args.self.count
+          event) _
+          c.loop-event.invariant.indexed (search rules)
           c.in_ok-add.ensures.added);
     }
 
@@ -34,7 +35,7 @@ invariant_of-result c =
           later.entries.items self.kept later.kept after);
       counted = rw all (count_shifted self.count later.count self.entries.items later.entries.items self.counted
           later.counted);
-      placed = c.loop-event.invariant.placed;
+      indexed = c.loop-event.invariant.indexed;
     }
 
 pub returns : goal.returns

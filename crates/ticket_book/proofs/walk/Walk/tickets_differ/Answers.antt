@@ -4,9 +4,9 @@ use Rattle.std.specs.List.{AllPairs}
 use Rattle.std.specs.Bool.{OnFalse, OnTrue}
 use Rattle.replay_model.specs.Tickets.{ticket_at}
 use Rattle.replay_model.specs.declared.page.Ticket.{Ticket}
-use Rattle.ticket_book.specs.TicketPlaces.{AreBelow, PassesTo}
+use Rattle.ticket_book.specs.TicketIndices.{AreBelow, PassesTo}
 use Rattle.ticket_book.specs.Told.{view_at}
-use Rattle.ticket_book.proofs.Standing.{one_moved}
+use Rattle.ticket_book.proofs.WalkKept.{one_moved}
 use Rattle.ticket_book.proofs.Views.{view_here}
 use Rattle.ticket_book.proofs.walk.Walk.tickets_differ.Goals as goal
 

@@ -1,0 +1,15 @@
+use Rattle.std.proofs.Common.{◌<◌, ◌∙◌, IfSome, length, subst, sym}
+use Rattle.queue_replay.proofs.Indexed.{own_there, own_nowhere}
+use Rattle.queue_replay.proofs.tally_book.TallyBook.index_of.Goals as goal
+
+pub returns-clause-found : goal.returns-clause-found
+returns-clause-found c index is =
+    let book = c.args.self.now in
+    let e = c.index_of.ensures in
+    let within = subst (λ r. IfSome r (λ p. p < length book.table.rows)) is e.within in
+    (within, λ d. own_there book.table book.own c.args.pid index d (sym e.index ∙ is) within)
+
+pub returns-clause-none : goal.returns-clause-none
+returns-clause-none c is =
+    let book = c.args.self.now in
+    own_nowhere book.table book.own c.args.pid (sym c.index_of.ensures.index ∙ is)

@@ -22,6 +22,9 @@ pub record Machine : Type 0 where
   pub nice : ℕ → Option ℤ
   -- who is of the idle policy, as told at the start or at a task's birth; of a pid without a task it says nothing
   pub policy : ℕ → Bool
+  -- by how much the told charges of each task stray in sum from exact ones since it came to its processor, in virtual
+  -- nanoseconds; of a pid without a task it says nothing
+  pub drift : ℕ → ℤ
   -- the floor of each processor's runqueue, in virtual nanoseconds
   pub floor : ℕ → ℤ
   -- the time of the last charge at each processor, in nanoseconds
@@ -83,6 +86,10 @@ with_runtime m pid v = record m { runtime = put m.runtime pid (Some v) }
 -- the pid has this nice value
 abbrev pub with_nice : Machine → ℕ → ℤ → Machine
 with_nice m pid nice = record m { nice = put m.nice pid (Some nice) }
+
+-- the pid has this drift
+abbrev pub with_drift : Machine → ℕ → ℤ → Machine
+with_drift m pid drift = record m { drift = put m.drift pid drift }
 
 -- the pid is of the idle policy, or not
 abbrev pub with_policy : Machine → ℕ → Bool → Machine

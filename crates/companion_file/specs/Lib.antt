@@ -4,6 +4,7 @@ pub mod Draft
 pub mod Earlier
 pub mod ShapeReading
 pub mod Piecewise
+pub mod Reading
 pub mod Order
 pub mod Shape
 pub mod Spans

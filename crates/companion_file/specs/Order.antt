@@ -12,6 +12,7 @@ use Rattle.cfs_model.specs.Order.{RunApart}
 use Rattle.cfs_model.specs.Claimed.{is_named_idle}
 use Rattle.cfs_model.specs.Start.{policies_at_start}
 use Rattle.companion_file.specs.Companion.{CompanionView}
+use Rattle.companion_file.specs.Reading.{IsChargeLineInLimits}
 
 -- a pid is from 1 to the greatest
 abbrev pub IsPid : ℕ → Type 0
@@ -61,4 +62,6 @@ pub record IsCompanionInOrder (r : CompanionView) : Type 0 where
   pub nice_lines_rise : AllPairs (λ a b. a.line < b.line) r.nices
   pub idles_in_limits : All IsIdleLineInLimits r.idles
   pub idles_rise : AllPairs IdleRises r.idles
+  pub charges_in_limits : All IsChargeLineInLimits r.charges
+  pub charge_lines_rise : AllPairs (λ a b. a.line < b.line) r.charges
   pub policies_told : (pid : ℕ) → is_named_idle r.idles no_line pid ≡ policies_at_start r.tasks pid

@@ -21,13 +21,15 @@ IsNeed part (Born pid nice idle) claim need = IsBirthNeed part (Born pid nice id
 IsNeed part (Leave pid nice dest) claim need = need ≡ 0
 IsNeed part (Arrive pid nice orig idle) claim need = need ≡ 0
 
--- what a step needs whose deed has this need, after the processor has idled beside a waiting task for so long
-abbrev pub step_needs : Deed → ℕ → ℕ → KnobsView
-step_needs (Switch prev prev_nice way next next_nice) need idle = record (only_slack idle) { granularity = need }
-step_needs (Wake pid nice) need idle = record (only_slack idle) { credit = need }
-step_needs (Born pid nice idles) need idle = record (only_slack idle) { debit = need }
-step_needs (Leave pid nice dest) need idle = only_slack idle
-step_needs (Arrive pid nice orig idles) need idle = only_slack idle
+-- what a step needs whose deed has this need, after the processor has idled beside a waiting task for so long, and
+-- whose told charge leaves a drift of so much
+abbrev pub step_needs : Deed → ℕ → ℕ → ℕ → KnobsView
+step_needs (Switch prev prev_nice way next next_nice) need idle drift =
+    record (only_slack idle) { granularity = need; drift = drift }
+step_needs (Wake pid nice) need idle drift = record (only_slack idle) { credit = need; drift = drift }
+step_needs (Born pid nice idles) need idle drift = record (only_slack idle) { debit = need; drift = drift }
+step_needs (Leave pid nice dest) need idle drift = record (only_slack idle) { drift = drift }
+step_needs (Arrive pid nice orig idles) need idle drift = record (only_slack idle) { drift = drift }
 
 -- the replay goes on by a step that passes, and its needs rise to what the step needs
 abbrev pub PassesRaising : KnobsView → ℕ → ReplayStateView → KnobsView → Step → ReplayStateView → KnobsView → Type 0

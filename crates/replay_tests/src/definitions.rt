@@ -99,14 +99,15 @@ fn prios_of_fair_tasks_are_100_to_139(rt: HostRuntime) {
     wants(&rt, &misread_prio(), &None);
 }
 
-/// The four settings, where they are in range.
-fn settings(knobs: Option<Knobs>) -> Option<(u64, u64, u64, u64)> {
+/// The five settings, where they are in range.
+fn settings(knobs: Option<Knobs>) -> Option<(u64, u64, u64, u64, u64)> {
     let knobs = knobs?;
     Some((
         knobs.granularity(),
         knobs.credit(),
         knobs.debit(),
         knobs.slack(),
+        knobs.drift(),
     ))
 }
 
@@ -116,23 +117,24 @@ fn settings_end_at_a_thousand_seconds(rt: HostRuntime) {
     let above = most + 1;
     wants(
         &rt,
-        &settings(Knobs::new(most, most, most, most)),
-        &Some((most, most, most, most)),
+        &settings(Knobs::new(most, most, most, most, most)),
+        &Some((most, most, most, most, most)),
     );
     wants(
         &rt,
         &[
-            Knobs::new(above, 0, 0, 0),
-            Knobs::new(0, above, 0, 0),
-            Knobs::new(0, 0, above, 0),
-            Knobs::new(0, 0, 0, above),
+            Knobs::new(above, 0, 0, 0, 0),
+            Knobs::new(0, above, 0, 0, 0),
+            Knobs::new(0, 0, above, 0, 0),
+            Knobs::new(0, 0, 0, above, 0),
+            Knobs::new(0, 0, 0, 0, above),
         ],
-        &[None; 4],
+        &[None; 5],
     );
     wants(
         &rt,
         &settings(Some(Knobs::standard())),
-        &Some((1_000_000, 3_000_000, 3_000_000, 100_000)),
+        &Some((1_000_000, 3_000_000, 3_000_000, 100_000, 0)),
     );
 }
 

@@ -1,16 +1,16 @@
 ghost use Rattle.runqueue.specs.Entities.{IsQueue, IsQueue-prop};
 
+use crate::stander::Stander;
 use crate::waiting_task::WaitingTask;
-use cfs_model::Task;
 use std::collections::{BTreeMap, BTreeSet};
 
 /// Those who stand at the processor, and what the processor keeps.
 #[derive(Drop)]
 pub struct Runqueue {
     /// Who runs, if somebody does.
-    pub(crate) runner: Option<Task>,
+    pub(crate) runner: Option<Stander>,
     /// Everybody by pid; who runs as it stood before.
-    pub(crate) tasks: BTreeMap<u32, Task>,
+    pub(crate) tasks: BTreeMap<u32, Stander>,
     /// Those who wait, in their order.
     pub(crate) waiting: BTreeSet<WaitingTask>,
     /// In virtual nanoseconds.

@@ -4,6 +4,7 @@ use Rattle.cfs_model.specs.declared.act.Entry.{Entry}
 use Rattle.cfs_model.specs.declared.claim.Claim.{Claim}
 use Rattle.cfs_model.specs.declared.idle_line.IdleLine.{IdleLine}
 use Rattle.cfs_model.specs.declared.nice_line.NiceLine.{NiceLine}
+use Rattle.cfs_model.specs.declared.charge_line.ChargeLine.{ChargeLine}
 use Rattle.cfs_model.specs.declared.task.Task.{Task}
 use Rattle.cfs_model.specs.Claimed.{policy_in}
 use Rattle.cfs_model.specs.Start.{policies_at_start}
@@ -18,6 +19,7 @@ pub record RecordView : Type 0 where
   pub claims : List Claim
   pub nices : List NiceLine
   pub idles : List IdleLine
+  pub charges : List ChargeLine
 
 -- whether the task that an event of the record bears or moves is of the idle policy
 abbrev pub policy_of : RecordView → Entry → Bool

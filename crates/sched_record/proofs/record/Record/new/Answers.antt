@@ -22,6 +22,7 @@ joined_in_order events companion kept in_order together = record {
   claimed = together.claimed;
   reniced = together.reniced;
   born = together.born;
+  charged = together.charged;
 }
 
 pub invariant_of-result : goal.invariant_of-result

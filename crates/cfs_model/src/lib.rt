@@ -14,6 +14,7 @@ mod limits;
 mod memory;
 mod nice;
 mod nice_line;
+mod policy;
 mod setting;
 mod task;
 mod weights;
@@ -36,6 +37,7 @@ pub use limits::{
 pub use memory::Memory;
 pub use nice::{Nice, PrioFault};
 pub use nice_line::NiceLine;
+pub use policy::Policy;
 pub use setting::Setting;
 pub use task::{Place, Task};
 pub use weights::{charge, weight, weight_of};

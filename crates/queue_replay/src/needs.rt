@@ -10,8 +10,8 @@ use replay_model::Deed;
 
 /// Raises needs to what a step needs: its deed of the setting that it asks for, and of the slack the time for which the
 /// processor had idled.
-pub(crate) fn raise(needs: &mut Amounts, deed: Deed, need: u64, idle: u64)
-    ensures { needs.new ≡ larger needs.old (step_needs deed need idle) }
+pub(crate) fn raise(needs: &mut Amounts, deed: Deed, need: u64, idled: u64)
+    ensures { needs.new ≡ larger needs.old (step_needs deed need idled) }
 {
     match deed {
         Deed::Switch { .. } => needs.raise(Setting::Granularity, need),
@@ -19,12 +19,12 @@ pub(crate) fn raise(needs: &mut Amounts, deed: Deed, need: u64, idle: u64)
         Deed::Born { .. } => needs.raise(Setting::Debit, need),
         Deed::Leave { .. } | Deed::Arrive { .. } => {}
     }
-    raise_slack(needs, idle);
+    raise_slack(needs, idled);
 }
 
 /// Raises the slack that is needed to the time for which the processor had idled.
-pub(crate) fn raise_slack(needs: &mut Amounts, idle: u64)
-    ensures { needs.new ≡ larger needs.old (only_slack idle) }
+pub(crate) fn raise_slack(needs: &mut Amounts, idled: u64)
+    ensures { needs.new ≡ larger needs.old (only_slack idled) }
 {
-    needs.raise(Setting::Slack, idle);
+    needs.raise(Setting::Slack, idled);
 }

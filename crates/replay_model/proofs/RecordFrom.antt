@@ -12,6 +12,7 @@ use Rattle.cfs_model.specs.declared.act.Entry.{Entry}
 use Rattle.cfs_model.specs.declared.claim.Claim.{Claim}
 use Rattle.cfs_model.specs.declared.nice_line.NiceLine.{NiceLine}
 use Rattle.cfs_model.specs.declared.task.Task.{Task}
+use Rattle.cfs_model.specs.declared.policy.Policy.{Policy}
 
 -- a fact of each pair, of the first with each later one and of the pairs after it
 entry_head : (R : Entry → Entry → Type 0) (e : Entry) (es : List Entry) → AllPairs R (e ∷ es) → All (λ u. R e u) es
@@ -20,7 +21,7 @@ entry_head R e es h = λ k d within. h 0 (suc k) d (omega arith) (suc-le-suc wit
 entry_tail : (R : Entry → Entry → Type 0) (e : Entry) (es : List Entry) → AllPairs R (e ∷ es) → AllPairs R es
 entry_tail R e es h = λ i j d below within. h (suc i) (suc j) d (suc-le-suc below) (suc-le-suc within)
 
-pub times_from : (start : ℕ) (claims : List Claim) (nices : List NiceLine) (policy : Entry → Bool) (es : List Entry)
+pub times_from : (start : ℕ) (claims : List Claim) (nices : List NiceLine) (policy : Entry → Policy) (es : List Entry)
     → AllPairs (λ a b. a.time ≤ b.time) es
     → AllByRecursion (λ (e : Entry). start ≤ e.time) es → TimesRise start (claimed claims nices policy es)
 times_from start claims nices policy [] h k = tt
@@ -30,7 +31,7 @@ times_from start claims nices policy (e ∷ es) h k = (
       (recursion_from_All (λ (u : Entry). e.time ≤ u.time) es (entry_head (λ a b. a.time ≤ b.time) e es h)),
 )
 
-pub lines_from : (line : ℕ) (claims : List Claim) (nices : List NiceLine) (policy : Entry → Bool) (es : List Entry)
+pub lines_from : (line : ℕ) (claims : List Claim) (nices : List NiceLine) (policy : Entry → Policy) (es : List Entry)
     → AllPairs (λ a b. a.line < b.line) es
     → AllByRecursion (λ (e : Entry). line < e.line) es → LinesRise line (claimed claims nices policy es)
 lines_from line claims nices policy [] h k = tt
@@ -51,13 +52,13 @@ claim_of (c ∷ claims) line h = go (nat_eq c.line line) (claim_of claims line h
     go true k = h.0
     go false k = k
 
-pub claims_from : (claims : List Claim) (nices : List NiceLine) (policy : Entry → Bool) (es : List Entry)
+pub claims_from : (claims : List Claim) (nices : List NiceLine) (policy : Entry → Policy) (es : List Entry)
     → AllByRecursion (λ (c : Claim). IsInRange c.v) claims
     → AllByRecursion ClaimInRange (claimed claims nices policy es)
 claims_from claims nices policy [] h = tt
 claims_from claims nices policy (e ∷ es) h = (claim_of claims e.line h, claims_from claims nices policy es h)
 
-within_from : (cpus : ℕ) (claims : List Claim) (nices : List NiceLine) (policy : Entry → Bool) (es : List Entry)
+within_from : (cpus : ℕ) (claims : List Claim) (nices : List NiceLine) (policy : Entry → Policy) (es : List Entry)
     → AllByRecursion (λ (e : Entry). All (λ cpu. cpu < cpus) (touched e.act)) es
     → AllByRecursion (λ (event : Claimed). AllByRecursion (λ cpu. cpu < cpus) (touched event.entry.act))
     (claimed claims nices policy es)
@@ -67,7 +68,7 @@ within_from cpus claims nices policy (e ∷ es) h =
 
 -- a record of some processors
 pub record_from : (start : ℕ) (floors : List ℤ) (tasks : List Task) (claims : List Claim) (nices : List NiceLine)
-    (policy : Entry → Bool) (es : List Entry) (cpus : ℕ)
+    (policy : Entry → Policy) (es : List Entry) (cpus : ℕ)
     → IsStart floors tasks → All (λ t. t.cpu < cpus) tasks
     → All (λ e. All (λ cpu. cpu < cpus) (touched e.act)) es → All (λ c. IsInRange c.v) claims
     → AllPairs (λ a b. a.time ≤ b.time) es → All (λ e. start ≤ e.time) es

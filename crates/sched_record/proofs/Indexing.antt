@@ -16,6 +16,7 @@ use Rattle.replay_model.specs.Cut.{steps_at, touches}
 use Rattle.replay_model.specs.declared.step.Step.{Step}
 use Rattle.sched_record.specs.Indices.{AreIndicesOf, indices_at, indices_touching, touches_cpu}
 use Rattle.sched_record.proofs.Lines.{enumerate_push}
+use Rattle.cfs_model.specs.declared.policy.Policy.{Policy}
 
 map_first : {X : Type 0} (b : Bool) (n : ℕ) (x : X)
     → map (λ (at : ℕ × X). at.0) (cond b ((n, x) ∷ []) []) ≡ cond b (n ∷ []) []
@@ -123,7 +124,7 @@ abbrev pub step_of : ℕ → List Claim → List NiceLine → (Entry → Bool) �
 step_of cpu claims nices policy event = step_at cpu (with_claim claims nices policy event)
 
 -- the steps at a processor are those of the events that touch it
-pub steps_are : (cpu : ℕ) (claims : List Claim) (nices : List NiceLine) (policy : Entry → Bool) (events : List Entry)
+pub steps_are : (cpu : ℕ) (claims : List Claim) (nices : List NiceLine) (policy : Entry → Policy) (events : List Entry)
     → steps_at cpu (claimed claims nices policy events) ≡ map (step_of cpu claims nices policy) (touching cpu events)
 steps_are cpu claims nices policy [] = refl
 steps_are cpu claims nices policy (event ∷ events) =

@@ -17,7 +17,7 @@ use Rattle.cfs_model.specs.declared.task.Place.TheVariants.{Run, Wait, Rest}
 use Rattle.cfs_model.specs.declared.policy.Policy.{Policy}
 
 -- a task after the charge, by its marks and its values
-charged_place : (r w s policy : Policy) (n v : Option ℤ) (cost : ℤ → Bool → ℕ)
+charged_place : (r w s : Bool) (policy : Policy) (n v : Option ℤ) (cost : ℤ → Policy → ℕ)
     → entity_by policy (place_by r w s) n
     (cond r (option_and_then (λ nice. option_map (λ u. u +ℤ pos (cost nice policy)) v) n) v)
     ≡ option_map (λ (t : Entity). record t { runtime = runtime_after t.place (cost t.nice t.policy) t.runtime })
@@ -47,7 +47,7 @@ charged_floor_part m cpu time f =
     (charged_here m cpu time) (put-same m.floor cpu f) (put-same m.mark cpu time)
 
 -- a task elsewhere isn't charged
-kept_by : (b policy : Policy) (place : Option Place) (n x v : Option ℤ) → (b ≡ true → place ≡ None)
+kept_by : (b : Bool) (policy : Policy) (place : Option Place) (n x v : Option ℤ) → (b ≡ true → place ≡ None)
     → entity_by policy place n (cond b x v) ≡ entity_by policy place n v
 kept_by true policy place n x v h = ap (λ p. entity_by policy p n x) (h refl)
     ∙ ap (λ p. entity_by policy p n v) (sym (h refl))

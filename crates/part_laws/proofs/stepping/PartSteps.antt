@@ -1,5 +1,5 @@
 -- A step of the machine by an event that touches one processor, from the step of the part there.
-use Rattle.std.proofs.Common.{◌≡◌, ℕ, Bool, Option, ℤ, [], ◌∷◌, refl, sym, ap, ◌∙◌, subst}
+use Rattle.std.proofs.Common.{◌≡◌, ℕ, Option, ℤ, [], ◌∷◌, refl, sym, ap, ◌∙◌, subst}
 use Rattle.cfs_model.specs.Knobs.{KnobsView}
 use Rattle.cfs_model.specs.Machine.{Machine, Stands, with_floor}
 use Rattle.cfs_model.specs.Touch.{touched}

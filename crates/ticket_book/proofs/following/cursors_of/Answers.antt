@@ -30,7 +30,7 @@ loop-index-preserved c =
     c.event-item.is ∙ ap (λ es. get_or es c.loop-index.index event) c.events-event-items.ensures in
     let claim = c.claim_beside-claim.ensures.claim event ∙ ap (λ (e : Entry). claim_at r.claims e.line) (sym is) in
     let nice = c.nice_beside-nice.ensures.nice event ∙ ap (λ (e : Entry). nice_at r.nices e.line) (sym is) in
-    let policy = c.policy_at-idle.ensures event ∙ ap (policy_of r) (sym is) in
+    let policy = c.policy_at-policy.ensures event ∙ ap (policy_of r) (sym is) in
     let within = c.loop-index-test.true in
     let total = ap length c.events-event-items.ensures in
     record {

@@ -47,7 +47,7 @@ impl<L: CrewLedger> Member<L> {
         requires part { share.parts ≡ 1 }
         requires none { share.amount ≡ 0 }
         ensures free { result.posted ≡ None }
-        ensures idle { result.underway ≡ None }
+        ensures none_underway { result.underway ≡ None }
     {
         Member {
             underway: None,
@@ -75,7 +75,7 @@ impl<L: CrewLedger> Member<L> {
         requires joined { L.joined ≡ record_view joined.now }
         requires knobs { L.knobs ≡ knobs }
         requires free { self.old.posted ≡ None }
-        requires idle { self.old.underway ≡ None }
+        requires none_underway { self.old.underway ≡ None }
         ensures going { ForSome self.new.underway (λ begun. (begun.replay.stream ≡ cut_of (record_view joined.now) cpu)
             × (begun.state ≡ Going)) }
         ensures ended { self.new.underway ≡ None → IsBroughtBack (cut_of (record_view joined.now) cpu) knobs
@@ -117,7 +117,7 @@ impl<L: CrewLedger> Member<L> {
         gate: &G,
     )
         requires free { self.old.posted ≡ None }
-        requires idle { self.old.underway ≡ None }
+        requires none_underway { self.old.underway ≡ None }
         requires own { IsOwnReplay L.knobs L.joined begun.replay }
         ensures over { self.new.underway ≡ None }
         ensures ended { IsBroughtBack begun.replay.stream begun.replay.knobs self.new.posted self.new.refused

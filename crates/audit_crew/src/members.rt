@@ -24,7 +24,7 @@ pub(crate) fn members_of<L: CrewLedger>(
     requires none { all.old.amount ≡ 0 }
     ensures count { IfOk result (λ members. vec_len members ≡ cpus) }
     ensures free { IfOk result (λ members. All (λ member. member.posted ≡ None) members.items) }
-    ensures idle { IfOk result (λ members. All (λ member. member.underway ≡ None) members.items) }
+    ensures none_underway { IfOk result (λ members. All (λ member. member.underway ≡ None) members.items) }
     ensures rest { OnOk result (all.new.parts ≡ 0) }
     ensures none { OnOk result (all.new.amount ≡ 0) }
 {
@@ -48,7 +48,7 @@ pub(crate) fn begin_all<L: CrewLedger + Send + Sync, R: Threads + Wait + Sync, G
 )
     requires one_each { length members.old ≡ (record_view joined.now).cpus }
     requires free { All (λ member. member.posted ≡ None) members.old }
-    requires idle { All (λ member. member.underway ≡ None) members.old }
+    requires none_underway { All (λ member. member.underway ≡ None) members.old }
     requires joined { L.joined ≡ record_view joined.now }
     requires knobs { L.knobs ≡ knobs }
 {

@@ -1,6 +1,6 @@
 -- The example of an end and a birth: once 101 has ended it stands nowhere; had it slept it would still rest at the
 -- first processor, and had it stayed its line would need a claim.
-use Rattle.std.proofs.Common.{◌≡◌, ℕ, zero, suc, false, Some, None, ℤ, pos, ◌≤ℤ◌, inl, inr, List, [], ◌∷◌, refl, sym}
+use Rattle.std.proofs.Common.{◌≡◌, ℕ, zero, suc, Some, None, ℤ, pos, ◌≤ℤ◌, inl, inr, List, [], ◌∷◌, refl, sym}
 use Rattle.std.proofs.Common.{ap, ◌∙◌, subst, arith, lit≤}
 use Rattle.std.proofs.lemmas.Int.{ints}
 use Rattle.cfs_model.specs.Machine.{Machine, Stands, put, put_pair, with_floor, with_task, without_task, with_runtime}
@@ -108,7 +108,7 @@ first_step =
       found = first_lifted;
       is_reniced = refl;
       changes = changes;
-      in_range = change_range standard first_lifted (first_event Ends).entry.act None false first_state changes tt
+      in_range = change_range standard first_lifted (first_event Ends).entry.act None Normal first_state changes tt
           (lifted_range 0 100001000000 None (0 ∷ []) birth_start first_lifted first_lift tt
           (start_in_order start_time (pos 0 ∷ pos 0 ∷ []) (the_task ∷ []) start_is).in_range);
     }
@@ -130,7 +130,7 @@ second_lifted = with_floor (charged first_state 1 100002000000) 1 (pos 0)
 abbrev second_state : ℤ → Machine
 second_state w =
     with_drift
-    (with_policy (with_nice (with_runtime (with_task second_lifted Wait 1 101) 101 w) 101 (pos 0)) 101 false) 101
+    (with_policy (with_nice (with_runtime (with_task second_lifted Wait 1 101) 101 w) 101 (pos 0)) 101 Normal) 101
     (pos 0)
 
 -- 101 stood at the first processor alone, so it stands nowhere now
@@ -168,7 +168,7 @@ second_lift = (
 second_step : (w : ℤ) → pos 0 ≤ℤ w → w ≤ℤ pos 3000000 → IsStep standard first_state (second_event w) (second_state w)
 unfolding put
 second_step w low high =
-    let changes : IsBirth standard second_lifted 1 101 (pos 0) (second_event w).claim false (second_state w) = record {
+    let changes : IsBirth standard second_lifted 1 101 (pos 0) (second_event w).claim Normal (second_state w) = record {
       nowhere = nowhere;
       placed = w;
       claimed = (refl, refl, refl);
@@ -182,7 +182,7 @@ second_step w low high =
       found = second_lifted;
       is_reniced = refl;
       changes = changes;
-      in_range = change_range standard second_lifted (second_event w).entry.act (second_event w).claim false
+      in_range = change_range standard second_lifted (second_event w).entry.act (second_event w).claim Normal
           (second_state w) changes
           (omega (arith, ints), omega (arith, ints))
           (lifted_range 0 100002000000 None (1 ∷ []) first_state second_lifted second_lift tt first_step.in_range);
@@ -216,8 +216,8 @@ placed_at w between after s t =
     (λ m. IsStep standard m (second_event w) after) same t in
     let lift = u.is_reniced ∙ one_lifted 0 0 100002000000 None (1 ∷ []) first_state u.lifted second_lifted u.is_lifted
     second_lift in
-    let born : IsBirth standard second_lifted 1 101 (pos 0) (second_event w).claim false after = subst
-    (λ m. IsBirth standard m 1 101 (pos 0) (second_event w).claim false after) lift u.changes in
+    let born : IsBirth standard second_lifted 1 101 (pos 0) (second_event w).claim Normal after = subst
+    (λ m. IsBirth standard m 1 101 (pos 0) (second_event w).claim Normal after) lift u.changes in
     (subst (λ x. pos 0 ≤ℤ x) (sym born.claimed.2) born.from, subst (λ x. x ≤ℤ pos 3000000) (sym born.claimed.2) born.to)
 
 in_a_run : (way : Way) (w : ℤ) (states : List Machine) → AreSteps standard birth_start (birth_events way w) states

@@ -1,6 +1,6 @@
 -- The first half of the examples of a birth with and without the idle policy: a task ends, and one of its pid is born,
 -- at no cost. Which policy the first was of, and which the second is of, are parameters; who stands where is the same.
-use Rattle.std.proofs.Common.{◌≡◌, ℕ, Bool, true, false, Some, None, pos}
+use Rattle.std.proofs.Common.{◌≡◌, ℕ, Some, None, pos}
 use Rattle.std.proofs.Common.{inl, inr, [], ◌∷◌, refl, sym, arith, lit<, lit≤}
 use Rattle.std.proofs.lemmas.Int.{ints}
 use Rattle.cfs_model.specs.Machine.{Machine, Stands, AreValuesInRange, put, with_floor, with_task}
@@ -19,15 +19,16 @@ use Rattle.cfs_model.specs.declared.act.Way.TheVariants.{Ends}
 use Rattle.cfs_model.specs.declared.task.Place.{Place}
 use Rattle.cfs_model.specs.declared.task.Place.TheVariants.{Run, Wait, Rest}
 use Rattle.cfs_model.specs.declared.task.Task.{Task}
-use Rattle.cfs_model.specs.declared.policy.Policy.TheVariants.{Normal}
+use Rattle.cfs_model.specs.declared.policy.Policy.{Policy}
+use Rattle.cfs_model.specs.declared.policy.Policy.TheVariants.{Normal, Idle}
 
-abbrev runner : Bool → Task
+abbrev runner : Policy → Task
 runner was = record { pid = 101; nice = pos 0; policy = was; cpu = 0; place = Run; v = pos 0 }
 
 abbrev sleeper : Task
 sleeper = record { pid = 102; nice = pos 0; policy = Normal; cpu = 0; place = Rest; v = pos 0 }
 
-start_is : (was : Bool) → IsStart (pos 0 ∷ []) (rebirth_tasks was)
+start_is : (was : Policy) → IsStart (pos 0 ∷ []) (rebirth_tasks was)
 start_is was = record {
   pids_rise = ((lit< tt, tt), (tt, tt));
   one_runs = (((λ t. let e = t.1 in cc), tt), (tt, tt));
@@ -35,30 +36,30 @@ start_is was = record {
   floors_in_range = ((omega (arith, ints), omega (arith, ints)), tt);
 }
 
-pub start_range : (was : Bool) → AreValuesInRange (rebirth_start was)
+pub start_range : (was : Policy) → AreValuesInRange (rebirth_start was)
 start_range was = (start_in_order start_time (pos 0 ∷ []) (rebirth_tasks was) (start_is was)).in_range
 
-pub nobody_waits : (was : Bool) (cpu q : ℕ) → ¬ Stands (rebirth_start was) Wait cpu q
+pub nobody_waits : (was : Policy) (cpu q : ℕ) → ¬ Stands (rebirth_start was) Wait cpu q
 nobody_waits was cpu q h = elim (of_two (runner was) sleeper Wait cpu q h) [
   | inl x ↦ let e = x.2 in cc
   | inr x ↦ let e = x.2 in cc
 ]
 
-pub runs_one : (was : Bool) (cpu q : ℕ) → Stands (rebirth_start was) Run cpu q → 101 ≡ q
+pub runs_one : (was : Policy) (cpu q : ℕ) → Stands (rebirth_start was) Run cpu q → 101 ≡ q
 runs_one was cpu q h = elim (of_two (runner was) sleeper Run cpu q h) [ inl x ↦ x.0 | inr x ↦ let e = x.2 in cc ]
 
 -- the first task is charged nothing at the start
-free : (was : Bool) → CanCharge (rebirth_start was) 0 start_time
-free true = can_charge_one (rebirth_start true) 0 start_time 101 (pos 0) (pos 0) (runs_one true 0) refl refl (lit≤ tt)
+free : (was : Policy) → CanCharge (rebirth_start was) 0 start_time
+free Idle = can_charge_one (rebirth_start Idle) 0 start_time 101 (pos 0) (pos 0) (runs_one Idle 0) refl refl (lit≤ tt)
     (omega (arith, ints))
-free false = can_charge_one (rebirth_start false) 0 start_time 101 (pos 0) (pos 0) (runs_one false 0) refl refl
+free Normal = can_charge_one (rebirth_start Normal) 0 start_time 101 (pos 0) (pos 0) (runs_one Normal 0) refl refl
     (lit≤ tt) (omega (arith, ints))
 
-stays_at_zero : (was : Bool) → (charged (rebirth_start was) 0 start_time).runtime 101 ≡ Some (pos 0)
-stays_at_zero true = refl
-stays_at_zero false = refl
+stays_at_zero : (was : Policy) → (charged (rebirth_start was) 0 start_time).runtime 101 ≡ Some (pos 0)
+stays_at_zero Idle = refl
+stays_at_zero Normal = refl
 
-module _ (was : Bool) where
+module _ (was : Policy) where
   -- the end
   abbrev pub first_event : Claimed
   first_event = record {
@@ -118,7 +119,7 @@ module _ (was : Bool) where
         found = first_lifted;
         is_reniced = refl;
         changes = changes;
-        in_range = change_range standard first_lifted first_event.entry.act None false first_state changes tt
+        in_range = change_range standard first_lifted first_event.entry.act None Normal first_state changes tt
             (lifted_range 0 start_time None (0 ∷ []) (rebirth_start was) first_lifted first_lift tt (start_range was));
       }
 
@@ -164,7 +165,7 @@ module _ (was : Bool) where
     refl,
   )
 
-  module _ (now : Bool) where
+  module _ (now : Policy) where
     abbrev pub second_event : Claimed
     second_event = record {
       entry = record { line = 2; time = start_time; act = Born 0 101 (pos 5) };

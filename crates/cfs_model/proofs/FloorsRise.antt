@@ -1,6 +1,6 @@
 -- No floor is lowered: a lift takes a maximum with the floor itself, and neither a change of a nice value nor an
 -- event's own change names a floor.
-use Rattle.std.proofs.Common.{◌≡◌, ◌≢◌, ℕ, zero, suc, Bool, true, false, ℤ, ◌≤ℤ◌, ◌⊎◌, inl, inr, List, [], ◌∷◌, Option}
+use Rattle.std.proofs.Common.{◌≡◌, ◌≢◌, ℕ, zero, suc, true, false, ℤ, ◌≤ℤ◌, ◌⊎◌, inl, inr, List, [], ◌∷◌, Option}
 use Rattle.std.proofs.Common.{None}
 use Rattle.std.proofs.Common.{refl, sym, ap, ◌∙◌, subst, arith}
 use Rattle.std.proofs.lemmas.Int.{ints, clamps}

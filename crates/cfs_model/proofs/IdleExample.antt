@@ -1,6 +1,6 @@
 -- The example of idle slack: the states are the same for every time of the last event, the first and the second of
 -- them idle, and the start doesn't.
-use Rattle.std.proofs.Common.{◌≡◌, ℕ, zero, suc, ◌<◌, ◌≤◌, true, false, Some, None, slice_index, pos, ◌+ℤ◌, ◌≤ℤ◌, inl}
+use Rattle.std.proofs.Common.{◌≡◌, ℕ, zero, suc, ◌<◌, ◌≤◌, true, Some, None, slice_index, pos, ◌+ℤ◌, ◌≤ℤ◌, inl}
 use Rattle.std.proofs.Common.{inr, List, [], ◌∷◌, refl, sym, ap, ◌∙◌, subst, arith, lit<, lit≤}
 use Rattle.std.proofs.lemmas.Int.{ints, clamps}
 use Rattle.cfs_model.specs.Machine.{Machine, Stands, AreValuesInRange, put, put_pair, with_floor, with_move}
@@ -95,7 +95,7 @@ first_step = record {
   found = first_lifted;
   is_reniced = refl;
   changes = inr first_change;
-  in_range = change_range standard first_lifted first_event.entry.act first_event.claim false first_state
+  in_range = change_range standard first_lifted first_event.entry.act first_event.claim Normal first_state
       (inr first_change)
       (omega (arith, ints), omega (arith, ints))
       (lifted_range 0 100001000000 None (0 ∷ []) idle_start first_lifted first_lift tt start_range);
@@ -225,7 +225,7 @@ third_step time =
       found = third_lifted time;
       is_reniced = refl;
       changes = changes;
-      in_range = change_range standard (third_lifted time) (third_event time).entry.act None false (third_state time)
+      in_range = change_range standard (third_lifted time) (third_event time).entry.act None Normal (third_state time)
           changes
           tt
           (lifted_range 0 time None (0 ∷ []) second_state (third_lifted time) (third_lift time) tt

@@ -1,6 +1,6 @@
 -- The examples of a migration. What hangs on the time, the virtual runtime that 102 is charged to and the least one, is
 -- a parameter; the second floor stays at 100, since nobody stands there.
-use Rattle.std.proofs.Common.{◌≡◌, ◌↔◌, ℕ, true, false, Some, None, ℤ, pos, ◌+ℤ◌, ◌-ℤ◌, ◌≤ℤ◌, inl, inr, [], ◌∷◌, refl}
+use Rattle.std.proofs.Common.{◌≡◌, ◌↔◌, ℕ, true, Some, None, ℤ, pos, ◌+ℤ◌, ◌-ℤ◌, ◌≤ℤ◌, inl, inr, [], ◌∷◌, refl}
 use Rattle.std.proofs.Common.{sym}
 use Rattle.std.proofs.Common.{ap, ◌∙◌, subst, arith, lit<, lit≤}
 use Rattle.std.proofs.lemmas.Int.{ints}
@@ -98,12 +98,12 @@ module _ (time : ℕ) (v least w : ℤ) (is_v : (after_charge time).runtime 102 
   migration_step range =
       let after : Machine = with_drift (with_runtime (with_move lifted 101 Wait 0 Wait 1) 101
       ((pos 5 -ℤ int_max (pos 3) least) +ℤ pos 100)) 101 (pos 0) in
-      let changes : IsMigration lifted 0 1 101 (pos 0) (migration_event time w).claim false after = record {
+      let changes : IsMigration lifted 0 1 101 (pos 0) (migration_event time w).claim Normal after = record {
         differ = λ e. omega arith;
         place = Wait;
         stands = refl;
         prio = refl;
-        policy = refl;
+        policy_is = refl;
         own = pos 5;
         runtime = refl;
         sort = At;
@@ -119,7 +119,7 @@ module _ (time : ℕ) (v least w : ℤ) (is_v : (after_charge time).runtime 102 
           is_reniced = refl;
           changes = changes;
           in_range = change_range standard lifted (migration_event time w).entry.act
-              (migration_event time w).claim false after changes range
+              (migration_event time w).claim Normal after changes range
               (lifted_range 0 time None (0 ∷ 1 ∷ []) migration_start lifted lift tt
               (start_in_order start_time (pos 3 ∷ pos 100 ∷ []) (task_that_waits ∷ task_that_runs ∷ [])
               start_is).in_range);
@@ -132,8 +132,8 @@ module _ (time : ℕ) (v least w : ℤ) (is_v : (after_charge time).runtime 102 
   moved_to x after s =
       let same = s.is_reniced ∙ one_lifted 0 0 time None (0 ∷ 1 ∷ []) migration_start s.lifted lifted s.is_lifted
       lift in
-      let moves : IsMigration lifted 0 1 101 (pos 0) (migration_event time x).claim false after =
-      subst (λ m. IsMigration m 0 1 101 (pos 0) (migration_event time x).claim false after) same s.changes in
+      let moves : IsMigration lifted 0 1 101 (pos 0) (migration_event time x).claim Normal after =
+      subst (λ m. IsMigration m 0 1 101 (pos 0) (migration_event time x).claim Normal after) same s.changes in
       moves.claimed.2 ∙ ap (λ own. (own -ℤ int_max (pos 3) least) +ℤ pos 100)
       (value_at lifted.runtime 101 101 moves.own (pos 5) refl moves.runtime refl) ∙ sym is_w
 

@@ -1,6 +1,6 @@
 -- Knobs and runs: what an event does asks for one setting alone, the one that it names, and the charge told on its
 -- line for the drift; so a step under some settings is one under others that give it at least as much of both.
-use Rattle.std.proofs.Common.{ℕ, zero, suc, Bool, ◌≤◌, Option, None, ℤ, pos, ◌+ℤ◌, ◌-ℤ◌, ◌≤ℤ◌, inl, inr, List, [], ◌∷◌}
+use Rattle.std.proofs.Common.{ℕ, zero, suc, ◌≤◌, Option, None, ℤ, pos, ◌+ℤ◌, ◌-ℤ◌, ◌≤ℤ◌, inl, inr, List, [], ◌∷◌}
 use Rattle.std.proofs.Common.{arith}
 use Rattle.std.proofs.lemmas.Int.{ints, clamps}
 use Rattle.std.specs.Int.{int_max}

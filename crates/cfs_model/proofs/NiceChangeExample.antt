@@ -1,6 +1,6 @@
 -- The examples of a change of a nice value: the first lift charges by the old value, the wakeup prints the new one, and
 -- the second lift charges by it. Where no task stands at the event's processor, none can be named.
-use Rattle.std.proofs.Common.{◌≡◌, ℕ, zero, suc, true, false, Some, None, ℤ, pos, ◌+ℤ◌, ◌≤ℤ◌, ◌⊎◌, inl, inr, List, []}
+use Rattle.std.proofs.Common.{◌≡◌, ℕ, zero, suc, true, Some, None, ℤ, pos, ◌+ℤ◌, ◌≤ℤ◌, ◌⊎◌, inl, inr, List, []}
 use Rattle.std.proofs.Common.{◌∷◌, refl, sym, ap, ◌∙◌, subst, arith, lit≤}
 use Rattle.std.proofs.lemmas.Int.{ints}
 use Rattle.cfs_model.specs.Machine.{Machine, Stands, IsQueued, AreValuesInRange, put, put_pair, with_floor, with_nice}
@@ -31,11 +31,11 @@ use Rattle.cfs_model.specs.declared.task.Task.{Task}
 use Rattle.cfs_model.specs.declared.policy.Policy.TheVariants.{Normal}
 
 abbrev start : Machine
-start = switch_start (pos 0) false (pos 0)
+start = switch_start (pos 0) Normal (pos 0)
 
 start_range : AreValuesInRange start
 start_range = (start_in_order start_time (pos 0 ∷ [])
-    (first_task (pos 0) false ∷ second_task (pos 0) ∷ []) (start_is (pos 0) false (pos 0)
+    (first_task (pos 0) Normal ∷ second_task (pos 0) ∷ []) (start_is (pos 0) Normal (pos 0)
     (omega (arith, ints), omega (arith, ints)))).in_range
 
 -- the wakeup
@@ -65,7 +65,7 @@ first_lift = (
     told = charged start 0 100004000000;
     charges = refl;
     floor = pos 0;
-    raised = inr (pos 0, least_second (pos 0) false (pos 4000000) refl (omega (arith, ints)), refl);
+    raised = inr (pos 0, least_second (pos 0) Normal (pos 4000000) refl (omega (arith, ints)), refl);
     result = refl;
   },
   refl,
@@ -116,13 +116,13 @@ charged_first = refl
 can_charge_light : CanCharge first_state 0 100008000000
 unfolding put
 can_charge_light = can_charge_one first_state 0 100008000000 101 (pos 5) (pos 4000000)
-    (runs_one (pos 0) false (pos 0)) refl refl (lit≤ tt) (omega (arith, ints))
+    (runs_one (pos 0) Normal (pos 0)) refl refl (lit≤ tt) (omega (arith, ints))
 
 least_of : (q : ℕ) (w : ℤ) → IsQueued second_charged 0 q → second_charged.runtime q ≡ Some w → pos 0 ≤ℤ w
 least_of q w (inl runs) e = below_at second_charged.runtime 101 q (pos 0) (pos 16226865) w
-    (runs_one (pos 0) false (pos 0) q runs) charged_first e (omega (arith, ints))
+    (runs_one (pos 0) Normal (pos 0) q runs) charged_first e (omega (arith, ints))
 least_of q w (inr waits) e = below_at second_charged.runtime 102 q (pos 0) (pos 0) w
-    (waits_one (pos 0) false (pos 0) q waits) refl e (omega (arith, ints))
+    (waits_one (pos 0) Normal (pos 0) q waits) refl e (omega (arith, ints))
 
 second_lift : IsLifted 0 100008000000 None (0 ∷ []) first_state second_lifted
 unfolding put
@@ -157,7 +157,7 @@ second_step =
           | inl x ↦ subst (λ y. pos 0 ≤ℤ (y +ℤ pos 1000000)) (value_at second_lifted.runtime 101 q (pos 16226865) w
               (sym x.1) charged_first e) (omega (arith, ints))
           | inr x ↦ subst (λ y. pos 0 ≤ℤ (y +ℤ pos 1000000)) (value_at second_lifted.runtime 102 q (pos 0) w
-              (waits_one (pos 0) false (pos 0) q (sym x.1 ∙ waits)) refl e) (omega (arith, ints))
+              (waits_one (pos 0) Normal (pos 0) q (sym x.1 ∙ waits)) refl e) (omega (arith, ints))
         ],
       );
       result = refl;
@@ -169,14 +169,14 @@ second_step =
       is_reniced = refl;
       changes = changes;
       in_range = change_range standard second_lifted (second_event (pos 16226865)).entry.act
-          (second_event (pos 16226865)).claim false second_state changes (omega (arith, ints), omega (arith, ints))
+          (second_event (pos 16226865)).claim Normal second_state changes (omega (arith, ints), omega (arith, ints))
           (lifted_range 0 100008000000 None (0 ∷ []) first_state second_lifted second_lift tt first_step.in_range);
     }
 
 -- 101 runs before the switch, so the processor doesn't idle
 never_idle : (m : Machine) → m.running ≡ start.running → m.waiting ≡ start.waiting → (cpu : ℕ) → ¬ Idles m cpu
 never_idle m e f cpu idle = elim
-    (of_two (first_task (pos 0) false) (second_task (pos 0)) Wait cpu idle.pid
+    (of_two (first_task (pos 0) Normal) (second_task (pos 0)) Wait cpu idle.pid
     (ap (λ s. s cpu idle.pid) (sym f) ∙ idle.waits)) [
       | inl x ↦ let k = x.2 in cc
       | inr x ↦ idle.nobody_runs 101 (ap (λ s. s cpu 101) e ∙ subst (λ c. start.running c 101 ≡ true) x.1 refl)

@@ -1,13 +1,13 @@
 -- The examples of a birth with and without the idle policy: behind the birth the task is picked, and runs. What 4 ms
 -- cost is a parameter.
-use Rattle.std.proofs.Common.{◌≡◌, ℕ, zero, suc, Bool, true, false, Some, None, ℤ, pos, ◌+ℤ◌, ◌-ℤ◌, ◌≤ℤ◌}
+use Rattle.std.proofs.Common.{◌≡◌, ℕ, zero, suc, Some, None, ℤ, pos, ◌+ℤ◌, ◌-ℤ◌, ◌≤ℤ◌}
 use Rattle.std.proofs.Common.{◌⊎◌, inl, inr, List, [], ◌∷◌, refl, sym, ◌∙◌, subst, arith, lit≤}
 use Rattle.std.proofs.lemmas.Int.{ints}
 use Rattle.std.specs.Int.{int_max}
 use Rattle.cfs_model.specs.Charge.{IsInRange}
 use Rattle.cfs_model.specs.Machine.{Machine, Stands, put, put_pair, with_floor}
 use Rattle.cfs_model.specs.Machine.{with_move, with_runtime}
-use Rattle.cfs_model.specs.Claimed.{Claimed, is_named_idle}
+use Rattle.cfs_model.specs.Claimed.{Claimed, named_policy}
 use Rattle.cfs_model.specs.Lifted.{charged, CanCharge, IsLeast, IsLifted}
 use Rattle.cfs_model.specs.Step.{IsSwitch, IsWakeQueued, IsWakeResting, after_next, IsStep}
 use Rattle.cfs_model.specs.Idling.{Idles, KeepsSlack}
@@ -25,7 +25,8 @@ use Rattle.cfs_model.specs.declared.act.Way.TheVariants.{Stays}
 use Rattle.cfs_model.specs.declared.idle_line.IdleLine.{IdleLine}
 use Rattle.cfs_model.specs.declared.task.Place.{Place}
 use Rattle.cfs_model.specs.declared.task.Place.TheVariants.{Run, Wait, Rest}
-use Rattle.cfs_model.specs.declared.policy.Policy.TheVariants.{Normal}
+use Rattle.cfs_model.specs.declared.policy.Policy.{Policy}
+use Rattle.cfs_model.specs.declared.policy.Policy.TheVariants.{Normal, Idle}
 
 -- the wakeup
 abbrev fourth_event : ℤ → Claimed
@@ -37,7 +38,7 @@ fourth_event w = record {
   policy = Normal;
 }
 
-module _ (was now : Bool) where
+module _ (was now : Policy) where
   -- the pick
   abbrev third_event : Claimed
   third_event = record {
@@ -106,7 +107,7 @@ module _ (was now : Bool) where
         found = third_lifted;
         is_reniced = refl;
         changes = changes;
-        in_range = change_range standard third_lifted third_event.entry.act None false third_state changes tt
+        in_range = change_range standard third_lifted third_event.entry.act None Normal third_state changes tt
             (lifted_range 0 start_time None (0 ∷ []) (second_state was now) third_lifted third_lift tt
             (second_step was now).in_range);
       }
@@ -193,7 +194,7 @@ module _ (was now : Bool) where
               found = fourth_lifted;
               is_reniced = refl;
               changes = inr changes;
-              in_range = change_range standard fourth_lifted (fourth_event w).entry.act (fourth_event w).claim false
+              in_range = change_range standard fourth_lifted (fourth_event w).entry.act (fourth_event w).claim Normal
                   fourth_state (inr changes) range
                   (lifted_range 0 100004000000 None (0 ∷ []) third_state fourth_lifted fourth_lift tt
                   third_step.in_range);
@@ -249,16 +250,16 @@ module _ (was now : Bool) where
   keeps_slack last cpu (suc (suc (suc (suc i)))) j below within idles = absurd (omega arith)
 
 -- any steps come to the wakeup by these states
-last_step : (was : Bool) (idles : List IdleLine) (w : ℤ) (states : List Machine)
+last_step : (was : Policy) (idles : List IdleLine) (w : ℤ) (states : List Machine)
     → AreSteps standard (rebirth_start was) (rebirth_events was idles w) states
-    → (after : Machine) × IsStep standard (third_state was (is_named_idle idles 2 101)) (fourth_event w) after
+    → (after : Machine) × IsStep standard (third_state was (named_policy idles 2 101)) (fourth_event w) after
 last_step was idles w [] steps = absurd steps
 last_step was idles w (m ∷ []) steps = absurd steps.1
 last_step was idles w (m ∷ n ∷ []) steps = absurd steps.1.1
 last_step was idles w (m ∷ n ∷ o ∷ []) steps = absurd steps.1.1.1
 last_step was idles w (m ∷ n ∷ o ∷ p ∷ q ∷ states) steps = absurd steps.1.1.1.1
 last_step was idles w (m ∷ n ∷ o ∷ p ∷ []) steps =
-    let now = is_named_idle idles 2 101 in
+    let now = named_policy idles 2 101 in
     let first = one_next standard (rebirth_start was) (first_event was) m (first_state was) steps.0 (first_step was) in
     let birth : IsStep standard (first_state was) (second_event was now) n = subst
     (λ x. IsStep standard x (second_event was now) n) first steps.1.0 in
@@ -270,21 +271,21 @@ last_step was idles w (m ∷ n ∷ o ∷ p ∷ []) steps =
     (third_step was now) in
     (p, subst (λ x. IsStep standard x (fourth_event w) p) third steps.1.1.1.0)
 
-can_charge_idle : (was : Bool) → CanCharge (third_state was true) 0 100004000000
+can_charge_idle : (was : Policy) → CanCharge (third_state was Idle) 0 100004000000
 unfolding put put_pair
-can_charge_idle was = can_charge_one (third_state was true) 0 100004000000 101 (pos 5) (pos 0)
-    (runs_again was true 0) refl refl (lit≤ tt) (omega (arith, ints))
+can_charge_idle was = can_charge_one (third_state was Idle) 0 100004000000 101 (pos 5) (pos 0)
+    (runs_again was Idle 0) refl refl (lit≤ tt) (omega (arith, ints))
 
-can_charge_light : (was : Bool) → CanCharge (third_state was false) 0 100004000000
+can_charge_light : (was : Policy) → CanCharge (third_state was Normal) 0 100004000000
 unfolding put put_pair
-can_charge_light was = can_charge_one (third_state was false) 0 100004000000 101 (pos 5) (pos 0)
-    (runs_again was false 0) refl refl (lit≤ tt) (omega (arith, ints))
+can_charge_light was = can_charge_one (third_state was Normal) 0 100004000000 101 (pos 5) (pos 0)
+    (runs_again was Normal 0) refl refl (lit≤ tt) (omega (arith, ints))
 
-idle_cost : (was : Bool) → (after_charge was true).runtime 101 ≡ Some (pos 1365333333)
+idle_cost : (was : Policy) → (after_charge was Idle).runtime 101 ≡ Some (pos 1365333333)
 unfolding put put_pair
 idle_cost was = refl
 
-light_cost : (was : Bool) → (after_charge was false).runtime 101 ≡ Some (pos 12226865)
+light_cost : (was : Policy) → (after_charge was Normal).runtime 101 ≡ Some (pos 12226865)
 unfolding put put_pair
 light_cost was = refl
 
@@ -292,25 +293,25 @@ pub idle_birth_lem : IdleBirthExample
 idle_birth_lem was w = (
   (λ run.
       let last = last_step was (record { line = 2; pid = 101 } ∷ []) w run.states run.steps in
-      fourth_bounds was true (pos 1365333333) (idle_cost was) (can_charge_idle was) w last.0 last.1),
+      fourth_bounds was Idle (pos 1365333333) (idle_cost was) (can_charge_idle was) w last.0 last.1),
   (λ h. record {
-    states = first_state was ∷ second_state was true ∷ third_state was true
-        ∷ fourth_state was true (pos 1365333333) (idle_cost was) (can_charge_idle was) w ∷ [];
+    states = first_state was ∷ second_state was Idle ∷ third_state was Idle
+        ∷ fourth_state was Idle (pos 1365333333) (idle_cost was) (can_charge_idle was) w ∷ [];
     steps = (
       first_step was,
       (
-        second_step was true,
+        second_step was Idle,
         (
-          third_step was true,
+          third_step was Idle,
           (
-            fourth_step was true (pos 1365333333) (idle_cost was) (can_charge_idle was) w
+            fourth_step was Idle (pos 1365333333) (idle_cost was) (can_charge_idle was) w
                 (omega (arith, ints), omega (arith, ints)) h.0 h.1,
             tt,
           ),
         ),
       ),
     );
-    slack = keeps_slack was true (fourth_state was true (pos 1365333333) (idle_cost was) (can_charge_idle was) w);
+    slack = keeps_slack was Idle (fourth_state was Idle (pos 1365333333) (idle_cost was) (can_charge_idle was) w);
   }),
 )
 
@@ -318,24 +319,24 @@ pub rebirth_lem : RebirthExample
 rebirth_lem was w = (
   (λ run.
       let last = last_step was [] w run.states run.steps in
-      fourth_bounds was false (pos 12226865) (light_cost was) (can_charge_light was) w last.0 last.1),
+      fourth_bounds was Normal (pos 12226865) (light_cost was) (can_charge_light was) w last.0 last.1),
   (λ h. record {
-    states = first_state was ∷ second_state was false ∷ third_state was false
-        ∷ fourth_state was false (pos 12226865) (light_cost was) (can_charge_light was) w ∷ [];
+    states = first_state was ∷ second_state was Normal ∷ third_state was Normal
+        ∷ fourth_state was Normal (pos 12226865) (light_cost was) (can_charge_light was) w ∷ [];
     steps = (
       first_step was,
       (
-        second_step was false,
+        second_step was Normal,
         (
-          third_step was false,
+          third_step was Normal,
           (
-            fourth_step was false (pos 12226865) (light_cost was) (can_charge_light was) w
+            fourth_step was Normal (pos 12226865) (light_cost was) (can_charge_light was) w
                 (omega (arith, ints), omega (arith, ints)) h.0 h.1,
             tt,
           ),
         ),
       ),
     );
-    slack = keeps_slack was false (fourth_state was false (pos 12226865) (light_cost was) (can_charge_light was) w);
+    slack = keeps_slack was Normal (fourth_state was Normal (pos 12226865) (light_cost was) (can_charge_light was) w);
   }),
 )

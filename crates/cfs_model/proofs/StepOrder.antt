@@ -1,5 +1,5 @@
 -- A step keeps the order of a machine: each case places one task anew, or two in turn, or lets one end.
-use Rattle.std.proofs.Common.{◌≡◌, ◌≢◌, ℕ, zero, suc, Bool, true, false, Option, Some, None, IsSome, is_some, ℤ, pos}
+use Rattle.std.proofs.Common.{◌≡◌, ◌≢◌, ℕ, zero, suc, true, false, Option, Some, None, IsSome, is_some, ℤ, pos}
 use Rattle.std.proofs.Common.{◌+ℤ◌}
 use Rattle.std.proofs.Common.{◌-ℤ◌, inl, inr, List, [], ◌∷◌, refl, sym, ap, ◌∙◌, subst}
 use Rattle.std.specs.List.{AllByRecursion}

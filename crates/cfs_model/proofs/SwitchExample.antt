@@ -1,6 +1,6 @@
 -- The examples of a switch: 101 is charged by its weight and put back, and 102 is picked. What hangs on the nice value,
 -- the cost and the least virtual runtime, is a parameter.
-use Rattle.std.proofs.Common.{◌≡◌, ℕ, Bool, true, false, Some, None, ℤ, pos, ◌+ℤ◌, ◌≤ℤ◌, inl, inr, [], ◌∷◌, refl, sym}
+use Rattle.std.proofs.Common.{◌≡◌, ℕ, true, Some, None, ℤ, pos, ◌+ℤ◌, ◌≤ℤ◌, inl, inr, [], ◌∷◌, refl, sym}
 use Rattle.std.proofs.Common.{ap}
 use Rattle.std.proofs.Common.{◌∙◌, subst, arith, lit<, lit≤}
 use Rattle.std.proofs.lemmas.Int.{ints}
@@ -21,10 +21,10 @@ use Rattle.cfs_model.specs.declared.act.Way.TheVariants.{Stays}
 use Rattle.cfs_model.specs.declared.task.Place.TheVariants.{Run, Wait}
 use Rattle.cfs_model.specs.declared.task.Task.{Task}
 use Rattle.cfs_model.specs.declared.policy.Policy.{Policy}
-use Rattle.cfs_model.specs.declared.policy.Policy.TheVariants.{Normal}
+use Rattle.cfs_model.specs.declared.policy.Policy.TheVariants.{Normal, Idle}
 
 -- the two tasks
-abbrev pub first_task : ℤ → Bool → Task
+abbrev pub first_task : ℤ → Policy → Task
 first_task nice policy = record { pid = 101; nice = nice; policy = policy; cpu = 0; place = Run; v = pos 0 }
 
 abbrev pub second_task : ℤ → Task
@@ -53,7 +53,7 @@ waits_one nice policy u q h =
     elim (of_two (first_task nice policy) (second_task u) Wait 0 q h) [ inl x ↦ let e = x.2 in cc | inr x ↦ x.0 ]
 
 -- the machine after the charge
-abbrev after_charge : ℤ → Bool → ℤ → Machine
+abbrev after_charge : ℤ → Policy → ℤ → Machine
 after_charge nice policy u = charged (switch_start nice policy u) 0 time
 
 above_self : (u : ℤ) (n : ℕ) → u ≤ℤ (u +ℤ pos n)
@@ -120,7 +120,7 @@ module _ (nice : ℤ) (policy : Policy) (cost u v : ℤ) (is_cost : (after_charg
           is_reniced = refl;
           changes = changes;
           in_range = change_range (standard_with granularity) lifted (switch_event nice cost).entry.act
-              (switch_event nice cost).claim false after changes within_range
+              (switch_event nice cost).claim Normal after changes within_range
               (lifted_range 0 time None (0 ∷ []) (switch_start nice policy u) lifted lift tt (start_in_order start_time
               (pos 0 ∷ [])
               (first_task nice policy ∷ second_task u ∷ []) (start_is nice policy u range)).in_range);
@@ -163,60 +163,61 @@ least_second nice policy cost e h = record {
       (pos 0) e h (omega (arith, ints));
 }
 
-least_first : IsLeast (after_charge (pos 0) false (pos 5000000)) 0 (pos 4000000)
+least_first : IsLeast (after_charge (pos 0) Normal (pos 5000000)) 0 (pos 4000000)
 least_first = record {
   pid = 101;
   queued = inl refl;
   runtime = refl;
-  least = least_of (pos 0) false (pos 4000000)
+  least = least_of (pos 0) Normal (pos 4000000)
       (pos 5000000) (pos 4000000) refl (omega (arith, ints)) (omega (arith, ints));
 }
 
-pub can_charge_even : (u : ℤ) → CanCharge (switch_start (pos 0) false u) 0 time
-can_charge_even u = can_charge_one (switch_start (pos 0) false u) 0 time 101 (pos 0) (pos 0) (runs_one (pos 0) false u)
+pub can_charge_even : (u : ℤ) → CanCharge (switch_start (pos 0) Normal u) 0 time
+can_charge_even u = can_charge_one (switch_start (pos 0) Normal u) 0 time 101 (pos 0) (pos 0) (runs_one (pos 0)
+    Normal u)
     refl refl (lit≤ tt) (omega (arith, ints))
 
-can_charge_light : CanCharge (switch_start (pos 5) false (pos 0)) 0 time
-can_charge_light = can_charge_one (switch_start (pos 5) false (pos 0)) 0 time 101 (pos 5) (pos 0)
-    (runs_one (pos 5) false (pos 0)) refl refl (lit≤ tt) (omega (arith, ints))
+can_charge_light : CanCharge (switch_start (pos 5) Normal (pos 0)) 0 time
+can_charge_light = can_charge_one (switch_start (pos 5) Normal (pos 0)) 0 time 101 (pos 5) (pos 0)
+    (runs_one (pos 5) Normal (pos 0)) refl refl (lit≤ tt) (omega (arith, ints))
 
 pub put_back_lem : PutBackExample
 put_back_lem w = (
-  (λ s. put_back_at (pos 0) false (pos 4000000) (pos 0) (pos 0) refl w 1000000 s.0 s.1),
-  (λ e. subst (λ x. HasStep standard (switch_start (pos 0) false (pos 0)) (switch_event (pos 0) x)) (sym e)
-      (switch_step (pos 0) false (pos 4000000) (pos 0) (pos 0) refl 1000000 (omega (arith, ints), omega (arith, ints))
+  (λ s. put_back_at (pos 0) Normal (pos 4000000) (pos 0) (pos 0) refl w 1000000 s.0 s.1),
+  (λ e. subst (λ x. HasStep standard (switch_start (pos 0) Normal (pos 0)) (switch_event (pos 0) x)) (sym e)
+      (switch_step (pos 0) Normal (pos 4000000) (pos 0) (pos 0) refl 1000000 (omega (arith, ints), omega (arith, ints))
       (omega (arith, ints), omega (arith, ints))
-      (can_charge_even (pos 0)) (least_second (pos 0) false (pos 4000000) refl (omega (arith, ints)))
+      (can_charge_even (pos 0)) (least_second (pos 0) Normal (pos 4000000) refl (omega (arith, ints)))
       (omega (arith, ints)))),
 )
 
 pub nice_lem : NiceExample
 nice_lem w = (
-  (λ s. put_back_at (pos 5) false (pos 12226865) (pos 0) (pos 0) refl w 1000000 s.0 s.1),
-  (λ e. subst (λ x. HasStep standard (switch_start (pos 5) false (pos 0)) (switch_event (pos 5) x)) (sym e)
-      (switch_step (pos 5) false (pos 12226865) (pos 0) (pos 0) refl 1000000 (omega (arith, ints), omega (arith, ints))
+  (λ s. put_back_at (pos 5) Normal (pos 12226865) (pos 0) (pos 0) refl w 1000000 s.0 s.1),
+  (λ e. subst (λ x. HasStep standard (switch_start (pos 5) Normal (pos 0)) (switch_event (pos 5) x)) (sym e)
+      (switch_step (pos 5) Normal (pos 12226865) (pos 0) (pos 0) refl 1000000 (omega (arith, ints), omega (arith, ints))
       (omega (arith, ints), omega (arith, ints))
-      can_charge_light (least_second (pos 5) false (pos 12226865) refl (omega (arith, ints))) (omega (arith, ints)))),
+      can_charge_light (least_second (pos 5) Normal (pos 12226865) refl (omega (arith, ints))) (omega (arith, ints)))),
 )
 
-can_charge_idle : (nice : ℤ) → CanCharge (switch_start nice true (pos 0)) 0 time
-can_charge_idle nice = can_charge_one (switch_start nice true (pos 0)) 0 time 101 nice (pos 0)
-    (runs_one nice true (pos 0)) refl refl (lit≤ tt) (omega (arith, ints))
+can_charge_idle : (nice : ℤ) → CanCharge (switch_start nice Idle (pos 0)) 0 time
+can_charge_idle nice = can_charge_one (switch_start nice Idle (pos 0)) 0 time 101 nice (pos 0)
+    (runs_one nice Idle (pos 0)) refl refl (lit≤ tt) (omega (arith, ints))
 
 pub idle_policy_lem : IdlePolicyExample
 idle_policy_lem nice w = (
-  (λ s. put_back_at nice true (pos 1365333333) (pos 0) (pos 0) refl w 1000000 s.0 s.1),
-  (λ e. subst (λ x. HasStep standard (switch_start nice true (pos 0)) (switch_event nice x)) (sym e)
-      (switch_step nice true (pos 1365333333) (pos 0) (pos 0) refl 1000000 (omega (arith, ints), omega (arith, ints))
+  (λ s. put_back_at nice Idle (pos 1365333333) (pos 0) (pos 0) refl w 1000000 s.0 s.1),
+  (λ e. subst (λ x. HasStep standard (switch_start nice Idle (pos 0)) (switch_event nice x)) (sym e)
+      (switch_step nice Idle (pos 1365333333) (pos 0) (pos 0) refl 1000000 (omega (arith, ints), omega (arith, ints))
       (omega (arith, ints), omega (arith, ints)) (can_charge_idle nice)
-      (least_second nice true (pos 1365333333) refl (omega (arith, ints))) (omega (arith, ints)))),
+      (least_second nice Idle (pos 1365333333) refl (omega (arith, ints))) (omega (arith, ints)))),
 )
 
 pub pick_lem : PickExample
 pick_lem granularity = (
-  (λ s. let h = picked_at (pos 0) false (pos 4000000) (pos 5000000) (pos 4000000) refl
+  (λ s. let h = picked_at (pos 0) Normal (pos 4000000) (pos 5000000) (pos 4000000) refl
       (pos 4000000) granularity s.0 s.1 in omega (arith, ints)),
-  (λ h. switch_step (pos 0) false (pos 4000000) (pos 5000000) (pos 4000000) refl granularity
+  (λ h. switch_step (pos 0) Normal (pos 4000000) (pos 5000000) (pos 4000000) refl granularity
       (omega (arith, ints), omega (arith, ints)) (omega (arith, ints), omega (arith, ints))
       (can_charge_even (pos 5000000)) least_first (omega (arith, ints))),
 )

@@ -1,6 +1,6 @@
--- Who is of the idle policy changes with births alone, and there as the companion names it: the machine's map and the
+-- Policies change with births alone, and there as the companion names them: the machine's map and the
 -- one that goes along the entries change alike.
-use Rattle.std.proofs.Common.{◌≡◌, ℕ, suc, zero, ◌<◌, Bool, true, false, cond, ℤ, inl, inr, List, [], ◌∷◌, ◌++◌, Option}
+use Rattle.std.proofs.Common.{◌≡◌, ℕ, suc, zero, ◌<◌, true, false, cond, ℤ, inl, inr, List, [], ◌∷◌, ◌++◌, Option}
 use Rattle.std.proofs.Common.{AllPairs, None, refl, sym, ap, ◌∙◌, suc-le-suc, arith}
 use Rattle.std.proofs.lemmas.Bool.{lt-ltb, le-ltb}
 use Rattle.std.proofs.lemmas.List.Elements.{recursion_from_All}
@@ -9,7 +9,7 @@ use Rattle.cfs_model.specs.Laws.{PoliciesAreTold, MoverKeepsPolicy}
 use Rattle.cfs_model.specs.Knobs.{KnobsView}
 use Rattle.cfs_model.specs.Machine.{Machine, pairs_of, put_pair, without_task, put}
 use Rattle.cfs_model.specs.Start.{policies_at_start, start_machine}
-use Rattle.cfs_model.specs.Claimed.{Claimed, is_named_idle, policies_after, policies_before, policy_in, with_claim}
+use Rattle.cfs_model.specs.Claimed.{Claimed, named_policy, policies_after, policies_before, policy_in, with_claim}
 use Rattle.cfs_model.specs.Claimed.{claimed, policy_told, nice_at, charge_at}
 use Rattle.cfs_model.specs.Touch.{touched}
 use Rattle.cfs_model.specs.Lifted.{charged, IsLifted}
@@ -56,9 +56,9 @@ policy-after_next m cpu zero = refl
 policy-after_next m cpu (suc n) = refl
 
 -- a policy that is told of a birth is the one named on its line
-abbrev IsNamedAt : List IdleLine → ℕ → Act → Bool → Type 0
+abbrev IsNamedAt : List IdleLine → ℕ → Act → Policy → Type 0
 IsNamedAt idles line act policy = (cpu pid : ℕ) (nice : ℤ) → act ≡ Born cpu pid nice → policy
-    ≡ is_named_idle idles line pid
+    ≡ named_policy idles line pid
 
 -- an event's own change makes of the policies what its act does
 change_policies : (idles : List IdleLine) (line : ℕ) (knobs : KnobsView) (m : Machine) (act : Act) (claim : Option
@@ -92,7 +92,7 @@ step_policies idles knobs m event after named s =
 -- along the entries of a run, whose lines are below the next one's
 run_policies : (knobs : KnobsView) (claims : List Claim) (nices : List NiceLine) (charges : List ChargeLine)
     (idles : List IdleLine)
-    (policy : Entry → Bool) → ((e : Entry) → IsNamedAt idles e.line e.act (policy e))
+    (policy : Entry → Policy) → ((e : Entry) → IsNamedAt idles e.line e.act (policy e))
     → (entry : Entry) (rest before : List Entry) (m : Machine) (states : List Machine)
     → AllByRecursion (λ (e : Entry). e.line < entry.line) before
     → AreSteps knobs m (claimed claims nices charges policy before) states
@@ -112,12 +112,12 @@ run_policies knobs claims nices charges idles policy named entry rest (e ∷ bef
     m.policy) (sym (lt-ltb e.line entry.line below.0))
 
 -- the policies told of a record's entries are those named, at births
-told_named : (idles : List IdleLine) (policies : ℕ → Bool) (entries : List Entry) (e : Entry)
+told_named : (idles : List IdleLine) (policies : ℕ → Policy) (entries : List Entry) (e : Entry)
     → IsNamedAt idles e.line e.act (policy_in idles policies entries e)
 told_named idles policies entries e cpu pid nice born = go e.act born
   where
     go : (act : Act) → act ≡ Born cpu pid nice
-        → policy_told idles (policies_before idles policies entries) e.line act ≡ is_named_idle idles e.line pid
+        → policy_told idles (policies_before idles policies entries) e.line act ≡ named_policy idles e.line pid
     go act born = ap (policy_told idles (policies_before idles policies entries) e.line) born
 
 -- the lines before an entry are below its own

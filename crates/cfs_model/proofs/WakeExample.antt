@@ -1,5 +1,5 @@
 -- The example of a wakeup: nobody is charged and the floor stays, so the bounds are those of the start.
-use Rattle.std.proofs.Common.{◌≡◌, ℕ, false, Some, None, ℤ, pos, ◌-ℤ◌, ◌≤ℤ◌, ◌⊎◌, inl, inr, [], ◌∷◌, refl, sym, ap, ◌∙◌}
+use Rattle.std.proofs.Common.{◌≡◌, ℕ, Some, None, ℤ, pos, ◌-ℤ◌, ◌≤ℤ◌, ◌⊎◌, inl, inr, [], ◌∷◌, refl, sym, ap, ◌∙◌}
 use Rattle.std.proofs.Common.{subst, arith}
 use Rattle.std.proofs.lemmas.Int.{ints}
 use Rattle.std.specs.Int.{int_max}
@@ -75,7 +75,7 @@ wake_step w low high =
         found = lifted;
         is_reniced = refl;
         changes = inr changes;
-        in_range = change_range standard lifted (wake_event w).entry.act (wake_event w).claim false after (inr changes)
+        in_range = change_range standard lifted (wake_event w).entry.act (wake_event w).claim Normal after (inr changes)
             (omega (arith, ints), omega (arith, ints)) (lifted_range 0 start_time None (0 ∷ []) wake_start lifted
             lift tt
             (start_in_order start_time (pos 10000000 ∷ []) (the_task ∷ []) start_is).in_range);

@@ -1,6 +1,6 @@
 -- Small recordings against the definitions of a step and of a run (this project's profile), each both ways: the value
 -- at which there is a step, and that there is none at any other.
-use Rattle.std.specs.Prelude.{◌≡◌, ℕ, Bool, true, false, ◌≤◌, ℤ, pos, ◌≤ℤ◌, ◌↔◌, Some, None, List, [], ◌∷◌}
+use Rattle.std.specs.Prelude.{◌≡◌, ℕ, ◌≤◌, ℤ, pos, ◌≤ℤ◌, ◌↔◌, Some, None, List, [], ◌∷◌}
 use Rattle.cfs_model.specs.Knobs.{KnobsView}
 use Rattle.cfs_model.specs.Machine.{Machine}
 use Rattle.cfs_model.specs.Start.{start_machine, policies_at_start}
@@ -16,7 +16,8 @@ use Rattle.cfs_model.specs.declared.claim.ClaimSort.TheVariants.{At}
 use Rattle.cfs_model.specs.declared.idle_line.IdleLine.{IdleLine}
 use Rattle.cfs_model.specs.declared.task.Place.TheVariants.{Run, Wait, Rest}
 use Rattle.cfs_model.specs.declared.task.Task.{Task}
-use Rattle.cfs_model.specs.declared.policy.Policy.TheVariants.{Normal}
+use Rattle.cfs_model.specs.declared.policy.Policy.{Policy}
+use Rattle.cfs_model.specs.declared.policy.Policy.TheVariants.{Normal, Idle}
 
 -- the default settings, but for the granularity
 abbrev pub standard_with : ℕ → KnobsView
@@ -49,7 +50,7 @@ abbrev pub start_time : ℕ
 start_time = 100000000000
 
 -- one processor, where 101 runs at 0 with a nice value and a policy, and 102 waits at u
-abbrev pub switch_start : ℤ → Bool → ℤ → Machine
+abbrev pub switch_start : ℤ → Policy → ℤ → Machine
 switch_start nice policy u = start_machine start_time (pos 0 ∷ []) (
     record { pid = 101; nice = nice; policy = policy; cpu = 0; place = Run; v = pos 0 }
     ∷ record { pid = 102; nice = pos 0; policy = Normal; cpu = 0; place = Wait; v = u } ∷ [])
@@ -67,7 +68,7 @@ switch_event nice w = record {
 -- 101 was charged 4 ms, and is put back at just that
 abbrev pub PutBackExample : Type 0
 PutBackExample = (w : ℤ)
-    → HasStep standard (switch_start (pos 0) false (pos 0)) (switch_event (pos 0) w) ↔ (w ≡ pos 4000000)
+    → HasStep standard (switch_start (pos 0) Normal (pos 0)) (switch_event (pos 0) w) ↔ (w ≡ pos 4000000)
 
 -- where the companion tells that 101 is charged up to a virtual runtime
 abbrev pub told_event : ℤ → ℤ → Claimed
@@ -82,17 +83,17 @@ ToldExample = (told w : ℤ)
 -- at nice 5, whose weight is 335, the charge is 4 ms * 1024 / 335, rounded down
 abbrev pub NiceExample : Type 0
 NiceExample = (w : ℤ)
-    → HasStep standard (switch_start (pos 5) false (pos 0)) (switch_event (pos 5) w) ↔ (w ≡ pos 12226865)
+    → HasStep standard (switch_start (pos 5) Normal (pos 0)) (switch_event (pos 5) w) ↔ (w ≡ pos 12226865)
 
 -- at weight 3, that of the idle policy, at just 4000000 * 1024 / 3, rounded down, whatever its nice value
 abbrev pub IdlePolicyExample : Type 0
 IdlePolicyExample = (nice w : ℤ)
-    → HasStep standard (switch_start nice true (pos 0)) (switch_event nice w) ↔ (w ≡ pos 1365333333)
+    → HasStep standard (switch_start nice Idle (pos 0)) (switch_event nice w) ↔ (w ≡ pos 1365333333)
 
 -- where 102 waits at 5 ms, the task that was put back is the least, and 102 is 1 ms above it
 abbrev pub PickExample : Type 0
 PickExample = (granularity : ℕ)
-    → HasStep (standard_with granularity) (switch_start (pos 0) false (pos 5000000))
+    → HasStep (standard_with granularity) (switch_start (pos 0) Normal (pos 5000000))
     (switch_event (pos 0) (pos 4000000))
     ↔ (1000000 ≤ granularity)
 
@@ -101,7 +102,7 @@ PickExample = (granularity : ℕ)
 -- w
 abbrev pub nice_events : ℤ → ℤ → List Claimed
 nice_events printed w =
-    claimed (at_claim 2 101 w ∷ []) (record { line = 1; pid = 101; nice = pos 5 } ∷ []) [] (λ entry. false) (
+    claimed (at_claim 2 101 w ∷ []) (record { line = 1; pid = 101; nice = pos 5 } ∷ []) [] (λ entry. Normal) (
     record { line = 1; time = 100004000000; act = Wake 0 101 printed }
     ∷ record { line = 2; time = 100008000000; act = Switch 0 101 (pos 5) Stays 102 (pos 0) } ∷ [])
 
@@ -109,7 +110,7 @@ nice_events printed w =
 -- it
 abbrev pub NiceChangeExample : Type 0
 NiceChangeExample = (printed w : ℤ)
-    → IsRun standard start_time (switch_start (pos 0) false (pos 0)) (nice_events printed w)
+    → IsRun standard start_time (switch_start (pos 0) Normal (pos 0)) (nice_events printed w)
     ↔ ((printed ≡ pos 5) × (w ≡ pos 16226865))
 
 -- two processors with floors 3 and 100, where 101 waits at 5 at the first and 102 runs there at 3
@@ -208,7 +209,7 @@ idle_start = start_machine start_time (pos 0 ∷ []) (
 
 -- 102 is woken 1 ms after the start and placed at 0, woken again 0.05 ms later, and picked at the time given
 abbrev pub idle_events : ℕ → List Claimed
-idle_events time = claimed (at_claim 1 102 (pos 0) ∷ []) [] [] (λ entry. false) (
+idle_events time = claimed (at_claim 1 102 (pos 0) ∷ []) [] [] (λ entry. Normal) (
     record { line = 1; time = 100001000000; act = Wake 0 102 (pos 0) }
     ∷ record { line = 2; time = 100001050000; act = Wake 0 102 (pos 0) }
     ∷ record { line = 3; time = time; act = Switch 0 0 (pos 0) Stays 102 (pos 0) } ∷ [])
@@ -225,7 +226,7 @@ birth_start = start_machine start_time (pos 0 ∷ pos 0 ∷ []) (
 
 -- 101 leaves the first in a way, and 1 ms later a task of that pid is born at the second; the claim places it at w
 abbrev pub birth_events : Way → ℤ → List Claimed
-birth_events way w = claimed (at_claim 2 101 w ∷ []) [] [] (λ entry. false) (
+birth_events way w = claimed (at_claim 2 101 w ∷ []) [] [] (λ entry. Normal) (
     record { line = 1; time = 100001000000; act = Switch 0 101 (pos 0) way 0 (pos 0) }
     ∷ record { line = 2; time = 100002000000; act = Born 1 101 (pos 0) } ∷ [])
 
@@ -235,12 +236,12 @@ BirthExample = (way : Way) (w : ℤ)
     → IsRun standard start_time birth_start (birth_events way w) ↔ ((way ≡ Ends) × (pos 0 ≤ℤ w) × (w ≤ℤ pos 3000000))
 
 -- one processor, where 101 runs at 0, of the idle policy or not, and 102 rests at 0
-abbrev pub rebirth_tasks : Bool → List Task
+abbrev pub rebirth_tasks : Policy → List Task
 rebirth_tasks policy =
     record { pid = 101; nice = pos 0; policy = policy; cpu = 0; place = Run; v = pos 0 }
     ∷ record { pid = 102; nice = pos 0; policy = Normal; cpu = 0; place = Rest; v = pos 0 } ∷ []
 
-abbrev pub rebirth_start : Bool → Machine
+abbrev pub rebirth_start : Policy → Machine
 rebirth_start policy = start_machine start_time (pos 0 ∷ []) (rebirth_tasks policy)
 
 -- at once 101 ends, a task of that pid is born at nice 5, and it is picked; 4 ms later 102 is woken
@@ -252,7 +253,7 @@ rebirth_entries =
     ∷ record { line = 4; time = 100004000000; act = Wake 0 102 (pos 0) } ∷ []
 
 -- the claims place the new task at 0 and 102 at w; the companion names who is of the idle policy
-abbrev pub rebirth_events : Bool → List IdleLine → ℤ → List Claimed
+abbrev pub rebirth_events : Policy → List IdleLine → ℤ → List Claimed
 rebirth_events policy idles w =
     claimed (at_claim 2 101 (pos 0) ∷ at_claim 4 102 w ∷ []) [] []
     (policy_in idles (policies_at_start (rebirth_tasks policy)) rebirth_entries) rebirth_entries
@@ -260,13 +261,13 @@ rebirth_events policy idles w =
 -- a task that is named at its birth is of the idle policy, whatever its pid was of before: 4 ms cost 1365333333, which
 -- is then the floor, and 102 is placed from 3 ms below that to it
 abbrev pub IdleBirthExample : Type 0
-IdleBirthExample = (was : Bool) (w : ℤ)
+IdleBirthExample = (was : Policy) (w : ℤ)
     → IsRun standard start_time (rebirth_start was) (rebirth_events was (record { line = 2; pid = 101 } ∷ []) w)
     ↔ ((pos 1362333333 ≤ℤ w) × (w ≤ℤ pos 1365333333))
 
 -- and one that isn't named weighs by its nice value: 4 ms at nice 5 cost 12226865
 abbrev pub RebirthExample : Type 0
-RebirthExample = (was : Bool) (w : ℤ)
+RebirthExample = (was : Policy) (w : ℤ)
     → IsRun standard start_time (rebirth_start was) (rebirth_events was [] w)
     ↔ ((pos 9226865 ≤ℤ w) × (w ≤ℤ pos 12226865))
 

@@ -4,7 +4,7 @@
 -- rbtree" (the time that a task just ran is added to its virtual runtime; min_vruntime is monotonic and tracks the
 -- smallest virtual runtime of the runqueue); sched-nice-design.rst (a nice value is a share, here a weight). That only
 -- events charge, the weight of the idle policy and the rounding are this project's profile.
-use Rattle.std.specs.Prelude.{◌≡◌, ℕ, Bool, ◌-◌, ◌≤◌, if◌then◌else◌, Option, Some, None, option_map, option_and_then, ℤ}
+use Rattle.std.specs.Prelude.{◌≡◌, ℕ, ◌-◌, ◌≤◌, if◌then◌else◌, Option, Some, None, option_map, option_and_then, ℤ}
 use Rattle.std.specs.Prelude.{pos}
 use Rattle.std.specs.Prelude.{◌+ℤ◌, ◌≤ℤ◌, ◌⊎◌, List, [], ◌∷◌}
 use Rattle.std.specs.Int.{int_max}
@@ -15,10 +15,11 @@ use Rattle.cfs_model.specs.Machine.{Machine, Stands, IsQueued, put, with_floor}
 use Rattle.cfs_model.specs.Told.{ChargesAs}
 use Rattle.cfs_model.specs.declared.charge_line.ChargeLine.{ChargeLine}
 use Rattle.cfs_model.specs.declared.task.Place.TheVariants.{Run}
+use Rattle.cfs_model.specs.declared.policy.Policy.{Policy}
 
 -- what a task of this nice value and policy is charged at this processor and time, in virtual nanoseconds: for the time
 -- since the processor's mark
-abbrev pub cost_at : Machine → ℕ → ℕ → ℤ → Bool → ℕ
+abbrev pub cost_at : Machine → ℕ → ℕ → ℤ → Policy → ℕ
 cost_at m cpu time nice policy = charge_of (time - m.mark cpu) (task_weight nice policy)
 
 -- the virtual runtime of a task that is charged

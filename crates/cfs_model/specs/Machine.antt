@@ -6,6 +6,7 @@ use Rattle.std.specs.Prelude.{◌≡◌, ℕ, ◌==◌, Bool, true, false, if◌
 use Rattle.cfs_model.specs.Charge.{IsInRange}
 use Rattle.cfs_model.specs.declared.task.Place.{Place}
 use Rattle.cfs_model.specs.declared.task.Place.TheVariants.{Run, Wait, Rest}
+use Rattle.cfs_model.specs.declared.policy.Policy.{Policy}
 
 -- a set of pairs of a processor and a pid
 abbrev pub Pairs : Type 0
@@ -16,18 +17,18 @@ pub record Machine : Type 0 where
   pub running : Pairs
   pub waiting : Pairs
   pub resting : Pairs
-  -- the virtual runtime of each task, in virtual nanoseconds
+  -- the virtual runtime (vruntime) of each task, in virtual nanoseconds
   pub runtime : ℕ → Option ℤ
   -- the nice value of each task
   pub nice : ℕ → Option ℤ
-  -- who is of the idle policy, as told at the start or at a task's birth; of a pid without a task it says nothing
-  pub policy : ℕ → Bool
+  -- the policy of each task, as told at the start or at its birth; of a pid without a task it says nothing
+  pub policy : ℕ → Policy
   -- by how much the told charges of each task stray in sum from exact ones since it came to its processor, in virtual
   -- nanoseconds; of a pid without a task it says nothing
   pub drift : ℕ → ℤ
-  -- the floor of each processor's runqueue, in virtual nanoseconds
+  -- the floor of each processor's runqueue (its min_vruntime), in virtual nanoseconds
   pub floor : ℕ → ℤ
-  -- the time of the last charge at each processor, in nanoseconds
+  -- the mark: the time of the last charge at each processor (its running task's exec_start), in nanoseconds
   pub mark : ℕ → ℕ
 
 -- the set of those in a place
@@ -91,8 +92,8 @@ with_nice m pid nice = record m { nice = put m.nice pid (Some nice) }
 abbrev pub with_drift : Machine → ℕ → ℤ → Machine
 with_drift m pid drift = record m { drift = put m.drift pid drift }
 
--- the pid is of the idle policy, or not
-abbrev pub with_policy : Machine → ℕ → Bool → Machine
+-- the pid is of this policy
+abbrev pub with_policy : Machine → ℕ → Policy → Machine
 with_policy m pid policy = record m { policy = put m.policy pid policy }
 
 -- the pid has neither a virtual runtime nor a nice value

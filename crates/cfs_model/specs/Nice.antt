@@ -1,5 +1,7 @@
 -- Nice values and their weights (sched-nice-design.rst, and the scheduler's table of weights by nice).
-use Rattle.std.specs.Prelude.{ℕ, Bool, if◌then◌else◌, ℤ, pos, negsuc, ◌≤ℤ◌, ◌+ℤ◌, nat_abs, slice_index, List, [], ◌∷◌}
+use Rattle.std.specs.Prelude.{ℕ, ℤ, pos, negsuc, ◌≤ℤ◌, ◌+ℤ◌, nat_abs, slice_index, List, [], ◌∷◌}
+use Rattle.cfs_model.specs.declared.policy.Policy.{Policy}
+use Rattle.cfs_model.specs.declared.policy.Policy.TheVariants.{Normal, Idle}
 
 -- a nice value lies from -20 to 19
 abbrev pub IsNice : ℤ → Type 0
@@ -25,6 +27,7 @@ weight_of nice = slice_index weights (nat_abs (nice +ℤ pos 20))
 abbrev pub idle_policy_weight : ℕ
 idle_policy_weight = 3
 
--- the weight of a task of this nice value, which is of the idle policy or not
-abbrev pub task_weight : ℤ → Bool → ℕ
-task_weight nice policy = if policy then idle_policy_weight else weight_of nice
+-- the weight of a task of this nice value and policy
+abbrev pub task_weight : ℤ → Policy → ℕ
+task_weight nice Normal = weight_of nice
+task_weight nice Idle = idle_policy_weight

@@ -6,6 +6,8 @@ use Rattle.cfs_model.specs.Machine.{Machine, Pairs}
 use Rattle.cfs_model.specs.declared.task.Place.{Place}
 use Rattle.cfs_model.specs.declared.task.Place.TheVariants.{Run, Wait, Rest}
 use Rattle.cfs_model.specs.declared.task.Task.{Task}
+use Rattle.cfs_model.specs.declared.policy.Policy.{Policy}
+use Rattle.cfs_model.specs.declared.policy.Policy.TheVariants.{Normal}
 
 -- two places are one
 abbrev pub place_eq : Place → Place → Bool
@@ -22,9 +24,9 @@ named_in tasks place cpu pid = list_any (λ t. (t.pid == pid) && ((t.cpu == cpu)
 abbrev pub task_of : List Task → ℕ → Option Task
 task_of tasks pid = find (λ t. t.pid == pid) tasks
 
--- who is of the idle policy at the start
-abbrev pub policies_at_start : List Task → ℕ → Bool
-policies_at_start tasks pid = option_map_or (λ t. t.policy) (task_of tasks pid) false
+-- the policy of each task at the start
+abbrev pub policies_at_start : List Task → ℕ → Policy
+policies_at_start tasks pid = option_map_or (λ t. t.policy) (task_of tasks pid) Normal
 
 -- each task in its place with its values and without a drift, and each processor with its floor and the start time as
 -- its mark; a processor past the list of floors has floor 0

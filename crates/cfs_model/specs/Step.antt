@@ -2,7 +2,7 @@
 -- of a nice value. Source: sched-design-CFS.rst, "Few implementation details" (the task with the smallest virtual
 -- runtime is run) and "The rbtree" (within a granularity of it; min_vruntime places newly activated tasks). The bounds
 -- of a placement, the claims and what a migration keeps are this project's profile.
-use Rattle.std.specs.Prelude.{◌≡◌, ◌≢◌, ℕ, Bool, zero, suc, Option, Some, None, ℤ, pos, ◌+ℤ◌, ◌-ℤ◌, ◌≤ℤ◌, ◌⊎◌, ⊤}
+use Rattle.std.specs.Prelude.{◌≡◌, ◌≢◌, ℕ, zero, suc, Option, Some, None, ℤ, pos, ◌+ℤ◌, ◌-ℤ◌, ◌≤ℤ◌, ◌⊎◌, ⊤}
 use Rattle.std.specs.Int.{int_max}
 use Rattle.cfs_model.specs.Knobs.{KnobsView}
 use Rattle.cfs_model.specs.Machine.{Machine, Stands, NobodyStands, IsQueued, AreValuesInRange, with_task, without_task}
@@ -118,7 +118,7 @@ pub record IsMigration (m : Machine) (orig dest pid : ℕ) (nice : ℤ) (claim :
   pub place : Place
   pub stands : Stands m place orig pid
   pub prio : m.nice pid ≡ Some nice
-  pub policy : m.policy pid ≡ policy
+  pub policy_is : m.policy pid ≡ policy
   pub own : ℤ
   pub runtime : m.runtime pid ≡ Some own
   pub sort : ClaimSort
@@ -128,7 +128,7 @@ pub record IsMigration (m : Machine) (orig dest pid : ℕ) (nice : ℤ) (claim :
       (with_runtime (with_move m pid place orig place dest) pid ((own -ℤ m.floor orig) +ℤ m.floor dest)) pid (pos 0)
 
 -- what an event changes in the machine as it finds it
-abbrev pub Changes : KnobsView → Machine → Act → Option Claim → Bool → Machine → Type 0
+abbrev pub Changes : KnobsView → Machine → Act → Option Claim → Policy → Machine → Type 0
 Changes knobs m (Switch cpu prev prev_nice way next next_nice) claim policy after =
     IsSwitch knobs m cpu prev prev_nice way next next_nice claim after
 Changes knobs m (Wake cpu pid nice) claim policy after =

@@ -15,6 +15,7 @@ mod limits;
 mod memory;
 mod nice;
 mod nice_line;
+mod policy;
 mod setting;
 mod task;
 mod told_laws;
@@ -39,6 +40,7 @@ pub use limits::{
 pub use memory::Memory;
 pub use nice::{Nice, PrioFault};
 pub use nice_line::NiceLine;
+pub use policy::Policy;
 pub use setting::Setting;
 pub use task::{Place, Task};
 pub use told_laws::{drifts, no_drift, untold};

@@ -1,4 +1,5 @@
 use crate::nice::Nice;
+use crate::policy::Policy;
 
 /// Where a task stands at its processor.
 #[derive(Clone, Copy, Debug, PartialEq, Eq)]
@@ -17,7 +18,6 @@ pub struct Task {
     /// From 1.
     pub pid: u32,
     pub nice: Nice,
-    /// Whether it is of the idle policy (`SCHED_IDLE`), and weighs so, whatever its nice value.
     pub policy: Policy,
     /// The processor at which it stands.
     pub cpu: u32,

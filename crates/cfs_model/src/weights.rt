@@ -5,6 +5,7 @@ ghost use Rattle.cfs_model.specs.Nice.{task_weight, weight_of};
 
 use crate::limits::GREATEST_RUNTIME;
 use crate::nice::Nice;
+use crate::policy::Policy;
 
 // The rows of the table, each from the nice value that begins it.
 macro_rules! weight_at {
@@ -13,9 +14,9 @@ macro_rules! weight_at {
     };
 }
 
-// The place of a nice value among the forty.
+// The index of a nice value among the forty.
 fn index_of(nice: Nice) -> usize
-    ensures place { result ≡ nat_abs (nice +ℤ pos 20) }
+    ensures index { result ≡ nat_abs (nice +ℤ pos 20) }
     ensures within { result < 40 }
 {
     (nice.get() + 20) as usize
@@ -38,15 +39,14 @@ pub fn weight(nice: Nice) -> u32
     )
 }
 
-/// The weight of a task of this nice value and policy: `IDLE_WEIGHT` where it is of the idle policy. It is above 0.
+/// The weight of a task of this nice value and policy. It is above 0.
 pub fn weight_of(nice: Nice, policy: Policy) -> u32
     ensures policy { result ≡ task_weight nice policy }
     ensures positive { 0 < result }
 {
-    if policy {
-        IDLE_POLICY_WEIGHT
-    } else {
-        weight(nice)
+    match policy {
+        Policy::Normal => weight(nice),
+        Policy::Idle => IDLE_POLICY_WEIGHT,
     }
 }
 

@@ -9,7 +9,7 @@ use Rattle.std.proofs.lemmas.List.{length-set, same_lists}
 use Rattle.std.proofs.lemmas.List.Elements.{All-map, All-weaker, All-head, All-tail}
 use Rattle.std.proofs.lemmas.List.Folds.{list_any-append}
 use Rattle.cfs_model.specs.Limits.{no_line}
-use Rattle.cfs_model.specs.Claimed.{is_named_idle}
+use Rattle.cfs_model.specs.Claimed.{is_named_idle, named_policy, policy_by}
 use Rattle.cfs_model.specs.Start.{policies_at_start}
 use Rattle.cfs_model.specs.declared.idle_line.IdleLine.{IdleLine}
 use Rattle.cfs_model.specs.declared.task.Task.{Task}
@@ -61,9 +61,16 @@ named_push : (idles : List IdleLine) (k : IdleLine) (pid : ℕ)
     || ((eqb k.line no_line && eqb k.pid pid) || false))
 named_push idles k pid = list_any-append (λ (idle : IdleLine). eqb idle.line no_line && eqb idle.pid pid) idles (k ∷ [])
 
--- the task with this policy
+-- the task, of the idle policy or not
 abbrev with_idle : Task → Bool → Task
-with_idle t idle = record { pid = t.pid; nice = t.nice; idle = idle; cpu = t.cpu; place = t.place; v = t.v }
+with_idle t is_idle = record {
+  pid = t.pid;
+  nice = t.nice;
+  policy = policy_by is_idle;
+  cpu = t.cpu;
+  place = t.place;
+  v = t.v;
+}
 
 or_false : (a b : Bool) → b ≡ false → (a || (b || false)) ≡ a
 or_false true b e = refl
@@ -149,12 +156,12 @@ module _ (idles : List IdleLine) (k : IdleLine) (tasks : List Task) (index : ℕ
 -- ---- at the end
 
 starts_named : (idles : List IdleLine) (tasks : List Task) (pid : ℕ)
-    → policies_at_start (map (with_policy_told idles) tasks) pid ≡ (is_task tasks pid
-    && is_named_idle idles no_line pid)
+    → policies_at_start (map (with_policy_told idles) tasks) pid
+    ≡ policy_by (is_task tasks pid && is_named_idle idles no_line pid)
 starts_named idles [] pid = refl
 starts_named idles (t ∷ tasks) pid =
     elim (cases_Bool (eqb t.pid pid)) [
-      | inl this ↦ rw this (ap (is_named_idle idles no_line) (eqb-true t.pid pid this))
+      | inl this ↦ rw this (ap (named_policy idles no_line) (eqb-true t.pid pid this))
       | inr other ↦ rw other (starts_named idles tasks pid)
     ]
 
@@ -181,7 +188,8 @@ and_known false false known = refl
 
 pub policies_agree : (idles : List IdleLine) (tasks : List Task) (pid : ℕ) → map (with_policy_told idles) tasks ≡ tasks
     → All (λ idle. idle.line ≡ no_line → is_task tasks idle.pid ≡ true) idles
-    → is_named_idle idles no_line pid ≡ policies_at_start tasks pid
+    → named_policy idles no_line pid ≡ policies_at_start tasks pid
 policies_agree idles tasks pid told kept =
-    and_known (is_task tasks pid) (is_named_idle idles no_line pid) (policy_of_named tasks idles pid kept)
+    ap policy_by (and_known (is_task tasks pid) (is_named_idle idles no_line pid)
+    (policy_of_named tasks idles pid kept))
     ∙ sym (starts_named idles tasks pid) ∙ ap (λ (ts : List Task). policies_at_start ts pid) told

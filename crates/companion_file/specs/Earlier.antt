@@ -11,7 +11,7 @@ use Rattle.cfs_model.specs.declared.claim.Claim.{Claim}
 use Rattle.cfs_model.specs.declared.nice_line.NiceLine.{NiceLine}
 use Rattle.cfs_model.specs.declared.charge_line.ChargeLine.{ChargeLine}
 use Rattle.cfs_model.specs.declared.idle_line.IdleLine.{IdleLine}
-use Rattle.cfs_model.specs.Claimed.{is_named_idle}
+use Rattle.cfs_model.specs.Claimed.{named_policy}
 use Rattle.companion_file.specs.Shape.{Shape, version_line, cpus_line, start_line, floor_line, task_line, claim_line}
 use Rattle.companion_file.specs.Shape.{nice_line, idle_line, charge_line}
 
@@ -62,7 +62,7 @@ charge_in _ = None
 
 -- a task of the start state with the policy that idle lines tell
 abbrev pub with_policy_told : List IdleLine → Task → Task
-with_policy_told idles task = record task { idle = is_named_idle idles no_line task.pid }
+with_policy_told idles task = record task { policy = named_policy idles no_line task.pid }
 
 -- what lines say, taken together
 pub record Said : Type 0 where

@@ -9,7 +9,7 @@ use Rattle.cfs_model.specs.Limits.{nanoseconds_per_second}
 use Rattle.cfs_model.specs.Charge.{IsInRange}
 use Rattle.cfs_model.specs.Nice.{IsNice}
 use Rattle.cfs_model.specs.Order.{RunApart}
-use Rattle.cfs_model.specs.Claimed.{is_named_idle}
+use Rattle.cfs_model.specs.Claimed.{named_policy}
 use Rattle.cfs_model.specs.Start.{policies_at_start}
 use Rattle.companion_file.specs.Companion.{CompanionView}
 use Rattle.companion_file.specs.Reading.{IsChargeLineInLimits}
@@ -64,4 +64,4 @@ pub record IsCompanionInOrder (r : CompanionView) : Type 0 where
   pub idles_rise : AllPairs IdleRises r.idles
   pub charges_in_limits : All IsChargeLineInLimits r.charges
   pub charge_lines_rise : AllPairs (λ a b. a.line < b.line) r.charges
-  pub policies_told : (pid : ℕ) → is_named_idle r.idles no_line pid ≡ policies_at_start r.tasks pid
+  pub policies_told : (pid : ℕ) → named_policy r.idles no_line pid ≡ policies_at_start r.tasks pid

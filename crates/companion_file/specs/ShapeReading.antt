@@ -1,7 +1,7 @@
 -- How one line of a companion is read from left to right: what each part takes from the front of a text, and what it
 -- leaves. Nothing here is to be believed: it is proved to give what `Spelling` spells, but for numbers far out of
 -- their limits, which are read as other numbers out of their limits.
-use Rattle.std.specs.Prelude.{ℕ, ◌+◌, nat_lt, false, if◌then◌else◌, ℤ, pos, neg_ℤ, min, List, codes, Option, None}
+use Rattle.std.specs.Prelude.{ℕ, ◌+◌, nat_lt, if◌then◌else◌, ℤ, pos, neg_ℤ, min, List, codes, Option, None}
 use Rattle.std.specs.Prelude.{Some, option_map}
 use Rattle.std.specs.Option.{option_map_or}
 use Rattle.cfs_model.specs.Limits.{greatest_runtime}

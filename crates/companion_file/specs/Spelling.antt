@@ -1,5 +1,5 @@
 -- How the lines of a companion are spelled (this project's companion format, versions 1 to 3).
-use Rattle.std.specs.Prelude.{◌≡◌, ℕ, ◌≤◌, false, ℤ, pos, neg_ℤ, List, [], ◌∷◌, ◌++◌, codes, ◌⊎◌}
+use Rattle.std.specs.Prelude.{◌≡◌, ℕ, ◌≤◌, ℤ, pos, neg_ℤ, List, [], ◌∷◌, ◌++◌, codes, ◌⊎◌}
 use Rattle.std.specs.List.{join_with_byte}
 use Rattle.cfs_model.specs.declared.task.Place.{Place}
 use Rattle.cfs_model.specs.declared.task.Place.TheVariants.{Run, Wait, Rest}
@@ -9,6 +9,7 @@ use Rattle.text_parts.specs.Numerals.{IsNumeral, value_of}
 use Rattle.text_parts.specs.Time.{IsTime}
 use Rattle.companion_file.specs.Shape.{Shape, version_line, cpus_line, start_line, floor_line, task_line, claim_line}
 use Rattle.companion_file.specs.Shape.{nice_line, idle_line, charge_line}
+use Rattle.cfs_model.specs.declared.policy.Policy.TheVariants.{Normal}
 
 -- the line is the first one of every companion of this version
 abbrev pub IsFirstLine : List ℕ → ℕ → Type 0
@@ -58,7 +59,7 @@ IsSpelled version line (start_line seconds nanoseconds) =
 IsSpelled version line (floor_line cpu floor) =
     (a b : List ℕ) × IsNumber a cpu × IsInteger b floor × (line ≡ spaced (codes "floor" ∷ a ∷ b ∷ []))
 IsSpelled version line (task_line task) =
-    (task.policy ≡ false) × (a b c d : List ℕ) × IsNumber a task.pid × IsInteger b task.nice × IsNumber c task.cpu
+    (task.policy ≡ Normal) × (a b c d : List ℕ) × IsNumber a task.pid × IsInteger b task.nice × IsNumber c task.cpu
     × IsInteger d task.v
     × (line ≡ spaced (codes "task" ∷ a ∷ b ∷ c ∷ place_word task.place ∷ d ∷ []))
 IsSpelled version line (claim_line claim) =

@@ -1,5 +1,4 @@
 -- What a line says, as the reader has it, and when that stands for what the line spells.
-use Rattle.std.specs.Prelude.{false}
 use Rattle.companion_file.specs.declared.statement.Statement.{Statement}
 use Rattle.companion_file.specs.declared.statement.Statement.TheVariants as statements
 use Rattle.companion_file.specs.Shape.{Shape, version_line, cpus_line, start_line, floor_line, task_line, claim_line}

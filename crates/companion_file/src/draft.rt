@@ -1,5 +1,6 @@
 ghost use Rattle.std.specs.Prelude.{◌≡◌, ◌<◌, ◌&&◌, nat_lt, not, true, false, ◌==◌, unwrap_or, Some, MatchOption, []};
 ghost use Rattle.std.specs.Prelude.{IsTrue, slice_set};
+ghost use Rattle.cfs_model.specs.declared.policy.Policy.TheVariants.{Normal};
 ghost use Rattle.cfs_model.specs.declared.task.Task.{Task};
 ghost use Rattle.cfs_model.specs.declared.claim.Claim.{Claim};
 ghost use Rattle.cfs_model.specs.Limits.{most_processors};
@@ -20,7 +21,7 @@ use crate::fault::Refusal;
 use crate::limits::{is_pid, is_running, is_value, nice_within};
 use crate::lists::{Charges, Claims, Floors, Idles, Nices, Tasks};
 use crate::spans::IdleSpans;
-use cfs_model::{ChargeLine, Claim, IdleLine, MOST_PROCESSORS, NiceLine, Place, Task};
+use cfs_model::{ChargeLine, Claim, IdleLine, MOST_PROCESSORS, NiceLine, Place, Policy, Task};
 use std::alloc::Global;
 use std::marker::Model;
 
@@ -148,7 +149,7 @@ impl Draft {
     #[inline(always)]
     fn add_task(&mut self, task: Task) -> Result<(), Refusal>
         requires cpu { task.cpu < unwrap_or self.old.cpus 0 }
-        requires plain { task.policy ≡ false }
+        requires plain { task.policy ≡ Normal }
         requires first { self.old.idles ≡ [] }
         ensures { Adds self.old (task_line task) result self.new }
     {

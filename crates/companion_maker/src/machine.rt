@@ -4,7 +4,7 @@ use crate::processor::Processor;
 use crate::strategy::Strategy;
 use crate::values::{above, below, moved};
 use crate::wishes::Wishes;
-use cfs_model::{Act, Claim, ClaimSort, Entry, Memory, Nice, NiceLine, Place, Task, Way};
+use cfs_model::{Act, Claim, ClaimSort, Entry, Memory, Nice, NiceLine, Place, Policy, Task, Way};
 use std::alloc::Global;
 use std::collections::BTreeMap;
 

@@ -1,6 +1,8 @@
 //! Who stands where at the start.
 
-use cfs_model::{Act, Entry, GREATEST_PID, IDLE_PID, MOST_PROCESSORS, Memory, Nice, Place, Task};
+use cfs_model::{
+    Act, Entry, GREATEST_PID, IDLE_PID, MOST_PROCESSORS, Memory, Nice, Place, Policy, Task,
+};
 use std::alloc::Global;
 use std::collections::BTreeMap;
 

@@ -1,4 +1,4 @@
-use cfs_model::{Nice, Place, weight_of};
+use cfs_model::{Nice, Place, Policy, weight_of};
 use runqueue::Stander;
 use std::fmt;
 
@@ -15,7 +15,7 @@ pub(crate) fn verb(task: &Stander) -> &'static str {
 #[derive(Clone, Copy)]
 pub(crate) struct WeightWords {
     nice: Nice,
-    idle: bool,
+    policy: Policy,
 }
 
 /// That of a task.
@@ -28,12 +28,11 @@ pub(crate) fn weight_words(task: &Stander) -> WeightWords {
 
 impl fmt::Display for WeightWords {
     fn fmt<W: fmt::Write>(&self, f: &mut fmt::Formatter<W>) -> fmt::Result {
-        let weight = weight_of(self.nice, self.idle);
+        let weight = weight_of(self.nice, self.policy);
         let nice = self.nice.get();
-        if self.idle {
-            write!(f, "nice {nice}, idle policy (weight {weight})")
-        } else {
-            write!(f, "nice {nice} (weight {weight})")
+        match self.policy {
+            Policy::Normal => write!(f, "nice {nice} (weight {weight})"),
+            Policy::Idle => write!(f, "nice {nice}, idle policy (weight {weight})"),
         }
     }
 }

@@ -4,6 +4,6 @@ use Rattle.std.specs.Borrow.{Fml, Lends, MutBor, RattleType}
 use Rattle.pid_table.specs.Rows.{Rows, with_row}
 use Rattle.pid_table.specs.contracts.pid_table.PidTable.{the_row}
 
--- the row at the place is the last value behind the reference
+-- the row at the index is the last value behind the reference
 abbrev pub LendsRow : (V : RattleType) → MutBor (Rows V.Denot) → ℕ → MutBor V.Denot → Fml
-LendsRow V table place row = Lends (the_row V) V table row (with_row table.now place)
+LendsRow V table index row = Lends (the_row V) V table row (with_row table.now index)

@@ -21,9 +21,9 @@ pub record AreSound {V : Type 0} (table : Rows V) : Type 0 where
   pub apart : IsDistinct nat_eq table.pids
 
 -- where a pid stands in a list of pids
-abbrev pub place_in : List ℕ → ℕ → Option ℕ
-place_in pids pid = position (nat_eq pid) pids
+abbrev pub index_in : List ℕ → ℕ → Option ℕ
+index_in pids pid = position (nat_eq pid) pids
 
--- the table with a row at a place
+-- the table with a row at an index
 abbrev pub with_row : {V : Type 0} → Rows V → ℕ → V → Rows V
-with_row table place row = record table { rows = set table.rows place row }
+with_row table index row = record table { rows = set table.rows index row }

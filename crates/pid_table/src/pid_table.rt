@@ -1,6 +1,6 @@
 ghost use Rattle.std.specs.Prelude.{◌≡◌, ◌∷◌, ◌++◌, ◌<◌, [], None, Some, IfSome, OnOk, length, slice_get};
 ghost use Rattle.std.specs.Borrow.{sem};
-ghost use Rattle.pid_table.specs.Rows.{AreSound, place_in};
+ghost use Rattle.pid_table.specs.Rows.{AreSound, index_in};
 
 use crate::PidHasher;
 use indexmap::IndexMap;
@@ -56,21 +56,21 @@ impl<V> PidTable<V> {
     }
 
     /// Where the row of a pid is, if it has one.
-    pub fn place_of(&self, pid: u32) -> Option<usize>
-        ensures place { result ≡ place_in self.now.pids pid }
-        ensures within { IfSome result (λ place. place < length self.now.rows) }
+    pub fn index_of(&self, pid: u32) -> Option<usize>
+        ensures index { result ≡ index_in self.now.pids pid }
+        ensures within { IfSome result (λ index. index < length self.now.rows) }
         ensures sound { AreSound self.now }
     {
         self.map.get_index_of(&pid)
     }
 
-    /// The row at a place, to be changed.
-    pub fn row_mut(&mut self, place: usize) -> &mut V
-        requires { place < length self.old.rows }
-        ensures* writes_back { sem 𝓛 (LendsRow V.row self.entry place result) }
-        ensures value { slice_get self.old.rows place ≡ Some result.now }
+    /// The row at an index, to be changed.
+    pub fn row_mut(&mut self, index: usize) -> &mut V
+        requires { index < length self.old.rows }
+        ensures* writes_back { sem 𝓛 (LendsRow V.row self.entry index result) }
+        ensures value { slice_get self.old.rows index ≡ Some result.now }
     {
-        &mut self.map[place]
+        &mut self.map[index]
     }
 
     /// Makes room for one more row.
@@ -88,7 +88,7 @@ impl<V> PidTable<V> {
     where
         V: Drop,
         requires room { 0 < self.old.room }
-        requires new { place_in self.old.pids pid ≡ None }
+        requires new { index_in self.old.pids pid ≡ None }
         ensures pids { self.new.pids ≡ self.old.pids ++ pid ∷ [] }
         ensures rows { self.new.rows ≡ self.old.rows ++ row ∷ [] }
         ensures sound { AreSound self.new }

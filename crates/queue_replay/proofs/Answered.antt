@@ -100,8 +100,8 @@ idles part None v nobody none w = record {
 }
 
 pub busy : (part : Part) (runner : Option Stander) → IsTheRunner part runner → is_some runner ≡ true → ¬ PartIdles part
-busy part None nobody some idle = absurd cc
-busy part (Some t) ran some idle = idle.nobody_runs t.pid (ap its_place ran.0 ∙ ap Some ran.1)
+busy part None nobody some idles = absurd cc
+busy part (Some t) ran some idles = idles.nobody_runs t.pid (ap its_place ran.0 ∙ ap Some ran.1)
 
 pub unwaited : (part : Part) → NobodyIn part Wait → ¬ PartIdles part
-unwaited part none idle = none idle.pid idle.waits
+unwaited part none idles = none idles.pid idles.waits

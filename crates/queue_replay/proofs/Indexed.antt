@@ -11,7 +11,7 @@ use Rattle.replay_model.specs.Noted.{new_tally, with_tally}
 use Rattle.replay_model.specs.declared.page.Tally.{Tally}
 use Rattle.runqueue.specs.Tasks.{RisesByPid}
 use Rattle.pid_table.proofs.Indices.{pid_there, pid_nowhere}
-use Rattle.pid_table.specs.Rows.{Rows, AreSound, place_in, with_row}
+use Rattle.pid_table.specs.Rows.{Rows, AreSound, index_in, with_row}
 use Rattle.queue_replay.specs.Indices.{AreApart, AreOwn}
 use Rattle.queue_replay.specs.Stretches.{ran_tally, picked_tally}
 use Rattle.queue_replay.proofs.IndexedBy.{changed_there, key_at, keys_kept, none_by, set_none}
@@ -74,13 +74,13 @@ module _ (table : Rows Tally) (own : AreOwn table) where
   pub own_apart : AreSound table → AreApart table.rows
   own_apart sound = subst (IsDistinct nat_eq) (sym own_pids) sound.apart
 
-  pub own_there : (pid index : ℕ) (d : Tally) → place_in table.pids pid ≡ Some index → index < length table.rows
+  pub own_there : (pid index : ℕ) (d : Tally) → index_in table.pids pid ≡ Some index → index < length table.rows
       → (get_or table.rows index d).pid ≡ pid
   own_there pid index d is h =
       sym (key_at (λ (tally : Tally). tally.pid) table.rows index d h)
       ∙ ap (λ pids. get_or pids index d.pid) own_pids ∙ pid_there table.pids pid index d.pid is
 
-  pub own_nowhere : (pid : ℕ) → place_in table.pids pid ≡ None → All (λ (tally : Tally). tally.pid ≢ pid) table.rows
+  pub own_nowhere : (pid : ℕ) → index_in table.pids pid ≡ None → All (λ (tally : Tally). tally.pid ≢ pid) table.rows
   own_nowhere pid none =
       none_by (λ (tally : Tally). tally.pid) pid table.rows
       (subst (All (λ other. other ≢ pid)) (sym own_pids) (pid_nowhere table.pids pid none))

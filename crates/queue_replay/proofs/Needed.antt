@@ -111,11 +111,11 @@ pick_needs_lead part prev prev_nice way (suc n) next_nice own need o two waits h
     go None nobody x = absurd (nobody (suc n) (ap its_place (next_stays part prev way (suc n) two) ∙ there))
 
 -- a step's needs, from its deed's, the time for which the processor had idled, and what its told charge leaves
-pub needs_of_step : (since : Option ℕ) (found : Part) (step : Step) (need idle drift : ℕ)
+pub needs_of_step : (since : Option ℕ) (found : Part) (step : Step) (need idled drift : ℕ)
     → IsNeed found step.deed step.claim need
-    → idle ≡ idle_need since step.time → IsDriftNeed found step.charge drift
-    → AreStepNeeds since found step (step_needs step.deed need idle drift)
-needs_of_step since found step need idle drift n i d = record {
+    → idled ≡ idle_need since step.time → IsDriftNeed found step.charge drift
+    → AreStepNeeds since found step (step_needs step.deed need idled drift)
+needs_of_step since found step need idled drift n i d = record {
   granularity = of_pick step.deed n;
   credit = of_wake step.deed n;
   debit = of_birth step.deed n;
@@ -124,7 +124,7 @@ needs_of_step since found step need idle drift n i d = record {
 }
   where
     of_pick : (deed : Deed) → IsNeed found deed step.claim need
-        → IsPickNeed found deed (step_needs deed need idle drift).granularity
+        → IsPickNeed found deed (step_needs deed need idled drift).granularity
     of_pick (Switch prev prev_nice way next next_nice) h = h
     of_pick (Wake pid nice) h = refl
     of_pick (Born pid nice idles) h = refl
@@ -132,7 +132,7 @@ needs_of_step since found step need idle drift n i d = record {
     of_pick (Arrive pid nice orig idles) h = refl
 
     of_wake : (deed : Deed) → IsNeed found deed step.claim need
-        → IsWakeNeed found deed step.claim (step_needs deed need idle drift).credit
+        → IsWakeNeed found deed step.claim (step_needs deed need idled drift).credit
     of_wake (Switch prev prev_nice way next next_nice) h = refl
     of_wake (Wake pid nice) h = h
     of_wake (Born pid nice idles) h = refl
@@ -140,14 +140,14 @@ needs_of_step since found step need idle drift n i d = record {
     of_wake (Arrive pid nice orig idles) h = refl
 
     of_birth : (deed : Deed) → IsNeed found deed step.claim need
-        → IsBirthNeed found deed step.claim (step_needs deed need idle drift).debit
+        → IsBirthNeed found deed step.claim (step_needs deed need idled drift).debit
     of_birth (Switch prev prev_nice way next next_nice) h = refl
     of_birth (Wake pid nice) h = refl
     of_birth (Born pid nice idles) h = h
     of_birth (Leave pid nice dest) h = refl
     of_birth (Arrive pid nice orig idles) h = refl
 
-    of_idling : (deed : Deed) → (step_needs deed need idle drift).slack ≡ idle
+    of_idling : (deed : Deed) → (step_needs deed need idled drift).slack ≡ idled
     of_idling (Switch prev prev_nice way next next_nice) = refl
     of_idling (Wake pid nice) = refl
     of_idling (Born pid nice idles) = refl

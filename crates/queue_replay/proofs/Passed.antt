@@ -1,5 +1,5 @@
 -- What a deed can rely on, once its tests have passed, and the tests of a switch's pick.
-use Rattle.std.proofs.Common.{◌≡◌, ◌≢◌, ℕ, zero, suc, Bool, IsSome, Option, Some, None, is_some, option_map, ℤ, refl}
+use Rattle.std.proofs.Common.{◌≡◌, ◌≢◌, ℕ, zero, suc, IsSome, Option, Some, None, is_some, option_map, ℤ, refl}
 use Rattle.std.proofs.Common.{sym, ap, subst}
 use Rattle.replay_model.specs.Deeds.{part_after_prev}
 use Rattle.replay_model.specs.AfterDeed.{woken, wakes}

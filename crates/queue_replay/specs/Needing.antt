@@ -17,19 +17,19 @@ abbrev pub IsNeed : Part → Deed → Option Claim → ℕ → Type 0
 IsNeed part (Switch prev prev_nice way next next_nice) claim need =
     IsPickNeed part (Switch prev prev_nice way next next_nice) need
 IsNeed part (Wake pid nice) claim need = IsWakeNeed part (Wake pid nice) claim need
-IsNeed part (Born pid nice idle) claim need = IsBirthNeed part (Born pid nice idle) claim need
+IsNeed part (Born pid nice policy) claim need = IsBirthNeed part (Born pid nice policy) claim need
 IsNeed part (Leave pid nice dest) claim need = need ≡ 0
-IsNeed part (Arrive pid nice orig idle) claim need = need ≡ 0
+IsNeed part (Arrive pid nice orig policy) claim need = need ≡ 0
 
 -- what a step needs whose deed has this need, after the processor has idled beside a waiting task for so long, and
 -- whose told charge leaves a drift of so much
 abbrev pub step_needs : Deed → ℕ → ℕ → ℕ → KnobsView
-step_needs (Switch prev prev_nice way next next_nice) need idle drift =
-    record (only_slack idle) { granularity = need; drift = drift }
-step_needs (Wake pid nice) need idle drift = record (only_slack idle) { credit = need; drift = drift }
-step_needs (Born pid nice idles) need idle drift = record (only_slack idle) { debit = need; drift = drift }
-step_needs (Leave pid nice dest) need idle drift = record (only_slack idle) { drift = drift }
-step_needs (Arrive pid nice orig idles) need idle drift = record (only_slack idle) { drift = drift }
+step_needs (Switch prev prev_nice way next next_nice) need idled drift =
+    record (only_slack idled) { granularity = need; drift = drift }
+step_needs (Wake pid nice) need idled drift = record (only_slack idled) { credit = need; drift = drift }
+step_needs (Born pid nice policy) need idled drift = record (only_slack idled) { debit = need; drift = drift }
+step_needs (Leave pid nice dest) need idled drift = record (only_slack idled) { drift = drift }
+step_needs (Arrive pid nice orig policy) need idled drift = record (only_slack idled) { drift = drift }
 
 -- the replay goes on by a step that passes, and its needs rise to what the step needs
 abbrev pub PassesRaising : KnobsView → ℕ → ReplayStateView → KnobsView → Step → ReplayStateView → KnobsView → Type 0

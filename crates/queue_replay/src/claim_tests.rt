@@ -2,6 +2,7 @@ ghost use Rattle.std.specs.Prelude.{◌≡◌, ◌≢◌, ℕ, Bool, ℤ, IsTrue
 ghost use Rattle.replay_model.specs.ClaimTests.{if_resting, IsClaimMissing, IsInWakeBounds, IsWakeOutside};
 ghost use Rattle.replay_model.specs.ClaimTests.{IsInForkBounds, IsForkOutside};
 ghost use Rattle.replay_model.specs.Part.{Part, Entity, place_in};
+ghost use Rattle.cfs_model.specs.declared.policy.Policy.{Policy};
 ghost use Rattle.replay_model.specs.declared.step.Deed.TheVariants.{Wake, Born, Arrive};
 ghost use Rattle.cfs_model.specs.declared.task.Place.TheVariants.{Rest};
 ghost use Rattle.queue_replay.specs.Picks.{IdlesBeside, IsAboveGranularity, IsLead};

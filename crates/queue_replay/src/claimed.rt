@@ -3,7 +3,7 @@ ghost use Rattle.replay_model.specs.Deeds.{came_ticket, left_ticket, place_of_so
 ghost use Rattle.runqueue.specs.Queue.{runqueue_view, IsTaskAt};
 ghost use Rattle.runqueue.specs.Tasks.{entity_of};
 
-use cfs_model::{Claim, ClaimSort, Nice, Place, Task};
+use cfs_model::{Claim, ClaimSort, Nice, Place, Policy, Task};
 use replay_model::Ticket;
 use runqueue::{Runqueue, Stander};
 

@@ -13,7 +13,7 @@ use crate::step_table::{
     first_arrival_test, first_birth_test, first_leave_test, first_pick_test, first_switch_test,
     first_wake_test,
 };
-use cfs_model::{Knobs, Memory, Nice, Place};
+use cfs_model::{Knobs, Memory, Nice, Place, Policy};
 use replay_model::{Deed, Step};
 use runqueue::Runqueue;
 

@@ -10,8 +10,8 @@ use replay_model::Deed;
 
 /// Raises needs to what a step needs: its deed of the setting that it asks for, of the slack the time for which the
 /// processor had idled, and of the drift how far a told charge leaves its task's from none.
-pub(crate) fn raise(needs: &mut Amounts, deed: Deed, need: u64, idle: u64, drift: u64)
-    ensures { needs.new ≡ larger needs.old (step_needs deed need idle drift) }
+pub(crate) fn raise(needs: &mut Amounts, deed: Deed, need: u64, idled: u64, drift: u64)
+    ensures { needs.new ≡ larger needs.old (step_needs deed need idled drift) }
 {
     match deed {
         Deed::Switch { .. } => needs.raise(Setting::Granularity, need),
@@ -20,12 +20,12 @@ pub(crate) fn raise(needs: &mut Amounts, deed: Deed, need: u64, idle: u64, drift
         Deed::Leave { .. } | Deed::Arrive { .. } => {}
     }
     needs.raise(Setting::Drift, drift);
-    raise_slack(needs, idle);
+    raise_slack(needs, idled);
 }
 
 /// Raises the slack that is needed to the time for which the processor had idled.
-pub(crate) fn raise_slack(needs: &mut Amounts, idle: u64)
-    ensures { needs.new ≡ larger needs.old (only_slack idle) }
+pub(crate) fn raise_slack(needs: &mut Amounts, idled: u64)
+    ensures { needs.new ≡ larger needs.old (only_slack idled) }
 {
-    needs.raise(Setting::Slack, idle);
+    needs.raise(Setting::Slack, idled);
 }

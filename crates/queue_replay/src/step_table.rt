@@ -2,6 +2,7 @@ ghost use Rattle.std.specs.Prelude.{◌≡◌, ◌≢◌, ℕ, Bool, ℤ, Option
 ghost use Rattle.cfs_model.specs.Knobs.{KnobsView};
 ghost use Rattle.replay_model.specs.Part.{Part, Entity};
 ghost use Rattle.replay_model.specs.QueueTests.{IsPrevNotRunning};
+ghost use Rattle.cfs_model.specs.declared.policy.Policy.{Policy};
 ghost use Rattle.replay_model.specs.declared.step.Deed.TheVariants.{Wake, Born, Leave, Arrive};
 ghost use Rattle.queue_replay.specs.FirstTest.{FindsFirst, IsFirst};
 ghost use Rattle.queue_replay.specs.Picks.{IsLead};

@@ -1,5 +1,5 @@
 use crate::answers::wants;
-use cfs_model::{Claim, ClaimSort, Nice, NiceLine, Place, Task};
+use cfs_model::{Claim, ClaimSort, Nice, NiceLine, Place, Policy, Task};
 use companion_file::{Companion, CompanionCause, CompanionFault, read_companion};
 use std::alloc::Global;
 use std::test::Fail;

@@ -1,6 +1,6 @@
 use crate::answers::wants;
 use crate::companions::{BAD_LINE, OUT_OF_RANGE, Refusal, TWO, misread, task};
-use cfs_model::{IdleLine, NO_LINE, Place, Task};
+use cfs_model::{IdleLine, NO_LINE, Place, Policy, Task};
 use companion_file::{Companion, CompanionCause, IdleSpan, read_companion};
 use std::alloc::Global;
 use std::test::Fail;
@@ -19,7 +19,7 @@ const NAMED: &[u8] =
 
 fn idle_task(pid: u32, nice: i32, place: Place) -> Result<Task, Fail> {
     let mut task = task(pid, nice, 0, place, 0)?;
-    task.policy = true;
+    task.policy = Policy::Idle;
     Ok(task)
 }
 
@@ -105,7 +105,10 @@ const WITHOUT_IN_TWO: &[u8] =
 fn names_nobody(companion: &Companion) -> bool {
     companion.idles().is_empty()
         && companion.spans().is_empty()
-        && companion.tasks().iter().all(|task| !task.policy)
+        && companion
+            .tasks()
+            .iter()
+            .all(|task| task.policy == Policy::Normal)
 }
 
 /// The same of the companion of a text.

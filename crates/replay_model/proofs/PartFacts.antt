@@ -21,7 +21,7 @@ same_part p q e f g =
     ∙ ap (λ x. record { tasks = q.tasks; floor = x; mark = p.mark }) f
     ∙ ap (λ x. record { tasks = q.tasks; floor = q.floor; mark = x }) g
 
--- who stands where, by a task's three marks
+-- who stands where, by a task's three flags
 abbrev flags_of : Place → Bool → Bool → Bool → Bool
 flags_of Run r w s = r
 flags_of Wait r w s = w

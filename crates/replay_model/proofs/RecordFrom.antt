@@ -13,6 +13,7 @@ use Rattle.cfs_model.specs.declared.charge_line.ChargeLine.{ChargeLine}
 use Rattle.cfs_model.specs.declared.claim.Claim.{Claim}
 use Rattle.cfs_model.specs.declared.nice_line.NiceLine.{NiceLine}
 use Rattle.cfs_model.specs.declared.task.Task.{Task}
+use Rattle.cfs_model.specs.declared.policy.Policy.{Policy}
 
 -- a fact of each pair, of the first with each later one and of the pairs after it
 entry_head : (R : Entry → Entry → Type 0) (e : Entry) (es : List Entry) → AllPairs R (e ∷ es) → All (λ u. R e u) es
@@ -22,7 +23,7 @@ entry_tail : (R : Entry → Entry → Type 0) (e : Entry) (es : List Entry) → 
 entry_tail R e es h = λ i j d below within. h (suc i) (suc j) d (suc-le-suc below) (suc-le-suc within)
 
 pub times_from : (start : ℕ) (claims : List Claim) (nices : List NiceLine) (charges : List ChargeLine)
-    (policy : Entry → Bool) (es : List Entry)
+    (policy : Entry → Policy) (es : List Entry)
     → AllPairs (λ a b. a.time ≤ b.time) es
     → AllByRecursion (λ (e : Entry). start ≤ e.time) es → TimesRise start (claimed claims nices charges policy es)
 times_from start claims nices charges policy [] h k = tt
@@ -33,7 +34,7 @@ times_from start claims nices charges policy (e ∷ es) h k = (
 )
 
 pub lines_from : (line : ℕ) (claims : List Claim) (nices : List NiceLine) (charges : List ChargeLine)
-    (policy : Entry → Bool) (es : List Entry)
+    (policy : Entry → Policy) (es : List Entry)
     → AllPairs (λ a b. a.line < b.line) es
     → AllByRecursion (λ (e : Entry). line < e.line) es → LinesRise line (claimed claims nices charges policy es)
 lines_from line claims nices charges policy [] h k = tt
@@ -55,7 +56,7 @@ claim_of (c ∷ claims) line h = go (nat_eq c.line line) (claim_of claims line h
     go false k = k
 
 pub claims_from : (claims : List Claim) (nices : List NiceLine) (charges : List ChargeLine)
-    (policy : Entry → Bool) (es : List Entry)
+    (policy : Entry → Policy) (es : List Entry)
     → AllByRecursion (λ (c : Claim). IsInRange c.v) claims
     → AllByRecursion ClaimInRange (claimed claims nices charges policy es)
 claims_from claims nices charges policy [] h = tt
@@ -77,7 +78,7 @@ charge_of (c ∷ charges) line h = go (nat_eq c.line line) (charge_of charges li
     go false k = k
 
 pub charges_from : (claims : List Claim) (nices : List NiceLine) (charges : List ChargeLine)
-    (policy : Entry → Bool) (es : List Entry)
+    (policy : Entry → Policy) (es : List Entry)
     → AllByRecursion (λ (c : ChargeLine). IsInRange c.v) charges
     → AllByRecursion ChargeInRange (claimed claims nices charges policy es)
 charges_from claims nices charges policy [] h = tt
@@ -85,7 +86,7 @@ charges_from claims nices charges policy (e ∷ es) h =
     (charge_of charges e.line h, charges_from claims nices charges policy es h)
 
 within_from : (cpus : ℕ) (claims : List Claim) (nices : List NiceLine) (charges : List ChargeLine)
-    (policy : Entry → Bool) (es : List Entry)
+    (policy : Entry → Policy) (es : List Entry)
     → AllByRecursion (λ (e : Entry). All (λ cpu. cpu < cpus) (touched e.act)) es
     → AllByRecursion (λ (event : Claimed). AllByRecursion (λ cpu. cpu < cpus) (touched event.entry.act))
     (claimed claims nices charges policy es)
@@ -95,7 +96,7 @@ within_from cpus claims nices charges policy (e ∷ es) h =
 
 -- a record of some processors
 pub record_from : (start : ℕ) (floors : List ℤ) (tasks : List Task) (claims : List Claim) (nices : List NiceLine)
-    (charges : List ChargeLine) (policy : Entry → Bool) (es : List Entry) (cpus : ℕ)
+    (charges : List ChargeLine) (policy : Entry → Policy) (es : List Entry) (cpus : ℕ)
     → IsStart floors tasks → All (λ t. t.cpu < cpus) tasks
     → All (λ e. All (λ cpu. cpu < cpus) (touched e.act)) es → All (λ c. IsInRange c.v) claims
     → All (λ (c : ChargeLine). IsInRange c.v) charges

@@ -1,8 +1,9 @@
 -- A processor's part after a deed (this project's profile). The part spoken of is charged and lifted.
-use Rattle.std.specs.Prelude.{ℕ, zero, suc, Bool, Option, Some, None, option_map, ℤ, pos}
+use Rattle.std.specs.Prelude.{ℕ, zero, suc, Option, Some, None, option_map, ℤ, pos}
 use Rattle.replay_model.specs.Part.{Part, Entity}
 use Rattle.cfs_model.specs.declared.act.Way.{Way}
 use Rattle.cfs_model.specs.declared.claim.Claim.{Claim}
+use Rattle.cfs_model.specs.declared.policy.Policy.{Policy}
 use Rattle.cfs_model.specs.declared.task.Place.{Place}
 use Rattle.cfs_model.specs.declared.task.Place.TheVariants.{Run, Wait, Rest}
 use Rattle.replay_model.specs.declared.step.Deed.{Deed}
@@ -28,7 +29,7 @@ abbrev pub wakes : Part → ℕ → Option Claim → Part
 wakes part pid claim = with_entity part pid (option_map (λ s. woken claim s.place s) (part.tasks pid))
 
 -- a birth: the task waits at the claimed virtual runtime, without a drift
-abbrev pub is_born : Part → ℕ → ℤ → Bool → Option Claim → Part
+abbrev pub is_born : Part → ℕ → ℤ → Policy → Option Claim → Part
 is_born part pid nice policy claim =
     with_entity part pid
     (option_map (λ c. record { place = Wait; nice = nice; policy = policy; runtime = c.v; drift = pos 0 }) claim)
@@ -39,7 +40,7 @@ leaves part pid = with_entity part pid None
 
 -- a migration, at the processor to which the task comes: place and virtual runtime are the claim's, and its drift
 -- begins anew
-abbrev pub arrives : Part → ℕ → ℤ → Bool → Option Claim → Part
+abbrev pub arrives : Part → ℕ → ℤ → Policy → Option Claim → Part
 arrives part pid nice policy claim =
     with_entity part pid
     (option_map

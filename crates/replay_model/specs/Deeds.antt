@@ -1,6 +1,6 @@
 -- What a change of a nice value and the way out of a switch change in a processor's part, and the tickets of a
 -- migration (this project's profile). The part spoken of is charged and lifted.
-use Rattle.std.specs.Prelude.{ℕ, zero, suc, Bool, Option, Some, None, option_map, ℤ, ◌-ℤ◌}
+use Rattle.std.specs.Prelude.{ℕ, zero, suc, Option, Some, None, option_map, ℤ, ◌-ℤ◌}
 use Rattle.cfs_model.specs.Machine.{put}
 use Rattle.replay_model.specs.Part.{Part, Entity}
 use Rattle.cfs_model.specs.declared.act.Way.{Way}
@@ -12,6 +12,7 @@ use Rattle.cfs_model.specs.declared.nice_line.NiceLine.{NiceLine}
 use Rattle.cfs_model.specs.declared.task.Place.{Place}
 use Rattle.cfs_model.specs.declared.task.Place.TheVariants.{Wait, Rest}
 use Rattle.replay_model.specs.declared.page.Ticket.{Ticket}
+use Rattle.cfs_model.specs.declared.policy.Policy.{Policy}
 
 -- the pid stands here so, or no more
 abbrev pub with_entity : Part → ℕ → Option Entity → Part
@@ -47,7 +48,7 @@ left_ticket part line pid =
     (part.tasks pid)
 
 -- the ticket of a task that comes, by its claim
-abbrev pub came_ticket : Part → ℕ → ℕ → ℤ → Bool → Option Claim → Option Ticket
+abbrev pub came_ticket : Part → ℕ → ℕ → ℤ → Policy → Option Claim → Option Ticket
 came_ticket part line pid nice policy claim =
     option_map (λ c. record
     { line = line; pid = pid; nice = nice; policy = policy; place = place_of_sort c.sort; offset = c.v -ℤ part.floor })

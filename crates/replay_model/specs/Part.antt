@@ -19,7 +19,6 @@ use Rattle.cfs_model.specs.declared.policy.Policy.{Policy}
 pub record Entity : Type 0 where
   pub place : Place
   pub nice : ℤ
-  -- whether it is of the idle policy
   pub policy : Policy
   -- the virtual runtime, in virtual nanoseconds
   pub runtime : ℤ
@@ -34,7 +33,7 @@ pub record Part : Type 0 where
   -- the time of the last charge, in nanoseconds
   pub mark : ℕ
 
--- the place that is told by three marks: it runs, it waits, it rests
+-- the place that is told by three flags: it runs, it waits, it rests
 abbrev pub place_by : Bool → Bool → Bool → Option Place
 place_by true waits rests = Some Run
 place_by false true rests = Some Wait
@@ -42,7 +41,7 @@ place_by false false true = Some Rest
 place_by false false false = None
 
 -- a task of this policy and drift with this place, nice value and virtual runtime, where it has all three
-abbrev pub entity_by : Bool → ℤ → Option Place → Option ℤ → Option ℤ → Option Entity
+abbrev pub entity_by : Policy → ℤ → Option Place → Option ℤ → Option ℤ → Option Entity
 entity_by policy drift (Some place) (Some nice) (Some v) =
     Some (record { place = place; nice = nice; policy = policy; runtime = v; drift = drift })
 entity_by policy drift _ _ _ = None

@@ -1,18 +1,19 @@
 -- What an event asks of a processor that it touches (this project's profile).
-use Rattle.std.specs.Prelude.{ℕ, ◌==◌, Bool, if◌then◌else◌, Option, None}
+use Rattle.std.specs.Prelude.{ℕ, ◌==◌, if◌then◌else◌, Option, None}
 use Rattle.cfs_model.specs.Claimed.{Claimed}
 use Rattle.cfs_model.specs.declared.act.Act.{Act}
 use Rattle.cfs_model.specs.declared.act.Act.TheVariants as act
 use Rattle.cfs_model.specs.declared.charge_line.ChargeLine.{ChargeLine}
 use Rattle.cfs_model.specs.declared.claim.Claim.{Claim}
 use Rattle.cfs_model.specs.declared.nice_line.NiceLine.{NiceLine}
+use Rattle.cfs_model.specs.declared.policy.Policy.{Policy}
 use Rattle.replay_model.specs.declared.step.Deed.{Deed}
 use Rattle.replay_model.specs.declared.step.Deed.TheVariants.{Switch, Wake, Born, Leave, Arrive}
 use Rattle.replay_model.specs.declared.step.Step.{Step}
 
 -- what an event does at a processor that it touches, with the policy of who is born or comes: a migration leaves its
 -- origin and comes to its destination
-abbrev pub deed_at : ℕ → Bool → Act → Deed
+abbrev pub deed_at : ℕ → Policy → Act → Deed
 deed_at cpu policy (act.Switch here prev prev_nice way next next_nice) = Switch prev prev_nice way next next_nice
 deed_at cpu policy (act.Wake here pid nice) = Wake pid nice
 deed_at cpu policy (act.Born here pid nice) = Born pid nice policy

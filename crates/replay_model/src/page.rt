@@ -1,4 +1,4 @@
-use cfs_model::{Kind, Nice, Place};
+use cfs_model::{Kind, Nice, Place, Policy};
 
 /// What is wrong with a step of a processor.
 #[derive(Clone, Copy, Debug, PartialEq, Eq)]
@@ -19,7 +19,6 @@ pub struct Ticket {
     pub line: u32,
     pub pid: u32,
     pub nice: Nice,
-    /// Whether it is of the idle policy.
     pub policy: Policy,
     pub place: Place,
     /// The virtual runtime less the processor's floor, in virtual nanoseconds, signed.

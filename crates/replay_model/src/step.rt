@@ -1,4 +1,4 @@
-use cfs_model::{ChargeLine, Claim, Nice, NiceLine, Way};
+use cfs_model::{ChargeLine, Claim, Nice, NiceLine, Policy, Way};
 
 /// What an event does at one processor. A migration is two deeds, one at each of its ends. Pid 0 is the
 /// processor's idle task.
@@ -22,7 +22,6 @@ pub enum Deed {
     Born {
         pid: u32,
         nice: Nice,
-        /// Whether it is of the idle policy.
         policy: Policy,
     },
     /// A task leaves for another processor.
@@ -36,7 +35,7 @@ pub enum Deed {
         pid: u32,
         nice: Nice,
         orig: u32,
-        /// Whether it is of the idle policy: as it was told at its last birth on an earlier line, or at the start.
+        /// As it was told at the task's last birth on an earlier line, or at the start.
         policy: Policy,
     },
 }

@@ -1,6 +1,6 @@
 use crate::answers::wants;
 use cfs_model::{
-    Kind, Knobs, Memory, Nice, PrioFault, birth_example, charge, floors_rise, idle_example,
+    Kind, Knobs, Memory, Nice, Policy, PrioFault, birth_example, charge, floors_rise, idle_example,
     marks_move, migration_example, one_list, pick_example, places, prefixes, put_back_example,
     wake_example, weight, weight_of,
 };
@@ -49,7 +49,11 @@ static WEIGHTS: [(i32, Option<(u32, u32, u32)>); 7] = [
 
 fn weights_of(value: i32) -> Option<(u32, u32, u32)> {
     let nice = Nice::new(value)?;
-    Some((weight(nice), weight_of(nice, false), weight_of(nice, true)))
+    Some((
+        weight(nice),
+        weight_of(nice, Policy::Normal),
+        weight_of(nice, Policy::Idle),
+    ))
 }
 
 /// The first nice value in the table by which tasks weigh otherwise.

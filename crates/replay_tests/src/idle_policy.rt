@@ -5,7 +5,7 @@ use crate::answers::wants;
 use crate::calls::{refusal_of, stream_at, tickets_at, zero};
 use crate::recordings::Recording;
 use crate::replays::misjudged;
-use cfs_model::{Kind, Place};
+use cfs_model::{Kind, Place, Policy};
 use replay_model::{Deed, StepFault, Ticket};
 use sched_record::{JoinCause, JoinFault, Stream};
 use std::alloc::Global;
@@ -84,16 +84,16 @@ fn moves_at(alloc: Global, idles: &str, cpu: u32) -> Result<Stream, Fail> {
     stream_at(alloc, MOVES, companion.as_bytes(), cpu)
 }
 
-/// Whether the task that arrives or is born by a step of a stream is of the idle policy; None where none does.
-fn policy_at(stream: &Stream, place: usize) -> Option<bool> {
-    match stream.steps().get(place)?.deed {
-        Deed::Arrive { idle, .. } | Deed::Born { idle, .. } => Some(idle),
+/// The policy of the task that arrives or is born by a step of a stream; None where none does.
+fn policy_at(stream: &Stream, index: usize) -> Option<Policy> {
+    match stream.steps().get(index)?.deed {
+        Deed::Arrive { policy, .. } | Deed::Born { policy, .. } => Some(policy),
         _ => None,
     }
 }
 
 /// The policies of those who arrive or are born by the first four steps of a processor.
-type Policies = [Option<bool>; 4];
+type Policies = [Option<Policy>; 4];
 
 fn policies_at(alloc: Global, idles: &str, cpu: u32) -> Result<Policies, Fail> {
     let stream = moves_at(alloc, idles, cpu)?;
@@ -120,22 +120,50 @@ fn misdealt(
 }
 
 static ARRIVALS: [(&str, Policies); 5] = [
-    ("", [Some(false), Some(false), Some(false), Some(false)]),
+    (
+        "",
+        [
+            Some(Policy::Normal),
+            Some(Policy::Normal),
+            Some(Policy::Normal),
+            Some(Policy::Normal),
+        ],
+    ),
     (
         "idle 0 101\n",
-        [Some(true), Some(false), Some(false), Some(false)],
+        [
+            Some(Policy::Idle),
+            Some(Policy::Normal),
+            Some(Policy::Normal),
+            Some(Policy::Normal),
+        ],
     ),
     (
         "idle 2 101\n",
-        [Some(false), Some(true), Some(false), Some(false)],
+        [
+            Some(Policy::Normal),
+            Some(Policy::Idle),
+            Some(Policy::Normal),
+            Some(Policy::Normal),
+        ],
     ),
     (
         "idle 4 101\n",
-        [Some(false), Some(false), Some(true), Some(false)],
+        [
+            Some(Policy::Normal),
+            Some(Policy::Normal),
+            Some(Policy::Idle),
+            Some(Policy::Normal),
+        ],
     ),
     (
         "idle 0 101\nidle 4 101\n",
-        [Some(true), Some(false), Some(true), Some(false)],
+        [
+            Some(Policy::Idle),
+            Some(Policy::Normal),
+            Some(Policy::Idle),
+            Some(Policy::Normal),
+        ],
     ),
 ];
 
@@ -146,10 +174,19 @@ fn an_arrival_has_the_policy_of_the_last_birth_before_it(rt: HostRuntime) -> Res
 }
 
 static BIRTHS: [(&str, Policies); 4] = [
-    ("", [None, Some(false), None, Some(false)]),
-    ("idle 0 101\n", [None, Some(false), None, Some(false)]),
-    ("idle 2 101\n", [None, Some(true), None, Some(false)]),
-    ("idle 4 101\n", [None, Some(false), None, Some(true)]),
+    ("", [None, Some(Policy::Normal), None, Some(Policy::Normal)]),
+    (
+        "idle 0 101\n",
+        [None, Some(Policy::Normal), None, Some(Policy::Normal)],
+    ),
+    (
+        "idle 2 101\n",
+        [None, Some(Policy::Idle), None, Some(Policy::Normal)],
+    ),
+    (
+        "idle 4 101\n",
+        [None, Some(Policy::Normal), None, Some(Policy::Idle)],
+    ),
 ];
 
 #[test]

@@ -4,7 +4,7 @@ use crate::answers::wants;
 use crate::calls::tickets_at;
 use crate::recordings::Recording;
 use crate::replays::{misjudged, page_of};
-use cfs_model::{Kind, Nice, Place};
+use cfs_model::{Kind, Nice, Place, Policy};
 use queue_replay::Page;
 use replay_model::{StepFault, Tally, Ticket};
 use std::alloc::Global;

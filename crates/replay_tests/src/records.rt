@@ -1,6 +1,6 @@
 use crate::answers::wants;
 use crate::calls::{only, record_of, refusal_of, stream_at, zero};
-use cfs_model::{Act, Claim, ClaimSort, Entry, Way};
+use cfs_model::{Act, Claim, ClaimSort, Entry, Policy, Way};
 use replay_model::{Deed, Step};
 use sched_record::{Events, JoinCause, JoinFault, Record, Stream, read_trace};
 use std::alloc::Global;

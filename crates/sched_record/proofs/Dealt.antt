@@ -1,5 +1,5 @@
 -- What dealing finds: what stands on an event's line, and the step with it.
-use Rattle.std.proofs.Common.{◌≡◌, ℕ, Bool, zero, suc, ◌+◌, ◌<◌, List, [], ◌∷◌, ◌++◌, length, get_or, map, take, cond}
+use Rattle.std.proofs.Common.{◌≡◌, ℕ, zero, suc, ◌+◌, ◌<◌, List, [], ◌∷◌, ◌++◌, length, get_or, map, take, cond}
 use Rattle.std.proofs.Common.{eqb, Option, Some, None, refl, sym, ap, ◌∙◌, arith}
 use Rattle.std.specs.Prelude.{find}
 use Rattle.std.proofs.lemmas.Bool.{eq-eqb, ne_eqb}
@@ -14,6 +14,7 @@ use Rattle.cfs_model.specs.declared.charge_line.ChargeLine.{ChargeLine}
 use Rattle.replay_model.specs.declared.step.Deed.{Deed}
 use Rattle.replay_model.specs.declared.step.Step.{Step}
 use Rattle.sched_record.proofs.Indexing.{step_of, touching}
+use Rattle.cfs_model.specs.declared.policy.Policy.{Policy}
 
 -- what stands on a line, where all before it stands above
 pub item_found : {X : Type 0} (f : X → ℕ) (items : List X) (line index : ℕ) (d : X)
@@ -41,7 +42,7 @@ item_missing {X} f (item ∷ items) line none =
 
 -- a step with what stands on its line
 step_is : (cpu : ℕ) (claims : List Claim) (nices : List NiceLine) (charges : List ChargeLine) (policy : Entry
-    → Bool) (event : Entry) (deed : Deed) (found claim : Option Claim) (change nice : Option NiceLine)
+    → Policy) (event : Entry) (deed : Deed) (found claim : Option Claim) (change nice : Option NiceLine)
     (told charge : Option ChargeLine)
     → deed ≡ deed_at cpu (policy event) event.act → found ≡ claim_at claims event.line → claim ≡ claim_for deed found
     → change ≡ nice_at nices event.line → nice ≡ nice_for deed change → told ≡ charge_at charges event.line
@@ -63,7 +64,7 @@ step_is cpu claims nices charges policy event deed found claim change nice told 
 
 -- the step of the next of the events that touch the processor
 pub dealt_more : (cpu : ℕ) (claims : List Claim) (nices : List NiceLine) (charges : List ChargeLine) (policy : Entry
-    → Bool) (events : List Entry) (i : ℕ) (event : Entry) (steps : List Step) (deed : Deed)
+    → Policy) (events : List Entry) (i : ℕ) (event : Entry) (steps : List Step) (deed : Deed)
     (found claim : Option Claim) (change nice : Option NiceLine) (told charge : Option ChargeLine)
     → i < length (touching cpu events)
     → event ≡ get_or (touching cpu events) i event

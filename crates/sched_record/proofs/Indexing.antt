@@ -17,6 +17,7 @@ use Rattle.replay_model.specs.Cut.{steps_at, touches}
 use Rattle.replay_model.specs.declared.step.Step.{Step}
 use Rattle.sched_record.specs.Indices.{AreIndicesOf, indices_at, indices_touching, touches_cpu}
 use Rattle.sched_record.proofs.Lines.{enumerate_push}
+use Rattle.cfs_model.specs.declared.policy.Policy.{Policy}
 
 map_first : {X : Type 0} (b : Bool) (n : ℕ) (x : X)
     → map (λ (at : ℕ × X). at.0) (cond b ((n, x) ∷ []) []) ≡ cond b (n ∷ []) []
@@ -125,7 +126,7 @@ step_of cpu claims nices charges policy event = step_at cpu (with_claim claims n
 
 -- the steps at a processor are those of the events that touch it
 pub steps_are : (cpu : ℕ) (claims : List Claim) (nices : List NiceLine) (charges : List ChargeLine)
-    (policy : Entry → Bool) (events : List Entry)
+    (policy : Entry → Policy) (events : List Entry)
     → steps_at cpu (claimed claims nices charges policy events)
     ≡ map (step_of cpu claims nices charges policy) (touching cpu events)
 steps_are cpu claims nices charges policy [] = refl

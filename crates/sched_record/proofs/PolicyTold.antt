@@ -1,4 +1,4 @@
--- Who is of the idle policy before a line: as was told at the last birth of the pid above the line, or at the start.
+-- The policies before a line: as was told at the last birth of the pid above the line, or at the start.
 -- Where a span of the pid starts above the line, the last such one starts at that birth just if it has no end above the
 -- line.
 use Rattle.std.proofs.Common.{◌≡◌, ℕ, zero, suc, ◌<◌, ◌≤◌, ◌||◌, ◌⊎◌, List, [], ◌∷◌, length, get_or, Bool, true, false}
@@ -7,7 +7,7 @@ use Rattle.std.specs.Prelude.{All, pos}
 use Rattle.std.proofs.lemmas.Bool.{cases_Bool, cases_lt, eqb-true, eq-eqb, ne_eqb}
 use Rattle.std.proofs.lemmas.Bool.Decides.{nat_tests}
 use Rattle.std.proofs.lemmas.List.{get_or_default}
-use Rattle.cfs_model.specs.Claimed.{is_named_idle, policies_after, policies_before}
+use Rattle.cfs_model.specs.Claimed.{named_policy, policies_after, policies_before, policy_by}
 use Rattle.cfs_model.specs.Machine.{put}
 use Rattle.cfs_model.specs.declared.act.Act.{Act}
 use Rattle.cfs_model.specs.declared.act.Act.TheVariants.{Switch, Wake, Born, Shift}
@@ -20,6 +20,8 @@ use Rattle.sched_record.specs.Policies.{EndsAtBirth, IsLastBefore, NoneBefore}
 use Rattle.sched_record.proofs.Births.{Rise, birth_at, birth_found}
 use Rattle.sched_record.proofs.Pairs.{pairs_tail}
 use Rattle.sched_record.proofs.SpanEnds.{any_span, span_born, span_starts}
+use Rattle.cfs_model.specs.declared.policy.Policy.{Policy}
+use Rattle.cfs_model.specs.declared.policy.Policy.TheVariants.{Normal}
 
 -- the line of the last birth of a pid above a line, and another number where there is none
 abbrev pub last_birth : ℕ → List Entry → ℕ → ℕ → ℕ
@@ -28,15 +30,15 @@ last_birth from (event ∷ events) line pid =
     cond (ltb event.line line) (last_birth (cond (is_birth_of pid event.act) event.line from) events line pid) from
 
 -- what an event tells of a pid
-after_is : (idles : List IdleLine) (policies : ℕ → Bool) (from line pid : ℕ) (act : Act)
-    → policies pid ≡ is_named_idle idles from pid
-    → policies_after idles policies line act pid ≡ is_named_idle idles (cond (is_birth_of pid act) line from) pid
+after_is : (idles : List IdleLine) (policies : ℕ → Policy) (from line pid : ℕ) (act : Act)
+    → policies pid ≡ named_policy idles from pid
+    → policies_after idles policies line act pid ≡ named_policy idles (cond (is_birth_of pid act) line from) pid
 unfolding put
 after_is idles policies from line pid (Born cpu born nice) told =
     elim (cases_Bool (eqb pid born)) [
       | inl same ↦ (
           let is : pid ≡ born = eqb-true pid born same in
-          rw (same, eq-eqb born pid (sym is)) (ap (λ p. is_named_idle idles line p) (sym is)))
+          rw (same, eq-eqb born pid (sym is)) (ap (λ p. named_policy idles line p) (sym is)))
       | inr other ↦ rw (other, ne_eqb born pid (λ e. true≢false (sym (eq-eqb pid born (sym e)) ∙ other))) told
     ]
 after_is idles policies from line pid (Switch cpu prev prev_nice way next next_nice) told = told
@@ -44,9 +46,9 @@ after_is idles policies from line pid (Wake cpu woken nice) told = told
 after_is idles policies from line pid (Shift orig dest moved nice) told = told
 
 -- the policy is the one told at the last birth
-told_at_birth : (idles : List IdleLine) (policies : ℕ → Bool) (from : ℕ) (events : List Entry) (line pid : ℕ)
-    → policies pid ≡ is_named_idle idles from pid
-    → policies_before idles policies events line pid ≡ is_named_idle idles (last_birth from events line pid) pid
+told_at_birth : (idles : List IdleLine) (policies : ℕ → Policy) (from : ℕ) (events : List Entry) (line pid : ℕ)
+    → policies pid ≡ named_policy idles from pid
+    → policies_before idles policies events line pid ≡ named_policy idles (last_birth from events line pid) pid
 told_at_birth idles policies from [] line pid told = told
 told_at_birth idles policies from (event ∷ events) line pid told =
     by (ltb event.line line) refl
@@ -56,10 +58,10 @@ told_at_birth idles policies from (event ∷ events) line pid told =
   where
     by : (b : Bool) → ltb event.line line ≡ b
         → policies_before idles (policies_after idles policies event.line event.act) events line pid
-        ≡ is_named_idle idles (last_birth (cond (is_birth_of pid event.act) event.line from) events line pid) pid
+        ≡ named_policy idles (last_birth (cond (is_birth_of pid event.act) event.line from) events line pid) pid
         → cond (ltb event.line line) (policies_before idles (policies_after idles policies event.line event.act) events
         line) policies pid
-        ≡ is_named_idle idles (cond (ltb event.line line)
+        ≡ named_policy idles (cond (ltb event.line line)
         (last_birth (cond (is_birth_of pid event.act) event.line from) events line pid) from) pid
     by true e rest = rw e rest
     by false e rest = rw e told
@@ -180,13 +182,13 @@ birth_line_last from events line pid birth rise above is =
 
 -- where no span of the pid starts above the line, its task isn't of the idle policy
 pub not_idle_before : (idles : List IdleLine) (spans : List IdleSpan) (policies : ℕ
-    → Bool) (events : List Entry) (line pid : ℕ) → AreSpansOf idles spans
-    → policies pid ≡ is_named_idle idles 0 pid → 0 < line → NoneBefore spans line pid
-    → policies_before idles policies events line pid ≡ false
+    → Policy) (events : List Entry) (line pid : ℕ) → AreSpansOf idles spans
+    → policies pid ≡ named_policy idles 0 pid → 0 < line → NoneBefore spans line pid
+    → policies_before idles policies events line pid ≡ Normal
 not_idle_before idles spans policies events line pid told start some none =
     let birth = last_birth 0 events line pid in
     let above = birth_above_line 0 events line pid some in
-    told_at_birth idles policies 0 events line pid start ∙ told.starts birth pid
+    told_at_birth idles policies 0 events line pid start ∙ ap policy_by (told.starts birth pid
     ∙ (elim (cases_Bool (starts_span spans birth pid)) [
       | inr isnt ↦ isnt
       | inl is_so ↦ (
@@ -194,16 +196,16 @@ not_idle_before idles spans policies events line pid told start some none =
           let low = none at.0 at.1 at.2 at.4 in
           let starts = at.3 in
           absurd (omega (arith, low, starts, above)))
-    ])
+    ]))
 
 -- where one does, it is just where the last one doesn't end above the line
 pub idle_before : (idles : List IdleLine) (spans : List IdleSpan) (policies : ℕ
-    → Bool) (events : List Entry) (line pid index : ℕ) (s : IdleSpan) → Rise events
+    → Policy) (events : List Entry) (line pid index : ℕ) (s : IdleSpan) → Rise events
     → All (λ e. 0 < e.line) events
     → AreSpansOf idles spans → All (NamesBirth events) idles → All (EndsAtBirth events) spans
-    → policies pid ≡ is_named_idle idles 0 pid → 0 < line
+    → policies pid ≡ named_policy idles 0 pid → 0 < line
     → IsLastBefore spans line pid index → s ≡ get_or spans index s
-    → policies_before idles policies events line pid ≡ (eqb s.until 0 || leb line s.until)
+    → policies_before idles policies events line pid ≡ policy_by (eqb s.until 0 || leb line s.until)
 idle_before idles spans policies events line pid index s rise from_one told born ends start some last is =
     let birth = last_birth 0 events line pid in
     let above = birth_above_line 0 events line pid some in
@@ -221,7 +223,7 @@ idle_before idles spans policies events line pid index s rise from_one told born
       | inl more ↦ birth_line_last 0 events line pid s.from rise starts
           (span_born events idles spans s.from pid born told more here)
     ] in
-    told_at_birth idles policies 0 events line pid start ∙ told.starts birth pid
+    told_at_birth idles policies 0 events line pid start ∙ ap policy_by (told.starts birth pid
     ∙ (elim (cases_Bool (eqb s.until 0 || leb line s.until)) [
       | inl endless ↦ (
           let most : birth ≤ s.from =
@@ -253,7 +255,7 @@ idle_before idles spans policies events line pid index s rise from_one told born
                 let le = last.last at.0 at.1 at.2 at.4 (omega (arith, line_is, above)) in
                 absurd (not_behind at.0 at.1 le at.2 at.4 (omega (arith, line_is, later, behind))))
           ])
-    ])
+    ]))
   where
     closed : (n : ℕ) → (eqb n 0 || leb line n) ≡ false → (0 < n) × (n < line)
     closed n over = (grind (arith, nat_tests), grind (arith, nat_tests))

@@ -1,6 +1,5 @@
 -- `==` of tasks, of steps and of streams answers whether they are the same.
 use Rattle.std.proofs.Common.{◌≡◌, Decides, Option, Some, None, refl}
-use Rattle.std.specs.Cmp.{policies_decide}
 use Rattle.std.specs.Option.{option_eq}
 use Rattle.std.proofs.lemmas.Bool.Decides.{Decides-eqb, Decides-int_eq, Decides-and, Decides-like}
 use Rattle.std.proofs.lemmas.Slice.Eq.{slice_eq-Decides}
@@ -15,7 +14,7 @@ use Rattle.cfs_model.specs.declared.charge_line.ChargeLine.{ChargeLine}
 use Rattle.replay_model.specs.declared.step.Deed.{Deed}
 use Rattle.replay_model.specs.declared.step.Deed.TheVariants.{Switch, Wake, Born, Leave, Arrive}
 use Rattle.replay_model.specs.declared.step.Step.{Step}
-use Rattle.cfs_model.proofs.Deciding.{place_decides}
+use Rattle.cfs_model.proofs.Deciding.{place_decides, policies_decide}
 use Rattle.cfs_model.specs.declared.task.Task.{Task}
 use Rattle.sched_record.specs.Same.{is_same}
 use Rattle.cfs_model.specs.contracts.act.WayPartialEq.TheImpl as way_eq
@@ -79,16 +78,17 @@ deed_decides (Switch prev prev_nice way next next_nice) (Switch prev' prev_nice'
     (Decides-int_eq next_nice next_nice')))))
 deed_decides (Wake pid nice) (Wake pid' nice') =
     Decides-like _ (λ h. cc) (λ e. (cc, cc)) (Decides-and _ _ (Decides-eqb pid pid') (Decides-int_eq nice nice'))
-deed_decides (Born pid nice idle) (Born pid' nice' idle') =
+deed_decides (Born pid nice policy) (Born pid' nice' policy') =
     Decides-like _ (λ h. cc) (λ e. (cc, (cc, cc)))
-    (Decides-and _ _ (Decides-eqb pid pid') (Decides-and _ _ (Decides-int_eq nice nice') (policies_decide idle idle')))
+    (Decides-and _ _ (Decides-eqb pid pid') (Decides-and _ _ (Decides-int_eq nice nice') (policies_decide policy
+    policy')))
 deed_decides (Leave pid nice dest) (Leave pid' nice' dest') =
     Decides-like _ (λ h. cc) (λ e. (cc, (cc, cc)))
     (Decides-and _ _ (Decides-eqb pid pid') (Decides-and _ _ (Decides-int_eq nice nice') (Decides-eqb dest dest')))
-deed_decides (Arrive pid nice orig idle) (Arrive pid' nice' orig' idle') =
+deed_decides (Arrive pid nice orig policy) (Arrive pid' nice' orig' policy') =
     Decides-like _ (λ h. cc) (λ e. (cc, (cc, (cc, cc))))
     (Decides-and _ _ (Decides-eqb pid pid') (Decides-and _ _ (Decides-int_eq nice nice')
-    (Decides-and _ _ (Decides-eqb orig orig') (policies_decide idle idle'))))
+    (Decides-and _ _ (Decides-eqb orig orig') (policies_decide policy policy'))))
 deed_decides a b = (λ h. cc, λ h. cc)
 
 pub task_decides : (a b : Task) → Decides ((task_eq.ghosts).eq a b) (a ≡ b)
@@ -96,14 +96,14 @@ task_decides a b =
     Decides-like _ (λ h i. record {
       pid = h.0 i;
       nice = h.1.0 i;
-      idle = h.1.1.0 i;
+      policy = h.1.1.0 i;
       cpu = h.1.1.1.0 i;
       place = h.1.1.1.1.0 i;
       v = h.1.1.1.1.1 i;
     })
     (λ e. (cc, (cc, (cc, (cc, (cc, cc))))))
     (Decides-and _ _ (Decides-eqb a.pid b.pid) (Decides-and _ _ (Decides-int_eq a.nice b.nice)
-    (Decides-and _ _ (policies_decide a.idle b.idle)
+    (Decides-and _ _ (policies_decide a.policy b.policy)
     (Decides-and _ _ (Decides-eqb a.cpu b.cpu) (Decides-and _ _ (place_decides a.place b.place)
     (Decides-int_eq a.v b.v))))))
 

@@ -1,5 +1,5 @@
 -- What a record keeps, its cut for a processor keeps: filters and maps leave the order, and the last event comes last.
-use Rattle.std.proofs.Common.{◌≡◌, ℕ, Bool, ◌-◌, ◌<◌, ◌≤◌, List, [], ◌∷◌, length, get_or, true, eqb, Option, Some, refl}
+use Rattle.std.proofs.Common.{◌≡◌, ℕ, ◌-◌, ◌<◌, ◌≤◌, List, [], ◌∷◌, length, get_or, true, eqb, Option, Some, refl}
 use Rattle.std.proofs.Common.{sym, ap, ◌∙◌, subst, arith, inl, inr, ◌⊎◌}
 use Rattle.std.specs.Prelude.{All, filter, ℤ, pos, slice_get, slice_index_or}
 use Rattle.std.specs.List.{AllPairs}
@@ -30,10 +30,11 @@ use Rattle.sched_record.specs.RecordView.{RecordView, policy_of}
 use Rattle.sched_record.specs.Kept.{IsRecordInOrder, IsNamed, tasks_of}
 use Rattle.sched_record.specs.StreamKept.{IsStream, OwnsCharge, OwnsClaim, OwnsNice, cut_of, tasks_of_deed}
 use Rattle.sched_record.proofs.Pairs.{pairs_map, pairs_filter, found_in}
+use Rattle.cfs_model.specs.declared.policy.Policy.{Policy}
 
 -- what holds of each event's step holds of the steps
 all_steps : (P : Step → Type 0) (cpu : ℕ) (claims : List Claim) (nices : List NiceLine) (charges : List ChargeLine)
-    (policy : Entry → Bool) (events : List Entry)
+    (policy : Entry → Policy) (events : List Entry)
     → All (λ event. P (step_at cpu (with_claim claims nices charges policy event))) events
     → All P (steps_at cpu (claimed claims nices charges policy events))
 all_steps P cpu claims nices charges policy events all =
@@ -43,7 +44,7 @@ all_steps P cpu claims nices charges policy events all =
 
 pairs_steps : (R : Step → Step → Type 0) (cpu : ℕ) (claims : List Claim) (nices : List NiceLine) (charges : List
     ChargeLine)
-    (policy : Entry → Bool) (events : List Entry)
+    (policy : Entry → Policy) (events : List Entry)
     → AllPairs (λ a b. R (step_at cpu (with_claim claims nices charges policy a))
     (step_at cpu (with_claim claims nices charges policy b))) events
     → AllPairs R (steps_at cpu (claimed claims nices charges policy events))
@@ -70,7 +71,7 @@ greatest_last f event events pairs k d h = go (cases_order k (length events))
     go (inr (inr behind)) = absurd (omega arith)
 
 last_time_is : (start : ℕ) (claims : List Claim) (nices : List NiceLine) (charges : List ChargeLine)
-    (policy : Entry → Bool) (event : Entry) (events : List Entry)
+    (policy : Entry → Policy) (event : Entry) (events : List Entry)
     → last_time_of start (claimed claims nices charges policy (event ∷ events))
     ≡ (get_or (event ∷ events) (length events)
     event).time
@@ -80,7 +81,7 @@ last_time_is start claims nices charges policy event (next ∷ events) =
     ∙ ap (λ (e : Entry). e.time) (get_or_default (next ∷ events) (length events) next event (omega arith))
 
 last_line_is : (line : ℕ) (claims : List Claim) (nices : List NiceLine) (charges : List ChargeLine)
-    (policy : Entry → Bool) (event : Entry) (events : List Entry)
+    (policy : Entry → Policy) (event : Entry) (events : List Entry)
     → last_line_after line (claimed claims nices charges policy (event ∷ events))
     ≡ (get_or (event ∷ events) (length events)
     event).line
@@ -103,25 +104,25 @@ one_runs cpu tasks apart i j d lt h runs runs' =
     pairs_filter RunApart (λ (task : Task). eqb task.cpu cpu) tasks apart i j d lt h runs runs' (first ∙ sym second)
 
 -- who is woken, born or migrated is in the deed
-deed_named : (cpu : ℕ) (idle : Bool) (act : Act) → All (λ pid. 0 < pid) (tasks_of act)
-    → All (λ pid. 0 < pid) (tasks_of_deed (deed_at cpu idle act))
-deed_named cpu idle (act.Switch here prev prev_nice way next next_nice) named = named
-deed_named cpu idle (act.Wake here pid nice) named = named
-deed_named cpu idle (act.Born here pid nice) named = named
-deed_named cpu idle (act.Shift orig dest pid nice) named =
-    cond_both (eqb orig cpu) (Leave pid nice dest) (Arrive pid nice orig idle)
+deed_named : (cpu : ℕ) (policy : Policy) (act : Act) → All (λ pid. 0 < pid) (tasks_of act)
+    → All (λ pid. 0 < pid) (tasks_of_deed (deed_at cpu policy act))
+deed_named cpu policy (act.Switch here prev prev_nice way next next_nice) named = named
+deed_named cpu policy (act.Wake here pid nice) named = named
+deed_named cpu policy (act.Born here pid nice) named = named
+deed_named cpu policy (act.Shift orig dest pid nice) named =
+    cond_both (eqb orig cpu) (Leave pid nice dest) (Arrive pid nice orig policy)
     (λ deed. All (λ pid. 0 < pid) (tasks_of_deed deed)) (λ _. named) (λ _. named)
 
 -- a step's claim is the one on its line
 claim_is : (deed : Deed) (found : Option Claim) (claim : Claim) → claim_for deed found ≡ Some claim → found ≡ Some claim
 claim_is (Switch prev prev_nice way next next_nice) found claim e = e
 claim_is (Wake pid nice) found claim e = e
-claim_is (Born pid nice idle) found claim e = e
+claim_is (Born pid nice policy) found claim e = e
 claim_is (Leave pid nice dest) found claim e = absurd cc
-claim_is (Arrive pid nice orig idle) found claim e = e
+claim_is (Arrive pid nice orig policy) found claim e = e
 
 owned : (cpu : ℕ) (claims : List Claim) (nices : List NiceLine) (charges : List ChargeLine)
-    (policy : Entry → Bool) (event : Entry)
+    (policy : Entry → Policy) (event : Entry)
     → All IsClaimInLimits claims → (claim : Claim)
     → (step_at cpu (with_claim claims nices charges policy event)).claim ≡ Some claim
     → OwnsClaim (step_at cpu (with_claim claims nices charges policy event)) claim
@@ -135,12 +136,12 @@ change_found : (deed : Deed) (found : Option NiceLine) (change : NiceLine) → n
     → found ≡ Some change
 change_found (Switch prev prev_nice way next next_nice) found change e = e
 change_found (Wake pid nice) found change e = e
-change_found (Born pid nice idle) found change e = e
+change_found (Born pid nice policy) found change e = e
 change_found (Leave pid nice dest) found change e = e
-change_found (Arrive pid nice orig idle) found change e = absurd cc
+change_found (Arrive pid nice orig policy) found change e = absurd cc
 
 owned_nice : (cpu : ℕ) (claims : List Claim) (nices : List NiceLine) (charges : List ChargeLine)
-    (policy : Entry → Bool) (event : Entry)
+    (policy : Entry → Policy) (event : Entry)
     → All IsNiceLineInLimits nices → (change : NiceLine)
     → (step_at cpu (with_claim claims nices charges policy event)).nice ≡ Some change
     → OwnsNice (step_at cpu (with_claim claims nices charges policy event)) change
@@ -170,7 +171,7 @@ owned_charge cpu claims nices charges policy event limits charge e =
 
 -- no event is behind the last
 within_line : (claims : List Claim) (nices : List NiceLine) (charges : List ChargeLine)
-    (policy : Entry → Bool) (events : List Entry)
+    (policy : Entry → Policy) (events : List Entry)
     → AllPairs (λ a b. a.line < b.line) events
     → All (λ event. event.line ≤ last_line_after 0 (claimed claims nices charges policy events)) events
 within_line claims nices charges policy [] rise = λ k d h. absurd (omega arith)
@@ -180,7 +181,7 @@ within_line claims nices charges policy (event ∷ events) rise =
     omega (arith, below)))
 
 within_time : (start : ℕ) (claims : List Claim) (nices : List NiceLine) (charges : List ChargeLine)
-    (policy : Entry → Bool) (events : List Entry)
+    (policy : Entry → Policy) (events : List Entry)
     → AllPairs (λ a b. a.time ≤ b.time) events
     → All (λ event. event.time ≤ last_time_of start (claimed claims nices charges policy events)) events
 within_time start claims nices charges policy [] in_time = λ k d h. absurd (omega arith)
@@ -238,7 +239,7 @@ stream_of_record r cpu order below =
 
 -- the reader's words for the last event
 pub same_last_time : (start : ℕ) (claims : List Claim) (nices : List NiceLine) (charges : List ChargeLine)
-    (policy : Entry → Bool) (events : List Entry)
+    (policy : Entry → Policy) (events : List Entry)
     → option_map_or (λ event. event.time) (slice_get events (length events - 1)) start ≡ last_time_of start
     (claimed claims nices charges policy events)
 same_last_time start claims nices charges policy [] = refl
@@ -249,7 +250,7 @@ same_last_time start claims nices charges policy (event ∷ events) =
     ∙ sym (last_time_is start claims nices charges policy event events)
 
 pub same_last_line : (claims : List Claim) (nices : List NiceLine) (charges : List ChargeLine)
-    (policy : Entry → Bool) (events : List Entry)
+    (policy : Entry → Policy) (events : List Entry)
     → option_map_or (λ event. event.line) (slice_get events (length events - 1)) 0 ≡ last_line_after 0
     (claimed claims nices charges policy events)
 same_last_line claims nices charges policy [] = refl

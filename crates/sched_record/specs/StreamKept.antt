@@ -17,9 +17,9 @@ use Rattle.sched_record.specs.RecordView.{RecordView, policy_of}
 abbrev pub tasks_of_deed : Deed → List ℕ
 tasks_of_deed (Switch prev prev_nice way next next_nice) = []
 tasks_of_deed (Wake pid nice) = pid ∷ []
-tasks_of_deed (Born pid nice idle) = pid ∷ []
+tasks_of_deed (Born pid nice policy) = pid ∷ []
 tasks_of_deed (Leave pid nice dest) = pid ∷ []
-tasks_of_deed (Arrive pid nice orig idle) = pid ∷ []
+tasks_of_deed (Arrive pid nice orig policy) = pid ∷ []
 
 -- a step's claim stands on its line, with a virtual runtime in range
 pub record OwnsClaim (step : Step) (claim : Claim) : Type 0 where

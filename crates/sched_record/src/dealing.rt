@@ -5,17 +5,17 @@ ghost use Rattle.replay_model.specs.StepAt.{claim_for, deed_at as deed_here, nic
 
 use crate::lists::Steps;
 use crate::on_line::{index_from, index_near, item_on};
-use crate::policies::{has_span, span_before};
+use crate::policies::{has_span, policy_if_idle, span_before};
 use crate::record::Record;
 use crate::stream::Stream;
-use cfs_model::{Act, ChargeLine, Claim, Entry, Memory, NO_LINE, NiceLine, Task};
+use cfs_model::{Act, ChargeLine, Claim, Entry, Memory, NO_LINE, NiceLine, Policy, Task};
 use companion_file::Tasks;
 use replay_model::{Deed, Step};
 use std::alloc::Global;
 
 impl Record {
     ghost use Rattle.std.specs.Prelude.{◌+◌};
-    ghost use Rattle.cfs_model.specs.Claimed.{claimed, policies_before};
+    ghost use Rattle.cfs_model.specs.Claimed.{claimed, policies_before, policy_by};
     ghost use Rattle.cfs_model.specs.Start.{policies_at_start};
     ghost use Rattle.cfs_model.specs.declared.act.Entry.{Entry};
     ghost use Rattle.replay_model.specs.Cut.{steps_at};
@@ -88,8 +88,8 @@ impl Record {
         (item_on(charges, index, line), index)
     }
 
-    /// Whether the task that an event bears or moves is of the idle policy. It takes no memory.
-    pub fn policy_at(&self, event: usize) -> bool
+    /// The policy of the task that an event bears or moves. It takes no memory.
+    pub fn policy_at(&self, event: usize) -> Policy
         requires { event < length (record_view self.now).events }
         ensures { (entry : Entry) → result ≡ policy_of (record_view self.now)
             (slice_index_or (record_view self.now).events event entry) }
@@ -98,24 +98,24 @@ impl Record {
     }
 
     /// The same of an event of the record that is at hand.
-    fn policy_of(&self, event: &Entry) -> bool
+    fn policy_of(&self, event: &Entry) -> Policy
         requires { 0 < event.now.line }
         ensures { result ≡ policy_of (record_view self.now) event.now }
     {
         let act = event.act;
         match act {
-            Act::Born { pid, .. } => has_span(self.spans(), event.line, pid),
-            Act::Shift { pid, .. } => self.policy_before(event.line, pid),
-            Act::Switch { .. } | Act::Wake { .. } => false,
+            Act::Born { pid, .. } => policy_if_idle(has_span(self.spans(), event.line, pid)),
+            Act::Shift { pid, .. } => policy_if_idle(self.is_idle_before(event.line, pid)),
+            Act::Switch { .. } | Act::Wake { .. } => Policy::Normal,
         }
     }
 
     /// Whether the task of this pid is of the idle policy as a line of the trace begins: as it was told at its last
     /// birth above the line, or at the start.
-    fn policy_before(&self, line: u32, pid: u32) -> bool
+    fn is_idle_before(&self, line: u32, pid: u32) -> bool
         requires { 0 < line }
         ensures { let r = record_view self.now in
-            result ≡ policies_before r.idles (policies_at_start r.tasks) r.events line pid }
+            policy_by result ≡ policies_before r.idles (policies_at_start r.tasks) r.events line pid }
     {
         let spans = self.spans();
         match span_before(spans, line, pid) {
@@ -152,8 +152,8 @@ impl Record {
             let claimed = item_on(claims, claims_from, event.line);
             let change = item_on(nices, nices_from, event.line);
             let told = item_on(charges, charges_from, event.line);
-            let idle = self.policy_of(&event);
-            let deed = deed_at(event.act, idle, cpu);
+            let policy = self.policy_of(&event);
+            let deed = deed_at(event.act, policy, cpu);
             let claim = claim_for(&deed, claimed);
             let nice = nice_for(&deed, change);
             let charge = charge_for(&deed, told);
@@ -198,7 +198,7 @@ pub fn step_at(
     claim: Option<Claim>,
     nice: Option<NiceLine>,
     charge: Option<ChargeLine>,
-    idle: bool,
+    policy: Policy,
     cpu: u32,
 ) -> Step
     ensures { result ≡ step_here cpu (record {
@@ -206,10 +206,10 @@ pub fn step_at(
       claim = claim;
       nice = nice;
       charge = charge;
-      idle = idle;
+      policy = policy;
     }) }
 {
-    let deed = deed_at(event.act, idle, cpu);
+    let deed = deed_at(event.act, policy, cpu);
     Step {
         line: event.line,
         time: event.time,
@@ -221,8 +221,8 @@ pub fn step_at(
 }
 
 /// What an event does at a processor that it touches, with the policy of who is born or comes.
-fn deed_at(act: Act, idle: bool, cpu: u32) -> Deed
-    ensures { result ≡ deed_here cpu idle act }
+fn deed_at(act: Act, policy: Policy, cpu: u32) -> Deed
+    ensures { result ≡ deed_here cpu policy act }
 {
     match act {
         Act::Switch {
@@ -240,7 +240,7 @@ fn deed_at(act: Act, idle: bool, cpu: u32) -> Deed
             next_nice,
         },
         Act::Wake { pid, nice, .. } => Deed::Wake { pid, nice },
-        Act::Born { pid, nice, .. } => Deed::Born { pid, nice, idle },
+        Act::Born { pid, nice, .. } => Deed::Born { pid, nice, policy },
         Act::Shift {
             orig,
             dest,
@@ -254,7 +254,7 @@ fn deed_at(act: Act, idle: bool, cpu: u32) -> Deed
                     pid,
                     nice,
                     orig,
-                    idle,
+                    policy,
                 }
             }
         }

@@ -1,9 +1,22 @@
 ghost use Rattle.std.specs.Prelude.{◌≡◌, IfNone, IfSome};
 ghost use Rattle.std.specs.List.{AllPairs};
+ghost use Rattle.cfs_model.specs.Claimed.{policy_by};
 ghost use Rattle.companion_file.specs.Spans.{SpanRises, starts_span};
 ghost use Rattle.sched_record.specs.Policies.{IsLastBefore, IsSpanIndex, NoneBefore, stands_before};
 
+use cfs_model::Policy;
 use companion_file::IdleSpan;
+
+/// The idle policy, where that is so.
+pub(crate) fn policy_if_idle(is_idle: bool) -> Policy
+    ensures { result ≡ policy_by is_idle }
+{
+    if is_idle {
+        Policy::Idle
+    } else {
+        Policy::Normal
+    }
+}
 
 /// How many of the spans stand before one of this pid that starts at this line.
 fn span_index(spans: &[IdleSpan], line: u32, pid: u32) -> usize

@@ -13,6 +13,7 @@ use Rattle.cfs_model.specs.declared.nice_line.NiceLine.{NiceLine}
 use Rattle.replay_model.specs.Summary.{how_many, is_birth, is_death, is_migration, is_switch}
 use Rattle.ticket_book.specs.EventCounts.{AreCountsBelow, counts_of, with_event}
 use Rattle.ticket_book.specs.declared.event_counts.EventCounts.{EventCounts}
+use Rattle.cfs_model.specs.declared.policy.Policy.{Policy}
 
 same_counts : (a b : EventCounts) → a.switches ≡ b.switches → a.migrations ≡ b.migrations → a.births ≡ b.births
     → a.deaths ≡ b.deaths
@@ -53,7 +54,7 @@ counts_below events i bound within most = record {
 -- the counts among events with what is said on their lines
 pub count_claimed : (does : Act → Bool) (claims : List Claim) (nices : List NiceLine) (charges : List ChargeLine)
     (policy : Entry
-    → Bool) (events : List Entry)
+    → Policy) (events : List Entry)
     → count_by (λ (e : Entry). does e.act) events ≡ how_many does (claimed claims nices charges policy events)
 count_claimed does claims nices charges policy [] = refl
 count_claimed does claims nices charges policy (event ∷ events) =

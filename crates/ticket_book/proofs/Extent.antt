@@ -1,5 +1,5 @@
 -- How many events a record can have and how late they are, so that no sum over them is too great.
-use Rattle.std.proofs.Common.{◌≡◌, ℕ, Bool, zero, suc, ◌+◌, ◌*◌, ◌-◌, ◌^◌, ◌<◌, ◌≤◌, List, [], ◌∷◌, length, get_or, All}
+use Rattle.std.proofs.Common.{◌≡◌, ℕ, zero, suc, ◌+◌, ◌*◌, ◌-◌, ◌^◌, ◌<◌, ◌≤◌, List, [], ◌∷◌, length, get_or, All}
 use Rattle.std.proofs.Common.{inl}
 use Rattle.std.proofs.Common.{inr, ap, arith}
 use Rattle.std.specs.List.{AllByRecursion, AllPairs}
@@ -16,6 +16,7 @@ use Rattle.cfs_model.specs.declared.nice_line.NiceLine.{NiceLine}
 use Rattle.replay_model.specs.declared.page.Tally.{Tally}
 use Rattle.sched_record.specs.Record.{last_event}
 use Rattle.ticket_book.specs.Tallying.{FitsTally}
+use Rattle.cfs_model.specs.declared.policy.Policy.{Policy}
 
 -- what never falls along the events is greatest at the last
 pub last_greatest : (amount : Entry → ℕ) (events : List Entry) (none : ℕ) → AllPairs (λ a b. amount a ≤ amount b) events
@@ -54,7 +55,7 @@ events_few (event ∷ events) first rise =
 
 -- the same of events with what is said on their lines
 pub times_below : (claims : List Claim) (nices : List NiceLine) (charges : List ChargeLine) (policy : Entry
-    → Bool) (events : List Entry) (last : ℕ)
+    → Policy) (events : List Entry) (last : ℕ)
     → All (λ event. event.time ≤ last) events
     → AllByRecursion (λ event. event.entry.time ≤ last) (claimed claims nices charges policy events)
 times_below claims nices charges policy [] last below = tt

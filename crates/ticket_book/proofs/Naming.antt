@@ -18,6 +18,7 @@ use Rattle.replay_model.specs.Noted.{new_tally, with_tally}
 use Rattle.replay_model.specs.Summary.{born_by, born_in, each_once, tasks_of_run}
 use Rattle.replay_model.specs.declared.page.Tally.{Tally}
 use Rattle.ticket_book.specs.Naming.{births_in, with_named}
+use Rattle.cfs_model.specs.declared.policy.Policy.{Policy}
 
 -- some tasks, and then others
 pub both_named : (xs ys : List ℕ) (sums now after : List Tally) → now ≡ with_named xs sums → after ≡ with_named ys now
@@ -45,7 +46,7 @@ births_more events i event within is =
 
 -- the births among events with what is said on their lines
 pub births_claimed : (claims : List Claim) (nices : List NiceLine) (charges : List ChargeLine) (policy : Entry
-    → Bool) (events : List Entry)
+    → Policy) (events : List Entry)
     → births_in events ≡ born_in (claimed claims nices charges policy events)
 births_claimed claims nices charges policy [] = refl
 births_claimed claims nices charges policy (event ∷ events) = ap (λ pids. born_by event.act
@@ -138,7 +139,7 @@ named_once xs (y ∷ ys) =
 -- the tasks that the start names, and then those that are born
 pub all_named : (tasks : List Task) (claims : List Claim) (nices : List NiceLine) (charges : List ChargeLine) (policy
     : Entry
-    → Bool) (events : List Entry)
+    → Policy) (events : List Entry)
     (none named all : List Tally) → none ≡ [] → named ≡ with_named (map (λ task. task.pid) tasks) none
     → all ≡ with_named (births_in events) named
     → all ≡ map new_tally (tasks_of_run tasks (claimed claims nices charges policy events))

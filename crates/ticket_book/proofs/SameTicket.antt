@@ -2,10 +2,9 @@
 use Rattle.std.proofs.Common.{◌≡◌, Bool, true, false, not, Decides, Option, Some, None, refl, sym, ap, ◌∙◌, true≢false}
 use Rattle.std.specs.Bool.{OnFalse, OnTrue}
 use Rattle.std.proofs.lemmas.Bool.{OnFalse_from, OnTrue_from}
-use Rattle.std.specs.Cmp.{policies_decide}
 use Rattle.std.specs.Option.{option_eq}
 use Rattle.std.proofs.lemmas.Bool.Decides.{Decides-eqb, Decides-int_eq, Decides-and, Decides-like}
-use Rattle.cfs_model.proofs.Deciding.{place_decides}
+use Rattle.cfs_model.proofs.Deciding.{place_decides, policies_decide}
 use Rattle.replay_model.specs.declared.page.Ticket.{Ticket}
 use Rattle.replay_model.specs.contracts.page.TicketPartialEq.TheImpl as ticket_eq
 

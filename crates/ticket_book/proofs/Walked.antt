@@ -26,11 +26,12 @@ use Rattle.ticket_book.specs.Told.{Allow, TellFault, view_at}
 use Rattle.ticket_book.specs.Walk.{AreBehind, StandsAt}
 use Rattle.ticket_book.specs.declared.walk.Walk.{Walk}
 use Rattle.ticket_book.proofs.WalkKept.{stands_later}
+use Rattle.cfs_model.specs.declared.policy.Policy.{Policy}
 
 -- how far a walk has come
 pub record HasCome (pages : List ReplayView) (tasks : List Task) (claims : List Claim) (nices : List NiceLine)
     (charges : List ChargeLine)
-    (policy : Entry → Bool)
+    (policy : Entry → Policy)
     (events : List Entry) (i : ℕ) (walk : Walk) : Type 0 where
   pub nothing : SayNothing (view_at pages) (length pages) tasks (claimed claims nices charges policy (take i events))
   pub alive : (pid : ℕ) → alive_view walk.alive pid ≡ roll_of (named tasks)
@@ -69,7 +70,7 @@ say_push pages cpus tasks xs x nothing allow = record {
 
 module _ (pages : List ReplayView) (tasks : List Task) (claims : List Claim) (nices : List NiceLine) (charges : List
     ChargeLine) (policy : Entry
-    → Bool) (events : List Entry) where
+    → Policy) (events : List Entry) where
   -- before the first event
   pub walk_starts : (walk : Walk) → ((pid : ℕ) → alive_view walk.alive pid ≡ named tasks pid)
       → ((line : ℕ) → StandsAt pages line walk) → HasCome pages tasks claims nices charges policy events 0 walk

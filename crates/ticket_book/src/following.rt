@@ -10,7 +10,7 @@ ghost use Rattle.ticket_book.specs.Cursor.{AreFollowed, IsFollowed, steps_in};
 ghost use Rattle.ticket_book.specs.SaidEvents.{events_of};
 
 use crate::cursor::Cursor;
-use cfs_model::{ChargeLine, Claim, Entry, Memory, NiceLine};
+use cfs_model::{ChargeLine, Claim, Entry, Memory, NiceLine, Policy};
 use queue_replay::Page;
 use replay_model::Step;
 use sched_record::{Record, step_at};

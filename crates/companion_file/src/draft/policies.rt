@@ -9,7 +9,7 @@ use crate::draft::Draft;
 use crate::fault::{CompanionCause, Refusal};
 use crate::limits::idle_within;
 use crate::spans::IdleSpans;
-use cfs_model::{IdleLine, NO_LINE};
+use cfs_model::{IdleLine, NO_LINE, Policy};
 use std::alloc::AllocError;
 
 impl Draft {
@@ -37,7 +37,7 @@ impl Draft {
         ensures { Adds self.old (idle_line idle) result self.new }
     {
         self.idles.push(idle)?;
-        self.tasks[index].idle = true;
+        self.tasks[index].policy = Policy::Idle;
         Ok(())
     }
 

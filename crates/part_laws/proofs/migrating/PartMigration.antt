@@ -1,5 +1,5 @@
 -- A migration's own change in the machine, and in the parts at its two ends.
-use Rattle.std.proofs.Common.{◌≡◌, ◌≢◌, ℕ, Bool, true, false, Option, Some, None, option_map, ℤ, pos, ◌+ℤ◌, ◌-ℤ◌, inl}
+use Rattle.std.proofs.Common.{◌≡◌, ◌≢◌, ℕ, true, false, Option, Some, None, option_map, ℤ, pos, ◌+ℤ◌, ◌-ℤ◌, inl}
 use Rattle.std.proofs.Common.{inr}
 use Rattle.std.proofs.Common.{refl, sym, ap, ◌∙◌, subst, arith}
 use Rattle.std.proofs.lemmas.Int.{ints}
@@ -139,7 +139,7 @@ migration_parts m a orig dest pid nice claim policy after s =
       ap (λ x. part_of x dest) s.result
           ∙ placed_part m next pid s.place dest nice policy w (pos 0) p k (moved_nice m s.place orig dest pid w nice
           s.prio)
-          (moved_policy m s.place orig dest pid w policy s.policy)
+          (moved_policy m s.place orig dest pid w policy s.policy_is)
           (put-same (with_move m pid s.place orig s.place dest).runtime pid (Some w))
           (put-same (with_move m pid s.place orig s.place dest).drift pid (pos 0))
           ∙ ap (with_entity (part_of m dest) pid) (sym (comes_to claim s.sort s.place pid nice policy w s.moves
@@ -254,7 +254,7 @@ tickets_equal m a orig dest pid line nice claim policy after s =
     in x))
     (is_stander m a s.place orig pid nice s.own s.stands s.prio s.runtime)
     ∙ ap (λ x. Some (record
-    { line = line; pid = pid; nice = nice; policy = x; place = s.place; offset = s.own -ℤ m.floor orig })) s.policy
+    { line = line; pid = pid; nice = nice; policy = x; place = s.place; offset = s.own -ℤ m.floor orig })) s.policy_is
     ∙ ap (λ x. Some (record { line = line; pid = pid; nice = nice; policy = policy; place = s.place; offset = x }))
     (offsets s.own (m.floor orig) (m.floor dest))
     ∙ sym (claim_ticket (part_of m dest) line pid nice policy claim s.sort s.place
@@ -319,7 +319,7 @@ migration_exists knobs m a orig dest pid line nice (Some claim) policy l c t = g
             place = s.place;
             stands = k.stands;
             prio = own_nice m a s.place orig pid nice k.stands (λ h. l.prio pid (h, refl));
-            policy = k.policy ∙ ap (λ (x : Ticket). x.policy) same;
+            policy_is = k.policy ∙ ap (λ (x : Ticket). x.policy) same;
             own = s.runtime;
             runtime = k.runtime;
             sort = claim.sort;

@@ -1,5 +1,5 @@
 -- A step that passes the tests leaves at most one task running.
-use Rattle.std.proofs.Common.{◌≡◌, ◌≢◌, ℕ, zero, suc, Bool, Option, Some, None, option_map, ℤ, pos, ◌⊎◌, inl, inr, refl}
+use Rattle.std.proofs.Common.{◌≡◌, ◌≢◌, ℕ, zero, suc, Option, Some, None, option_map, ℤ, pos, ◌⊎◌, inl, inr, refl}
 use Rattle.std.proofs.Common.{sym}
 use Rattle.std.proofs.Common.{ap, ◌∙◌, subst}
 use Rattle.cfs_model.specs.Knobs.{KnobsView}

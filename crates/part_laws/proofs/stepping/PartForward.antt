@@ -1,5 +1,5 @@
 -- A step of the machine by an event that touches one processor is a step of the part there, and other parts stay.
-use Rattle.std.proofs.Common.{◌≡◌, ℕ, Bool, Option, [], ◌∷◌, sym, ap, ◌∙◌, subst}
+use Rattle.std.proofs.Common.{◌≡◌, ℕ, Option, [], ◌∷◌, sym, ap, ◌∙◌, subst}
 use Rattle.cfs_model.specs.Knobs.{KnobsView}
 use Rattle.cfs_model.specs.Machine.{Machine, Stands}
 use Rattle.cfs_model.specs.Touch.{touched}

@@ -24,7 +24,7 @@ use Rattle.cfs_model.specs.declared.task.Place.TheVariants.{Run, Wait, Rest}
 use Rattle.cfs_model.specs.declared.policy.Policy.{Policy}
 
 -- a task after the charge, by its marks and its values
-charged_place : (r w s policy : Policy) (drift : ℤ) (n v : Option ℤ) (cost : ℤ → Bool → ℕ)
+charged_place : (r w s : Bool) (policy : Policy) (drift : ℤ) (n v : Option ℤ) (cost : ℤ → Policy → ℕ)
     → entity_by policy drift (place_by r w s) n
     (cond r (option_and_then (λ nice. option_map (λ u. u +ℤ pos (cost nice policy)) v) n) v)
     ≡ option_map (λ (t : Entity). record t { runtime = runtime_after t.place (cost t.nice t.policy) t.runtime })
@@ -46,7 +46,7 @@ charged_here m cpu time pid = charged_place (m.running cpu pid) (m.waiting cpu p
     (m.policy pid) (m.drift pid) (m.nice pid) (m.runtime pid) (cost_at m cpu time)
 
 -- a task elsewhere isn't charged
-kept_by : (b policy : Policy) (drift : ℤ) (place : Option Place) (n x v : Option ℤ) → (b ≡ true → place ≡ None)
+kept_by : (b : Bool) (policy : Policy) (drift : ℤ) (place : Option Place) (n x v : Option ℤ) → (b ≡ true → place ≡ None)
     → entity_by policy drift place n (cond b x v) ≡ entity_by policy drift place n v
 kept_by true policy drift place n x v h = ap (λ p. entity_by policy drift p n x) (h refl)
     ∙ ap (λ p. entity_by policy drift p n v) (sym (h refl))

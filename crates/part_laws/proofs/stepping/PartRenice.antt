@@ -1,6 +1,6 @@
 -- A change of a nice value in the machine is one in the part at the processor where the task stands, and other parts
 -- stay.
-use Rattle.std.proofs.Common.{◌≡◌, ◌≢◌, ℕ, Bool, Option, Some, None, is_some, option_map, ℤ, ◌⊎◌, inl, inr, [], ◌∷◌}
+use Rattle.std.proofs.Common.{◌≡◌, ◌≢◌, ℕ, Option, Some, None, is_some, option_map, ℤ, ◌⊎◌, inl, inr, [], ◌∷◌}
 use Rattle.std.proofs.Common.{refl, sym, ap, ◌∙◌, subst}
 use Rattle.cfs_model.specs.Machine.{Machine, Stands, with_nice}
 use Rattle.cfs_model.specs.Touch.{touched}

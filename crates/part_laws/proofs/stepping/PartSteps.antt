@@ -1,5 +1,5 @@
 -- A step of the machine by an event that touches one processor, from the step of the part there.
-use Rattle.std.proofs.Common.{◌≡◌, ℕ, Bool, Option, [], ◌∷◌, refl, sym, ap, ◌∙◌, subst}
+use Rattle.std.proofs.Common.{◌≡◌, ℕ, Option, [], ◌∷◌, refl, sym, ap, ◌∙◌, subst}
 use Rattle.cfs_model.specs.Knobs.{KnobsView}
 use Rattle.cfs_model.specs.Machine.{Machine, Stands}
 use Rattle.cfs_model.specs.Touch.{touched}

@@ -17,6 +17,7 @@ use Rattle.replay_model.proofs.PartFacts.{same_part, is_stander, no_stander}
 use Rattle.cfs_model.specs.declared.task.Place.{Place}
 use Rattle.cfs_model.specs.declared.task.Place.TheVariants.{Run, Wait, Rest}
 use Rattle.cfs_model.specs.declared.task.Task.{Task}
+use Rattle.cfs_model.specs.declared.policy.Policy.TheVariants.{Normal}
 
 -- a task, if it is one of this processor
 abbrev kept_at : ℕ → Task → Option Task
@@ -76,7 +77,7 @@ start_stander start floors tasks s cpu pid = go (task_of tasks pid) refl
         t.v h
         (ap (option_map (λ (x : Task). x.nice)) e) (ap (option_map (λ (x : Task). x.v)) e)
         ∙ ap (λ x. Some (record { place = t.place; nice = t.nice; policy = x; runtime = t.v; drift = pos 0 }))
-        (ap (λ o. option_map_or (λ (x : Task). x.policy) o false) e)
+        (ap (λ o. option_map_or (λ (x : Task). x.policy) o Normal) e)
     at t e false f =
         no_stander (start_machine start floors tasks) cpu pid (λ place h.
         let w = named_task tasks s.pids_rise place cpu pid (named_there start floors tasks place cpu pid h) in

@@ -82,8 +82,8 @@ module _ (knobs : KnobsView) (start : ℕ) (floors : List ℤ) (tasks : List Tas
   m = last_of (start_machine start floors tasks) run.states
 
   -- the slack fails with the event at this processor
-  abbrev Idles : ℕ → Type 0
-  Idles cpu = SlackFails knobs.slack (times_of start before) (start_machine start floors tasks ∷ run.states) cpu
+  abbrev FailsSlack : ℕ → Type 0
+  FailsSlack cpu = SlackFails knobs.slack (times_of start before) (start_machine start floors tasks ∷ run.states) cpu
       event.entry.time
 
   -- with the event they are no run
@@ -103,8 +103,8 @@ module _ (knobs : KnobsView) (start : ℕ) (floors : List ℤ) (tasks : List Tas
   part_is cpu = (replay_follows knobs start floors tasks before cpu (at cpu).mid (r 0).is_start times run
       (at cpu).passes.cut_replay).1
 
-  idles_is : (cpu : ℕ) → Idles cpu ↔ IsIdleTooLong knobs.slack (at cpu).mid.since event.entry.time 0
-  idles_is cpu = slack_follows knobs start floors tasks before cpu (at cpu).mid event.entry.time (r 0).is_start times
+  slack_is : (cpu : ℕ) → FailsSlack cpu ↔ IsIdleTooLong knobs.slack (at cpu).mid.since event.entry.time 0
+  slack_is cpu = slack_follows knobs start floors tasks before cpu (at cpu).mid event.entry.time (r 0).is_start times
       run
       (at cpu).passes.cut_replay
 
@@ -115,15 +115,15 @@ module _ (knobs : KnobsView) (start : ℕ) (floors : List ℤ) (tasks : List Tas
       (at cpu).passes.no_fault
       ((at cpu).back k) (later_times cpu) h
 
-  tells : (cpu : ℕ) → cpu < cpus → Idles cpu → IdlesBefore event (pages cpu).fault
+  tells : (cpu : ℕ) → cpu < cpus → FailsSlack cpu → IdlesBefore event (pages cpu).fault
   tells cpu k h = page_of_idling knobs start before (rest cpu) event cpu (pages cpu) (at cpu).mid
       (at cpu).passes.no_fault
-      ((at cpu).back k) (later_times cpu) ((idles_is cpu).0 h)
+      ((at cpu).back k) (later_times cpu) ((slack_is cpu).0 h)
 
-  none_idle : ((cpu : ℕ) → cpu < cpus → ¬ IdlesBefore event (pages cpu).fault) → (cpu : ℕ) → ¬ Idles cpu
-  none_idle none cpu h = elim (cases_lt cpu cpus) [
+  none_fails : ((cpu : ℕ) → cpu < cpus → ¬ IdlesBefore event (pages cpu).fault) → (cpu : ℕ) → ¬ FailsSlack cpu
+  none_fails none cpu h = elim (cases_lt cpu cpus) [
     | inl k ↦ none cpu k (tells cpu k h)
-    | inr k ↦ never_too_long knobs.slack (at cpu).mid.since event.entry.time 0 ((at cpu).past k) ((idles_is cpu).0 h)
+    | inr k ↦ never_too_long knobs.slack (at cpu).mid.since event.entry.time 0 ((at cpu).past k) ((slack_is cpu).0 h)
   ]
 
   idling : (cause : FaultCause) → IsIdlingCauseOf pages cpus event cause
@@ -132,7 +132,7 @@ module _ (knobs : KnobsView) (start : ℕ) (floors : List ℤ) (tasks : List Tas
   idling cause c =
       let late = idle_told cause.cpu c.within c.idles in (
         record {
-          idles = (idles_is cause.cpu).1 late;
+          idles = (slack_is cause.cpu).1 late;
           lowest = λ other below h. c.lowest other below
               (tells other (let k : cause.cpu < cpus = c.within in omega arith) h);
           pid = c.pid;
@@ -271,4 +271,4 @@ module _ (knobs : KnobsView) (start : ℕ) (floors : List ℤ) (tasks : List Tas
       let within = all_at (λ x. AllByRecursion (λ cpu. cpu < cpus) (touched x.entry.act)) before (rest 0) event
       (r 0).events_within in
       let f = act_cause cause event.entry.act refl within c.0 c.1 in
-      (record { run = run; why = inr (none_idle c.0, f.0) }, f.1)
+      (record { run = run; why = inr (none_fails c.0, f.0) }, f.1)

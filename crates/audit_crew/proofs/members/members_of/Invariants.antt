@@ -8,5 +8,5 @@ invariant-loop-cpu g l = record {
   none : l.all.amount ≡ 0;
   count : vec_len l.members ≡ l._cpu;
   free : All (λ member. member.posted ≡ None) l.members.items;
-  idle : All (λ member. member.underway ≡ None) l.members.items;
+  none_underway : All (λ member. member.underway ≡ None) l.members.items;
 }

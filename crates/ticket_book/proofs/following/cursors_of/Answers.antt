@@ -32,7 +32,7 @@ loop-index-preserved c =
     let nice = c.nice_beside-nice.ensures.nice event ∙ ap (λ (e : Entry). nice_at r.nices e.line) (sym is) in
     let charge = c.charge_beside-charge.ensures.charge event
     ∙ ap (λ (e : Entry). charge_at r.charges e.line) (sym is) in
-    let policy = c.policy_at-idle.ensures event ∙ ap (policy_of r) (sym is) in
+    let policy = c.policy_at-policy.ensures event ∙ ap (policy_of r) (sym is) in
     let within = c.loop-index-test.true in
     let total = ap length c.events-event-items.ensures in
     record {

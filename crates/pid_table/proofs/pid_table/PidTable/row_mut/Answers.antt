@@ -7,13 +7,13 @@ use Rattle.pid_table.proofs.pid_table.PidTable.row_mut.Goals as goal
 pub returns : goal.returns
 returns g c =
     let m = c.self.inside.map in
-    let place = c.args.place in
+    let index = c.args.index in
     rw (← c.self.view_is) (
       (
         refl,
         λ w i. record {
-          pids = keys-with_value_at m place w i;
-          rows = row_set m.entries place w i;
+          pids = keys-with_value_at m index w i;
+          rows = row_set m.entries index w i;
           room = spare m;
         },
       ),

@@ -61,8 +61,8 @@ bounds-events-index c =
     c.trace-trace.ensures))
     c.loop-index-test.true
 
-pub policy_of-idle-requires : goal.policy_of-idle-requires
-policy_of-idle-requires c =
+pub policy_of-policy-requires : goal.policy_of-policy-requires
+policy_of-policy-requires c =
     let r = record_view c.args.self.now in
     let index = get_or c.indices-indices.result.now c.loop-index.index-index 0 in
     let event = c.index-events-index.result in
@@ -153,7 +153,7 @@ loop-index-preserved c =
           (policy_of r) events i event
           c.loop-index.steps.items _ _ _ _ _ _ _ here.0 here.1
           c.loop-index.invariant.dealt (c.deed_at-deed.ensures
-          ∙ ap (λ b. deed_at c.args.cpu b event.act) c.policy_of-idle.ensures) c.item_on-claimed.ensures
+          ∙ ap (λ b. deed_at c.args.cpu b event.act) c.policy_of-policy.ensures) c.item_on-claimed.ensures
           c.claim_for-claim.ensures
           c.item_on-change.ensures c.nice_for-nice.ensures c.item_on-told.ensures c.charge_for-charge.ensures);
     }

@@ -1,4 +1,4 @@
--- Where the row of a pid is: at one place at most.
+-- Where the row of a pid is: at one index at most.
 use Rattle.std.proofs.Common.{◌≡◌, ◌≢◌, ℕ, ◌<◌, Bool, true, false, List, length, nat_eq, get_or, All, None}
 use Rattle.std.proofs.Common.{Some, cond, sym, ap, ◌∙◌, subst, arith, inl, inr, true≢false}
 use Rattle.std.specs.List.{IsDistinct, position_or_len}
@@ -8,15 +8,15 @@ use Rattle.std.proofs.lemmas.List.Quantifiers.{position-Some}
 use Rattle.std.proofs.lemmas.List.Sums.{fails_before_first}
 use Rattle.std.proofs.lemmas.Option.{none-some}
 use Rattle.std.proofs.lemmas.Map.Made.{AllPairs-from_IsDistinct}
-use Rattle.pid_table.specs.Rows.{place_in}
+use Rattle.pid_table.specs.Rows.{index_in}
 
--- the pid stands at its place
-pub pid_there : (pids : List ℕ) (pid place : ℕ) (d : ℕ) → place_in pids pid ≡ Some place → get_or pids place d ≡ pid
-pid_there pids pid place d is =
-    sym (eqb-true pid (get_or pids place d) (position-Some (nat_eq pid) pids place d is).1)
+-- the pid stands at its index
+pub pid_there : (pids : List ℕ) (pid index : ℕ) (d : ℕ) → index_in pids pid ≡ Some index → get_or pids index d ≡ pid
+pid_there pids pid index d is =
+    sym (eqb-true pid (get_or pids index d) (position-Some (nat_eq pid) pids index d is).1)
 
--- one that has no place stands nowhere
-pub pid_nowhere : (pids : List ℕ) (pid : ℕ) → place_in pids pid ≡ None → All (λ other. other ≢ pid) pids
+-- one that has no index stands nowhere
+pub pid_nowhere : (pids : List ℕ) (pid : ℕ) → index_in pids pid ≡ None → All (λ other. other ≢ pid) pids
 pid_nowhere pids pid none = λ i d h same.
     true≢false (sym (eq-eqb pid (get_or pids i d) (sym same))
     ∙ fails_before_first (nat_eq pid) pids i d (behind i h))
@@ -30,7 +30,7 @@ pid_nowhere pids pid none = λ i d h same.
           | inr past ↦ omega (arith, h, past)
         ]
 
--- no pid stands at two places
+-- no pid stands at two indices
 pub only_there : (pids : List ℕ) → IsDistinct nat_eq pids → (i k d : ℕ) → i < length pids → k < length pids
     → get_or pids i d ≡ get_or pids k d → i ≡ k
 only_there pids apart i k d h w same =

@@ -23,8 +23,8 @@ abbrev pub IsNiceIndex : RecordView → ℕ → ℕ → Type 0
 IsNiceIndex r = IsIndexBeside _ (λ change. change.line) r.nices r.events
 
 -- such an index in a record's charges
-abbrev pub IsChargePlace : RecordView → ℕ → ℕ → Type 0
-IsChargePlace r = IsIndexBeside _ (λ charge. charge.line) r.charges r.events
+abbrev pub IsChargeIndex : RecordView → ℕ → ℕ → Type 0
+IsChargeIndex r = IsIndexBeside _ (λ charge. charge.line) r.charges r.events
 
 -- the event at the index is the birth that the idle line speaks of
 abbrev pub is_birth_there : List Entry → ℕ → IdleLine → Bool

@@ -19,7 +19,7 @@ impl Record {
     ghost use Rattle.cfs_model.specs.Start.{policies_at_start};
     ghost use Rattle.cfs_model.specs.declared.act.Entry.{Entry};
     ghost use Rattle.replay_model.specs.Cut.{steps_at};
-    ghost use Rattle.sched_record.specs.Beside.{IsChargePlace, IsClaimIndex, IsNiceIndex};
+    ghost use Rattle.sched_record.specs.Beside.{IsChargeIndex, IsClaimIndex, IsNiceIndex};
     ghost use Rattle.sched_record.specs.RecordView.{policy_of};
     ghost use Rattle.sched_record.specs.Record.{record_view};
     ghost use Rattle.sched_record.specs.Stream.{cut_of, stream_view};
@@ -77,10 +77,10 @@ impl Record {
     /// event. The walk begins at index 0.
     pub fn charge_beside(&self, event: usize, from: usize) -> (Option<ChargeLine>, usize)
         requires event { event < length (record_view self.now).events }
-        requires from { IsChargePlace (record_view self.now) event from }
+        requires from { IsChargeIndex (record_view self.now) event from }
         ensures charge { (entry : Entry) → result.0 ≡ charge_at (record_view self.now).charges
             (slice_index_or (record_view self.now).events event entry).line }
-        ensures next { IsChargePlace (record_view self.now) (event + 1) result.1 }
+        ensures next { IsChargeIndex (record_view self.now) (event + 1) result.1 }
     {
         let charges = self.charges();
         let line = self.events()[event].line;

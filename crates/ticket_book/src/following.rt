@@ -29,16 +29,16 @@ pub(crate) fn cursors_of(
     let mut cursors = Vec::from_elem(alloc, Cursor::At(0), joined.cpus() as usize)?;
     let mut claim_index = 0;
     let mut nice_index = 0;
-    let mut charge_place = 0;
+    let mut charge_index = 0;
     for (index, event) in joined.events().iter().enumerate() {
         let (claim, next_claim) = joined.claim_beside(index, claim_index);
         let (nice, next_nice) = joined.nice_beside(index, nice_index);
-        let (charge, next_charge) = joined.charge_beside(index, charge_place);
+        let (charge, next_charge) = joined.charge_beside(index, charge_index);
         let policy = joined.policy_at(index);
         follow(&mut cursors, slots, event, claim, &nice, charge, policy);
         claim_index = next_claim;
         nice_index = next_nice;
-        charge_place = next_charge;
+        charge_index = next_charge;
     }
     Ok(cursors)
 }

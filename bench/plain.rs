@@ -1345,17 +1345,17 @@ fn usual_virtual(text: Bytes) -> Option<(i64, usize)> {
 // The machine.
 
 #[derive(Clone, Copy)]
-struct Settings {
+struct Knobs {
     granularity: u64,
     credit: u64,
     debit: u64,
     slack: u64,
 }
 
-impl Settings {
-    const GREATEST: Settings =
-        Settings { granularity: MOST_SETTING, credit: MOST_SETTING, debit: MOST_SETTING, slack: MOST_SETTING };
-    const NONE: Settings = Settings { granularity: 0, credit: 0, debit: 0, slack: 0 };
+impl Knobs {
+    const GREATEST: Knobs =
+        Knobs { granularity: MOST_SETTING, credit: MOST_SETTING, debit: MOST_SETTING, slack: MOST_SETTING };
+    const NONE: Knobs = Knobs { granularity: 0, credit: 0, debit: 0, slack: 0 };
 }
 
 /// What is wrong with an event.
@@ -1521,9 +1521,9 @@ impl Processor {
 }
 
 struct Machine {
-    settings: Settings,
+    settings: Knobs,
     /// Of each setting the most that an event needed so far; of the slack without those who idle still.
-    needs: Settings,
+    needs: Knobs,
     processors: Vec<Processor>,
     /// In the order of the tallies: the companion's tasks, then births by line.
     tasks: Vec<Task>,
@@ -1569,10 +1569,10 @@ fn cost(nanoseconds: u64, weight: u32) -> u64 {
 }
 
 impl Machine {
-    fn new(settings: Settings) -> Machine {
+    fn new(settings: Knobs) -> Machine {
         Machine {
             settings,
-            needs: Settings::NONE,
+            needs: Knobs::NONE,
             processors: Vec::new(),
             tasks: Vec::new(),
             slots: vec![0; MOST_PID as usize + 1],
@@ -1668,7 +1668,7 @@ impl Machine {
     }
 
     /// What the events needed, the last of them at this time, behind which nobody idles any longer.
-    fn needs_until(mut self, time: u64) -> Settings {
+    fn needs_until(mut self, time: u64) -> Knobs {
         for cpu in 0..self.processors.len() {
             self.end_idling(cpu, time);
         }
@@ -2032,7 +2032,7 @@ enum Verdict {
     Fault(u64, Fault),
     /// The machine after the last event, and the time of that, or the start where there is none.
     Run(Machine, u64),
-    Least(Settings),
+    Least(Knobs),
 }
 
 /// Both texts as they are gone through, and what was found so far.
@@ -2057,7 +2057,7 @@ struct Audit {
 
 impl Audit {
     /// Reads the companion up to its first claim or change.
-    fn new(companion: File, settings: Settings) -> Audit {
+    fn new(companion: File, settings: Knobs) -> Audit {
         let mut companion = Companion::new(companion);
         let mut machine = Machine::new(settings);
         let (mut start, mut idles, mut claim) = (0, Vec::new(), NO_CLAIM);
@@ -2371,7 +2371,7 @@ const USAGE: &str = "Usage: plain [--granularity-ns N] [--credit-ns N] [--debit-
 struct Request {
     trace: String,
     companion: String,
-    settings: Settings,
+    settings: Knobs,
     /// Whether the least settings are told in place of a run.
     least: bool,
 }
@@ -2416,13 +2416,13 @@ fn request_of(mut words: impl Iterator<Item = String>) -> Option<Request> {
     if least && [granularity, credit, debit, slack].iter().any(Option::is_some) {
         return None;
     }
-    let settings = Settings {
+    let settings = Knobs {
         granularity: granularity.unwrap_or(1_000_000),
         credit: credit.unwrap_or(3_000_000),
         debit: debit.unwrap_or(3_000_000),
         slack: slack.unwrap_or(100_000),
     };
-    Some(Request { trace, companion, settings: if least { Settings::GREATEST } else { settings }, least })
+    Some(Request { trace, companion, settings: if least { Knobs::GREATEST } else { settings }, least })
 }
 
 fn main() {

@@ -10,7 +10,7 @@ pub returns-then-line : goal.returns-then-line
 returns-then-line g c =
     let line_of = g.T.OnLine.line in
     let items = c.args.items.now in
-    let place = c.args.place in
+    let index = c.args.index in
     let read = c.index-items-index.result in
     let item = c.index-items-index-then-line.result in
     let same = get_or_default items index item read c.if-index-items.true in
@@ -21,7 +21,7 @@ returns-then-line g c =
 pub returns-else-index-items : goal.returns-else-index-items
 returns-else-index-items g c =
     let line_of = g.T.OnLine.line in
-    let place = c.args.place in
+    let index = c.args.index in
     sym (item_missing line_of _ _ (apart_from line_of _ _ index c.requires.rise c.requires.above
     (elim c.else-index-items.branch [
       | else-index-items-via-then-index-items+else-line w ↦

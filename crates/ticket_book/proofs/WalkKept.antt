@@ -17,7 +17,7 @@ pub one_moved : (tickets : PageView → List Ticket) (pages : List ReplayView) (
     → AreBehind tickets pages line before → cpu < length pages
     → PassesTo cpu line (tickets (view_at pages cpu)) before after → AreBehind tickets pages line after
 one_moved tickets pages line cpu before after behind within passes =
-    let place = passes.place in
+    let index = passes.index in
     let there : cpu < length before = subst (λ n. cpu < n) (sym behind.count) within in
     let same : slice_index after cpu ≡ index = ap (λ xs. slice_index xs cpu) passes.moved
     ∙ get_or-set_same before cpu index 0 there in

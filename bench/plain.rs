@@ -1366,7 +1366,7 @@ fn usual_virtual(text: Bytes) -> Option<(i64, usize)> {
 // The machine.
 
 #[derive(Clone, Copy)]
-struct Settings {
+struct Knobs {
     granularity: u64,
     credit: u64,
     debit: u64,
@@ -1374,15 +1374,15 @@ struct Settings {
     drift: u64,
 }
 
-impl Settings {
-    const GREATEST: Settings = Settings {
+impl Knobs {
+    const GREATEST: Knobs = Knobs {
         granularity: MOST_SETTING,
         credit: MOST_SETTING,
         debit: MOST_SETTING,
         slack: MOST_SETTING,
         drift: MOST_SETTING,
     };
-    const NONE: Settings = Settings { granularity: 0, credit: 0, debit: 0, slack: 0, drift: 0 };
+    const NONE: Knobs = Knobs { granularity: 0, credit: 0, debit: 0, slack: 0, drift: 0 };
 }
 
 /// What is wrong with an event.
@@ -1561,9 +1561,9 @@ impl Processor {
 }
 
 struct Machine {
-    settings: Settings,
+    settings: Knobs,
     /// Of each setting the most that an event needed so far; of the slack without those who idle still.
-    needs: Settings,
+    needs: Knobs,
     processors: Vec<Processor>,
     /// In the order of the tallies: the companion's tasks, then births by line.
     tasks: Vec<Task>,
@@ -1611,10 +1611,10 @@ fn cost(nanoseconds: u64, weight: u32) -> u64 {
 }
 
 impl Machine {
-    fn new(settings: Settings) -> Machine {
+    fn new(settings: Knobs) -> Machine {
         Machine {
             settings,
-            needs: Settings::NONE,
+            needs: Knobs::NONE,
             processors: Vec::new(),
             tasks: Vec::new(),
             slots: vec![0; MOST_PID as usize + 1],
@@ -1712,7 +1712,7 @@ impl Machine {
     }
 
     /// What the events needed, the last of them at this time, behind which nobody idles any longer.
-    fn needs_until(mut self, time: u64) -> Settings {
+    fn needs_until(mut self, time: u64) -> Knobs {
         for cpu in 0..self.processors.len() {
             self.end_idling(cpu, time);
         }
@@ -2094,7 +2094,7 @@ enum Verdict {
     /// companion.
     Run(Machine, u64, u32),
     /// The least settings, and the version of the companion, which says whether the drift is told among them.
-    Least(Settings, u32),
+    Least(Knobs, u32),
 }
 
 /// Both texts as they are gone through, and what was found so far.
@@ -2119,7 +2119,7 @@ struct Audit {
 
 impl Audit {
     /// Reads the companion up to its first claim, change or told charge.
-    fn new(companion: File, settings: Settings) -> Audit {
+    fn new(companion: File, settings: Knobs) -> Audit {
         let mut companion = Companion::new(companion);
         let mut machine = Machine::new(settings);
         let (mut start, mut idles, mut claim) = (0, Vec::new(), NO_CLAIM);
@@ -2438,7 +2438,7 @@ const USAGE: &str = "Usage: plain [--granularity-ns N] [--credit-ns N] [--debit-
 struct Request {
     trace: String,
     companion: String,
-    settings: Settings,
+    settings: Knobs,
     /// Whether the least settings are told in place of a run.
     least: bool,
 }
@@ -2484,14 +2484,14 @@ fn request_of(mut words: impl Iterator<Item = String>) -> Option<Request> {
     if least && [granularity, credit, debit, slack, drift].iter().any(Option::is_some) {
         return None;
     }
-    let settings = Settings {
+    let settings = Knobs {
         granularity: granularity.unwrap_or(1_000_000),
         credit: credit.unwrap_or(3_000_000),
         debit: debit.unwrap_or(3_000_000),
         slack: slack.unwrap_or(100_000),
         drift: drift.unwrap_or(0),
     };
-    Some(Request { trace, companion, settings: if least { Settings::GREATEST } else { settings }, least })
+    Some(Request { trace, companion, settings: if least { Knobs::GREATEST } else { settings }, least })
 }
 
 fn main() {

@@ -1,6 +1,6 @@
 -- The examples of a change of a nice value on a migration's line: the lift is that of the migration without it, and the
 -- new value is found at the origin; at the destination the task that is named doesn't stand where it has to.
-use Rattle.std.proofs.Common.{◌≡◌, true, false, Some, None, ℤ, pos, ◌+ℤ◌, ◌-ℤ◌, inl, inr, [], ◌∷◌, refl, sym, ap}
+use Rattle.std.proofs.Common.{◌≡◌, true, Some, None, ℤ, pos, ◌+ℤ◌, ◌-ℤ◌, inl, inr, [], ◌∷◌, refl, sym, ap}
 use Rattle.std.proofs.Common.{◌∙◌, subst, arith}
 use Rattle.std.proofs.lemmas.Int.{ints}
 use Rattle.cfs_model.specs.Machine.{Machine, Stands, put, put_pair, with_floor, with_move, with_nice, with_runtime}

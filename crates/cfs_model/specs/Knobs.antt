@@ -23,11 +23,11 @@ all_settings = Granularity ∷ Credit ∷ Debit ∷ Slack ∷ Drift ∷ []
 
 -- the value of a setting
 abbrev pub value_at : KnobsView → Setting → ℕ
-value_at settings Granularity = settings.granularity
-value_at settings Credit = settings.credit
-value_at settings Debit = settings.debit
-value_at settings Slack = settings.slack
-value_at settings Drift = settings.drift
+value_at knobs Granularity = knobs.granularity
+value_at knobs Credit = knobs.credit
+value_at knobs Debit = knobs.debit
+value_at knobs Slack = knobs.slack
+value_at knobs Drift = knobs.drift
 
 -- the settings of which each has the value that a function gives it
 abbrev pub settings_by : (Setting → ℕ) → KnobsView
@@ -41,11 +41,11 @@ settings_by value = record {
 
 -- the same settings but for the value of one
 abbrev pub with_value : KnobsView → Setting → ℕ → KnobsView
-with_value settings Granularity value = record settings { granularity = value }
-with_value settings Credit value = record settings { credit = value }
-with_value settings Debit value = record settings { debit = value }
-with_value settings Slack value = record settings { slack = value }
-with_value settings Drift value = record settings { drift = value }
+with_value knobs Granularity value = record knobs { granularity = value }
+with_value knobs Credit value = record knobs { credit = value }
+with_value knobs Debit value = record knobs { debit = value }
+with_value knobs Slack value = record knobs { slack = value }
+with_value knobs Drift value = record knobs { drift = value }
 
 -- settings that let nothing pass
 abbrev pub nothing : KnobsView
@@ -57,4 +57,4 @@ only setting value = with_value nothing setting value
 
 -- no setting is above the greatest value
 abbrev pub AreInRange : KnobsView → Type 0
-AreInRange settings = AllByRecursion (λ which. value_at settings which ≤ greatest_setting) all_settings
+AreInRange knobs = AllByRecursion (λ which. value_at knobs which ≤ greatest_setting) all_settings

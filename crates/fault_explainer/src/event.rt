@@ -19,8 +19,8 @@ impl Event {
     /// That of a record on a line, if there is one.
     pub(crate) fn on_line(record: &Record, line: u32) -> Option<Event> {
         let events = record.events();
-        let place = events.partition_point(|event| event.line < line);
-        let Entry { time, act, .. } = *events.get(place).filter(|event| event.line == line)?;
+        let index = events.partition_point(|event| event.line < line);
+        let Entry { time, act, .. } = *events.get(index).filter(|event| event.line == line)?;
         Some(Event {
             line,
             time,

@@ -1,4 +1,4 @@
-ghost use Rattle.std.specs.Prelude.{◌≡◌, ◌≢◌, ℕ, Bool, ℤ, IsTrue, ◌↔◌, Option, Some, pos, ◌-ℤ◌, ◌≤ℤ◌};
+ghost use Rattle.std.specs.Prelude.{◌≡◌, ◌≢◌, ℕ, ℤ, IsTrue, ◌↔◌, Option, Some, pos, ◌-ℤ◌, ◌≤ℤ◌};
 ghost use Rattle.replay_model.specs.ClaimTests.{if_resting, IsClaimMissing, IsInWakeBounds, IsWakeOutside};
 ghost use Rattle.replay_model.specs.ClaimTests.{IsInForkBounds, IsForkOutside};
 ghost use Rattle.replay_model.specs.Part.{Part, Entity, place_in};

@@ -1,4 +1,4 @@
--- What the replay of a processor's cut_replay of a run says of the machine (this project's profile).
+-- What the replay of a processor's cut of a run says of the machine (this project's profile).
 use Rattle.std.specs.Prelude.{◌≡◌, ℕ, None, ℤ, ◌↔◌, List, ◌∷◌}
 use Rattle.cfs_model.specs.Knobs.{KnobsView}
 use Rattle.cfs_model.specs.Start.{start_machine}

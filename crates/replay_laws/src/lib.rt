@@ -10,7 +10,7 @@ ghost use Rattle.replay_laws.specs.FirstFaults.{FaultIsFirstBad, OneFirstFault, 
 ghost use Rattle.replay_laws.specs.LeastSettings.{PagesTellLeast, PassesFromNeeds};
 ghost use Rattle.replay_laws.specs.Replays.{ReplayFollows, SlackFollows};
 
-/// While the events are a run, the replay of each processor's share of them has no fault and keeps up with its part,
+/// While the events are a run, the replay of each processor's cut of them has no fault and keeps up with its part,
 /// and it tells where the slack fails with one more event.
 ///
 /// Carried by `following`: FollowLaws, Followed, Follow, PartIdling, StartPart; then Touching of `part_laws`.
@@ -43,7 +43,7 @@ pub fn endings()
 /// Carried by `composing`: PagesCompose, ComposeAll, StepExists, ShiftTickets, StepLines, Bounded, CutReplays; then
 /// Followed, Follow and Roll of `following`, and the laws `part_steps` and `migrations`.
 pub fn composition()
-    ensures shares { CutsCompose }
+    ensures cuts { CutsCompose }
     ensures pages { PagesCompose }
 {}
 

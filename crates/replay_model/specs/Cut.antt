@@ -1,4 +1,4 @@
--- The share of a record that one processor sees (this project's profile).
+-- The cut of a record that one processor sees (this project's profile).
 use Rattle.std.specs.Prelude.{ℕ, ◌==◌, Bool, ℤ, pos, List, [], ◌∷◌, map, filter, slice_index_or}
 use Rattle.std.specs.List.{list_any}
 use Rattle.cfs_model.specs.Limits.{no_line}

@@ -1,7 +1,7 @@
 //! The report of an audit, and behind it why that is a fault, or which line is refused.
+use crate::checkpoints::Checkpoint;
 use crate::keeping_feed::KeepingFeed;
 use crate::line_finding::line_of;
-use crate::line_marks::Mark;
 use cfs_model::Knobs;
 use fault_explainer::{explanation, quoted_line};
 use pid_table::PidHasher;
@@ -114,7 +114,7 @@ fn with_explanation(
 }
 
 /// The trace's line of this number: from what was kept of it, else from the file, which is opened again. It is sought
-/// from the last mark before it on.
+/// from the last checkpoint before it on.
 fn quoted_trace<R: Files, F: Feed>(
     rt: &R,
     alloc: Global,
@@ -122,25 +122,25 @@ fn quoted_trace<R: Files, F: Feed>(
     trace: &KeepingFeed<F>,
     number: u64,
 ) -> Result<Option<Vec<u8>>, Fault> {
-    let mark = trace.mark_before(number);
+    let checkpoint = trace.checkpoint_before(number);
     match trace.kept()? {
-        Some(text) => quoted(alloc, from(text, mark), mark.lines, number),
-        None => match opened_at(rt, name, mark) {
-            Ok(file) => quoted(alloc, file, mark.lines, number),
+        Some(text) => quoted(alloc, from(text, checkpoint), checkpoint.lines, number),
+        None => match opened_at(rt, name, checkpoint) {
+            Ok(file) => quoted(alloc, file, checkpoint.lines, number),
             Err(error) => unread(&error),
         },
     }
 }
 
-/// A text from a mark on.
-fn from(text: &[u8], mark: Mark) -> &[u8] {
-    text.get(mark.offset as usize..).unwrap_or(&[])
+/// A text from a checkpoint on.
+fn from(text: &[u8], checkpoint: Checkpoint) -> &[u8] {
+    text.get(checkpoint.offset as usize..).unwrap_or(&[])
 }
 
-/// A file, which is read from a mark on.
-fn opened_at<R: Files>(rt: &R, name: &str, mark: Mark) -> io::Result<R::File> {
+/// A file, which is read from a checkpoint on.
+fn opened_at<R: Files>(rt: &R, name: &str, checkpoint: Checkpoint) -> io::Result<R::File> {
     let mut file = File::open(rt, name)?;
-    file.seek(SeekFrom::Start(mark.offset))?;
+    file.seek(SeekFrom::Start(checkpoint.offset))?;
     Ok(file)
 }
 

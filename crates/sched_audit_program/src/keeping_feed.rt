@@ -1,18 +1,18 @@
 ghost use Rattle.std.specs.Prelude.{◌≡◌};
 
-use crate::line_marks::{LineMarks, Mark};
+use crate::checkpoints::{Checkpoint, Checkpoints};
 use cfs_model::Memory;
 use sched_audit::{Failed, Feed};
 use std::alloc::Global;
 
-/// A feed that keeps what it gives, where that is asked for, and marks where its lines lie.
+/// A feed that keeps what it gives, where that is asked for, and checkpoints among its lines.
 #[derive(Drop)]
 pub(crate) struct KeepingFeed<F> {
     feed: F,
     keeps: bool,
     /// What was given, or that there is no memory for it.
     kept: Result<Vec<u8>, Memory>,
-    marks: LineMarks,
+    checkpoints: Checkpoints,
 }
 
 impl<F: Feed> KeepingFeed<F> {
@@ -23,7 +23,7 @@ impl<F: Feed> KeepingFeed<F> {
             feed,
             keeps,
             kept: Ok(Vec::new(alloc)),
-            marks: LineMarks::new(alloc),
+            checkpoints: Checkpoints::new(alloc),
         }
     }
 
@@ -36,16 +36,16 @@ impl<F: Feed> KeepingFeed<F> {
         }
     }
 
-    /// The last mark before the line of this number, from 1.
-    pub(crate) fn mark_before(&self, number: u64) -> Mark {
-        self.marks.before(number)
+    /// The last checkpoint before the line of this number, from 1.
+    pub(crate) fn checkpoint_before(&self, number: u64) -> Checkpoint {
+        self.checkpoints.before(number)
     }
 
-    /// Marks the lines of more that is given, and keeps it.
+    /// Counts the lines of more that is given, and keeps it.
     fn pass(&mut self, bytes: &[u8])
         ensures { self.new.feed ≡ self.old.feed }
     {
-        self.marks.pass(bytes);
+        self.checkpoints.pass(bytes);
         if let Ok(kept) = &mut self.kept {
             if self.keeps && kept.extend_from_slice(bytes).is_err() {
                 self.kept = Err(Memory);

@@ -1,12 +1,12 @@
 //! `sched_audit TRACE COMPANION`, with options: judges a recorded schedule and prints the report.
 #![tactic(auto)]
 
+mod checkpoints;
 mod command;
 mod ending;
 mod explaining;
 mod keeping_feed;
 mod line_finding;
-mod line_marks;
 
 use ending::Ending;
 use std::process::ExitCode;

@@ -129,7 +129,7 @@ idles_on_births events companion none k d h some =
       (refl, λ names. stray (names some)),
     )))))
 
--- what stands at the to_index tells whether a birth of the pid stands on the line
+-- what stands at the index tells whether a birth of the pid stands on the line
 there_at : (events : List Entry) (to_index : ℕ) (idle : IdleLine) (d : Entry) → to_index < length events
     → is_birth_there events to_index idle ≡ (eqb (get_or events to_index d).line idle.line
     && is_birth_of idle.pid (get_or events to_index d).act)

@@ -1,4 +1,4 @@
--- What the companion says on lines and events walked side by side: the to_index in the events never goes back, since
+-- What the companion says on lines and events walked side by side: the index in the events never goes back, since
 -- every event before it stands on a line above that of the item in hand, and so above those of all later items.
 use Rattle.std.proofs.Common.{◌≡◌, ℕ, ◌+◌, ◌<◌, ◌≤◌, ◌≢◌, List, length, get_or, eqb, IsTrue, inl, inr, ◌⊎◌, ap, ◌∙◌}
 use Rattle.std.proofs.Common.{arith, subst}
@@ -9,11 +9,11 @@ use Rattle.std.proofs.lemmas.List.Folds.{list_any_none, list_any_at}
 use Rattle.cfs_model.specs.declared.act.Entry.{Entry}
 use Rattle.sched_record.specs.Join.{is_event_line}
 
--- everything before the to_index lies above this line
+-- everything before the index lies above this line
 abbrev pub AllAbove : {X : Type 0} → (X → ℕ) → List X → ℕ → ℕ → Type 0
 AllAbove {X} f xs to_index line = (k : ℕ) (d : X) → k < to_index → f (get_or xs k d) < line
 
--- what is at the to_index, if there is something, lies below this line
+-- what is at the index, if there is something, lies below this line
 abbrev pub IsBelowAt : {X : Type 0} → (X → ℕ) → List X → ℕ → ℕ → Type 0
 IsBelowAt {X} f xs to_index line = (d : X) → to_index < length xs → line < f (get_or xs to_index d)
 
@@ -43,12 +43,12 @@ no_event_line events line to_index rising above below is_line =
     let apart = apart_from (λ (event : Entry). event.line) events line to_index rising above below in
     both_ways _ (list_any_none _ events (λ k d h. ne_eqb _ _ (apart k d h))) is_line
 
--- where the to_index is behind the last
+-- where the index is behind the last
 pub below_end : {X : Type 0} (f : X → ℕ) (xs : List X) (line to_index : ℕ) → length xs ≤ to_index
     → IsBelowAt f xs to_index line
 below_end f xs line to_index end d h = absurd (omega arith)
 
--- where what is at the to_index isn't above the line, and not on it
+-- where what is at the index isn't above the line, and not on it
 pub below_other : {X : Type 0} (f : X → ℕ) (xs : List X) (line to_index : ℕ) (d' : X)
     → ((d : X) → to_index < length xs → line ≤ f (get_or xs to_index d))
     → (f (get_or xs to_index d') ≡ line → ⊥) → IsBelowAt f xs to_index line
@@ -63,7 +63,7 @@ abbrev pub HasPassed : {X Y : Type 0} → (X → ℕ) → (Y → ℕ) → List X
 HasPassed {X} {Y} f g xs ys to_index index = (k j : ℕ) (d : X) (e : Y) → k < to_index → index ≤ j → j < length ys
     → f (get_or xs k d) < g (get_or ys j e)
 
--- so everything before the new to_index lies above what is in hand
+-- so everything before the new index lies above what is in hand
 pub above_here : {X Y : Type 0} (f : X → ℕ) (g : Y → ℕ) (xs : List X) (ys : List Y) (from to_index index line : ℕ)
     (e' : Y)
     → line ≡ g (get_or ys index e') → index < length ys → HasPassed f g xs ys from index
@@ -91,14 +91,14 @@ passed_more f g xs ys from to_index index line e' rising is_line has passed belo
           omega (arith, here, more, same, is_line))
     ]
 
--- an event stands on the line, where the one at the to_index does
+-- an event stands on the line, where the one at the index does
 pub event_line_at : (events : List Entry) (line to_index : ℕ) (d : Entry) → to_index < length events
     → (get_or events to_index d).line ≡ line
     → IsTrue (is_event_line events line)
 event_line_at events line to_index d h same = list_any_at (λ (event : Entry). eqb event.line line) events to_index d h
     (eq-eqb _ _ same)
 
--- the items before a to_index stand on events' lines
+-- the items before an index stand on events' lines
 abbrev pub AreOnEvents : {X : Type 0} → (X → ℕ) → List Entry → List X → ℕ → Type 0
 AreOnEvents {X} f events items index = (k : ℕ) (d : X) → k < index
     → IsTrue (is_event_line events (f (get_or items k d)))

@@ -1,4 +1,4 @@
--- What the stream of one processor keeps: the part of what a record keeps (this project's profile).
+-- What the stream of one processor keeps: its part of what a record keeps (this project's profile).
 use Rattle.std.specs.Prelude.{◌≡◌, ℕ, ◌<◌, ◌≤◌, List, [], ◌∷◌, Some, All, AllPairs}
 use Rattle.cfs_model.specs.Charge.{IsInRange}
 use Rattle.cfs_model.specs.Claimed.{claimed}

@@ -58,7 +58,7 @@ impl Trace {
             .set_hints(self.events.as_slice(), claims, nices, charges);
     }
 
-    /// Where in what was marked that of this event and later ones may begin.
+    /// Where that of this event and later ones may begin, in the lists by which the hints were set.
     pub(crate) fn hint(&self, index: u32) -> Hint {
         self.indices.hint(index)
     }

@@ -202,7 +202,7 @@ told_none cpu m s last e = record {
   picks = λ pid. let k = ap (λ x. said (λ t. t.picks) x.page.tallies pid) e in omega arith;
 }
 
--- the cut_replay of an event that touches the processor, and of one that doesn't
+-- the cut of an event that touches the processor, and of one that doesn't
 addend_here : (amount : Amount) (cpu : ℕ) (m : Machine) (event : Claimed) (events : List Claimed) (after : Machine)
     (states : List Machine) → touches cpu event ≡ true
     → amount_at amount cpu m (event ∷ events) (after ∷ states)

@@ -114,7 +114,7 @@ given_by amount m (event ∷ events) [] = 0
 given_by amount m (event ∷ events) (after ∷ states) =
     sum (map (amount m event) (touched event.entry.act)) + given_by amount after events states
 
--- the shares of all processors are all that is given
+-- the addends of all processors are all that is given
 pub all_addends : (knobs : KnobsView) (amount : Amount) (n : ℕ) (m : Machine) (events : List Claimed)
     (states : List Machine) → AreSteps knobs m events states
     → AllByRecursion (λ (event : Claimed). AllByRecursion (λ (cpu : ℕ). cpu < n) (touched event.entry.act)) events

@@ -197,7 +197,7 @@ module _ (knobs : KnobsView) (r : RecordView) (slots left after : List (Option R
     few = few;
   }
 
-  -- the place's own, which suffices
+  -- the slot's own, which suffices
   pub gathered_one : page_at left cpu ≡ Some page
       → AreGathered knobs r slots after (pages ++ page ∷ []) (cpu + 1) remade
   gathered_one here =

@@ -7,7 +7,7 @@ use Rattle.sched_record.specs.Record.{RecordView}
 use Rattle.ticket_book.specs.Book.{page_at}
 use Rattle.ticket_book.specs.Whole.{IsOwnPageOf}
 
--- each page is of the record's stream for its place's processor, with these settings
+-- each page is of the record's stream for its slot's processor, with these settings
 abbrev pub AreOwn : KnobsView → RecordView → List (Option ReplayView) → Type 0
 AreOwn knobs r slots = (cpu : ℕ) (page : ReplayView) → page_at slots cpu ≡ Some page → IsOwnPageOf knobs r cpu page
 

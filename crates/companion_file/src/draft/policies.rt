@@ -1,4 +1,4 @@
-ghost use Rattle.std.specs.Prelude.{◌≡◌, ◌≢◌, ◌<◌, true, false, AllPairs, MatchOption, IfOk};
+ghost use Rattle.std.specs.Prelude.{◌≡◌, ◌≢◌, ◌<◌, false, AllPairs, MatchOption, IfOk};
 ghost use Rattle.cfs_model.specs.Limits.{no_line};
 ghost use Rattle.companion_file.specs.Shape.{idle_line};
 ghost use Rattle.companion_file.specs.Earlier.{is_task};

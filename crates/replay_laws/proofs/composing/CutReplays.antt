@@ -229,7 +229,7 @@ cut_of knobs start floors tasks events cpus page r cpu d = elim (cases_lt cpu cp
   | inr k ↦ past_cut_of knobs start floors tasks events cpus page r cpu k
 ]
 
--- a replay that passes its cut_replay, as every processor's is wanted
+-- a replay that passes its cut, as every processor's is wanted
 pub cut_from : (knobs : KnobsView) (start : ℕ) (floors : List ℤ) (tasks : List Task) (events : List Claimed) (cpus : ℕ)
     (last : ReplayStateView) → IsRecord start floors tasks events cpus → (cpu : ℕ)
     → (cpu < cpus → PassesCut knobs start floors tasks events cpu last)

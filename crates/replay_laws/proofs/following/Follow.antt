@@ -1,4 +1,4 @@
--- While events are a run, the replay of a processor's cut_replay of them passes and keeps up with the processor's part.
+-- While events are a run, the replay of a processor's cut of them passes and keeps up with the processor's part.
 use Rattle.std.proofs.Common.{◌≡◌, ℕ, ◌+◌, ◌<◌, ◌≤◌, true, false, cond, Option, Some, None, unwrap_or, ◌⊎◌, inl, inr}
 use Rattle.std.proofs.Common.{List, ◌∷◌, map, filter, refl, sym, ap, ◌∙◌, subst, arith}
 use Rattle.cfs_model.specs.Knobs.{KnobsView}

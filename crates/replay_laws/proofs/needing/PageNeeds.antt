@@ -52,7 +52,7 @@ replay_within knobs other cpu before (step ∷ steps) after needs f p h =
       rest.1,
     )
 
--- a cut_replay passes under any settings that are at least what its page needs
+-- a cut passes under any settings that are at least what its page needs
 cut_within : (knobs other : KnobsView) (start : ℕ) (floors : List ℤ) (tasks : List Task) (events : List Claimed)
     (cpu : ℕ) (page : PageView) (needs : KnobsView)
     → (p : IsPageNeeding (cut start floors tasks events cpu) knobs page needs) → AtMost needs other
@@ -72,7 +72,7 @@ cut_within knobs other start floors tasks events cpu page needs p h =
           (other_below_larger p.of_steps (only_slack still)) k Slack) 0;
     }
 
--- the cut_replay has the page's tickets, as every processor's is wanted
+-- the cut has the page's tickets, as every processor's is wanted
 cut_needing : (knobs other : KnobsView) (start : ℕ) (floors : List ℤ) (tasks : List Task) (events : List Claimed)
     (cpus : ℕ) (page : PageView) (needs : KnobsView) → IsRecord start floors tasks events cpus → (cpu : ℕ)
     → (cpu < cpus → IsPageNeeding (cut start floors tasks events cpu) knobs page needs)

@@ -33,7 +33,7 @@ abbrev charge_to : ℤ → ChargeLine
 charge_to told = record { line = 1; pid = 101; v = told }
 
 abbrev start : Machine
-start = switch_start (pos 0) false (pos 0)
+start = switch_start (pos 0) Normal (pos 0)
 
 abbrev exactly : Machine
 exactly = charged start 0 time
@@ -60,10 +60,11 @@ module _ (told : ℤ) (low : pos 3000000 ≤ℤ told) (high : told ≤ℤ pos 50
   -- 102 waits at 0, and is the least
   least_of : (q : ℕ) (w : ℤ) → IsQueued as_told 0 q → as_told.runtime q ≡ Some w → pos 0 ≤ℤ w
   unfolding put
-  least_of q w (inl runs) e = below_at as_told.runtime 101 q (pos 0) told w (runs_one (pos 0) false (pos 0) q runs) refl
+  least_of q w (inl runs) e = below_at as_told.runtime 101 q (pos 0) told w (runs_one (pos 0) Normal (pos 0) q runs)
+      refl
       e (omega (arith, ints))
   least_of q w (inr waits) e = below_at as_told.runtime 102 q (pos 0) (pos 0) w
-      (waits_one (pos 0) false (pos 0) q waits) refl e (omega (arith, ints))
+      (waits_one (pos 0) Normal (pos 0) q waits) refl e (omega (arith, ints))
 
   abbrev lifted : Machine
   lifted = with_floor as_told 0 (pos 0)
@@ -102,7 +103,7 @@ module _ (told : ℤ) (low : pos 3000000 ≤ℤ told) (high : told ≤ℤ pos 50
             | inl x ↦ subst (λ y. pos 0 ≤ℤ (y +ℤ pos 1000000)) (value_at lifted.runtime 101 q told w
                 (sym x.1) refl e) (omega (arith, ints))
             | inr x ↦ subst (λ y. pos 0 ≤ℤ (y +ℤ pos 1000000)) (value_at lifted.runtime 102 q (pos 0) w
-                (waits_one (pos 0) false (pos 0) q (sym x.1 ∙ waits)) refl e) (above_self (pos 0) 1000000)
+                (waits_one (pos 0) Normal (pos 0) q (sym x.1 ∙ waits)) refl e) (above_self (pos 0) 1000000)
           ],
         );
         result = refl;
@@ -114,12 +115,12 @@ module _ (told : ℤ) (low : pos 3000000 ≤ℤ told) (high : told ≤ℤ pos 50
           found = lifted;
           is_reniced = refl;
           changes = changes;
-          in_range = change_range drifting lifted (told_event told told).entry.act (told_event told told).claim false
+          in_range = change_range drifting lifted (told_event told told).entry.act (told_event told told).claim Normal
               after changes (omega (arith, ints), omega (arith, ints))
               (lifted_range 1000000 time (Some (charge_to told)) (0 ∷ []) start lifted lift
               (omega (arith, ints), omega (arith, ints))
-              (start_in_order start_time (pos 0 ∷ []) (first_task (pos 0) false ∷ second_task (pos 0) ∷ [])
-              (start_is (pos 0) false (pos 0) (omega (arith, ints), omega (arith, ints)))).in_range);
+              (start_in_order start_time (pos 0 ∷ []) (first_task (pos 0) Normal ∷ second_task (pos 0) ∷ [])
+              (start_is (pos 0) Normal (pos 0) (omega (arith, ints), omega (arith, ints)))).in_range);
         },
       )
 
@@ -239,7 +240,7 @@ floor_step w low high =
         found = floor_lifted;
         is_reniced = refl;
         changes = inr changes;
-        in_range = change_range drifting floor_lifted (floor_event w).entry.act (floor_event w).claim false after
+        in_range = change_range drifting floor_lifted (floor_event w).entry.act (floor_event w).claim Normal after
             (inr changes) (omega (arith, ints), omega (arith, ints))
             (lifted_range 1000000 time (Some (charge_to (pos 3500000))) (0 ∷ []) floor_start floor_lifted floor_lift
             (omega (arith, ints), omega (arith, ints))

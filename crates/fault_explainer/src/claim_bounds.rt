@@ -5,7 +5,7 @@ use crate::processor::Processor;
 use crate::scene::Scene;
 use crate::task_words::{verb, weight_words};
 use cfs_model::{Act, Claim, ClaimSort, IDLE_PID, Place, Way};
-use runqueue::Stander;
+use runqueue::SchedEntity;
 use std::alloc::AllocError;
 
 /// The virtual runtimes that a claim may have, from the least to the greatest, in virtual nanoseconds.
@@ -16,7 +16,7 @@ struct Bounds {
 }
 
 /// Of a task that is put back, its own alone.
-fn put_back_bounds(task: Stander) -> Bounds {
+fn put_back_bounds(task: SchedEntity) -> Bounds {
     let own = i128::from(task.v);
     Bounds {
         least: own,
@@ -25,7 +25,7 @@ fn put_back_bounds(task: Stander) -> Bounds {
 }
 
 /// Of a task that wakes from rest.
-fn wake_bounds(scene: &Scene, task: Stander) -> Bounds {
+fn wake_bounds(scene: &Scene, task: SchedEntity) -> Bounds {
     let own = i128::from(task.v);
     let floor = i128::from(scene.here.queue.floor());
     let credit = i128::from(scene.knobs.credit());
@@ -119,7 +119,7 @@ fn push_moved(text: &mut String, scene: &Scene) -> Result<(), AllocError> {
 }
 
 /// Of which sort the claim of a migrated task is.
-fn sort_of(task: Stander) -> ClaimSort {
+fn sort_of(task: SchedEntity) -> ClaimSort {
     match task.place {
         Place::Rest => ClaimSort::Pass,
         Place::Run | Place::Wait => ClaimSort::At,
@@ -173,7 +173,7 @@ fn push_goes(text: &mut String, pid: u32, goes: &str) -> Result<(), AllocError> 
 }
 
 /// A task that needs no claim for where it is.
-fn push_stays(text: &mut String, pid: u32, task: Option<Stander>) -> Result<(), AllocError> {
+fn push_stays(text: &mut String, pid: u32, task: Option<SchedEntity>) -> Result<(), AllocError> {
     match task {
         Some(task) => {
             let verb = verb(&task);
@@ -277,11 +277,11 @@ pub(crate) fn push_ticket_unequal(text: &mut String, scene: &Scene) -> Result<()
 }
 
 /// At a migration's origin.
-fn push_leaves(text: &mut String, here: &Processor, task: Stander) -> Result<(), AllocError> {
+fn push_leaves(text: &mut String, here: &Processor, task: SchedEntity) -> Result<(), AllocError> {
     let cpu = here.cpu;
     let weight_words = weight_words(&task);
     let verb = verb(&task);
-    let Stander { v, .. } = task;
+    let SchedEntity { v, .. } = task;
     let above = offset(v, here);
     writeln!(
         text,

@@ -4,7 +4,7 @@ use crate::scene::{Scene, lies_in_place};
 use crate::task_words::{verb, weight_words};
 use cfs_model::{Act, IDLE_PID, Kind, Nice, NiceLine};
 use replay_model::FirstFault;
-use runqueue::Stander;
+use runqueue::SchedEntity;
 use std::alloc::AllocError;
 
 /// The prio that a task of nice value 0 prints.
@@ -43,10 +43,10 @@ fn push_runner(
     text: &mut String,
     cpu: u32,
     prev: u32,
-    runner: Option<Stander>,
+    runner: Option<SchedEntity>,
 ) -> Result<(), AllocError> {
     match runner {
-        Some(Stander { pid, .. }) => writeln!(
+        Some(SchedEntity { pid, .. }) => writeln!(
             text,
             "# prev_pid is {prev}, but at cpu {cpu} pid {pid} runs"
         ),
@@ -169,10 +169,15 @@ pub(crate) fn push_stood(text: &mut String, scene: &Scene) -> Result<(), AllocEr
     }
 }
 
-fn push_stood_at(text: &mut String, cpu: u32, pid: u32, task: Stander) -> Result<(), AllocError> {
+fn push_stood_at(
+    text: &mut String,
+    cpu: u32,
+    pid: u32,
+    task: SchedEntity,
+) -> Result<(), AllocError> {
     let weight_words = weight_words(&task);
     let verb = verb(&task);
-    let Stander { v, .. } = task;
+    let SchedEntity { v, .. } = task;
     writeln!(
         text,
         "# before this line pid {pid} {verb} at cpu {cpu}, at {v}, {weight_words}"

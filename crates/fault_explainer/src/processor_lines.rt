@@ -3,7 +3,7 @@
 use crate::charge::Charge;
 use crate::processor::Processor;
 use crate::task_words::weight_words;
-use runqueue::{Runqueue, Stander};
+use runqueue::{Runqueue, SchedEntity};
 use std::alloc::AllocError;
 
 /// The most waiting tasks of a processor that are told.
@@ -28,7 +28,7 @@ fn push_marks(text: &mut String, cpu: u32, queue: &Runqueue) -> Result<(), Alloc
 }
 
 /// Who runs.
-fn push_runner(text: &mut String, runner: Option<Stander>) -> Result<(), AllocError> {
+fn push_runner(text: &mut String, runner: Option<SchedEntity>) -> Result<(), AllocError> {
     match runner {
         Some(task) => push_task(text, task, "runs"),
         None => writeln!(text, "#   nobody runs"),
@@ -45,8 +45,8 @@ fn push_waiting(text: &mut String, queue: &Runqueue) -> Result<(), AllocError> {
     Ok(())
 }
 
-fn push_task(text: &mut String, task: Stander, verb: &str) -> Result<(), AllocError> {
-    let Stander { pid, v, .. } = task;
+fn push_task(text: &mut String, task: SchedEntity, verb: &str) -> Result<(), AllocError> {
+    let SchedEntity { pid, v, .. } = task;
     let weight_words = weight_words(&task);
     writeln!(text, "#   pid {pid} {verb} at {v}, {weight_words}")
 }

@@ -9,7 +9,7 @@ use crate::told_charge::{ToldCharge, push_told_charge};
 use cfs_model::{Act, ChargeLine, IDLE_PID, Kind, Knobs, Memory, Task};
 use pid_table::PidHasher;
 use replay_model::FirstFault;
-use runqueue::Stander;
+use runqueue::SchedEntity;
 use sched_record::Record;
 use std::alloc::{AllocError, Global};
 
@@ -25,7 +25,7 @@ pub(crate) struct Scene {
     pub there: Option<Processor>,
     /// Where the fault's task stood before the event, if it stood anywhere: the processor, and how. Told where the
     /// fault lies in that.
-    pub stood: Option<(u32, Stander)>,
+    pub stood: Option<(u32, SchedEntity)>,
 }
 
 impl Scene {
@@ -98,7 +98,7 @@ impl Scene {
     }
 
     /// The task as it stands at the fault's processor, or at a migration's origin.
-    pub(crate) fn task(&self, pid: u32) -> Option<Stander> {
+    pub(crate) fn task(&self, pid: u32) -> Option<SchedEntity> {
         self.here.queue.task_at(pid)
     }
 

@@ -4,7 +4,7 @@ use crate::charge::Charge;
 use crate::place_bounds::push_stood;
 use crate::scene::Scene;
 use cfs_model::ChargeLine;
-use runqueue::{Runqueue, Stander};
+use runqueue::{Runqueue, SchedEntity};
 use std::alloc::AllocError;
 use std::fmt;
 
@@ -41,7 +41,7 @@ impl ToldCharge {
 
 impl fmt::Display for ToldCharge {
     fn fmt<W: fmt::Write>(&self, f: &mut fmt::Formatter<W>) -> fmt::Result {
-        let Stander { pid, v, drift, .. } = self.exact.task;
+        let SchedEntity { pid, v, drift, .. } = self.exact.task;
         let to = self.to;
         let after = self.drift_after();
         write!(
@@ -82,10 +82,10 @@ fn push_not_its(
     text: &mut String,
     cpu: u32,
     told: u32,
-    runner: Option<Stander>,
+    runner: Option<SchedEntity>,
 ) -> Result<(), AllocError> {
     match runner {
-        Some(Stander { pid, .. }) => writeln!(
+        Some(SchedEntity { pid, .. }) => writeln!(
             text,
             "# the told charge is of pid {told}, but at cpu {cpu} pid {pid} runs"
         ),
@@ -98,7 +98,7 @@ fn push_not_its(
 
 /// Where the told charge leads, beside where the task was, or where it is by the exact charge.
 fn push_told_at(text: &mut String, told: ToldCharge) -> Result<(), AllocError> {
-    let Stander { pid, v, .. } = told.exact.task;
+    let SchedEntity { pid, v, .. } = told.exact.task;
     let to = told.to;
     if to < v {
         let apart = v.abs_diff(to);

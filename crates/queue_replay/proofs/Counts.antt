@@ -10,7 +10,7 @@ use Rattle.replay_model.specs.Part.{IsLiftedPart}
 use Rattle.replay_model.specs.declared.page.Tally.{Tally}
 use Rattle.cfs_model.specs.declared.task.Place.{Place}
 use Rattle.cfs_model.specs.declared.task.Place.TheVariants.{Run, Wait, Rest}
-use Rattle.runqueue.specs.declared.stander.Stander.{Stander}
+use Rattle.runqueue.specs.declared.sched_entity.SchedEntity.{SchedEntity}
 use Rattle.queue_replay.specs.Stretches.{ran_tally, stretch_between, stretched}
 use Rattle.runqueue.specs.Queue.{IsTheRunner}
 use Rattle.runqueue.specs.Tasks.{entity_of}
@@ -43,7 +43,7 @@ unrun part time charge (Some s) tally ne = go s.place refl
     go Wait e = ap (λ q. tallies_after_run q (time - part.mark) cost tally) e
     go Rest e = ap (λ q. tallies_after_run q (time - part.mark) cost tally) e
 
-one_tally : (part : Part) (time : ℕ) (charge : Option ChargeLine) (t : Stander) → IsTheRunner part (Some t)
+one_tally : (part : Part) (time : ℕ) (charge : Option ChargeLine) (t : SchedEntity) → IsTheRunner part (Some t)
     → (tally : Tally)
     → charged_tally part time charge (part.tasks tally.pid) tally ≡ ran_tally t.pid (time - part.mark)
     (told_cost charge part time t.pid (entity_of t)) tally
@@ -68,7 +68,7 @@ rose_by own cost = ap nat_abs (over own cost)
     over : (own : ℤ) (cost : ℕ) → ((own +ℤ pos cost) -ℤ own) ≡ pos cost
     over own cost = omega (arith, ints)
 
-lifted_runner : (part lifted : Part) (time : ℕ) (charge : Option ChargeLine) (t u : Stander)
+lifted_runner : (part lifted : Part) (time : ℕ) (charge : Option ChargeLine) (t u : SchedEntity)
     → IsTheRunner part (Some t) → IsLiftedPart time charge part lifted → IsTheRunner lifted (Some u)
     → (u.pid ≡ t.pid) × (nat_abs (u.v -ℤ t.v) ≡ told_cost charge part time t.pid (entity_of t))
 lifted_runner part lifted time None t u ran l now =
@@ -123,14 +123,14 @@ lifted_runner part lifted time (Some charge) t u ran l now = go (cases_eq charge
         )
 
 -- where somebody runs before the lift, somebody does after it
-still_runs : (part lifted : Part) (time : ℕ) (charge : Option ChargeLine) (t : Stander)
+still_runs : (part lifted : Part) (time : ℕ) (charge : Option ChargeLine) (t : SchedEntity)
     → IsTheRunner part (Some t) → IsLiftedPart time charge part lifted → NobodyIn lifted Run → ⊥
 still_runs part lifted time charge t ran l nobody =
     nobody t.pid (place_lifted time charge part lifted l t.pid
     ∙ ap (option_map (λ (s : Entity). s.place)) ran.0 ∙ ap Some ran.1)
 
 -- the tallies after the charge
-pub charged_same : (part lifted : Part) (time : ℕ) (charge : Option ChargeLine) (before after : Option Stander)
+pub charged_same : (part lifted : Part) (time : ℕ) (charge : Option ChargeLine) (before after : Option SchedEntity)
     → IsTheRunner part before → IsLiftedPart time charge part lifted → IsTheRunner lifted after
     → (tallies : List Tally)
     → charged_tallies part time charge tallies

@@ -2,7 +2,7 @@
 use Rattle.std.specs.Prelude.{ℕ, ◌+◌, ◌*◌, ◌^◌, ◌≤◌, ◌==◌, if◌then◌else◌, Option, Some, None, nat_abs, ◌-ℤ◌}
 use Rattle.std.specs.Prelude.{List, map}
 use Rattle.replay_model.specs.declared.page.Tally.{Tally}
-use Rattle.runqueue.specs.declared.stander.Stander.{Stander}
+use Rattle.runqueue.specs.declared.sched_entity.SchedEntity.{SchedEntity}
 use Rattle.queue_replay.specs.declared.stretch.Stretch.{Stretch}
 
 -- a tally after the task of this pid ran for so long and was charged so much
@@ -19,7 +19,7 @@ abbrev pub IsWithin : ℕ → Tally → Type 0
 IsWithin steps tally = (tally.ran ≤ steps * 2 ^ 64) × (tally.charged ≤ steps * 2 ^ 64) × (tally.picks ≤ steps)
 
 -- the stretch of who runs, as it stood before its charge and after it: it cost what its virtual runtime rose by
-abbrev pub stretch_between : Option Stander → Option Stander → ℕ → Option Stretch
+abbrev pub stretch_between : Option SchedEntity → Option SchedEntity → ℕ → Option Stretch
 stretch_between (Some t) (Some u) time = Some (record { pid = t.pid; time = time; cost = nat_abs (u.v -ℤ t.v) })
 stretch_between _ _ time = None
 

@@ -5,7 +5,7 @@ ghost use Rattle.runqueue.specs.Tasks.{entity_of};
 
 use cfs_model::{Claim, ClaimSort, Nice, Place, Policy, Task};
 use replay_model::Ticket;
-use runqueue::{Runqueue, Stander};
+use runqueue::{Runqueue, SchedEntity};
 
 /// A task that comes here at the claimed virtual runtime, without a drift.
 pub(crate) fn claimed_task(
@@ -15,7 +15,7 @@ pub(crate) fn claimed_task(
     policy: Policy,
     cpu: u32,
     claim: Claim,
-) -> Stander
+) -> SchedEntity
     ensures pid { result.pid ≡ pid }
     ensures entity { entity_of result ≡ record {
       place = place;
@@ -26,7 +26,7 @@ pub(crate) fn claimed_task(
           pos 0;
     } }
 {
-    Stander::of(Task {
+    SchedEntity::of(Task {
         pid,
         nice,
         policy,
@@ -41,7 +41,7 @@ pub(crate) fn left_ticket(
     queue: &Runqueue,
     line: u32,
     pid: u32,
-    task: &Option<Stander>,
+    task: &Option<SchedEntity>,
 ) -> Option<Ticket>
     requires { IsTaskAt (runqueue_view queue.now) pid task.now }
     ensures { result ≡ left_ticket (runqueue_view queue.now) line pid }

@@ -1,7 +1,7 @@
 ghost use Rattle.std.specs.Prelude.{◌≡◌};
 ghost use Rattle.queue_replay.specs.Stretches.{stretch_between};
 
-use runqueue::Stander;
+use runqueue::SchedEntity;
 
 /// A stretch of running: whose, for how long, in nanoseconds, and what it was charged, in virtual nanoseconds.
 #[derive(Clone, Copy, Debug, PartialEq, Eq)]
@@ -13,8 +13,8 @@ pub struct Stretch {
 
 /// The stretch of who runs, as it stood before its charge and after it; none where nobody runs.
 pub(crate) fn stretch_between(
-    before: Option<Stander>,
-    after: Option<Stander>,
+    before: Option<SchedEntity>,
+    after: Option<SchedEntity>,
     time: u64,
 ) -> Option<Stretch>
     ensures { result ≡ stretch_between before after time }

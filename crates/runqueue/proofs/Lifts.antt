@@ -24,7 +24,7 @@ use Rattle.replay_model.specs.Part.{cost_in, runtime_after, IsLeastHere}
 use Rattle.replay_model.specs.QueueTests.{IsOutOfRange, IsWrongCharge}
 use Rattle.cfs_model.specs.declared.task.Place.{Place}
 use Rattle.cfs_model.specs.declared.task.Place.TheVariants.{Run, Wait, Rest}
-use Rattle.runqueue.specs.declared.stander.Stander.{Stander}
+use Rattle.runqueue.specs.declared.sched_entity.SchedEntity.{SchedEntity}
 use Rattle.runqueue.specs.Queue.{IsTheRunner, IsLeastIfWaiting, IsLeastQueued, IsChargeFault}
 use Rattle.runqueue.specs.Entities.{by_runtime, listed, entities, runtime_if, waiting_runtime, IsOnlyRunner, IsQueue}
 use Rattle.runqueue.specs.Entities.{waiting_task}
@@ -40,10 +40,11 @@ use Rattle.runqueue.proofs.EntitiesKept.{waits_where, the_runner, stays, only_ru
 use Rattle.runqueue.proofs.EntitiesKept.{lower_runtime}
 
 -- nobody stands in an empty map, and nobody waits in an empty set
-pub empty_queue : (m : BTreeMap ℕ Stander) (a : BTreeSet WaitingTask) → m.entries ≡ [] → a.keys ≡ [] → IsQueue None m a
+pub empty_queue : (m : BTreeMap ℕ SchedEntity) (a : BTreeSet WaitingTask) → m.entries ≡ [] → a.keys ≡ []
+    → IsQueue None m a
 empty_queue m a e f =
     let none : (q : ℕ) → listed m q ≡ None =
-    λ q. ap (λ (es : List (ℕ × Stander)). option_map entity_of (lookup (is_at (nat_cmp q)) es)) e in
+    λ q. ap (λ (es : List (ℕ × SchedEntity)). option_map entity_of (lookup (is_at (nat_cmp q)) es)) e in
     queue_is None m a
     (waiting_none (listed m) a none (λ k. ap (list_any (is_at (by_runtime k))) f))
     (only_none (listed m) (λ q i. let h : None ≡ Some Run = sym (ap its_place (none q)) ∙ i in cc))
@@ -70,7 +71,7 @@ no_keys a none k = go a.keys none
     go [] h = refl
     go (x ∷ xs) h = absurd (h (omega arith))
 
-module _ (runner : Option Stander) (m : BTreeMap ℕ Stander) (a : BTreeSet WaitingTask) (floor : ℤ) (mark : ℕ)
+module _ (runner : Option SchedEntity) (m : BTreeMap ℕ SchedEntity) (a : BTreeSet WaitingTask) (floor : ℤ) (mark : ℕ)
     (kept : IsQueue runner m a) where
   -- the first of the set is the least of those who wait
   pub least_is : (k : WaitingTask) → IsTrue (contains by_runtime a k) → IsLowerBound by_runtime a k
@@ -114,13 +115,14 @@ pub wait_queued : (p : Place) → p ≡ Wait → p ≢ Rest
 wait_queued p e f = let g : Wait ≡ Rest = sym e ∙ f in cc
 
 -- the runner's virtual runtime is that of each who runs
-runner_only : (part : Part) (t : Stander) → IsTheRunner part (Some t) → (pid : ℕ) (s : Entity) → part.tasks pid ≡ Some s
+runner_only : (part : Part) (t : SchedEntity) → IsTheRunner part (Some t) → (pid : ℕ) (s : Entity) → part.tasks pid
+    ≡ Some s
     → s.place ≡ Run → s.runtime ≡ t.v
 runner_only part t r pid s e runs =
     let p : pid ≡ t.pid = r.2 pid (ap its_place e ∙ ap Some runs) in
     ap (λ (x : Entity). x.runtime) (same_Some s (entity_of t) (sym e ∙ ap part.tasks p ∙ r.0))
 
-pub least_with_runner : (part : Part) (t : Stander) (v : ℤ) → IsTheRunner part (Some t) → IsLeastWaiting part v
+pub least_with_runner : (part : Part) (t : SchedEntity) (v : ℤ) → IsTheRunner part (Some t) → IsLeastWaiting part v
     → IsLeastHere part (int_min v t.v)
 least_with_runner part t v r w =
     elim (cases_ℤ v t.v) [
@@ -155,7 +157,7 @@ least_with_runner part t v r w =
     each other s e (inl runs) = let h = runner_only part t r other s e runs in omega (arith, ints, clamps, h)
     each other s e (inr waits) = let h = w.least other s e waits in omega (arith, ints, clamps, h)
 
-pub least_of_runner : (part : Part) (t : Stander) → IsTheRunner part (Some t) → NobodyIn part Wait
+pub least_of_runner : (part : Part) (t : SchedEntity) → IsTheRunner part (Some t) → NobodyIn part Wait
     → IsLeastHere part t.v
 least_of_runner part t r nobody = record {
   pid = t.pid;
@@ -202,7 +204,8 @@ uncharged part time (Some s) ne = ap Some (go s.place (λ e. ne (ap Some e)))
     go Rest ne = refl
 
 -- nobody runs
-module _ (runner : Option Stander) (m : BTreeMap ℕ Stander) (a : BTreeSet WaitingTask) (floor : ℤ) (mark time : ℕ)
+module _ (runner : Option SchedEntity) (m : BTreeMap ℕ SchedEntity) (a : BTreeSet WaitingTask) (floor : ℤ) (mark time
+    : ℕ)
     (kept : IsQueue runner m a) (none : runner ≡ None) where
   nobody : NobodyIn (part_with (entities runner m) floor mark) Run
   nobody = subst (IsTheRunner (part_with (entities runner m) floor mark)) none (the_runner runner m a floor mark kept)
@@ -222,8 +225,9 @@ module _ (runner : Option Stander) (m : BTreeMap ℕ Stander) (a : BTreeSet Wait
   idle_in_range pid o = nobody pid (ap its_place o.stands ∙ ap Some o.runs)
 
 -- somebody runs
-module _ (runner : Option Stander) (m : BTreeMap ℕ Stander) (a : BTreeSet WaitingTask) (floor : ℤ) (mark time : ℕ)
-    (kept : IsQueue runner m a) (t : Stander) (is : runner ≡ Some t) where
+module _ (runner : Option SchedEntity) (m : BTreeMap ℕ SchedEntity) (a : BTreeSet WaitingTask) (floor : ℤ) (mark time
+    : ℕ)
+    (kept : IsQueue runner m a) (t : SchedEntity) (is : runner ≡ Some t) where
   ran : IsTheRunner (part_with (entities runner m) floor mark) (Some t)
   ran = subst (IsTheRunner (part_with (entities runner m) floor mark)) is (the_runner runner m a floor mark kept)
 
@@ -254,7 +258,7 @@ module _ (runner : Option Stander) (m : BTreeMap ℕ Stander) (a : BTreeSet Wait
           → ⊥ = λ n. cannot (h, n) in grind (arith, ints, c))
 
   -- the runner with another virtual runtime and drift, as it stands
-  abbrev with_values : ℤ → ℤ → Stander
+  abbrev with_values : ℤ → ℤ → SchedEntity
   with_values v d = record t { v = v; drift = d }
 
   valued_standing : (v d : ℤ) (q : ℕ)
@@ -302,7 +306,7 @@ module _ (runner : Option Stander) (m : BTreeMap ℕ Stander) (a : BTreeSet Wait
             ∙ uncharged (part_with (entities runner m) floor mark) time (entities runner m q) (λ i. other (ran.2 q i))
       ])
 
-  told_standing : (charge : ChargeLine) (exact : Stander) → charge.pid ≡ exact.pid → (q : ℕ)
+  told_standing : (charge : ChargeLine) (exact : SchedEntity) → charge.pid ≡ exact.pid → (q : ℕ)
       → entities (Some (told_task charge exact)) m q
       ≡ (told_part (Some charge) (part_with (entities (Some exact) m) floor time)).tasks q
   told_standing charge exact same q =

@@ -6,7 +6,7 @@ use Rattle.std.specs.BTreeSet.{BTreeSet, contains}
 use Rattle.std.specs.Ordering.{nat_cmp}
 use Rattle.std.proofs.lemmas.Bool.{cases_eq, cond-true, cond-false, eq-eqb, ne_eqb}
 use Rattle.cfs_model.specs.Machine.{put}
-use Rattle.runqueue.specs.declared.stander.Stander.{Stander}
+use Rattle.runqueue.specs.declared.sched_entity.SchedEntity.{SchedEntity}
 use Rattle.replay_model.specs.Deeds.{with_entity}
 use Rattle.replay_model.specs.Part.{Part, Entity}
 use Rattle.runqueue.specs.Queue.{HoldsSame, IsReniced, nice_listed}
@@ -25,35 +25,36 @@ abbrev changed : ℤ → Entity → Entity
 changed nice s = record s { nice = nice }
 
 -- the entry of a pid that is written over with another nice value
-pub written : (m n : BTreeMap ℕ Stander) (pid : ℕ) (nice : ℤ) (t : Stander) → get nat_cmp m pid ≡ Some t
+pub written : (m n : BTreeMap ℕ SchedEntity) (pid : ℕ) (nice : ℤ) (t : SchedEntity) → get nat_cmp m pid ≡ Some t
     → Updates nat_cmp m n pid (Some (record t { nice = nice })) → HasNice pid nice m n
 written m n pid nice t is u = record {
   here = map_at m n pid (Some (record t { nice = nice })) u
-      ∙ sym (ap (option_map (λ (x : Stander). record x { nice = nice })) is);
+      ∙ sym (ap (option_map (λ (x : SchedEntity). record x { nice = nice })) is);
   there = map_other m n pid (Some (record t { nice = nice })) u;
 }
 
 -- written back, it is as it was
-pub written_back : (l m n : BTreeMap ℕ Stander) (pid : ℕ) (nice before : ℤ) → HasNice pid nice l m
+pub written_back : (l m n : BTreeMap ℕ SchedEntity) (pid : ℕ) (nice before : ℤ) → HasNice pid nice l m
     → HasNice pid before m n
-    → Some before ≡ option_map (λ (t : Stander). t.nice) (get nat_cmp l pid) → (q : ℕ) → get nat_cmp n q
+    → Some before ≡ option_map (λ (t : SchedEntity). t.nice) (get nat_cmp l pid) → (q : ℕ) → get nat_cmp n q
     ≡ get nat_cmp l q
 written_back l m n pid nice before h back was q =
     elim (cases_eq q pid) [
       | inl same ↦ subst (λ k. get nat_cmp n k ≡ get nat_cmp l k) (sym same)
-          (back.here ∙ ap (option_map (λ (t : Stander). record t { nice = before })) h.here
+          (back.here ∙ ap (option_map (λ (t : SchedEntity). record t { nice = before })) h.here
           ∙ go (get nat_cmp l pid) was)
       | inr other ↦ back.there q other ∙ h.there q other
     ]
   where
-    go : (o : Option Stander) → Some before ≡ option_map (λ (t : Stander). t.nice) o
-        → option_map (λ (t : Stander). record t { nice = before })
-        (option_map (λ (t : Stander). record t { nice = nice }) o) ≡ o
+    go : (o : Option SchedEntity) → Some before ≡ option_map (λ (t : SchedEntity). t.nice) o
+        → option_map (λ (t : SchedEntity). record t { nice = before })
+        (option_map (λ (t : SchedEntity). record t { nice = nice }) o) ≡ o
     go None e = cc
     go (Some t) e = let same : before ≡ t.nice = cc in ap (λ (x : ℤ). Some (record t { nice = x })) same
 
 -- nobody of a pid stands here that the map has no entry of
-pub nobody_listed : (runner : Option Stander) (m : BTreeMap ℕ Stander) (a : BTreeSet WaitingTask) → IsQueue runner m a
+pub nobody_listed : (runner : Option SchedEntity) (m : BTreeMap ℕ SchedEntity) (a : BTreeSet WaitingTask)
+    → IsQueue runner m a
     → (pid : ℕ) → get nat_cmp m pid ≡ None
     → entities runner m pid ≡ None
 nobody_listed None m a kept pid none = ap (option_map entity_of) none
@@ -67,7 +68,7 @@ nobody_listed (Some t) m a kept pid none =
           ∙ ap (option_map entity_of) none
     ]
   where
-    go : (o : Option Stander) → IsSome o → o ≡ None → ⊥
+    go : (o : Option SchedEntity) → IsSome o → o ≡ None → ⊥
     go None i e = cc
     go (Some t) i e = cc
 
@@ -77,12 +78,14 @@ pub nobody_changed : (part : Part) (pid : ℕ) (nice : ℤ) → part.tasks pid �
 nobody_changed part pid nice none =
     written_over part pid (option_map (changed nice) (part.tasks pid)) (ap (option_map (changed nice)) none ∙ sym none)
 
-module _ (m n : BTreeMap ℕ Stander) (pid : ℕ) (nice : ℤ) (h : HasNice pid nice m n) where
+module _ (m n : BTreeMap ℕ SchedEntity) (pid : ℕ) (nice : ℤ) (h : HasNice pid nice m n) where
   listed_here : listed n pid ≡ option_map (changed nice) (listed m pid)
   listed_here =
       ap (option_map entity_of) h.here ∙ go (get nat_cmp m pid)
     where
-      go : (o : Option Stander) → option_map entity_of (option_map (λ (t : Stander). record t { nice = nice }) o)
+      go : (o : Option SchedEntity) → option_map entity_of (option_map (λ (t : SchedEntity). record t {
+        nice = nice;
+      }) o)
           ≡ option_map
           (changed nice) (option_map entity_of o)
       go None = refl
@@ -91,14 +94,14 @@ module _ (m n : BTreeMap ℕ Stander) (pid : ℕ) (nice : ℤ) (h : HasNice pid 
   listed_there : (q : ℕ) → q ≢ pid → listed n q ≡ listed m q
   listed_there q other = ap (option_map entity_of) (h.there q other)
 
-  changed_own : (t : Stander) → t.pid ≡ pid → reniced_task pid nice t ≡ record t { nice = nice }
+  changed_own : (t : SchedEntity) → t.pid ≡ pid → reniced_task pid nice t ≡ record t { nice = nice }
   changed_own t own = cond-true (eqb t.pid pid) (record t { nice = nice }) t (eq-eqb t.pid pid own)
 
-  changed_other : (t : Stander) → t.pid ≢ pid → reniced_task pid nice t ≡ t
+  changed_other : (t : SchedEntity) → t.pid ≢ pid → reniced_task pid nice t ≡ t
   changed_other t other = cond-false (eqb t.pid pid) (record t { nice = nice }) t (ne_eqb t.pid pid other)
 
   -- who stands
-  pub renices : (runner : Option Stander) (q : ℕ) → entities (option_map (reniced_task pid nice) runner) n q
+  pub renices : (runner : Option SchedEntity) (q : ℕ) → entities (option_map (reniced_task pid nice) runner) n q
       ≡ put (entities runner m) pid (option_map (changed nice) (entities runner m pid)) q
   renices None q =
       elim (cases_eq q pid) [
@@ -109,8 +112,8 @@ module _ (m n : BTreeMap ℕ Stander) (pid : ℕ) (nice : ℤ) (h : HasNice pid 
       ]
   renices (Some t) q =
       elim (cases_eq t.pid pid) [
-        | inl own ↦ ap (λ (u : Stander). entities (Some u) n q) (changed_own t own) ∙ its_own own (cases_eq q pid)
-        | inr other ↦ ap (λ (u : Stander). entities (Some u) n q) (changed_other t other)
+        | inl own ↦ ap (λ (u : SchedEntity). entities (Some u) n q) (changed_own t own) ∙ its_own own (cases_eq q pid)
+        | inr other ↦ ap (λ (u : SchedEntity). entities (Some u) n q) (changed_other t other)
             ∙ another other (cases_eq q t.pid) (cases_eq q pid)
       ]
     where
@@ -141,7 +144,7 @@ module _ (m n : BTreeMap ℕ Stander) (pid : ℕ) (nice : ℤ) (h : HasNice pid 
           ∙ sym (put-other (listed m) t.pid (Some (entity_of t)) q ne)
           ∙ sym (put-other (entities (Some t) m) pid (option_map (changed nice) (entities (Some t) m pid)) q away)
 
-  pub reniced_part : (runner : Option Stander) (floor : ℤ) (mark : ℕ)
+  pub reniced_part : (runner : Option SchedEntity) (floor : ℤ) (mark : ℕ)
       → part_with (entities (option_map (reniced_task pid nice) runner) n) floor mark
       ≡ with_entity (part_with (entities runner m) floor mark) pid
       (option_map (λ (s : Entity). record s { nice = nice }) (entities runner m pid))
@@ -151,7 +154,7 @@ module _ (m n : BTreeMap ℕ Stander) (pid : ℕ) (nice : ℤ) (h : HasNice pid 
       floor mark (renices runner)
 
   -- each stands where it did
-  places : (runner : Option Stander) (q : ℕ)
+  places : (runner : Option SchedEntity) (q : ℕ)
       → its_place (entities (option_map (reniced_task pid nice) runner) n q) ≡ its_place (entities runner m q)
   places runner q =
       ap its_place (renices runner q)
@@ -167,14 +170,14 @@ module _ (m n : BTreeMap ℕ Stander) (pid : ℕ) (nice : ℤ) (h : HasNice pid 
       go None = refl
       go (Some s) = refl
 
-  own_pid : (t : Stander) → (reniced_task pid nice t).pid ≡ t.pid
+  own_pid : (t : SchedEntity) → (reniced_task pid nice t).pid ≡ t.pid
   own_pid t = go (eqb t.pid pid)
     where
       go : (b : Bool) → (cond b (record t { nice = nice }) t).pid ≡ t.pid
       go true = refl
       go false = refl
 
-  own_place : (t : Stander) → (reniced_task pid nice t).place ≡ t.place
+  own_place : (t : SchedEntity) → (reniced_task pid nice t).place ≡ t.place
   own_place t = go (eqb t.pid pid)
     where
       go : (b : Bool) → (cond b (record t { nice = nice }) t).place ≡ t.place
@@ -184,28 +187,28 @@ module _ (m n : BTreeMap ℕ Stander) (pid : ℕ) (nice : ℤ) (h : HasNice pid 
   entry_kept : (k : ℕ) → IsSome (get nat_cmp m k) → IsSome (get nat_cmp n k)
   entry_kept k has =
       elim (cases_eq k pid) [
-        | inl same ↦ subst (λ (o : Option Stander). IsSome o) (sym (ap (get nat_cmp n) same ∙ h.here))
+        | inl same ↦ subst (λ (o : Option SchedEntity). IsSome o) (sym (ap (get nat_cmp n) same ∙ h.here))
             (go (get nat_cmp m pid) (subst (λ x. IsSome (get nat_cmp m x)) same has))
-        | inr other ↦ subst (λ (o : Option Stander). IsSome o) (sym (h.there k other)) has
+        | inr other ↦ subst (λ (o : Option SchedEntity). IsSome o) (sym (h.there k other)) has
       ]
     where
-      go : (o : Option Stander) → IsSome o → IsSome (option_map (λ (t : Stander). record t { nice = nice }) o)
+      go : (o : Option SchedEntity) → IsSome o → IsSome (option_map (λ (t : SchedEntity). record t { nice = nice }) o)
       go None i = cc
       go (Some t) i = refl
 
-  only_it : (runner : Option Stander) → IsOnlyRunner (entities runner m) runner
+  only_it : (runner : Option SchedEntity) → IsOnlyRunner (entities runner m) runner
       → IsOnlyRunner (entities (option_map (reniced_task pid nice) runner) n)
       (option_map (reniced_task pid nice) runner)
   unfolding IsOnlyRunner
   only_it runner only q i =
       pids runner ∙ only q (sym (places runner q) ∙ i)
     where
-      pids : (r : Option Stander) → option_map (λ t. t.pid) (option_map (reniced_task pid nice) r) ≡ option_map
+      pids : (r : Option SchedEntity) → option_map (λ t. t.pid) (option_map (reniced_task pid nice) r) ≡ option_map
           (λ t. t.pid) r
       pids None = refl
       pids (Some t) = ap Some (own_pid t)
 
-  has_entry : (runner : Option Stander) → IsRunnerListed runner m
+  has_entry : (runner : Option SchedEntity) → IsRunnerListed runner m
       → IsRunnerListed (option_map (reniced_task pid nice) runner) n
   has_entry None has = listed_none n
   has_entry (Some t) has =
@@ -213,7 +216,7 @@ module _ (m n : BTreeMap ℕ Stander) (pid : ℕ) (nice : ℤ) (h : HasNice pid 
       listed_some n (reniced_task pid nice t) (own_place t ∙ l.0)
       (subst (λ k. IsSome (get nat_cmp n k)) (sym (own_pid t)) (entry_kept t.pid l.1))
 
-  pub reniced_queue : (runner : Option Stander) (a : BTreeSet WaitingTask) → IsQueue runner m a
+  pub reniced_queue : (runner : Option SchedEntity) (a : BTreeSet WaitingTask) → IsQueue runner m a
       → IsQueue (option_map (reniced_task pid nice) runner) n a
   reniced_queue runner a kept =
       queue_is (option_map (reniced_task pid nice) runner) n a
@@ -231,11 +234,11 @@ module _ (m n : BTreeMap ℕ Stander) (pid : ℕ) (nice : ℤ) (h : HasNice pid 
   listed_stands : get nat_cmp m pid ≢ None → listed m pid ≢ None
   listed_stands has none = has (go (get nat_cmp m pid) none)
     where
-      go : (o : Option Stander) → option_map entity_of o ≡ None → o ≡ None
+      go : (o : Option SchedEntity) → option_map entity_of o ≡ None → o ≡ None
       go None e = refl
       go (Some t) e = cc
 
-  pub stands_listed : (runner : Option Stander) → get nat_cmp m pid ≢ None → entities runner m pid ≢ None
+  pub stands_listed : (runner : Option SchedEntity) → get nat_cmp m pid ≢ None → entities runner m pid ≢ None
   stands_listed None has none = listed_stands has none
   stands_listed (Some t) has none =
       elim (cases_eq pid t.pid) [

@@ -4,7 +4,7 @@ ghost use Rattle.cfs_model.specs.Limits.{greatest_setting};
 ghost use Rattle.cfs_model.specs.Told.{IsWithin, drift_after};
 ghost use Rattle.runqueue.specs.Tasks.{CanBeCharged, CanBeTold, charged_task, told_task};
 
-use crate::stander::Stander;
+use crate::sched_entity::SchedEntity;
 use cfs_model::{ChargeLine, GREATEST_RUNTIME, charge, weight_of};
 
 /// What is wrong with a charge, and of which pid.
@@ -18,7 +18,7 @@ pub enum ChargeFault {
 
 /// The task after an exact charge for `delta` nanoseconds. Else its pid: the charge or the virtual runtime after it is
 /// above the greatest.
-pub fn charged(task: Stander, delta: u64) -> Result<Stander, u32>
+pub fn charged(task: SchedEntity, delta: u64) -> Result<SchedEntity, u32>
     ensures fits { IfOk result (λ after. CanBeCharged delta task × (after ≡ charged_task delta task)) }
     ensures above { IfErr result (λ pid. (pid ≡ task.pid) × (CanBeCharged delta task → ⊥)) }
 {
@@ -35,7 +35,7 @@ pub fn charged(task: Stander, delta: u64) -> Result<Stander, u32>
 
 /// The task that is `exact` when charged exactly, as it is told to be charged from its own virtual runtime. None where
 /// that isn't of this task, lowers its virtual runtime, or leaves its drift beyond the bound, in virtual nanoseconds.
-pub fn told(own: i64, exact: Stander, charge: ChargeLine, bound: u64) -> Option<Stander>
+pub fn told(own: i64, exact: SchedEntity, charge: ChargeLine, bound: u64) -> Option<SchedEntity>
     requires { bound ≤ greatest_setting }
     ensures told { IfSome result (λ after. CanBeTold bound charge own exact × (after ≡ told_task charge exact)) }
     ensures wrong { result ≡ None → CanBeTold bound charge own exact → ⊥ }

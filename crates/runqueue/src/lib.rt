@@ -7,11 +7,11 @@ mod moves;
 mod readers;
 mod renice;
 mod runqueue;
-mod stander;
+mod sched_entity;
 mod waiting_task;
 
 pub use charging::{ChargeFault, charged, told};
 pub use lift::Unlifted;
 pub use runqueue::Runqueue;
-pub use stander::Stander;
+pub use sched_entity::SchedEntity;
 pub use waiting_task::WaitingTask;

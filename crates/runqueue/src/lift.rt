@@ -8,13 +8,13 @@ ghost use Rattle.runqueue.specs.declared.runqueue.Runqueue.{Runqueue};
 
 use crate::charging::{ChargeFault, charged, told};
 use crate::runqueue::Runqueue;
-use crate::stander::Stander;
+use crate::sched_entity::SchedEntity;
 use cfs_model::ChargeLine;
 
 /// What a charge and its lift change of a runqueue.
 #[derive(Clone, Copy)]
 pub struct Unlifted {
-    pub(crate) runner: Option<Stander>,
+    pub(crate) runner: Option<SchedEntity>,
     /// In virtual nanoseconds.
     pub(crate) floor: i64,
     /// In nanoseconds.
@@ -103,11 +103,11 @@ impl Runqueue {
 
 /// The task after a charge for `delta` nanoseconds, exact or as told within a drift. Else what is wrong with it.
 fn charge_of(
-    task: Stander,
+    task: SchedEntity,
     delta: u64,
     charge: Option<ChargeLine>,
     drift: u64,
-) -> Result<Stander, ChargeFault>
+) -> Result<SchedEntity, ChargeFault>
     requires { drift ≤ greatest_setting }
     ensures fits { IfOk result (λ after. CanBeCharged delta task
         × CanBeChargedAs drift charge task.v (charged_task delta task)

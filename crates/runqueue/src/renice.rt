@@ -6,7 +6,7 @@ ghost use Rattle.runqueue.specs.Entities.{reniced_task};
 
 use crate::moves::write_over;
 use crate::runqueue::Runqueue;
-use crate::stander::Stander;
+use crate::sched_entity::SchedEntity;
 use cfs_model::Nice;
 
 impl Runqueue {
@@ -31,7 +31,7 @@ impl Runqueue {
 }
 
 /// Who runs, with this nice value if it is the task of this pid.
-fn reniced_runner(runner: Option<Stander>, pid: u32, nice: Nice) -> Option<Stander>
+fn reniced_runner(runner: Option<SchedEntity>, pid: u32, nice: Nice) -> Option<SchedEntity>
     ensures { result ≡ option_map (reniced_task pid nice) runner }
 {
     let mut task = runner?;

@@ -1,6 +1,6 @@
 ghost use Rattle.runqueue.specs.Entities.{IsQueue, IsQueue-prop};
 
-use crate::stander::Stander;
+use crate::sched_entity::SchedEntity;
 use crate::waiting_task::WaitingTask;
 use std::collections::{BTreeMap, BTreeSet};
 
@@ -8,9 +8,9 @@ use std::collections::{BTreeMap, BTreeSet};
 #[derive(Drop)]
 pub struct Runqueue {
     /// Who runs, if somebody does.
-    pub(crate) runner: Option<Stander>,
+    pub(crate) runner: Option<SchedEntity>,
     /// Everybody by pid; who runs as it stood before.
-    pub(crate) tasks: BTreeMap<u32, Stander>,
+    pub(crate) tasks: BTreeMap<u32, SchedEntity>,
     /// Those who wait, in their order.
     pub(crate) waiting: BTreeSet<WaitingTask>,
     /// In virtual nanoseconds.

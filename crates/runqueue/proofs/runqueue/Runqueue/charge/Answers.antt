@@ -1,6 +1,6 @@
 use Rattle.std.proofs.Common.{◌≡◌, ℕ, Option, Some, sym, subst}
 use Rattle.cfs_model.specs.declared.charge_line.ChargeLine.{ChargeLine}
-use Rattle.runqueue.specs.declared.stander.Stander.{Stander}
+use Rattle.runqueue.specs.declared.sched_entity.SchedEntity.{SchedEntity}
 use Rattle.replay_model.specs.Part.{Part, charged_part, told_part}
 use Rattle.replay_model.specs.QueueTests.{IsWrongCharge}
 use Rattle.runqueue.specs.Entities.{IsQueue, entities}
@@ -40,7 +40,7 @@ invariant_of-self-in-Ok c =
     let t = c.in-Some.task in
     let after = c.in-Ok.after in
     let P : ℕ → Type 0 = λ d. after ≡ charged_as c.args.charge (charged_task d t) in
-    let K : Stander → Type 0 = λ u. IsQueue (Some u) q.tasks q.waiting in
+    let K : SchedEntity → Type 0 = λ u. IsQueue (Some u) q.tasks q.waiting in
     record {
       kept = subst K (sym (subst P c.saturating_sub.ensures c.in-Ok.ensures.fits.2))
           (charged_queue q.runner q.tasks q.waiting q.floor q.mark c.args.time q.kept t c.in-Some.is c.args.charge);
@@ -67,7 +67,7 @@ returns-in-Ok-clause-charged c =
     let t = c.in-Some.task in
     let after = c.in-Ok.after in
     let P : ℕ → Type 0 = λ d. after ≡ charged_as c.args.charge (charged_task d t) in
-    let K : Stander → Type 0 = λ u.
+    let K : SchedEntity → Type 0 = λ u.
     (let p : Part = record { tasks = entities (Some u) q.tasks; floor = q.floor; mark = c.args.time } in
     p ≡ told_part c.args.charge (charged_part (runqueue_view q) c.args.time)) in
     subst K (sym (subst P c.saturating_sub.ensures c.in-Ok.ensures.fits.2))

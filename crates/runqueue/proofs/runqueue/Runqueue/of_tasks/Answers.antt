@@ -5,7 +5,7 @@ use Rattle.replay_model.specs.PartWords.{start_part}
 use Rattle.cfs_model.specs.declared.task.Place.TheVariants.{Run}
 use Rattle.runqueue.specs.Queue.{runqueue_view}
 use Rattle.runqueue.specs.Tasks.{entity_of, entity_from}
-use Rattle.runqueue.specs.declared.stander.Stander.{Stander}
+use Rattle.runqueue.specs.declared.sched_entity.SchedEntity.{SchedEntity}
 use Rattle.runqueue.proofs.Starts.{before_none, before_idle, one_task_more}
 use Rattle.runqueue.proofs.runqueue.Runqueue.of_tasks.Goals as goal
 
@@ -13,7 +13,7 @@ pub add-requires-clause-apart : goal.add-requires-clause-apart
 add-requires-clause-apart c =
     let l = c.loop-task in
     let t = c.task-item.result in
-    let P : Stander → Type 0 = λ u. (runqueue_view l.queue).tasks u.pid ≡ None in
+    let P : SchedEntity → Type 0 = λ u. (runqueue_view l.queue).tasks u.pid ≡ None in
     subst P (sym c.of.ensures)
     (ap (λ (p : Part). p.tasks t.pid) l.invariant
     ∙ ap (option_map entity_from) (before_none c.args.tasks.now l.task-index t c.loop-task-test.true c.task-item.is
@@ -23,7 +23,7 @@ pub add-requires-clause-alone : goal.add-requires-clause-alone
 add-requires-clause-alone c runs =
     let l = c.loop-task in
     let q = l.queue in
-    let P : Stander → Type 0 = λ u. u.place ≡ Run in
+    let P : SchedEntity → Type 0 = λ u. u.place ≡ Run in
     before_idle c.args.tasks.now l.task-index c.task-item.result c.loop-task-test.true c.task-item.is c.requires.one
     (subst P c.of.ensures runs) (to_z w64 (of_z w64 c.args.floor)) c.args.mark
     (runqueue_view q) l.invariant
@@ -33,7 +33,7 @@ loop-task-preserved c =
     let l = c.loop-task in
     let t = c.task-item.result in
     c.in_ok-add.ensures.part
-    ∙ ap (λ (u : Stander). with_entity (runqueue_view l.queue) u.pid (Some (entity_of u))) c.of.ensures
+    ∙ ap (λ (u : SchedEntity). with_entity (runqueue_view l.queue) u.pid (Some (entity_of u))) c.of.ensures
     ∙ ap (λ (p : Part). with_entity p t.pid (Some (entity_from t))) l.invariant
     ∙ one_task_more c.args.tasks.now l.task-index t c.loop-task-test.true c.task-item.is c.requires.rise
     (to_z w64 (of_z w64 c.args.floor)) c.args.mark

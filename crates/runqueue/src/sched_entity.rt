@@ -1,15 +1,14 @@
 ghost use Rattle.std.specs.Prelude.{◌≡◌};
-ghost use Rattle.runqueue.specs.Tasks.{stander_of};
+ghost use Rattle.runqueue.specs.Tasks.{sched_entity_of};
 
-use cfs_model::{Nice, Place, Task};
+use cfs_model::{Nice, Place, Policy, Task};
 
-/// A task as it stands at a processor.
+/// A task as it stands at a processor: the kernel's `sched_entity`.
 #[derive(Clone, Copy, Debug, PartialEq, Eq)]
-pub struct Stander {
+pub struct SchedEntity {
     /// From 1.
     pub pid: u32,
     pub nice: Nice,
-    /// Whether it is of the idle policy (`SCHED_IDLE`), and weighs so, whatever its nice value.
     pub policy: Policy,
     pub place: Place,
     /// The virtual runtime, in virtual nanoseconds, signed.
@@ -18,12 +17,12 @@ pub struct Stander {
     pub drift: i64,
 }
 
-impl Stander {
+impl SchedEntity {
     /// A task that comes to a processor, or that the start names there: it has no drift.
-    pub fn of(task: Task) -> Stander
-        ensures { result ≡ stander_of task }
+    pub fn of(task: Task) -> SchedEntity
+        ensures { result ≡ sched_entity_of task }
     {
-        Stander {
+        SchedEntity {
             pid: task.pid,
             nice: task.nice,
             policy: task.policy,

@@ -1,5 +1,5 @@
-//! Told charges at two processors: of a migration they are the origin's; which pages of other companions a verdict relies
-//! on; and the least drift.
+//! Told charges at two processors: of a migration they are the origin's; which pages of other companions a verdict
+//! relies on; and the least drift.
 
 use crate::answers::wants_about;
 use crate::books::wants_remade;
@@ -8,8 +8,8 @@ use crate::machines::{Lines, Recording};
 use cfs_model::Kind;
 use std::test::Fail;
 
-/// 102 and 103 run at processors 0 and 1 for 1 ms. 101, which waited at processor 0 and kept its floor at 0, then goes to
-/// processor 1, whose floor has followed 103.
+/// 102 and 103 run at processors 0 and 1 for 1 ms. 101, which waited at processor 0 and kept its floor at 0, then goes
+/// to processor 1, whose floor has followed 103.
 const MOVED: Lines = &[(
     1,
     1,

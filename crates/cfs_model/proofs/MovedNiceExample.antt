@@ -1,6 +1,6 @@
 -- The examples of a change of a nice value on a migration's line: the lift is that of the migration without it, and the
 -- new value is found at the origin; at the destination the task that is named doesn't stand where it has to.
-use Rattle.std.proofs.Common.{◌≡◌, true, false, Some, ℤ, pos, ◌+ℤ◌, ◌-ℤ◌, inl, inr, [], ◌∷◌, refl, sym, ap}
+use Rattle.std.proofs.Common.{◌≡◌, true, false, Some, None, ℤ, pos, ◌+ℤ◌, ◌-ℤ◌, inl, inr, [], ◌∷◌, refl, sym, ap}
 use Rattle.std.proofs.Common.{◌∙◌, subst, arith}
 use Rattle.std.proofs.lemmas.Int.{ints}
 use Rattle.cfs_model.specs.Machine.{Machine, Stands, put, put_pair, with_floor, with_move, with_nice, with_runtime}
@@ -46,12 +46,12 @@ unfolding put put_pair
 moved_nice_step =
     let event = renicing_migration 101 (pos 5) (pos 102) in
     let after : Machine = with_drift (with_runtime (with_move found 101 Wait 0 Wait 1) 101 (pos 102)) 101 (pos 0) in
-    let changes : IsMigration found 0 1 101 (pos 5) event.claim false after = record {
+    let changes : IsMigration found 0 1 101 (pos 5) event.claim Normal after = record {
       differ = λ e. omega arith;
       place = Wait;
       stands = refl;
       prio = refl;
-      policy = refl;
+      policy_is = refl;
       own = pos 5;
       runtime = refl;
       sort = At;
@@ -66,7 +66,7 @@ moved_nice_step =
         found = found;
         is_reniced = renices;
         changes = changes;
-        in_range = change_range standard found event.entry.act event.claim false after changes
+        in_range = change_range standard found event.entry.act event.claim Normal after changes
             (omega (arith, ints), omega (arith, ints))
             (reniced_range 0 (Some change) now_lifted found renices
             (lifted_range 0 start_time None (0 ∷ 1 ∷ []) migration_start now_lifted now_lift tt
@@ -83,8 +83,8 @@ moved_nice_at printed w after s =
     let same : s.found ≡ found = s.is_reniced.1
     ∙ ap (λ m. with_nice m 101 (pos 5))
     (one_lifted 0 0 start_time None (0 ∷ 1 ∷ []) migration_start s.lifted now_lifted s.is_lifted now_lift) in
-    let moves : IsMigration found 0 1 101 printed (renicing_migration 101 printed w).claim false after =
-    subst (λ m. IsMigration m 0 1 101 printed (renicing_migration 101 printed w).claim false after) same s.changes in (
+    let moves : IsMigration found 0 1 101 printed (renicing_migration 101 printed w).claim Normal after =
+    subst (λ m. IsMigration m 0 1 101 printed (renicing_migration 101 printed w).claim Normal after) same s.changes in (
       value_at found.nice 101 101 printed (pos 5) refl moves.prio refl,
       moves.claimed.2 ∙ ap (λ own. (own -ℤ pos 3) +ℤ pos 100)
           (value_at found.runtime 101 101 moves.own (pos 5) refl moves.runtime refl),

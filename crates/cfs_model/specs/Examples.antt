@@ -77,7 +77,7 @@ told_event told w = record (switch_event (pos 0) w) { charge = Some (record { li
 -- the exact charge is 4 ms; a drift of 1 ms allows for 3 to 5, and 101 is put back at just what is told
 abbrev pub ToldExample : Type 0
 ToldExample = (told w : ℤ)
-    → HasStep drifting (switch_start (pos 0) false (pos 0)) (told_event told w)
+    → HasStep drifting (switch_start (pos 0) Normal (pos 0)) (told_event told w)
     ↔ ((pos 3000000 ≤ℤ told) × (told ≤ℤ pos 5000000) × (w ≡ told))
 
 -- at nice 5, whose weight is 335, the charge is 4 ms * 1024 / 335, rounded down

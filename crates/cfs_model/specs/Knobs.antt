@@ -45,6 +45,7 @@ with_value settings Granularity value = record settings { granularity = value }
 with_value settings Credit value = record settings { credit = value }
 with_value settings Debit value = record settings { debit = value }
 with_value settings Slack value = record settings { slack = value }
+with_value settings Drift value = record settings { drift = value }
 
 -- settings that let nothing pass
 abbrev pub nothing : KnobsView

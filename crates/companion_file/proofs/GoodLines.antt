@@ -16,7 +16,7 @@ use Rattle.companion_file.specs.Shape.{nice_line, idle_line, charge_line}
 use Rattle.text_parts.specs.Lines.{IsComment}
 use Rattle.companion_file.specs.Spelling.{IsSpelled}
 use Rattle.companion_file.specs.Order.{IsTaskInLimits, IsClaimInLimits, IsNiceLineInLimits, IsIdleLineInLimits}
-use Rattle.companion_file.specs.Reading.{IsChargeLineInLimits}
+use Rattle.companion_file.specs.Order.{IsChargeLineInLimits}
 use Rattle.companion_file.specs.Earlier.{Said, summed}
 use Rattle.companion_file.specs.Tests.{fault_of, tested, IsJudgedFirst, IsJudgedLater, IsJudged}
 use Rattle.companion_file.specs.Draft.{KeepsOrder, with_line}

@@ -23,8 +23,8 @@ use Rattle.companion_file.specs.Earlier.{Said, last_nice, last_charge, has_all_f
 use Rattle.companion_file.specs.Earlier.{with_policy_told}
 use Rattle.companion_file.specs.Tests.{is_pid, is_value, is_nice, is_above_claims, is_above_changes, is_from_charges}
 use Rattle.companion_file.specs.Order.{IsTaskInLimits, IsClaimInLimits, IsNiceLineInLimits, IsIdleLineInLimits}
+use Rattle.companion_file.specs.Order.{IsChargeLineInLimits}
 use Rattle.companion_file.specs.Order.{IdleRises}
-use Rattle.companion_file.specs.Reading.{IsChargeLineInLimits}
 use Rattle.cfs_model.specs.Order.{RunApart}
 use Rattle.companion_file.proofs.KeptOrder.{Passes, value_fact, nice_fact, pid_fact}
 use Rattle.companion_file.proofs.Policies.{policies_again, task_kept, limits_kept, pairs_kept}

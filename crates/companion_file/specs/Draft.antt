@@ -18,8 +18,8 @@ use Rattle.cfs_model.specs.Limits.{no_line, most_processors, greatest_seconds, n
 use Rattle.cfs_model.specs.Charge.{IsInRange}
 use Rattle.companion_file.specs.Companion.{CompanionView}
 use Rattle.companion_file.specs.Order.{IsTaskInLimits, IsClaimInLimits, IsNiceLineInLimits, IsIdleLineInLimits}
+use Rattle.companion_file.specs.Order.{IsChargeLineInLimits}
 use Rattle.companion_file.specs.Order.{IdleRises}
-use Rattle.companion_file.specs.Reading.{IsChargeLineInLimits}
 use Rattle.cfs_model.specs.Order.{RunApart}
 use Rattle.companion_file.specs.Tests.{fault_of, IsJudged}
 

@@ -4,7 +4,6 @@ pub mod Draft
 pub mod Earlier
 pub mod ShapeReading
 pub mod Piecewise
-pub mod Reading
 pub mod Order
 pub mod Shape
 pub mod Spans

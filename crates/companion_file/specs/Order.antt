@@ -2,6 +2,7 @@
 use Rattle.std.specs.Prelude.{◌≡◌, ℕ, ◌+◌, ◌*◌, ◌<◌, ◌≤◌, length, All, AllPairs}
 use Rattle.cfs_model.specs.declared.task.Task.{Task}
 use Rattle.cfs_model.specs.declared.claim.Claim.{Claim}
+use Rattle.cfs_model.specs.declared.charge_line.ChargeLine.{ChargeLine}
 use Rattle.cfs_model.specs.declared.nice_line.NiceLine.{NiceLine}
 use Rattle.cfs_model.specs.declared.idle_line.IdleLine.{IdleLine}
 use Rattle.cfs_model.specs.Limits.{greatest_pid, greatest_line, no_line, most_processors, greatest_seconds}
@@ -12,7 +13,6 @@ use Rattle.cfs_model.specs.Order.{RunApart}
 use Rattle.cfs_model.specs.Claimed.{named_policy}
 use Rattle.cfs_model.specs.Start.{policies_at_start}
 use Rattle.companion_file.specs.Companion.{CompanionView}
-use Rattle.companion_file.specs.Reading.{IsChargeLineInLimits}
 
 -- a pid is from 1 to the greatest
 abbrev pub IsPid : ℕ → Type 0
@@ -36,6 +36,12 @@ pub record IsNiceLineInLimits (change : NiceLine) : Type 0 where
   pub line : (1 ≤ change.line) × (change.line ≤ greatest_line)
   pub pid : IsPid change.pid
   pub nice : IsNice change.nice
+
+-- the numbers of a charge that is told are within their limits
+pub record IsChargeLineInLimits (charge : ChargeLine) : Type 0 where
+  pub line : (1 ≤ charge.line) × (charge.line ≤ greatest_line)
+  pub pid : IsPid charge.pid
+  pub v : IsInRange charge.v
 
 -- the numbers of an idle line are within their limits
 pub record IsIdleLineInLimits (idle : IdleLine) : Type 0 where

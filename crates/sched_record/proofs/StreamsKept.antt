@@ -24,8 +24,7 @@ use Rattle.replay_model.specs.declared.step.Step.{Step}
 use Rattle.cfs_model.specs.declared.task.Place.TheVariants.{Run}
 use Rattle.cfs_model.specs.declared.task.Task.{Task}
 use Rattle.cfs_model.specs.Order.{RunApart}
-use Rattle.companion_file.specs.Reading.{IsChargeLineInLimits}
-use Rattle.companion_file.specs.Order.{IsClaimInLimits, IsNiceLineInLimits, IsTaskInLimits}
+use Rattle.companion_file.specs.Order.{IsClaimInLimits, IsNiceLineInLimits, IsTaskInLimits, IsChargeLineInLimits}
 use Rattle.sched_record.specs.RecordView.{RecordView, policy_of}
 use Rattle.sched_record.specs.Kept.{IsRecordInOrder, IsNamed, tasks_of}
 use Rattle.sched_record.specs.StreamKept.{IsStream, OwnsCharge, OwnsClaim, OwnsNice, cut_of, tasks_of_deed}

@@ -5,8 +5,7 @@ use Rattle.std.specs.Prelude.{find}
 use Rattle.std.proofs.lemmas.Bool.{eq-eqb, ne_eqb}
 use Rattle.std.proofs.lemmas.List.{map_more}
 use Rattle.cfs_model.specs.Claimed.{charge_at, claim_at, nice_at, with_claim}
-use Rattle.replay_model.specs.Cut.{charge_for}
-use Rattle.replay_model.specs.StepAt.{claim_for, deed_at, nice_for, step_at}
+use Rattle.replay_model.specs.StepAt.{charge_for, claim_for, deed_at, nice_for, step_at}
 use Rattle.cfs_model.specs.declared.act.Entry.{Entry}
 use Rattle.cfs_model.specs.declared.claim.Claim.{Claim}
 use Rattle.cfs_model.specs.declared.nice_line.NiceLine.{NiceLine}

@@ -121,7 +121,7 @@ indices_within cpu events =
     (within_from cpu 0 events)
 
 -- an event with what is said on its line, as a processor sees it
-abbrev pub step_of : ℕ → List Claim → List NiceLine → List ChargeLine → (Entry → Bool) → Entry → Step
+abbrev pub step_of : ℕ → List Claim → List NiceLine → List ChargeLine → (Entry → Policy) → Entry → Step
 step_of cpu claims nices charges policy event = step_at cpu (with_claim claims nices charges policy event)
 
 -- the steps at a processor are those of the events that touch it

@@ -188,15 +188,15 @@ pub not_idle_before : (idles : List IdleLine) (spans : List IdleSpan) (policies 
 not_idle_before idles spans policies events line pid told start some none =
     let birth = last_birth 0 events line pid in
     let above = birth_above_line 0 events line pid some in
-    told_at_birth idles policies 0 events line pid start ∙ ap policy_by (told.starts birth pid
-    ∙ (elim (cases_Bool (starts_span spans birth pid)) [
+    let none_starts : starts_span spans birth pid ≡ false = elim (cases_Bool (starts_span spans birth pid)) [
       | inr isnt ↦ isnt
       | inl is_so ↦ (
           let at = any_span spans birth pid is_so in
           let low = none at.0 at.1 at.2 at.4 in
           let starts = at.3 in
           absurd (omega (arith, low, starts, above)))
-    ]))
+    ] in
+    told_at_birth idles policies 0 events line pid start ∙ ap policy_by (told.starts birth pid ∙ none_starts)
 
 -- where one does, it is just where the last one doesn't end above the line
 pub idle_before : (idles : List IdleLine) (spans : List IdleSpan) (policies : ℕ

@@ -38,7 +38,7 @@ all_at_cut P xs before a after parts all =
     let index : length before < length xs = omega (arith, ap length parts, length-append before (a ∷ after)) in
     let at : get_or xs (length before) a ≡ a = ap (λ ys. get_or ys (length before) a) parts
     ∙ get_or_at before a after a (length before) refl in
-    subst P at (All-get_or P xs (length before) an index all)
+    subst P at (All-get_or P xs (length before) a index all)
 
 -- the first element that isn't so is one
 pub one_first_split : {X : Type 0} (P : X → Type 0) (xs before before' : List X) (a b : X) (after after' : List X)

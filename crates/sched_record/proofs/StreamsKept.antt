@@ -10,8 +10,8 @@ use Rattle.std.proofs.lemmas.List.Elements.{All-map, All-filter, All-weaker, fil
 use Rattle.std.proofs.lemmas.Option.{slice_get-get_or}
 use Rattle.cfs_model.specs.Charge.{IsInRange}
 use Rattle.cfs_model.specs.Claimed.{charge_at, claim_at, claimed, nice_at, with_claim}
-use Rattle.replay_model.specs.Cut.{charge_for, last_line_after, last_time_of, steps_at, tasks_at, touches}
-use Rattle.replay_model.specs.StepAt.{claim_for, deed_at, nice_for, step_at}
+use Rattle.replay_model.specs.Cut.{last_line_after, last_time_of, steps_at, tasks_at, touches}
+use Rattle.replay_model.specs.StepAt.{charge_for, claim_for, deed_at, nice_for, step_at}
 use Rattle.cfs_model.specs.declared.act.Act.{Act}
 use Rattle.cfs_model.specs.declared.act.Act.TheVariants as act
 use Rattle.cfs_model.specs.declared.act.Entry.{Entry}
@@ -159,7 +159,7 @@ charge_found (Leave pid nice dest) found charge e = e
 charge_found (Arrive pid nice orig idle) found charge e = absurd cc
 
 owned_charge : (cpu : ℕ) (claims : List Claim) (nices : List NiceLine) (charges : List ChargeLine)
-    (policy : Entry → Bool) (event : Entry)
+    (policy : Entry → Policy) (event : Entry)
     → All IsChargeLineInLimits charges → (charge : ChargeLine)
     → (step_at cpu (with_claim claims nices charges policy event)).charge ≡ Some charge
     → OwnsCharge (step_at cpu (with_claim claims nices charges policy event)) charge

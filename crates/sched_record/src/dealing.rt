@@ -1,7 +1,8 @@
 ghost use Rattle.std.specs.Prelude.{◌≡◌, ◌==◌, ℕ, ◌<◌, ◌≤◌, length, pos, IfOk, slice_index_or};
 ghost use Rattle.cfs_model.specs.Claimed.{charge_at, claim_at, nice_at};
-ghost use Rattle.replay_model.specs.Cut.{charge_for, tasks_at};
-ghost use Rattle.replay_model.specs.StepAt.{claim_for, deed_at as deed_here, nice_for, step_at as step_here};
+ghost use Rattle.replay_model.specs.Cut.{tasks_at};
+ghost use Rattle.replay_model.specs.StepAt.{charge_for, claim_for, deed_at as deed_here, nice_for};
+ghost use Rattle.replay_model.specs.StepAt.{step_at as step_here};
 
 use crate::lists::Steps;
 use crate::on_line::{index_from, index_near, item_on};

@@ -68,7 +68,7 @@ impl Indices {
 
     /// Sets the hints: where in these claims, changes of nice values and charges those of the events begin. Takes no
     /// memory.
-    pub(crate) fn hint(
+    pub(crate) fn set_hints(
         &mut self,
         events: &[Entry],
         claims: &[Claim],

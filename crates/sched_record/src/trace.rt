@@ -49,13 +49,13 @@ impl Trace {
         self.indices.at(cpu)
     }
 
-    /// Marks where in these claims, changes of nice values and charges those of the events begin, for `hint`. Takes no
+    /// Sets the hints: where in these claims, changes of nice values and charges those of the events begin. Takes no
     /// memory.
     pub(crate) fn set_hints(&mut self, claims: &[Claim], nices: &[NiceLine], charges: &[ChargeLine])
         ensures { trace_view self.new ≡ trace_view self.old }
     {
         self.indices
-            .hint(self.events.as_slice(), claims, nices, charges);
+            .set_hints(self.events.as_slice(), claims, nices, charges);
     }
 
     /// Where in what was marked that of this event and later ones may begin.

@@ -130,7 +130,10 @@ fn page_of(alloc: Global, row: &Told, steps: u64) -> Result<Page, Fail> {
 /// The line, pid and kind of the fault on that page.
 fn fault_of(alloc: Global, row: &Told, steps: u64) -> Result<Option<(u32, u32, Kind)>, Fail> {
     let page = page_of(alloc, row, steps)?;
-    Ok(page.fault().map(|fault| (fault.line, fault.pid, fault.kind)))
+    Ok(
+        page.fault()
+            .map(|fault| (fault.line, fault.pid, fault.kind)),
+    )
 }
 
 /// Whether that is the row's, in calls of one step, of two, and of all.

@@ -79,20 +79,20 @@ pub record Reads {A : Type 0} (trace companion : Input) (result : Result A Fault
 -- lines that tell that, where the companion tells charges and where it doesn't
 pub record Runs {J : Type 0} (is_of : RecordView → J → Type 0) (lines : Bool → J → List ℕ)
     (fault_of : J → Option FirstFault) (trace companion : Input) (out : Output) (result : Result Status Fault) : Type 0
-    where
-  -- where a status is answered, the report of the two inputs' outcome was written and nothing else, and the status is
-  -- that outcome's
-  pub answered : IfOk result (λ status. (outcome : Outcome J) × (tells_charges : Bool)
-      × IsOutcomeOf is_of trace.gave companion.gave outcome tells_charges
-      × Appends out.before out.taken (report_of (lines tells_charges) outcome)
-      × (status ≡ status_of fault_of outcome))
-  pub reads : Reads trace companion result
-  -- and no write failed
-  pub written : OnOk result (out.has_failed ≡ false)
-  -- a write fault comes only where a write failed or took no byte, and a front of the report was written
-  pub write : IsErrOf result Write → out.has_failed ≡ true
-  pub front : IsErrOf result Write → (outcome : Outcome J) × (tells_charges : Bool)
-      × IsOutcomeOf is_of trace.gave companion.gave outcome tells_charges
-      × AppendsFront out.before out.taken (report_of (lines tells_charges) outcome)
-  -- at any other fault nothing was written, and no write failed
-  pub unwritten : IfErr result (λ fault. fault ≢ Write → Keeps out.before out.taken × (out.has_failed ≡ false))
+  where
+    -- where a status is answered, the report of the two inputs' outcome was written and nothing else, and the status is
+    -- that outcome's
+    pub answered : IfOk result (λ status. (outcome : Outcome J) × (tells_charges : Bool)
+        × IsOutcomeOf is_of trace.gave companion.gave outcome tells_charges
+        × Appends out.before out.taken (report_of (lines tells_charges) outcome)
+        × (status ≡ status_of fault_of outcome))
+    pub reads : Reads trace companion result
+    -- and no write failed
+    pub written : OnOk result (out.has_failed ≡ false)
+    -- a write fault comes only where a write failed or took no byte, and a front of the report was written
+    pub write : IsErrOf result Write → out.has_failed ≡ true
+    pub front : IsErrOf result Write → (outcome : Outcome J) × (tells_charges : Bool)
+        × IsOutcomeOf is_of trace.gave companion.gave outcome tells_charges
+        × AppendsFront out.before out.taken (report_of (lines tells_charges) outcome)
+    -- at any other fault nothing was written, and no write failed
+    pub unwritten : IfErr result (λ fault. fault ≢ Write → Keeps out.before out.taken × (out.has_failed ≡ false))

@@ -1,13 +1,13 @@
 -- A companion's lines name one version; so it is one thing whether a companion tells charges.
-use Rattle.std.proofs.Common.{◌≡◌, ℕ, Bool, true, false, nat_eq, List, [], ◌∷◌, ◌++◌, Option, Some, None, refl, sym, ap}
-use Rattle.std.proofs.Common.{◌∙◌, subst, inl, inr, eq-eqb}
-use Rattle.std.specs.Prelude.{◌↔◌, All, IsTrue, MatchOption}
+use Rattle.std.proofs.Common.{◌≡◌, ℕ, ◌+◌, Bool, true, false, nat_eq, List, [], ◌∷◌, ◌++◌, get_or, refl, sym, ap, ◌∙◌}
+use Rattle.std.proofs.Common.{subst, inl, inr, arith, eq-eqb}
+use Rattle.std.specs.Prelude.{◌↔◌, All, IsTrue}
 use Rattle.std.proofs.lemmas.Bool.{eqb-true}
 use Rattle.std.proofs.lemmas.List.Elements.{All-head, All-tail}
 use Rattle.companion_file.specs.Companion.{AreOfVersion}
 use Rattle.companion_file.specs.Spelling.{IsFirstLine}
 use Rattle.sched_audit.specs.Texts.{TellsCharges}
-use Rattle.text_parts.specs.Lines.{is_comment, lines_of, IsComment}
+use Rattle.text_parts.specs.Lines.{is_comment, IsComment}
 
 -- a first line is no comment
 is_content : (line : List ℕ) (version : ℕ) → IsFirstLine line version → is_comment line ≡ false
@@ -19,17 +19,19 @@ is_content line version (inr (inr p)) = ap is_comment p.0
 no_comment : (line : List ℕ) (version : ℕ) → IsFirstLine line version → ¬ IsComment line
 no_comment line version first comment = let content = is_content line version first in absurd cc
 
--- and names one version
+-- it ends with the digit of its version
+ends_with : (line : List ℕ) (version : ℕ) → IsFirstLine line version → get_or line 14 0 ≡ 48 + version
+ends_with line version (inl p) =
+    let digit : get_or line 14 0 ≡ 49 = ap (λ (l : List ℕ). get_or l 14 0) p.0 in omega (arith, digit, p.1)
+ends_with line version (inr (inl p)) =
+    let digit : get_or line 14 0 ≡ 50 = ap (λ (l : List ℕ). get_or l 14 0) p.0 in omega (arith, digit, p.1)
+ends_with line version (inr (inr p)) =
+    let digit : get_or line 14 0 ≡ 51 = ap (λ (l : List ℕ). get_or l 14 0) p.0 in omega (arith, digit, p.1)
+
+-- and so names one
 one_named : (line : List ℕ) (version other : ℕ) → IsFirstLine line version → IsFirstLine line other → version ≡ other
-one_named line version other (inl p) (inl q) = cc
-one_named line version other (inl p) (inr (inl q)) = absurd cc
-one_named line version other (inl p) (inr (inr q)) = absurd cc
-one_named line version other (inr (inl p)) (inl q) = absurd cc
-one_named line version other (inr (inl p)) (inr (inl q)) = cc
-one_named line version other (inr (inl p)) (inr (inr q)) = absurd cc
-one_named line version other (inr (inr p)) (inl q) = absurd cc
-one_named line version other (inr (inr p)) (inr (inl q)) = absurd cc
-one_named line version other (inr (inr p)) (inr (inr q)) = cc
+one_named line version other first second =
+    omega (arith, ends_with line version first, ends_with line other second)
 
 -- behind the same comments
 one_behind : (before comments : List (List ℕ)) (line first : List ℕ) (rest more : List (List ℕ)) (version other : ℕ)

@@ -127,39 +127,39 @@ needs_of_step since found step need idled drift n i d = record {
         → IsPickNeed found deed (step_needs deed need idled drift).granularity
     of_pick (Switch prev prev_nice way next next_nice) h = h
     of_pick (Wake pid nice) h = refl
-    of_pick (Born pid nice idles) h = refl
+    of_pick (Born pid nice policy) h = refl
     of_pick (Leave pid nice dest) h = refl
-    of_pick (Arrive pid nice orig idles) h = refl
+    of_pick (Arrive pid nice orig policy) h = refl
 
     of_wake : (deed : Deed) → IsNeed found deed step.claim need
         → IsWakeNeed found deed step.claim (step_needs deed need idled drift).credit
     of_wake (Switch prev prev_nice way next next_nice) h = refl
     of_wake (Wake pid nice) h = h
-    of_wake (Born pid nice idles) h = refl
+    of_wake (Born pid nice policy) h = refl
     of_wake (Leave pid nice dest) h = refl
-    of_wake (Arrive pid nice orig idles) h = refl
+    of_wake (Arrive pid nice orig policy) h = refl
 
     of_birth : (deed : Deed) → IsNeed found deed step.claim need
         → IsBirthNeed found deed step.claim (step_needs deed need idled drift).debit
     of_birth (Switch prev prev_nice way next next_nice) h = refl
     of_birth (Wake pid nice) h = refl
-    of_birth (Born pid nice idles) h = h
+    of_birth (Born pid nice policy) h = h
     of_birth (Leave pid nice dest) h = refl
-    of_birth (Arrive pid nice orig idles) h = refl
+    of_birth (Arrive pid nice orig policy) h = refl
 
     of_idling : (deed : Deed) → (step_needs deed need idled drift).slack ≡ idled
     of_idling (Switch prev prev_nice way next next_nice) = refl
     of_idling (Wake pid nice) = refl
-    of_idling (Born pid nice idles) = refl
+    of_idling (Born pid nice policy) = refl
     of_idling (Leave pid nice dest) = refl
-    of_idling (Arrive pid nice orig idles) = refl
+    of_idling (Arrive pid nice orig policy) = refl
 
-    of_drift : (deed : Deed) → (step_needs deed need idle drift).drift ≡ drift
+    of_drift : (deed : Deed) → (step_needs deed need idled drift).drift ≡ drift
     of_drift (Switch prev prev_nice way next next_nice) = refl
     of_drift (Wake pid nice) = refl
-    of_drift (Born pid nice idles) = refl
+    of_drift (Born pid nice policy) = refl
     of_drift (Leave pid nice dest) = refl
-    of_drift (Arrive pid nice orig idles) = refl
+    of_drift (Arrive pid nice orig policy) = refl
 
 -- a change of a nice value changes no drift
 pub need_reniced : (change : Option NiceLine) (lifted : Part) (charge : Option ChargeLine) (need : ℕ)

@@ -1,6 +1,7 @@
 -- A replay under way, as the definitions have it (this project's profile).
 use Rattle.std.specs.Prelude.{◌≡◌, ℕ, ◌+◌, None, ◌⊎◌, All}
 use Rattle.cfs_model.specs.Knobs.{KnobsView}
+use Rattle.cfs_model.specs.declared.kind.Kind.TheVariants as kind
 use Rattle.replay_model.specs.Page.{ReplayStateView, FailsStep}
 use Rattle.replay_model.specs.declared.step.Step.{Step}
 use Rattle.queue_replay.specs.Counting.{page_draft_view}

@@ -1,4 +1,4 @@
-ghost use Rattle.std.specs.Prelude.{◌≡◌};
+ghost use Rattle.std.specs.Prelude.{◌≡◌, ◌≤◌, ◌^◌, IfSome};
 ghost use Rattle.queue_replay.specs.Stretches.{stretch_between};
 
 use runqueue::SchedEntity;
@@ -17,7 +17,8 @@ pub(crate) fn stretch_between(
     after: Option<SchedEntity>,
     time: u64,
 ) -> Option<Stretch>
-    ensures { result ≡ stretch_between before after time }
+    ensures same { result ≡ stretch_between before after time }
+    ensures bounds { IfSome result (λ stretch. (stretch.time ≤ 2 ^ 64) × (stretch.cost ≤ 2 ^ 64)) }
 {
     let before = before?;
     let after = after?;

@@ -6,7 +6,7 @@ use crate::event::Event;
 use crate::processor::Processor;
 use crate::processor_lines::{push_charge, push_floor, push_processor};
 use crate::told_charge::{ToldCharge, push_told_charge};
-use cfs_model::{Act, ChargeLine, IDLE_PID, Kind, Knobs, Memory, Task};
+use cfs_model::{Act, ChargeLine, IDLE_PID, Kind, Knobs, Memory};
 use pid_table::PidHasher;
 use replay_model::FirstFault;
 use runqueue::SchedEntity;
@@ -68,7 +68,7 @@ impl Scene {
         alloc: Global,
         record: &Record,
         hasher: PidHasher,
-    ) -> Result<Option<(u32, Task)>, Memory> {
+    ) -> Result<Option<(u32, SchedEntity)>, Memory> {
         let pid = self.fault.pid;
         let shown = self.here.place_of(pid);
         if shown.is_some() {

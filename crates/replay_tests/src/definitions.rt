@@ -1,8 +1,8 @@
 use crate::answers::wants;
 use cfs_model::{
-    Kind, Knobs, Memory, Nice, Policy, PrioFault, birth_example, charge, floors_rise, idle_example,
-    marks_move, migration_example, one_list, pick_example, places, prefixes, put_back_example,
-    wake_example, weight, weight_of,
+    Kind, Knobs, Memory, Nice, Policy, PrioFault, birth_example, charge, drifts, floors_rise,
+    idle_example, marks_move, migration_example, no_drift, one_list, pick_example, places,
+    prefixes, put_back_example, told_example, untold, wake_example, weight, weight_of,
 };
 use part_laws::{migrations, pages, part_steps};
 use replay_laws::{closing, composition, endings, faults_end_runs, first_faults, replays};
@@ -172,6 +172,9 @@ fn laws_and_examples() {
     places();
     floors_rise();
     marks_move();
+    untold();
+    no_drift();
+    drifts();
     pages();
     part_steps();
     migrations();
@@ -187,4 +190,5 @@ fn laws_and_examples() {
     wake_example();
     idle_example();
     birth_example();
+    told_example();
 }

@@ -5,4 +5,5 @@ mod OneOf
 mod Outcomes
 mod Passing
 mod Starts
+mod Versions
 mod Written

@@ -3,8 +3,8 @@
 
 use crate::answers::wants_about;
 use crate::machines::{Lines, Recording};
-use audit_crew::{Gate, audit, audit_serial, crew};
-use cfs_model::{Kind, Knobs};
+use audit_crew::{Gate, OpenGate, audit, audit_serial, crew};
+use cfs_model::{Kind, Knobs, Setting};
 use companion_file::read_companion;
 use pid_table::PidHasher;
 use sched_record::{Record, Stream, join, read_trace};
@@ -14,7 +14,7 @@ use std::random::RandomSource;
 use std::sync::Wait;
 use std::test::Fail;
 use std::thread::Threads;
-use ticket_book::{Closed, Verdict};
+use ticket_book::{Closed, LeastSettings, Verdict};
 
 /// The line, processor, pid and kind of a fault, where there is one.
 pub(crate) type MaybeFault = Option<(u32, u32, u32, Kind)>;
@@ -151,4 +151,28 @@ pub(crate) fn gathered<R: RandomSource + Threads + Wait + Sync, G: Gate>(
 ) -> Result<(u32, u64), Fail> {
     let record = record_of(alloc, recording)?;
     gathered_on(rt, alloc, &record, gate)
+}
+
+/// The least settings of a record, by a crew; none where it is a run at no settings.
+fn least_of<R: RandomSource + Threads + Wait + Sync>(
+    rt: &R,
+    alloc: Global,
+    record: &Record,
+) -> Result<Option<Knobs>, Fail> {
+    let gathered = crew(rt, alloc, record, Knobs::greatest(), &OpenGate)?;
+    match gathered.book.close_least(record)?.least {
+        LeastSettings::Found(knobs) => Ok(Some(knobs)),
+        LeastSettings::Fault(_) => Ok(None),
+    }
+}
+
+/// The least drift of a recording, where it is a run at some settings.
+pub(crate) fn drift_needed<R: RandomSource + Threads + Wait + Sync>(
+    rt: &R,
+    alloc: Global,
+    recording: &Recording,
+) -> Result<Option<u64>, Fail> {
+    let record = record_of(alloc, recording)?;
+    let least = least_of(rt, alloc, &record)?;
+    Ok(least.map(|knobs| knobs.get(Setting::Drift)))
 }

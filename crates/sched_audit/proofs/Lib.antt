@@ -7,3 +7,4 @@ mod Passing
 mod Starts
 mod Versions
 mod Written
+pub mod Ended

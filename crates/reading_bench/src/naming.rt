@@ -62,7 +62,7 @@ fn named_in_table(alloc: Global, hasher: PidHasher, pids: &[u32]) -> Result<usiz
     let mut table = PidTable::new(alloc, hasher);
     for pid in pids {
         table.make_room()?;
-        if table.place_of(*pid).is_none() {
+        if table.index_of(*pid).is_none() {
             table.add(*pid, 0u64);
         }
     }

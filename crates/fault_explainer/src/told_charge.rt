@@ -68,8 +68,8 @@ pub(crate) fn push_wrong_charge(text: &mut String, scene: &Scene) -> Result<(), 
     let queue = &scene.here.queue;
     match ToldCharge::at(queue, scene.event.time, scene.event.charge) {
         Some(told) => {
-            push_told_at(text, told)?;
-            push_drift(text, told, scene.knobs.drift())
+            push_told_at(text, &told)?;
+            push_drift(text, &told, scene.knobs.drift())
         }
         None => {
             push_not_its(text, scene.here.cpu, scene.fault.pid, queue.runner())?;
@@ -97,7 +97,7 @@ fn push_not_its(
 }
 
 /// Where the told charge leads, beside where the task was, or where it is by the exact charge.
-fn push_told_at(text: &mut String, told: ToldCharge) -> Result<(), AllocError> {
+fn push_told_at(text: &mut String, told: &ToldCharge) -> Result<(), AllocError> {
     let SchedEntity { pid, v, .. } = told.exact.task;
     let to = told.to;
     if to < v {
@@ -117,7 +117,7 @@ fn push_told_at(text: &mut String, told: ToldCharge) -> Result<(), AllocError> {
     )
 }
 
-fn push_drift(text: &mut String, told: ToldCharge, most: u64) -> Result<(), AllocError> {
+fn push_drift(text: &mut String, told: &ToldCharge, most: u64) -> Result<(), AllocError> {
     let before = told.exact.task.drift;
     let after = told.drift_after();
     writeln!(

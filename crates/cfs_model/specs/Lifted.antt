@@ -1,9 +1,9 @@
 -- The machine that an event's time and the charge told on its line lead to, before a nice value changes and before the
 -- event's own change: at each touched processor the running task is charged, exactly or as told, and then the floor is
--- raised. Sources: sched-design-CFS.rst, "The
--- rbtree" (the time that a task just ran is added to its virtual runtime; min_vruntime is monotonic and tracks the
--- smallest virtual runtime of the runqueue); sched-nice-design.rst (a nice value is a share, here a weight). That only
--- events charge, the weight of the idle policy and the rounding are this project's profile.
+-- raised. Sources: sched-design-CFS.rst, "The rbtree" (the time that a task just ran is added to its virtual runtime;
+-- min_vruntime is monotonic and tracks the smallest virtual runtime of the runqueue); sched-nice-design.rst (a nice
+-- value is a share, here a weight). That only events charge, the weight of the idle policy and the rounding are this
+-- project's profile.
 use Rattle.std.specs.Prelude.{◌≡◌, ℕ, ◌-◌, ◌≤◌, if◌then◌else◌, Option, Some, None, option_map, option_and_then, ℤ}
 use Rattle.std.specs.Prelude.{pos}
 use Rattle.std.specs.Prelude.{◌+ℤ◌, ◌≤ℤ◌, ◌⊎◌, List, [], ◌∷◌}

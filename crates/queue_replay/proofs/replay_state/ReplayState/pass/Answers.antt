@@ -140,7 +140,7 @@ returns-clause-passes c _ =
                 (record { line = s.0; fault = s.1; left = s.2; came = s.3; births = s.4; deaths = s.5 })
                 (c.note_stretch.ensures.tallies
                 ∙ ap (λ (s : Option Stretch). stretched s old.draft.tallies.table.rows)
-                    (c.stretch_between-stretch.ensures.same
+                (c.stretch_between-stretch.ensures.same
                 ∙ ap (λ n. stretch_between c.runner-runner.result c.runner.result n) (c.saturating_sub-time.ensures
                 ∙ ap (λ n. step.time - n) c.mark.ensures))
                 ∙ sym (charged_same (runqueue_view q) lifted step.time step.charge c.runner-runner.result

@@ -14,7 +14,7 @@ use std::random::RandomSource;
 use std::sync::Wait;
 use std::test::Fail;
 use std::thread::Threads;
-use ticket_book::{Closed, LeastSettings, Verdict};
+use ticket_book::{Closed, ClosedLeast, LeastSettings, Verdict};
 
 /// The line, processor, pid and kind of a fault, where there is one.
 pub(crate) type MaybeFault = Option<(u32, u32, u32, Kind)>;
@@ -153,16 +153,21 @@ pub(crate) fn gathered<R: RandomSource + Threads + Wait + Sync, G: Gate>(
     gathered_on(rt, alloc, &record, gate)
 }
 
-/// The least settings of a record, by a crew; none where it is a run at no settings.
+/// The least settings of a record, by a crew.
 fn least_of<R: RandomSource + Threads + Wait + Sync>(
     rt: &R,
     alloc: Global,
     record: &Record,
-) -> Result<Option<Knobs>, Fail> {
+) -> Result<ClosedLeast, Fail> {
     let gathered = crew(rt, alloc, record, Knobs::greatest(), &OpenGate)?;
-    match gathered.book.close_least(record)?.least {
-        LeastSettings::Found(knobs) => Ok(Some(knobs)),
-        LeastSettings::Fault(_) => Ok(None),
+    Ok(gathered.book.close_least(record)?)
+}
+
+/// The drift among least settings, if there are such.
+fn drift_of(least: &LeastSettings) -> Option<u64> {
+    match least {
+        LeastSettings::Found(knobs) => Some(knobs.get(Setting::Drift)),
+        LeastSettings::Fault(_) => None,
     }
 }
 
@@ -173,6 +178,6 @@ pub(crate) fn drift_needed<R: RandomSource + Threads + Wait + Sync>(
     recording: &Recording,
 ) -> Result<Option<u64>, Fail> {
     let record = record_of(alloc, recording)?;
-    let least = least_of(rt, alloc, &record)?;
-    Ok(least.map(|knobs| knobs.get(Setting::Drift)))
+    let closed = least_of(rt, alloc, &record)?;
+    Ok(drift_of(&closed.least))
 }

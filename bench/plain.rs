@@ -897,9 +897,24 @@ enum Sort {
     At,
     Pass,
     Nice,
+    Charge,
 }
 
-/// A claim; or a change of a nice value, which is of sort `Nice` and has the new prio in place of a virtual runtime.
+impl Sort {
+    /// Where on one line of the trace it stands among others, of which there is at most one of each: a told charge
+    /// before a change before a claim.
+    #[inline(always)]
+    fn turn(self) -> u64 {
+        match self {
+            Sort::Charge => 0,
+            Sort::Nice => 1,
+            Sort::At | Sort::Pass => 2,
+        }
+    }
+}
+
+/// A claim; or a change of a nice value, which is of sort `Nice` and has the new prio in place of a virtual runtime; or
+/// a told charge, of sort `Charge`, with the virtual runtime that the task comes to by it.
 #[derive(Clone, Copy)]
 struct Claim {
     /// The line of the trace, or `NEVER`.
@@ -910,10 +925,10 @@ struct Claim {
 }
 
 impl Claim {
-    /// Rises from one to the next: on one line a change may stand before a claim, and nothing else.
+    /// Rises from one to the next.
     #[inline(always)]
     fn rank(&self) -> u64 {
-        2 * self.line + (self.sort != Sort::Nice) as u64
+        4 * self.line + self.sort.turn()
     }
 }
 
@@ -973,7 +988,7 @@ struct Companion {
     place: usize,
     /// The lines read so far.
     lines: u64,
-    /// 1 or 2.
+    /// 1, 2 or 3.
     version: u32,
     due: Due,
     cpus: u64,
@@ -981,7 +996,7 @@ struct Companion {
     running: u64,
     last_pid: u32,
     last_idle: Option<IdleLine>,
-    /// The rank of the last claim, or change of a nice value.
+    /// The rank of the last claim, change of a nice value or told charge.
     last_rank: u64,
     stop: Option<Stop>,
 }
@@ -1051,11 +1066,14 @@ fn shape_of(line: &[u8], version: u32) -> Option<Shape> {
             };
             Shape::Task(pid, nice, cpu, place, integer(word()?)?)
         }
-        b"idle" if version == 2 => Shape::Idle(whole_number(word()?)?, whole_number(word()?)?),
+        b"idle" if version >= 2 => Shape::Idle(whole_number(word()?)?, whole_number(word()?)?),
         b"at" => Shape::Claim(Sort::At, whole_number(word()?)?, whole_number(word()?)?, integer(word()?)?),
         b"pass" => Shape::Claim(Sort::Pass, whole_number(word()?)?, whole_number(word()?)?, integer(word()?)?),
-        b"nice" if version == 2 => {
+        b"nice" if version >= 2 => {
             Shape::Claim(Sort::Nice, whole_number(word()?)?, whole_number(word()?)?, integer(word()?)?)
+        }
+        b"charge" if version >= 3 => {
+            Shape::Claim(Sort::Charge, whole_number(word()?)?, whole_number(word()?)?, integer(word()?)?)
         }
         _ => return None,
     };
@@ -1191,6 +1209,7 @@ impl Companion {
             return match line {
                 b"cfs-companion 1" => Ok(Said::Version(1)),
                 b"cfs-companion 2" => Ok(Said::Version(2)),
+                b"cfs-companion 3" => Ok(Said::Version(3)),
                 _ => Err("Version"),
             };
         }
@@ -1278,11 +1297,11 @@ impl Companion {
         }
     }
 
-    /// The claim or change that comes next, after the first.
+    /// The claim, change or told charge that comes next, after the first.
     #[inline(always)]
     fn next_claim(&mut self) -> Claim {
         if self.place < self.blocks.whole {
-            if let Some((claim, length)) = usual_claim(self.blocks.at(self.place)) {
+            if let Some((claim, length)) = usual_claim(self.blocks.at(self.place), self.version) {
                 if claim.rank() > self.last_rank {
                     self.last_rank = claim.rank();
                     self.lines += 1;
@@ -1305,13 +1324,15 @@ impl Companion {
     }
 }
 
-/// A claim as most are, with the length of its line.
+/// A claim or a told charge as most are, with the length of its line.
 #[inline(always)]
-fn usual_claim(text: Bytes) -> Option<(Claim, usize)> {
+fn usual_claim(text: Bytes, version: u32) -> Option<(Claim, usize)> {
     let (sort, mut at) = if text.says(b"at ") {
         (Sort::At, 3)
     } else if text.says(b"pass ") {
         (Sort::Pass, 5)
+    } else if version >= 3 && text.says(b"charge ") {
+        (Sort::Charge, 7)
     } else {
         return None;
     };
@@ -1350,12 +1371,18 @@ struct Knobs {
     credit: u64,
     debit: u64,
     slack: u64,
+    drift: u64,
 }
 
 impl Knobs {
-    const GREATEST: Knobs =
-        Knobs { granularity: MOST_SETTING, credit: MOST_SETTING, debit: MOST_SETTING, slack: MOST_SETTING };
-    const NONE: Knobs = Knobs { granularity: 0, credit: 0, debit: 0, slack: 0 };
+    const GREATEST: Knobs = Knobs {
+        granularity: MOST_SETTING,
+        credit: MOST_SETTING,
+        debit: MOST_SETTING,
+        slack: MOST_SETTING,
+        drift: MOST_SETTING,
+    };
+    const NONE: Knobs = Knobs { granularity: 0, credit: 0, debit: 0, slack: 0, drift: 0 };
 }
 
 /// What is wrong with an event.
@@ -1382,6 +1409,7 @@ macro_rules! kinds {
 kinds! {
     IdleTooLong: "idle beside a waiting task",
     Range: "virtual runtime out of range",
+    WrongCharge: "charged beyond the drift",
     MoveHome: "migration to its own processor",
     SelfSwitch: "switch to the same task",
     PrevNotRunning: "previous task is not the running one",
@@ -1409,6 +1437,8 @@ struct Task {
     ran: u64,
     /// Virtual nanoseconds that it was charged, over all its lives.
     charged: u128,
+    /// What it was told to be charged less what it costs exactly, added up since it came to its processor.
+    drift: i64,
     picks: u32,
     pid: u32,
     /// How often it was put into a queue; an entry of a heap with another number is dead.
@@ -1426,6 +1456,16 @@ impl Task {
             return IDLE_POLICY_WEIGHT;
         }
         WEIGHTS[self.prio as usize - FIRST_PRIO as usize]
+    }
+
+    /// The drift that the task comes to by a told charge, where it was charged exactly already and stood at `before`;
+    /// None where the charge is another task's, where it would take virtual runtime away, or where 64 bits don't hold
+    /// the drift.
+    fn drift_by(&self, told: Claim, before: i64) -> Option<i64> {
+        if told.pid != self.pid || told.v < before {
+            return None;
+        }
+        self.drift.checked_add(told.v.checked_sub(self.v)?)
     }
 }
 
@@ -1533,6 +1573,8 @@ struct Machine {
     idle: u64,
     /// No later than the first moment at which one of them has idled for too long.
     deadline: u64,
+    /// The told charge on the next event's line.
+    told: Option<Claim>,
     /// The change of a nice value on the next event's line.
     change: Option<Claim>,
     /// Whether the next event's task is born with the idle policy.
@@ -1578,6 +1620,7 @@ impl Machine {
             slots: vec![0; MOST_PID as usize + 1],
             idle: 0,
             deadline: u64::MAX,
+            told: None,
             change: None,
             born_idle: false,
             counts: Counts::default(),
@@ -1602,6 +1645,7 @@ impl Machine {
             v,
             ran: 0,
             charged: 0,
+            drift: 0,
             picks: 0,
             pid,
             stamp: 0,
@@ -1692,9 +1736,9 @@ impl Machine {
         Ok(())
     }
 
-    /// The charge of the running task up to a time, and the lift of the floor.
+    /// The charge of the running task up to a time, the told one in its place, and the lift of the floor.
     #[inline(always)]
-    fn charge(&mut self, cpu: usize, time: u64) -> Judged {
+    fn charge(&mut self, cpu: usize, time: u64, told: Option<Claim>) -> Judged {
         let processor = &mut self.processors[cpu];
         let nanoseconds = time - processor.mark;
         processor.mark = time;
@@ -1704,10 +1748,21 @@ impl Machine {
             if cost > MOST_VIRTUAL as u64 || cost > MOST_VIRTUAL.wrapping_sub(task.v) as u64 {
                 return wrong(cpu, task.pid, Kind::Range);
             }
+            let before = task.v;
             task.v += cost as i64;
             task.ran += nanoseconds;
-            task.charged += cost as u128;
+            if let Some(told) = told {
+                match task.drift_by(told, before).filter(|drift| drift.unsigned_abs() <= self.settings.drift) {
+                    Some(drift) => (task.v, task.drift) = (told.v, drift),
+                    None => return wrong(cpu, told.pid, Kind::WrongCharge),
+                }
+                self.needs.drift = self.needs.drift.max(task.drift.unsigned_abs());
+            }
+            // In 64 bits without a sign, since it is up to 2^63.
+            task.charged += task.v.wrapping_sub(before) as u64 as u128;
             least = least.min(task.v);
+        } else if let Some(told) = told {
+            return wrong(cpu, told.pid, Kind::WrongCharge);
         }
         if least != NOBODY {
             processor.floor = processor.floor.max(least);
@@ -1715,10 +1770,12 @@ impl Machine {
         Ok(())
     }
 
-    /// A processor as the event finds it: charged, with the nice value changed that the companion changes on its line.
+    /// A processor as the event finds it: charged, by the charge that the companion tells on its line, and with the
+    /// nice value changed that it changes there.
     #[inline(always)]
     fn find(&mut self, cpu: usize, time: u64) -> Judged {
-        self.charge(cpu, time)?;
+        let told = self.told.take();
+        self.charge(cpu, time, told)?;
         if self.change.is_none() {
             return Ok(());
         }
@@ -1963,7 +2020,9 @@ impl Machine {
                 self.add_task(pid, prio, cpu as u32, Place::Gone, claim.v);
             }
         }
-        self.tasks[slot as usize].idle_policy = std::mem::take(&mut self.born_idle);
+        let task = &mut self.tasks[slot as usize];
+        task.idle_policy = std::mem::take(&mut self.born_idle);
+        task.drift = 0;
         self.enqueue(slot, cpu, claim.v);
         self.note_idling(cpu, time);
         self.counts.births += 1;
@@ -1995,7 +2054,7 @@ impl Machine {
         if task.prio as u32 != prio {
             return wrong(orig, pid, Kind::WrongPrio);
         }
-        self.charge(dest, time)?;
+        self.charge(dest, time, None)?;
         let Some(claim) = claim else {
             return wrong(dest, pid, Kind::ClaimMissing);
         };
@@ -2003,6 +2062,7 @@ impl Machine {
             return wrong(dest, claim.pid, Kind::ClaimPid);
         }
         let task = &mut self.tasks[slot as usize];
+        task.drift = 0;
         let waits = task.place == Place::Wait;
         let kept = task.v as i128 - self.processors[orig].floor as i128;
         if waits != (claim.sort == Sort::At) || claim.v as i128 - self.processors[dest].floor as i128 != kept {
@@ -2030,9 +2090,11 @@ impl Machine {
 enum Verdict {
     Refused { source: &'static str, line: u64, cause: &'static str },
     Fault(u64, Fault),
-    /// The machine after the last event, and the time of that, or the start where there is none.
-    Run(Machine, u64),
-    Least(Knobs),
+    /// The machine after the last event, the time of that, or the start where there is none, and the version of the
+    /// companion.
+    Run(Machine, u64, u32),
+    /// The least settings, and the version of the companion, which says whether the drift is told among them.
+    Least(Knobs, u32),
 }
 
 /// Both texts as they are gone through, and what was found so far.
@@ -2056,7 +2118,7 @@ struct Audit {
 }
 
 impl Audit {
-    /// Reads the companion up to its first claim or change.
+    /// Reads the companion up to its first claim, change or told charge.
     fn new(companion: File, settings: Knobs) -> Audit {
         let mut companion = Companion::new(companion);
         let mut machine = Machine::new(settings);
@@ -2126,35 +2188,34 @@ impl Audit {
         }
     }
 
-    /// The claim on the line of an event, where what comes next is not on a later one.
+    /// The claim on the line of an event, where what comes next is not on a later one; the machine is told the charge
+    /// and the change before it.
     #[inline(always)]
     fn claim_on(&mut self, line: u64) -> Option<Claim> {
         if self.claim.line < line {
             self.pass_over(line);
         }
+        if self.claim.line == line && self.claim.sort == Sort::Charge {
+            self.machine.told = Some(self.claim);
+            self.claim = self.companion.next_claim();
+        }
+        if self.claim.line == line && self.claim.sort == Sort::Nice {
+            self.change();
+        }
         if self.claim.line != line {
             return None;
-        }
-        if self.claim.sort == Sort::Nice {
-            return self.change_on(line);
         }
         let claim = self.claim;
         self.claim = self.companion.next_claim();
         Some(claim)
     }
 
-    /// The change on the line of an event, which the machine is told, and the claim behind it.
+    /// The machine is told the change that comes next, which is on the line of an event.
     #[cold]
     #[inline(never)]
-    fn change_on(&mut self, line: u64) -> Option<Claim> {
+    fn change(&mut self) {
         self.machine.change = Some(self.claim);
         self.claim = self.companion.next_claim();
-        if self.claim.line != line {
-            return None;
-        }
-        let claim = self.claim;
-        self.claim = self.companion.next_claim();
-        Some(claim)
     }
 
     /// The `idle` lines up to the line of an event: one is for it, if it is the birth of that task.
@@ -2178,7 +2239,7 @@ impl Audit {
         self.judging = false;
     }
 
-    /// Claims and changes before the line of an event are on that of none.
+    /// Claims, changes and told charges before the line of an event are on that of none.
     #[cold]
     #[inline(never)]
     fn pass_over(&mut self, line: u64) {
@@ -2263,7 +2324,9 @@ impl Audit {
             Audit { late: Some(line), .. } => join(line, "StartLate"),
             Audit { stray: Some(line), .. } => join(line, "ClaimNoEvent"),
             Audit { fault: Some((line, fault)), .. } => Ok(Verdict::Fault(line, fault)),
-            Audit { machine, start, .. } => Ok(Verdict::Run(machine, last_time.max(start))),
+            Audit { machine, start, companion, .. } => {
+                Ok(Verdict::Run(machine, last_time.max(start), companion.version))
+            }
         }
     }
 }
@@ -2334,7 +2397,7 @@ fn report(verdict: Verdict) -> io::Result<i32> {
             write!(report.text, "fault line {line} cpu {cpu} pid {pid} {}", kind.words())?;
             1
         }
-        Verdict::Run(Machine { counts, tasks, .. }, _) => {
+        Verdict::Run(Machine { counts, tasks, .. }, ..) => {
             report.put(b"run\nevents ", counts.events as u128)?;
             report.put(b"\nswitches ", counts.switches as u128)?;
             report.put(b"\nmigrations ", counts.migrations as u128)?;
@@ -2348,11 +2411,14 @@ fn report(verdict: Verdict) -> io::Result<i32> {
             }
             0
         }
-        Verdict::Least(least) => {
+        Verdict::Least(least, version) => {
             report.put(b"least granularity-ns ", least.granularity as u128)?;
             report.put(b"\nleast credit-ns ", least.credit as u128)?;
             report.put(b"\nleast debit-ns ", least.debit as u128)?;
             report.put(b"\nleast slack-ns ", least.slack as u128)?;
+            if version >= 3 {
+                report.put(b"\nleast drift-ns ", least.drift as u128)?;
+            }
             0
         }
     };
@@ -2364,7 +2430,8 @@ fn report(verdict: Verdict) -> io::Result<i32> {
 // ---------------------------------------------------------------------------------------------------------------------
 // The command line.
 
-const USAGE: &str = "Usage: plain [--granularity-ns N] [--credit-ns N] [--debit-ns N] [--slack-ns N] TRACE COMPANION
+const USAGE: &str = "Usage: plain [--granularity-ns N] [--credit-ns N] [--debit-ns N] [--slack-ns N] [--drift-ns N] \
+                     TRACE COMPANION
        plain --least TRACE COMPANION
 ";
 
@@ -2378,7 +2445,7 @@ struct Request {
 
 /// What the words ask for; None where they make no sense.
 fn request_of(mut words: impl Iterator<Item = String>) -> Option<Request> {
-    let (mut granularity, mut credit, mut debit, mut slack) = (None, None, None, None);
+    let (mut granularity, mut credit, mut debit, mut slack, mut drift) = (None, None, None, None, None);
     let (mut files, mut only_files, mut least) = (Vec::new(), false, false);
     while let Some(word) = words.next() {
         if only_files || !word.starts_with('-') || word == "-" {
@@ -2405,6 +2472,7 @@ fn request_of(mut words: impl Iterator<Item = String>) -> Option<Request> {
             "--credit-ns" => &mut credit,
             "--debit-ns" => &mut debit,
             "--slack-ns" => &mut slack,
+            "--drift-ns" => &mut drift,
             _ => return None,
         };
         let value = value.parse::<u64>().ok().filter(|value| *value <= MOST_SETTING)?;
@@ -2413,7 +2481,7 @@ fn request_of(mut words: impl Iterator<Item = String>) -> Option<Request> {
         }
     }
     let [trace, companion] = <[String; 2]>::try_from(files).ok()?;
-    if least && [granularity, credit, debit, slack].iter().any(Option::is_some) {
+    if least && [granularity, credit, debit, slack, drift].iter().any(Option::is_some) {
         return None;
     }
     let settings = Knobs {
@@ -2421,6 +2489,7 @@ fn request_of(mut words: impl Iterator<Item = String>) -> Option<Request> {
         credit: credit.unwrap_or(3_000_000),
         debit: debit.unwrap_or(3_000_000),
         slack: slack.unwrap_or(100_000),
+        drift: drift.unwrap_or(0),
     };
     Some(Request { trace, companion, settings: if least { Knobs::GREATEST } else { settings }, least })
 }
@@ -2435,7 +2504,9 @@ fn main() {
     let companion = File::open(request.companion).unwrap_or_else(|_| Failure::ReadCompanion.end());
     let verdict = Audit::new(companion, request.settings).judge(trace).unwrap_or_else(|failure| failure.end());
     let verdict = match verdict {
-        Verdict::Run(machine, last_time) if request.least => Verdict::Least(machine.needs_until(last_time)),
+        Verdict::Run(machine, last_time, version) if request.least => {
+            Verdict::Least(machine.needs_until(last_time), version)
+        }
         verdict => verdict,
     };
     match report(verdict) {

@@ -2,11 +2,12 @@
 _sched_audit() {
   local word=${COMP_WORDS[COMP_CWORD]} before=${COMP_WORDS[COMP_CWORD - 1]}
   case $before in
-    --granularity-ns | --credit-ns | --debit-ns | --slack-ns) return ;;
+    --granularity-ns | --credit-ns | --debit-ns | --slack-ns | --drift-ns) return ;;
   esac
   if [[ $word == -* ]]; then
     mapfile -t COMPREPLY < <(compgen -W \
-      "--granularity-ns --credit-ns --debit-ns --slack-ns --least --explain -h --help -V --version" -- "$word")
+      "--granularity-ns --credit-ns --debit-ns --slack-ns --drift-ns --least --explain -h --help -V --version" \
+      -- "$word")
   else
     compopt -o filenames
     mapfile -t COMPREPLY < <(compgen -f -- "$word")

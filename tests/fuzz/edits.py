@@ -3,16 +3,18 @@ mean, or move a fault to where only the last tests see it; most break something.
 
 import re
 
-from recordings import MOST_PID, MOST_SETTING, OPTIONS, Input
+from recordings import DRIFT, MOST_PID, MOST_SETTING, OPTIONS, Input
 
 NUMBER = re.compile(rb"\d+")
 TIME = re.compile(rb"(\d+)\.(\d{9}|\d{6})(?=: )")
-CLAIM = re.compile(rb"(at|pass|nice) (\d{1,10}) (\d+) (-?\d+)$")
+CLAIM = re.compile(rb"(at|pass|nice|charge) (\d{1,10}) (\d+) (-?\d+)$")
 NICE = re.compile(rb"^nice (\d{1,10}) (\d+) (-?\d+)$")
+CHARGE = re.compile(rb"^charge (\d{1,10}) (\d+) (-?\d+)$")
 IDLE = re.compile(rb"^idle (\d{1,10}) (\d+)$")
 TASK = re.compile(rb"^task (\d+)(.*)$")
 BIRTH = re.compile(rb"sched_wakeup_new: .* pid=(\d+) prio=")
 VERSION = re.compile(rb"^cfs-companion ")
+SWITCH = re.compile(rb"sched_switch: .* prev_pid=(\d+) prev_prio=")
 PID = re.compile(rb"(?<= pid=)\d+|(?<=_pid=)\d+")
 
 # At each limit of a number in the two formats, and one beyond.
@@ -26,18 +28,22 @@ EVENTS = (b"sched_switch", b"sched_wakeup", b"sched_wakeup_new", b"sched_migrate
           b"sched_switch:")
 STARTS = (0, 1, 2, 3, -1, -20, -21, 19, 20, 100, 10**6, 2**62)
 PLACES = (b"run", b"wait", b"rest", b"gone")
-SORTS = (b"at", b"pass", b"nice", b"idle", b"task", b"floor")
+SORTS = (b"at", b"pass", b"nice", b"charge", b"idle", b"task", b"floor")
 NICES = (-21, -20, -5, -1, 0, 0, 1, 5, 19, 20)
-VERSIONS = (b"1", b"2", b"2", b"3", b"02", b"2 ", b"")
+VERSIONS = (b"1", b"2", b"2", b"3", b"3", b"4", b"02", b"2 ", b"")
+# In which order a line's told charge, change of a nice value and claim stand.
+TURNS = {b"charge": 0, b"nice": 1, b"at": 2, b"pass": 2}
+# How far a told charge is from a claim.
+STRAYS = (0, 0, 1, -1, 999, -999, 10**6, -10**6)
 KEYS = (b"pid=", b"prio=", b"success=1", b"")
 WORDS = ((re.compile(rb"(?<=prev_state=)[^ ]*"), STATES), (re.compile(rb"sched_[a-z_]+"), EVENTS),
          (re.compile(rb"[a-z_]+="), KEYS), (re.compile(rb"\b(run|wait|rest)\b"), PLACES),
-         (re.compile(rb"^(at|pass|nice|idle)\b"), SORTS))
+         (re.compile(rb"^(at|pass|nice|charge|idle)\b"), SORTS))
 NAMES = (b"", b"a" * 15, b"a" * 16, b" next_pid=1", b" pid=1", b" prev_pid=0 prev", b"\xff" * 15, b" ==> next_comm=",
          b"x prio=120")
 STRANGE = (b"", b"#", b"# tracer: nop", b"CPU:0 [LOST 12 EVENTS]", b"CPU:3 [LOST EVENTS]", b"CPU: [LOST EVENTS]",
-           b"cgroup", b"cgroup /a", b"cfs-companion 1", b"cfs-companion 2", b"nice 1 101 0", b"idle 0 101", b"hello",
-           b" ", b"\r", b"\0" * 20,
+           b"cgroup", b"cgroup /a", b"cfs-companion 1", b"cfs-companion 2", b"cfs-companion 3", b"nice 1 101 0",
+           b"charge 1 101 0", b"idle 0 101", b"hello", b" ", b"\r", b"\0" * 20,
            b"            t101-101     [000] d..2.   100.004000: sched_stat_runtime: comm=t101 pid=101 runtime=1 [ns]")
 
 
@@ -56,7 +62,7 @@ class Draft:
         return self.trace if rng.random() < 0.6 else self.companion
 
     def claims(self):
-        """Which lines of the companion are claims or changes of nice values, and what they say."""
+        """Which lines of the companion are claims, changes of nice values or told charges, and what they say."""
         return [(place, found) for place, found in enumerate(map(CLAIM.match, self.companion)) if found]
 
     def idles(self):
@@ -84,6 +90,24 @@ class Draft:
         place = next((place for place, line in enumerate(self.companion) if VERSION.match(line)), None)
         if place is not None:
             self.companion[place] = b"cfs-companion " + version
+
+    def raise_to(self, version):
+        """The companion's version becomes this one, or stays a later one."""
+        if not any(line[:15] == b"cfs-companion %d" % later for line in self.companion for later in range(version, 4)):
+            self.call_it(b"%d" % version)
+
+    def insert(self, turn, line, text):
+        """Puts what is said of a line of the trace where its turn is among the claims, changes and told charges."""
+        at = next((place for place, claim in self.claims()
+                   if (int(claim.group(2)), TURNS[claim.group(1)]) >= (line, turn)),
+                  max(len(self.companion) - 1, 0))
+        self.companion.insert(at, text)
+
+    def leave_out(self, option):
+        """An option isn't given any longer, where it stands in a word of its own."""
+        if option in self.options:
+            at = self.options.index(option)
+            del self.options[at:at + 2]
 
     def drop(self, goes):
         """Drops what the companion says of lines of the trace that go."""
@@ -329,12 +353,52 @@ def nice_added(rng, draft):
     line = rng.randrange(1, len(draft.trace) + 1) if draft.here is None else draft.here + 1
     events = draft.trace[line - 1:line] if rng.random() < 0.7 else draft.trace
     pids = PID.findall(rng.choice(events or draft.trace))
-    after = line + (rng.random() < 0.2)
-    at = next((place for place, claim in draft.claims() if int(claim.group(2)) >= after),
-              max(len(draft.companion) - 1, 0))
-    draft.companion.insert(at, b"nice %d %s %d" % (line, rng.choice(pids or [b"101"]), rng.choice(NICES)))
+    draft.insert(rng.choice((0, 1, 1, 1, 1, 1, 1, 3)), line,
+                 b"nice %d %s %d" % (line, rng.choice(pids or [b"101"]), rng.choice(NICES)))
     if rng.random() < 0.8:
-        draft.call_it(b"2")
+        draft.raise_to(2)
+
+
+def charge_added(rng, draft):
+    """One more told charge, mostly of the task that a switch puts back, at the value of its claim or a little beside it;
+    then the claim often says that too, and the drift is often allowed."""
+    claims = [(place, claim) for place, claim in draft.claims() if claim.group(1) == b"at"]
+    put_back = [it for it in claims if is_put_back(draft, it[1])]
+    if not claims:
+        return
+    place, claim = rng.choice(put_back if put_back and rng.random() < 0.8 else claims)
+    _, line, pid, value = claim.groups()
+    stray, what = rng.choice(STRAYS), rng.random()
+    told = int(value) + stray
+    if what < 0.7:
+        draft.companion[place] = b"at %s %s %d" % (line, pid, told)
+    elif what < 0.8:
+        pid = another_pid(rng, draft)
+    if rng.random() < 0.8:
+        draft.leave_out(DRIFT)
+        draft.options += [DRIFT, str(abs(stray) + rng.choice((0, 0, 10**6)) - (rng.random() < 0.2 and stray != 0))]
+    draft.insert(rng.choice((0, 0, 0, 0, 0, 0, 0, 3)), int(line), b"charge %s %s %d" % (line, pid, told))
+    if rng.random() < 0.9:
+        draft.raise_to(3)
+
+
+def is_put_back(draft, claim):
+    """Whether a claim is for the task that a switch puts back."""
+    line = int(claim.group(2))
+    found = SWITCH.search(draft.trace[line - 1]) if 0 < line <= len(draft.trace) else None
+    return bool(found) and found.group(1) == claim.group(3)
+
+
+def charge_changed(rng, draft):
+    """A told charge on the line before or behind it, of another task, or at another value; or gone."""
+    def turned(at, word):
+        if at == 1 and rng.random() < 0.7:
+            return another_pid(rng, draft)
+        if at == 2 and rng.random() < 0.7:
+            return b"%d" % (int(word) + rng.choice((-1000, 1000, -10**6, 10**6, 10**12, -10**12)))
+        return one_off(rng, word)
+
+    word_turned(rng, draft, CHARGE, b"charge", turned)
 
 
 def another_pid(rng, draft):
@@ -390,7 +454,7 @@ def idle_added(rng, draft):
     draft.companion.insert(behind[0] if rng.random() < 0.95 else place_in(rng, draft.companion),
                            b"idle %d %s" % (line, pid))
     if rng.random() < 0.9:
-        draft.call_it(b"2")
+        draft.raise_to(2)
 
 
 def idle_changed(rng, draft):
@@ -404,7 +468,7 @@ def idle_changed(rng, draft):
 
 
 def version_changed(rng, draft):
-    """A companion of the other version, or of one that there isn't."""
+    """A companion of another version, or of one that there isn't."""
     draft.call_it(rng.choice(VERSIONS))
 
 
@@ -439,9 +503,7 @@ def start_changed(rng, draft):
 def option_changed(rng, draft):
     """An option with another value, or one more, or one beyond its limit, in one word or in two."""
     option = rng.choice(OPTIONS)
-    if option in draft.options:
-        at = draft.options.index(option)
-        del draft.options[at:at + 2]
+    draft.leave_out(option)
     value = str(rng.choice((0, 1, 999, 1000, 99_999, 100_000, 999_999, 10**6, 3 * 10**6, 10**9, MOST_SETTING)))
     if rng.random() < 0.05:
         value = rng.choice((str(MOST_SETTING + 1), "-1", "", "+5", "00", str(2**64), "1e3"))
@@ -456,8 +518,8 @@ EDITS = {
     number_changed: 3, zeros_in_front: 1, number_from_elsewhere: 3, pid_changed: 4, time_turned: 1, later: 2,
     nanoseconds: 1,
     word_changed: 2, name_changed: 1, birth_for_a_wakeup: 1.5, claim_changed: 4, nice_added: 2, nice_changed: 2,
-    idle_added: 2, idle_changed: 2, version_changed: 0.4, idle_switched: 1, task_named_again: 0.5,
-    start_changed: 2, option_changed: 2.5,
+    charge_added: 2, charge_changed: 3, idle_added: 2, idle_changed: 2, version_changed: 0.4, idle_switched: 1,
+    task_named_again: 0.5, start_changed: 2, option_changed: 2.5,
 }
 
 

@@ -6,9 +6,11 @@ import re
 from recordings import MOST_SETTING, OPTIONS, options_of
 
 LEAST = "--least"
-TOLD = re.compile(rb"".join(rb"least %s (\d+)\n" % option[2:].encode() for option in OPTIONS))
+LINES = [rb"least %s (\d+)\n" % option[2:].encode() for option in OPTIONS]
+# One line for each setting; for the last one, the drift, only of a companion that could tell charges.
+TOLD = re.compile(rb"%s(?:%s)?" % (rb"".join(LINES[:-1]), LINES[-1]))
 # The fault of a recording that gets one less than it needs, setting by setting.
-KINDS = ("NotLeast", "WakeBounds", "ForkBounds", "IdleTooLong")
+KINDS = ("NotLeast", "WakeBounds", "ForkBounds", "IdleTooLong", "WrongCharge")
 
 
 def is_asked(number):
@@ -19,7 +21,7 @@ def is_asked(number):
 def at_least(answer, told, report, below):
     """What is wrong with the program's verdicts at the least settings that it told, and one below; the report of a run may
     be known.  `answer` gives the program's answer with options, and `below` counts which settings were above 0."""
-    least = [int(value) for value in told.groups()]
+    least = [int(value or 0) for value in told.groups()]
     words = options_of(least)
     given = answer(words)
     if given[0] != 0 or given[1].split(b"\n")[0] != b"run" or report not in (None, given[1]):

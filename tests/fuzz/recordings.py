@@ -1,7 +1,7 @@
 """Random runs of the scheduler: a machine is led by the rules of docs/RULES.md, one event after another, and each event
 is written as a line of a trace, with its claim in a companion; a companion of version 2 tells changes of nice values
-too, and which tasks are of the idle policy.  So what the report has to say of the run is known, and which settings it
-needs."""
+too, and which tasks are of the idle policy, and one of version 3 told charges besides.  So what the report has to say
+of the run is known, and which settings it needs."""
 
 from typing import NamedTuple
 
@@ -17,8 +17,9 @@ MOST_VIRTUAL = 2**62
 LAST_TIME = 2**32 * 10**9 - 1
 # No floor rises by more than this within a recording.
 MARGIN = 10**18
-OPTIONS = ("--granularity-ns", "--credit-ns", "--debit-ns", "--slack-ns")
-STANDARD = (1_000_000, 3_000_000, 3_000_000, 100_000)
+DRIFT = "--drift-ns"
+OPTIONS = ("--granularity-ns", "--credit-ns", "--debit-ns", "--slack-ns", DRIFT)
+STANDARD = (1_000_000, 3_000_000, 3_000_000, 100_000, 0)
 
 NAMES = (b"t101", b"bash", b"Web Content", b"kworker/u16:2", b"", b" ", b"a prev_pid=1", b"x pid=7 prio=12",
          b"==> next_comm=a", b"fifteen bytes !", b"\xff\xfe\x00\r", b"sched_switch: ", b"#", b"-1     [000]")
@@ -46,11 +47,12 @@ def options_of(settings):
 
 
 class Task:
-    """A task, where it stands, and what it did; the place of one that has ended is None."""
+    """A task, where it stands, and what it did; the place of one that has ended is None, and the drift is that at its
+    processor."""
 
     def __init__(self, pid, nice, cpu, place, virtual, idle):
         self.pid, self.nice, self.cpu, self.place, self.virtual, self.idle = pid, nice, cpu, place, virtual, idle
-        self.ran = self.charged = self.picks = 0
+        self.ran = self.charged = self.picks = self.drift = 0
 
     @property
     def prio(self):
@@ -73,13 +75,16 @@ class Machine:
 
     def __init__(self, rng):
         self.rng = rng
+        self.version = rng.choice((1, 2, 3, 3))
         self.settings = STANDARD if rng.random() < 0.6 else tuple(
             rng.choice((0, 1, 1000, standard, 10**9, MOST_SETTING)) for standard in STANDARD)
-        self.granularity, self.credit, self.debit, self.slack = self.settings
+        if self.version == 3 and rng.random() < 0.7:
+            self.settings = self.settings[:-1] + (rng.choice((1, 1000, 10**5, 10**6, 10**7, MOST_SETTING)),)
+        self.granularity, self.credit, self.debit, self.slack, self.most_drift = self.settings
         self.needs = dict.fromkeys(OPTIONS, 0)
-        self.version = rng.choice((1, 2))
-        self.changing = rng.choice((0, 0.05, 0.4)) if self.version == 2 else 0
-        self.idling = rng.choice((0, 0.1, 0.5)) if self.version == 2 else 0
+        self.changing = rng.choice((0, 0.05, 0.4)) if self.version > 1 else 0
+        self.idling = rng.choice((0, 0.1, 0.5)) if self.version > 1 else 0
+        self.telling = rng.choice((0, 0.3, 0.9, 1)) if self.version > 2 else 0
         self.unit = rng.choice((1, 1000))
         seconds = rng.choice((0, 100, 1403, 2**32 - 10**8, 2**32 - 1))
         self.start = self.time = seconds * 10**9 + rng.randrange(10**6) * 1000
@@ -87,7 +92,7 @@ class Machine:
         base = rng.choice((0, 0, 0, 10**9, -10**9, 2**40, -2**61, -MOST_VIRTUAL, MOST_VIRTUAL - self.spread + 1))
         count = rng.choice((1, 1, 1, 2, 2, 3, 4, rng.randrange(5, 17), 64))
         self.processors = [Processor(number, base + rng.randrange(self.spread), self.start) for number in range(count)]
-        self.tasks, self.idles, self.claims, self.lines, self.changed = {}, [], [], [], None
+        self.tasks, self.idles, self.claims, self.lines, self.changed, self.told = {}, [], [], [], None, None
         self.counts = dict.fromkeys((b"events", b"switches", b"migrations", b"births", b"deaths"), 0)
         self.settle(base)
         self.beginning = list(self.companion())
@@ -154,26 +159,41 @@ class Machine:
         return (self.time - processor.mark) * 1024 // running.weight if running else 0
 
     def charge(self, *processors):
-        """Who runs is charged up to now, and the floors follow the least of the queues; False where the range forbids
-        it."""
+        """Who runs is charged up to now, at the first of these processors by a told charge where there is one, and the
+        floors follow the least of the queues; False where the range forbids it."""
         for processor in processors:
             running = self.running(processor)
             if running and running.virtual + self.cost(processor) > MOST_VIRTUAL:
                 return False
         for processor in processors:
-            self.charge_one(processor)
+            self.charge_one(processor, tells=processor is processors[0])
         return True
 
-    def charge_one(self, processor):
+    def charge_one(self, processor, tells):
         running, cost, passed = self.running(processor), self.cost(processor), self.time - processor.mark
         processor.mark = self.time
         if running:
+            if tells and self.rng.random() < self.telling:
+                cost = self.tell(running, cost)
             running.virtual += cost
             running.charged += cost
             running.ran += passed
         queued = self.who(b"wait", processor) + ([running] if running else [])
         if queued:
             processor.floor = max(processor.floor, min(task.virtual for task in queued))
+
+    def tell(self, task, cost):
+        """A told charge in place of an exact one: with it the task drifts to somewhere within the setting, often to a
+        bound, or on by nothing; but no virtual runtime falls, or leaves the range."""
+        low, high = max(-self.most_drift, task.drift - cost), self.most_drift
+        high = min(high, task.drift + MOST_VIRTUAL - task.virtual - cost)
+        near = task.drift + self.rng.choice((-1, 1)) * self.rng.choice((1, 1000, self.rng.randrange(1, 10**5)))
+        drift = self.rng.choice((low, high, task.drift, near, near, -task.drift, self.rng.randint(low, high)))
+        drift = min(max(drift, low), high)
+        cost += drift - task.drift
+        task.drift, self.told = drift, task
+        self.need(DRIFT, abs(drift))
+        return cost
 
     def changes(self, processor):
         """Now and then the nice value of a task is another from this event on, whoever stands there."""
@@ -190,7 +210,7 @@ class Machine:
         return b"%d.%09d" % divmod(time, 10**9) if unit == 1 else b"%d.%06d" % (time // 10**9, time % 10**9 // 1000)
 
     def line(self, cpu, text, claim=None):
-        """An event, behind other lines now and then, with its change of a nice value and its claim."""
+        """An event, behind other lines now and then, with its told charge, its change of a nice value and its claim."""
         rng = self.rng
         while rng.random() < 0.06:
             self.lines.append(rng.choice((*OTHERS, self.head(cpu) + b"sched_stat_runtime: comm=a pid=1")))
@@ -199,6 +219,9 @@ class Machine:
         for processor in self.processors:
             if processor.since is not None:
                 self.need("--slack-ns", self.time - processor.since)
+        if self.told:
+            self.claims.append(b"charge %d %d %d" % (len(self.lines), self.told.pid, self.told.virtual))
+            self.told = None
         if self.changed:
             self.claims.append(b"nice %d %d %d" % (len(self.lines), self.changed.pid, self.changed.nice))
             self.changed = None
@@ -293,7 +316,7 @@ class Machine:
             return False
         self.changes(processor)
         task = self.tasks.setdefault(pid, Task(pid, 0, 0, None, 0, False))
-        task.nice, task.idle, task.cpu = self.nice(), self.idle(), processor.number
+        task.nice, task.idle, task.cpu, task.drift = self.nice(), self.idle(), processor.number, 0
         self.counts[b"births"] += 1
         self.placed(task, processor.floor, min(processor.floor + self.debit, MOST_VIRTUAL), b"sched_wakeup_new")
         self.need("--debit-ns", task.virtual - processor.floor)
@@ -311,7 +334,7 @@ class Machine:
             return False
         self.changes(origin)
         task.virtual += destination.floor - origin.floor
-        task.cpu = destination.number
+        task.cpu, task.drift = destination.number, 0
         self.counts[b"migrations"] += 1
         self.line(self.rng.choice(self.processors).number, b"sched_migrate_task: %s orig_cpu=%d dest_cpu=%d" % (
             self.named(task), origin.number, destination.number), (b"at" if task.place == b"wait" else b"pass", task))
@@ -338,9 +361,10 @@ class Machine:
             yield b"task %d ran %d charged %d picks %d\n" % (task.pid, task.ran, task.charged, task.picks)
 
     def least(self):
-        """What has to be told of the least settings."""
+        """What has to be told of the least settings: of the drift where the companion could tell charges."""
         for option, value in self.needs.items():
-            yield b"least %s %d\n" % (option[2:].encode(), value)
+            if option != DRIFT or self.version > 2:
+                yield b"least %s %d\n" % (option[2:].encode(), value)
 
 
 def recording(rng):

@@ -12,7 +12,8 @@ NO_MEMORY = 4, b"", b"sched_audit: out of memory\n"
 
 # One processor from 100 s on: task 101 runs, and 102 waits.
 ONE_PROCESSOR = b"cpus 1\nstart 100.000000\nfloor 0 0\n"
-BEGINNING, SECOND_BEGINNING = b"cfs-companion 1\n" + ONE_PROCESSOR, b"cfs-companion 2\n" + ONE_PROCESSOR
+BEGINNING, SECOND_BEGINNING, THIRD_BEGINNING = (
+    b"cfs-companion %d\n" % version + ONE_PROCESSOR for version in (1, 2, 3))
 COMPANION = BEGINNING + b"task 101 0 0 run 0\ntask 102 0 0 wait 0\n"
 
 

@@ -16,7 +16,18 @@ IsOwnReplay knobs r replay = IsOwnPageOf knobs r replay.stream.cpu replay
 
 -- what a name that is no crew's ledger has in their place; `crew` picks its own
 abbrev pub no_record : RecordView
-no_record = record { cpus = 0; start = 0; floors = []; tasks = []; events = []; claims = []; nices = []; idles = [] }
+no_record = record {
+  cpus = 0;
+  start = 0;
+  floors = [];
+  tasks = [];
+  events = [];
+  claims = [];
+  nices = [];
+  charges =
+      [];
+  idles = [];
+}
 
 abbrev pub no_knobs : KnobsView
-no_knobs = record { granularity = 0; credit = 0; debit = 0; slack = 0 }
+no_knobs = record { granularity = 0; credit = 0; debit = 0; slack = 0; drift = 0 }

@@ -45,6 +45,7 @@ fn each_option_is_its_own_setting(rt: HostRuntime) {
             Setting::Slack,
             1_000_000_000_000,
         ),
+        ("--drift-ns=7", Setting::Drift, 7),
     ] {
         let given = knobs_with(setting, value);
         for words in [
@@ -69,7 +70,7 @@ fn settings_have_defaults(rt: HostRuntime) {
 }
 
 /// Command lines that ask for the least settings and name a setting.
-static LEAST_BESIDE_A_SETTING: [&[&str]; 12] = [
+static LEAST_BESIDE_A_SETTING: [&[&str]; 15] = [
     &[
         "sched_audit",
         "a",
@@ -100,6 +101,9 @@ static LEAST_BESIDE_A_SETTING: [&[&str]; 12] = [
     &["sched_audit", "a", "b", "--least", "--slack-ns=1"],
     &["sched_audit", "a", "b", "--slack-ns=1", "--least"],
     &["sched_audit", "--slack-ns=1", "a", "--least", "b"],
+    &["sched_audit", "a", "b", "--least", "--drift-ns=0"],
+    &["sched_audit", "a", "b", "--drift-ns=0", "--least"],
+    &["sched_audit", "--drift-ns=0", "a", "--least", "b"],
 ];
 
 #[test]
@@ -154,6 +158,10 @@ fn other_words_are_refused(rt: HostRuntime) {
         ),
         (
             ["sched_audit", "a", "b", "--slack-ns=1000000000001"].as_slice(),
+            ErrorKind::ValueValidation,
+        ),
+        (
+            ["sched_audit", "a", "b", "--drift-ns=1000000000001"].as_slice(),
             ErrorKind::ValueValidation,
         ),
         (

@@ -1,5 +1,5 @@
 //! Tests of what no clause says of a whole audit: the words of refusals, reports as they are printed, ends that fail,
-//! refused traces by both calls, and command lines.
+//! least settings, refused traces by both calls, and command lines.
 #![tactic(auto)]
 
 #[cfg(test)]
@@ -10,6 +10,8 @@ mod audits;
 mod command_lines;
 #[cfg(test)]
 mod ends;
+#[cfg(test)]
+mod least_settings;
 #[cfg(test)]
 mod refusals;
 #[cfg(test)]

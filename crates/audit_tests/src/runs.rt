@@ -1,9 +1,9 @@
 //! Runs between ends of these tests, by one function that promises nothing: what the clauses of `run` say stands before
 //! no test, which is then proved in seconds.
 
-use crate::ends::{Narrow, Pieces, Room};
+use crate::ends::{Narrow, Pieces, Room, ample};
 use cfs_model::Knobs;
-use sched_audit::{Fault, FeedOf, OpenGate, SinkOf, Status, run};
+use sched_audit::{Fault, FeedOf, OpenGate, SinkOf, Status, run, run_least};
 use std::alloc::Global;
 use std::process::Abort;
 use std::random::RandomSource;
@@ -47,4 +47,24 @@ pub fn wants_run<R: Abort + RandomSource + Threads + Wait + Sync>(
     let (status, taken, calls) = ran(rt, alloc, trace, companion, room);
     assert_eq!(*rt; (status, taken.as_slice()), (answer, written));
     calls
+}
+
+/// What is answered and written of the least settings of two texts.
+pub fn least_ran<R: RandomSource + Threads + Wait + Sync>(
+    rt: &R,
+    alloc: Global,
+    trace: Pieces<'_>,
+    companion: Pieces<'_>,
+) -> (Result<Status, Fault>, Vec<u8>) {
+    let (mut trace, mut companion) = (trace, companion);
+    let mut out = Narrow::new(alloc, ample());
+    let status = run_least(
+        rt,
+        alloc,
+        &mut FeedOf::new(&mut trace),
+        &mut FeedOf::new(&mut companion),
+        &OpenGate,
+        &mut SinkOf::new(&mut out),
+    );
+    (status, out.taken)
 }

@@ -2,7 +2,7 @@
 use Rattle.std.proofs.Common.{ℕ, ◌≤◌, [], ◌∷◌, ◌++◌, arith}
 use Rattle.cfs_model.specs.Knobs.{KnobsView, AreInRange, value_at}
 use Rattle.cfs_model.specs.Least.{AtMost, greatest_settings}
-use Rattle.cfs_model.specs.declared.setting.Setting.TheVariants.{Granularity, Credit, Debit, Slack}
+use Rattle.cfs_model.specs.declared.setting.Setting.TheVariants.{Granularity, Credit, Debit, Slack, Drift}
 use Rattle.cfs_model.specs.Laws.{GreatestTellBadAtAll}
 use Rattle.cfs_model.proofs.MoreGenerous.{run_more}
 
@@ -11,10 +11,11 @@ within_greatest knobs range Granularity = range.0
 within_greatest knobs range Credit = range.1.0
 within_greatest knobs range Debit = range.1.1.0
 within_greatest knobs range Slack = range.1.1.1.0
+within_greatest knobs range Drift = range.1.1.1.1.0
 
 -- the greatest settings bound the range
 pub at_most_greatest : (knobs : KnobsView) → AtMost knobs greatest_settings → AreInRange knobs
-at_most_greatest knobs most = (most Granularity, (most Credit, (most Debit, (most Slack, tt))))
+at_most_greatest knobs most = (most Granularity, (most Credit, (most Debit, (most Slack, (most Drift, tt)))))
 
 at_most_itself : (n : ℕ) → n ≤ n
 at_most_itself n = omega arith

@@ -4,7 +4,7 @@ use Rattle.std.proofs.Common.{◌≡◌, ℕ, zero, suc, Some, None, ℤ, pos, �
 use Rattle.std.proofs.Common.{ap, ◌∙◌, subst, arith, lit≤}
 use Rattle.std.proofs.lemmas.Int.{ints}
 use Rattle.cfs_model.specs.Machine.{Machine, Stands, put, put_pair, with_floor, with_task, without_task, with_runtime}
-use Rattle.cfs_model.specs.Machine.{with_nice, without_values, with_policy}
+use Rattle.cfs_model.specs.Machine.{with_nice, without_values, with_policy, with_drift}
 use Rattle.cfs_model.specs.Claimed.{Claimed}
 use Rattle.cfs_model.specs.Lifted.{charged, IsLeast, IsLifted}
 use Rattle.cfs_model.specs.Step.{IsSwitch, IsBirth, IsStep}
@@ -19,6 +19,7 @@ use Rattle.cfs_model.proofs.StepOrder.{gone_same}
 use Rattle.cfs_model.proofs.OneNext.{one_lifted, one_next}
 use Rattle.cfs_model.proofs.StartOrder.{start_in_order}
 use Rattle.cfs_model.proofs.Range.{lifted_range, change_range}
+use Rattle.cfs_model.proofs.ToldCharge.{untold_is}
 use Rattle.cfs_model.proofs.Worked.{of_one, below_at, can_charge_one, can_charge_none}
 use Rattle.cfs_model.specs.declared.act.Act.TheVariants.{Switch, Born}
 use Rattle.cfs_model.specs.declared.act.Way.{Way}
@@ -53,6 +54,7 @@ first_event way = record {
   };
   claim = None;
   nice = None;
+  charge = None;
   policy = Normal;
 }
 
@@ -74,12 +76,14 @@ charged_least = record {
   ];
 }
 
-first_lift : IsLifted 100001000000 (0 ∷ []) birth_start first_lifted
+first_lift : IsLifted 0 100001000000 None (0 ∷ []) birth_start first_lifted
 first_lift = (
   first_lifted,
   record {
     can_charge = can_charge_one birth_start 0 100001000000 101 (pos 0) (pos 0)
         (λ q h. (of_one the_task Run 0 q h).0) refl refl (lit≤ tt) (omega (arith, ints));
+    told = charged birth_start 0 100001000000;
+    charges = refl;
     floor = pos 1000000;
     raised = inr (pos 1000000, charged_least, refl);
     result = refl;
@@ -105,7 +109,7 @@ first_step =
       is_reniced = refl;
       changes = changes;
       in_range = change_range standard first_lifted (first_event Ends).entry.act None Normal first_state changes tt
-          (lifted_range 100001000000 (0 ∷ []) birth_start first_lifted first_lift
+          (lifted_range 0 100001000000 None (0 ∷ []) birth_start first_lifted first_lift tt
           (start_in_order start_time (pos 0 ∷ pos 0 ∷ []) (the_task ∷ []) start_is).in_range);
     }
 
@@ -116,6 +120,7 @@ second_event w = record {
   claim = Some
       (at_claim 2 101 w);
   nice = None;
+  charge = None;
   policy = Normal;
 }
 
@@ -124,7 +129,9 @@ second_lifted = with_floor (charged first_state 1 100002000000) 1 (pos 0)
 
 abbrev second_state : ℤ → Machine
 second_state w =
-    with_policy (with_nice (with_runtime (with_task second_lifted Wait 1 101) 101 w) 101 (pos 0)) 101 Normal
+    with_drift
+    (with_policy (with_nice (with_runtime (with_task second_lifted Wait 1 101) 101 w) 101 (pos 0)) 101 Normal) 101
+    (pos 0)
 
 -- 101 stood at the first processor alone, so it stands nowhere now
 was_alone : (r : Place) (d : ℕ) → Stands first_lifted r d 101 → (r ≡ Run) × (d ≡ 0)
@@ -143,12 +150,14 @@ nowhere r d h = (ended_is_gone.cases r d 101 h).0 refl
 nobody_runs : (q : ℕ) → ¬ Stands second_lifted Run 1 q
 nobody_runs q h = let e = (of_one the_task Run 1 q (ended_is_gone.cases Run 1 q h).1).1 in absurd (omega arith)
 
-second_lift : IsLifted 100002000000 (1 ∷ []) first_state second_lifted
+second_lift : IsLifted 0 100002000000 None (1 ∷ []) first_state second_lifted
 unfolding put
 second_lift = (
   second_lifted,
   record {
     can_charge = can_charge_none first_state 1 100002000000 nobody_runs;
+    told = charged first_state 1 100002000000;
+    charges = refl;
     floor = pos 0;
     raised = inl ((λ q h. elim h [ inl x ↦ nobody_runs q x | inr x ↦ nobody_waits 1 q x ]), refl);
     result = refl;
@@ -176,7 +185,7 @@ second_step w low high =
       in_range = change_range standard second_lifted (second_event w).entry.act (second_event w).claim Normal
           (second_state w) changes
           (omega (arith, ints), omega (arith, ints))
-          (lifted_range 100002000000 (1 ∷ []) first_state second_lifted second_lift first_step.in_range);
+          (lifted_range 0 100002000000 None (1 ∷ []) first_state second_lifted second_lift tt first_step.in_range);
     }
 
 -- nobody waits before the birth, so no slack is used
@@ -195,7 +204,7 @@ unfolding put put_pair
 asleep w between after s t =
     let rests : Stands between Rest 0 101 = ap (λ (m : Machine). m.resting 0 101) s.changes.result in
     t.changes.nowhere Rest 0 (ap (λ (m : Machine). m.resting 0 101) (t.is_reniced ∙ t.is_lifted.2
-    ∙ t.is_lifted.1.result) ∙ rests)
+    ∙ untold_is 0 100002000000 1 between t.is_lifted.0 t.is_lifted.1) ∙ rests)
 
 -- and a birth after the end is placed from the floor to the debit above it
 placed_at : (w : ℤ) (between after : Machine) → IsStep standard birth_start (first_event Ends) between
@@ -205,7 +214,7 @@ placed_at w between after s t =
     let same = one_next standard birth_start (first_event Ends) between first_state s first_step in
     let u : IsStep standard first_state (second_event w) after = subst
     (λ m. IsStep standard m (second_event w) after) same t in
-    let lift = u.is_reniced ∙ one_lifted 100002000000 (1 ∷ []) first_state u.lifted second_lifted u.is_lifted
+    let lift = u.is_reniced ∙ one_lifted 0 0 100002000000 None (1 ∷ []) first_state u.lifted second_lifted u.is_lifted
     second_lift in
     let born : IsBirth standard second_lifted 1 101 (pos 0) (second_event w).claim Normal after = subst
     (λ m. IsBirth standard m 1 101 (pos 0) (second_event w).claim Normal after) lift u.changes in

@@ -4,7 +4,7 @@ use Rattle.std.proofs.Common.{◌≡◌, ℕ, Some, None, pos}
 use Rattle.std.proofs.Common.{inl, inr, [], ◌∷◌, refl, sym, arith, lit<, lit≤}
 use Rattle.std.proofs.lemmas.Int.{ints}
 use Rattle.cfs_model.specs.Machine.{Machine, Stands, AreValuesInRange, put, with_floor, with_task}
-use Rattle.cfs_model.specs.Machine.{without_task, with_runtime, with_nice, without_values, with_policy}
+use Rattle.cfs_model.specs.Machine.{without_task, with_runtime, with_nice, without_values, with_policy, with_drift}
 use Rattle.cfs_model.specs.Claimed.{Claimed}
 use Rattle.cfs_model.specs.Lifted.{charged, CanCharge, IsLeast, IsLifted}
 use Rattle.cfs_model.specs.Step.{IsSwitch, IsBirth, IsStep}
@@ -66,6 +66,7 @@ module _ (was : Policy) where
     entry = record { line = 1; time = start_time; act = Switch 0 101 (pos 0) Ends 0 (pos 0) };
     claim = None;
     nice = None;
+    charge = None;
     policy = Normal;
   }
 
@@ -87,10 +88,17 @@ module _ (was : Policy) where
     ];
   }
 
-  first_lift : IsLifted start_time (0 ∷ []) (rebirth_start was) first_lifted
+  first_lift : IsLifted 0 start_time None (0 ∷ []) (rebirth_start was) first_lifted
   first_lift = (
     first_lifted,
-    record { can_charge = free was; floor = pos 0; raised = inr (pos 0, first_least, refl); result = refl },
+    record {
+      can_charge = free was;
+      told = charged (rebirth_start was) 0 start_time;
+      charges = refl;
+      floor = pos 0;
+      raised = inr (pos 0, first_least, refl);
+      result = refl;
+    },
     refl,
   )
 
@@ -112,7 +120,7 @@ module _ (was : Policy) where
         is_reniced = refl;
         changes = changes;
         in_range = change_range standard first_lifted first_event.entry.act None Normal first_state changes tt
-            (lifted_range start_time (0 ∷ []) (rebirth_start was) first_lifted first_lift (start_range was));
+            (lifted_range 0 start_time None (0 ∷ []) (rebirth_start was) first_lifted first_lift tt (start_range was));
       }
 
   -- 101 stood at the processor alone, so it stands nowhere now
@@ -142,12 +150,14 @@ module _ (was : Policy) where
   pub nobody_runs : (d q : ℕ) → ¬ Stands second_lifted Run d q
   nobody_runs d q h = let x = gone.cases Run d q h in x.0 (sym (runs_one was d q x.1))
 
-  second_lift : IsLifted start_time (0 ∷ []) first_state second_lifted
+  second_lift : IsLifted 0 start_time None (0 ∷ []) first_state second_lifted
   unfolding put
   second_lift = (
     second_lifted,
     record {
       can_charge = can_charge_none first_state 0 start_time (nobody_runs 0);
+      told = charged first_state 0 start_time;
+      charges = refl;
       floor = pos 0;
       raised = inl ((λ q h. elim h [ inl x ↦ nobody_runs 0 q x | inr x ↦ nobody_waits was 0 q x ]), refl);
       result = refl;
@@ -161,12 +171,16 @@ module _ (was : Policy) where
       entry = record { line = 2; time = start_time; act = Born 0 101 (pos 5) };
       claim = Some (at_claim 2 101 (pos 0));
       nice = None;
+      charge = None;
       policy = now;
     }
 
     abbrev pub second_state : Machine
     second_state =
-        with_policy (with_nice (with_runtime (with_task second_lifted Wait 0 101) 101 (pos 0)) 101 (pos 5)) 101 now
+        with_drift
+        (with_policy (with_nice (with_runtime (with_task second_lifted Wait 0 101) 101 (pos 0)) 101 (pos 5)) 101 now)
+        101
+        (pos 0)
 
     pub second_step : IsStep standard first_state second_event second_state
     unfolding put
@@ -187,7 +201,7 @@ module _ (was : Policy) where
           changes = changes;
           in_range = change_range standard second_lifted second_event.entry.act second_event.claim now second_state
               changes (omega (arith, ints), omega (arith, ints))
-              (lifted_range start_time (0 ∷ []) first_state second_lifted second_lift first_step.in_range);
+              (lifted_range 0 start_time None (0 ∷ []) first_state second_lifted second_lift tt first_step.in_range);
         }
 
     -- 101 alone waits, and nobody runs

@@ -1,6 +1,7 @@
 -- No floor is lowered: a lift takes a maximum with the floor itself, and neither a change of a nice value nor an
 -- event's own change names a floor.
 use Rattle.std.proofs.Common.{◌≡◌, ◌≢◌, ℕ, zero, suc, true, false, ℤ, ◌≤ℤ◌, ◌⊎◌, inl, inr, List, [], ◌∷◌, Option}
+use Rattle.std.proofs.Common.{None}
 use Rattle.std.proofs.Common.{refl, sym, ap, ◌∙◌, subst, arith}
 use Rattle.std.proofs.lemmas.Int.{ints, clamps}
 use Rattle.std.specs.Int.{int_max}
@@ -13,10 +14,12 @@ use Rattle.cfs_model.specs.Reniced.{home_of}
 use Rattle.cfs_model.specs.Step.{after_prev, after_next, Changes, IsStep}
 use Rattle.cfs_model.proofs.Moves.{put-same, put-other, same_or_not}
 use Rattle.cfs_model.proofs.Renice.{reniced_is}
+use Rattle.cfs_model.proofs.ToldCharge.{told_is}
 use Rattle.cfs_model.specs.declared.act.Act.{Act}
 use Rattle.cfs_model.specs.declared.act.Act.TheVariants.{Switch, Wake, Born, Shift}
 use Rattle.cfs_model.specs.declared.act.Way.{Way}
 use Rattle.cfs_model.specs.declared.act.Way.TheVariants.{Stays, Sleeps, Ends}
+use Rattle.cfs_model.specs.declared.charge_line.ChargeLine.{ChargeLine}
 use Rattle.cfs_model.specs.declared.claim.Claim.{Claim}
 use Rattle.cfs_model.specs.declared.task.Place.{Place}
 use Rattle.cfs_model.specs.declared.task.Place.TheVariants.{Run, Wait, Rest}
@@ -35,22 +38,27 @@ raised_above : (m : Machine) (cpu : ℕ) (f : ℤ) → IsRaised m cpu f → m.fl
 raised_above m cpu f (inl a) = same_above (m.floor cpu) f a.1
 raised_above m cpu f (inr a) = subst (λ x. m.floor cpu ≤ℤ x) (sym a.2) (above_self (m.floor cpu) a.0)
 
-lifted_at_above : (time at : ℕ) (m after : Machine) → IsLiftedAt time at m after → (cpu : ℕ)
-    → m.floor cpu ≤ℤ after.floor cpu
-lifted_at_above time at m after l cpu = subst (λ (x : Machine). m.floor cpu ≤ℤ x.floor cpu) (sym l.result)
-    (go (same_or_not cpu at))
+lifted_at_above : (bound time : ℕ) (charge : Option ChargeLine) (at : ℕ) (m after : Machine)
+    → IsLiftedAt bound time charge at m after → (cpu : ℕ) → m.floor cpu ≤ℤ after.floor cpu
+lifted_at_above bound time charge at m after l cpu =
+    subst (λ (f : ℕ → ℤ). f cpu ≤ℤ after.floor cpu)
+    (ap (λ (x : Machine). x.floor) (told_is bound charge at m (charged m at time) l.told l.charges))
+    (subst (λ (x : Machine). l.told.floor cpu ≤ℤ x.floor cpu) (sym l.result) (go (same_or_not cpu at)))
   where
-    go : (cpu ≡ at) ⊎ (cpu ≢ at) → m.floor cpu ≤ℤ put m.floor at l.floor cpu
-    go (inl e) = subst (λ c. m.floor c ≤ℤ put m.floor at l.floor c) (sym e) (subst (λ x. m.floor at ≤ℤ x)
-        (sym (put-same m.floor at l.floor)) (raised_above (charged m at time) at l.floor l.raised))
-    go (inr ne) = same_above (m.floor cpu) (put m.floor at l.floor cpu) (put-other m.floor at l.floor cpu ne)
+    go : (cpu ≡ at) ⊎ (cpu ≢ at) → l.told.floor cpu ≤ℤ put l.told.floor at l.floor cpu
+    go (inl e) = subst (λ c. l.told.floor c ≤ℤ put l.told.floor at l.floor c) (sym e)
+        (subst (λ x. l.told.floor at ≤ℤ x) (sym (put-same l.told.floor at l.floor))
+        (raised_above l.told at l.floor l.raised))
+    go (inr ne) = same_above (l.told.floor cpu) (put l.told.floor at l.floor cpu)
+        (put-other l.told.floor at l.floor cpu ne)
 
-lifted_above : (time : ℕ) (cpus : List ℕ) (m after : Machine) → IsLifted time cpus m after → (cpu : ℕ)
-    → m.floor cpu ≤ℤ after.floor cpu
-lifted_above time [] m after l cpu = same_above (m.floor cpu) (after.floor cpu) (ap (λ (x : Machine). x.floor cpu) l)
-lifted_above time (c ∷ cpus) m after l cpu =
-    ≤ℤ_trans (m.floor cpu) (l.0.floor cpu) (after.floor cpu) (lifted_at_above time c m l.0 l.1 cpu)
-    (lifted_above time cpus l.0 after l.2 cpu)
+lifted_above : (bound time : ℕ) (charge : Option ChargeLine) (cpus : List ℕ) (m after : Machine)
+    → IsLifted bound time charge cpus m after → (cpu : ℕ) → m.floor cpu ≤ℤ after.floor cpu
+lifted_above bound time charge [] m after l cpu =
+    same_above (m.floor cpu) (after.floor cpu) (ap (λ (x : Machine). x.floor cpu) l)
+lifted_above bound time charge (c ∷ cpus) m after l cpu =
+    ≤ℤ_trans (m.floor cpu) (l.0.floor cpu) (after.floor cpu) (lifted_at_above bound time charge c m l.0 l.1 cpu)
+    (lifted_above bound time None cpus l.0 after l.2 cpu)
 
 pub floor-with_pairs : (m : Machine) (place : Place) (s : Pairs) → (with_pairs m place s).floor ≡ m.floor
 floor-with_pairs m Run s = refl
@@ -90,4 +98,4 @@ floors_rise knobs before event after s cpu =
     (same_floors knobs s.found event.entry.act event.claim event.policy after s.changes
     ∙ ap (λ (m : Machine). m.floor) (reniced_is (home_of event.entry.act) event.nice s.lifted s.found
     s.is_reniced)))
-    (lifted_above event.entry.time (touched event.entry.act) before s.lifted s.is_lifted cpu)
+    (lifted_above knobs.drift event.entry.time event.charge (touched event.entry.act) before s.lifted s.is_lifted cpu)

@@ -56,14 +56,17 @@ first_event = record {
   claim = Some
       (at_claim 1 102 (pos 0));
   nice = None;
+  charge = None;
   policy = Normal;
 }
 
-first_lift : IsLifted 100001000000 (0 ∷ []) idle_start first_lifted
+first_lift : IsLifted 0 100001000000 None (0 ∷ []) idle_start first_lifted
 first_lift = (
   first_lifted,
   record {
     can_charge = can_charge_none idle_start 0 100001000000 (nobody_runs 0);
+    told = charged idle_start 0 100001000000;
+    charges = refl;
     floor = pos 0;
     raised = inl ((λ q h. elim h [ inl x ↦ nobody_runs 0 q x | inr x ↦ nobody_waits 0 q x ]), refl);
     result = refl;
@@ -95,7 +98,7 @@ first_step = record {
   in_range = change_range standard first_lifted first_event.entry.act first_event.claim Normal first_state
       (inr first_change)
       (omega (arith, ints), omega (arith, ints))
-      (lifted_range 100001000000 (0 ∷ []) idle_start first_lifted first_lift start_range);
+      (lifted_range 0 100001000000 None (0 ∷ []) idle_start first_lifted first_lift tt start_range);
 }
 
 -- 102 alone waits from then on
@@ -133,15 +136,18 @@ second_event = record {
   entry = record { line = 2; time = 100001050000; act = Wake 0 102 (pos 0) };
   claim = None;
   nice = None;
+  charge = None;
   policy = Normal;
 }
 
-second_lift : IsLifted 100001050000 (0 ∷ []) first_state second_state
+second_lift : IsLifted 0 100001050000 None (0 ∷ []) first_state second_state
 unfolding put
 second_lift = (
   second_state,
   record {
     can_charge = can_charge_none first_state 0 100001050000 (nobody_runs 0);
+    told = charged first_state 0 100001050000;
+    charges = refl;
     floor = pos 0;
     raised = inr (pos 0, least_at (charged first_state 0 100001050000) refl refl refl, refl);
     result = refl;
@@ -159,7 +165,7 @@ second_step =
       found = second_state;
       is_reniced = refl;
       changes = inl changes;
-      in_range = lifted_range 100001050000 (0 ∷ []) first_state second_state second_lift first_step.in_range;
+      in_range = lifted_range 0 100001050000 None (0 ∷ []) first_state second_state second_lift tt first_step.in_range;
     }
 
 -- the switch
@@ -175,15 +181,18 @@ module _ (time : ℕ) where
     entry = record { line = 3; time = time; act = Switch 0 0 (pos 0) Stays 102 (pos 0) };
     claim = None;
     nice = None;
+    charge = None;
     policy = Normal;
   }
 
-third_lift : (time : ℕ) → IsLifted time (0 ∷ []) second_state (third_lifted time)
+third_lift : (time : ℕ) → IsLifted 0 time None (0 ∷ []) second_state (third_lifted time)
 unfolding put
 third_lift time = (
   third_lifted time,
   record {
     can_charge = can_charge_none second_state 0 time (nobody_runs 0);
+    told = charged second_state 0 time;
+    charges = refl;
     floor = pos 0;
     raised = inr (pos 0, least_at (charged second_state 0 time) refl refl refl, refl);
     result = refl;
@@ -219,7 +228,8 @@ third_step time =
       in_range = change_range standard (third_lifted time) (third_event time).entry.act None Normal (third_state time)
           changes
           tt
-          (lifted_range time (0 ∷ []) second_state (third_lifted time) (third_lift time) second_step.in_range);
+          (lifted_range 0 time None (0 ∷ []) second_state (third_lifted time) (third_lift time) tt
+          second_step.in_range);
     }
 
 idle_steps : (time : ℕ) → AreSteps standard idle_start (idle_events time)

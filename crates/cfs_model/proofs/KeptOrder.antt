@@ -4,9 +4,12 @@ use Rattle.std.proofs.Common.{◌≡◌, ◌≢◌, ℕ, Bool, true, false, cond
 use Rattle.std.proofs.Common.{◌⊎◌, ◌↔◌, inl, inr, List, [], ◌∷◌, refl, sym, ap, ◌∙◌, subst, true≢false, option_map}
 use Rattle.std.proofs.Common.{option_and_then}
 use Rattle.cfs_model.specs.Machine.{Machine, pairs_of, Stands, NobodyStands, with_floor}
+use Rattle.cfs_model.specs.Told.{ChargesAs}
 use Rattle.cfs_model.specs.Lifted.{cost_at, charged, charged_runtime, IsLiftedAt, IsLifted}
 use Rattle.cfs_model.specs.Order.{StandsSomewhere}
 use Rattle.cfs_model.proofs.Moves.{same_or_not, IsPutAt, IsGone}
+use Rattle.cfs_model.proofs.ToldCharge.{told_is, told_keys, charged_pairs}
+use Rattle.cfs_model.specs.declared.charge_line.ChargeLine.{ChargeLine}
 use Rattle.cfs_model.specs.declared.task.Place.{Place}
 use Rattle.cfs_model.specs.declared.task.Place.TheVariants.{Run, Wait, Rest}
 
@@ -73,20 +76,30 @@ same_keys m a pid = go (is_some (m.nice pid)) (is_some (m.runtime pid)) (λ h. (
     go false true f g = g refl
     go false false f g = refl
 
-lifted_at_apart : (time cpu : ℕ) (m after : Machine) → IsLiftedAt time cpu m after → IsApart m → IsApart after
-lifted_at_apart time cpu m after l a =
-    let raised = with_floor (charged m cpu time) cpu l.floor in
-    subst IsApart (sym l.result)
-    (apart_values m raised (same_sets m raised refl refl refl)
-    (λ pid. some_if (m.running cpu pid) (charged_runtime m cpu time pid) (m.runtime pid) (some_charged m cpu time pid
+-- a charge keeps the order, exact or as told
+pub told_apart : (bound time : ℕ) (charge : Option ChargeLine) (cpu : ℕ) (m told : Machine)
+    → ChargesAs bound charge cpu m (charged m cpu time) told → IsApart m → IsApart told
+told_apart bound time charge cpu m told c a =
+    apart_values m told (charged_pairs bound time charge cpu m told c)
+    (λ pid. told_keys bound charge cpu m (charged m cpu time) told c pid
+    ∙ some_if (m.running cpu pid) (charged_runtime m cpu time pid) (m.runtime pid) (some_charged m cpu time pid
     (m.nice pid) (m.runtime pid) (same_keys m a pid)))
-    (λ pid. refl) a)
+    (λ pid. ap (λ (x : Machine). is_some (x.nice pid)) (told_is bound charge cpu m (charged m cpu time) told c)) a
+
+lifted_at_apart : (bound time : ℕ) (charge : Option ChargeLine) (cpu : ℕ) (m after : Machine)
+    → IsLiftedAt bound time charge cpu m after → IsApart m → IsApart after
+lifted_at_apart bound time charge cpu m after l a =
+    let raised = with_floor l.told cpu l.floor in
+    subst IsApart (sym l.result)
+    (apart_values l.told raised (same_sets l.told raised refl refl refl) (λ pid. refl) (λ pid. refl)
+    (told_apart bound time charge cpu m l.told l.charges a))
 
 -- a lift keeps the order
-pub lifted_apart : (time : ℕ) (cpus : List ℕ) (m after : Machine) → IsLifted time cpus m after → IsApart m
-    → IsApart after
-lifted_apart time [] m after l a = subst IsApart (sym l) a
-lifted_apart time (cpu ∷ cpus) m after l a = lifted_apart time cpus l.0 after l.2 (lifted_at_apart time cpu m l.0 l.1 a)
+pub lifted_apart : (bound time : ℕ) (charge : Option ChargeLine) (cpus : List ℕ) (m after : Machine)
+    → IsLifted bound time charge cpus m after → IsApart m → IsApart after
+lifted_apart bound time charge [] m after l a = subst IsApart (sym l) a
+lifted_apart bound time charge (cpu ∷ cpus) m after l a =
+    lifted_apart bound time None cpus l.0 after l.2 (lifted_at_apart bound time charge cpu m l.0 l.1 a)
 
 -- a map with a value at the pid that is placed, and as it was elsewhere
 placed_keys : (m after : Machine) (pid : ℕ) (to : Place) (dest : ℕ) → IsPutAt m after pid to dest → (f g : ℕ → Option ℤ)

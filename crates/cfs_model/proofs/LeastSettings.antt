@@ -1,22 +1,24 @@
--- The least settings: the lesser of two settings that make a run makes one, since a step asks for one setting alone;
--- and what follows.
+-- The least settings: the lesser of two settings that make a run makes one, since what an event does asks for one
+-- setting alone, and the charge told on its line for the drift; and what follows.
 use Rattle.std.proofs.Common.{◌≡◌, ℕ, ◌≤◌, min, ◌⊎◌, inl, inr, List, [], ◌∷◌, max, refl, sym, ap}
 use Rattle.std.proofs.Common.{◌∙◌, subst, arith}
 use Rattle.std.proofs.lemmas.Bool.{cases_lt}
 use Rattle.std.proofs.Math.Nat.{le-max_left, le-max_right, max-le}
 use Rattle.cfs_model.specs.Knobs.{KnobsView, nothing, only, settings_by, value_at}
 use Rattle.cfs_model.specs.declared.setting.Setting.{Setting}
-use Rattle.cfs_model.specs.declared.setting.Setting.TheVariants.{Granularity, Credit, Debit, Slack}
+use Rattle.cfs_model.specs.declared.setting.Setting.TheVariants.{Granularity, Credit, Debit, Slack, Drift}
 use Rattle.cfs_model.specs.Machine.{Machine}
 use Rattle.cfs_model.specs.Claimed.{Claimed}
+use Rattle.cfs_model.specs.Touch.{touched}
+use Rattle.cfs_model.specs.Lifted.{IsLifted}
 use Rattle.cfs_model.specs.Step.{IsStep}
 use Rattle.cfs_model.specs.Idling.{KeepsSlack}
 use Rattle.cfs_model.specs.Run.{AreSteps, times_of}
 use Rattle.cfs_model.specs.Least.{AtMost, lesser, larger}
 use Rattle.cfs_model.specs.Laws.{LesserKeepsRun, SameStates, OneLeast, RunFromLeast, LeastOfPrefix}
-use Rattle.cfs_model.proofs.OneNext.{one_list}
+use Rattle.cfs_model.proofs.OneNext.{one_list, one_lifted}
 use Rattle.cfs_model.proofs.Prefix.{run_prefix}
-use Rattle.cfs_model.proofs.MoreGenerous.{asked, step_more, steps_more, run_more}
+use Rattle.cfs_model.proofs.MoreGenerous.{asked, changes_more, step_more, steps_more, run_more}
 use Rattle.cfs_model.specs.declared.act.Act.{Act}
 use Rattle.cfs_model.specs.declared.act.Act.TheVariants.{Switch, Wake, Born, Shift}
 
@@ -29,19 +31,21 @@ at_by value Granularity = refl
 at_by value Credit = refl
 at_by value Debit = refl
 at_by value Slack = refl
+at_by value Drift = refl
 
 -- settings that have the same value of each are the same
 pub same_settings : (one other : KnobsView) → ((which : Setting) → value_at one which ≡ value_at other which)
     → one ≡ other
 same_settings one other same =
     built one.granularity other.granularity one.credit other.credit one.debit other.debit one.slack other.slack
-    (same Granularity) (same Credit) (same Debit) (same Slack)
+    one.drift other.drift (same Granularity) (same Credit) (same Debit) (same Slack) (same Drift)
   where
-    of : ℕ → ℕ → ℕ → ℕ → KnobsView
-    of g c d s = record { granularity = g; credit = c; debit = d; slack = s }
+    of : ℕ → ℕ → ℕ → ℕ → ℕ → KnobsView
+    of g c d s t = record { granularity = g; credit = c; debit = d; slack = s; drift = t }
 
-    built : (g g' c c' d d' s s' : ℕ) → g ≡ g' → c ≡ c' → d ≡ d' → s ≡ s' → of g c d s ≡ of g' c' d' s'
-    built g g' c c' d d' s s' p q r t = cc
+    built : (g g' c c' d d' s s' t t' : ℕ) → g ≡ g' → c ≡ c' → d ≡ d' → s ≡ s' → t ≡ t'
+        → of g c d s t ≡ of g' c' d' s' t'
+    built g g' c c' d d' s s' t t' p q r u v = cc
 
 -- the larger of two settings
 pub below_larger : (one other : KnobsView) → AtMost one (larger one other)
@@ -83,6 +87,7 @@ slack_at_most slack more h Granularity = omega arith
 slack_at_most slack more h Credit = omega arith
 slack_at_most slack more h Debit = omega arith
 slack_at_most slack more h Slack = h
+slack_at_most slack more h Drift = omega arith
 
 -- what is at most something: along a chain, of the larger of two, and nothing at all
 pub at_most_trans : (less between more : KnobsView) → AtMost less between → AtMost between more → AtMost less more
@@ -101,6 +106,23 @@ larger_at_most one other more h k which =
 pub one_or_other : (a b : ℕ) → (a ≤ min a b) ⊎ (b ≤ min a b)
 one_or_other a b = elim (cases_lt a b) [ inl h ↦ inl (omega arith) | inr h ↦ inr (omega arith) ]
 
+-- what an event does asks for nothing of the drift
+asked_drift : (one : KnobsView) (drift : ℕ) (act : Act) → asked act (record one { drift = drift }) ≡ asked act one
+asked_drift one drift (Switch cpu prev prev_nice way next next_nice) = refl
+asked_drift one drift (Wake cpu pid nice) = refl
+asked_drift one drift (Born cpu pid nice) = refl
+asked_drift one drift (Shift orig dest pid nice) = refl
+
+asked_as : (one : KnobsView) (drift : ℕ) (more : KnobsView) (act : Act) → asked act one ≤ asked act more
+    → asked act (record one { drift = drift }) ≤ asked act more
+asked_as one drift more act h = subst (λ n. n ≤ asked act more) (sym (asked_drift one drift act)) h
+
+pub asked_same : (one : KnobsView) (drift : ℕ) (act : Act) → asked act one ≤ asked act (record one { drift = drift })
+asked_same one drift act = subst (λ n. asked act one ≤ n) (sym (asked_drift one drift act)) (same_least (asked act one))
+  where
+    same_least : (n : ℕ) → n ≤ n
+    same_least n = omega arith
+
 -- one of two settings asks no more of an event than the lesser
 asked_lesser : (one other : KnobsView) (act : Act)
     → (asked act one ≤ asked act (lesser one other)) ⊎ (asked act other ≤ asked act (lesser one other))
@@ -109,11 +131,37 @@ asked_lesser one other (Wake cpu pid nice) = one_or_other one.credit other.credi
 asked_lesser one other (Born cpu pid nice) = one_or_other one.debit other.debit
 asked_lesser one other (Shift orig dest pid nice) = inl (omega arith)
 
+-- a step with the drift of other settings at which it is one
+with_drift_of : (one other : KnobsView) (before : Machine) (event : Claimed) (after : Machine)
+    → IsStep one before event after → IsStep other before event after
+    → IsStep (record one { drift = other.drift }) before event after
+with_drift_of one other before event after a b = record {
+  lifted = a.lifted;
+  is_lifted = subst (λ m. IsLifted other.drift event.entry.time event.charge (touched event.entry.act) before m)
+      (one_lifted other.drift one.drift event.entry.time event.charge (touched event.entry.act) before b.lifted a.lifted
+      b.is_lifted a.is_lifted) b.is_lifted;
+  found = a.found;
+  is_reniced = a.is_reniced;
+  changes = changes_more one (record one { drift = other.drift }) a.found event.entry.act event.claim event.policy after
+      (asked_same one other.drift event.entry.act) a.changes;
+  in_range = a.in_range;
+}
+
 step_lesser : (one other : KnobsView) (before : Machine) (event : Claimed) (after : Machine)
     → IsStep one before event after → IsStep other before event after → IsStep (lesser one other) before event after
 step_lesser one other before event after a b = elim (asked_lesser one other event.entry.act) [
-  | inl h ↦ step_more one (lesser one other) before event after h a
-  | inr h ↦ step_more other (lesser one other) before event after h b
+  | inl h ↦ elim (one_or_other one.drift other.drift) [
+    | inl d ↦ step_more one (lesser one other) before event after h d a
+    | inr d ↦ step_more (record one { drift = other.drift }) (lesser one other) before event after
+        (asked_as one other.drift (lesser one other) event.entry.act h) d
+        (with_drift_of one other before event after a b)
+  ]
+  | inr h ↦ elim (one_or_other one.drift other.drift) [
+    | inl d ↦ step_more (record other { drift = one.drift }) (lesser one other) before event after
+        (asked_as other one.drift (lesser one other) event.entry.act h) d
+        (with_drift_of other one before event after b a)
+    | inr d ↦ step_more other (lesser one other) before event after h d b
+  ]
 ]
 
 steps_lesser : (one other : KnobsView) (before : Machine) (events : List Claimed) (states : List Machine)

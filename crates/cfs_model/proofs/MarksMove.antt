@@ -1,52 +1,63 @@
 -- Marks move with the lift alone: along the touched processors each mark becomes the time, and stays so.
-use Rattle.std.proofs.Common.{◌≡◌, ◌≢◌, ℕ, zero, suc, true, false, ◌⊎◌, inl, inr, List, [], ◌∷◌, Option, refl}
+use Rattle.std.proofs.Common.{◌≡◌, ◌≢◌, ℕ, zero, suc, true, false, ◌⊎◌, inl, inr, List, [], ◌∷◌, Option, None}
+use Rattle.std.proofs.Common.{refl}
 use Rattle.std.proofs.Common.{sym, ap, ◌∙◌, subst}
 use Rattle.std.specs.List.{AllByRecursion}
 use Rattle.cfs_model.specs.Laws.{MarksMove}
 use Rattle.cfs_model.specs.Knobs.{KnobsView}
 use Rattle.cfs_model.specs.Machine.{Pairs, Machine, pairs_of, put, with_pairs, put_pair, without_task}
 use Rattle.cfs_model.specs.Touch.{touched}
-use Rattle.cfs_model.specs.Lifted.{IsLifted}
+use Rattle.cfs_model.specs.Lifted.{charged, IsLiftedAt, IsLifted}
 use Rattle.cfs_model.specs.Reniced.{home_of}
 use Rattle.cfs_model.specs.Step.{after_prev, after_next, Changes}
 use Rattle.cfs_model.proofs.Moves.{put-same, put-other, same_or_not}
 use Rattle.cfs_model.proofs.Renice.{reniced_is}
+use Rattle.cfs_model.proofs.ToldCharge.{told_is}
 use Rattle.cfs_model.specs.declared.act.Act.{Act}
 use Rattle.cfs_model.specs.declared.act.Act.TheVariants.{Switch, Wake, Born, Shift}
 use Rattle.cfs_model.specs.declared.act.Way.{Way}
 use Rattle.cfs_model.specs.declared.act.Way.TheVariants.{Stays, Sleeps, Ends}
+use Rattle.cfs_model.specs.declared.charge_line.ChargeLine.{ChargeLine}
 use Rattle.cfs_model.specs.declared.claim.Claim.{Claim}
 use Rattle.cfs_model.specs.declared.task.Place.{Place}
 use Rattle.cfs_model.specs.declared.task.Place.TheVariants.{Run, Wait, Rest}
 use Rattle.cfs_model.specs.declared.policy.Policy.{Policy}
 
+-- a lift of one processor moves its mark
+mark_at : (bound time : ℕ) (charge : Option ChargeLine) (c : ℕ) (m after : Machine)
+    → IsLiftedAt bound time charge c m after → (cpu : ℕ) → after.mark cpu ≡ put m.mark c time cpu
+mark_at bound time charge c m after l cpu =
+    ap (λ (x : Machine). x.mark cpu) l.result
+    ∙ ap (λ (x : Machine). x.mark cpu) (told_is bound charge c m (charged m c time) l.told l.charges)
+
 -- a mark that is the time stays so
-mark_kept : (time : ℕ) (cpus : List ℕ) (m after : Machine) → IsLifted time cpus m after → (cpu : ℕ)
-    → m.mark cpu ≡ time → after.mark cpu ≡ time
-mark_kept time [] m after l cpu h = ap (λ (x : Machine). x.mark cpu) l ∙ h
-mark_kept time (c ∷ cpus) m after l cpu h =
-    mark_kept time cpus l.0 after l.2 cpu (ap (λ (x : Machine). x.mark cpu) l.1.result ∙ go (same_or_not cpu c))
+mark_kept : (bound time : ℕ) (charge : Option ChargeLine) (cpus : List ℕ) (m after : Machine)
+    → IsLifted bound time charge cpus m after → (cpu : ℕ) → m.mark cpu ≡ time → after.mark cpu ≡ time
+mark_kept bound time charge [] m after l cpu h = ap (λ (x : Machine). x.mark cpu) l ∙ h
+mark_kept bound time charge (c ∷ cpus) m after l cpu h =
+    mark_kept bound time None cpus l.0 after l.2 cpu (mark_at bound time charge c m l.0 l.1 cpu
+    ∙ go (same_or_not cpu c))
   where
     go : (cpu ≡ c) ⊎ (cpu ≢ c) → put m.mark c time cpu ≡ time
     go (inl e) = ap (put m.mark c time) e ∙ put-same m.mark c time
     go (inr ne) = put-other m.mark c time cpu ne ∙ h
 
 -- every mark of a lifted processor is the time
-marks_moved : (time : ℕ) (cpus : List ℕ) (m after : Machine) → IsLifted time cpus m after → AllByRecursion
-    (λ cpu. after.mark cpu ≡ time) cpus
-marks_moved time [] m after l = tt
-marks_moved time (c ∷ cpus) m after l = (
-  mark_kept time cpus l.0 after l.2 c (ap (λ (x : Machine). x.mark c) l.1.result
-      ∙ put-same m.mark c time),
-  marks_moved time cpus l.0 after l.2,
+marks_moved : (bound time : ℕ) (charge : Option ChargeLine) (cpus : List ℕ) (m after : Machine)
+    → IsLifted bound time charge cpus m after → AllByRecursion (λ cpu. after.mark cpu ≡ time) cpus
+marks_moved bound time charge [] m after l = tt
+marks_moved bound time charge (c ∷ cpus) m after l = (
+  mark_kept bound time None cpus l.0 after l.2 c (mark_at bound time charge c m l.0 l.1 c ∙ put-same m.mark c time),
+  marks_moved bound time None cpus l.0 after l.2,
 )
 
 -- and another mark is as it was
-marks_stay : (time : ℕ) (cpus : List ℕ) (m after : Machine) → IsLifted time cpus m after → (cpu : ℕ) → AllByRecursion
-    (λ other. cpu ≢ other) cpus → after.mark cpu ≡ m.mark cpu
-marks_stay time [] m after l cpu h = ap (λ (x : Machine). x.mark cpu) l
-marks_stay time (c ∷ cpus) m after l cpu h =
-    marks_stay time cpus l.0 after l.2 cpu h.1 ∙ ap (λ (x : Machine). x.mark cpu) l.1.result
+marks_stay : (bound time : ℕ) (charge : Option ChargeLine) (cpus : List ℕ) (m after : Machine)
+    → IsLifted bound time charge cpus m after → (cpu : ℕ) → AllByRecursion (λ other. cpu ≢ other) cpus
+    → after.mark cpu ≡ m.mark cpu
+marks_stay bound time charge [] m after l cpu h = ap (λ (x : Machine). x.mark cpu) l
+marks_stay bound time charge (c ∷ cpus) m after l cpu h =
+    marks_stay bound time None cpus l.0 after l.2 cpu h.1 ∙ mark_at bound time charge c m l.0 l.1 cpu
     ∙ put-other m.mark c time cpu h.0
 
 pub mark-with_pairs : (m : Machine) (place : Place) (s : Pairs) → (with_pairs m place s).mark ≡ m.mark
@@ -85,7 +96,8 @@ marks_move knobs before event after s =
     let same = same_marks knobs s.found event.entry.act event.claim event.policy after s.changes
     ∙ ap (λ (m : Machine). m.mark) (reniced_is (home_of event.entry.act) event.nice s.lifted s.found s.is_reniced) in (
       subst (λ (f : ℕ → ℕ). AllByRecursion (λ cpu. f cpu ≡ event.entry.time) (touched event.entry.act)) (sym same)
-          (marks_moved event.entry.time (touched event.entry.act) before s.lifted s.is_lifted),
-      (λ cpu h. ap (λ (f : ℕ → ℕ). f cpu) same ∙ marks_stay event.entry.time
+          (marks_moved knobs.drift event.entry.time event.charge (touched event.entry.act) before s.lifted
+          s.is_lifted),
+      (λ cpu h. ap (λ (f : ℕ → ℕ). f cpu) same ∙ marks_stay knobs.drift event.entry.time event.charge
           (touched event.entry.act) before s.lifted s.is_lifted cpu h),
     )

@@ -1,11 +1,13 @@
 -- The examples of a migration. What hangs on the time, the virtual runtime that 102 is charged to and the least one, is
 -- a parameter; the second floor stays at 100, since nobody stands there.
-use Rattle.std.proofs.Common.{◌≡◌, ◌↔◌, ℕ, true, Some, ℤ, pos, ◌+ℤ◌, ◌-ℤ◌, ◌≤ℤ◌, inl, inr, [], ◌∷◌, refl, sym}
+use Rattle.std.proofs.Common.{◌≡◌, ◌↔◌, ℕ, true, Some, None, ℤ, pos, ◌+ℤ◌, ◌-ℤ◌, ◌≤ℤ◌, inl, inr, [], ◌∷◌, refl}
+use Rattle.std.proofs.Common.{sym}
 use Rattle.std.proofs.Common.{ap, ◌∙◌, subst, arith, lit<, lit≤}
 use Rattle.std.proofs.lemmas.Int.{ints}
 use Rattle.std.specs.Int.{int_max}
 use Rattle.cfs_model.specs.Charge.{IsInRange}
 use Rattle.cfs_model.specs.Machine.{Machine, Stands, IsQueued, put, put_pair, with_floor, with_move, with_runtime}
+use Rattle.cfs_model.specs.Machine.{with_drift}
 use Rattle.cfs_model.specs.Start.{named_in}
 use Rattle.cfs_model.specs.Lifted.{charged, CanCharge, IsLeast, IsLifted}
 use Rattle.cfs_model.specs.Step.{IsMigration, IsStep}
@@ -65,12 +67,14 @@ module _ (time : ℕ) (v least w : ℤ) (is_v : (after_charge time).runtime 102 
   abbrev pub lifted : Machine
   lifted = with_floor (charged between 1 time) 1 (pos 100)
 
-  pub lift : IsLifted time (0 ∷ 1 ∷ []) migration_start lifted
+  pub lift : IsLifted 0 time None (0 ∷ 1 ∷ []) migration_start lifted
   unfolding put
   lift = (
     between,
     record {
       can_charge = can_charge;
+      told = after_charge time;
+      charges = refl;
       floor = int_max (pos 3) least;
       raised = inr (least, is_least, refl);
       result = refl;
@@ -79,6 +83,8 @@ module _ (time : ℕ) (v least w : ℤ) (is_v : (after_charge time).runtime 102 
       lifted,
       record {
         can_charge = can_charge_none between 1 time (nobody_there Run);
+        told = charged between 1 time;
+        charges = refl;
         floor = pos 100;
         raised = inl ((λ q h. elim h [ inl x ↦ nobody_there Run q x | inr x ↦ nobody_there Wait q x ]), refl);
         result = refl;
@@ -90,8 +96,8 @@ module _ (time : ℕ) (v least w : ℤ) (is_v : (after_charge time).runtime 102 
   migration_step : IsInRange w → HasStep standard migration_start (migration_event time w)
   unfolding put put_pair
   migration_step range =
-      let after : Machine = with_runtime (with_move lifted 101 Wait 0 Wait 1) 101
-      ((pos 5 -ℤ int_max (pos 3) least) +ℤ pos 100) in
+      let after : Machine = with_drift (with_runtime (with_move lifted 101 Wait 0 Wait 1) 101
+      ((pos 5 -ℤ int_max (pos 3) least) +ℤ pos 100)) 101 (pos 0) in
       let changes : IsMigration lifted 0 1 101 (pos 0) (migration_event time w).claim Normal after = record {
         differ = λ e. omega arith;
         place = Wait;
@@ -114,7 +120,7 @@ module _ (time : ℕ) (v least w : ℤ) (is_v : (after_charge time).runtime 102 
           changes = changes;
           in_range = change_range standard lifted (migration_event time w).entry.act
               (migration_event time w).claim Normal after changes range
-              (lifted_range time (0 ∷ 1 ∷ []) migration_start lifted lift
+              (lifted_range 0 time None (0 ∷ 1 ∷ []) migration_start lifted lift tt
               (start_in_order start_time (pos 3 ∷ pos 100 ∷ []) (task_that_waits ∷ task_that_runs ∷ [])
               start_is).in_range);
         },
@@ -124,7 +130,8 @@ module _ (time : ℕ) (v least w : ℤ) (is_v : (after_charge time).runtime 102 
   moved_to : (x : ℤ) (after : Machine) → IsStep standard migration_start (migration_event time x) after → x ≡ w
   unfolding put
   moved_to x after s =
-      let same = s.is_reniced ∙ one_lifted time (0 ∷ 1 ∷ []) migration_start s.lifted lifted s.is_lifted lift in
+      let same = s.is_reniced ∙ one_lifted 0 0 time None (0 ∷ 1 ∷ []) migration_start s.lifted lifted s.is_lifted
+      lift in
       let moves : IsMigration lifted 0 1 101 (pos 0) (migration_event time x).claim Normal after =
       subst (λ m. IsMigration m 0 1 101 (pos 0) (migration_event time x).claim Normal after) same s.changes in
       moves.claimed.2 ∙ ap (λ own. (own -ℤ int_max (pos 3) least) +ℤ pos 100)

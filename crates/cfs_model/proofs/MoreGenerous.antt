@@ -1,22 +1,27 @@
--- Knobs and runs: a step asks for one setting alone, the one that its event names, so a step under some settings is
--- one under others that give it at least as much.
-use Rattle.std.proofs.Common.{ℕ, zero, suc, ◌≤◌, Option, ℤ, pos, ◌+ℤ◌, ◌-ℤ◌, ◌≤ℤ◌, inl, inr, List, [], ◌∷◌, arith}
+-- Knobs and runs: what an event does asks for one setting alone, the one that it names, and the charge told on its
+-- line for the drift; so a step under some settings is one under others that give it at least as much of both.
+use Rattle.std.proofs.Common.{ℕ, zero, suc, ◌≤◌, Option, None, ℤ, pos, ◌+ℤ◌, ◌-ℤ◌, ◌≤ℤ◌, inl, inr, List, [], ◌∷◌}
+use Rattle.std.proofs.Common.{arith}
 use Rattle.std.proofs.lemmas.Int.{ints, clamps}
 use Rattle.std.specs.Int.{int_max}
 use Rattle.cfs_model.specs.Knobs.{KnobsView}
-use Rattle.cfs_model.specs.declared.setting.Setting.TheVariants.{Granularity, Credit, Debit, Slack}
+use Rattle.cfs_model.specs.declared.setting.Setting.TheVariants.{Granularity, Credit, Debit, Slack, Drift}
 use Rattle.cfs_model.specs.Machine.{Machine}
 use Rattle.cfs_model.specs.Claimed.{Claimed}
+use Rattle.cfs_model.specs.Touch.{touched}
+use Rattle.cfs_model.specs.Lifted.{charged, IsLifted}
 use Rattle.cfs_model.specs.Step.{IsPick, after_prev, Changes, IsStep}
 use Rattle.cfs_model.specs.Idling.{KeepsSlack}
 use Rattle.cfs_model.specs.Run.{AreSteps, times_of, IsRun}
 use Rattle.cfs_model.specs.Least.{AtMost}
+use Rattle.cfs_model.proofs.ToldCharge.{told_more}
 use Rattle.cfs_model.specs.declared.act.Act.{Act}
 use Rattle.cfs_model.specs.declared.act.Act.TheVariants.{Switch, Wake, Born, Shift}
+use Rattle.cfs_model.specs.declared.charge_line.ChargeLine.{ChargeLine}
 use Rattle.cfs_model.specs.declared.claim.Claim.{Claim}
 use Rattle.cfs_model.specs.declared.policy.Policy.{Policy}
 
--- the setting that an event asks for; a migration asks for none
+-- the setting that what an event does asks for; a migration asks for none
 abbrev pub asked : Act → KnobsView → ℕ
 asked (Switch cpu prev prev_nice way next next_nice) knobs = knobs.granularity
 asked (Wake cpu pid nice) knobs = knobs.credit
@@ -69,13 +74,31 @@ changes_more knobs more m (Born cpu pid nice) claim policy after h s = record {
 }
 changes_more knobs more m (Shift orig dest pid nice) claim policy after h s = s
 
+-- a lift under a bound that is at least as great
+pub lifted_more : (bound more time : ℕ) (charge : Option ChargeLine) (cpus : List ℕ) (before after : Machine)
+    → bound ≤ more → IsLifted bound time charge cpus before after → IsLifted more time charge cpus before after
+lifted_more bound more time charge [] before after h l = l
+lifted_more bound more time charge (cpu ∷ cpus) before after h l = (
+  l.0,
+  record {
+    can_charge = l.1.can_charge;
+    told = l.1.told;
+    charges = told_more bound more charge cpu before (charged before cpu time) l.1.told h l.1.charges;
+    floor = l.1.floor;
+    raised = l.1.raised;
+    result = l.1.result;
+  },
+  lifted_more bound more time None cpus l.0 after h l.2,
+)
+
 -- a step under settings that give its event at least as much
 pub step_more : (knobs more : KnobsView) (before : Machine) (event : Claimed) (after : Machine)
-    → asked event.entry.act knobs ≤ asked event.entry.act more → IsStep knobs before event after
-    → IsStep more before event after
-step_more knobs more before event after h s = record {
+    → asked event.entry.act knobs ≤ asked event.entry.act more → knobs.drift ≤ more.drift
+    → IsStep knobs before event after → IsStep more before event after
+step_more knobs more before event after h d s = record {
   lifted = s.lifted;
-  is_lifted = s.is_lifted;
+  is_lifted = lifted_more knobs.drift more.drift event.entry.time event.charge (touched event.entry.act) before s.lifted
+      d s.is_lifted;
   found = s.found;
   is_reniced = s.is_reniced;
   changes = changes_more knobs more s.found event.entry.act event.claim event.policy after h s.changes;
@@ -94,7 +117,7 @@ steps_more less more before [] [] h steps = tt
 steps_more less more before [] (m ∷ states) h steps = absurd steps
 steps_more less more before (event ∷ events) [] h steps = absurd steps
 steps_more less more before (event ∷ events) (m ∷ states) h steps = (
-  step_more less more before event m (asked_most less more event.entry.act h) steps.0,
+  step_more less more before event m (asked_most less more event.entry.act h) (h Drift) steps.0,
   steps_more less more m events states h steps.1,
 )
 

@@ -1,9 +1,10 @@
 -- The examples of a change of a nice value on a migration's line: the lift is that of the migration without it, and the
 -- new value is found at the origin; at the destination the task that is named doesn't stand where it has to.
-use Rattle.std.proofs.Common.{◌≡◌, true, Some, ℤ, pos, ◌+ℤ◌, ◌-ℤ◌, inl, inr, [], ◌∷◌, refl, sym, ap}
+use Rattle.std.proofs.Common.{◌≡◌, true, Some, None, ℤ, pos, ◌+ℤ◌, ◌-ℤ◌, inl, inr, [], ◌∷◌, refl, sym, ap}
 use Rattle.std.proofs.Common.{◌∙◌, subst, arith}
 use Rattle.std.proofs.lemmas.Int.{ints}
 use Rattle.cfs_model.specs.Machine.{Machine, Stands, put, put_pair, with_floor, with_move, with_nice, with_runtime}
+use Rattle.cfs_model.specs.Machine.{with_drift}
 use Rattle.cfs_model.specs.Start.{named_in}
 use Rattle.cfs_model.specs.Lifted.{charged, IsLifted}
 use Rattle.cfs_model.specs.Reniced.{IsReniced}
@@ -14,6 +15,7 @@ use Rattle.cfs_model.proofs.MigrationExample.{lifted, lift, task_that_waits, tas
 use Rattle.cfs_model.proofs.MigrationExample.{least_now}
 use Rattle.cfs_model.proofs.OneNext.{one_lifted}
 use Rattle.cfs_model.proofs.StartOrder.{start_in_order}
+use Rattle.cfs_model.proofs.ToldCharge.{untold_is}
 use Rattle.cfs_model.proofs.Range.{lifted_range, change_range}
 use Rattle.cfs_model.proofs.Renice.{reniced_range}
 use Rattle.cfs_model.proofs.Worked.{of_two, value_at}
@@ -30,7 +32,7 @@ change = record { line = 1; pid = 101; nice = pos 5 }
 abbrev now_lifted : Machine
 now_lifted = lifted start_time (pos 3) (pos 3) (pos 102) refl refl can_charge_now least_now
 
-now_lift : IsLifted start_time (0 ∷ 1 ∷ []) migration_start now_lifted
+now_lift : IsLifted 0 start_time None (0 ∷ 1 ∷ []) migration_start now_lifted
 now_lift = lift start_time (pos 3) (pos 3) (pos 102) refl refl can_charge_now least_now
 
 abbrev found : Machine
@@ -43,7 +45,7 @@ moved_nice_step : HasStep standard migration_start (renicing_migration 101 (pos 
 unfolding put put_pair
 moved_nice_step =
     let event = renicing_migration 101 (pos 5) (pos 102) in
-    let after : Machine = with_runtime (with_move found 101 Wait 0 Wait 1) 101 (pos 102) in
+    let after : Machine = with_drift (with_runtime (with_move found 101 Wait 0 Wait 1) 101 (pos 102)) 101 (pos 0) in
     let changes : IsMigration found 0 1 101 (pos 5) event.claim Normal after = record {
       differ = λ e. omega arith;
       place = Wait;
@@ -67,7 +69,7 @@ moved_nice_step =
         in_range = change_range standard found event.entry.act event.claim Normal after changes
             (omega (arith, ints), omega (arith, ints))
             (reniced_range 0 (Some change) now_lifted found renices
-            (lifted_range start_time (0 ∷ 1 ∷ []) migration_start now_lifted now_lift
+            (lifted_range 0 start_time None (0 ∷ 1 ∷ []) migration_start now_lifted now_lift tt
             (start_in_order start_time (pos 3 ∷ pos 100 ∷ []) (task_that_waits ∷ task_that_runs ∷ [])
             start_is).in_range));
       },
@@ -80,7 +82,7 @@ unfolding put
 moved_nice_at printed w after s =
     let same : s.found ≡ found = s.is_reniced.1
     ∙ ap (λ m. with_nice m 101 (pos 5))
-    (one_lifted start_time (0 ∷ 1 ∷ []) migration_start s.lifted now_lifted s.is_lifted now_lift) in
+    (one_lifted 0 0 start_time None (0 ∷ 1 ∷ []) migration_start s.lifted now_lifted s.is_lifted now_lift) in
     let moves : IsMigration found 0 1 101 printed (renicing_migration 101 printed w).claim Normal after =
     subst (λ m. IsMigration m 0 1 101 printed (renicing_migration 101 printed w).claim Normal after) same s.changes in (
       value_at found.nice 101 101 printed (pos 5) refl moves.prio refl,
@@ -122,5 +124,6 @@ away_nice_lem printed w s =
     let stands = s.1.is_reniced.0 in
     still_isnt lift.1.floor lift.2.1.floor stands.0
     (subst (λ m. Stands m stands.0 0 102)
-    (lift.2.2 ∙ lift.2.1.result
-    ∙ ap (λ m. with_floor (charged m 1 start_time) 1 lift.2.1.floor) lift.1.result) stands.1)
+    (lift.2.2 ∙ untold_is 0 start_time 1 lift.0 lift.2.0 lift.2.1
+    ∙ ap (λ m. with_floor (charged m 1 start_time) 1 lift.2.1.floor)
+    (untold_is 0 start_time 0 away_start lift.0 lift.1)) stands.1)

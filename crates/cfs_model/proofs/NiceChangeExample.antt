@@ -20,6 +20,7 @@ use Rattle.cfs_model.proofs.Range.{lifted_range, change_range}
 use Rattle.cfs_model.proofs.Renice.{reniced_range}
 use Rattle.cfs_model.proofs.SwitchExample.{first_task, second_task, start_is, runs_one, waits_one, least_second}
 use Rattle.cfs_model.proofs.SwitchExample.{can_charge_even}
+use Rattle.cfs_model.proofs.ToldCharge.{untold_is}
 use Rattle.cfs_model.proofs.Worked.{of_one, of_two, value_at, below_at, can_charge_one}
 use Rattle.cfs_model.specs.declared.act.Act.TheVariants.{Switch, Wake}
 use Rattle.cfs_model.specs.declared.act.Way.TheVariants.{Stays}
@@ -46,6 +47,7 @@ first_event printed = record {
   entry = record { line = 1; time = 100004000000; act = Wake 0 101 printed };
   claim = None;
   nice = Some change;
+  charge = None;
   policy = Normal;
 }
 
@@ -55,11 +57,13 @@ first_lifted = with_floor (charged start 0 100004000000) 0 (pos 0)
 abbrev first_state : Machine
 first_state = with_nice first_lifted 101 (pos 5)
 
-first_lift : IsLifted 100004000000 (0 ∷ []) start first_lifted
+first_lift : IsLifted 0 100004000000 None (0 ∷ []) start first_lifted
 first_lift = (
   first_lifted,
   record {
     can_charge = can_charge_even (pos 0);
+    told = charged start 0 100004000000;
+    charges = refl;
     floor = pos 0;
     raised = inr (pos 0, least_second (pos 0) Normal (pos 4000000) refl (omega (arith, ints)), refl);
     result = refl;
@@ -82,7 +86,7 @@ first_step =
       is_reniced = renices;
       changes = inl changes;
       in_range = reniced_range 0 (Some change) first_lifted first_state renices
-          (lifted_range 100004000000 (0 ∷ []) start first_lifted first_lift start_range);
+          (lifted_range 0 100004000000 None (0 ∷ []) start first_lifted first_lift tt start_range);
     }
 
 -- the switch
@@ -91,6 +95,7 @@ second_event w = record {
   entry = record { line = 2; time = 100008000000; act = Switch 0 101 (pos 5) Stays 102 (pos 0) };
   claim = Some (at_claim 2 101 w);
   nice = None;
+  charge = None;
   policy = Normal;
 }
 
@@ -119,12 +124,14 @@ least_of q w (inl runs) e = below_at second_charged.runtime 101 q (pos 0) (pos 1
 least_of q w (inr waits) e = below_at second_charged.runtime 102 q (pos 0) (pos 0) w
     (waits_one (pos 0) Normal (pos 0) q waits) refl e (omega (arith, ints))
 
-second_lift : IsLifted 100008000000 (0 ∷ []) first_state second_lifted
+second_lift : IsLifted 0 100008000000 None (0 ∷ []) first_state second_lifted
 unfolding put
 second_lift = (
   second_lifted,
   record {
     can_charge = can_charge_light;
+    told = second_charged;
+    charges = refl;
     floor = pos 0;
     raised = inr (pos 0, record { pid = 102; queued = inr refl; runtime = refl; least = least_of }, refl);
     result = refl;
@@ -163,7 +170,7 @@ second_step =
       changes = changes;
       in_range = change_range standard second_lifted (second_event (pos 16226865)).entry.act
           (second_event (pos 16226865)).claim Normal second_state changes (omega (arith, ints), omega (arith, ints))
-          (lifted_range 100008000000 (0 ∷ []) first_state second_lifted second_lift first_step.in_range);
+          (lifted_range 0 100008000000 None (0 ∷ []) first_state second_lifted second_lift tt first_step.in_range);
     }
 
 -- 101 runs before the switch, so the processor doesn't idle
@@ -191,7 +198,7 @@ first_is printed between s = go s.changes
     found : s.found ≡ first_state
     found = s.is_reniced.1
         ∙ ap (λ m. with_nice m 101 (pos 5))
-        (one_lifted 100004000000 (0 ∷ []) start s.lifted first_lifted s.is_lifted first_lift)
+        (one_lifted 0 0 100004000000 None (0 ∷ []) start s.lifted first_lifted s.is_lifted first_lift)
 
     go : IsWakeQueued s.found 0 101 printed None between ⊎ IsWakeResting standard s.found 0 101 printed None between
         → (printed ≡ pos 5) × (between ≡ first_state)
@@ -205,7 +212,7 @@ first_is printed between s = go s.changes
 second_is : (w : ℤ) (after : Machine) → IsStep standard first_state (second_event w) after → w ≡ pos 16226865
 second_is w after s =
     let found : s.found ≡ second_lifted = s.is_reniced
-    ∙ one_lifted 100008000000 (0 ∷ []) first_state s.lifted second_lifted s.is_lifted second_lift in
+    ∙ one_lifted 0 0 100008000000 None (0 ∷ []) first_state s.lifted second_lifted s.is_lifted second_lift in
     let back = s.changes.put_back in
     back.2.2 ∙ value_at s.found.runtime 101 101 back.0 (pos 16226865) refl back.1
     (ap (λ (m : Machine). m.runtime 101) found ∙ charged_first)
@@ -247,4 +254,5 @@ pub strange_nice_lem : StrangeNiceExample
 strange_nice_lem pid w s =
     let stands = s.1.is_reniced.0 in
     still_nobody s.1.is_lifted.1.floor stands.0 pid
-    (subst (λ m. Stands m stands.0 1 pid) (s.1.is_lifted.2 ∙ s.1.is_lifted.1.result) stands.1)
+    (subst (λ m. Stands m stands.0 1 pid) (s.1.is_lifted.2
+    ∙ untold_is 0 100001000000 1 birth_start s.1.is_lifted.0 s.1.is_lifted.1) stands.1)

@@ -13,12 +13,14 @@ use Rattle.cfs_model.specs.Claimed.{ClaimSays}
 use Rattle.cfs_model.specs.Lifted.{cost_at, charged, charged_runtime, CanCharge, IsRaised, IsLiftedAt, IsLifted}
 use Rattle.cfs_model.specs.Step.{after_prev, after_next, Changes}
 use Rattle.cfs_model.proofs.Moves.{put-same, put-other, same_or_not}
+use Rattle.cfs_model.proofs.ToldCharge.{told_is, told_range}
 use Rattle.cfs_model.proofs.StepOrder.{runtime-with_pairs}
 use Rattle.cfs_model.proofs.FloorsRise.{same_floors}
 use Rattle.cfs_model.specs.declared.act.Act.{Act}
 use Rattle.cfs_model.specs.declared.act.Act.TheVariants.{Switch, Wake, Born, Shift}
 use Rattle.cfs_model.specs.declared.act.Way.{Way}
 use Rattle.cfs_model.specs.declared.act.Way.TheVariants.{Stays, Sleeps, Ends}
+use Rattle.cfs_model.specs.declared.charge_line.ChargeLine.{ChargeLine}
 use Rattle.cfs_model.specs.declared.claim.Claim.{Claim}
 use Rattle.cfs_model.specs.declared.claim.ClaimSort.{ClaimSort}
 use Rattle.cfs_model.specs.declared.policy.Policy.{Policy}
@@ -57,25 +59,32 @@ raised_range : (m : Machine) (cpu : ℕ) (f : ℤ) → IsRaised m cpu f → ((pi
 raised_range m cpu f (inl a) r h = subst IsInRange (sym a.1) h
 raised_range m cpu f (inr a) r h = subst IsInRange (sym a.2) (max_range (m.floor cpu) a.0 h (r a.1.pid a.0 a.1.runtime))
 
-lifted_at_range : (time cpu : ℕ) (m after : Machine) → IsLiftedAt time cpu m after → AreValuesInRange m
+lifted_at_range : (bound time : ℕ) (charge : Option ChargeLine) (cpu : ℕ) (m after : Machine)
+    → IsLiftedAt bound time charge cpu m after → IfSome charge (λ c. IsInRange c.v) → AreValuesInRange m
     → AreValuesInRange after
-lifted_at_range time cpu m after l r =
-    let within = charged_range m cpu time l.can_charge r in
+lifted_at_range bound time charge cpu m after l t r =
+    let within = told_range bound charge cpu m (charged m cpu time) l.told l.charges t
+    (charged_range m cpu time l.can_charge r) in
     subst AreValuesInRange (sym l.result) (record {
       runtimes = within;
-      floors = λ c. go c (same_or_not c cpu) (raised_range (charged m cpu time) cpu l.floor l.raised within
-          (r.floors cpu));
+      floors = λ c. go c (same_or_not c cpu) (raised_range l.told cpu l.floor l.raised within
+          (subst IsInRange (sym (floor_is cpu)) (r.floors cpu)));
     })
   where
-    go : (c : ℕ) → (c ≡ cpu) ⊎ (c ≢ cpu) → IsInRange l.floor → IsInRange (put m.floor cpu l.floor c)
-    go c (inl e) h = subst IsInRange (sym (ap (put m.floor cpu l.floor) e ∙ put-same m.floor cpu l.floor)) h
-    go c (inr ne) h = subst IsInRange (sym (put-other m.floor cpu l.floor c ne)) (r.floors c)
+    floor_is : (c : ℕ) → l.told.floor c ≡ m.floor c
+    floor_is c = ap (λ (x : Machine). x.floor c) (told_is bound charge cpu m (charged m cpu time) l.told l.charges)
 
--- a lift keeps the range
-pub lifted_range : (time : ℕ) (cpus : List ℕ) (m after : Machine) → IsLifted time cpus m after → AreValuesInRange m
+    go : (c : ℕ) → (c ≡ cpu) ⊎ (c ≢ cpu) → IsInRange l.floor → IsInRange (put l.told.floor cpu l.floor c)
+    go c (inl e) h = subst IsInRange (sym (ap (put l.told.floor cpu l.floor) e ∙ put-same l.told.floor cpu l.floor)) h
+    go c (inr ne) h = subst IsInRange (sym (put-other l.told.floor cpu l.floor c ne ∙ floor_is c)) (r.floors c)
+
+-- a lift keeps the range, where the told charge is in it
+pub lifted_range : (bound time : ℕ) (charge : Option ChargeLine) (cpus : List ℕ) (m after : Machine)
+    → IsLifted bound time charge cpus m after → IfSome charge (λ c. IsInRange c.v) → AreValuesInRange m
     → AreValuesInRange after
-lifted_range time [] m after l r = subst AreValuesInRange (sym l) r
-lifted_range time (cpu ∷ cpus) m after l r = lifted_range time cpus l.0 after l.2 (lifted_at_range time cpu m l.0 l.1 r)
+lifted_range bound time charge [] m after l t r = subst AreValuesInRange (sym l) r
+lifted_range bound time charge (cpu ∷ cpus) m after l t r =
+    lifted_range bound time None cpus l.0 after l.2 tt (lifted_at_range bound time charge cpu m l.0 l.1 t r)
 
 said_range : (claim : Option Claim) (sort : ClaimSort) (pid : ℕ) (v : ℤ) → ClaimSays claim sort pid v
     → IfSome claim (λ k. IsInRange k.v) → IsInRange v

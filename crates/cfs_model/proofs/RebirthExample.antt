@@ -34,6 +34,7 @@ fourth_event w = record {
   entry = record { line = 4; time = 100004000000; act = Wake 0 102 (pos 0) };
   claim = Some (at_claim 4 102 w);
   nice = None;
+  charge = None;
   policy = Normal;
 }
 
@@ -44,6 +45,7 @@ module _ (was now : Policy) where
     entry = record { line = 3; time = start_time; act = Switch 0 0 (pos 0) Stays 101 (pos 5) };
     claim = None;
     nice = None;
+    charge = None;
     policy = Normal;
   }
 
@@ -66,12 +68,14 @@ module _ (was now : Policy) where
     ];
   }
 
-  third_lift : IsLifted start_time (0 ∷ []) (second_state was now) third_lifted
+  third_lift : IsLifted 0 start_time None (0 ∷ []) (second_state was now) third_lifted
   unfolding put
   third_lift = (
     third_lifted,
     record {
       can_charge = can_charge_none (second_state was now) 0 start_time (nobody_runs was 0);
+      told = charged (second_state was now) 0 start_time;
+      charges = refl;
       floor = pos 0;
       raised = inr (pos 0, third_least, refl);
       result = refl;
@@ -104,7 +108,7 @@ module _ (was now : Policy) where
         is_reniced = refl;
         changes = changes;
         in_range = change_range standard third_lifted third_event.entry.act None Normal third_state changes tt
-            (lifted_range start_time (0 ∷ []) (second_state was now) third_lifted third_lift
+            (lifted_range 0 start_time None (0 ∷ []) (second_state was now) third_lifted third_lift tt
             (second_step was now).in_range);
       }
 
@@ -136,12 +140,14 @@ module _ (was now : Policy) where
       abbrev fourth_lifted : Machine
       fourth_lifted = with_floor after_charge 0 (int_max (pos 0) top)
 
-      fourth_lift : IsLifted 100004000000 (0 ∷ []) third_state fourth_lifted
+      fourth_lift : IsLifted 0 100004000000 None (0 ∷ []) third_state fourth_lifted
       unfolding put put_pair
       fourth_lift = (
         fourth_lifted,
         record {
           can_charge = can_charge;
+          told = after_charge;
+          charges = refl;
           floor = int_max (pos 0) top;
           raised = inr (
             top,
@@ -190,7 +196,8 @@ module _ (was now : Policy) where
               changes = inr changes;
               in_range = change_range standard fourth_lifted (fourth_event w).entry.act (fourth_event w).claim Normal
                   fourth_state (inr changes) range
-                  (lifted_range 100004000000 (0 ∷ []) third_state fourth_lifted fourth_lift third_step.in_range);
+                  (lifted_range 0 100004000000 None (0 ∷ []) third_state fourth_lifted fourth_lift tt
+                  third_step.in_range);
             }
 
         -- any step places 102 there
@@ -203,7 +210,7 @@ module _ (was now : Policy) where
           where
             found : s.found ≡ fourth_lifted
             found = s.is_reniced
-                ∙ one_lifted 100004000000 (0 ∷ []) third_state s.lifted fourth_lifted s.is_lifted fourth_lift
+                ∙ one_lifted 0 0 100004000000 None (0 ∷ []) third_state s.lifted fourth_lifted s.is_lifted fourth_lift
 
             go : IsWakeQueued fourth_lifted 0 102 (pos 0) (fourth_event w).claim after
                 ⊎ IsWakeResting standard fourth_lifted 0 102 (pos 0) (fourth_event w).claim after

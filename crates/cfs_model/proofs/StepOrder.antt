@@ -1,10 +1,12 @@
 -- A step keeps the order of a machine: each case places one task anew, or two in turn, or lets one end.
-use Rattle.std.proofs.Common.{◌≡◌, ◌≢◌, ℕ, zero, suc, true, false, Option, Some, None, IsSome, is_some, ℤ, ◌+ℤ◌}
+use Rattle.std.proofs.Common.{◌≡◌, ◌≢◌, ℕ, zero, suc, true, false, Option, Some, None, IsSome, is_some, ℤ, pos}
+use Rattle.std.proofs.Common.{◌+ℤ◌}
 use Rattle.std.proofs.Common.{◌-ℤ◌, inl, inr, List, [], ◌∷◌, refl, sym, ap, ◌∙◌, subst}
 use Rattle.std.specs.List.{AllByRecursion}
 use Rattle.cfs_model.specs.Knobs.{KnobsView}
 use Rattle.cfs_model.specs.Machine.{Pairs, Machine, pairs_of, Stands, NobodyStands, with_pairs, put_pair, with_task}
 use Rattle.cfs_model.specs.Machine.{without_task, with_move, with_runtime, with_nice, without_values, with_policy}
+use Rattle.cfs_model.specs.Machine.{with_drift}
 use Rattle.cfs_model.specs.Claimed.{Claimed}
 use Rattle.cfs_model.specs.Touch.{touched}
 use Rattle.cfs_model.specs.Reniced.{home_of}
@@ -12,7 +14,8 @@ use Rattle.cfs_model.specs.Step.{IsCurrent, IsPick, after_prev, after_next, IsMi
 use Rattle.cfs_model.specs.Run.{AreSteps}
 use Rattle.cfs_model.specs.Order.{IsInOrder}
 use Rattle.cfs_model.proofs.Moves.{put-same, put-other, IsPutAt, IsGone, join_placed, leave_gone, move_placed}
-use Rattle.cfs_model.proofs.KeptOrder.{IsApart, same_sets, stands_same, lifted_apart, placed_apart, gone_apart}
+use Rattle.cfs_model.proofs.KeptOrder.{IsApart, same_sets, stands_same, apart_values, lifted_apart, placed_apart}
+use Rattle.cfs_model.proofs.KeptOrder.{gone_apart}
 use Rattle.cfs_model.proofs.Renice.{reniced_apart}
 use Rattle.cfs_model.specs.declared.act.Act.{Act}
 use Rattle.cfs_model.specs.declared.act.Act.TheVariants.{Switch, Wake, Born, Shift}
@@ -101,10 +104,12 @@ valued_apart m between pid to dest v a p pauses e f some =
 
 born_apart : (m : Machine) (cpu pid : ℕ) (nice : ℤ) (policy : Policy) (v : ℤ) → IsApart m → ((place : Place) (other : ℕ)
     → ¬ Stands m place other pid)
-    → IsApart (with_policy (with_nice (with_runtime (with_task m Wait cpu pid) pid v) pid nice) pid policy)
+    → IsApart
+    (with_drift (with_policy (with_nice (with_runtime (with_task m Wait cpu pid) pid v) pid nice) pid policy) pid
+    (pos 0))
 born_apart m cpu pid nice policy v a nowhere =
     let between = with_task m Wait cpu pid in
-    let after = with_policy (with_nice (with_runtime between pid v) pid nice) pid policy in
+    let after = with_drift (with_policy (with_nice (with_runtime between pid v) pid nice) pid policy) pid (pos 0) in
     placed_apart m after pid Wait cpu (placed_same m between after pid Wait cpu
     (same_sets between after refl refl refl) (join_placed m pid Wait cpu nowhere)) a (λ x. absurd cc)
     (ap is_some (put-same m.runtime pid (Some v))) (put-other m.runtime pid (Some v))
@@ -139,7 +144,11 @@ moved_apart : (m : Machine) (orig dest pid : ℕ) (nice : ℤ) (claim : Option C
     → IsApart m → IsMigration m orig dest pid nice claim policy after → IsApart after
 moved_apart m orig dest pid nice claim policy after a s =
     let left = without_task m s.place orig pid in
+    let placed = with_runtime (with_move m pid s.place orig s.place dest) pid ((s.own -ℤ m.floor orig) +ℤ m.floor dest)
+    in
+    let anew = with_drift placed pid (pos 0) in
     subst IsApart (sym s.result)
+    (apart_values placed anew (same_sets placed anew refl refl refl) (λ q. refl) (λ q. refl)
     (valued_apart m (with_move m pid s.place orig s.place dest) pid s.place dest
     ((s.own -ℤ m.floor orig) +ℤ m.floor dest) a
     (move_placed m pid s.place orig s.place dest (alone m a s.place orig pid s.stands))
@@ -148,7 +157,7 @@ moved_apart m orig dest pid nice claim policy after a s =
     (put_pair (pairs_of m s.place) orig pid false))
     (nice-with_pairs left s.place (put_pair (pairs_of left s.place) dest pid true) ∙ nice-with_pairs m s.place
     (put_pair (pairs_of m s.place) orig pid false))
-    (some_of (m.nice pid) nice s.prio))
+    (some_of (m.nice pid) nice s.prio)))
 
 -- an event's own change keeps the order
 change_apart : (knobs : KnobsView) (m : Machine) (act : Act) (claim : Option Claim) (policy : Policy) (after : Machine)
@@ -173,7 +182,8 @@ apart_of m o = record { one_place = o.one_place; one_runs = o.one_runs; runtimes
 pub step_in_order : (knobs : KnobsView) (before : Machine) (event : Claimed) (after : Machine) → IsInOrder before
     → IsStep knobs before event after → IsInOrder after
 step_in_order knobs before event after o s =
-    let lifted = lifted_apart event.entry.time (touched event.entry.act) before s.lifted s.is_lifted
+    let lifted = lifted_apart knobs.drift event.entry.time event.charge (touched event.entry.act) before s.lifted
+    s.is_lifted
     (apart_of before o) in
     let found = reniced_apart (home_of event.entry.act) event.nice s.lifted s.found s.is_reniced lifted in
     let a = change_apart knobs s.found event.entry.act event.claim event.policy after found s.changes in

@@ -1,6 +1,7 @@
 -- The examples of a switch: 101 is charged by its weight and put back, and 102 is picked. What hangs on the nice value,
 -- the cost and the least virtual runtime, is a parameter.
-use Rattle.std.proofs.Common.{◌≡◌, ℕ, true, Some, ℤ, pos, ◌+ℤ◌, ◌≤ℤ◌, inl, inr, [], ◌∷◌, refl, sym, ap}
+use Rattle.std.proofs.Common.{◌≡◌, ℕ, true, Some, None, ℤ, pos, ◌+ℤ◌, ◌≤ℤ◌, inl, inr, [], ◌∷◌, refl, sym}
+use Rattle.std.proofs.Common.{ap}
 use Rattle.std.proofs.Common.{◌∙◌, subst, arith, lit<, lit≤}
 use Rattle.std.proofs.lemmas.Int.{ints}
 use Rattle.std.specs.Int.{int_max}
@@ -14,6 +15,7 @@ use Rattle.cfs_model.specs.Examples.{PutBackExample, NiceExample, IdlePolicyExam
 use Rattle.cfs_model.proofs.Moves.{pair_cases}
 use Rattle.cfs_model.proofs.StartOrder.{start_in_order}
 use Rattle.cfs_model.proofs.Range.{lifted_range, change_range}
+use Rattle.cfs_model.proofs.ToldCharge.{untold_is}
 use Rattle.cfs_model.proofs.Worked.{of_two, value_at, below_at, can_charge_one}
 use Rattle.cfs_model.specs.declared.act.Way.TheVariants.{Stays}
 use Rattle.cfs_model.specs.declared.task.Place.TheVariants.{Run, Wait}
@@ -75,10 +77,12 @@ module _ (nice : ℤ) (policy : Policy) (cost u v : ℤ) (is_cost : (after_charg
   unfolding put put_pair
   switch_step granularity range within_range can_charge least within =
       let lifted : Machine = with_floor (after_charge nice policy u) 0 (int_max (pos 0) v) in
-      let lift : IsLifted time (0 ∷ []) (switch_start nice policy u) lifted = (
+      let lift : IsLifted 0 time None (0 ∷ []) (switch_start nice policy u) lifted = (
         lifted,
         record {
           can_charge = can_charge;
+          told = after_charge nice policy u;
+          charges = refl;
           floor = int_max (pos 0) v;
           raised = inr
               (v, least, refl);
@@ -117,8 +121,8 @@ module _ (nice : ℤ) (policy : Policy) (cost u v : ℤ) (is_cost : (after_charg
           changes = changes;
           in_range = change_range (standard_with granularity) lifted (switch_event nice cost).entry.act
               (switch_event nice cost).claim Normal after changes within_range
-              (lifted_range time (0 ∷ []) (switch_start nice policy u) lifted lift (start_in_order start_time (pos 0
-              ∷ [])
+              (lifted_range 0 time None (0 ∷ []) (switch_start nice policy u) lifted lift tt (start_in_order start_time
+              (pos 0 ∷ [])
               (first_task nice policy ∷ second_task u ∷ []) (start_is nice policy u range)).in_range);
         },
       )
@@ -128,10 +132,12 @@ module _ (nice : ℤ) (policy : Policy) (cost u v : ℤ) (is_cost : (after_charg
       (switch_event nice w) after) where
     -- the two virtual runtimes in the machine that the event of any step finds
     found_first : s.found.runtime 101 ≡ Some cost
-    found_first = ap (λ (m : Machine). m.runtime 101) (s.is_reniced ∙ s.is_lifted.2 ∙ s.is_lifted.1.result) ∙ is_cost
+    found_first = ap (λ (m : Machine). m.runtime 101) (s.is_reniced ∙ s.is_lifted.2
+        ∙ untold_is 0 time 0 (switch_start nice policy u) s.is_lifted.0 s.is_lifted.1) ∙ is_cost
 
     found_second : s.found.runtime 102 ≡ Some u
-    found_second = ap (λ (m : Machine). m.runtime 102) (s.is_reniced ∙ s.is_lifted.2 ∙ s.is_lifted.1.result)
+    found_second = ap (λ (m : Machine). m.runtime 102) (s.is_reniced ∙ s.is_lifted.2
+        ∙ untold_is 0 time 0 (switch_start nice policy u) s.is_lifted.0 s.is_lifted.1)
 
     -- any step puts 101 back at its charge
     put_back_at : w ≡ cost

@@ -1,5 +1,5 @@
 -- The example of a wakeup: nobody is charged and the floor stays, so the bounds are those of the start.
-use Rattle.std.proofs.Common.{◌≡◌, ℕ, Some, ℤ, pos, ◌-ℤ◌, ◌≤ℤ◌, ◌⊎◌, inl, inr, [], ◌∷◌, refl, sym, ap, ◌∙◌}
+use Rattle.std.proofs.Common.{◌≡◌, ℕ, Some, None, ℤ, pos, ◌-ℤ◌, ◌≤ℤ◌, ◌⊎◌, inl, inr, [], ◌∷◌, refl, sym, ap, ◌∙◌}
 use Rattle.std.proofs.Common.{subst, arith}
 use Rattle.std.proofs.lemmas.Int.{ints}
 use Rattle.std.specs.Int.{int_max}
@@ -10,6 +10,7 @@ use Rattle.cfs_model.specs.Order.{IsStart}
 use Rattle.cfs_model.specs.Examples.{standard, HasStep, start_time, wake_start, wake_event, WakeExample}
 use Rattle.cfs_model.proofs.StartOrder.{start_in_order}
 use Rattle.cfs_model.proofs.Range.{lifted_range, change_range}
+use Rattle.cfs_model.proofs.ToldCharge.{untold_is, untold_raised}
 use Rattle.cfs_model.proofs.Worked.{of_one, value_at, can_charge_none}
 use Rattle.cfs_model.specs.declared.task.Place.TheVariants.{Run, Wait, Rest}
 use Rattle.cfs_model.specs.declared.task.Task.{Task}
@@ -38,11 +39,13 @@ nobody_queued q h = elim h [
 abbrev lifted : Machine
 lifted = with_floor (charged wake_start 0 start_time) 0 (pos 10000000)
 
-lift : IsLifted start_time (0 ∷ []) wake_start lifted
+lift : IsLifted 0 start_time None (0 ∷ []) wake_start lifted
 lift = (
   lifted,
   record {
     can_charge = can_charge_none wake_start 0 start_time (λ q h. nobody_queued q (inl h));
+    told = charged wake_start 0 start_time;
+    charges = refl;
     floor = pos 10000000;
     raised = inl (nobody_queued, refl);
     result = refl;
@@ -73,7 +76,8 @@ wake_step w low high =
         is_reniced = refl;
         changes = inr changes;
         in_range = change_range standard lifted (wake_event w).entry.act (wake_event w).claim Normal after (inr changes)
-            (omega (arith, ints), omega (arith, ints)) (lifted_range start_time (0 ∷ []) wake_start lifted lift
+            (omega (arith, ints), omega (arith, ints)) (lifted_range 0 start_time None (0 ∷ []) wake_start lifted
+            lift tt
             (start_in_order start_time (pos 10000000 ∷ []) (the_task ∷ []) start_is).in_range);
       },
     )
@@ -83,8 +87,11 @@ wake_found : (w : ℤ) (after : Machine) (s : IsStep standard wake_start (wake_e
     → (s.found.runtime 101 ≡ Some (pos 0)) × (s.found.floor 0 ≡ pos 10000000)
 unfolding put
 wake_found w after s =
-    let e = s.is_reniced ∙ s.is_lifted.2 ∙ s.is_lifted.1.result in
-    (ap (λ (m : Machine). m.runtime 101) e, ap (λ (m : Machine). m.floor 0) e ∙ floor_stays s.is_lifted.1.raised)
+    let e = s.is_reniced ∙ s.is_lifted.2 ∙ untold_is 0 start_time 0 wake_start s.is_lifted.0 s.is_lifted.1 in (
+      ap (λ (m : Machine). m.runtime 101) e,
+      ap (λ (m : Machine). m.floor 0) e ∙ floor_stays
+          (untold_raised 0 start_time 0 wake_start s.is_lifted.0 s.is_lifted.1),
+    )
   where
     floor_stays : IsRaised (charged wake_start 0 start_time) 0 s.is_lifted.1.floor → s.is_lifted.1.floor ≡ pos 10000000
     floor_stays (inl a) = a.1

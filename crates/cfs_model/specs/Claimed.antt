@@ -7,6 +7,7 @@ use Rattle.cfs_model.specs.Machine.{put}
 use Rattle.cfs_model.specs.declared.act.Act.{Act}
 use Rattle.cfs_model.specs.declared.act.Act.TheVariants.{Born, Shift}
 use Rattle.cfs_model.specs.declared.act.Entry.{Entry}
+use Rattle.cfs_model.specs.declared.charge_line.ChargeLine.{ChargeLine}
 use Rattle.cfs_model.specs.declared.claim.Claim.{Claim}
 use Rattle.cfs_model.specs.declared.claim.ClaimSort.{ClaimSort}
 use Rattle.cfs_model.specs.declared.idle_line.IdleLine.{IdleLine}
@@ -14,12 +15,13 @@ use Rattle.cfs_model.specs.declared.nice_line.NiceLine.{NiceLine}
 use Rattle.cfs_model.specs.declared.policy.Policy.{Policy}
 use Rattle.cfs_model.specs.declared.policy.Policy.TheVariants.{Normal, Idle}
 
--- an event with the claim and the change of a nice value on its line, if there are such, and with the policy of the
--- task that is born or moves
+-- an event with the claim, the change of a nice value and the told charge on its line, if there are such, and with the
+-- policy of the task that is born or moves
 pub record Claimed : Type 0 where
   pub entry : Entry
   pub claim : Option Claim
   pub nice : Option NiceLine
+  pub charge : Option ChargeLine
   pub policy : Policy
 
 -- the claim on a line
@@ -29,6 +31,10 @@ claim_at claims line = find (λ claim. claim.line == line) claims
 -- the change of a nice value on a line
 abbrev pub nice_at : List NiceLine → ℕ → Option NiceLine
 nice_at nices line = find (λ change. change.line == line) nices
+
+-- the told charge on a line
+abbrev pub charge_at : List ChargeLine → ℕ → Option ChargeLine
+charge_at charges line = find (λ charge. charge.line == line) charges
 
 -- the companion names the task of this pid as one of the idle policy from this line on
 abbrev pub is_named_idle : List IdleLine → ℕ → ℕ → Bool
@@ -69,17 +75,18 @@ policy_in idles policies entries entry =
     policy_told idles (policies_before idles policies entries) entry.line entry.act
 
 -- an event with what is said on its line, and a policy
-abbrev pub with_claim : List Claim → List NiceLine → (Entry → Policy) → Entry → Claimed
-with_claim claims nices policy entry = record {
+abbrev pub with_claim : List Claim → List NiceLine → List ChargeLine → (Entry → Policy) → Entry → Claimed
+with_claim claims nices charges policy entry = record {
   entry = entry;
   claim = claim_at claims entry.line;
   nice = nice_at nices entry.line;
+  charge = charge_at charges entry.line;
   policy = policy entry;
 }
 
 -- each event with what is said on its line, and its policy
-abbrev pub claimed : List Claim → List NiceLine → (Entry → Policy) → List Entry → List Claimed
-claimed claims nices policy entries = map (λ entry. with_claim claims nices policy entry) entries
+abbrev pub claimed : List Claim → List NiceLine → List ChargeLine → (Entry → Policy) → List Entry → List Claimed
+claimed claims nices charges policy entries = map (λ entry. with_claim claims nices charges policy entry) entries
 
 -- the claim is of this sort, and names this pid with this virtual runtime
 abbrev pub ClaimSays : Option Claim → ClaimSort → ℕ → ℤ → Type 0

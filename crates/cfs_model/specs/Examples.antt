@@ -21,11 +21,21 @@ use Rattle.cfs_model.specs.declared.policy.Policy.TheVariants.{Normal, Idle}
 
 -- the default settings, but for the granularity
 abbrev pub standard_with : ℕ → KnobsView
-standard_with granularity = record { granularity = granularity; credit = 3000000; debit = 3000000; slack = 100000 }
+standard_with granularity = record {
+  granularity = granularity;
+  credit = 3000000;
+  debit = 3000000;
+  slack = 100000;
+  drift = 0;
+}
 
 -- the default settings
 abbrev pub standard : KnobsView
 standard = standard_with 1000000
+
+-- the default settings, but for a drift of 1 ms
+abbrev pub drifting : KnobsView
+drifting = record standard { drift = 1000000 }
 
 -- a machine has a next one by an event
 abbrev pub HasStep : KnobsView → Machine → Claimed → Type 0
@@ -51,6 +61,7 @@ switch_event nice w = record {
   entry = record { line = 1; time = 100004000000; act = Switch 0 101 nice Stays 102 (pos 0) };
   claim = Some (at_claim 1 101 w);
   nice = None;
+  charge = None;
   policy = Normal;
 }
 
@@ -58,6 +69,16 @@ switch_event nice w = record {
 abbrev pub PutBackExample : Type 0
 PutBackExample = (w : ℤ)
     → HasStep standard (switch_start (pos 0) Normal (pos 0)) (switch_event (pos 0) w) ↔ (w ≡ pos 4000000)
+
+-- where the companion tells that 101 is charged up to a virtual runtime
+abbrev pub told_event : ℤ → ℤ → Claimed
+told_event told w = record (switch_event (pos 0) w) { charge = Some (record { line = 1; pid = 101; v = told }) }
+
+-- the exact charge is 4 ms; a drift of 1 ms allows for 3 to 5, and 101 is put back at just what is told
+abbrev pub ToldExample : Type 0
+ToldExample = (told w : ℤ)
+    → HasStep drifting (switch_start (pos 0) Normal (pos 0)) (told_event told w)
+    ↔ ((pos 3000000 ≤ℤ told) × (told ≤ℤ pos 5000000) × (w ≡ told))
 
 -- at nice 5, whose weight is 335, the charge is 4 ms * 1024 / 335, rounded down
 abbrev pub NiceExample : Type 0
@@ -81,7 +102,7 @@ PickExample = (granularity : ℕ)
 -- w
 abbrev pub nice_events : ℤ → ℤ → List Claimed
 nice_events printed w =
-    claimed (at_claim 2 101 w ∷ []) (record { line = 1; pid = 101; nice = pos 5 } ∷ []) (λ entry. Normal) (
+    claimed (at_claim 2 101 w ∷ []) (record { line = 1; pid = 101; nice = pos 5 } ∷ []) [] (λ entry. Normal) (
     record { line = 1; time = 100004000000; act = Wake 0 101 printed }
     ∷ record { line = 2; time = 100008000000; act = Switch 0 101 (pos 5) Stays 102 (pos 0) } ∷ [])
 
@@ -104,6 +125,7 @@ migration_event time w = record {
   entry = record { line = 1; time = time; act = Shift 0 1 101 (pos 0) };
   claim = Some (at_claim 1 101 w);
   nice = None;
+  charge = None;
   policy = Normal;
 }
 
@@ -122,6 +144,7 @@ renicing_migration pid printed w = record {
   entry = record { line = 1; time = start_time; act = Shift 0 1 101 printed };
   claim = Some (at_claim 1 101 w);
   nice = Some (record { line = 1; pid = pid; nice = pos 5 });
+  charge = None;
   policy = Normal;
 }
 
@@ -151,12 +174,33 @@ wake_event w = record {
   entry = record { line = 1; time = start_time; act = Wake 0 101 (pos 0) };
   claim = Some (at_claim 1 101 w);
   nice = None;
+  charge = None;
   policy = Normal;
 }
 
 -- from 3 ms below the floor to the floor
 abbrev pub WakeExample : Type 0
 WakeExample = (w : ℤ) → HasStep standard wake_start (wake_event w) ↔ ((pos 7000000 ≤ℤ w) × (w ≤ℤ pos 10000000))
+
+-- one processor with floor 0, where 101 runs at 0 and 102 rests at 0
+abbrev pub floor_start : Machine
+floor_start = start_machine start_time (pos 0 ∷ []) (
+    record { pid = 101; nice = pos 0; policy = Normal; cpu = 0; place = Run; v = pos 0 }
+    ∷ record { pid = 102; nice = pos 0; policy = Normal; cpu = 0; place = Rest; v = pos 0 } ∷ [])
+
+-- 4 ms later 102 is woken, where 101 is told to be charged 3.5 ms alone; the claim places 102 at w
+abbrev pub floor_event : ℤ → Claimed
+floor_event w = record {
+  entry = record { line = 1; time = 100004000000; act = Wake 0 102 (pos 0) };
+  claim = Some (at_claim 1 102 w);
+  nice = None;
+  charge = Some (record { line = 1; pid = 101; v = pos 3500000 });
+  policy = Normal;
+}
+
+-- the floor follows the told charge: from 3 ms below 3.5 ms to it
+abbrev pub ToldFloorExample : Type 0
+ToldFloorExample = (w : ℤ) → HasStep drifting floor_start (floor_event w) ↔ ((pos 500000 ≤ℤ w) × (w ≤ℤ pos 3500000))
 
 -- one processor, where 102 rests at 0
 abbrev pub idle_start : Machine
@@ -165,7 +209,7 @@ idle_start = start_machine start_time (pos 0 ∷ []) (
 
 -- 102 is woken 1 ms after the start and placed at 0, woken again 0.05 ms later, and picked at the time given
 abbrev pub idle_events : ℕ → List Claimed
-idle_events time = claimed (at_claim 1 102 (pos 0) ∷ []) [] (λ entry. Normal) (
+idle_events time = claimed (at_claim 1 102 (pos 0) ∷ []) [] [] (λ entry. Normal) (
     record { line = 1; time = 100001000000; act = Wake 0 102 (pos 0) }
     ∷ record { line = 2; time = 100001050000; act = Wake 0 102 (pos 0) }
     ∷ record { line = 3; time = time; act = Switch 0 0 (pos 0) Stays 102 (pos 0) } ∷ [])
@@ -182,7 +226,7 @@ birth_start = start_machine start_time (pos 0 ∷ pos 0 ∷ []) (
 
 -- 101 leaves the first in a way, and 1 ms later a task of that pid is born at the second; the claim places it at w
 abbrev pub birth_events : Way → ℤ → List Claimed
-birth_events way w = claimed (at_claim 2 101 w ∷ []) [] (λ entry. Normal) (
+birth_events way w = claimed (at_claim 2 101 w ∷ []) [] [] (λ entry. Normal) (
     record { line = 1; time = 100001000000; act = Switch 0 101 (pos 0) way 0 (pos 0) }
     ∷ record { line = 2; time = 100002000000; act = Born 1 101 (pos 0) } ∷ [])
 
@@ -211,7 +255,7 @@ rebirth_entries =
 -- the claims place the new task at 0 and 102 at w; the companion names who is of the idle policy
 abbrev pub rebirth_events : Policy → List IdleLine → ℤ → List Claimed
 rebirth_events policy idles w =
-    claimed (at_claim 2 101 (pos 0) ∷ at_claim 4 102 w ∷ []) []
+    claimed (at_claim 2 101 (pos 0) ∷ at_claim 4 102 w ∷ []) [] []
     (policy_in idles (policies_at_start (rebirth_tasks policy)) rebirth_entries) rebirth_entries
 
 -- a task that is named at its birth is of the idle policy, whatever its pid was of before: 4 ms cost 1365333333, which
@@ -234,6 +278,7 @@ strange_event pid w = record {
   entry = record { line = 1; time = 100001000000; act = Born 1 102 (pos 0) };
   claim = Some (at_claim 1 102 w);
   nice = Some (record { line = 1; pid = pid; nice = pos 5 });
+  charge = None;
   policy = Normal;
 }
 
@@ -247,6 +292,7 @@ idle_switch w = record {
   entry = record { line = 1; time = 100001000000; act = Switch 0 101 (pos 0) Stays 0 (pos 0) };
   claim = Some (at_claim 1 101 w);
   nice = None;
+  charge = None;
   policy = Normal;
 }
 

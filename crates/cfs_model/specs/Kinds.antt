@@ -1,16 +1,17 @@
--- The names and texts of the twenty kinds of fault (this project's profile).
+-- The names and texts of the twenty-one kinds of fault (this project's profile).
 use Rattle.std.specs.Prelude.{ℕ, List, codes}
 use Rattle.cfs_model.specs.declared.kind.Kind.{Kind}
-use Rattle.cfs_model.specs.declared.kind.Kind.TheVariants.{IdleTooLong, Range, MoveHome, SelfSwitch, PrevNotRunning}
-use Rattle.cfs_model.specs.declared.kind.Kind.TheVariants.{Strange, Already, MoveRunning, WrongPrio, ClaimMissing}
-use Rattle.cfs_model.specs.declared.kind.Kind.TheVariants.{ClaimExtra, ClaimPid, WrongPutBack, WakeBounds, ForkBounds}
-use Rattle.cfs_model.specs.declared.kind.Kind.TheVariants.{NextNotWaiting, IdleBesideWaiting, NotLeast, TicketUnequal}
-use Rattle.cfs_model.specs.declared.kind.Kind.TheVariants.{BornTwice}
+use Rattle.cfs_model.specs.declared.kind.Kind.TheVariants.{IdleTooLong, Range, WrongCharge, MoveHome, SelfSwitch}
+use Rattle.cfs_model.specs.declared.kind.Kind.TheVariants.{PrevNotRunning, Strange, Already, MoveRunning, WrongPrio}
+use Rattle.cfs_model.specs.declared.kind.Kind.TheVariants.{ClaimMissing, ClaimExtra, ClaimPid, WrongPutBack, WakeBounds}
+use Rattle.cfs_model.specs.declared.kind.Kind.TheVariants.{ForkBounds, NextNotWaiting, IdleBesideWaiting, NotLeast}
+use Rattle.cfs_model.specs.declared.kind.Kind.TheVariants.{TicketUnequal, BornTwice}
 
 -- the name that a report prints
 abbrev pub name_of : Kind → List ℕ
 name_of IdleTooLong = codes "IdleTooLong"
 name_of Range = codes "Range"
+name_of WrongCharge = codes "WrongCharge"
 name_of MoveHome = codes "MoveHome"
 name_of SelfSwitch = codes "SelfSwitch"
 name_of PrevNotRunning = codes "PrevNotRunning"
@@ -34,6 +35,7 @@ name_of BornTwice = codes "BornTwice"
 abbrev pub text_of : Kind → List ℕ
 text_of IdleTooLong = codes "idle beside a waiting task"
 text_of Range = codes "virtual runtime out of range"
+text_of WrongCharge = codes "charged beyond the drift"
 text_of MoveHome = codes "migration to its own processor"
 text_of SelfSwitch = codes "switch to the same task"
 text_of PrevNotRunning = codes "previous task is not the running one"

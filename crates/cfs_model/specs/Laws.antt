@@ -4,7 +4,7 @@ use Rattle.std.specs.List.{AllByRecursion}
 use Rattle.cfs_model.specs.Knobs.{KnobsView}
 use Rattle.cfs_model.specs.Machine.{Machine}
 use Rattle.cfs_model.specs.Start.{policies_at_start, start_machine}
-use Rattle.cfs_model.specs.Claimed.{Claimed, nice_at, policies_before, policy_in, claimed}
+use Rattle.cfs_model.specs.Claimed.{Claimed, nice_at, charge_at, policies_before, policy_in, claimed}
 use Rattle.cfs_model.specs.Touch.{touched}
 use Rattle.cfs_model.specs.Lifted.{IsLifted}
 use Rattle.cfs_model.specs.Reniced.{home_of, IsReniced}
@@ -14,6 +14,7 @@ use Rattle.cfs_model.specs.Order.{IsInOrder, IsStart}
 use Rattle.cfs_model.specs.Least.{AtMost, lesser, AreLeast, greatest_settings, IsFirstBadAtAll}
 use Rattle.cfs_model.specs.declared.act.Act.TheVariants.{Shift}
 use Rattle.cfs_model.specs.declared.act.Entry.{Entry}
+use Rattle.cfs_model.specs.declared.charge_line.ChargeLine.{ChargeLine}
 use Rattle.cfs_model.specs.declared.claim.Claim.{Claim}
 use Rattle.cfs_model.specs.declared.idle_line.IdleLine.{IdleLine}
 use Rattle.cfs_model.specs.declared.nice_line.NiceLine.{NiceLine}
@@ -64,10 +65,11 @@ MarksMove = (knobs : KnobsView) (before : Machine) (event : Claimed) (after : Ma
 -- companion tells at the start and at the births before the entry's line
 abbrev pub PoliciesAreTold : Type 0
 PoliciesAreTold = (knobs : KnobsView) (start : ℕ) (floors : List ℤ) (tasks : List Task)
-    (claims : List Claim) (nices : List NiceLine) (idles : List IdleLine) (before rest : List Entry) (entry : Entry)
+    (claims : List Claim) (nices : List NiceLine) (charges : List ChargeLine) (idles : List IdleLine)
+    (before rest : List Entry) (entry : Entry)
     → AllPairs (λ a b. a.line < b.line) (before ++ entry ∷ rest)
     → (run : IsRun knobs start (start_machine start floors tasks)
-    (claimed claims nices (policy_in idles (policies_at_start tasks) (before ++ entry ∷ rest)) before))
+    (claimed claims nices charges (policy_in idles (policies_at_start tasks) (before ++ entry ∷ rest)) before))
     → (last_of (start_machine start floors tasks) run.states).policy
     ≡ policies_before idles (policies_at_start tasks) (before ++ entry ∷ rest) entry.line
 
@@ -75,13 +77,15 @@ PoliciesAreTold = (knobs : KnobsView) (start : ℕ) (floors : List ℤ) (tasks :
 -- the policy holds of every record
 abbrev pub MoverKeepsPolicy : Type 0
 MoverKeepsPolicy = (knobs : KnobsView) (start : ℕ) (floors : List ℤ) (tasks : List Task)
-    (claims : List Claim) (nices : List NiceLine) (idles : List IdleLine) (before rest : List Entry) (entry : Entry)
+    (claims : List Claim) (nices : List NiceLine) (charges : List ChargeLine) (idles : List IdleLine)
+    (before rest : List Entry) (entry : Entry)
     (orig dest pid : ℕ) (nice : ℤ) (lifted found : Machine)
     → AllPairs (λ a b. a.line < b.line) (before ++ entry ∷ rest)
     → (run : IsRun knobs start (start_machine start floors tasks)
-    (claimed claims nices (policy_in idles (policies_at_start tasks) (before ++ entry ∷ rest)) before))
+    (claimed claims nices charges (policy_in idles (policies_at_start tasks) (before ++ entry ∷ rest)) before))
     → entry.act ≡ Shift orig dest pid nice
-    → IsLifted entry.time (touched entry.act) (last_of (start_machine start floors tasks) run.states) lifted
+    → IsLifted knobs.drift entry.time (charge_at charges entry.line) (touched entry.act)
+    (last_of (start_machine start floors tasks) run.states) lifted
     → IsReniced (home_of entry.act) (nice_at nices entry.line) lifted found
     → found.policy pid ≡ policy_in idles (policies_at_start tasks) (before ++ entry ∷ rest) entry
 
@@ -90,7 +94,7 @@ abbrev pub MoreKeepsRun : Type 0
 MoreKeepsRun = (less more : KnobsView) (start : ℕ) (first : Machine) (events : List Claimed)
     → AtMost less more → IsRun less start first events → IsRun more start first events
 
--- a run at two settings is one at the lesser of each of the four
+-- a run at two settings is one at the lesser of each of the five
 abbrev pub LesserKeepsRun : Type 0
 LesserKeepsRun = (one other : KnobsView) (start : ℕ) (first : Machine) (events : List Claimed)
     → IsRun one start first events → IsRun other start first events → IsRun (lesser one other) start first events

@@ -1,6 +1,6 @@
 -- The least settings at which events are a run (this project's profile): how far above the least a task was ever
--- picked, how far below the floor one was ever woken and how far above it one was ever born, and how long a processor
--- ever idled beside a waiting task.
+-- picked, how far below the floor one was ever woken and how far above it one was ever born, how long a processor ever
+-- idled beside a waiting task, and how far told charges ever strayed in sum.
 use Rattle.std.specs.Prelude.{◌≡◌, ℕ, ◌≤◌, min, max, List, [], ◌∷◌, ◌++◌}
 use Rattle.cfs_model.specs.Limits.{greatest_setting}
 use Rattle.cfs_model.specs.Knobs.{KnobsView, AreInRange, settings_by, value_at}

@@ -10,6 +10,7 @@ pub mod Start
 pub mod Claimed
 pub mod Touch
 pub mod Lives
+pub mod Told
 pub mod Lifted
 pub mod Reniced
 pub mod Step
@@ -18,5 +19,6 @@ pub mod Run
 pub mod Order
 pub mod Least
 pub mod Laws
+pub mod ToldLaws
 pub mod Kinds
 pub mod Examples

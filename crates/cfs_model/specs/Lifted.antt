@@ -1,15 +1,19 @@
--- The machine that an event's time alone leads to, before a nice value changes and before the event's own change: at
--- each touched processor the running task is charged, and then the floor is raised. Sources: sched-design-CFS.rst, "The
--- rbtree" (the time that a task just ran is added to its virtual runtime; min_vruntime is monotonic and tracks the
--- smallest virtual runtime of the runqueue); sched-nice-design.rst (a nice value is a share, here a weight). That only
--- events charge, the weight of the idle policy and the rounding are this project's profile.
-use Rattle.std.specs.Prelude.{◌≡◌, ℕ, ◌-◌, ◌≤◌, if◌then◌else◌, Option, Some, option_map, option_and_then, ℤ, pos}
+-- The machine that an event's time and the charge told on its line lead to, before a nice value changes and before the
+-- event's own change: at each touched processor the running task is charged, exactly or as told, and then the floor is
+-- raised. Sources: sched-design-CFS.rst, "The rbtree" (the time that a task just ran is added to its virtual runtime;
+-- min_vruntime is monotonic and tracks the smallest virtual runtime of the runqueue); sched-nice-design.rst (a nice
+-- value is a share, here a weight). That only events charge, the weight of the idle policy and the rounding are this
+-- project's profile.
+use Rattle.std.specs.Prelude.{◌≡◌, ℕ, ◌-◌, ◌≤◌, if◌then◌else◌, Option, Some, None, option_map, option_and_then, ℤ}
+use Rattle.std.specs.Prelude.{pos}
 use Rattle.std.specs.Prelude.{◌+ℤ◌, ◌≤ℤ◌, ◌⊎◌, List, [], ◌∷◌}
 use Rattle.std.specs.Int.{int_max}
 use Rattle.cfs_model.specs.Charge.{charge_of}
 use Rattle.cfs_model.specs.Limits.{greatest_runtime}
 use Rattle.cfs_model.specs.Nice.{task_weight}
 use Rattle.cfs_model.specs.Machine.{Machine, Stands, IsQueued, put, with_floor}
+use Rattle.cfs_model.specs.Told.{ChargesAs}
+use Rattle.cfs_model.specs.declared.charge_line.ChargeLine.{ChargeLine}
 use Rattle.cfs_model.specs.declared.task.Place.TheVariants.{Run}
 use Rattle.cfs_model.specs.declared.policy.Policy.{Policy}
 
@@ -24,7 +28,7 @@ charged_runtime m cpu time pid =
     option_and_then (λ nice. option_map (λ v. v +ℤ pos (cost_at m cpu time nice (m.policy pid))) (m.runtime pid))
     (m.nice pid)
 
--- who runs at the processor is charged, and its mark is the time
+-- who runs at the processor is charged exactly, and its mark is the time
 abbrev pub charged : Machine → ℕ → ℕ → Machine
 charged m cpu time = record m {
   runtime = λ pid. if m.running cpu pid then charged_runtime m cpu time pid else m.runtime pid;
@@ -52,15 +56,18 @@ IsRaised m cpu floor =
     (((pid : ℕ) → ¬ IsQueued m cpu pid) × (floor ≡ m.floor cpu))
     ⊎ ((v : ℤ) × IsLeast m cpu v × (floor ≡ int_max (m.floor cpu) v))
 
--- after is before with one processor charged and its floor raised
-pub record IsLiftedAt (time cpu : ℕ) (before after : Machine) : Type 0 where
+-- after is before with one processor charged, exactly or as told, and then its floor raised
+pub record IsLiftedAt (bound time : ℕ) (charge : Option ChargeLine) (cpu : ℕ) (before after : Machine) : Type 0 where
   pub can_charge : CanCharge before cpu time
+  pub told : Machine
+  pub charges : ChargesAs bound charge cpu before (charged before cpu time) told
   pub floor : ℤ
-  pub raised : IsRaised (charged before cpu time) cpu floor
-  pub result : after ≡ with_floor (charged before cpu time) cpu floor
+  pub raised : IsRaised told cpu floor
+  pub result : after ≡ with_floor told cpu floor
 
--- after is before with each of these processors charged and its floor raised, in turn
-abbrev pub IsLifted : ℕ → List ℕ → Machine → Machine → Type 0
-IsLifted time [] before after = after ≡ before
-IsLifted time (cpu ∷ cpus) before after =
-    (between : Machine) × IsLiftedAt time cpu before between × IsLifted time cpus between after
+-- after is before with each of these processors charged and its floor raised, in turn; a told charge is at the first of
+-- them, where the event happens
+abbrev pub IsLifted : ℕ → ℕ → Option ChargeLine → List ℕ → Machine → Machine → Type 0
+IsLifted bound time charge [] before after = after ≡ before
+IsLifted bound time charge (cpu ∷ cpus) before after =
+    (between : Machine) × IsLiftedAt bound time charge cpu before between × IsLifted bound time None cpus between after

@@ -23,6 +23,9 @@ pub record Machine : Type 0 where
   pub nice : ℕ → Option ℤ
   -- the policy of each task, as told at the start or at its birth; of a pid without a task it says nothing
   pub policy : ℕ → Policy
+  -- by how much the told charges of each task stray in sum from exact ones since it came to its processor, in virtual
+  -- nanoseconds; of a pid without a task it says nothing
+  pub drift : ℕ → ℤ
   -- the floor of each processor's runqueue (its min_vruntime), in virtual nanoseconds
   pub floor : ℕ → ℤ
   -- the mark: the time of the last charge at each processor (its running task's exec_start), in nanoseconds
@@ -84,6 +87,10 @@ with_runtime m pid v = record m { runtime = put m.runtime pid (Some v) }
 -- the pid has this nice value
 abbrev pub with_nice : Machine → ℕ → ℤ → Machine
 with_nice m pid nice = record m { nice = put m.nice pid (Some nice) }
+
+-- the pid has this drift
+abbrev pub with_drift : Machine → ℕ → ℤ → Machine
+with_drift m pid drift = record m { drift = put m.drift pid drift }
 
 -- the pid is of this policy
 abbrev pub with_policy : Machine → ℕ → Policy → Machine

@@ -28,8 +28,8 @@ task_of tasks pid = find (λ t. t.pid == pid) tasks
 abbrev pub policies_at_start : List Task → ℕ → Policy
 policies_at_start tasks pid = option_map_or (λ t. t.policy) (task_of tasks pid) Normal
 
--- each task in its place with its values, and each processor with its floor and the start time as its mark; a
--- processor past the list of floors has floor 0
+-- each task in its place with its values and without a drift, and each processor with its floor and the start time as
+-- its mark; a processor past the list of floors has floor 0
 abbrev pub start_machine : ℕ → List ℤ → List Task → Machine
 start_machine start floors tasks = record {
   running = named_in tasks Run;
@@ -38,6 +38,7 @@ start_machine start floors tasks = record {
   runtime = λ pid. option_map (λ t. t.v) (task_of tasks pid);
   nice = λ pid. option_map (λ t. t.nice) (task_of tasks pid);
   policy = policies_at_start tasks;
+  drift = λ pid. pos 0;
   floor = λ cpu. slice_index_or floors cpu (pos 0);
   mark = λ cpu. start;
 }

@@ -6,7 +6,8 @@ use Rattle.std.specs.Prelude.{◌≡◌, ◌≢◌, ℕ, zero, suc, Option, Some
 use Rattle.std.specs.Int.{int_max}
 use Rattle.cfs_model.specs.Knobs.{KnobsView}
 use Rattle.cfs_model.specs.Machine.{Machine, Stands, NobodyStands, IsQueued, AreValuesInRange, with_task, without_task}
-use Rattle.cfs_model.specs.Machine.{with_move, with_runtime, with_nice, with_policy, without_values}
+use Rattle.cfs_model.specs.Machine.{with_move, with_runtime, with_nice, with_drift, with_policy}
+use Rattle.cfs_model.specs.Machine.{without_values}
 use Rattle.cfs_model.specs.Claimed.{Claimed, ClaimSays}
 use Rattle.cfs_model.specs.Touch.{touched}
 use Rattle.cfs_model.specs.Lifted.{IsLifted}
@@ -90,8 +91,8 @@ pub record IsWakeResting (knobs : KnobsView) (m : Machine) (cpu pid : ℕ) (nice
   pub to : placed ≤ℤ int_max own (m.floor cpu)
   pub result : after ≡ with_runtime (with_move m pid Rest cpu Wait cpu) pid placed
 
--- a task that stands nowhere is born: it waits, with a virtual runtime from the floor to the floor and the debit, and
--- with the policy told
+-- a task that stands nowhere is born: it waits, with a virtual runtime from the floor to the floor and the debit, with
+-- the policy told, and without a drift
 pub record IsBirth (knobs : KnobsView) (m : Machine) (cpu pid : ℕ) (nice : ℤ) (claim : Option Claim) (policy : Policy)
     (after : Machine) : Type 0 where
   pub nowhere : (place : Place) (other : ℕ) → ¬ Stands m place other pid
@@ -99,7 +100,8 @@ pub record IsBirth (knobs : KnobsView) (m : Machine) (cpu pid : ℕ) (nice : ℤ
   pub claimed : ClaimSays claim At pid placed
   pub from : m.floor cpu ≤ℤ placed
   pub to : placed ≤ℤ (m.floor cpu +ℤ pos knobs.debit)
-  pub result : after ≡ with_policy (with_nice (with_runtime (with_task m Wait cpu pid) pid placed) pid nice) pid policy
+  pub result : after ≡ with_drift
+      (with_policy (with_nice (with_runtime (with_task m Wait cpu pid) pid placed) pid nice) pid policy) pid (pos 0)
 
 -- a task that waits moves by one sort of claim, one that rests by the other, and one that runs by none
 abbrev pub MovesBy : Place → ClaimSort → Type 0
@@ -108,7 +110,7 @@ MovesBy Rest Pass = ⊤
 MovesBy _ _ = ⊥
 
 -- a task moves: it keeps its place, and its virtual runtime less the floor; nice value and policy are those that are
--- told
+-- told; and its drift begins anew
 pub record IsMigration (m : Machine) (orig dest pid : ℕ) (nice : ℤ) (claim : Option Claim) (policy : Policy)
     (after : Machine)
     : Type 0 where
@@ -122,7 +124,8 @@ pub record IsMigration (m : Machine) (orig dest pid : ℕ) (nice : ℤ) (claim :
   pub sort : ClaimSort
   pub moves : MovesBy place sort
   pub claimed : ClaimSays claim sort pid ((own -ℤ m.floor orig) +ℤ m.floor dest)
-  pub result : after ≡ with_runtime (with_move m pid place orig place dest) pid ((own -ℤ m.floor orig) +ℤ m.floor dest)
+  pub result : after ≡ with_drift
+      (with_runtime (with_move m pid place orig place dest) pid ((own -ℤ m.floor orig) +ℤ m.floor dest)) pid (pos 0)
 
 -- what an event changes in the machine as it finds it
 abbrev pub Changes : KnobsView → Machine → Act → Option Claim → Policy → Machine → Type 0
@@ -133,11 +136,11 @@ Changes knobs m (Wake cpu pid nice) claim policy after =
 Changes knobs m (Born cpu pid nice) claim policy after = IsBirth knobs m cpu pid nice claim policy after
 Changes knobs m (Shift orig dest pid nice) claim policy after = IsMigration m orig dest pid nice claim policy after
 
--- the event leads from a machine to the next: by the lift, the change of a nice value and the event's own change, and
--- with every value in range
+-- the event leads from a machine to the next: by charges and lift, the change of a nice value and the event's own
+-- change, and with every value in range
 pub record IsStep (knobs : KnobsView) (before : Machine) (event : Claimed) (after : Machine) : Type 0 where
   pub lifted : Machine
-  pub is_lifted : IsLifted event.entry.time (touched event.entry.act) before lifted
+  pub is_lifted : IsLifted knobs.drift event.entry.time event.charge (touched event.entry.act) before lifted
   pub found : Machine
   pub is_reniced : IsReniced (home_of event.entry.act) event.nice lifted found
   pub changes : Changes knobs found event.entry.act event.claim event.policy after

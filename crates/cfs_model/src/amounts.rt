@@ -16,30 +16,46 @@ pub struct Amounts {
     credit: u64,
     debit: u64,
     slack: u64,
+    drift: u64,
 }
 
 impl Model for Amounts {
     ghost Value = { KnobsView };
 
-    ghost view = { λ a. record { granularity = a.granularity; credit = a.credit; debit = a.debit; slack = a.slack } };
+    ghost view = { λ a. record {
+      granularity = a.granularity;
+      credit = a.credit;
+      debit = a.debit;
+      slack = a.slack;
+      drift = a.drift;
+    } };
 
     ghost inverse = { λ s. record {
       granularity = s.granularity;
       credit = s.credit;
       debit = s.debit;
       slack = s.slack;
+      drift = s.drift;
     } };
 }
 
 impl Amounts {
-    pub fn new(granularity: u64, credit: u64, debit: u64, slack: u64) -> Amounts
-        ensures { result ≡ record { granularity = granularity; credit = credit; debit = debit; slack = slack } }
+    pub fn new(granularity: u64, credit: u64, debit: u64, slack: u64, drift: u64) -> Amounts
+        ensures { result ≡ record {
+          granularity = granularity;
+          credit = credit;
+          debit = debit;
+          slack = slack;
+          drift =
+              drift;
+        } }
     {
         Amounts {
             granularity,
             credit,
             debit,
             slack,
+            drift,
         }
     }
 
@@ -52,6 +68,7 @@ impl Amounts {
             credit: amount,
             debit: amount,
             slack: amount,
+            drift: amount,
         }
     }
 
@@ -71,6 +88,7 @@ impl Amounts {
             Setting::Credit => self.credit,
             Setting::Debit => self.debit,
             Setting::Slack => self.slack,
+            Setting::Drift => self.drift,
         }
     }
 
@@ -95,6 +113,10 @@ impl Amounts {
                 slack: amount,
                 ..self
             },
+            Setting::Drift => Amounts {
+                drift: amount,
+                ..self
+            },
         }
     }
 
@@ -107,6 +129,7 @@ impl Amounts {
             credit: self.credit.max(other.credit),
             debit: self.debit.max(other.debit),
             slack: self.slack.max(other.slack),
+            drift: self.drift.max(other.drift),
         }
     }
 

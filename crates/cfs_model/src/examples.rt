@@ -2,6 +2,7 @@
 //! nothing.
 ghost use Rattle.cfs_model.specs.Examples.{PutBackExample, NiceExample, IdlePolicyExample, PickExample};
 ghost use Rattle.cfs_model.specs.Examples.{MigrationExample, LaterMigrationExample, WakeExample, IdleExample};
+ghost use Rattle.cfs_model.specs.Examples.{ToldExample, ToldFloorExample};
 ghost use Rattle.cfs_model.specs.Examples.{BirthExample, IdleSwitchExample, NiceChangeExample, StrangeNiceExample};
 ghost use Rattle.cfs_model.specs.Examples.{MovedNiceExample, AwayNiceExample, IdleBirthExample, RebirthExample};
 
@@ -11,6 +12,13 @@ pub fn put_back_example()
     ensures even { PutBackExample }
     ensures light { NiceExample }
     ensures idle { IdlePolicyExample }
+{}
+
+/// A told charge stands in place of the exact one, within the drift: a task that stays is put back at it, and the floor
+/// follows it.
+pub fn told_example()
+    ensures put_back { ToldExample }
+    ensures floor { ToldFloorExample }
 {}
 
 /// A change of a nice value takes effect between the charge at its event and what the event prints; the task that it

@@ -8,6 +8,7 @@ use std::fmt;
 pub enum Kind {
     IdleTooLong,
     Range,
+    WrongCharge,
     MoveHome,
     SelfSwitch,
     PrevNotRunning,
@@ -46,6 +47,7 @@ impl Kind {
         words_of!(self;
             IdleTooLong: "idle beside a waiting task",
             Range: "virtual runtime out of range",
+            WrongCharge: "charged beyond the drift",
             MoveHome: "migration to its own processor",
             SelfSwitch: "switch to the same task",
             PrevNotRunning: "previous task is not the running one",

@@ -29,13 +29,13 @@ impl Model for Knobs {
 
 impl Knobs {
     /// None where one of them is above `GREATEST_SETTING`.
-    pub fn new(granularity: u64, credit: u64, debit: u64, slack: u64) -> Option<Knobs>
+    pub fn new(granularity: u64, credit: u64, debit: u64, slack: u64, drift: u64) -> Option<Knobs>
         ensures in_range { IsSome result ↔ AreInRange
-            (record { granularity = granularity; credit = credit; debit = debit; slack = slack }) }
+            (record { granularity = granularity; credit = credit; debit = debit; slack = slack; drift = drift }) }
         ensures same { IfSome result (λ knobs. knobs
-            ≡ record { granularity = granularity; credit = credit; debit = debit; slack = slack }) }
+            ≡ record { granularity = granularity; credit = credit; debit = debit; slack = slack; drift = drift }) }
     {
-        Knobs::of(Amounts::new(granularity, credit, debit, slack))
+        Knobs::of(Amounts::new(granularity, credit, debit, slack, drift))
     }
 
     /// None where one of them is above `GREATEST_SETTING`.
@@ -67,6 +67,7 @@ impl Knobs {
             Setting::Credit.standard(),
             Setting::Debit.standard(),
             Setting::Slack.standard(),
+            Setting::Drift.standard(),
         );
         Knobs { amounts }
     }
@@ -118,5 +119,13 @@ impl Knobs {
         ensures in_range { result ≤ greatest_setting }
     {
         self.get(Setting::Slack)
+    }
+
+    /// How far a task's told charges may stray in sum from the exact ones, since it came to its processor.
+    pub fn drift(self) -> u64
+        ensures same { result ≡ self.drift }
+        ensures in_range { result ≤ greatest_setting }
+    {
+        self.get(Setting::Drift)
     }
 }

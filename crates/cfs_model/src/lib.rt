@@ -4,6 +4,7 @@
 
 mod act;
 mod amounts;
+mod charge_line;
 mod claim;
 mod examples;
 mod idle_line;
@@ -17,14 +18,16 @@ mod nice_line;
 mod policy;
 mod setting;
 mod task;
+mod told_laws;
 mod weights;
 
 pub use act::{Act, Entry, Way};
 pub use amounts::Amounts;
+pub use charge_line::ChargeLine;
 pub use claim::{Claim, ClaimSort};
 pub use examples::{
     birth_example, idle_example, migration_example, nice_example, pick_example, policy_example,
-    put_back_example, wake_example,
+    put_back_example, told_example, wake_example,
 };
 pub use idle_line::IdleLine;
 pub use kind::Kind;
@@ -40,4 +43,5 @@ pub use nice_line::NiceLine;
 pub use policy::Policy;
 pub use setting::Setting;
 pub use task::{Place, Task};
+pub use told_laws::{drifts, no_drift, untold};
 pub use weights::{charge, weight, weight_of};

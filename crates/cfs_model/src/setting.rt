@@ -14,6 +14,8 @@ pub enum Setting {
     Debit,
     /// How long a processor may idle beside a waiting task.
     Slack,
+    /// How far a task's told charges may stray in sum from the exact ones, since it came to its processor.
+    Drift,
 }
 
 /// What is fixed of a setting.
@@ -42,11 +44,12 @@ macro_rules! row_of {
 
 impl Setting {
     /// All of them.
-    pub const ALL: [Setting; 4] = [
+    pub const ALL: [Setting; 5] = [
         Setting::Granularity,
         Setting::Credit,
         Setting::Debit,
         Setting::Slack,
+        Setting::Drift,
     ];
 
     fn row(self) -> Row
@@ -58,6 +61,7 @@ impl Setting {
             Credit: "credit-ns", "How far below the floor a woken task may be placed", 3000000, WakeBounds;
             Debit: "debit-ns", "How far above the floor a new task may be placed", 3000000, ForkBounds;
             Slack: "slack-ns", "How long a processor may idle beside a waiting task", 100000, IdleTooLong;
+            Drift: "drift-ns", "How far a task's told charges may stray in sum from exact ones", 0, WrongCharge;
         )
     }
 

@@ -1,5 +1,5 @@
--- Lines without changes of nice values and policies say the same in both versions: what they say differs in the
--- version alone, which no test of such a line looks at.
+-- Lines without changes of nice values and policies say the same in versions 1 and 2, and lines without charges in
+-- versions 2 and 3: what they say differs in the version alone, which no test of such a line looks at.
 use Rattle.std.proofs.Common.{◌≡◌, ℕ, suc, false, List, [], ◌∷◌, ◌++◌, length, All, Option, Some, None, Result, Ok, Err}
 use Rattle.std.proofs.Common.{refl, sym, ap, subst, ◌∙◌, inl, inr, ◌+◌, ◌⊎◌, arith}
 use Rattle.std.specs.Prelude.{◌↔◌, codes, MatchOption}
@@ -8,14 +8,14 @@ use Rattle.std.specs.Option.{option_map_or}
 use Rattle.companion_file.specs.declared.fault.CompanionCause.{CompanionCause}
 use Rattle.text_parts.specs.Lines.{lines_of, is_comment, IsComment}
 use Rattle.companion_file.specs.Shape.{Shape, version_line, cpus_line, start_line, floor_line, task_line, claim_line}
-use Rattle.companion_file.specs.Shape.{nice_line, idle_line}
+use Rattle.companion_file.specs.Shape.{nice_line, idle_line, charge_line}
 use Rattle.companion_file.specs.Spelling.{IsFirstLine, IsSpelled}
 use Rattle.companion_file.specs.Earlier.{Said, summed, has_all_floors}
 use Rattle.companion_file.specs.Tests.{fault_of, tested, IsJudgedFirst, IsJudgedLater, IsJudged}
 use Rattle.companion_file.specs.Draft.{with_line}
 use Rattle.companion_file.specs.Companion.{CompanionView, AreGood, IsFirstBadCompanionLine, IsShort, IsRead}
 use Rattle.companion_file.specs.Companion.{CompanionAnswer}
-use Rattle.companion_file.specs.Versions.{IsOfBothVersions, DifferInVersion}
+use Rattle.companion_file.specs.Versions.{IsOfBothVersions, DifferInVersion, TellsNoCharge, DifferInThird}
 use Rattle.companion_file.proofs.Summing.{summed-push}
 use Rattle.companion_file.proofs.GoodLines.{tested_ok}
 use Rattle.companion_file.proofs.OneAnswer.{one_version}
@@ -45,6 +45,7 @@ fault_unversioned said (task_line task) = refl
 fault_unversioned said (claim_line claim) = refl
 fault_unversioned said (nice_line change) = refl
 fault_unversioned said (idle_line idle) = refl
+fault_unversioned said (charge_line charge) = refl
 
 same_fault_of : (said other : Said) (x : Shape) → unversioned said ≡ unversioned other
     → fault_of said x ≡ fault_of other x
@@ -119,6 +120,8 @@ alike_with v w a b (nice_line k) alike passes =
     alike_push v w a b (nice_line k) alike refl refl (ap (λ (s : Said). with_line s (nice_line k)) alike.same)
 alike_with v w a b (idle_line k) alike passes =
     alike_push v w a b (idle_line k) alike refl refl (ap (λ (s : Said). with_line s (idle_line k)) alike.same)
+alike_with v w a b (charge_line k) alike passes =
+    alike_push v w a b (charge_line k) alike refl refl (ap (λ (s : Said). with_line s (charge_line k)) alike.same)
 
 -- ---- lines behind the first one
 
@@ -331,6 +334,7 @@ read_by v w line other comments rest r first are all p =
       claims_is = p.claims_is ∙ ap (λ (s : Said). s.claims) same;
       nices_is = p.nices_is ∙ ap (λ (s : Said). s.nices) same;
       idles_is = p.idles_is ∙ ap (λ (s : Said). s.idles) same;
+      charges_is = p.charges_is ∙ ap (λ (s : Said). s.charges) same;
     }
 
 short_by : (v w : ℕ) (line other : List ℕ) (comments rest : List (List ℕ)) (number : ℕ) (cause : CompanionCause)
@@ -406,6 +410,7 @@ one_to_two line (task_line task) p = p
 one_to_two line (claim_line claim) p = p
 one_to_two line (nice_line change) p = absurd (omega (arith, p.0))
 one_to_two line (idle_line idle) p = absurd (omega (arith, p.0))
+one_to_two line (charge_line charge) p = absurd (omega (arith, p.0))
 
 two_to_one : (line : List ℕ) → IsOfBothVersions line → AreSpelledAlike 2 1 line
 two_to_one line both (version_line n) p = p
@@ -416,6 +421,7 @@ two_to_one line both (task_line task) p = p
 two_to_one line both (claim_line claim) p = p
 two_to_one line both (nice_line change) p = absurd (both.no_change change p)
 two_to_one line both (idle_line idle) p = absurd (both.no_policy idle p)
+two_to_one line both (charge_line charge) p = absurd (omega (arith, p.0))
 
 there_and_back : (rest : List (List ℕ)) → All IsOfBothVersions rest → All (BothWays 1 2) rest
 there_and_back [] all = All-nil (BothWays 1 2)
@@ -448,23 +454,84 @@ first_one = record {
 
 first_two : IsFirst (codes "cfs-companion 2") 2
 first_two = record {
-  is_first = inr (refl, refl);
+  is_first = inr (inl (refl, refl));
   content = no_comment (codes "cfs-companion 2") first_two_content;
 }
+
+-- two texts with these first lines mean the same
+same_behind : (v w : ℕ) (line other : List ℕ) (comments rest : List (List ℕ)) (one two : List ℕ)
+    (answer : Result CompanionView (ℕ × CompanionCause)) → AreFirst line other v w → All IsComment comments
+    → All (BothWays v w) rest → lines_of one ≡ comments ++ line ∷ rest → lines_of two ≡ comments ++ other ∷ rest
+    → CompanionAnswer one answer → CompanionAnswer two answer
+same_behind v w line other comments rest one two answer first are all one_is two_is p =
+    (text_answer two answer).1 (subst (λ (ls : List (List ℕ)). LinesAnswer ls answer) (sym two_is)
+    (answer_by v w line other comments rest answer first are all
+    (subst (λ (ls : List (List ℕ)). LinesAnswer ls answer) one_is ((text_answer one answer).0 p))))
 
 pub same_in_both : (one two : List ℕ) (answer : Result CompanionView (ℕ × CompanionCause)) → DifferInVersion one two
     → CompanionAnswer one answer ↔ CompanionAnswer two answer
 same_in_both one two answer d =
     let first = codes "cfs-companion 1" in
+    let second = codes "cfs-companion 2" in (
+      same_behind 1 2 first second d.comments d.rest one two answer (record { one = first_one; two = first_two })
+          d.are_comments (there_and_back d.rest d.of_both) d.one_is d.two_is,
+      same_behind 2 1 second first d.comments d.rest two one answer (record { one = first_two; two = first_one })
+          d.are_comments (back_and_there d.rest d.of_both) d.two_is d.one_is,
+    )
+
+-- ---- versions 2 and 3
+
+two_to_three : (line : List ℕ) → AreSpelledAlike 2 3 line
+two_to_three line (version_line n) p = p
+two_to_three line (cpus_line n) p = p
+two_to_three line (start_line seconds nanoseconds) p = p
+two_to_three line (floor_line cpu floor) p = p
+two_to_three line (task_line task) p = p
+two_to_three line (claim_line claim) p = p
+two_to_three line (nice_line change) p = (omega arith, p.1, p.2, p.3, p.4, p.5, p.6, p.7)
+two_to_three line (idle_line idle) p = (omega arith, p.1, p.2, p.3, p.4, p.5)
+two_to_three line (charge_line charge) p = absurd (omega (arith, p.0))
+
+three_to_two : (line : List ℕ) → TellsNoCharge line → AreSpelledAlike 3 2 line
+three_to_two line none (version_line n) p = p
+three_to_two line none (cpus_line n) p = p
+three_to_two line none (start_line seconds nanoseconds) p = p
+three_to_two line none (floor_line cpu floor) p = p
+three_to_two line none (task_line task) p = p
+three_to_two line none (claim_line claim) p = p
+three_to_two line none (nice_line change) p = (omega arith, p.1, p.2, p.3, p.4, p.5, p.6, p.7)
+three_to_two line none (idle_line idle) p = (omega arith, p.1, p.2, p.3, p.4, p.5)
+three_to_two line none (charge_line charge) p = absurd (none charge p)
+
+up_to_third : (rest : List (List ℕ)) → All TellsNoCharge rest → All (BothWays 2 3) rest
+up_to_third [] all = All-nil (BothWays 2 3)
+up_to_third (line ∷ rest) all =
+    All-cons (BothWays 2 3) line rest (two_to_three line, three_to_two line (All-head TellsNoCharge line rest all))
+    (up_to_third rest (All-tail TellsNoCharge line rest all))
+
+down_to_second : (rest : List (List ℕ)) → All TellsNoCharge rest → All (BothWays 3 2) rest
+down_to_second [] all = All-nil (BothWays 3 2)
+down_to_second (line ∷ rest) all =
+    All-cons (BothWays 3 2) line rest (three_to_two line (All-head TellsNoCharge line rest all), two_to_three line)
+    (down_to_second rest (All-tail TellsNoCharge line rest all))
+
+first_three_content : is_comment (codes "cfs-companion 3") ≡ false
+unfolding is_comment
+first_three_content = refl
+
+first_three : IsFirst (codes "cfs-companion 3") 3
+first_three = record {
+  is_first = inr (inr (refl, refl));
+  content = no_comment (codes "cfs-companion 3") first_three_content;
+}
+
+pub same_in_third : (two three : List ℕ) (answer : Result CompanionView (ℕ × CompanionCause)) → DifferInThird two three
+    → CompanionAnswer two answer ↔ CompanionAnswer three answer
+same_in_third two three answer d =
     let second = codes "cfs-companion 2" in
-    let there : CompanionAnswer one answer → CompanionAnswer two answer = λ p.
-    (text_answer two answer).1 (subst (λ (ls : List (List ℕ)). LinesAnswer ls answer) (sym d.two_is)
-    (answer_by 1 2 first second d.comments d.rest answer (record { one = first_one; two = first_two }) d.are_comments
-    (there_and_back d.rest d.of_both)
-    (subst (λ (ls : List (List ℕ)). LinesAnswer ls answer) d.one_is ((text_answer one answer).0 p)))) in
-    let back : CompanionAnswer two answer → CompanionAnswer one answer = λ p.
-    (text_answer one answer).1 (subst (λ (ls : List (List ℕ)). LinesAnswer ls answer) (sym d.one_is)
-    (answer_by 2 1 second first d.comments d.rest answer (record { one = first_two; two = first_one }) d.are_comments
-    (back_and_there d.rest d.of_both)
-    (subst (λ (ls : List (List ℕ)). LinesAnswer ls answer) d.two_is ((text_answer two answer).0 p)))) in
-    (there, back)
+    let third = codes "cfs-companion 3" in (
+      same_behind 2 3 second third d.comments d.rest two three answer (record { one = first_two; two = first_three })
+          d.are_comments (up_to_third d.rest d.no_charge) d.two_is d.three_is,
+      same_behind 3 2 third second d.comments d.rest three two answer (record { one = first_three; two = first_two })
+          d.are_comments (down_to_second d.rest d.no_charge) d.three_is d.two_is,
+    )

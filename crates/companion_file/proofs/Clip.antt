@@ -8,7 +8,7 @@ use Rattle.std.proofs.lemmas.Bool.Decides.{nat_tests}
 use Rattle.text_parts.specs.Numerals.{many}
 use Rattle.cfs_model.specs.Limits.{greatest_runtime, greatest_pid, greatest_line, greatest_seconds, most_processors}
 use Rattle.companion_file.specs.Shape.{Shape, version_line, cpus_line, start_line, floor_line, task_line, claim_line}
-use Rattle.companion_file.specs.Shape.{nice_line, idle_line}
+use Rattle.companion_file.specs.Shape.{nice_line, idle_line, charge_line}
 use Rattle.companion_file.specs.ShapeReading.{beyond_range}
 use Rattle.companion_file.specs.Earlier.{Said}
 use Rattle.companion_file.specs.Tests.{is_pid, is_value, is_nice, is_in_turn, is_in_limits, fault_of}
@@ -41,6 +41,7 @@ clip (claim_line k) = claim_line (record {
 })
 clip (nice_line k) = nice_line (record { line = min k.line many; pid = min k.pid many; nice = clip_integer k.nice })
 clip (idle_line k) = idle_line (record { line = min k.line many; pid = min k.pid many })
+clip (charge_line k) = charge_line (record { line = min k.line many; pid = min k.pid many; v = clip_integer k.v })
 
 pub clip-neg : (n : ℕ) → clip_integer (neg_ℤ (pos n)) ≡ neg_ℤ (pos (min n beyond_range))
 clip-neg zero = refl
@@ -98,6 +99,7 @@ turn_clip said (task_line t) = refl
 turn_clip said (claim_line k) = refl
 turn_clip said (nice_line k) = refl
 turn_clip said (idle_line k) = refl
+turn_clip said (charge_line k) = refl
 
 limits_clip : (cpus : ℕ) (x : Shape) → cpus ≤ most_processors → is_in_limits cpus (clip x) ≡ is_in_limits cpus x
 limits_clip cpus (version_line n) few = refl
@@ -118,6 +120,12 @@ limits_clip cpus (nice_line k) few = rw (
   nice_clip k.nice,
 ) refl
 limits_clip cpus (idle_line k) few = rw (le_clip k.line greatest_line (omega arith), pid_clip k.pid) refl
+limits_clip cpus (charge_line k) few = rw (
+  one_le_clip k.line,
+  le_clip k.line greatest_line (omega arith),
+  pid_clip k.pid,
+  value_clip k.v,
+) refl
 
 same_in_limits : (said : Said) (cpus : ℕ) (x : Shape) → cpus ≤ most_processors → is_in_turn said x ≡ true
     → is_in_limits cpus x ≡ true → clip x ≡ x
@@ -147,6 +155,11 @@ same_in_limits said cpus (nice_line k) few turn ok =
 same_in_limits said cpus (idle_line k) few turn ok =
     let parts = and_parts (leb k.line greatest_line) (is_pid k.pid) ok in
     rw (le_same k.line greatest_line (omega arith) parts.0, pid_same k.pid parts.1) refl
+same_in_limits said cpus (charge_line k) few turn ok =
+    let third = and_parts (leb 1 k.line && leb k.line greatest_line && is_pid k.pid) (is_value k.v) ok in
+    let second = and_parts (leb 1 k.line && leb k.line greatest_line) (is_pid k.pid) third.0 in
+    let first = and_parts (leb 1 k.line) (leb k.line greatest_line) second.0 in
+    rw (le_same k.line greatest_line (omega arith) first.1, pid_same k.pid second.1, value_same k.v third.1) refl
 
 pub fault_clip : (said : Said) (x : Shape) → unwrap_or said.cpus 0 ≤ most_processors
     → fault_of said (clip x) ≡ fault_of said x

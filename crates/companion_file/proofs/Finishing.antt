@@ -16,6 +16,7 @@ pub in_order : (said : Said) (cpus start : ℕ) → KeepsOrder said → said.cpu
       claims = said.claims;
       nices = said.nices;
       idles = said.idles;
+      charges = said.charges;
     })
 in_order said cpus start order e f whole =
     let count : eqb (length said.floors) cpus ≡ true = rw e at whole in
@@ -33,6 +34,8 @@ in_order said cpus start order e f whole =
       nice_lines_rise = order.nice_lines_rise;
       idles_in_limits = order.idles_kept;
       idles_rise = order.idles_rise;
+      charges_in_limits = order.charges_kept;
+      charge_lines_rise = order.charge_lines_rise;
       policies_told = λ pid. policies_agree said.idles said.tasks pid order.policies_kept order.named_kept;
     }
 

@@ -12,10 +12,11 @@ use Rattle.text_parts.proofs.Times.{value_below}
 use Rattle.cfs_model.specs.Limits.{no_line, nanoseconds_per_second}
 use Rattle.companion_file.specs.declared.fault.CompanionCause.{CompanionCause}
 use Rattle.companion_file.specs.Shape.{Shape, version_line, cpus_line, start_line, floor_line, task_line, claim_line}
-use Rattle.companion_file.specs.Shape.{nice_line, idle_line}
+use Rattle.companion_file.specs.Shape.{nice_line, idle_line, charge_line}
 use Rattle.text_parts.specs.Lines.{IsComment}
 use Rattle.companion_file.specs.Spelling.{IsSpelled}
 use Rattle.companion_file.specs.Order.{IsTaskInLimits, IsClaimInLimits, IsNiceLineInLimits, IsIdleLineInLimits}
+use Rattle.companion_file.specs.Order.{IsChargeLineInLimits}
 use Rattle.companion_file.specs.Earlier.{Said, summed}
 use Rattle.companion_file.specs.Tests.{fault_of, tested, IsJudgedFirst, IsJudgedLater, IsJudged}
 use Rattle.companion_file.specs.Draft.{KeepsOrder, with_line}
@@ -40,6 +41,7 @@ second_fits version line (task_line t) p = tt
 second_fits version line (claim_line k) p = tt
 second_fits version line (nice_line k) p = tt
 second_fits version line (idle_line k) p = tt
+second_fits version line (charge_line k) p = tt
 
 pub nothing_order : KeepsOrder (summed [])
 nothing_order =
@@ -57,6 +59,8 @@ nothing_order =
       nice_lines_rise = λ i j d lt within. absurd (omega arith);
       idles_kept = All-nil IsIdleLineInLimits;
       idles_rise = λ i j d lt within. absurd (omega arith);
+      charges_kept = All-nil IsChargeLineInLimits;
+      charge_lines_rise = λ i j d lt within. absurd (omega arith);
       policies_kept = refl;
       named_kept = All-nil (λ (idle : IdleLine). idle.line ≡ no_line → false ≡ true);
     }
@@ -77,6 +81,8 @@ order_first_line said version order =
       nice_lines_rise = order.nice_lines_rise;
       idles_kept = order.idles_kept;
       idles_rise = order.idles_rise;
+      charges_kept = order.charges_kept;
+      charge_lines_rise = order.charge_lines_rise;
       policies_kept = order.policies_kept;
       named_kept = order.named_kept;
     }

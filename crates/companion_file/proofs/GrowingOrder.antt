@@ -13,14 +13,17 @@ use Rattle.std.proofs.lemmas.List.Quantifiers.{all_pairs_push}
 use Rattle.cfs_model.specs.declared.task.Task.{Task}
 use Rattle.cfs_model.specs.declared.claim.Claim.{Claim}
 use Rattle.cfs_model.specs.declared.nice_line.NiceLine.{NiceLine}
+use Rattle.cfs_model.specs.declared.charge_line.ChargeLine.{ChargeLine}
 use Rattle.cfs_model.specs.declared.idle_line.IdleLine.{IdleLine}
 use Rattle.cfs_model.specs.Charge.{IsInRange}
 use Rattle.cfs_model.specs.Limits.{greatest_line, no_line, greatest_seconds, most_processors, nanoseconds_per_second}
 use Rattle.companion_file.specs.Shape.{Shape, version_line, cpus_line, start_line, floor_line, task_line, claim_line}
-use Rattle.companion_file.specs.Shape.{nice_line, idle_line}
-use Rattle.companion_file.specs.Earlier.{Said, last_nice, has_all_floors, is_run, is_taken, is_task, with_policy_told}
-use Rattle.companion_file.specs.Tests.{is_pid, is_value, is_nice, is_above_claims}
+use Rattle.companion_file.specs.Shape.{nice_line, idle_line, charge_line}
+use Rattle.companion_file.specs.Earlier.{Said, last_nice, last_charge, has_all_floors, is_run, is_taken, is_task}
+use Rattle.companion_file.specs.Earlier.{with_policy_told}
+use Rattle.companion_file.specs.Tests.{is_pid, is_value, is_nice, is_above_claims, is_above_changes, is_from_charges}
 use Rattle.companion_file.specs.Order.{IsTaskInLimits, IsClaimInLimits, IsNiceLineInLimits, IsIdleLineInLimits}
+use Rattle.companion_file.specs.Order.{IsChargeLineInLimits}
 use Rattle.companion_file.specs.Order.{IdleRises}
 use Rattle.cfs_model.specs.Order.{RunApart}
 use Rattle.companion_file.proofs.KeptOrder.{Passes, value_fact, nice_fact, pid_fact}
@@ -38,6 +41,7 @@ FitsSecond (task_line t) = Unit {0}
 FitsSecond (claim_line k) = Unit {0}
 FitsSecond (nice_line k) = Unit {0}
 FitsSecond (idle_line k) = Unit {0}
+FitsSecond (charge_line k) = Unit {0}
 
 none_is : (o : Option ℕ) → is_none o ≡ true → o ≡ None
 none_is None e = refl
@@ -65,6 +69,8 @@ order_cpus said n order passes =
       nice_lines_rise = order.nice_lines_rise;
       idles_kept = order.idles_kept;
       idles_rise = order.idles_rise;
+      charges_kept = order.charges_kept;
+      charge_lines_rise = order.charge_lines_rise;
       policies_kept = order.policies_kept;
       named_kept = order.named_kept;
     }
@@ -88,6 +94,8 @@ order_start said seconds nanoseconds below order passes =
       nice_lines_rise = order.nice_lines_rise;
       idles_kept = order.idles_kept;
       idles_rise = order.idles_rise;
+      charges_kept = order.charges_kept;
+      charge_lines_rise = order.charge_lines_rise;
       policies_kept = order.policies_kept;
       named_kept = order.named_kept;
     }
@@ -111,6 +119,8 @@ order_floor said cpu floor order passes =
       nice_lines_rise = order.nice_lines_rise;
       idles_kept = order.idles_kept;
       idles_rise = order.idles_rise;
+      charges_kept = order.charges_kept;
+      charge_lines_rise = order.charge_lines_rise;
       policies_kept = order.policies_kept;
       named_kept = order.named_kept;
     }
@@ -165,6 +175,8 @@ order_task said t order passes =
       nice_lines_rise = order.nice_lines_rise;
       idles_kept = order.idles_kept;
       idles_rise = order.idles_rise;
+      charges_kept = order.charges_kept;
+      charge_lines_rise = order.charge_lines_rise;
       policies_kept = map-append (with_policy_told said.idles) said.tasks (with_policy_told said.idles t ∷ [])
           ∙ ap (λ (ts : List Task). ts ++ with_policy_told said.idles t ∷ []) order.policies_kept;
       named_kept = All-weaker (λ (idle : IdleLine). idle.line ≡ no_line → is_task said.tasks idle.pid ≡ true)
@@ -183,8 +195,11 @@ order_claim said claim order passes =
     let first = and_parts (leb 1 claim.line) (leb claim.line greatest_line) second.0 in
     let low : 1 ≤ claim.line = grind (arith, nat_tests) in
     let high : claim.line ≤ greatest_line = grind (arith, nat_tests) in
+    let both = and_parts (is_above_claims said claim.line
+    && option_map_or (λ last. leb last.line claim.line) (last_nice said) true) (is_from_charges said claim.line)
+    passes.above in
     let parts = and_parts (is_above_claims said claim.line)
-    (option_map_or (λ last. leb last.line claim.line) (last_nice said) true) passes.above in
+    (option_map_or (λ last. leb last.line claim.line) (last_nice said) true) both.0 in
     record {
       cpus_kept = order.cpus_kept;
       start_kept = order.start_kept;
@@ -201,6 +216,8 @@ order_claim said claim order passes =
       nice_lines_rise = order.nice_lines_rise;
       idles_kept = order.idles_kept;
       idles_rise = order.idles_rise;
+      charges_kept = order.charges_kept;
+      charge_lines_rise = order.charge_lines_rise;
       policies_kept = order.policies_kept;
       named_kept = order.named_kept;
     }
@@ -214,8 +231,9 @@ order_nice said change order passes =
     let first = and_parts (leb 1 change.line) (leb change.line greatest_line) second.0 in
     let low : 1 ≤ change.line = grind (arith, nat_tests) in
     let high : change.line ≤ greatest_line = grind (arith, nat_tests) in
-    let parts = and_parts (option_map_or (λ last. ltb last.line change.line) (last_nice said) true)
-    (is_above_claims said change.line) passes.above in
+    let both = and_parts (is_above_changes said change.line && is_above_claims said change.line)
+    (is_from_charges said change.line) passes.above in
+    let parts = and_parts (is_above_changes said change.line) (is_above_claims said change.line) both.0 in
     record {
       cpus_kept = order.cpus_kept;
       start_kept = order.start_kept;
@@ -232,6 +250,8 @@ order_nice said change order passes =
           (λ l e. let above : ltb l.line change.line ≡ true = rw e at parts.0 in grind (arith, nat_tests));
       idles_kept = order.idles_kept;
       idles_rise = order.idles_rise;
+      charges_kept = order.charges_kept;
+      charge_lines_rise = order.charge_lines_rise;
       policies_kept = order.policies_kept;
       named_kept = order.named_kept;
     }
@@ -277,6 +297,8 @@ order_idle said idle order passes =
           (record { line = high; pid = pid_fact idle.pid parts.1 });
       idles_rise = follows_push IdleRises said.idles idle idles_follow order.idles_rise
           (λ l e. idle_follows l idle (rw e at passes.above));
+      charges_kept = order.charges_kept;
+      charge_lines_rise = order.charge_lines_rise;
       policies_kept = policies_again idles idles said.tasks;
       named_kept = All-weaker (λ (k : IdleLine). k.line ≡ no_line → is_task said.tasks k.pid ≡ true)
           (λ (k : IdleLine). k.line ≡ no_line → is_task (map (with_policy_told idles) said.tasks) k.pid ≡ true)
@@ -284,6 +306,41 @@ order_idle said idle order passes =
           (All-push (λ (k : IdleLine). k.line ≡ no_line
           → is_task said.tasks k.pid ≡ true) said.idles idle order.named_kept
           (idle_known said.tasks idle passes.known));
+    }
+
+order_charge : (said : Said) (charge : ChargeLine) → KeepsOrder said → Passes said (charge_line charge)
+    → KeepsOrder (with_line said (charge_line charge))
+order_charge said charge order passes =
+    let third = and_parts (leb 1 charge.line && leb charge.line greatest_line && is_pid charge.pid) (is_value charge.v)
+    passes.limits in
+    let second = and_parts (leb 1 charge.line && leb charge.line greatest_line) (is_pid charge.pid) third.0 in
+    let first = and_parts (leb 1 charge.line) (leb charge.line greatest_line) second.0 in
+    let low : 1 ≤ charge.line = grind (arith, nat_tests) in
+    let high : charge.line ≤ greatest_line = grind (arith, nat_tests) in
+    let both = and_parts (option_map_or (λ last. ltb last.line charge.line) (last_charge said) true
+    && is_above_changes said charge.line) (is_above_claims said charge.line) passes.above in
+    let parts = and_parts (option_map_or (λ last. ltb last.line charge.line) (last_charge said) true)
+    (is_above_changes said charge.line) both.0 in
+    record {
+      cpus_kept = order.cpus_kept;
+      start_kept = order.start_kept;
+      floors_after_start = order.floors_after_start;
+      floors_kept = order.floors_kept;
+      tasks_kept = order.tasks_kept;
+      pids_rise = order.pids_rise;
+      one_runs_a_cpu = order.one_runs_a_cpu;
+      claims_kept = order.claims_kept;
+      lines_rise = order.lines_rise;
+      nices_kept = order.nices_kept;
+      nice_lines_rise = order.nice_lines_rise;
+      idles_kept = order.idles_kept;
+      idles_rise = order.idles_rise;
+      charges_kept = All-push IsChargeLineInLimits said.charges charge order.charges_kept
+          (record { line = (low, high); pid = pid_fact charge.pid second.1; v = value_fact charge.v third.1 });
+      charge_lines_rise = rises_push (λ (c : ChargeLine). c.line) said.charges charge order.charge_lines_rise
+          (λ l e. let above : ltb l.line charge.line ≡ true = rw e at parts.0 in grind (arith, nat_tests));
+      policies_kept = order.policies_kept;
+      named_kept = order.named_kept;
     }
 
 pub order_with : (said : Said) (x : Shape) → FitsSecond x → KeepsOrder said → Passes said x
@@ -297,3 +354,4 @@ order_with said (task_line t) fits order passes = order_task said t order passes
 order_with said (claim_line claim) fits order passes = order_claim said claim order passes
 order_with said (nice_line change) fits order passes = order_nice said change order passes
 order_with said (idle_line idle) fits order passes = order_idle said idle order passes
+order_with said (charge_line charge) fits order passes = order_charge said charge order passes

@@ -3,6 +3,7 @@ pub mod Clip
 pub mod EndedSpans
 pub mod Faults
 pub mod Finishing
+pub mod FirstLines
 pub mod GoodLines
 pub mod GrowingOrder
 pub mod HeadLength

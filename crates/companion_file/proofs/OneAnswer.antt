@@ -59,19 +59,36 @@ later_once version said line r s order (inr (inr p)) (inr (inl q)) = absurd (q.1
 later_once version said line r s order (inr (inr p)) (inr (inr q)) = p.1.2
     ∙ spelled_once version said line p.1.0 q.1.0 order p.1.1 q.1.1 ∙ sym q.1.2
 
-other_digits : ◌≡◌ {A = ℕ} 49 50 → ⊥
-other_digits e = absurd (omega (arith, e))
+-- the first lines differ in their digit
+same_digit : (line one two : List ℕ) → line ≡ one → line ≡ two → get_or one 14 0 ≡ get_or two 14 0
+same_digit line one two e f = ap (λ (s : List ℕ). get_or s 14 0) (sym e ∙ f)
 
--- the two first lines differ in their digit
-no_two_digits : codes "cfs-companion 1" ≡ codes "cfs-companion 2" → ⊥
-no_two_digits e = other_digits (ap (λ (s : List ℕ). get_or s 14 0) e)
+first_or_second : (line : List ℕ) → line ≡ codes "cfs-companion 1" → line ≡ codes "cfs-companion 2" → ⊥
+first_or_second line e f =
+    let same : ◌≡◌ {A = ℕ} 49 50 = same_digit line (codes "cfs-companion 1") (codes "cfs-companion 2") e f in
+    absurd (omega (arith, same))
+
+first_or_third : (line : List ℕ) → line ≡ codes "cfs-companion 1" → line ≡ codes "cfs-companion 3" → ⊥
+first_or_third line e f =
+    let same : ◌≡◌ {A = ℕ} 49 51 = same_digit line (codes "cfs-companion 1") (codes "cfs-companion 3") e f in
+    absurd (omega (arith, same))
+
+second_or_third : (line : List ℕ) → line ≡ codes "cfs-companion 2" → line ≡ codes "cfs-companion 3" → ⊥
+second_or_third line e f =
+    let same : ◌≡◌ {A = ℕ} 50 51 = same_digit line (codes "cfs-companion 2") (codes "cfs-companion 3") e f in
+    absurd (omega (arith, same))
 
 -- a first line names one version
 pub one_version : (line : List ℕ) (m n : ℕ) → IsFirstLine line m → IsFirstLine line n → m ≡ n
 one_version line m n (inl p) (inl q) = p.1 ∙ sym q.1
-one_version line m n (inl p) (inr q) = absurd (no_two_digits (sym p.0 ∙ q.0))
-one_version line m n (inr p) (inl q) = absurd (no_two_digits (sym q.0 ∙ p.0))
-one_version line m n (inr p) (inr q) = p.1 ∙ sym q.1
+one_version line m n (inl p) (inr (inl q)) = absurd (first_or_second line p.0 q.0)
+one_version line m n (inl p) (inr (inr q)) = absurd (first_or_third line p.0 q.0)
+one_version line m n (inr (inl p)) (inl q) = absurd (first_or_second line q.0 p.0)
+one_version line m n (inr (inl p)) (inr (inl q)) = p.1 ∙ sym q.1
+one_version line m n (inr (inl p)) (inr (inr q)) = absurd (second_or_third line p.0 q.0)
+one_version line m n (inr (inr p)) (inl q) = absurd (first_or_third line q.0 p.0)
+one_version line m n (inr (inr p)) (inr (inl q)) = absurd (second_or_third line q.0 p.0)
+one_version line m n (inr (inr p)) (inr (inr q)) = p.1 ∙ sym q.1
 
 first_once : (line : List ℕ) (r s : Result Shape CompanionCause) → IsJudgedFirst line r → IsJudgedFirst line s → r ≡ s
 first_once line r s (inl p) (inl q) = p.2 ∙ ap (λ (n : ℕ). Ok (version_line n)) (one_version line p.0 q.0 p.1 q.1)

@@ -4,6 +4,7 @@ use Rattle.std.proofs.lemmas.Option.{same_Some}
 use Rattle.cfs_model.specs.declared.task.Task.{Task}
 use Rattle.cfs_model.specs.declared.claim.Claim.{Claim}
 use Rattle.cfs_model.specs.declared.nice_line.NiceLine.{NiceLine}
+use Rattle.cfs_model.specs.declared.charge_line.ChargeLine.{ChargeLine}
 use Rattle.cfs_model.specs.declared.idle_line.IdleLine.{IdleLine}
 use Rattle.text_parts.specs.Lines.{lines_of}
 use Rattle.std.proofs.lemmas.Option.{same_Some}
@@ -20,10 +21,11 @@ use Rattle.companion_file.proofs.GoodLines.{nothing_order}
 use Rattle.companion_file.proofs.OneAnswer.{good_once, IsBadBehind, never_good, bad_once}
 
 same_reading : (c d s t : ℕ) (f g : List ℤ) (k l : List Task) (m n : List Claim) (o p : List NiceLine)
-    (u v : List IdleLine) → c ≡ d → s ≡ t → f ≡ g → k ≡ l → m ≡ n → o ≡ p → u ≡ v
-    → ◌≡◌ {A = CompanionView} (record { cpus = c; start = s; floors = f; tasks = k; claims = m; nices = o; idles = u })
-    (record { cpus = d; start = t; floors = g; tasks = l; claims = n; nices = p; idles = v })
-same_reading c d s t f g k l m n o p u v e1 e2 e3 e4 e5 e6 e7 = rw (e1, e2, e3, e4, e5, e6, e7) refl
+    (u v : List IdleLine) (w x : List ChargeLine) → c ≡ d → s ≡ t → f ≡ g → k ≡ l → m ≡ n → o ≡ p → u ≡ v → w ≡ x
+    → ◌≡◌ {A = CompanionView}
+    (record { cpus = c; start = s; floors = f; tasks = k; claims = m; nices = o; idles = u; charges = w })
+    (record { cpus = d; start = t; floors = g; tasks = l; claims = n; nices = p; idles = v; charges = x })
+same_reading c d s t f g k l m n o p u v w x e1 e2 e3 e4 e5 e6 e7 e8 = rw (e1, e2, e3, e4, e5, e6, e7, e8) refl
 
 read_once : (lines : List (List ℕ)) (r s : CompanionView) → IsRead lines r → IsRead lines s → r ≡ s
 read_once lines r s p q =
@@ -33,12 +35,13 @@ read_once lines r s p q =
     let start : r.start ≡ s.start = same_Some r.start s.start (sym p.start_is
     ∙ ap (λ (x : List Shape). (summed x).start) same ∙ q.start_is) in
     same_reading r.cpus s.cpus r.start s.start r.floors s.floors r.tasks s.tasks r.claims s.claims r.nices s.nices
-    r.idles s.idles cpus start
+    r.idles s.idles r.charges s.charges cpus start
     (p.floors_is ∙ ap (λ (x : List Shape). (summed x).floors) same ∙ sym q.floors_is)
     (p.tasks_is ∙ ap (λ (x : List Shape). (summed x).tasks) same ∙ sym q.tasks_is)
     (p.claims_is ∙ ap (λ (x : List Shape). (summed x).claims) same ∙ sym q.claims_is)
     (p.nices_is ∙ ap (λ (x : List Shape). (summed x).nices) same ∙ sym q.nices_is)
     (p.idles_is ∙ ap (λ (x : List Shape). (summed x).idles) same ∙ sym q.idles_is)
+    (p.charges_is ∙ ap (λ (x : List Shape). (summed x).charges) same ∙ sym q.charges_is)
 
 bad_after : (lines : List (List ℕ)) (number : ℕ) (cause : CompanionCause)
     (b : IsFirstBadCompanionLine lines number cause) → IsBadBehind [] b.before b.line cause

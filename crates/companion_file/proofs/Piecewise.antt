@@ -1,6 +1,6 @@
--- A piece that was read behind the head alone says the same behind all that was said before it: its lines are claims
--- and changes of nice values, each may follow what was said since the first one may, and what else a line is tested for
--- stands in the head.
+-- A piece that was read behind the head alone says the same behind all that was said before it: its lines are claims,
+-- changes of nice values and charges, each may follow what was said since the first one may, and what else a line is
+-- tested for stands in the head.
 use Rattle.std.proofs.Common.{◌≡◌, ℕ, ◌<◌, zero, suc, Bool, true, false, not, ◌&&◌, eqb, List, [], ◌∷◌, ◌++◌, length}
 use Rattle.std.proofs.Common.{map, get_or, Option, Some, None, Result, Ok, Err, Vec, IfOk, refl, sym, ap, subst, ◌∙◌}
 use Rattle.std.proofs.Common.{append_assoc, inl, inr, arith}
@@ -13,16 +13,17 @@ use Rattle.std.proofs.lemmas.List.{append-nil}
 use Rattle.std.proofs.lemmas.List.Elements.{All-head, All-tail}
 use Rattle.cfs_model.specs.declared.claim.Claim.{Claim}
 use Rattle.cfs_model.specs.declared.nice_line.NiceLine.{NiceLine}
+use Rattle.cfs_model.specs.declared.charge_line.ChargeLine.{ChargeLine}
 use Rattle.companion_file.specs.Shape.{Shape, version_line, cpus_line, start_line, floor_line, task_line, claim_line}
-use Rattle.companion_file.specs.Shape.{nice_line, idle_line}
+use Rattle.companion_file.specs.Shape.{nice_line, idle_line, charge_line}
 use Rattle.companion_file.specs.Spelling.{IsControlGroup, IsSpelled}
-use Rattle.companion_file.specs.Earlier.{Said, summed, has_all_floors, last_claim, last_nice}
-use Rattle.companion_file.specs.Tests.{fault_of, tested, may_claim_at, may_change_at, IsJudgedFirst, IsJudgedLater}
-use Rattle.companion_file.specs.Tests.{IsJudged}
+use Rattle.companion_file.specs.Earlier.{Said, summed, has_all_floors, last_claim, last_nice, last_charge}
+use Rattle.companion_file.specs.Tests.{fault_of, tested, may_claim_at, may_change_at, may_charge_at, IsJudgedFirst}
+use Rattle.companion_file.specs.Tests.{IsJudgedLater, IsJudged}
 use Rattle.companion_file.specs.Draft.{KeepsOrder, IsCompleted, Takes, with_line}
 use Rattle.companion_file.specs.Companion.{CompanionView, AreGood, IsRead}
 use Rattle.companion_file.specs.Piecewise.{SaysOn, AreReadApart, head_of, with_piece, ClaimsFollow, ChangesFollow}
-use Rattle.companion_file.specs.Piecewise.{FollowsOn}
+use Rattle.companion_file.specs.Piecewise.{ChargesFollow, FollowsOn}
 use Rattle.companion_file.proofs.Faults.{no_fault}
 use Rattle.companion_file.proofs.KeptOrder.{Passes, all_passed}
 use Rattle.companion_file.proofs.GoodLines.{order_judged_on, tested_ok}
@@ -82,6 +83,7 @@ good_on earlier after (line ∷ lines) (inr p) =
 record SaysMore (said after : Said) : Type 0 where
   claims : (more : List Claim) × (after.claims ≡ said.claims ++ more)
   nices : (more : List NiceLine) × (after.nices ≡ said.nices ++ more)
+  charges : (more : List ChargeLine) × (after.charges ≡ said.charges ++ more)
   tasks : after.tasks ≡ [] → said.tasks ≡ []
   idles : after.idles ≡ [] → said.idles ≡ []
 
@@ -89,6 +91,7 @@ grows_nothing : (said : Said) → SaysMore said said
 grows_nothing said = record {
   claims = ([], sym (append-nil said.claims));
   nices = ([], sym (append-nil said.nices));
+  charges = ([], sym (append-nil said.charges));
   tasks = λ e. e;
   idles = λ e. e;
 }
@@ -105,12 +108,14 @@ grows_line : (said : Said) (x : Shape) → SaysMore said (with_line said x)
 grows_line said (version_line n) = record {
   claims = ([], sym (append-nil said.claims));
   nices = ([], sym (append-nil said.nices));
+  charges = ([], sym (append-nil said.charges));
   tasks = λ e. e;
   idles = λ e. e;
 }
 grows_line said (cpus_line n) = record {
   claims = ([], sym (append-nil said.claims));
   nices = ([], sym (append-nil said.nices));
+  charges = ([], sym (append-nil said.charges));
   tasks = λ e. e;
   idles = λ e. e;
 }
@@ -118,38 +123,51 @@ grows_line said (start_line seconds nanoseconds) =
     record {
       claims = ([], sym (append-nil said.claims));
       nices = ([], sym (append-nil said.nices));
+      charges = ([], sym (append-nil said.charges));
       tasks = λ e. e;
       idles = λ e. e;
     }
 grows_line said (floor_line cpu floor) = record {
   claims = ([], sym (append-nil said.claims));
   nices = ([], sym (append-nil said.nices));
+  charges = ([], sym (append-nil said.charges));
   tasks = λ e. e;
   idles = λ e. e;
 }
 grows_line said (task_line t) = record {
   claims = ([], sym (append-nil said.claims));
   nices = ([], sym (append-nil said.nices));
+  charges = ([], sym (append-nil said.charges));
   tasks = λ e. absurd (no_push said.tasks _ e);
   idles = λ e. e;
 }
 grows_line said (claim_line k) = record {
   claims = (k ∷ [], refl);
   nices = ([], sym (append-nil said.nices));
+  charges = ([], sym (append-nil said.charges));
   tasks = λ e. e;
   idles = λ e. e;
 }
 grows_line said (nice_line k) = record {
   claims = ([], sym (append-nil said.claims));
   nices = (k ∷ [], refl);
+  charges = ([], sym (append-nil said.charges));
   tasks = λ e. e;
   idles = λ e. e;
 }
 grows_line said (idle_line k) = record {
   claims = ([], sym (append-nil said.claims));
   nices = ([], sym (append-nil said.nices));
+  charges = ([], sym (append-nil said.charges));
   tasks = λ e. map_nil _ said.tasks e;
   idles = λ e. absurd (no_push said.idles k e);
+}
+grows_line said (charge_line k) = record {
+  claims = ([], sym (append-nil said.claims));
+  nices = ([], sym (append-nil said.nices));
+  charges = (k ∷ [], refl);
+  tasks = λ e. e;
+  idles = λ e. e;
 }
 
 grows_then : (a b c : Said) → SaysMore a b → SaysMore b c → SaysMore a c
@@ -164,6 +182,11 @@ grows_then a b c g h =
         g.nices.0 ++ h.nices.0,
         h.nices.1 ∙ ap (λ (ks : List NiceLine). ks ++ h.nices.0) g.nices.1
             ∙ append_assoc a.nices g.nices.0 h.nices.0,
+      );
+      charges = (
+        g.charges.0 ++ h.charges.0,
+        h.charges.1 ∙ ap (λ (ks : List ChargeLine). ks ++ h.charges.0) g.charges.1
+            ∙ append_assoc a.charges g.charges.0 h.charges.0,
       );
       tasks = λ e. g.tasks (h.tasks e);
       idles = λ e. g.idles (h.idles e);
@@ -199,18 +222,42 @@ behind_up : (o : Option NiceLine) (a b : ℕ) → a < b → option_map_or (λ la
 behind_up None a b less ok = refl
 behind_up (Some k) a b less ok = grind (arith, nat_tests)
 
+still_up : (o : Option ChargeLine) (a b : ℕ) → a < b → option_map_or (λ last. nat_le last.line a) o true ≡ true
+    → option_map_or (λ last. nat_le last.line b) o true ≡ true
+still_up None a b less ok = refl
+still_up (Some k) a b less ok = grind (arith, nat_tests)
+
+past_up : (o : Option ChargeLine) (a b : ℕ) → a < b → option_map_or (λ last. nat_lt last.line a) o true ≡ true
+    → option_map_or (λ last. nat_lt last.line b) o true ≡ true
+past_up None a b less ok = refl
+past_up (Some k) a b less ok = grind (arith, nat_tests)
+
 both_true : (a b : Bool) → a ≡ true → b ≡ true → (a && b) ≡ true
 both_true a b e f = rw (e, f) refl
 
 claim_up : (said : Said) (a b : ℕ) → a < b → may_claim_at said a ≡ true → may_claim_at said b ≡ true
 claim_up said a b less ok =
-    let parts = and_parts _ _ ok in
-    both_true _ _ (above_up (last_claim said) a b less parts.0) (from_up (last_nice said) a b less parts.1)
+    let three = and_parts _ _ ok in
+    let parts = and_parts _ _ three.0 in
+    both_true _ _
+    (both_true _ _ (above_up (last_claim said) a b less parts.0) (from_up (last_nice said) a b less parts.1))
+    (still_up (last_charge said) a b less three.1)
 
 change_up : (said : Said) (a b : ℕ) → a < b → may_change_at said a ≡ true → may_change_at said b ≡ true
 change_up said a b less ok =
-    let parts = and_parts _ _ ok in
-    both_true _ _ (behind_up (last_nice said) a b less parts.0) (above_up (last_claim said) a b less parts.1)
+    let three = and_parts _ _ ok in
+    let parts = and_parts _ _ three.0 in
+    both_true _ _
+    (both_true _ _ (behind_up (last_nice said) a b less parts.0) (above_up (last_claim said) a b less parts.1))
+    (still_up (last_charge said) a b less three.1)
+
+charge_up : (said : Said) (a b : ℕ) → a < b → may_charge_at said a ≡ true → may_charge_at said b ≡ true
+charge_up said a b less ok =
+    let three = and_parts _ _ ok in
+    let parts = and_parts _ _ three.0 in
+    both_true _ _
+    (both_true _ _ (past_up (last_charge said) a b less parts.0) (behind_up (last_nice said) a b less parts.1))
+    (above_up (last_claim said) a b less three.1)
 
 all_claims : (said : Said) (claims : List Claim) → AllPairs (λ a b. a.line < b.line) claims → ClaimsFollow said claims
     → All (λ k. may_claim_at said k.line ≡ true) claims
@@ -223,6 +270,12 @@ all_changes : (said : Said) (nices : List NiceLine) → AllPairs (λ a b. a.line
 all_changes said [] rises first = λ k d h. absurd (omega arith)
 all_changes said (change ∷ changes) rises first =
     all_from_first (λ k. k.line) (λ n. may_change_at said n ≡ true) (change_up said) change changes rises first
+
+all_charges : (said : Said) (charges : List ChargeLine) → AllPairs (λ a b. a.line < b.line) charges
+    → ChargesFollow said charges → All (λ k. may_charge_at said k.line ≡ true) charges
+all_charges said [] rises first = λ k d h. absurd (omega arith)
+all_charges said (charge ∷ charges) rises first =
+    all_from_first (λ k. k.line) (λ n. may_charge_at said n ≡ true) (charge_up said) charge charges rises first
 
 -- ---- the last of two lists
 
@@ -240,18 +293,38 @@ last_of_both test xs (y ∷ ys) first second = rw (last_of_second None xs y ys) 
 claim_of_both : (said piece : Said) (line : ℕ) → may_claim_at said line ≡ true → may_claim_at piece line ≡ true
     → may_claim_at (with_piece said piece) line ≡ true
 claim_of_both said piece line first second =
-    let a = and_parts _ _ first in
-    let b = and_parts _ _ second in
-    both_true _ _ (last_of_both (λ last. nat_lt last.line line) said.claims piece.claims a.0 b.0)
-    (last_of_both (λ last. nat_le last.line line) said.nices piece.nices a.1 b.1)
+    let three = and_parts _ _ first in
+    let others = and_parts _ _ second in
+    let a = and_parts _ _ three.0 in
+    let b = and_parts _ _ others.0 in
+    both_true _ _
+    (both_true _ _ (last_of_both (λ last. nat_lt last.line line) said.claims piece.claims a.0 b.0)
+    (last_of_both (λ last. nat_le last.line line) said.nices piece.nices a.1 b.1))
+    (last_of_both (λ last. nat_le last.line line) said.charges piece.charges three.1 others.1)
 
 change_of_both : (said piece : Said) (line : ℕ) → may_change_at said line ≡ true → may_change_at piece line ≡ true
     → may_change_at (with_piece said piece) line ≡ true
 change_of_both said piece line first second =
-    let a = and_parts _ _ first in
-    let b = and_parts _ _ second in
-    both_true _ _ (last_of_both (λ last. nat_lt last.line line) said.nices piece.nices a.0 b.0)
-    (last_of_both (λ last. nat_lt last.line line) said.claims piece.claims a.1 b.1)
+    let three = and_parts _ _ first in
+    let others = and_parts _ _ second in
+    let a = and_parts _ _ three.0 in
+    let b = and_parts _ _ others.0 in
+    both_true _ _
+    (both_true _ _ (last_of_both (λ last. nat_lt last.line line) said.nices piece.nices a.0 b.0)
+    (last_of_both (λ last. nat_lt last.line line) said.claims piece.claims a.1 b.1))
+    (last_of_both (λ last. nat_le last.line line) said.charges piece.charges three.1 others.1)
+
+charge_of_both : (said piece : Said) (line : ℕ) → may_charge_at said line ≡ true → may_charge_at piece line ≡ true
+    → may_charge_at (with_piece said piece) line ≡ true
+charge_of_both said piece line first second =
+    let three = and_parts _ _ first in
+    let others = and_parts _ _ second in
+    let a = and_parts _ _ three.0 in
+    let b = and_parts _ _ others.0 in
+    both_true _ _
+    (both_true _ _ (last_of_both (λ last. nat_lt last.line line) said.charges piece.charges a.0 b.0)
+    (last_of_both (λ last. nat_lt last.line line) said.nices piece.nices a.1 b.1))
+    (last_of_both (λ last. nat_lt last.line line) said.claims piece.claims three.1 others.1)
 
 -- ---- one line
 
@@ -297,7 +370,7 @@ judged_again version piece said line x good is none =
     subst (λ (o : Option ℕ). MatchOption o (IsJudgedFirst line (Ok x)) (λ w. IsJudgedLater w said line (Ok x)))
     (sym (is ∙ good.format_is)) (inr (inr (good.plain, (x, good.spelled, passed))))
 
--- a claim or a change of a piece, behind what was said
+-- a claim, a change or a charge of a piece, behind what was said
 record IsSaidBehind (said piece : Said) (x : Shape) : Type 0 where
   passed : fault_of (with_piece said piece) x ≡ None
   behind : IsBehindHead said (with_line piece x)
@@ -319,58 +392,84 @@ so_of_one : {A : Type 0} (P : A → Type 0) (xs ys : List A) (y : A) → All P (
 so_of_one P [] ys y all = All-head P y ys all
 so_of_one P (x ∷ xs) ys y all = so_of_one P xs ys y (All-tail P x ((xs ++ y ∷ []) ++ ys) all)
 
-said_behind : (said piece after : Said) (x : Shape) → FollowsOn said after
-    → All (λ k. may_claim_at said k.line ≡ true) after.claims → All (λ k. may_change_at said k.line ≡ true) after.nices
+-- each claim, change and charge of what was said later may follow what was said
+record MayAllFollow (said after : Said) : Type 0 where
+  claims : All (λ k. may_claim_at said k.line ≡ true) after.claims
+  changes : All (λ k. may_change_at said k.line ≡ true) after.nices
+  charges : All (λ k. may_charge_at said k.line ≡ true) after.charges
+
+said_behind : (said piece after : Said) (x : Shape) → FollowsOn said after → MayAllFollow said after
     → IsBehindHead said piece → Passes piece x → SaysMore (with_line piece x) after → IsSaidBehind said piece x
-said_behind said piece after (version_line n) follows claims changes behind passes grown = let turn = passes.turn in
+said_behind said piece after (version_line n) follows may behind passes grown = let turn = passes.turn in
     absurd cc
-said_behind said piece after (cpus_line n) follows claims changes behind passes grown =
+said_behind said piece after (cpus_line n) follows may behind passes grown =
     absurd (no_cpus said.cpus (length said.floors) follows.floors (rw behind.cpus at passes.turn))
-said_behind said piece after (start_line seconds nanoseconds) follows claims changes behind passes grown =
+said_behind said piece after (start_line seconds nanoseconds) follows may behind passes grown =
     let turn = and_parts (is_some piece.cpus) (is_none piece.start) passes.turn in
     absurd (some_and_none said.start follows.started (rw behind.start at turn.1))
-said_behind said piece after (floor_line cpu floor) follows claims changes behind passes grown =
+said_behind said piece after (floor_line cpu floor) follows may behind passes grown =
     let turn = and_parts (is_some piece.start) (not (has_all_floors piece)) passes.turn in
     absurd (not_true (has_all_floors said) follows.floors (rw (behind.cpus, behind.floors) at turn.1))
-said_behind said piece after (task_line t) follows claims changes behind passes grown =
+said_behind said piece after (task_line t) follows may behind passes grown =
     absurd (no_push piece.tasks _ (grown.tasks follows.no_task))
-said_behind said piece after (claim_line k) follows claims changes behind passes grown =
-    let may = so_of_one (λ (c : Claim). may_claim_at said c.line ≡ true) piece.claims grown.claims.0 k
-    (subst (λ (ks : List Claim). All (λ c. may_claim_at said c.line ≡ true) ks) grown.claims.1 claims) in
+said_behind said piece after (claim_line k) follows may behind passes grown =
+    let here = so_of_one (λ (c : Claim). may_claim_at said c.line ≡ true) piece.claims grown.claims.0 k
+    (subst (λ (ks : List Claim). All (λ c. may_claim_at said c.line ≡ true) ks) grown.claims.1 may.claims) in
     record {
       passed = no_fault (with_piece said piece) (claim_line k) follows.floors passes.limits refl refl refl
-          (claim_of_both said piece k.line may passes.above) refl;
+          (claim_of_both said piece k.line here passes.above) refl;
       behind = record { version = behind.version; cpus = behind.cpus; start = behind.start; floors = behind.floors };
-      same = ap (λ (ks : List Claim). record said { claims = ks; nices = said.nices ++ piece.nices })
+      same = ap (λ (ks : List Claim). record said {
+        claims = ks;
+        nices = said.nices ++ piece.nices;
+        charges = said.charges ++ piece.charges;
+      })
           (sym (append_assoc said.claims piece.claims (k ∷ [])));
     }
-said_behind said piece after (nice_line k) follows claims changes behind passes grown =
-    let may = so_of_one (λ (c : NiceLine). may_change_at said c.line ≡ true) piece.nices grown.nices.0 k
-    (subst (λ (ks : List NiceLine). All (λ c. may_change_at said c.line ≡ true) ks) grown.nices.1 changes) in
+said_behind said piece after (nice_line k) follows may behind passes grown =
+    let here = so_of_one (λ (c : NiceLine). may_change_at said c.line ≡ true) piece.nices grown.nices.0 k
+    (subst (λ (ks : List NiceLine). All (λ c. may_change_at said c.line ≡ true) ks) grown.nices.1 may.changes) in
     record {
       passed = no_fault (with_piece said piece) (nice_line k) follows.floors passes.limits refl refl refl
-          (change_of_both said piece k.line may passes.above) refl;
+          (change_of_both said piece k.line here passes.above) refl;
       behind = record { version = behind.version; cpus = behind.cpus; start = behind.start; floors = behind.floors };
-      same = ap (λ (ks : List NiceLine). record said { claims = said.claims ++ piece.claims; nices = ks })
+      same = ap (λ (ks : List NiceLine). record said {
+        claims = said.claims ++ piece.claims;
+        nices = ks;
+        charges = said.charges ++ piece.charges;
+      })
           (sym (append_assoc said.nices piece.nices (k ∷ [])));
     }
-said_behind said piece after (idle_line k) follows claims changes behind passes grown =
+said_behind said piece after (idle_line k) follows may behind passes grown =
     absurd (no_push piece.idles k (grown.idles follows.no_idle))
+said_behind said piece after (charge_line k) follows may behind passes grown =
+    let here = so_of_one (λ (c : ChargeLine). may_charge_at said c.line ≡ true) piece.charges grown.charges.0 k
+    (subst (λ (ks : List ChargeLine). All (λ c. may_charge_at said c.line ≡ true) ks) grown.charges.1 may.charges) in
+    record {
+      passed = no_fault (with_piece said piece) (charge_line k) follows.floors passes.limits refl refl refl
+          (charge_of_both said piece k.line here passes.above) refl;
+      behind = record { version = behind.version; cpus = behind.cpus; start = behind.start; floors = behind.floors };
+      same = ap (λ (ks : List ChargeLine). record said {
+        claims = said.claims ++ piece.claims;
+        nices = said.nices ++ piece.nices;
+        charges = ks;
+      })
+          (sym (append_assoc said.charges piece.charges (k ∷ [])));
+    }
 
 -- ---- a piece
 
-said_from : (said piece after : Said) (lines : List (List ℕ)) → FollowsOn said after
-    → All (λ k. may_claim_at said k.line ≡ true) after.claims → All (λ k. may_change_at said k.line ≡ true) after.nices
+said_from : (said piece after : Said) (lines : List (List ℕ)) → FollowsOn said after → MayAllFollow said after
     → IsBehindHead said piece → SaysOn piece lines after → SaysOn (with_piece said piece) lines (with_piece said after)
-said_from said piece after [] follows claims changes behind says = ap (with_piece said) says
-said_from said piece after (line ∷ lines) follows claims changes behind (inl p) =
-    inl (p.0, said_from said piece after lines follows claims changes behind p.1)
-said_from said piece after (line ∷ lines) follows claims changes behind (inr p) =
+said_from said piece after [] follows may behind says = ap (with_piece said) says
+said_from said piece after (line ∷ lines) follows may behind (inl p) =
+    inl (p.0, said_from said piece after lines follows may behind p.1)
+said_from said piece after (line ∷ lines) follows may behind (inr p) =
     let x = p.1.0 in
     let good = good_at piece.version piece line x (rw (← behind.version) at follows.begun) p.1.1 in
-    let step = said_behind said piece after x follows claims changes behind (all_passed piece x good.passed)
+    let step = said_behind said piece after x follows may behind (all_passed piece x good.passed)
     (grows (with_line piece x) after lines p.1.2) in
-    let rest = said_from said (with_line piece x) after lines follows claims changes step.behind p.1.2 in
+    let rest = said_from said (with_line piece x) after lines follows may step.behind p.1.2 in
     inr (
       p.0,
       (
@@ -396,13 +495,15 @@ head_order said order =
       nice_lines_rise = λ i j d lt within. absurd (omega arith);
       idles_kept = λ k d h. absurd (omega arith);
       idles_rise = λ i j d lt within. absurd (omega arith);
+      charges_kept = λ k d h. absurd (omega arith);
+      charge_lines_rise = λ i j d lt within. absurd (omega arith);
       policies_kept = refl;
       named_kept = λ k d h. absurd (omega arith);
     }
 
 -- nothing of a piece yet
 no_piece : (said : Said) → with_piece said (head_of said) ≡ said
-no_piece said = rw (append-nil said.claims, append-nil said.nices) refl
+no_piece said = rw (append-nil said.claims, append-nil said.nices, append-nil said.charges) refl
 
 -- what a piece says behind the head it says behind what was said, where it follows on
 pub piece_said : (said after : Said) (lines : List (List ℕ)) → KeepsOrder said → FollowsOn said after
@@ -411,9 +512,13 @@ piece_said said after lines order follows says =
     let kept = order_on (head_of said) after lines (head_order said order) says in
     let behind : IsBehindHead said (head_of said) =
     record { version = refl; cpus = refl; start = refl; floors = refl } in
+    let may : MayAllFollow said after = record {
+      claims = all_claims said after.claims kept.lines_rise follows.claims;
+      changes = all_changes said after.nices kept.nice_lines_rise follows.changes;
+      charges = all_charges said after.charges kept.charge_lines_rise follows.charges;
+    } in
     subst (λ (s : Said). SaysOn s lines (with_piece said after)) (no_piece said)
-    (said_from said (head_of said) after lines follows (all_claims said after.claims kept.lines_rise follows.claims)
-    (all_changes said after.nices kept.nice_lines_rise follows.changes) behind says)
+    (said_from said (head_of said) after lines follows may behind says)
 
 -- ---- pieces one after another
 
@@ -492,4 +597,5 @@ read_on lines said r says whole =
       claims_is = rw all.2 at whole.claims_is;
       nices_is = rw all.2 at whole.nices_is;
       idles_is = rw all.2 at whole.idles_is;
+      charges_is = rw all.2 at whole.charges_is;
     }

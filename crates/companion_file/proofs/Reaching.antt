@@ -128,6 +128,7 @@ reached_whole text rest number kept r at empty whole =
       claims_is = rw at.kept_is at whole.claims_is;
       nices_is = rw at.kept_is at whole.nices_is;
       idles_is = rw at.kept_is at whole.idles_is;
+      charges_is = rw at.kept_is at whole.charges_is;
     }
 
 -- ---- the answers

@@ -1,10 +1,11 @@
 -- The shape of a line, both ways: what is spelled is read, and what is read is spelled, but for numbers far out of
 -- their limits. The first word decides which shape is tried.
-use Rattle.std.proofs.Common.{◌≡◌, ◌⊎◌, ℕ, cond, eqb, List, ◌++◌, length, min, ℤ, Option, Some, None, refl, sym}
-use Rattle.std.proofs.Common.{ap, subst, ◌∙◌, inl, inr}
+use Rattle.std.proofs.Common.{◌≡◌, ◌⊎◌, ℕ, ◌≤◌, cond, eqb, ltb, List, ◌++◌, length, min, ℤ, Option, Some, None}
+use Rattle.std.proofs.Common.{false, refl, sym, ap, subst, ◌∙◌, inl, inr, arith}
 use Rattle.std.specs.Prelude.{codes}
 use Rattle.std.specs.Option.{option_map_or}
-use Rattle.std.proofs.lemmas.Bool.{cases_Bool, eqb-true}
+use Rattle.std.proofs.lemmas.Bool.{cases_Bool}
+use Rattle.std.proofs.lemmas.Bool.Decides.{nat_tests}
 use Rattle.cfs_model.specs.declared.task.Place.{Place}
 use Rattle.cfs_model.specs.declared.claim.ClaimSort.{ClaimSort}
 use Rattle.cfs_model.specs.declared.claim.ClaimSort.TheVariants.{At, Pass}
@@ -14,12 +15,12 @@ use Rattle.text_parts.proofs.Runs.{bind_some, text_taken}
 use Rattle.text_parts.proofs.Words.{time_from_word}
 use Rattle.std.proofs.lemmas.Option.{same_Some}
 use Rattle.companion_file.specs.Shape.{Shape, version_line, cpus_line, start_line, floor_line, task_line, claim_line}
-use Rattle.companion_file.specs.Shape.{nice_line, idle_line}
+use Rattle.companion_file.specs.Shape.{nice_line, idle_line, charge_line}
 use Rattle.companion_file.specs.Spelling.{place_word, sort_word, IsSpelled}
 use Rattle.companion_file.specs.ShapeReading.{number_field, number_whole, integer_field, integer_whole, place_field}
 use Rattle.companion_file.specs.ShapeReading.{version_shape_at, cpus_shape_at, start_shape_at, floor_shape_at}
 use Rattle.companion_file.specs.ShapeReading.{task_shape_at, claim_shape_at, nice_shape_at, idle_shape_at}
-use Rattle.companion_file.specs.ShapeReading.{front_shape_at, shape_at}
+use Rattle.companion_file.specs.ShapeReading.{charge_shape_at, front_shape_at, shape_at}
 use Rattle.companion_file.proofs.Clip.{clip, clip_integer}
 use Rattle.companion_file.proofs.Starts.{start_again}
 use Rattle.companion_file.proofs.ReadFields.{spaced_from, number_field_again, number_whole_again, integer_field_again}
@@ -54,6 +55,18 @@ idle_tried : (version : ℕ) (rest : List ℕ) → shape_at version (spaced_from
 unfolding shape_at after_text
 idle_tried version rest = refl
 
+charge_tried : (version : ℕ) (rest : List ℕ)
+    → shape_at version (spaced_from (codes "charge") rest) ≡ charge_shape_at version rest
+unfolding shape_at after_text
+charge_tried version rest = refl
+
+-- the version has what a least version has
+not_below : (least version : ℕ) → least ≤ version → ltb version least ≡ false
+not_below least version le = grind (arith, nat_tests)
+
+not_above : (least version : ℕ) → ltb version least ≡ false → least ≤ version
+not_above least version e = grind (arith, nat_tests)
+
 start_tried : (version : ℕ) (rest : List ℕ) → shape_at version (spaced_from (codes "start") rest) ≡ start_shape_at rest
 unfolding shape_at front_shape_at after_text
 start_tried version rest = refl
@@ -70,6 +83,7 @@ version_tried version rest = refl
 pub shape_again : (version : ℕ) (line : List ℕ) (x : Shape) → IsSpelled version line x
     → shape_at version line ≡ Some (clip x)
 unfolding version_shape_at cpus_shape_at floor_shape_at task_shape_at claim_shape_at nice_shape_at idle_shape_at
+    charge_shape_at
 shape_again version line (version_line n) p =
     ap (shape_at version) p.2 ∙ version_tried version p.0 ∙ rw (number_whole_again p.0 n p.1) refl
 shape_again version line (cpus_line n) p =
@@ -100,14 +114,22 @@ shape_again version line (claim_line k) p =
 shape_again version line (nice_line k) p =
     ap (shape_at version) p.7 ∙ nice_tried version (spaced_from p.1 (spaced_from p.2 p.3))
     ∙ rw (
-      p.0,
+      not_below 2 version p.0,
       number_field_again p.1 (spaced_from p.2 p.3) k.line p.4,
       number_field_again p.2 p.3 k.pid p.5,
       integer_whole_again p.3 k.nice p.6,
     ) refl
 shape_again version line (idle_line k) p =
     ap (shape_at version) p.5 ∙ idle_tried version (spaced_from p.1 p.2)
-    ∙ rw (p.0, number_field_again p.1 p.2 k.line p.3, number_whole_again p.2 k.pid p.4) refl
+    ∙ rw (not_below 2 version p.0, number_field_again p.1 p.2 k.line p.3, number_whole_again p.2 k.pid p.4) refl
+shape_again version line (charge_line k) p =
+    ap (shape_at version) p.7 ∙ charge_tried version (spaced_from p.1 (spaced_from p.2 p.3))
+    ∙ rw (
+      not_below 3 version p.0,
+      number_field_again p.1 (spaced_from p.2 p.3) k.line p.4,
+      number_field_again p.2 p.3 k.pid p.5,
+      integer_whole_again p.3 k.v p.6,
+    ) refl
 
 -- ---- what is read is spelled
 
@@ -126,6 +148,10 @@ same_claim l m p q v w sort e f g = rw (e, f, g) refl
 same_nice : (l m p q : ℕ) (v w : ℤ) → l ≡ m → p ≡ q → v ≡ w
     → nice_line (record { line = l; pid = p; nice = v }) ≡ nice_line (record { line = m; pid = q; nice = w })
 same_nice l m p q v w e f g = rw (e, f, g) refl
+
+same_charge : (l m p q : ℕ) (v w : ℤ) → l ≡ m → p ≡ q → v ≡ w
+    → charge_line (record { line = l; pid = p; v = v }) ≡ charge_line (record { line = m; pid = q; v = w })
+same_charge l m p q v w e f g = rw (e, f, g) refl
 
 same_idle : (l m p q : ℕ) → l ≡ m → p ≡ q → idle_line (record { line = l; pid = p }) ≡ idle_line
     (record { line = m; pid = q })
@@ -217,10 +243,11 @@ nice_found : (version : ℕ) (rest : List ℕ) (y : Shape) → nice_shape_at ver
     → IsShapeFound version (spaced_from (codes "nice") rest) y
 unfolding nice_shape_at
 nice_found version rest y e =
-    elim (cases_Bool (eqb version 2)) [
-      | inl two ↦
+    elim (cases_Bool (ltb version 2)) [
+      | inl early ↦ let none : None ≡ Some y = rw early at e in absurd cc
+      | inr has ↦
           let read : (number_field rest >>= λ line. number_field line.1 >>= λ pid. integer_whole pid.1 >>= λ nice. Some
-          (nice_line (record { line = line.0; pid = pid.0; nice = nice }))) ≡ Some y = rw two at e in
+          (nice_line (record { line = line.0; pid = pid.0; nice = nice }))) ≡ Some y = rw has at e in
           let a = bind_some (number_field rest) (λ line. number_field line.1 >>= λ pid. integer_whole pid.1 >>= λ nice.
           Some (nice_line (record { line = line.0; pid = pid.0; nice = nice }))) y read in
           let b = bind_some (number_field a.0.1) (λ pid. integer_whole pid.1 >>= λ nice. Some
@@ -232,7 +259,7 @@ nice_found version rest y e =
           let t2 = integer_whole_taken b.0.1 c.0 c.1 in (
             nice_line (record { line = t0.exact; pid = t1.exact; nice = t2.0 }),
             (
-              eqb-true version 2 two,
+              not_above 2 version has,
               t0.word,
               t1.word,
               b.0.1,
@@ -246,17 +273,53 @@ nice_found version rest y e =
                 ∙ same_nice a.0.0 (min t0.exact many) b.0.0 (min t1.exact many) c.0 (clip_integer t2.0) t0.value
                 t1.value t2.2,
           )
-      | inr other ↦ let none : None ≡ Some y = rw other at e in absurd cc
+    ]
+
+charge_found : (version : ℕ) (rest : List ℕ) (y : Shape) → charge_shape_at version rest ≡ Some y
+    → IsShapeFound version (spaced_from (codes "charge") rest) y
+unfolding charge_shape_at
+charge_found version rest y e =
+    elim (cases_Bool (ltb version 3)) [
+      | inl early ↦ let none : None ≡ Some y = rw early at e in absurd cc
+      | inr has ↦
+          let read : (number_field rest >>= λ line. number_field line.1 >>= λ pid. integer_whole pid.1 >>= λ v. Some
+          (charge_line (record { line = line.0; pid = pid.0; v = v }))) ≡ Some y = rw has at e in
+          let a = bind_some (number_field rest) (λ line. number_field line.1 >>= λ pid. integer_whole pid.1 >>= λ v.
+          Some (charge_line (record { line = line.0; pid = pid.0; v = v }))) y read in
+          let b = bind_some (number_field a.0.1) (λ pid. integer_whole pid.1 >>= λ v. Some
+          (charge_line (record { line = a.0.0; pid = pid.0; v = v }))) y a.2 in
+          let c = bind_some (integer_whole b.0.1) (λ v. Some
+          (charge_line (record { line = a.0.0; pid = b.0.0; v = v }))) y b.2 in
+          let t0 = number_field_taken rest a.0.0 a.0.1 a.1 in
+          let t1 = number_field_taken a.0.1 b.0.0 b.0.1 b.1 in
+          let t2 = integer_whole_taken b.0.1 c.0 c.1 in (
+            charge_line (record { line = t0.exact; pid = t1.exact; v = t2.0 }),
+            (
+              not_above 3 version has,
+              t0.word,
+              t1.word,
+              b.0.1,
+              t0.spelled,
+              t1.spelled,
+              t2.1,
+              ap (λ (s : List ℕ). spaced_from (codes "charge") s) (t0.whole
+                  ∙ ap (λ (s : List ℕ). spaced_from t0.word s) t1.whole),
+            ),
+            sym (same_Some (charge_line (record { line = a.0.0; pid = b.0.0; v = c.0 })) y c.2)
+                ∙ same_charge a.0.0 (min t0.exact many) b.0.0 (min t1.exact many) c.0 (clip_integer t2.0) t0.value
+                t1.value t2.2,
+          )
     ]
 
 idle_found : (version : ℕ) (rest : List ℕ) (y : Shape) → idle_shape_at version rest ≡ Some y
     → IsShapeFound version (spaced_from (codes "idle") rest) y
 unfolding idle_shape_at
 idle_found version rest y e =
-    elim (cases_Bool (eqb version 2)) [
-      | inl two ↦
+    elim (cases_Bool (ltb version 2)) [
+      | inl early ↦ let none : None ≡ Some y = rw early at e in absurd cc
+      | inr has ↦
           let read : (number_field rest >>= λ line. number_whole line.1 >>= λ pid. Some
-          (idle_line (record { line = line.0; pid = pid }))) ≡ Some y = rw two at e in
+          (idle_line (record { line = line.0; pid = pid }))) ≡ Some y = rw has at e in
           let a = bind_some (number_field rest) (λ line. number_whole line.1 >>= λ pid. Some
           (idle_line (record { line = line.0; pid = pid }))) y read in
           let b = bind_some (number_whole a.0.1) (λ pid. Some (idle_line (record { line = a.0.0; pid = pid }))) y a.2 in
@@ -264,7 +327,7 @@ idle_found version rest y e =
           let t1 = number_whole_taken a.0.1 b.0 b.1 in (
             idle_line (record { line = t0.exact; pid = t1.0 }),
             (
-              eqb-true version 2 two,
+              not_above 2 version has,
               t0.word,
               a.0.1,
               t0.spelled,
@@ -274,7 +337,6 @@ idle_found version rest y e =
             sym (same_Some (idle_line (record { line = a.0.0; pid = b.0 })) y b.2)
                 ∙ same_idle a.0.0 (min t0.exact many) b.0 (min t1.0 many) t0.value t1.2,
           )
-      | inr other ↦ let none : None ≡ Some y = rw other at e in absurd cc
     ]
 
 task_found : (version : ℕ) (rest : List ℕ) (y : Shape) → task_shape_at rest ≡ Some y
@@ -363,17 +425,20 @@ shape_taken version line y e =
       | inl p ↦ moved version (codes "at") line p.0 y p.1 refl (claim_found version At p.0 y p.2)
       | inr f ↦ elim (tried (claim_shape_at Pass) (after_text (codes "pass ") line) _ y f) [
         | inl p ↦ moved version (codes "pass") line p.0 y p.1 refl (claim_found version Pass p.0 y p.2)
-        | inr g ↦ elim (tried task_shape_at (after_text (codes "task ") line) _ y g) [
-          | inl p ↦ moved version (codes "task") line p.0 y p.1 refl (task_found version p.0 y p.2)
-          | inr h ↦ elim (tried floor_shape_at (after_text (codes "floor ") line) _ y h) [
-            | inl p ↦ moved version (codes "floor") line p.0 y p.1 refl (floor_found version p.0 y p.2)
-            | inr i ↦ elim (tried (nice_shape_at version) (after_text (codes "nice ") line) _ y i) [
-              | inl p ↦ moved version (codes "nice") line p.0 y p.1 refl (nice_found version p.0 y p.2)
-              | inr j ↦ elim (tried (idle_shape_at version) (after_text (codes "idle ") line)
-                  (front_shape_at line) y j) [
-                    | inl p ↦ moved version (codes "idle") line p.0 y p.1 refl (idle_found version p.0 y p.2)
-                    | inr l ↦ front_found version line y l
-                  ]
+        | inr g ↦ elim (tried (charge_shape_at version) (after_text (codes "charge ") line) _ y g) [
+          | inl p ↦ moved version (codes "charge") line p.0 y p.1 refl (charge_found version p.0 y p.2)
+          | inr h ↦ elim (tried task_shape_at (after_text (codes "task ") line) _ y h) [
+            | inl p ↦ moved version (codes "task") line p.0 y p.1 refl (task_found version p.0 y p.2)
+            | inr i ↦ elim (tried floor_shape_at (after_text (codes "floor ") line) _ y i) [
+              | inl p ↦ moved version (codes "floor") line p.0 y p.1 refl (floor_found version p.0 y p.2)
+              | inr j ↦ elim (tried (nice_shape_at version) (after_text (codes "nice ") line) _ y j) [
+                | inl p ↦ moved version (codes "nice") line p.0 y p.1 refl (nice_found version p.0 y p.2)
+                | inr k ↦ elim (tried (idle_shape_at version) (after_text (codes "idle ") line)
+                    (front_shape_at line) y k) [
+                      | inl p ↦ moved version (codes "idle") line p.0 y p.1 refl (idle_found version p.0 y p.2)
+                      | inr l ↦ front_found version line y l
+                    ]
+              ]
             ]
           ]
         ]

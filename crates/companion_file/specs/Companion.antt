@@ -1,6 +1,8 @@
 -- What a companion's text means (this project's companion format).
-use Rattle.std.specs.Prelude.{◌≡◌, ℕ, ◌+◌, ℤ, true, false, List, [], ◌∷◌, ◌++◌, length, Some, Result, Ok, Err, ◌⊎◌}
+use Rattle.std.specs.Prelude.{◌≡◌, ℕ, ◌+◌, ℤ, true, false, List, [], ◌∷◌, ◌++◌, length, All, Some, Result, Ok, Err}
+use Rattle.std.specs.Prelude.{◌⊎◌}
 use Rattle.cfs_model.specs.declared.task.Task.{Task}
+use Rattle.cfs_model.specs.declared.charge_line.ChargeLine.{ChargeLine}
 use Rattle.cfs_model.specs.declared.claim.Claim.{Claim}
 use Rattle.cfs_model.specs.declared.nice_line.NiceLine.{NiceLine}
 use Rattle.cfs_model.specs.declared.idle_line.IdleLine.{IdleLine}
@@ -8,10 +10,11 @@ use Rattle.companion_file.specs.declared.fault.CompanionCause.{CompanionCause}
 use Rattle.companion_file.specs.declared.fault.CompanionCause.TheVariants.{Short}
 use Rattle.text_parts.specs.Lines.{lines_of, IsComment}
 use Rattle.companion_file.specs.Shape.{Shape}
+use Rattle.companion_file.specs.Spelling.{IsFirstLine}
 use Rattle.companion_file.specs.Earlier.{summed, has_all_floors}
 use Rattle.companion_file.specs.Tests.{IsJudged}
 
--- what a companion says: the start state, the claims, the changes of nice values, and who is of the idle policy
+-- the start state, the claims, the changes of nice values, who is of the idle policy, and the charges that are told
 pub record CompanionView : Type 0 where
   -- the number of processors
   pub cpus : ℕ
@@ -23,6 +26,7 @@ pub record CompanionView : Type 0 where
   pub claims : List Claim
   pub nices : List NiceLine
   pub idles : List IdleLine
+  pub charges : List ChargeLine
 
 -- after lines that said `earlier` each of these lines is a comment or good, and with them `said` is said
 abbrev pub AreGood : List Shape → List (List ℕ) → List Shape → Type 0
@@ -64,6 +68,16 @@ pub record IsRead (lines : List (List ℕ)) (r : CompanionView) : Type 0 where
   pub claims_is : r.claims ≡ (summed said).claims
   pub nices_is : r.nices ≡ (summed said).nices
   pub idles_is : r.idles ≡ (summed said).idles
+  pub charges_is : r.charges ≡ (summed said).charges
+
+-- the first of the lines that is no comment names this version
+pub record AreOfVersion (lines : List (List ℕ)) (version : ℕ) : Type 0 where
+  pub comments : List (List ℕ)
+  pub line : List ℕ
+  pub rest : List (List ℕ)
+  pub parts : lines ≡ comments ++ line ∷ rest
+  pub are_comments : All IsComment comments
+  pub is_first : IsFirstLine line version
 
 -- the lines are refused at a line for a cause
 abbrev pub IsRefusedCompanion : List (List ℕ) → ℕ → CompanionCause → Type 0

@@ -7,7 +7,7 @@ use Rattle.cfs_model.specs.declared.task.Task.{Task}
 use Rattle.companion_file.specs.declared.fault.Refusal.{Refusal}
 use Rattle.companion_file.specs.declared.fault.Refusal.TheVariants as refusals
 use Rattle.companion_file.specs.Shape.{Shape, version_line, cpus_line, start_line, floor_line, task_line, claim_line}
-use Rattle.companion_file.specs.Shape.{nice_line, idle_line}
+use Rattle.companion_file.specs.Shape.{nice_line, idle_line, charge_line}
 use Rattle.companion_file.specs.declared.fault.CompanionCause.TheVariants.{Version}
 use Rattle.companion_file.specs.declared.fault.CompanionFault.{CompanionFault}
 use Rattle.companion_file.specs.declared.fault.CompanionFault.TheVariants as faults
@@ -18,6 +18,7 @@ use Rattle.cfs_model.specs.Limits.{no_line, most_processors, greatest_seconds, n
 use Rattle.cfs_model.specs.Charge.{IsInRange}
 use Rattle.companion_file.specs.Companion.{CompanionView}
 use Rattle.companion_file.specs.Order.{IsTaskInLimits, IsClaimInLimits, IsNiceLineInLimits, IsIdleLineInLimits}
+use Rattle.companion_file.specs.Order.{IsChargeLineInLimits}
 use Rattle.companion_file.specs.Order.{IdleRises}
 use Rattle.cfs_model.specs.Order.{RunApart}
 use Rattle.companion_file.specs.Tests.{fault_of, IsJudged}
@@ -41,6 +42,7 @@ with_line said (idle_line idle) = record said {
   tasks = map (with_policy_told (said.idles ++ idle ∷ [])) said.tasks;
   idles = said.idles ++ idle ∷ [];
 }
+with_line said (charge_line charge) = record said { charges = said.charges ++ charge ∷ [] }
 
 -- the line with this shape was added, if memory sufficed
 abbrev pub Adds : Said → Shape → Result Unit Refusal → Said → Type 0
@@ -89,6 +91,8 @@ pub record KeepsOrder (said : Said) : Type 0 where
   pub nice_lines_rise : AllPairs (λ a b. a.line < b.line) said.nices
   pub idles_kept : All IsIdleLineInLimits said.idles
   pub idles_rise : AllPairs IdleRises said.idles
+  pub charges_kept : All IsChargeLineInLimits said.charges
+  pub charge_lines_rise : AllPairs (λ a b. a.line < b.line) said.charges
   pub policies_kept : map (with_policy_told said.idles) said.tasks ≡ said.tasks
   pub named_kept : All (λ idle. idle.line ≡ no_line → is_task said.tasks idle.pid ≡ true) said.idles
 
@@ -102,6 +106,7 @@ pub record IsCompleted (said : Said) (r : CompanionView) : Type 0 where
   pub claims_is : r.claims ≡ said.claims
   pub nices_is : r.nices ≡ said.nices
   pub idles_is : r.idles ≡ said.idles
+  pub charges_is : r.charges ≡ said.charges
 
 -- the fault of a text whose line was refused
 abbrev pub fault_at : ℕ → Refusal → CompanionFault

@@ -9,10 +9,11 @@ use Rattle.cfs_model.specs.declared.task.Place.{Place}
 use Rattle.cfs_model.specs.declared.task.Place.TheVariants.{Run, Wait, Rest}
 use Rattle.cfs_model.specs.declared.claim.Claim.{Claim}
 use Rattle.cfs_model.specs.declared.nice_line.NiceLine.{NiceLine}
+use Rattle.cfs_model.specs.declared.charge_line.ChargeLine.{ChargeLine}
 use Rattle.cfs_model.specs.declared.idle_line.IdleLine.{IdleLine}
 use Rattle.cfs_model.specs.Claimed.{named_policy}
 use Rattle.companion_file.specs.Shape.{Shape, version_line, cpus_line, start_line, floor_line, task_line, claim_line}
-use Rattle.companion_file.specs.Shape.{nice_line, idle_line}
+use Rattle.companion_file.specs.Shape.{nice_line, idle_line, charge_line}
 
 -- the format's version that a line names, if it names one
 abbrev pub version_in : Shape → Option ℕ
@@ -54,6 +55,11 @@ abbrev pub idle_in : Shape → Option IdleLine
 idle_in (idle_line idle) = Some idle
 idle_in _ = None
 
+-- the charge that a line tells
+abbrev pub charge_in : Shape → Option ChargeLine
+charge_in (charge_line charge) = Some charge
+charge_in _ = None
+
 -- a task of the start state with the policy that idle lines tell
 abbrev pub with_policy_told : List IdleLine → Task → Task
 with_policy_told idles task = record task { policy = named_policy idles no_line task.pid }
@@ -76,6 +82,8 @@ pub record Said : Type 0 where
   pub nices : List NiceLine
   -- who is of the idle policy so far
   pub idles : List IdleLine
+  -- the charges told so far
+  pub charges : List ChargeLine
 
 -- what these lines say, taken together
 abbrev pub summed : List Shape → Said
@@ -89,6 +97,7 @@ summed lines =
       claims = filter_map claim_in lines;
       nices = filter_map nice_in lines;
       idles = filter_map idle_in lines;
+      charges = filter_map charge_in lines;
     }
 
 -- the last task so far
@@ -106,6 +115,10 @@ last_nice said = last_or None said.nices
 -- the last idle line so far
 abbrev pub last_idle : Said → Option IdleLine
 last_idle said = last_or None said.idles
+
+-- the last charge told so far
+abbrev pub last_charge : Said → Option ChargeLine
+last_charge said = last_or None said.charges
 
 -- each processor has its floor
 abbrev pub has_all_floors : Said → Bool

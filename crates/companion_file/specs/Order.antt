@@ -2,6 +2,7 @@
 use Rattle.std.specs.Prelude.{◌≡◌, ℕ, ◌+◌, ◌*◌, ◌<◌, ◌≤◌, length, All, AllPairs}
 use Rattle.cfs_model.specs.declared.task.Task.{Task}
 use Rattle.cfs_model.specs.declared.claim.Claim.{Claim}
+use Rattle.cfs_model.specs.declared.charge_line.ChargeLine.{ChargeLine}
 use Rattle.cfs_model.specs.declared.nice_line.NiceLine.{NiceLine}
 use Rattle.cfs_model.specs.declared.idle_line.IdleLine.{IdleLine}
 use Rattle.cfs_model.specs.Limits.{greatest_pid, greatest_line, no_line, most_processors, greatest_seconds}
@@ -36,6 +37,12 @@ pub record IsNiceLineInLimits (change : NiceLine) : Type 0 where
   pub pid : IsPid change.pid
   pub nice : IsNice change.nice
 
+-- the numbers of a charge that is told are within their limits
+pub record IsChargeLineInLimits (charge : ChargeLine) : Type 0 where
+  pub line : (1 ≤ charge.line) × (charge.line ≤ greatest_line)
+  pub pid : IsPid charge.pid
+  pub v : IsInRange charge.v
+
 -- the numbers of an idle line are within their limits
 pub record IsIdleLineInLimits (idle : IdleLine) : Type 0 where
   pub line : idle.line ≤ greatest_line
@@ -61,4 +68,6 @@ pub record IsCompanionInOrder (r : CompanionView) : Type 0 where
   pub nice_lines_rise : AllPairs (λ a b. a.line < b.line) r.nices
   pub idles_in_limits : All IsIdleLineInLimits r.idles
   pub idles_rise : AllPairs IdleRises r.idles
+  pub charges_in_limits : All IsChargeLineInLimits r.charges
+  pub charge_lines_rise : AllPairs (λ a b. a.line < b.line) r.charges
   pub policies_told : (pid : ℕ) → named_policy r.idles no_line pid ≡ policies_at_start r.tasks pid

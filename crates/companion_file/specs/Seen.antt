@@ -16,6 +16,7 @@ companion_view c = record {
   claims = c.claims;
   nices = c.nices;
   idles = c.idles;
+  charges = c.charges;
 }
 
 -- what was returned is this answer; of want of memory nothing is said

@@ -3,6 +3,7 @@ use Rattle.std.specs.Prelude.{ℕ, ℤ}
 use Rattle.cfs_model.specs.declared.task.Task.{Task}
 use Rattle.cfs_model.specs.declared.claim.Claim.{Claim}
 use Rattle.cfs_model.specs.declared.nice_line.NiceLine.{NiceLine}
+use Rattle.cfs_model.specs.declared.charge_line.ChargeLine.{ChargeLine}
 use Rattle.cfs_model.specs.declared.idle_line.IdleLine.{IdleLine}
 
 -- what a line that is no comment says, its numbers as they are spelled, within their limits or not
@@ -23,3 +24,5 @@ pub data Shape : Type 0 where
   nice_line : NiceLine → Shape
   -- a task that is of the idle policy from the start, or from its birth at a line of the trace on
   idle_line : IdleLine → Shape
+  -- a charge that is told at a line of the trace
+  charge_line : ChargeLine → Shape

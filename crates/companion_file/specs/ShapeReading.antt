@@ -1,7 +1,7 @@
 -- How one line of a companion is read from left to right: what each part takes from the front of a text, and what it
 -- leaves. Nothing here is to be believed: it is proved to give what `Spelling` spells, but for numbers far out of
 -- their limits, which are read as other numbers out of their limits.
-use Rattle.std.specs.Prelude.{ℕ, ◌+◌, ◌==◌, not, if◌then◌else◌, ℤ, pos, neg_ℤ, min, List, codes, Option, None}
+use Rattle.std.specs.Prelude.{ℕ, ◌+◌, nat_lt, if◌then◌else◌, ℤ, pos, neg_ℤ, min, List, codes, Option, None}
 use Rattle.std.specs.Prelude.{Some, option_map}
 use Rattle.std.specs.Option.{option_map_or}
 use Rattle.cfs_model.specs.Limits.{greatest_runtime}
@@ -11,7 +11,7 @@ use Rattle.cfs_model.specs.declared.claim.ClaimSort.{ClaimSort}
 use Rattle.cfs_model.specs.declared.claim.ClaimSort.TheVariants.{At, Pass}
 use Rattle.text_parts.specs.Reading.{◌>>=◌, or_else, if_at_end, after_text, numeral_at, time_at}
 use Rattle.companion_file.specs.Shape.{Shape, version_line, cpus_line, start_line, floor_line, task_line, claim_line}
-use Rattle.companion_file.specs.Shape.{nice_line, idle_line}
+use Rattle.companion_file.specs.Shape.{nice_line, idle_line, charge_line}
 use Rattle.cfs_model.specs.declared.policy.Policy.TheVariants.{Normal}
 
 -- a number above each virtual runtime; larger ones are read as this one
@@ -97,20 +97,28 @@ claim_shape_at sort text = do
   v ← integer_whole pid.1
   Some (claim_line (record { line = line.0; pid = pid.0; v = v; sort = sort }))
 
--- what follows the word `nice`, which only version 2 has
+-- what follows the word `nice`, which version 1 doesn't have
 unfoldable pub nice_shape_at : ℕ → List ℕ → Option Shape
-nice_shape_at version text = if not (version == 2) then None else do
+nice_shape_at version text = if nat_lt version 2 then None else do
   line ← number_field text
   pid ← number_field line.1
   nice ← integer_whole pid.1
   Some (nice_line (record { line = line.0; pid = pid.0; nice = nice }))
 
--- what follows the word `idle`, which only version 2 has
+-- what follows the word `idle`, which version 1 doesn't have
 unfoldable pub idle_shape_at : ℕ → List ℕ → Option Shape
-idle_shape_at version text = if not (version == 2) then None else do
+idle_shape_at version text = if nat_lt version 2 then None else do
   line ← number_field text
   pid ← number_whole line.1
   Some (idle_line (record { line = line.0; pid = pid }))
+
+-- what follows the word `charge`, which versions 1 and 2 don't have
+unfoldable pub charge_shape_at : ℕ → List ℕ → Option Shape
+charge_shape_at version text = if nat_lt version 3 then None else do
+  line ← number_field text
+  pid ← number_field line.1
+  v ← integer_whole pid.1
+  Some (charge_line (record { line = line.0; pid = pid.0; v = v }))
 
 -- the first word decides the shape: of those that stand before the floors
 unfoldable pub front_shape_at : List ℕ → Option Shape
@@ -124,7 +132,8 @@ unfoldable pub shape_at : ℕ → List ℕ → Option Shape
 shape_at version line =
     option_map_or (claim_shape_at At) (after_text (codes "at ") line)
     (option_map_or (claim_shape_at Pass) (after_text (codes "pass ") line)
+    (option_map_or (charge_shape_at version) (after_text (codes "charge ") line)
     (option_map_or task_shape_at (after_text (codes "task ") line)
     (option_map_or floor_shape_at (after_text (codes "floor ") line)
     (option_map_or (nice_shape_at version) (after_text (codes "nice ") line)
-    (option_map_or (idle_shape_at version) (after_text (codes "idle ") line) (front_shape_at line))))))
+    (option_map_or (idle_shape_at version) (after_text (codes "idle ") line) (front_shape_at line)))))))

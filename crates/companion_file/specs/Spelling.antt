@@ -1,5 +1,5 @@
--- How the lines of a companion are spelled (this project's companion format, versions 1 and 2).
-use Rattle.std.specs.Prelude.{◌≡◌, ℕ, ℤ, pos, neg_ℤ, List, [], ◌∷◌, ◌++◌, codes, ◌⊎◌}
+-- How the lines of a companion are spelled (this project's companion format, versions 1 to 3).
+use Rattle.std.specs.Prelude.{◌≡◌, ℕ, ◌≤◌, ℤ, pos, neg_ℤ, List, [], ◌∷◌, ◌++◌, codes, ◌⊎◌}
 use Rattle.std.specs.List.{join_with_byte}
 use Rattle.cfs_model.specs.declared.task.Place.{Place}
 use Rattle.cfs_model.specs.declared.task.Place.TheVariants.{Run, Wait, Rest}
@@ -8,7 +8,7 @@ use Rattle.cfs_model.specs.declared.claim.ClaimSort.TheVariants.{At, Pass}
 use Rattle.text_parts.specs.Numerals.{IsNumeral, value_of}
 use Rattle.text_parts.specs.Time.{IsTime}
 use Rattle.companion_file.specs.Shape.{Shape, version_line, cpus_line, start_line, floor_line, task_line, claim_line}
-use Rattle.companion_file.specs.Shape.{nice_line, idle_line}
+use Rattle.companion_file.specs.Shape.{nice_line, idle_line, charge_line}
 use Rattle.cfs_model.specs.declared.policy.Policy.TheVariants.{Normal}
 
 -- the line is the first one of every companion of this version
@@ -16,6 +16,7 @@ abbrev pub IsFirstLine : List ℕ → ℕ → Type 0
 IsFirstLine line version =
     ((line ≡ codes "cfs-companion 1") × (version ≡ 1))
     ⊎ ((line ≡ codes "cfs-companion 2") × (version ≡ 2))
+    ⊎ ((line ≡ codes "cfs-companion 3") × (version ≡ 3))
 
 -- a line about a control group
 abbrev pub IsControlGroup : List ℕ → Type 0
@@ -65,8 +66,11 @@ IsSpelled version line (claim_line claim) =
     (a b c : List ℕ) × IsNumber a claim.line × IsNumber b claim.pid × IsInteger c claim.v
     × (line ≡ spaced (sort_word claim.sort ∷ a ∷ b ∷ c ∷ []))
 IsSpelled version line (nice_line change) =
-    (version ≡ 2) × (a b c : List ℕ) × IsNumber a change.line × IsNumber b change.pid × IsInteger c change.nice
+    (2 ≤ version) × (a b c : List ℕ) × IsNumber a change.line × IsNumber b change.pid × IsInteger c change.nice
     × (line ≡ spaced (codes "nice" ∷ a ∷ b ∷ c ∷ []))
 IsSpelled version line (idle_line idle) =
-    (version ≡ 2) × (a b : List ℕ) × IsNumber a idle.line × IsNumber b idle.pid
+    (2 ≤ version) × (a b : List ℕ) × IsNumber a idle.line × IsNumber b idle.pid
     × (line ≡ spaced (codes "idle" ∷ a ∷ b ∷ []))
+IsSpelled version line (charge_line charge) =
+    (3 ≤ version) × (a b c : List ℕ) × IsNumber a charge.line × IsNumber b charge.pid × IsInteger c charge.v
+    × (line ≡ spaced (codes "charge" ∷ a ∷ b ∷ c ∷ []))

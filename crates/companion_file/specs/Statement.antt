@@ -2,7 +2,7 @@
 use Rattle.companion_file.specs.declared.statement.Statement.{Statement}
 use Rattle.companion_file.specs.declared.statement.Statement.TheVariants as statements
 use Rattle.companion_file.specs.Shape.{Shape, version_line, cpus_line, start_line, floor_line, task_line, claim_line}
-use Rattle.companion_file.specs.Shape.{nice_line, idle_line}
+use Rattle.companion_file.specs.Shape.{nice_line, idle_line, charge_line}
 use Rattle.cfs_model.specs.declared.policy.Policy.TheVariants.{Normal}
 
 -- the shape that a statement has
@@ -16,3 +16,4 @@ stated (statements.Task pid nice cpu place v) = task_line
 stated (statements.Claim line pid v sort) = claim_line (record { line = line; pid = pid; v = v; sort = sort })
 stated (statements.Nice line pid nice) = nice_line (record { line = line; pid = pid; nice = nice })
 stated (statements.Idle line pid) = idle_line (record { line = line; pid = pid })
+stated (statements.Charge line pid v) = charge_line (record { line = line; pid = pid; v = v })

@@ -10,17 +10,18 @@ use Rattle.companion_file.specs.declared.fault.CompanionCause.TheVariants.{Versi
 use Rattle.companion_file.specs.declared.fault.CompanionCause.TheVariants.{TwiceNamed, TwiceRunning, LineOrder, NoTask}
 use Rattle.cfs_model.specs.declared.idle_line.IdleLine.{IdleLine}
 use Rattle.companion_file.specs.Shape.{Shape, version_line, cpus_line, start_line, floor_line, task_line, claim_line}
-use Rattle.companion_file.specs.Shape.{nice_line, idle_line}
+use Rattle.companion_file.specs.Shape.{nice_line, idle_line, charge_line}
 use Rattle.companion_file.specs.Spelling.{IsFirstLine, IsControlGroup, IsSpelled}
-use Rattle.companion_file.specs.Earlier.{Said, last_task, last_claim, last_nice, last_idle, has_all_floors, is_run}
-use Rattle.companion_file.specs.Earlier.{is_taken, is_task}
+use Rattle.companion_file.specs.Earlier.{Said, last_task, last_claim, last_nice, last_idle, last_charge}
+use Rattle.companion_file.specs.Earlier.{has_all_floors, is_run, is_taken, is_task}
 
--- every floor was said, and neither a claim nor a change of a nice value
+-- every floor was said, and neither a claim nor a change of a nice value nor a charge
 abbrev pub is_at_start : Said → Bool
 is_at_start said = has_all_floors said && (length said.claims == 0) && (length said.nices == 0)
+    && (length said.charges == 0)
 
 -- a line of this sort is allowed here: after the first line `cpus` once, then `start` once, then a `floor` for each
--- processor, then tasks, then idle lines, then claims and changes of nice values
+-- processor, then tasks, then idle lines, then claims, changes of nice values and charges
 abbrev pub is_in_turn : Said → Shape → Bool
 is_in_turn said (version_line n) = false
 is_in_turn said (cpus_line n) = is_none said.cpus
@@ -30,6 +31,7 @@ is_in_turn said (task_line task) = is_at_start said && (length said.idles == 0)
 is_in_turn said (claim_line claim) = has_all_floors said
 is_in_turn said (nice_line change) = has_all_floors said
 is_in_turn said (idle_line idle) = is_at_start said
+is_in_turn said (charge_line charge) = has_all_floors said
 
 -- a task's pid is from 1 to the greatest
 abbrev pub is_pid : ℕ → Bool
@@ -55,6 +57,8 @@ is_in_limits cpus (claim_line claim) = nat_le 1 claim.line && nat_le claim.line 
 is_in_limits cpus (nice_line change) = nat_le 1 change.line && nat_le change.line greatest_line && is_pid change.pid
     && is_nice change.nice
 is_in_limits cpus (idle_line idle) = nat_le idle.line greatest_line && is_pid idle.pid
+is_in_limits cpus (charge_line charge) = nat_le 1 charge.line && nat_le charge.line greatest_line && is_pid charge.pid
+    && is_value charge.v
 
 -- a floor's processor is the next one, and a task's pid is not less than the last task's
 abbrev pub is_next : Said → Shape → Bool
@@ -76,17 +80,30 @@ is_alone said _ = true
 abbrev pub is_above_claims : Said → ℕ → Bool
 is_above_claims said line = option_map_or (λ last. nat_lt last.line line) (last_claim said) true
 
--- a claim's line is above the last claim's, and not below that of the last change of a nice value, which may be of the
--- same line
+-- the line is above that of the last change of a nice value
+abbrev pub is_above_changes : Said → ℕ → Bool
+is_above_changes said line = option_map_or (λ last. nat_lt last.line line) (last_nice said) true
+
+-- the line is not below that of the last charge, which may be of the same line
+abbrev pub is_from_charges : Said → ℕ → Bool
+is_from_charges said line = option_map_or (λ last. nat_le last.line line) (last_charge said) true
+
+-- a claim's line is above the last claim's, and not below that of the last change of a nice value or of the last
+-- charge, which may be of the same line
 abbrev pub may_claim_at : Said → ℕ → Bool
 may_claim_at said line = is_above_claims said line
-    && option_map_or (λ last. nat_le last.line line) (last_nice said) true
+    && option_map_or (λ last. nat_le last.line line) (last_nice said) true && is_from_charges said line
 
--- a change's line is above the last change's and the last claim's: so at one line at most one change stands, before the
--- line's claim
+-- a change's line is above the last change's and the last claim's, and not below the last charge's: so at one line at
+-- most one change stands, behind the line's charge and before its claim
 abbrev pub may_change_at : Said → ℕ → Bool
-may_change_at said line = option_map_or (λ last. nat_lt last.line line) (last_nice said) true
-    && is_above_claims said line
+may_change_at said line = is_above_changes said line && is_above_claims said line && is_from_charges said line
+
+-- a charge's line is above the last charge's, the last change's and the last claim's: so at one line at most one charge
+-- stands, before the line's change and its claim
+abbrev pub may_charge_at : Said → ℕ → Bool
+may_charge_at said line = option_map_or (λ last. nat_lt last.line line) (last_charge said) true
+    && is_above_changes said line && is_above_claims said line
 
 -- an idle line stands behind the last one: its line of the trace is above that one's, or is the same and its pid is
 -- above
@@ -94,11 +111,12 @@ abbrev pub may_be_idle : Said → IdleLine → Bool
 may_be_idle said idle = option_map_or (λ last. nat_lt last.line idle.line
     || ((last.line == idle.line) && nat_lt last.pid idle.pid)) (last_idle said) true
 
--- the line of the trace that a claim, a change or an idle line names may follow those before it
+-- the line of the trace that a claim, a change, an idle line or a charge names may follow those before it
 abbrev pub is_above : Said → Shape → Bool
 is_above said (claim_line claim) = may_claim_at said claim.line
 is_above said (nice_line change) = may_change_at said change.line
 is_above said (idle_line idle) = may_be_idle said idle
+is_above said (charge_line charge) = may_charge_at said charge.line
 is_above said _ = true
 
 -- an idle line of the start state names one of its tasks

@@ -3,12 +3,12 @@ ghost use Rattle.companion_file.specs.Order.{IsCompanionInOrder};
 ghost use Rattle.companion_file.specs.Spans.{AreSpansOf};
 
 use crate::idle_span::IdleSpan;
-use crate::lists::{Claims, Floors, Idles, Nices, Tasks};
+use crate::lists::{Charges, Claims, Floors, Idles, Nices, Tasks};
 use crate::spans::IdleSpans;
-use cfs_model::{Claim, IdleLine, NiceLine, Task};
+use cfs_model::{ChargeLine, Claim, IdleLine, NiceLine, Task};
 
-/// The start state of a schedule, the virtual runtimes that are claimed of it, the changes of nice values, and who is
-/// of the idle policy.
+/// The start state of a schedule, the virtual runtimes that are claimed of it, the changes of nice values, who is of
+/// the idle policy, and the charges that are told.
 #[derive(Debug, Drop)]
 pub struct Companion {
     cpus: u32,
@@ -18,6 +18,7 @@ pub struct Companion {
     claims: Claims,
     nices: Nices,
     idles: Idles,
+    charges: Charges,
     // Room that joining fills: where the policy of each idle line ends.
     spans: IdleSpans,
     pub ghost in_order: { IsCompanionInOrder
@@ -28,8 +29,8 @@ pub struct Companion {
           tasks = tasks;
           claims = claims;
           nices = nices;
-          idles =
-              idles;
+          idles = idles;
+          charges = charges;
         }) },
     pub ghost spans_told: { AreSpansOf idles spans },
 }
@@ -43,6 +44,7 @@ impl Companion {
         claims: Claims,
         nices: Nices,
         idles: Idles,
+        charges: Charges,
         spans: IdleSpans,
     ) -> Companion
         requires in_order { IsCompanionInOrder (record {
@@ -53,6 +55,7 @@ impl Companion {
           claims = claims;
           nices = nices;
           idles = idles;
+          charges = charges;
         }) }
         requires spans_told { AreSpansOf idles spans }
         ensures cpus { result.cpus ≡ cpus }
@@ -62,6 +65,7 @@ impl Companion {
         ensures claims { result.claims ≡ claims }
         ensures nices { result.nices ≡ nices }
         ensures idles { result.idles ≡ idles }
+        ensures charges { result.charges ≡ charges }
         ensures spans { result.spans ≡ spans }
     {
         Companion {
@@ -72,6 +76,7 @@ impl Companion {
             claims,
             nices,
             idles,
+            charges,
             spans,
         }
     }
@@ -123,6 +128,13 @@ impl Companion {
         ensures { result.now ≡ self.now.idles }
     {
         self.idles.as_slice()
+    }
+
+    /// The charges that are told, by rising line of the trace.
+    pub fn charges(&self) -> &[ChargeLine]
+        ensures { result.now ≡ self.now.charges }
+    {
+        self.charges.as_slice()
     }
 
     /// From which line to which tasks are of the idle policy, by rising pid, and at one pid by rising line. None has an

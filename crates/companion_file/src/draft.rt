@@ -19,9 +19,9 @@ mod saying;
 use crate::companion::Companion;
 use crate::fault::Refusal;
 use crate::limits::{is_pid, is_running, is_value, nice_within};
-use crate::lists::{Claims, Floors, Idles, Nices, Tasks};
+use crate::lists::{Charges, Claims, Floors, Idles, Nices, Tasks};
 use crate::spans::IdleSpans;
-use cfs_model::{Claim, IdleLine, MOST_PROCESSORS, NiceLine, Place, Policy, Task};
+use cfs_model::{ChargeLine, Claim, IdleLine, MOST_PROCESSORS, NiceLine, Place, Policy, Task};
 use std::alloc::Global;
 use std::marker::Model;
 
@@ -36,6 +36,7 @@ pub(crate) struct Draft {
     claims: Vec<Claim>,
     nices: Vec<NiceLine>,
     idles: Vec<IdleLine>,
+    charges: Vec<ChargeLine>,
     // By processor, whether a task runs there.
     running: [bool; MOST_PROCESSORS],
 }
@@ -56,6 +57,7 @@ impl Model for Draft {
       claims = d.claims.items;
       nices = d.nices.items;
       idles = d.idles.items;
+      charges = d.charges.items;
     } };
 
     ghost invariant = { λ d. KnowsRunning d.cpus d.tasks.items d.running };
@@ -81,6 +83,7 @@ impl Draft {
             claims: Vec::new(alloc),
             nices: Vec::new(alloc),
             idles: Vec::new(alloc),
+            charges: Vec::new(alloc),
             running: [false; MOST_PROCESSORS],
         }
     }
@@ -92,11 +95,14 @@ impl Draft {
             .is_some_and(|cpus| self.floors.len() == cpus as usize)
     }
 
-    /// Whether every floor was said, and neither a claim nor a change of a nice value.
+    /// Whether every floor was said, and neither a claim nor a change of a nice value nor a charge.
     fn is_at_start(&self) -> bool
         ensures { result ≡ is_at_start self.now }
     {
-        self.has_all_floors() && self.claims.is_empty() && self.nices.is_empty()
+        self.has_all_floors()
+            && self.claims.is_empty()
+            && self.nices.is_empty()
+            && self.charges.is_empty()
     }
 
     fn has_cpu(&self, cpu: u64) -> bool
@@ -174,6 +180,7 @@ impl Draft {
             claims,
             nices,
             idles,
+            charges,
             running: _,
         } = self;
         Some(Companion::new(
@@ -184,6 +191,7 @@ impl Draft {
             Claims::from_vec(claims),
             Nices::from_vec(nices),
             Idles::from_vec(idles),
+            Charges::from_vec(charges),
             spans,
         ))
     }

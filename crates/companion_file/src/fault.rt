@@ -21,8 +21,8 @@ pub enum CompanionCause {
     TwiceNamed,
     /// A task runs at this processor already.
     TwiceRunning,
-    /// The line of the trace that a claim, a change of a nice value or an idle line names doesn't rise, or at one line
-    /// the pids of idle lines don't.
+    /// The line of the trace that a claim, a change of a nice value, a charge or an idle line names doesn't rise, or at
+    /// one line the pids of idle lines don't.
     LineOrder,
     /// The text ends before the floor of the last processor.
     Short,

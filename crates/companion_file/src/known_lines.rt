@@ -12,6 +12,8 @@ pub(crate) fn version_of(line: &[u8]) -> Option<u32>
         Some(1)
     } else if is_text(line, b"cfs-companion 2") {
         Some(2)
+    } else if is_text(line, b"cfs-companion 3") {
+        Some(3)
     } else {
         None
     }

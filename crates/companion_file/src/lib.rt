@@ -1,5 +1,5 @@
 //! The companion of a trace: the state that a schedule starts from, the virtual runtimes that it claims, the changes of
-//! nice values, and who is of the idle policy.
+//! nice values, who is of the idle policy, and the charges that are told.
 #![tactic(auto)]
 
 mod companion;
@@ -16,12 +16,14 @@ mod reading_wide;
 mod shapes;
 mod spans;
 mod statement;
+mod version;
 
 pub use companion::Companion;
 pub use fault::{CompanionCause, CompanionFault};
 pub use idle_span::IdleSpan;
-pub use laws::{one_companion_answer, same_in_both_versions};
-pub use lists::{Claims, Floors, Idles, Nices, Tasks};
+pub use laws::{one_companion_answer, same_in_both_versions, same_without_charges};
+pub use lists::{Charges, Claims, Floors, Idles, Nices, Tasks};
 pub use reading::read_companion;
 pub use reading_wide::read_companion_wide;
 pub use spans::IdleSpans;
+pub use version::version_of_text;

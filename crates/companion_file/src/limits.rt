@@ -2,13 +2,14 @@ ghost use Rattle.std.specs.Prelude.{◌≡◌, ℕ, true, false, MatchOption};
 ghost use Rattle.cfs_model.specs.declared.claim.Claim.{Claim};
 ghost use Rattle.cfs_model.specs.declared.nice_line.NiceLine.{NiceLine};
 ghost use Rattle.cfs_model.specs.declared.idle_line.IdleLine.{IdleLine};
-ghost use Rattle.companion_file.specs.Shape.{claim_line, nice_line, idle_line};
+ghost use Rattle.cfs_model.specs.declared.charge_line.ChargeLine.{ChargeLine};
+ghost use Rattle.companion_file.specs.Shape.{claim_line, nice_line, idle_line, charge_line};
 ghost use Rattle.companion_file.specs.Earlier.{is_run};
 ghost use Rattle.companion_file.specs.Tests.{is_value, is_pid, is_nice, is_in_limits};
 
 use cfs_model::{
-    Claim, ClaimSort, GREATEST_LINE, GREATEST_PID, GREATEST_RUNTIME, IdleLine, Nice, NiceLine,
-    Place,
+    ChargeLine, Claim, ClaimSort, GREATEST_LINE, GREATEST_PID, GREATEST_RUNTIME, IdleLine, Nice,
+    NiceLine, Place,
 };
 
 pub(crate) fn is_value(v: i64) -> bool
@@ -82,6 +83,22 @@ pub(crate) fn idle_within(line: u64, pid: u64) -> Option<IdleLine>
         Some(IdleLine {
             line: line as u32,
             pid: pid as u32,
+        })
+    } else {
+        None
+    }
+}
+
+pub(crate) fn charge_within(line: u64, pid: u64, v: i64) -> Option<ChargeLine>
+    ensures { let charge : ChargeLine = record { line = line; pid = pid; v = v } in
+        MatchOption result ((cpus : ℕ) → is_in_limits cpus (charge_line charge) ≡ false)
+        (λ within. (within ≡ charge) × ((cpus : ℕ) → is_in_limits cpus (charge_line charge) ≡ true)) }
+{
+    if 1 <= line && line <= GREATEST_LINE && is_pid(pid) && is_value(v) {
+        Some(ChargeLine {
+            line: line as u32,
+            pid: pid as u32,
+            v,
         })
     } else {
         None

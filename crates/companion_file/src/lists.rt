@@ -1,4 +1,4 @@
-use cfs_model::{Claim, IdleLine, NiceLine, Task};
+use cfs_model::{ChargeLine, Claim, IdleLine, NiceLine, Task};
 use plain_list::PlainList;
 
 /// Claims of virtual runtimes at lines of the trace.
@@ -6,6 +6,9 @@ pub type Claims = PlainList<Claim>;
 
 /// Changes of nice values at lines of the trace.
 pub type Nices = PlainList<NiceLine>;
+
+/// Charges that are told at lines of the trace.
+pub type Charges = PlainList<ChargeLine>;
 
 /// Who is of the idle policy, from which line of the trace on.
 pub type Idles = PlainList<IdleLine>;

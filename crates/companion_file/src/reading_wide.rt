@@ -19,8 +19,8 @@ use std::thread::Threads;
 use text_parts::cutting::cut_at_lines;
 use text_parts::lines::{lines_after_whole, whole_lines};
 
-/// Reads the text of a companion, its claims and changes of nice values by several threads: what it says, or its first
-/// bad line.
+/// Reads the text of a companion, its claims, changes of nice values and charges by several threads: what it says, or
+/// its first bad line.
 pub fn read_companion_wide(
     rt: &(impl Threads + Sync),
     alloc: Global,

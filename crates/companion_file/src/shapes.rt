@@ -2,7 +2,7 @@ ghost use Rattle.std.specs.Prelude.{◌≡◌};
 ghost use Rattle.text_parts.specs.Reading.{Gives};
 ghost use Rattle.companion_file.specs.ShapeReading.{version_shape_at, cpus_shape_at, start_shape_at, floor_shape_at};
 ghost use Rattle.companion_file.specs.ShapeReading.{task_shape_at, claim_shape_at, nice_shape_at, idle_shape_at};
-ghost use Rattle.companion_file.specs.ShapeReading.{front_shape_at, shape_at};
+ghost use Rattle.companion_file.specs.ShapeReading.{charge_shape_at, front_shape_at, shape_at};
 ghost use Rattle.companion_file.specs.Statement.{stated};
 
 use crate::fields::{integer_field, integer_whole, number_field, number_whole, place_field};
@@ -20,6 +20,8 @@ pub(crate) fn statement_of(version: u32, line: &[u8]) -> Option<Statement>
         claim_shape(text, ClaimSort::At)
     } else if let Some(text) = after_front(line, b"pass ") {
         claim_shape(text, ClaimSort::Pass)
+    } else if let Some(text) = after_front(line, b"charge ") {
+        charge_shape(version, text)
     } else if let Some(text) = after_front(line, b"task ") {
         task_shape(text)
     } else if let Some(text) = after_front(line, b"floor ") {
@@ -108,13 +110,13 @@ fn claim_shape(text: &[u8], sort: ClaimSort) -> Option<Statement>
     Some(Statement::Claim { line, pid, v, sort })
 }
 
-/// Version 2 alone has this one.
+/// Version 1 doesn't have this one.
 #[inline(always)]
 #[tactic(auto, unfolding(crate::specs::ShapeReading::nice_shape_at))]
 fn nice_shape(version: u32, text: &[u8]) -> Option<Statement>
     ensures { Gives stated result (nice_shape_at version text.now) }
 {
-    if version != 2 {
+    if version < 2 {
         return None;
     }
     let (line, text) = number_field(text)?;
@@ -123,16 +125,31 @@ fn nice_shape(version: u32, text: &[u8]) -> Option<Statement>
     Some(Statement::Nice { line, pid, nice })
 }
 
-/// Version 2 alone has this one too.
+/// Version 1 doesn't have this one either.
 #[inline(always)]
 #[tactic(auto, unfolding(crate::specs::ShapeReading::idle_shape_at))]
 fn idle_shape(version: u32, text: &[u8]) -> Option<Statement>
     ensures { Gives stated result (idle_shape_at version text.now) }
 {
-    if version != 2 {
+    if version < 2 {
         return None;
     }
     let (line, text) = number_field(text)?;
     let pid = number_whole(text)?;
     Some(Statement::Idle { line, pid })
+}
+
+/// Versions 1 and 2 don't have this one.
+#[inline(always)]
+#[tactic(auto, unfolding(crate::specs::ShapeReading::charge_shape_at))]
+fn charge_shape(version: u32, text: &[u8]) -> Option<Statement>
+    ensures { Gives stated result (charge_shape_at version text.now) }
+{
+    if version < 3 {
+        return None;
+    }
+    let (line, text) = number_field(text)?;
+    let (pid, text) = number_field(text)?;
+    let v = integer_whole(text)?;
+    Some(Statement::Charge { line, pid, v })
 }

@@ -33,4 +33,9 @@ pub(crate) enum Statement {
         line: u64,
         pid: u64,
     },
+    Charge {
+        line: u64,
+        pid: u64,
+        v: i64,
+    },
 }

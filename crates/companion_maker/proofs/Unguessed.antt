@@ -186,7 +186,7 @@ plain_good =
       (λ comment. absurd cc),
       (
         version_line 2,
-        inl (2, inr (refl, refl), refl),
+        inl (2, inr (inl (refl, refl)), refl),
         inr (
           (λ comment. absurd cc),
           (
@@ -218,6 +218,7 @@ said_plainly = record {
   nices =
       [];
   idles = [];
+  charges = [];
 }
 
 plain_read : CompanionAnswer plain (Ok said_plainly)
@@ -235,6 +236,7 @@ plain_read =
       claims_is = refl;
       nices_is = refl;
       idles_is = refl;
+      charges_is = refl;
     })
 
 begins_late : (events : List Entry) → BeginsInTime 0 events
@@ -249,6 +251,7 @@ plain_joins events inside = record {
   reniced =
       All-nil _;
   born = All-nil _;
+  charged = All-nil _;
 }
 
 -- the plain companion fits each trace whose processors are those that it has

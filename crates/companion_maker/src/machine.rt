@@ -127,10 +127,10 @@ impl Machine {
         }
     }
 
-    /// Charges who runs, and raises the floor.
+    /// Charges who runs, exactly, and raises the floor.
     fn lift(&mut self, cpu: u32, time: u64) {
         if let Some(processor) = self.processors.get_mut(cpu as usize) {
-            let _in_range = processor.queue.lift(time).is_ok();
+            let _in_range = processor.queue.lift(time, None, 0).is_ok();
         }
     }
 
@@ -294,14 +294,15 @@ impl Machine {
             Place::Run | Place::Wait => ClaimSort::At,
         };
         let v = moved(task.v, self.floor(orig), self.floor(dest));
-        self.enter(
-            Task {
-                cpu: dest,
-                v,
-                ..task
-            },
-            moment.line,
-        )?;
+        let come = Task {
+            pid,
+            nice: task.nice,
+            policy: task.policy,
+            cpu: dest,
+            place: task.place,
+            v,
+        };
+        self.enter(come, moment.line)?;
         self.claim(moment.line, pid, v, sort)
     }
 

@@ -1,5 +1,5 @@
 use cfs_model::{Claim, Memory, Place, Task, Way};
-use runqueue::Runqueue;
+use runqueue::{Runqueue, SchedEntity};
 use std::alloc::Global;
 
 /// A processor: its runqueue, led by events that may break its rules. What breaks one changes nothing.
@@ -22,14 +22,14 @@ impl Processor {
     /// A task comes, unless one of its pid stands here, or it is to run beside another.
     pub(crate) fn enter(&mut self, task: Task) -> Result<(), Memory> {
         match (self.queue.task_at(task.pid), self.queue.runner()) {
-            (None, None) => self.queue.add(task),
-            (None, Some(_)) if task.place != Place::Run => self.queue.add(task),
+            (None, None) => self.queue.add(SchedEntity::of(task)),
+            (None, Some(_)) if task.place != Place::Run => self.queue.add(SchedEntity::of(task)),
             _ => Ok(()),
         }
     }
 
     /// Who runs goes its way, if it is the task of this pid, and is answered as it ran.
-    pub(crate) fn leave(&mut self, prev: u32, way: Way) -> Result<Option<Task>, Memory> {
+    pub(crate) fn leave(&mut self, prev: u32, way: Way) -> Result<Option<SchedEntity>, Memory> {
         match self.queue.runner() {
             Some(task) if task.pid == prev => {
                 self.queue.put_prev(way)?;
@@ -59,7 +59,7 @@ impl Processor {
     }
 
     /// A task that doesn't run leaves, and is answered as it stood.
-    pub(crate) fn send(&mut self, pid: u32) -> Option<Task> {
+    pub(crate) fn send(&mut self, pid: u32) -> Option<SchedEntity> {
         let task = self.queue.task_at(pid)?;
         if task.place == Place::Run {
             return None;

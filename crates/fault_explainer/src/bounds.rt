@@ -10,6 +10,7 @@ use crate::place_bounds::{
     push_self_switch, push_strange, push_wrong_prio,
 };
 use crate::scene::Scene;
+use crate::told_charge::push_wrong_charge;
 use cfs_model::Kind;
 use std::alloc::AllocError;
 
@@ -18,6 +19,7 @@ pub(crate) fn push_bound(text: &mut String, scene: &Scene) -> Result<(), AllocEr
     match scene.fault.kind {
         Kind::IdleTooLong => push_idle_too_long(text, scene),
         Kind::Range => push_range(text, scene),
+        Kind::WrongCharge => push_wrong_charge(text, scene),
         Kind::MoveHome => push_home(text, scene),
         Kind::SelfSwitch => push_self_switch(text, scene),
         Kind::PrevNotRunning => push_prev_not_running(text, scene),

@@ -1,13 +1,13 @@
 use crate::task_words::weight_words;
-use cfs_model::{Task, weight_of};
-use runqueue::Runqueue;
+use cfs_model::weight_of;
+use runqueue::{Runqueue, SchedEntity};
 use std::fmt;
 
-/// What a running task is charged up to an event.
+/// What a running task is charged up to an event, exactly.
 #[derive(Clone, Copy)]
 pub(crate) struct Charge {
     /// As it stands before the charge.
-    pub task: Task,
+    pub task: SchedEntity,
     /// How long it ran, in nanoseconds.
     ran: u64,
 }
@@ -35,7 +35,7 @@ impl Charge {
 
 impl fmt::Display for Charge {
     fn fmt<W: fmt::Write>(&self, f: &mut fmt::Formatter<W>) -> fmt::Result {
-        let Task { pid, v, .. } = self.task;
+        let SchedEntity { pid, v, .. } = self.task;
         let ran = self.ran;
         let weight_words = weight_words(&self.task);
         let cost = self.cost();

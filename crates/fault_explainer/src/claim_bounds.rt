@@ -4,7 +4,8 @@ use crate::companion_lines::word_of;
 use crate::processor::Processor;
 use crate::scene::Scene;
 use crate::task_words::{verb, weight_words};
-use cfs_model::{Act, Claim, ClaimSort, IDLE_PID, Place, Task, Way};
+use cfs_model::{Act, Claim, ClaimSort, IDLE_PID, Place, Way};
+use runqueue::SchedEntity;
 use std::alloc::AllocError;
 
 /// The virtual runtimes that a claim may have, from the least to the greatest, in virtual nanoseconds.
@@ -15,7 +16,7 @@ struct Bounds {
 }
 
 /// Of a task that is put back, its own alone.
-fn put_back_bounds(task: Task) -> Bounds {
+fn put_back_bounds(task: SchedEntity) -> Bounds {
     let own = i128::from(task.v);
     Bounds {
         least: own,
@@ -24,7 +25,7 @@ fn put_back_bounds(task: Task) -> Bounds {
 }
 
 /// Of a task that wakes from rest.
-fn wake_bounds(scene: &Scene, task: Task) -> Bounds {
+fn wake_bounds(scene: &Scene, task: SchedEntity) -> Bounds {
     let own = i128::from(task.v);
     let floor = i128::from(scene.here.queue.floor());
     let credit = i128::from(scene.knobs.credit());
@@ -118,7 +119,7 @@ fn push_moved(text: &mut String, scene: &Scene) -> Result<(), AllocError> {
 }
 
 /// Of which sort the claim of a migrated task is.
-fn sort_of(task: Task) -> ClaimSort {
+fn sort_of(task: SchedEntity) -> ClaimSort {
     match task.place {
         Place::Rest => ClaimSort::Pass,
         Place::Run | Place::Wait => ClaimSort::At,
@@ -172,7 +173,7 @@ fn push_goes(text: &mut String, pid: u32, goes: &str) -> Result<(), AllocError> 
 }
 
 /// A task that needs no claim for where it is.
-fn push_stays(text: &mut String, pid: u32, task: Option<Task>) -> Result<(), AllocError> {
+fn push_stays(text: &mut String, pid: u32, task: Option<SchedEntity>) -> Result<(), AllocError> {
     match task {
         Some(task) => {
             let verb = verb(&task);
@@ -276,11 +277,11 @@ pub(crate) fn push_ticket_unequal(text: &mut String, scene: &Scene) -> Result<()
 }
 
 /// At a migration's origin.
-fn push_leaves(text: &mut String, here: &Processor, task: Task) -> Result<(), AllocError> {
+fn push_leaves(text: &mut String, here: &Processor, task: SchedEntity) -> Result<(), AllocError> {
     let cpu = here.cpu;
     let weight_words = weight_words(&task);
     let verb = verb(&task);
-    let Task { v, .. } = task;
+    let SchedEntity { v, .. } = task;
     let above = offset(v, here);
     writeln!(
         text,

@@ -1,10 +1,11 @@
 use crate::event::Event;
-use cfs_model::{Claim, ClaimSort, IdleLine, NiceLine};
+use cfs_model::{ChargeLine, Claim, ClaimSort, IdleLine, NiceLine};
 use std::alloc::AllocError;
 
 /// What the companion says on an event's line, as it stands there.
 pub(crate) fn push_companion_lines(text: &mut String, event: &Event) -> Result<(), AllocError> {
     push_idle(text, event.idle)?;
+    push_charge_line(text, event.charge)?;
     push_nice(text, event.nice)?;
     push_claim(text, event.claim)
 }
@@ -12,6 +13,15 @@ pub(crate) fn push_companion_lines(text: &mut String, event: &Event) -> Result<(
 fn push_idle(text: &mut String, idle: Option<IdleLine>) -> Result<(), AllocError> {
     match idle {
         Some(IdleLine { line, pid }) => writeln!(text, "# companion: idle {line} {pid}"),
+        None => Ok(()),
+    }
+}
+
+fn push_charge_line(text: &mut String, charge: Option<ChargeLine>) -> Result<(), AllocError> {
+    match charge {
+        Some(ChargeLine { line, pid, v }) => {
+            writeln!(text, "# companion: charge {line} {pid} {v}")
+        }
         None => Ok(()),
     }
 }

@@ -1,4 +1,4 @@
-use cfs_model::{Act, Claim, Entry, IdleLine, NiceLine};
+use cfs_model::{Act, ChargeLine, Claim, Entry, IdleLine, NiceLine};
 use sched_record::Record;
 
 /// The event on a line, and what the companion says on it.
@@ -11,6 +11,7 @@ pub(crate) struct Event {
     pub act: Act,
     pub claim: Option<Claim>,
     pub nice: Option<NiceLine>,
+    pub charge: Option<ChargeLine>,
     pub idle: Option<IdleLine>,
 }
 
@@ -33,6 +34,11 @@ impl Event {
                 .nices()
                 .iter()
                 .find(|change| change.line == line)
+                .copied(),
+            charge: record
+                .charges()
+                .iter()
+                .find(|charge| charge.line == line)
                 .copied(),
             idle: record
                 .idles()

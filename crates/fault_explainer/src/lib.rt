@@ -15,6 +15,7 @@ mod processor_lines;
 mod quoting;
 mod scene;
 mod task_words;
+mod told_charge;
 
 pub use explaining::explanation;
 pub use quoting::quoted_line;

@@ -2,8 +2,9 @@
 
 use crate::scene::{Scene, lies_in_place};
 use crate::task_words::{verb, weight_words};
-use cfs_model::{Act, IDLE_PID, Kind, Nice, NiceLine, Task};
+use cfs_model::{Act, IDLE_PID, Kind, Nice, NiceLine};
 use replay_model::FirstFault;
+use runqueue::SchedEntity;
 use std::alloc::AllocError;
 
 /// The prio that a task of nice value 0 prints.
@@ -42,10 +43,10 @@ fn push_runner(
     text: &mut String,
     cpu: u32,
     prev: u32,
-    runner: Option<Task>,
+    runner: Option<SchedEntity>,
 ) -> Result<(), AllocError> {
     match runner {
-        Some(Task { pid, .. }) => writeln!(
+        Some(SchedEntity { pid, .. }) => writeln!(
             text,
             "# prev_pid is {prev}, but at cpu {cpu} pid {pid} runs"
         ),
@@ -156,7 +157,7 @@ fn printed_nice(act: Act, task: u32) -> Nice {
 }
 
 /// Where the fault's task stood before, where the fault lies in that.
-fn push_stood(text: &mut String, scene: &Scene) -> Result<(), AllocError> {
+pub(crate) fn push_stood(text: &mut String, scene: &Scene) -> Result<(), AllocError> {
     let pid = scene.fault.pid;
     match scene.stood {
         Some((cpu, task)) => push_stood_at(text, cpu, pid, task),
@@ -168,10 +169,15 @@ fn push_stood(text: &mut String, scene: &Scene) -> Result<(), AllocError> {
     }
 }
 
-fn push_stood_at(text: &mut String, cpu: u32, pid: u32, task: Task) -> Result<(), AllocError> {
+fn push_stood_at(
+    text: &mut String,
+    cpu: u32,
+    pid: u32,
+    task: SchedEntity,
+) -> Result<(), AllocError> {
     let weight_words = weight_words(&task);
     let verb = verb(&task);
-    let Task { v, .. } = task;
+    let SchedEntity { v, .. } = task;
     writeln!(
         text,
         "# before this line pid {pid} {verb} at cpu {cpu}, at {v}, {weight_words}"

@@ -1,7 +1,7 @@
-use cfs_model::{Knobs, Memory, Task};
+use cfs_model::{Knobs, Memory};
 use pid_table::PidHasher;
 use queue_replay::Replay;
-use runqueue::Runqueue;
+use runqueue::{Runqueue, SchedEntity};
 use sched_record::Record;
 use std::alloc::Global;
 
@@ -40,7 +40,7 @@ impl Processor {
     }
 
     /// The task of this pid, and the processor, where it stands there.
-    pub(crate) fn place_of(&self, pid: u32) -> Option<(u32, Task)> {
+    pub(crate) fn place_of(&self, pid: u32) -> Option<(u32, SchedEntity)> {
         let task = self.queue.task_at(pid)?;
         Some((self.cpu, task))
     }

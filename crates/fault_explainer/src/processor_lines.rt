@@ -3,8 +3,7 @@
 use crate::charge::Charge;
 use crate::processor::Processor;
 use crate::task_words::weight_words;
-use cfs_model::Task;
-use runqueue::Runqueue;
+use runqueue::{Runqueue, SchedEntity};
 use std::alloc::AllocError;
 
 /// The most waiting tasks of a processor that are told.
@@ -29,7 +28,7 @@ fn push_marks(text: &mut String, cpu: u32, queue: &Runqueue) -> Result<(), Alloc
 }
 
 /// Who runs.
-fn push_runner(text: &mut String, runner: Option<Task>) -> Result<(), AllocError> {
+fn push_runner(text: &mut String, runner: Option<SchedEntity>) -> Result<(), AllocError> {
     match runner {
         Some(task) => push_task(text, task, "runs"),
         None => writeln!(text, "#   nobody runs"),
@@ -46,8 +45,8 @@ fn push_waiting(text: &mut String, queue: &Runqueue) -> Result<(), AllocError> {
     Ok(())
 }
 
-fn push_task(text: &mut String, task: Task, verb: &str) -> Result<(), AllocError> {
-    let Task { pid, v, .. } = task;
+fn push_task(text: &mut String, task: SchedEntity, verb: &str) -> Result<(), AllocError> {
+    let SchedEntity { pid, v, .. } = task;
     let weight_words = weight_words(&task);
     writeln!(text, "#   pid {pid} {verb} at {v}, {weight_words}")
 }

@@ -1,10 +1,15 @@
+ghost use Rattle.std.specs.Prelude.{◌≤◌};
+ghost use Rattle.cfs_model.specs.Limits.{greatest_setting};
+
 use crate::companion_lines::push_companion_lines;
 use crate::event::Event;
 use crate::processor::Processor;
 use crate::processor_lines::{push_charge, push_floor, push_processor};
-use cfs_model::{Act, IDLE_PID, Kind, Knobs, Memory, Task};
+use crate::told_charge::{ToldCharge, push_told_charge};
+use cfs_model::{Act, ChargeLine, IDLE_PID, Kind, Knobs, Memory};
 use pid_table::PidHasher;
 use replay_model::FirstFault;
+use runqueue::SchedEntity;
 use sched_record::Record;
 use std::alloc::{AllocError, Global};
 
@@ -20,7 +25,7 @@ pub(crate) struct Scene {
     pub there: Option<Processor>,
     /// Where the fault's task stood before the event, if it stood anywhere: the processor, and how. Told where the
     /// fault lies in that.
-    pub stood: Option<(u32, Task)>,
+    pub stood: Option<(u32, SchedEntity)>,
 }
 
 impl Scene {
@@ -63,7 +68,7 @@ impl Scene {
         alloc: Global,
         record: &Record,
         hasher: PidHasher,
-    ) -> Result<Option<(u32, Task)>, Memory> {
+    ) -> Result<Option<(u32, SchedEntity)>, Memory> {
         let pid = self.fault.pid;
         let shown = self.here.place_of(pid);
         if shown.is_some() {
@@ -93,7 +98,7 @@ impl Scene {
     }
 
     /// The task as it stands at the fault's processor, or at a migration's origin.
-    pub(crate) fn task(&self, pid: u32) -> Option<Task> {
+    pub(crate) fn task(&self, pid: u32) -> Option<SchedEntity> {
         self.here.queue.task_at(pid)
     }
 
@@ -113,8 +118,8 @@ impl Scene {
             return Ok(());
         }
         self.charge(text)?;
-        if let Some(change) = self.event.nice {
-            self.here.queue.renice(change.pid, change.nice);
+        if self.is_charged() {
+            self.renice();
         }
         push_companion_lines(text, &self.event)
     }
@@ -132,14 +137,31 @@ impl Scene {
         }
     }
 
-    /// Charges who runs at the processors, and lifts their floors. A charge that is out of range lifts no floor.
+    /// Whether the fault comes behind the charge. One that lies in the charge lifts no floor.
+    fn is_charged(&self) -> bool {
+        !matches!(self.fault.kind, Kind::Range | Kind::WrongCharge)
+    }
+
+    /// Charges who runs at the processors, and lifts their floors. What is told of a migration is the origin's.
     fn charge(&mut self, text: &mut String) -> Result<(), AllocError> {
-        let time = self.event.time;
-        let lifts = self.fault.kind != Kind::Range;
-        charge(text, &mut self.here, time, lifts)?;
+        let Event {
+            time,
+            charge: told,
+            ..
+        } = self.event;
+        let drift = self.knobs.drift();
+        let lifts = self.is_charged();
+        charge(text, &mut self.here, time, told, drift, lifts)?;
         match &mut self.there {
-            Some(there) => charge(text, there, time, lifts),
+            Some(there) => charge(text, there, time, None, drift, lifts),
             None => Ok(()),
+        }
+    }
+
+    /// The change of a nice value that the companion tells.
+    fn renice(&mut self) {
+        if let Some(change) = self.event.nice {
+            self.here.queue.renice(change.pid, change.nice);
         }
     }
 
@@ -160,7 +182,8 @@ pub(crate) fn lies_in_place(fault: FirstFault) -> bool {
     fault.pid != IDLE_PID
         && matches!(
             fault.kind,
-            Kind::Strange
+            Kind::WrongCharge
+                | Kind::Strange
                 | Kind::Already
                 | Kind::BornTwice
                 | Kind::NextNotWaiting
@@ -168,15 +191,21 @@ pub(crate) fn lies_in_place(fault: FirstFault) -> bool {
         )
 }
 
-/// Charges who runs, lifts the floor where that is asked for, and tells both.
+/// Charges who runs, exactly or as told within a drift, lifts the floor where that is asked for, and tells all of it.
 fn charge(
     text: &mut String,
     processor: &mut Processor,
     time: u64,
+    told: Option<ChargeLine>,
+    drift: u64,
     lifts: bool,
-) -> Result<(), AllocError> {
+) -> Result<(), AllocError>
+    requires { drift ≤ greatest_setting }
+{
     push_charge(text, processor, time)?;
-    if lifts && processor.queue.lift(time).is_ok() {
+    let told_charge = ToldCharge::at(&processor.queue, time, told);
+    if lifts && processor.queue.lift(time, told, drift).is_ok() {
+        push_told_charge(text, processor.cpu, told_charge)?;
         push_floor(text, processor.cpu, processor.queue.floor())
     } else {
         Ok(())

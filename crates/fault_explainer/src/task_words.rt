@@ -1,8 +1,9 @@
-use cfs_model::{Nice, Place, Policy, Task, weight_of};
+use cfs_model::{Nice, Place, Policy, weight_of};
+use runqueue::SchedEntity;
 use std::fmt;
 
 /// What a task does where it stands.
-pub(crate) fn verb(task: &Task) -> &'static str {
+pub(crate) fn verb(task: &SchedEntity) -> &'static str {
     match task.place {
         Place::Run => "runs",
         Place::Wait => "waits",
@@ -18,7 +19,7 @@ pub(crate) struct WeightWords {
 }
 
 /// That of a task.
-pub(crate) fn weight_words(task: &Task) -> WeightWords {
+pub(crate) fn weight_words(task: &SchedEntity) -> WeightWords {
     WeightWords {
         nice: task.nice,
         policy: task.policy,

@@ -102,7 +102,8 @@ fn print_call_on<R: AllocGlobal + Print + RandomSource + Threads + Wait + Sync>(
         }
         "least_report" => {
             let closed = audit_least(rt, record).map_err(out_of_memory)?;
-            let answer = least_report(alloc, &Outcome::Judged(closed.least));
+            // With a line of the drift, whatever the companion's version is.
+            let answer = least_report(alloc, &Outcome::Judged(closed.least), true);
             println!(rt; "{answer:?}")?;
         }
         _ => return print_calls_by_processor(rt, call, record),

@@ -6,7 +6,7 @@ use Rattle.cfs_model.specs.Claimed.{Claimed}
 use Rattle.cfs_model.specs.Step.{IsStep}
 use Rattle.cfs_model.specs.Order.{IsInOrder}
 use Rattle.replay_model.specs.Part.{Part, part_of}
-use Rattle.replay_model.specs.Record.{ClaimInRange}
+use Rattle.replay_model.specs.Record.{ClaimInRange, ChargeInRange}
 use Rattle.part_laws.specs.TouchedParts.{MovesBetween, RestStays}
 use Rattle.cfs_model.specs.declared.act.Act.TheVariants.{Shift}
 
@@ -21,7 +21,7 @@ PartsMigrate = (knobs : KnobsView) (before after : Machine) (event : Claimed) (o
 abbrev pub MachineMigrates : Type 0
 MachineMigrates = (knobs : KnobsView) (before : Machine) (event : Claimed) (orig dest pid : ℕ) (nice : ℤ)
     (left came : Part)
-    → IsInOrder before → ClaimInRange event → event.entry.act ≡ Shift orig dest pid nice
+    → IsInOrder before → ClaimInRange event → ChargeInRange event → event.entry.act ≡ Shift orig dest pid nice
     → MovesBetween knobs before event orig dest pid nice left came
     → (after : Machine) × IsStep knobs before event after × IsInOrder after × (part_of after orig ≡ left)
     × (part_of after dest ≡ came) × RestStays before after orig dest

@@ -11,19 +11,20 @@ use Rattle.replay_model.specs.ClaimTests.{IsInWakeBounds}
 use Rattle.replay_model.specs.Needs.{IsLeastWaiting}
 use Rattle.replay_model.specs.QueueTests.{HasOtherNice, IsRunner}
 use Rattle.cfs_model.specs.declared.task.Place.TheVariants.{Run, Wait, Rest}
-use Rattle.cfs_model.specs.declared.task.Task.{Task}
+use Rattle.runqueue.specs.declared.sched_entity.SchedEntity.{SchedEntity}
 use Rattle.queue_replay.specs.Picks.{IdlesBeside}
 use Rattle.runqueue.specs.Queue.{IsTheRunner}
 use Rattle.runqueue.specs.Tasks.{entity_of}
 use Rattle.runqueue.proofs.Parts.{its_place}
 
 -- the task of a pid as the part has it
-pub entity_told : (task : Option Task) (t : Task) (o : Option Entity) → task ≡ Some t → option_map entity_of task ≡ o
+pub entity_told : (task : Option SchedEntity) (t : SchedEntity) (o : Option Entity) → task ≡ Some t
+    → option_map entity_of task ≡ o
     → Some (entity_of t) ≡ o
 entity_told task t o is e = sym (ap (option_map entity_of) is) ∙ e
 
 -- a task of this pid, where one has it
-pub some_task : (part : Part) (pid : ℕ) (t : Task) (P : Entity → Type 0) (b : Bool)
+pub some_task : (part : Part) (pid : ℕ) (t : SchedEntity) (P : Entity → Type 0) (b : Bool)
     → Some (entity_of t) ≡ part.tasks pid
     → (IsTrue b ↔ P (entity_of t)) → (IsTrue b ↔ ((s : Entity) × (part.tasks pid ≡ Some s) × P s))
 some_task part pid t P b e same = (
@@ -32,7 +33,7 @@ some_task part pid t P b e same = (
 )
 
 -- another nice value
-pub other_nice : (part : Part) (pid : ℕ) (t : Task) (nice : ℤ) (b : Bool) → Some (entity_of t) ≡ part.tasks pid
+pub other_nice : (part : Part) (pid : ℕ) (t : SchedEntity) (nice : ℤ) (b : Bool) → Some (entity_of t) ≡ part.tasks pid
     → (IsTrue b ↔ (t.nice ≢ nice)) → (IsTrue b ↔ HasOtherNice part pid nice)
 other_nice part pid t nice b e same = (
   (λ h. record { task = entity_of t; stands = sym e; other = same.0 h }),
@@ -40,7 +41,7 @@ other_nice part pid t nice b e same = (
 )
 
 -- a task outside its wakeup's bounds
-pub outside : (part : Part) (credit : ℕ) (floor v : ℤ) (pid : ℕ) (t : Task) (b : Bool)
+pub outside : (part : Part) (credit : ℕ) (floor v : ℤ) (pid : ℕ) (t : SchedEntity) (b : Bool)
     → Some (entity_of t) ≡ part.tasks pid → t.place ≡ Rest
     → (IsTrue b ↔ IsInWakeBounds credit floor t.v v)
     → (IsTrue (not b) ↔ ((s : Entity) × (part.tasks pid ≡ Some s) × (s.place ≡ Rest)
@@ -56,7 +57,7 @@ outside part credit floor v pid t b e rests same = (
     false_or false f = refl
 
 -- pid 0 is what runs where nobody does
-pub is_runner : (part : Part) (runner : Option Task) → IsTheRunner part runner → (pid : ℕ) → pid ≡ 0 → (b : Bool)
+pub is_runner : (part : Part) (runner : Option SchedEntity) → IsTheRunner part runner → (pid : ℕ) → pid ≡ 0 → (b : Bool)
     → b ≡ is_none runner
     → (IsTrue b ↔ IsRunner part pid)
 is_runner part runner ran (suc n) e b same = absurd (omega (arith, e))
@@ -88,7 +89,7 @@ in_bounds credit floor own v b from to same = (
 )
 
 -- whether nobody runs beside a waiting task
-pub idles : (part : Part) (runner : Option Task) (v : ℤ) → IsTheRunner part runner → is_some runner ≡ false
+pub idles : (part : Part) (runner : Option SchedEntity) (v : ℤ) → IsTheRunner part runner → is_some runner ≡ false
     → IsLeastWaiting part v → PartIdles part
 idles part (Some t) v ran none w = absurd cc
 idles part None v nobody none w = record {
@@ -98,7 +99,8 @@ idles part None v nobody none w = record {
       ∙ ap Some w.waits;
 }
 
-pub busy : (part : Part) (runner : Option Task) → IsTheRunner part runner → is_some runner ≡ true → ¬ PartIdles part
+pub busy : (part : Part) (runner : Option SchedEntity) → IsTheRunner part runner → is_some runner ≡ true
+    → ¬ PartIdles part
 busy part None nobody some idles = absurd cc
 busy part (Some t) ran some idles = idles.nobody_runs t.pid (ap its_place ran.0 ∙ ap Some ran.1)
 

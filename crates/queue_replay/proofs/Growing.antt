@@ -2,20 +2,14 @@
 use Rattle.std.proofs.Common.{◌≡◌, ℕ, zero, suc, ◌+◌, ◌*◌, ◌^◌, ◌-◌, ◌<◌, ◌≤◌, Bool, true, false, cond, eqb, List, []}
 use Rattle.std.proofs.Common.{◌∷◌, ◌++◌, All, map, Option, Some, None, IfSome, sym, subst, arith, inl, inr}
 use Rattle.std.specs.List.{list_any}
-use Rattle.std.proofs.lemmas.Bool.{cases_lt}
 use Rattle.std.proofs.lemmas.List.Elements.{All-map, All-weaker, All-push}
-use Rattle.cfs_model.specs.Charge.{greatest}
 use Rattle.replay_model.specs.Noted.{with_tally, new_tally, tallied}
-use Rattle.replay_model.specs.Part.{Part}
-use Rattle.replay_model.specs.QueueTests.{IsOutOfRange}
 use Rattle.replay_model.specs.declared.page.Tally.{Tally}
 use Rattle.replay_model.specs.declared.step.Deed.{Deed}
 use Rattle.replay_model.specs.declared.step.Deed.TheVariants.{Switch, Wake, Born, Leave, Arrive}
 use Rattle.cfs_model.specs.declared.task.Task.{Task}
-use Rattle.queue_replay.specs.Counting.{stretched}
-use Rattle.queue_replay.specs.Stretches.{ran_tally, picked_tally, IsWithin}
-use Rattle.runqueue.specs.Queue.{IsTheRunner}
-use Rattle.runqueue.specs.Tasks.{cost_of, entity_of}
+use Rattle.queue_replay.specs.Stretches.{ran_tally, picked_tally, IsWithin, stretched}
+use Rattle.queue_replay.specs.declared.stretch.Stretch.{Stretch}
 
 -- a tally with its last stretch, before a pick
 abbrev pub IsRan : ℕ → Tally → Type 0
@@ -33,16 +27,15 @@ ran_ran steps pid time cost tally short cheap w = go (eqb tally.pid pid)
     go true = (let h = w.0 in omega arith, let h = w.1 in omega arith, w.2)
     go false = kept_ran steps tally w
 
-pub stretched_ran : (steps time : ℕ) (runner : Option Task) (tallies : List Tally) → time ≤ 2 ^ 64
-    → IfSome runner (λ t. cost_of time t ≤ greatest)
-    → All (IsWithin steps) tallies → All (IsRan steps) (stretched runner time tallies)
-stretched_ran steps time None tallies short fits w =
+pub stretched_ran : (steps : ℕ) (stretch : Option Stretch) (tallies : List Tally)
+    → IfSome stretch (λ x. (x.time ≤ 2 ^ 64) × (x.cost ≤ 2 ^ 64))
+    → All (IsWithin steps) tallies → All (IsRan steps) (stretched stretch tallies)
+stretched_ran steps None tallies fits w =
     All-weaker (IsWithin steps) (IsRan steps) (kept_ran steps) tallies w
-stretched_ran steps time (Some t) tallies short fits w =
-    All-map (IsRan steps) (ran_tally t.pid time (cost_of time t)) tallies
-    (All-weaker (IsWithin steps) (λ tally. IsRan steps (ran_tally t.pid time (cost_of time t) tally))
-    (λ tally h. ran_ran steps t.pid time (cost_of time t) tally short
-    (let k : cost_of time t ≤ greatest = fits in omega arith) h) tallies w)
+stretched_ran steps (Some x) tallies fits w =
+    All-map (IsRan steps) (ran_tally x.pid x.time x.cost) tallies
+    (All-weaker (IsWithin steps) (λ tally. IsRan steps (ran_tally x.pid x.time x.cost tally))
+    (λ tally h. ran_ran steps x.pid x.time x.cost tally fits.0 fits.1 h) tallies w)
 
 pub ran_picks : (steps : ℕ) (tallies : List Tally) → All (IsRan steps) tallies
     → All (λ tally. tally.picks ≤ steps) tallies
@@ -81,27 +74,6 @@ tallied_within steps (Wake pid nice) tallies w = all_within steps tallies w
 tallied_within steps (Born pid nice policy) tallies w = with_within steps pid tallies w
 tallied_within steps (Leave pid nice dest) tallies w = all_within steps tallies w
 tallied_within steps (Arrive pid nice orig policy) tallies w = with_within steps pid tallies w
-
--- where nobody is out of range, the runner's charge fits
-runner_fits : (part : Part) (time : ℕ) → ((pid : ℕ) → ¬ IsOutOfRange part time pid) → (runner : Option Task)
-    → IsTheRunner part runner
-    → IfSome runner (λ t. cost_of (time - part.mark) t ≤ greatest)
-runner_fits part time in_range None ran = tt
-runner_fits part time in_range (Some t) ran =
-    elim (cases_lt greatest (cost_of (time - part.mark) t)) [
-      | inl far ↦ absurd (in_range t.pid (record { task = entity_of t; stands = ran.0; runs = ran.1; above = inl far }))
-      | inr near ↦ near
-    ]
-
--- the runner's stretch, and what is picked and noted after it
-pub noted_ran : (part : Part) (time ran steps : ℕ) → ((pid : ℕ) → ¬ IsOutOfRange part time pid) → ran ≡ time - part.mark
-    → ran < 2 ^ 64
-    → (runner : Option Task) → IsTheRunner part runner → (tallies : List Tally) → All (IsWithin steps) tallies
-    → IfSome runner (λ t. cost_of ran t ≤ greatest) × All (IsRan steps) (stretched runner ran tallies)
-noted_ran part time ran steps in_range is short runner e tallies w =
-    let P : ℕ → Type 0 = λ n. IfSome runner (λ t. cost_of n t ≤ greatest) in
-    let fits : P ran = subst P (sym is) (runner_fits part time in_range runner e) in
-    (fits, stretched_ran steps ran runner tallies (omega arith) fits w)
 
 -- at the start nobody has run
 pub new_within : (tasks : List Task) → All (IsWithin 0) (map (λ t. new_tally t.pid) tasks)

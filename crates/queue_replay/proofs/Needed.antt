@@ -1,6 +1,8 @@
 -- What a pick's lead, a deed and a step need, and the needs of one step more.
 use Rattle.std.proofs.Common.{◌≡◌, ◌≢◌, ℕ, zero, suc, ◌+◌, ◌<◌, ◌≤◌, List, [], ◌∷◌, ◌++◌, length, take, get_or, Option}
-use Rattle.std.proofs.Common.{Some, None, inl, inr, ℤ, pos, ◌+ℤ◌, ◌≤ℤ◌, ◌<ℤ◌, refl, sym, ap, ◌∙◌, subst, arith}
+use Rattle.std.proofs.Common.{Some, None, option_map, inl, inr, ℤ, pos, ◌+ℤ◌, ◌≤ℤ◌, ◌<ℤ◌, refl, sym, ap, ◌∙◌, subst}
+use Rattle.std.proofs.Common.{arith}
+use Rattle.std.proofs.lemmas.Bool.{cases_eq}
 use Rattle.std.proofs.lemmas.Int.{ints}
 use Rattle.std.proofs.lemmas.List.{take_more}
 use Rattle.std.proofs.lemmas.Option.{same_Some}
@@ -10,9 +12,9 @@ use Rattle.cfs_model.specs.declared.act.Way.{Way}
 use Rattle.cfs_model.specs.declared.task.Place.{Place}
 use Rattle.cfs_model.specs.declared.task.Place.TheVariants.{Wait}
 use Rattle.replay_model.specs.ClaimTests.{IsNextNotWaiting}
-use Rattle.replay_model.specs.Deeds.{part_after_prev}
+use Rattle.replay_model.specs.Deeds.{part_after_prev, reniced}
 use Rattle.replay_model.specs.Needs.{AllPassNeeding, AreStepNeeds, IsBirthNeed, IsExcess, IsLeastWaiting, IsPickNeed}
-use Rattle.replay_model.specs.Needs.{IsWakeNeed, PassesNeeding, idle_need, only_slack}
+use Rattle.replay_model.specs.Needs.{IsWakeNeed, IsDriftNeed, PassesNeeding, idle_need, only_slack}
 use Rattle.replay_model.specs.Page.{ReplayStateView}
 use Rattle.replay_model.specs.Part.{Part, Entity, IsIn, place_in}
 use Rattle.replay_model.specs.declared.step.Deed.{Deed}
@@ -24,7 +26,10 @@ use Rattle.replay_model.proofs.PartFacts.{task_in}
 use Rattle.queue_replay.specs.Needing.{IsNeed, PassesRaising, step_needs}
 use Rattle.queue_replay.specs.Picks.{IsAbove, IsAboveGranularity, IsLead}
 use Rattle.runqueue.specs.Queue.{IsLeastIfWaiting}
-use Rattle.runqueue.proofs.Parts.{its_place}
+use Rattle.cfs_model.proofs.Moves.{put-other}
+use Rattle.runqueue.proofs.Parts.{its_place, put-at}
+use Rattle.cfs_model.specs.declared.charge_line.ChargeLine.{ChargeLine}
+use Rattle.cfs_model.specs.declared.nice_line.NiceLine.{NiceLine}
 use Rattle.queue_replay.proofs.Passed.{next_stays}
 
 -- the next task leads by more than the granularity
@@ -105,47 +110,73 @@ pick_needs_lead part prev prev_nice way (suc n) next_nice own need o two waits h
     go (Some v) w x = (task.0, v, task.1, w, x)
     go None nobody x = absurd (nobody (suc n) (ap its_place (next_stays part prev way (suc n) two) ∙ there))
 
--- a step's needs, from its deed's and from the time for which the processor had idled
-pub needs_of_step : (since : Option ℕ) (found : Part) (step : Step) (need idled : ℕ)
+-- a step's needs, from its deed's, the time for which the processor had idled, and what its told charge leaves
+pub needs_of_step : (since : Option ℕ) (found : Part) (step : Step) (need idled drift : ℕ)
     → IsNeed found step.deed step.claim need
-    → idled ≡ idle_need since step.time → AreStepNeeds since found step (step_needs step.deed need idled)
-needs_of_step since found step need idled n i = record {
+    → idled ≡ idle_need since step.time → IsDriftNeed found step.charge drift
+    → AreStepNeeds since found step (step_needs step.deed need idled drift)
+needs_of_step since found step need idled drift n i d = record {
   granularity = of_pick step.deed n;
   credit = of_wake step.deed n;
   debit = of_birth step.deed n;
   slack = of_idling step.deed ∙ i;
+  drift = subst (IsDriftNeed found step.charge) (sym (of_drift step.deed)) d;
 }
   where
     of_pick : (deed : Deed) → IsNeed found deed step.claim need
-        → IsPickNeed found deed (step_needs deed need idled).granularity
+        → IsPickNeed found deed (step_needs deed need idled drift).granularity
     of_pick (Switch prev prev_nice way next next_nice) h = h
     of_pick (Wake pid nice) h = refl
-    of_pick (Born pid nice idles) h = refl
+    of_pick (Born pid nice policy) h = refl
     of_pick (Leave pid nice dest) h = refl
-    of_pick (Arrive pid nice orig idles) h = refl
+    of_pick (Arrive pid nice orig policy) h = refl
 
     of_wake : (deed : Deed) → IsNeed found deed step.claim need
-        → IsWakeNeed found deed step.claim (step_needs deed need idled).credit
+        → IsWakeNeed found deed step.claim (step_needs deed need idled drift).credit
     of_wake (Switch prev prev_nice way next next_nice) h = refl
     of_wake (Wake pid nice) h = h
-    of_wake (Born pid nice idles) h = refl
+    of_wake (Born pid nice policy) h = refl
     of_wake (Leave pid nice dest) h = refl
-    of_wake (Arrive pid nice orig idles) h = refl
+    of_wake (Arrive pid nice orig policy) h = refl
 
     of_birth : (deed : Deed) → IsNeed found deed step.claim need
-        → IsBirthNeed found deed step.claim (step_needs deed need idled).debit
+        → IsBirthNeed found deed step.claim (step_needs deed need idled drift).debit
     of_birth (Switch prev prev_nice way next next_nice) h = refl
     of_birth (Wake pid nice) h = refl
-    of_birth (Born pid nice idles) h = h
+    of_birth (Born pid nice policy) h = h
     of_birth (Leave pid nice dest) h = refl
-    of_birth (Arrive pid nice orig idles) h = refl
+    of_birth (Arrive pid nice orig policy) h = refl
 
-    of_idling : (deed : Deed) → (step_needs deed need idled).slack ≡ idled
+    of_idling : (deed : Deed) → (step_needs deed need idled drift).slack ≡ idled
     of_idling (Switch prev prev_nice way next next_nice) = refl
     of_idling (Wake pid nice) = refl
-    of_idling (Born pid nice idles) = refl
+    of_idling (Born pid nice policy) = refl
     of_idling (Leave pid nice dest) = refl
-    of_idling (Arrive pid nice orig idles) = refl
+    of_idling (Arrive pid nice orig policy) = refl
+
+    of_drift : (deed : Deed) → (step_needs deed need idled drift).drift ≡ drift
+    of_drift (Switch prev prev_nice way next next_nice) = refl
+    of_drift (Wake pid nice) = refl
+    of_drift (Born pid nice policy) = refl
+    of_drift (Leave pid nice dest) = refl
+    of_drift (Arrive pid nice orig policy) = refl
+
+-- a change of a nice value changes no drift
+pub need_reniced : (change : Option NiceLine) (lifted : Part) (charge : Option ChargeLine) (need : ℕ)
+    → IsDriftNeed lifted charge need → IsDriftNeed (reniced change lifted) charge need
+need_reniced change lifted None need d = d
+need_reniced None lifted (Some charge) need d = d
+need_reniced (Some change) lifted (Some charge) need d =
+    elim (cases_eq charge.pid change.pid) [
+      | inl same ↦ (
+        record d.0 { nice = change.nice },
+        put-at lifted.tasks change.pid
+            (option_map (λ (s : Entity). record s { nice = change.nice }) (lifted.tasks change.pid)) charge.pid same
+            ∙ ap (option_map (λ (s : Entity). record s { nice = change.nice })) (ap lifted.tasks (sym same) ∙ d.1),
+        d.2,
+      )
+      | inr other ↦ (d.0, put-other lifted.tasks change.pid _ charge.pid other ∙ d.1, d.2)
+    ]
 
 -- one more step
 needing_push : (knobs : KnobsView) (cpu : ℕ) (before : ReplayStateView) (steps : List Step) (between : ReplayStateView)

@@ -59,7 +59,7 @@ pub record IsNote (mid : PageDraft) (step : Step) (ticket : Option Ticket) (new 
   pub tallies : new.tallies.table.rows ≡ tallied step.deed mid.tallies.table.rows
 
 pub page_is : (old mid new : PageDraft) (part found : Part) (step : Step) (ticket : Option Ticket) → old.fault ≡ None
-    → IsStretch old mid → mid.tallies.table.rows ≡ charged_tallies part step.time old.tallies.table.rows
+    → IsStretch old mid → mid.tallies.table.rows ≡ charged_tallies part step.time step.charge old.tallies.table.rows
     → ticket ≡ ticket_by found step step.deed → IsNote mid step ticket new
     → page_draft_view new ≡ noted (page_draft_view old) part found step
 page_is old mid new part found step ticket none same tallies is n =

@@ -49,7 +49,7 @@ keep {less} {more} {test} w = record { first = go }
 -- the ordered list, for a deed and its claim
 abbrev pub all_tests : KnobsView → ℕ → Part → Deed → Option Claim → List Test
 all_tests knobs cpu part deed claim = late_tests knobs cpu part
-    (record { line = 0; time = 0; deed = deed; claim = claim; nice = None })
+    (record { line = 0; time = 0; deed = deed; claim = claim; nice = None; charge = None })
 
 -- a switch
 pub switch_row : (knobs : KnobsView) (cpu : ℕ) (part : Part) (prev : ℕ) (prev_nice : ℤ) (way : Way) (next : ℕ)

@@ -1,5 +1,5 @@
 -- What the page of a replay under way shows, and what a step adds to it (this project's profile).
-use Rattle.std.specs.Prelude.{ℕ, ◌<◌, ⊤, vec_len, vec_capacity, option_to_list, Option, Some, None, [], List, map}
+use Rattle.std.specs.Prelude.{ℕ, ◌<◌, ⊤, vec_len, vec_capacity, option_to_list, Option, None, [], List}
 use Rattle.replay_model.specs.Deeds.{left_ticket, came_ticket}
 use Rattle.replay_model.specs.Part.{Part}
 use Rattle.replay_model.specs.declared.page.Tally.{Tally}
@@ -8,9 +8,6 @@ use Rattle.replay_model.specs.declared.step.Deed.{Deed}
 use Rattle.replay_model.specs.declared.step.Deed.TheVariants.{Switch, Wake, Born, Leave, Arrive}
 use Rattle.replay_model.specs.declared.step.Step.{Step}
 use Rattle.replay_model.specs.Noted.{PageView}
-use Rattle.cfs_model.specs.declared.task.Task.{Task}
-use Rattle.queue_replay.specs.Stretches.{ran_tally}
-use Rattle.runqueue.specs.Tasks.{cost_of}
 use Rattle.queue_replay.specs.declared.page_draft.PageDraft.{PageDraft}
 
 -- the draft as a page shows it
@@ -49,8 +46,3 @@ HasDraftRoom (Born pid nice policy) draft = (vec_len draft.births < vec_capacity
 HasDraftRoom (Leave pid nice dest) draft = vec_len draft.left < vec_capacity draft.left
 HasDraftRoom (Arrive pid nice orig policy) draft = (vec_len draft.came < vec_capacity draft.came)
     × (0 < draft.tallies.table.room)
-
--- the tallies after the runner, if there is one, ran for so long
-abbrev pub stretched : Option Task → ℕ → List Tally → List Tally
-stretched None time tallies = tallies
-stretched (Some t) time tallies = map (ran_tally t.pid time (cost_of time t)) tallies

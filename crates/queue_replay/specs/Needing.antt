@@ -21,13 +21,15 @@ IsNeed part (Born pid nice policy) claim need = IsBirthNeed part (Born pid nice 
 IsNeed part (Leave pid nice dest) claim need = need ≡ 0
 IsNeed part (Arrive pid nice orig policy) claim need = need ≡ 0
 
--- what a step needs whose deed has this need, after the processor has idled beside a waiting task for so long
-abbrev pub step_needs : Deed → ℕ → ℕ → KnobsView
-step_needs (Switch prev prev_nice way next next_nice) need idled = record (only_slack idled) { granularity = need }
-step_needs (Wake pid nice) need idled = record (only_slack idled) { credit = need }
-step_needs (Born pid nice policy) need idled = record (only_slack idled) { debit = need }
-step_needs (Leave pid nice dest) need idled = only_slack idled
-step_needs (Arrive pid nice orig policy) need idled = only_slack idled
+-- what a step needs whose deed has this need, after the processor has idled beside a waiting task for so long, and
+-- whose told charge leaves a drift of so much
+abbrev pub step_needs : Deed → ℕ → ℕ → ℕ → KnobsView
+step_needs (Switch prev prev_nice way next next_nice) need idled drift =
+    record (only_slack idled) { granularity = need; drift = drift }
+step_needs (Wake pid nice) need idled drift = record (only_slack idled) { credit = need; drift = drift }
+step_needs (Born pid nice policy) need idled drift = record (only_slack idled) { debit = need; drift = drift }
+step_needs (Leave pid nice dest) need idled drift = record (only_slack idled) { drift = drift }
+step_needs (Arrive pid nice orig policy) need idled drift = record (only_slack idled) { drift = drift }
 
 -- the replay goes on by a step that passes, and its needs rise to what the step needs
 abbrev pub PassesRaising : KnobsView → ℕ → ReplayStateView → KnobsView → Step → ReplayStateView → KnobsView → Type 0

@@ -12,11 +12,11 @@ ghost use Rattle.queue_replay.specs.Rows.{HasClaimAt, IsUnclaimed, IsNeedless, I
 
 use crate::excess::excess;
 use crate::queue_tests::stands_in;
-use cfs_model::{Claim, ClaimSort, IDLE_PID, Place, Task};
-use runqueue::Runqueue;
+use cfs_model::{Claim, ClaimSort, IDLE_PID, Place};
+use runqueue::{Runqueue, SchedEntity};
 
 /// The pid, if its task rests here.
-pub(crate) fn if_resting(pid: u32, task: &Option<Task>) -> Option<u32>
+pub(crate) fn if_resting(pid: u32, task: &Option<SchedEntity>) -> Option<u32>
     ensures { (part : Part) → IsTaskAt part pid task.now → result ≡ if_resting pid (place_in part pid) }
 {
     if stands_in(*task, Place::Rest) {
@@ -79,7 +79,7 @@ pub(crate) fn claim_pid(needed: Option<u32>, claim: Option<Claim>) -> Option<u32
 pub(crate) fn wake_outside(
     queue: &Runqueue,
     pid: u32,
-    task: &Option<Task>,
+    task: &Option<SchedEntity>,
     claim: Option<Claim>,
     credit: u64,
 ) -> Option<u32>
@@ -131,7 +131,7 @@ pub(crate) fn not_least(next: u32, lead: u64, granularity: u64) -> Option<u32>
 }
 
 /// The task stands here, at another virtual runtime than the claimed one.
-pub(crate) fn is_at_other(task: Option<Task>, claim: Claim) -> bool
+pub(crate) fn is_at_other(task: Option<SchedEntity>, claim: Claim) -> bool
     ensures { (part : Part) (pid : ℕ) → IsTaskAt part pid task
         → (IsTrue result ↔ ((s : Entity) × (part.tasks pid ≡ Some s) × (claim.v ≢ s.runtime))) }
 {
@@ -142,7 +142,7 @@ pub(crate) fn is_at_other(task: Option<Task>, claim: Claim) -> bool
 }
 
 /// The task rests here, and is claimed outside the bounds of its wakeup.
-fn rests_outside(queue: &Runqueue, claim: Claim, credit: u64, task: Option<Task>) -> bool
+fn rests_outside(queue: &Runqueue, claim: Claim, credit: u64, task: Option<SchedEntity>) -> bool
     ensures { let part = runqueue_view queue.now in (pid : ℕ) → IsTaskAt part pid task
         → (IsTrue result ↔ ((s : Entity) × (part.tasks pid ≡ Some s) × (s.place ≡ Rest)
         × (¬ IsInWakeBounds credit part.floor s.runtime claim.v))) }
@@ -155,7 +155,7 @@ fn rests_outside(queue: &Runqueue, claim: Claim, credit: u64, task: Option<Task>
 }
 
 /// The claim is within the bounds of the task's wakeup, by its own virtual runtime, the floor and the credit.
-fn is_in_wake_bounds(floor: i64, task: Task, claim: Claim, credit: u64) -> bool
+fn is_in_wake_bounds(floor: i64, task: SchedEntity, claim: Claim, credit: u64) -> bool
     ensures { IsTrue result ↔ IsInWakeBounds credit floor task.v claim.v }
 {
     if claim.v < task.v {

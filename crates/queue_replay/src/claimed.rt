@@ -1,13 +1,13 @@
-ghost use Rattle.std.specs.Prelude.{◌≡◌, Some};
+ghost use Rattle.std.specs.Prelude.{◌≡◌, Some, pos};
 ghost use Rattle.replay_model.specs.Deeds.{came_ticket, left_ticket, place_of_sort};
 ghost use Rattle.runqueue.specs.Queue.{runqueue_view, IsTaskAt};
 ghost use Rattle.runqueue.specs.Tasks.{entity_of};
 
 use cfs_model::{Claim, ClaimSort, Nice, Place, Policy, Task};
 use replay_model::Ticket;
-use runqueue::Runqueue;
+use runqueue::{Runqueue, SchedEntity};
 
-/// A task at the claimed virtual runtime.
+/// A task that comes here at the claimed virtual runtime, without a drift.
 pub(crate) fn claimed_task(
     place: Place,
     pid: u32,
@@ -15,18 +15,25 @@ pub(crate) fn claimed_task(
     policy: Policy,
     cpu: u32,
     claim: Claim,
-) -> Task
+) -> SchedEntity
     ensures pid { result.pid ≡ pid }
-    ensures entity { entity_of result ≡ record { place = place; nice = nice; policy = policy; runtime = claim.v } }
+    ensures entity { entity_of result ≡ record {
+      place = place;
+      nice = nice;
+      policy = policy;
+      runtime = claim.v;
+      drift =
+          pos 0;
+    } }
 {
-    Task {
+    SchedEntity::of(Task {
         pid,
         nice,
         policy,
         cpu,
         place,
         v: claim.v,
-    }
+    })
 }
 
 /// The ticket of a task that leaves, if it stands here.
@@ -34,7 +41,7 @@ pub(crate) fn left_ticket(
     queue: &Runqueue,
     line: u32,
     pid: u32,
-    task: &Option<Task>,
+    task: &Option<SchedEntity>,
 ) -> Option<Ticket>
     requires { IsTaskAt (runqueue_view queue.now) pid task.now }
     ensures { result ≡ left_ticket (runqueue_view queue.now) line pid }

@@ -8,8 +8,8 @@ ghost use Rattle.queue_replay.specs.Rows.{switch_deed};
 
 use crate::claim_tests::is_at_other;
 use crate::queue_tests::{has_other_prio, is_runner, stands_in};
-use cfs_model::{Claim, IDLE_PID, Nice, Place, Task, Way};
-use runqueue::Runqueue;
+use cfs_model::{Claim, IDLE_PID, Nice, Place, Way};
+use runqueue::{Runqueue, SchedEntity};
 
 /// A switch from one task to another, and those of its tests that no other deed has.
 #[derive(Clone, Copy)]
@@ -30,7 +30,7 @@ impl ContextSwitch {
     }
 
     /// The previous task isn't what runs here.
-    pub fn prev_not_running(&self, queue: &Runqueue, prev: &Option<Task>) -> Option<u32>
+    pub fn prev_not_running(&self, queue: &Runqueue, prev: &Option<SchedEntity>) -> Option<u32>
         requires { IsSwitchTask (runqueue_view queue.now) self.now.prev prev.now }
         ensures { Decides result (IsPrevNotRunning (runqueue_view queue.now) (switch_deed self.now)) }
     {
@@ -42,7 +42,7 @@ impl ContextSwitch {
     }
 
     /// One of the two tasks stands here with another nice value; the previous one first.
-    pub fn wrong_prio(&self, prev: &Option<Task>, next: &Option<Task>) -> Option<u32>
+    pub fn wrong_prio(&self, prev: &Option<SchedEntity>, next: &Option<SchedEntity>) -> Option<u32>
         ensures { (part : Part) → IsSwitchTask part self.now.prev prev.now → IsSwitchTask part self.now.next next.now
             → Decides result (IsWrongPrio part (switch_deed self.now)) }
     {
@@ -72,7 +72,7 @@ impl ContextSwitch {
     }
 
     /// A previous task that stays is claimed at another virtual runtime than its own.
-    pub fn wrong_put_back(&self, prev: &Option<Task>, claim: Option<Claim>) -> Option<u32>
+    pub fn wrong_put_back(&self, prev: &Option<SchedEntity>, claim: Option<Claim>) -> Option<u32>
         ensures { (part : Part) → IsSwitchTask part self.now.prev prev.now
             → Decides result (IsWrongPutBack part (switch_deed self.now) claim) }
     {
@@ -90,7 +90,7 @@ impl ContextSwitch {
     }
 
     /// The next task doesn't wait here.
-    pub fn next_not_waiting(&self, next: &Option<Task>) -> Option<u32>
+    pub fn next_not_waiting(&self, next: &Option<SchedEntity>) -> Option<u32>
         ensures { (part : Part) → IsSwitchTask part self.now.next next.now
             → Decides result (IsNextNotWaiting part (switch_deed self.now)) }
     {

@@ -1,33 +1,20 @@
-ghost use Rattle.std.specs.Prelude.{◌≡◌, ℕ, ◌+◌, ◌^◌, ◌<◌, ◌≤◌};
-ghost use Rattle.cfs_model.specs.Charge.{greatest};
+ghost use Rattle.std.specs.Prelude.{◌≡◌, ℕ, ◌+◌, ◌^◌, ◌<◌};
 ghost use Rattle.replay_model.specs.Noted.{new_tally};
 ghost use Rattle.queue_replay.specs.Stretches.{ran_tally, picked_tally};
-ghost use Rattle.runqueue.specs.Tasks.{cost_of};
 
-use cfs_model::{Task, charge, weight_of};
+use crate::stretch::Stretch;
 use replay_model::Tally;
 
-/// What the task is charged for a stretch of running, in virtual nanoseconds.
-pub(crate) fn cost_of(task: Task, time: u64) -> u64
-    requires { cost_of time task ≤ greatest }
-    ensures { result ≡ cost_of time task }
-{
-    match charge(time, weight_of(task.nice, task.policy)) {
-        Some(cost) => cost as u64,
-        None => unreachable!(),
-    }
-}
-
-/// Adds the stretch to the tally, if it is the pid's.
+/// Adds the stretch to the tally, if it is its task's.
 #[inline(always)]
-pub(crate) fn add_run(tally: &mut Tally, pid: u32, time: u64, cost: u64)
-    requires time { tally.old.ran + time < 2 ^ 128 }
-    requires cost { tally.old.charged + cost < 2 ^ 128 }
-    ensures { tally.new ≡ ran_tally pid time cost tally.old }
+pub(crate) fn add_run(tally: &mut Tally, stretch: Stretch)
+    requires time { tally.old.ran + stretch.time < 2 ^ 128 }
+    requires cost { tally.old.charged + stretch.cost < 2 ^ 128 }
+    ensures { tally.new ≡ ran_tally stretch.pid stretch.time stretch.cost tally.old }
 {
-    if tally.pid == pid {
-        tally.ran += u128::from(time);
-        tally.charged += u128::from(cost);
+    if tally.pid == stretch.pid {
+        tally.ran += u128::from(stretch.time);
+        tally.charged += u128::from(stretch.cost);
     }
 }
 

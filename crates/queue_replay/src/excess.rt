@@ -5,7 +5,8 @@ ghost use Rattle.queue_replay.specs.Picks.{IsLead};
 ghost use Rattle.runqueue.specs.Queue.{IsLeastIfWaiting};
 ghost use Rattle.runqueue.specs.Tasks.{entity_of};
 
-use cfs_model::{IDLE_PID, Task};
+use cfs_model::IDLE_PID;
+use runqueue::SchedEntity;
 
 /// How far a virtual runtime is above another, in virtual nanoseconds; 0 where it isn't.
 pub(crate) fn excess(v: i64, from: i64) -> u64
@@ -15,7 +16,7 @@ pub(crate) fn excess(v: i64, from: i64) -> u64
 }
 
 /// How far the next task is above the least of those who wait, in virtual nanoseconds.
-pub(crate) fn lead(least: Option<i64>, next: u32, own: Option<Task>) -> u64
+pub(crate) fn lead(least: Option<i64>, next: u32, own: Option<SchedEntity>) -> u64
     ensures { (part : Part) → IsLeastIfWaiting part least → IsLead (option_map entity_of own) part next result }
 {
     if next == IDLE_PID {

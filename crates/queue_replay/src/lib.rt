@@ -23,6 +23,7 @@ mod room;
 mod running;
 mod state;
 mod step_table;
+mod stretch;
 mod tag;
 mod tally_book;
 
@@ -30,5 +31,6 @@ pub use lists::{LifeEvents, Tallies, Tickets};
 pub use page::Page;
 pub use replay::Replay;
 pub use state::State;
+pub use stretch::Stretch;
 pub use tag::{Reached, Tag};
 pub use tally_book::TallyBook;

@@ -8,10 +8,10 @@ ghost use Rattle.queue_replay.specs.Needing.{step_needs};
 use cfs_model::{Amounts, Setting};
 use replay_model::Deed;
 
-/// Raises needs to what a step needs: its deed of the setting that it asks for, and of the slack the time for which the
-/// processor had idled.
-pub(crate) fn raise(needs: &mut Amounts, deed: Deed, need: u64, idled: u64)
-    ensures { needs.new ≡ larger needs.old (step_needs deed need idled) }
+/// Raises needs to what a step needs: its deed of the setting that it asks for, of the slack the time for which the
+/// processor had idled, and of the drift how far a told charge leaves its task's from none.
+pub(crate) fn raise(needs: &mut Amounts, deed: Deed, need: u64, idled: u64, drift: u64)
+    ensures { needs.new ≡ larger needs.old (step_needs deed need idled drift) }
 {
     match deed {
         Deed::Switch { .. } => needs.raise(Setting::Granularity, need),
@@ -19,6 +19,7 @@ pub(crate) fn raise(needs: &mut Amounts, deed: Deed, need: u64, idled: u64)
         Deed::Born { .. } => needs.raise(Setting::Debit, need),
         Deed::Leave { .. } | Deed::Arrive { .. } => {}
     }
+    needs.raise(Setting::Drift, drift);
     raise_slack(needs, idled);
 }
 

@@ -1,19 +1,18 @@
 ghost use Rattle.std.specs.Prelude.{◌≡◌, ℕ, ℤ, ◌+◌, ◌-◌, ◌^◌, ◌<◌, ◌≤◌, [], ◌∷◌, ◌++◌, All, IfSome, OnOk, vec_len};
 ghost use Rattle.std.specs.Prelude.{vec_capacity};
-ghost use Rattle.cfs_model.specs.Charge.{greatest};
 ghost use Rattle.replay_model.specs.Noted.{births_of, deaths_of, tallied};
 ghost use Rattle.replay_model.specs.declared.step.Deed.{Deed as DeedOf};
 ghost use Rattle.replay_model.specs.declared.step.Deed.TheVariants.{Switch};
-ghost use Rattle.queue_replay.specs.Counting.{HasDraftRoom, page_draft_view, if_left, if_came, stretched};
+ghost use Rattle.queue_replay.specs.Counting.{HasDraftRoom, page_draft_view, if_left, if_came};
 ghost use Rattle.queue_replay.specs.Found.{found_view};
-ghost use Rattle.queue_replay.specs.Stretches.{IsWithin};
-ghost use Rattle.runqueue.specs.Tasks.{cost_of};
+ghost use Rattle.queue_replay.specs.Stretches.{IsWithin, stretched};
 
 use crate::found::Found;
 use crate::lists::{LifeEvents, Tickets};
 use crate::room::push_in;
+use crate::stretch::Stretch;
 use crate::tally_book::TallyBook;
-use cfs_model::{IDLE_PID, Memory, Task, Way};
+use cfs_model::{IDLE_PID, Memory, Way};
 use replay_model::{Deed, LifeEvent, Step, StepFault, Ticket};
 
 /// What the page of a replay will show, so far.
@@ -77,19 +76,18 @@ impl PageDraft {
         Ok(())
     }
 
-    /// Adds a stretch of the runner, in nanoseconds, to its tally. Each tally is that of at most so many steps.
-    pub fn note_stretch(&mut self, runner: Option<Task>, time: u64, steps: usize)
-        requires fits { IfSome runner (λ t. cost_of time t ≤ greatest) }
+    /// Adds a stretch of the runner, if there is one, to its tally. Each tally is that of at most so many steps.
+    pub fn note_stretch(&mut self, stretch: Option<Stretch>, steps: usize)
         requires few { steps < 2 ^ 64 - 1 }
         requires within { All (IsWithin steps) self.old.tallies.table.rows }
-        ensures tallies { self.new.tallies.table.rows ≡ stretched runner time self.old.tallies.table.rows }
+        ensures tallies { self.new.tallies.table.rows ≡ stretched stretch self.old.tallies.table.rows }
         ensures room { (deed : DeedOf) → HasDraftRoom deed self.old → HasDraftRoom deed self.new }
         ensures same { (self.new.line ≡ self.old.line) × (self.new.fault ≡ self.old.fault)
             × (self.new.left ≡ self.old.left) × (self.new.came ≡ self.old.came) × (self.new.births ≡ self.old.births)
             × (self.new.deaths ≡ self.old.deaths) }
     {
-        if let Some(task) = runner {
-            self.tallies.add_stretch(task, time, steps);
+        if let Some(stretch) = stretch {
+            self.tallies.add_stretch(stretch, steps);
         }
     }
 

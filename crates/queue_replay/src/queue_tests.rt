@@ -6,8 +6,8 @@ ghost use Rattle.replay_model.specs.declared.step.Deed.TheVariants.{Leave};
 ghost use Rattle.runqueue.specs.Queue.{runqueue_view, IsSwitchTask, IsTaskAt};
 ghost use Rattle.queue_replay.specs.FirstTest.{Decides};
 
-use cfs_model::{IDLE_PID, Nice, Place, Task};
-use runqueue::Runqueue;
+use cfs_model::{IDLE_PID, Nice, Place};
+use runqueue::{Runqueue, SchedEntity};
 
 /// The task goes to the processor where it is.
 pub(crate) fn move_home(cpu: u32, pid: u32, dest: u32) -> Option<u32>
@@ -17,7 +17,7 @@ pub(crate) fn move_home(cpu: u32, pid: u32, dest: u32) -> Option<u32>
 }
 
 /// The pid doesn't stand here.
-pub(crate) fn strange(pid: u32, task: &Option<Task>) -> Option<u32>
+pub(crate) fn strange(pid: u32, task: &Option<SchedEntity>) -> Option<u32>
     ensures { (part : Part) → IsTaskAt part pid task.now
         → Decides result (λ named. (part.tasks pid ≡ None) × (named ≡ pid)) }
 {
@@ -25,7 +25,7 @@ pub(crate) fn strange(pid: u32, task: &Option<Task>) -> Option<u32>
 }
 
 /// The pid stands here.
-pub(crate) fn already(pid: u32, task: &Option<Task>) -> Option<u32>
+pub(crate) fn already(pid: u32, task: &Option<SchedEntity>) -> Option<u32>
     ensures { (part : Part) → IsTaskAt part pid task.now
         → Decides result (λ named. IsSome (part.tasks pid) × (named ≡ pid)) }
 {
@@ -33,7 +33,7 @@ pub(crate) fn already(pid: u32, task: &Option<Task>) -> Option<u32>
 }
 
 /// The task runs here.
-pub(crate) fn move_running(pid: u32, task: &Option<Task>) -> Option<u32>
+pub(crate) fn move_running(pid: u32, task: &Option<SchedEntity>) -> Option<u32>
     ensures { (part : Part) → IsTaskAt part pid task.now
         → Decides result (λ named. IsIn part Run pid × (named ≡ pid)) }
 {
@@ -45,7 +45,7 @@ pub(crate) fn move_running(pid: u32, task: &Option<Task>) -> Option<u32>
 }
 
 /// The task stands here, with another nice value than the printed one.
-pub(crate) fn wrong_prio(pid: u32, nice: Nice, task: &Option<Task>) -> Option<u32>
+pub(crate) fn wrong_prio(pid: u32, nice: Nice, task: &Option<SchedEntity>) -> Option<u32>
     ensures { (part : Part) → IsTaskAt part pid task.now
         → Decides result (λ named. HasOtherNice part pid nice × (named ≡ pid)) }
 {
@@ -57,7 +57,7 @@ pub(crate) fn wrong_prio(pid: u32, nice: Nice, task: &Option<Task>) -> Option<u3
 }
 
 /// The pid is what runs here; pid 0 where nobody does.
-pub(crate) fn is_runner(queue: &Runqueue, pid: u32, task: Option<Task>) -> bool
+pub(crate) fn is_runner(queue: &Runqueue, pid: u32, task: Option<SchedEntity>) -> bool
     requires { IsSwitchTask (runqueue_view queue.now) pid task }
     ensures { IsTrue result ↔ IsRunner (runqueue_view queue.now) pid }
 {
@@ -69,14 +69,14 @@ pub(crate) fn is_runner(queue: &Runqueue, pid: u32, task: Option<Task>) -> bool
 }
 
 /// The task stands here, in this place.
-pub(crate) fn stands_in(task: Option<Task>, place: Place) -> bool
+pub(crate) fn stands_in(task: Option<SchedEntity>, place: Place) -> bool
     ensures { (part : Part) (pid : ℕ) → IsTaskAt part pid task → (IsTrue result ↔ IsIn part place pid) }
 {
     matches!(task, Some(task) if task.place == place)
 }
 
 /// The task stands here, with another nice value than the printed one.
-fn has_other_nice(task: Option<Task>, nice: Nice) -> bool
+fn has_other_nice(task: Option<SchedEntity>, nice: Nice) -> bool
     ensures { (part : Part) (pid : ℕ) → IsTaskAt part pid task → (IsTrue result ↔ HasOtherNice part pid nice) }
 {
     match task {
@@ -86,7 +86,7 @@ fn has_other_nice(task: Option<Task>, nice: Nice) -> bool
 }
 
 /// The same at a switch, where that of pid 0 isn't looked at.
-pub(crate) fn has_other_prio(task: Option<Task>, pid: u32, nice: Nice) -> bool
+pub(crate) fn has_other_prio(task: Option<SchedEntity>, pid: u32, nice: Nice) -> bool
     ensures { (part : Part) → IsSwitchTask part pid task → (IsTrue result ↔ HasOtherPrio part pid nice) }
 {
     pid != IDLE_PID && has_other_nice(task, nice)

@@ -1,21 +1,23 @@
 ghost use Rattle.std.specs.Prelude.{◌≡◌, ◌≢◌, ℕ, ◌+◌, ◌-◌, ◌^◌, ◌<◌, Some, None, MatchOption, IfSome, IfOk, OnOk};
 ghost use Rattle.std.specs.Prelude.{OnErr};
-ghost use Rattle.replay_model.specs.Needs.{idle_need};
+ghost use Rattle.replay_model.specs.Needs.{IsDriftNeed, idle_need};
 ghost use Rattle.replay_model.specs.Page.{FailsTest, IsSince, deadline_of, with_fault};
 ghost use Rattle.replay_model.specs.QueueTests.{IsIdleTooLong};
 ghost use Rattle.cfs_model.specs.declared.kind.Kind.TheVariants.{IdleTooLong};
 ghost use Rattle.queue_replay.specs.Counting.{HasDraftRoom};
 ghost use Rattle.runqueue.specs.Queue.{runqueue_view};
-ghost use Rattle.queue_replay.specs.ReplayState.{IsGoing, IsPassed, IsStepped, IsUndone, replay_state_view};
+ghost use Rattle.queue_replay.specs.ReplayState.{IsGoing, IsPassed, IsStepped, IsUndone, charge_test};
+ghost use Rattle.queue_replay.specs.ReplayState.{replay_state_view};
 
 use crate::failed_test::FailedTest;
 use crate::needs::raise;
 use crate::outcome::Outcome;
 use crate::page_draft::PageDraft;
 use crate::renice::try_step;
-use cfs_model::{Amounts, IDLE_PID, Kind, Knobs, Memory};
+use crate::stretch::stretch_between;
+use cfs_model::{Amounts, ChargeLine, IDLE_PID, Kind, Knobs, Memory};
 use replay_model::{Step, StepFault};
-use runqueue::Runqueue;
+use runqueue::{ChargeFault, Runqueue};
 
 /// A replay under way.
 #[derive(Drop)]
@@ -106,12 +108,11 @@ impl ReplayState {
         let before = self.queue.unlifted();
         let runner = self.queue.runner();
         let time = step.time.saturating_sub(self.queue.mark());
-        if let Err(pid) = self.queue.lift(step.time) {
-            return Ok(Some(FailedTest {
-                kind: Kind::Range,
-                pid,
-            }));
+        if let Err(fault) = self.queue.lift(step.time, step.charge, knobs.drift()) {
+            return Ok(Some(failed_charge(fault)));
         }
+        let stretch = stretch_between(runner, self.queue.runner(), time);
+        let drift = drift_need(&self.queue, step.charge);
         let deed = match try_step(&mut self.queue, cpu, step, knobs) {
             Ok(Outcome::Made(deed)) => deed,
             Ok(Outcome::Failed(failed)) => {
@@ -123,12 +124,42 @@ impl ReplayState {
                 return Err(memory);
             }
         };
-        self.draft.note_stretch(runner, time, self.made);
+        self.draft.note_stretch(stretch, self.made);
         self.draft.note(step, deed.ticket, self.made);
         let idled = idled_time(self.since, step.time);
-        raise(&mut self.needs, step.deed, deed.need, idled);
+        raise(&mut self.needs, step.deed, deed.need, idled, drift);
         self.since = since_after(self.since, step.time, &self.queue);
         Ok(None)
+    }
+}
+
+/// The test that a charge fails.
+fn failed_charge(fault: ChargeFault) -> FailedTest
+    ensures { result ≡ charge_test fault }
+{
+    match fault {
+        ChargeFault::Range(pid) => FailedTest {
+            kind: Kind::Range,
+            pid,
+        },
+        ChargeFault::Told(pid) => FailedTest {
+            kind: Kind::WrongCharge,
+            pid,
+        },
+    }
+}
+
+/// How far a told charge, if there is one, leaves the drift of its task from none, in virtual nanoseconds.
+pub(crate) fn drift_need(queue: &Runqueue, charge: Option<ChargeLine>) -> u64
+    requires { IfSome charge (λ line. (runqueue_view queue.now).tasks line.pid ≢ None) }
+    ensures { IsDriftNeed (runqueue_view queue.now) charge result }
+{
+    let Some(line) = charge else {
+        return 0;
+    };
+    match queue.task_at(line.pid) {
+        Some(task) => task.drift.unsigned_abs(),
+        None => unreachable!(),
     }
 }
 

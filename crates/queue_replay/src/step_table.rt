@@ -17,8 +17,8 @@ use crate::claim_tests::{
 use crate::context_switch::ContextSwitch;
 use crate::failed_test::FailedTest;
 use crate::queue_tests::{already, move_home, move_running, strange, wrong_prio};
-use cfs_model::{Claim, Kind, Knobs, Nice, Task};
-use runqueue::Runqueue;
+use cfs_model::{Claim, Kind, Knobs, Nice};
+use runqueue::{Runqueue, SchedEntity};
 
 // A deed's tests in their order, each with the kind of fault that it is: the first that holds is answered.
 macro_rules! guard {
@@ -37,8 +37,8 @@ macro_rules! guard {
 pub(crate) fn first_switch_test(
     queue: &Runqueue,
     switch: &ContextSwitch,
-    prev: &Option<Task>,
-    next: &Option<Task>,
+    prev: &Option<SchedEntity>,
+    next: &Option<SchedEntity>,
     claim: Option<Claim>,
 ) -> Option<FailedTest>
     requires prev { IsSwitchTask (runqueue_view queue.now) switch.now.prev prev.now }
@@ -87,7 +87,7 @@ pub(crate) fn first_wake_test(
     queue: &Runqueue,
     pid: u32,
     nice: Nice,
-    task: &Option<Task>,
+    task: &Option<SchedEntity>,
     claim: Option<Claim>,
     knobs: Knobs,
 ) -> Option<FailedTest>
@@ -110,7 +110,7 @@ pub(crate) fn first_wake_test(
 pub(crate) fn first_birth_test(
     queue: &Runqueue,
     pid: u32,
-    task: &Option<Task>,
+    task: &Option<SchedEntity>,
     claim: Option<Claim>,
     knobs: Knobs,
 ) -> Option<FailedTest>
@@ -134,7 +134,7 @@ pub(crate) fn first_leave_test(
     pid: u32,
     nice: Nice,
     dest: u32,
-    task: &Option<Task>,
+    task: &Option<SchedEntity>,
 ) -> Option<FailedTest>
     ensures { (part : Part) → IsTaskAt part pid task.now → IsFirst result (leave_tests cpu part (Leave pid nice dest)) }
 {
@@ -150,7 +150,7 @@ pub(crate) fn first_leave_test(
 /// A task that comes: the first test that it fails. The task is the one of its pid, if one stands here.
 pub(crate) fn first_arrival_test(
     pid: u32,
-    task: &Option<Task>,
+    task: &Option<SchedEntity>,
     claim: Option<Claim>,
 ) -> Option<FailedTest>
     ensures { (part : Part) (nice : ℤ) (orig : ℕ) (policy : Policy) → IsTaskAt part pid task.now

@@ -1,13 +1,13 @@
 ghost use Rattle.std.specs.Prelude.{◌≡◌, ◌≢◌, ℕ, ◌-◌, ◌^◌, ◌<◌, ◌≤◌, true, false, None, Some, IfOk, OnOk, OnErr, []};
 ghost use Rattle.std.specs.Prelude.{map, get_or, length, All};
-ghost use Rattle.cfs_model.specs.Charge.{greatest};
 ghost use Rattle.replay_model.specs.Noted.{new_tally, with_tally};
 ghost use Rattle.replay_model.specs.declared.page.Tally.{Tally as TallyOf};
 ghost use Rattle.queue_replay.specs.Indices.{AreApart, AreOwn, AreOwn-prop};
 ghost use Rattle.queue_replay.specs.Stretches.{ran_tally, picked_tally, IsWithin};
-ghost use Rattle.runqueue.specs.Tasks.{cost_of, RisesByPid};
+ghost use Rattle.runqueue.specs.Tasks.{RisesByPid};
 
-use crate::counting::{add_run, cost_of, new_tally, pick};
+use crate::counting::{add_run, new_tally, pick};
+use crate::stretch::Stretch;
 use cfs_model::{Memory, Task};
 use pid_table::{PidHasher, PidTable};
 use replay_model::Tally;
@@ -110,19 +110,16 @@ impl TallyBook {
         }
     }
 
-    /// Adds a stretch of running, in nanoseconds, and its charge to the tally of the task. Each tally is that of at
-    /// most so many steps.
-    pub(crate) fn add_stretch(&mut self, task: Task, time: u64, steps: usize)
-        requires fits { cost_of time task ≤ greatest }
+    /// Adds a stretch of running to the tally of its task. Each tally is that of at most so many steps.
+    pub(crate) fn add_stretch(&mut self, stretch: Stretch, steps: usize)
         requires few { steps < 2 ^ 64 - 1 }
         requires within { All (IsWithin steps) self.old.table.rows }
-        ensures tallies { self.new.table.rows ≡ map (ran_tally task.pid time (cost_of time task)) self.old.table.rows }
+        ensures tallies { self.new.table.rows
+            ≡ map (ran_tally stretch.pid stretch.time stretch.cost) self.old.table.rows }
         ensures room { self.new.table.room ≡ self.old.table.room }
     {
-        let pid = task.pid;
-        let cost = cost_of(task, time);
-        if let Some(index) = self.index_of(pid) {
-            add_run(self.table.row_mut(index), pid, time, cost);
+        if let Some(index) = self.index_of(stretch.pid) {
+            add_run(self.table.row_mut(index), stretch);
             self.recent = index;
         }
     }

@@ -159,9 +159,12 @@ fn texts_without_a_change_say_the_same_in_both_versions(rt: HostRuntime) -> Resu
     Ok(())
 }
 
-static WHOLE: [(&str, Refusal); 22] = [
+static WHOLE: [(&str, Refusal); 25] = [
     ("# a\n", Some((3, CompanionCause::Short))),
-    ("cfs-companion 3", Some((1, CompanionCause::Version))),
+    ("cfs-companion 4", Some((1, CompanionCause::Version))),
+    ("cfs-companion 3", Some((2, CompanionCause::Short))),
+    ("cfs-companion 03", Some((1, CompanionCause::Version))),
+    ("cfs-companion 3 ", Some((1, CompanionCause::Version))),
     ("cfs-companion 2", Some((2, CompanionCause::Short))),
     ("cfs-companion 02", Some((1, CompanionCause::Version))),
     ("cfs-companion 2 ", Some((1, CompanionCause::Version))),

@@ -7,6 +7,8 @@ mod answers;
 #[cfg(test)]
 mod beginnings;
 #[cfg(test)]
+mod charge_lines;
+#[cfg(test)]
 mod companions;
 #[cfg(test)]
 mod events;

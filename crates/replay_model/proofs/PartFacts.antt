@@ -1,10 +1,14 @@
 -- What a processor's part and the machine's sets say of one another.
-use Rattle.std.proofs.Common.{◌≡◌, ℕ, Bool, true, false, Option, Some, None, IsSome, option_map, ℤ, refl, sym, ap, ◌∙◌}
-use Rattle.std.proofs.Common.{subst, true≢false}
+use Rattle.std.proofs.Common.{◌≡◌, ◌≢◌, ℕ, Bool, true, false, Option, Some, None, IsSome, is_some, option_map, ℤ, ◌⊎◌}
+use Rattle.std.proofs.Common.{inl, inr, refl, sym, ap, ◌∙◌, subst, true≢false}
 use mathlib.Core.Path.{fun_ext}
-use Rattle.cfs_model.specs.Machine.{Machine, pairs_of, Stands}
-use Rattle.replay_model.specs.Part.{Part, Entity, place_by, entity_by, entity_at, part_of, IsIn}
+use Rattle.cfs_model.specs.Machine.{Machine, pairs_of, Stands, put}
+use Rattle.replay_model.specs.Part.{Part, Entity, place_by, entity_by, entity_at, part_of, charged_in, charged_part}
+use Rattle.replay_model.specs.Part.{told_in, told_part}
+use Rattle.replay_model.specs.Part.{place_in, IsLiftedPart, IsIn}
 use Rattle.cfs_model.proofs.KeptOrder.{IsApart}
+use Rattle.cfs_model.proofs.Moves.{put-same, put-other, same_or_not}
+use Rattle.cfs_model.specs.declared.charge_line.ChargeLine.{ChargeLine}
 use Rattle.cfs_model.specs.declared.task.Place.{Place}
 use Rattle.cfs_model.specs.declared.task.Place.TheVariants.{Run, Wait, Rest}
 use Rattle.cfs_model.specs.declared.policy.Policy.{Policy}
@@ -36,21 +40,23 @@ place_is false false true Rest e = refl
 place_is false false false place e = absurd cc
 
 -- a task's parts
-pub record AreOf (s : Entity) (policy : Policy) (place : Option Place) (nice v : Option ℤ) : Type 0 where
+pub record AreOf (s : Entity) (policy : Policy) (drift : ℤ) (place : Option Place) (nice v : Option ℤ) : Type 0 where
   pub policy_is : policy ≡ s.policy
+  pub drift_is : drift ≡ s.drift
   pub place_is : place ≡ Some s.place
   pub nice_is : nice ≡ Some s.nice
   pub runtime_is : v ≡ Some s.runtime
 
-pub parts_of : (policy : Policy) (place : Option Place) (nice v : Option ℤ) (s : Entity)
-    → entity_by policy place nice v ≡ Some s → AreOf s policy place nice v
-parts_of policy None nice v s e = absurd cc
-parts_of policy (Some place) None v s e = absurd cc
-parts_of policy (Some place) (Some nice) None s e = absurd cc
-parts_of policy (Some place) (Some nice) (Some v) s e =
-    let f : record { place = place; nice = nice; policy = policy; runtime = v } ≡ s = cc in
+pub parts_of : (policy : Policy) (drift : ℤ) (place : Option Place) (nice v : Option ℤ) (s : Entity)
+    → entity_by policy drift place nice v ≡ Some s → AreOf s policy drift place nice v
+parts_of policy drift None nice v s e = absurd cc
+parts_of policy drift (Some place) None v s e = absurd cc
+parts_of policy drift (Some place) (Some nice) None s e = absurd cc
+parts_of policy drift (Some place) (Some nice) (Some v) s e =
+    let f : record { place = place; nice = nice; policy = policy; runtime = v; drift = drift } ≡ s = cc in
     record {
       policy_is = ap (λ x. x.policy) f;
+      drift_is = ap (λ x. x.drift) f;
       place_is = ap (λ x. Some x.place) f;
       nice_is = ap (λ x. Some x.nice) f;
       runtime_is = ap
@@ -68,17 +74,19 @@ pub record StandsAs (m : Machine) (cpu pid : ℕ) (s : Entity) : Type 0 where
   pub stands : Stands m s.place cpu pid
   pub nice : m.nice pid ≡ Some s.nice
   pub policy : m.policy pid ≡ s.policy
+  pub drift : m.drift pid ≡ s.drift
   pub runtime : m.runtime pid ≡ Some s.runtime
 
 pub stands_as : (m : Machine) (cpu pid : ℕ) (s : Entity) → entity_at m cpu pid ≡ Some s → StandsAs m cpu pid s
 stands_as m cpu pid s e =
-    let p = parts_of (m.policy pid) (place_by (m.running cpu pid) (m.waiting cpu pid) (m.resting cpu pid)) (m.nice pid)
-    (m.runtime pid) s e in
+    let p = parts_of (m.policy pid) (m.drift pid)
+    (place_by (m.running cpu pid) (m.waiting cpu pid) (m.resting cpu pid)) (m.nice pid) (m.runtime pid) s e in
     record {
       stands = sym (pairs_by m cpu pid s.place)
           ∙ place_is (m.running cpu pid) (m.waiting cpu pid) (m.resting cpu pid) s.place p.place_is;
       nice = p.nice_is;
       policy = p.policy_is;
+      drift = p.drift_is;
       runtime = p.runtime_is;
     }
 
@@ -96,19 +104,21 @@ place_alone false false false Rest h alone = absurd (true≢false (sym h))
 pub stander_at : (m : Machine) (place : Place) (cpu pid : ℕ) (nice v : ℤ) → Stands m place cpu pid
     → ((other : Place) → Stands m other cpu pid → other ≡ place)
     → m.nice pid ≡ Some nice → m.runtime pid ≡ Some v
-    → entity_at m cpu pid ≡ Some (record { place = place; nice = nice; policy = m.policy pid; runtime = v })
+    → entity_at m cpu pid
+    ≡ Some (record { place = place; nice = nice; policy = m.policy pid; runtime = v; drift = m.drift pid })
 stander_at m place cpu pid nice v h alone e f =
     let at : place_by (m.running cpu pid) (m.waiting cpu pid) (m.resting cpu pid) ≡ Some place =
     place_alone (m.running cpu pid) (m.waiting cpu pid) (m.resting cpu pid) place (pairs_by m cpu pid place ∙ h)
     (λ other k. alone other (sym (pairs_by m cpu pid other) ∙ k)) in
-    ap (λ x. entity_by (m.policy pid) x (m.nice pid) (m.runtime pid)) at
-    ∙ ap (λ x. entity_by (m.policy pid) (Some place) x (m.runtime pid)) e
-    ∙ ap (λ x. entity_by (m.policy pid) (Some place) (Some nice) x) f
+    ap (λ x. entity_by (m.policy pid) (m.drift pid) x (m.nice pid) (m.runtime pid)) at
+    ∙ ap (λ x. entity_by (m.policy pid) (m.drift pid) (Some place) x (m.runtime pid)) e
+    ∙ ap (λ x. entity_by (m.policy pid) (m.drift pid) (Some place) (Some nice) x) f
 
 -- a task that stands in an ordered machine is of the part
 pub is_stander : (m : Machine) → IsApart m → (place : Place) (cpu pid : ℕ) (nice v : ℤ) → Stands m place cpu pid
     → m.nice pid ≡ Some nice → m.runtime pid ≡ Some v
-    → entity_at m cpu pid ≡ Some (record { place = place; nice = nice; policy = m.policy pid; runtime = v })
+    → entity_at m cpu pid
+    ≡ Some (record { place = place; nice = nice; policy = m.policy pid; runtime = v; drift = m.drift pid })
 is_stander m a place cpu pid nice v h e f =
     stander_at m place cpu pid nice v h (λ other k. (a.one_place pid other place cpu cpu k h).0) e f
 
@@ -122,8 +132,8 @@ pub values_of : (m : Machine) → IsApart m → (place : Place) (cpu pid : ℕ) 
 values_of m a place cpu pid h =
     let n = some_value (m.nice pid) ((a.nices pid).1 (place, cpu, h)) in
     let v = some_value (m.runtime pid) ((a.runtimes pid).1 (place, cpu, h)) in
-    let s : Entity = record { place = place; nice = n.0; policy = m.policy pid; runtime = v.0 } in
-    let known : StandsAs m cpu pid s = record { stands = h; nice = n.1; policy = refl; runtime = v.1 } in
+    let s : Entity = record { place = place; nice = n.0; policy = m.policy pid; runtime = v.0; drift = m.drift pid } in
+    let known : StandsAs m cpu pid s = record { stands = h; nice = n.1; policy = refl; drift = refl; runtime = v.1 } in
     (s, refl, is_stander m a place cpu pid n.0 v.0 h n.1 v.1, known)
 
 -- who stands nowhere at the processor has no place there
@@ -141,7 +151,8 @@ no_place m cpu pid h = go (place_by (m.running cpu pid) (m.waiting cpu pid) (m.r
 -- who stands nowhere at the processor is none of the part
 pub no_stander : (m : Machine) (cpu pid : ℕ) → ((place : Place) → ¬ Stands m place cpu pid)
     → entity_at m cpu pid ≡ None
-no_stander m cpu pid h = ap (λ p. entity_by (m.policy pid) p (m.nice pid) (m.runtime pid)) (no_place m cpu pid h)
+no_stander m cpu pid h = ap (λ p. entity_by (m.policy pid) (m.drift pid) p (m.nice pid) (m.runtime pid))
+    (no_place m cpu pid h)
 
 -- a pid is in a place of the part where it stands there in the machine, and where it is so a task of the part says so
 pub is_in : (m : Machine) → IsApart m → (place : Place) (cpu pid : ℕ) → Stands m place cpu pid
@@ -167,3 +178,54 @@ pub stands_at : (m : Machine) (place : Place) (cpu pid : ℕ) → IsIn (part_of 
 stands_at m place cpu pid h =
     let s = task_in (part_of m cpu) place pid h in
     subst (λ x. Stands m x cpu pid) s.2 (stands_as m cpu pid s.0 s.1).stands
+
+-- who stands there stands there as charged
+pub told_some : (charge : Option ChargeLine) (part : Part) (pid : ℕ)
+    → is_some ((told_part charge part).tasks pid) ≡ is_some (part.tasks pid)
+told_some None part pid = refl
+told_some (Some charge) part pid = go (same_or_not pid charge.pid)
+  where
+    told : Option Entity
+    told = option_map (told_in charge.v) (part.tasks charge.pid)
+
+    same : (o : Option Entity) → is_some (option_map (told_in charge.v) o) ≡ is_some o
+    same None = refl
+    same (Some s) = refl
+
+    go : (pid ≡ charge.pid) ⊎ (pid ≢ charge.pid) → is_some (put part.tasks charge.pid told pid) ≡ is_some
+        (part.tasks pid)
+    go (inl e) = ap is_some (ap (put part.tasks charge.pid told) e ∙ put-same part.tasks charge.pid told)
+        ∙ same (part.tasks charge.pid) ∙ ap (λ p. is_some (part.tasks p)) (sym e)
+    go (inr ne) = ap is_some (put-other part.tasks charge.pid told pid ne)
+
+abbrev place_of : Option Entity → Option Place
+place_of o = option_map (λ (s : Entity). s.place) o
+
+-- a charge and a lift move nobody
+told_place : (charge : Option ChargeLine) (part : Part) (pid : ℕ)
+    → place_in (told_part charge part) pid ≡ place_in part pid
+told_place None part pid = refl
+told_place (Some charge) part pid = go (same_or_not pid charge.pid)
+  where
+    told : Option Entity
+    told = option_map (told_in charge.v) (part.tasks charge.pid)
+
+    same : (o : Option Entity) → place_of (option_map (told_in charge.v) o) ≡ place_of o
+    same None = refl
+    same (Some s) = refl
+
+    go : (pid ≡ charge.pid) ⊎ (pid ≢ charge.pid) → place_of (put part.tasks charge.pid told pid) ≡ place_of
+        (part.tasks pid)
+    go (inl e) = ap place_of (ap (put part.tasks charge.pid told) e ∙ put-same part.tasks charge.pid told)
+        ∙ same (part.tasks charge.pid) ∙ ap (λ p. place_of (part.tasks p)) (sym e)
+    go (inr ne) = ap place_of (put-other part.tasks charge.pid told pid ne)
+
+pub place_lifted : (time : ℕ) (charge : Option ChargeLine) (part lifted : Part) → IsLiftedPart time charge part lifted
+    → (pid : ℕ) → place_in lifted pid ≡ place_in part pid
+place_lifted time charge part lifted l pid =
+    ap (λ (x : Part). place_of (x.tasks pid)) l.result ∙ told_place charge (charged_part part time) pid
+    ∙ go (part.tasks pid)
+  where
+    go : (o : Option Entity) → place_of (option_map (charged_in part time) o) ≡ place_of o
+    go None = refl
+    go (Some s) = refl

@@ -1,5 +1,5 @@
 -- A processor's part after a deed (this project's profile). The part spoken of is charged and lifted.
-use Rattle.std.specs.Prelude.{ℕ, zero, suc, Option, Some, None, option_map, ℤ}
+use Rattle.std.specs.Prelude.{ℕ, zero, suc, Option, Some, None, option_map, ℤ, pos}
 use Rattle.replay_model.specs.Part.{Part, Entity}
 use Rattle.cfs_model.specs.declared.act.Way.{Way}
 use Rattle.cfs_model.specs.declared.claim.Claim.{Claim}
@@ -19,29 +19,33 @@ part_after_next part (suc n) = goes part (suc n) Run
 abbrev pub switches : Part → ℕ → Way → ℕ → Part
 switches part prev way next = part_after_next (part_after_prev part prev way) next
 
--- a task that rests waits at the claimed virtual runtime; one that runs or waits stays as it is
+-- a task that rests waits at the claimed virtual runtime, and keeps its drift; one that runs or waits stays as it is
 abbrev pub woken : Option Claim → Place → Entity → Entity
-woken (Some claim) Rest s = record { place = Wait; nice = s.nice; policy = s.policy; runtime = claim.v }
+woken (Some claim) Rest s = record s { place = Wait; runtime = claim.v }
 woken claim place s = s
 
 -- a wakeup
 abbrev pub wakes : Part → ℕ → Option Claim → Part
 wakes part pid claim = with_entity part pid (option_map (λ s. woken claim s.place s) (part.tasks pid))
 
--- a birth: the task waits at the claimed virtual runtime
+-- a birth: the task waits at the claimed virtual runtime, without a drift
 abbrev pub is_born : Part → ℕ → ℤ → Policy → Option Claim → Part
 is_born part pid nice policy claim =
-    with_entity part pid (option_map (λ c. record { place = Wait; nice = nice; policy = policy; runtime = c.v }) claim)
+    with_entity part pid
+    (option_map (λ c. record { place = Wait; nice = nice; policy = policy; runtime = c.v; drift = pos 0 }) claim)
 
 -- a migration, at the processor that the task leaves
 abbrev pub leaves : Part → ℕ → Part
 leaves part pid = with_entity part pid None
 
--- a migration, at the processor to which the task comes: place and virtual runtime are the claim's
+-- a migration, at the processor to which the task comes: place and virtual runtime are the claim's, and its drift
+-- begins anew
 abbrev pub arrives : Part → ℕ → ℤ → Policy → Option Claim → Part
 arrives part pid nice policy claim =
     with_entity part pid
-    (option_map (λ c. record { place = place_of_sort c.sort; nice = nice; policy = policy; runtime = c.v }) claim)
+    (option_map
+    (λ c. record { place = place_of_sort c.sort; nice = nice; policy = policy; runtime = c.v; drift = pos 0 })
+    claim)
 
 -- the part after a deed
 abbrev pub after_deed : Part → Deed → Option Claim → Part

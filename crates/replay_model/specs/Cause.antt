@@ -9,13 +9,12 @@ use Rattle.cfs_model.specs.Idling.{IdlesFrom}
 use Rattle.replay_model.specs.Part.{Part, part_of}
 use Rattle.replay_model.specs.Found.{IsFound}
 use Rattle.replay_model.specs.Deeds.{left_ticket, came_ticket}
-use Rattle.replay_model.specs.QueueTests.{IsOutOfRange}
-use Rattle.replay_model.specs.Tests.{FirstHolds, PassesTests, late_tests}
+use Rattle.replay_model.specs.Tests.{NoneHolds, FirstHolds, PassesTests, charge_tests, late_tests}
 use Rattle.replay_model.specs.StepAt.{step_at}
 use Rattle.cfs_model.specs.declared.act.Act.{Act}
 use Rattle.cfs_model.specs.declared.act.Act.TheVariants.{Switch, Wake, Born, Shift}
 use Rattle.cfs_model.specs.declared.kind.Kind.{Kind}
-use Rattle.cfs_model.specs.declared.kind.Kind.TheVariants.{IdleTooLong, Range, TicketUnequal, BornTwice}
+use Rattle.cfs_model.specs.declared.kind.Kind.TheVariants.{IdleTooLong, TicketUnequal, BornTwice}
 use Rattle.cfs_model.specs.declared.task.Place.{Place}
 use Rattle.replay_model.specs.declared.step.Step.{Step}
 
@@ -33,12 +32,11 @@ pub record SlackFails (slack : ℕ) (times : List ℕ) (states : List Machine) (
   pub idles : IdlesFrom states cpu from (length states)
   pub late : slice_index times from + slack < time
 
--- the first test of a step that fails on a part: the charge and what it leads to, then those on the part as the deed
--- finds it
+-- the first test of a step that fails on a part: those of the charge, then those on the part as the deed finds it
 abbrev pub FailsOn : KnobsView → ℕ → Part → Step → Kind → ℕ → Type 0
 FailsOn knobs cpu part step kind pid =
-    (IsOutOfRange part step.time pid × (kind ≡ Range))
-    ⊎ (((other : ℕ) → ¬ IsOutOfRange part step.time other)
+    FirstHolds (charge_tests knobs part step) kind pid
+    ⊎ (NoneHolds (charge_tests knobs part step)
     × ((found : Part) × IsFound step part found × FirstHolds (late_tests knobs cpu found step) kind pid))
 
 -- the first of the event's tests that fails at a processor of the machine is this cause

@@ -1,5 +1,6 @@
 -- What a step of one processor needs of each setting, and what the page of all its steps does (this project's profile).
-use Rattle.std.specs.Prelude.{◌≡◌, ℕ, zero, suc, ◌-◌, Option, Some, None, ℤ, pos, ◌+ℤ◌, ◌≤ℤ◌, ◌⊎◌, List, [], ◌∷◌}
+use Rattle.std.specs.Prelude.{◌≡◌, ℕ, zero, suc, ◌-◌, Option, Some, None, ℤ, pos, nat_abs, ◌+ℤ◌, ◌≤ℤ◌, ◌⊎◌, List, []}
+use Rattle.std.specs.Prelude.{◌∷◌}
 use Rattle.cfs_model.specs.Knobs.{KnobsView, only}
 use Rattle.cfs_model.specs.Least.{larger}
 use Rattle.replay_model.specs.Part.{Part, Entity}
@@ -7,6 +8,7 @@ use Rattle.replay_model.specs.Deeds.{part_after_prev}
 use Rattle.replay_model.specs.Cut.{StreamView}
 use Rattle.replay_model.specs.Noted.{PageView}
 use Rattle.replay_model.specs.Page.{ReplayStateView, IsStartOf, PassesStep}
+use Rattle.cfs_model.specs.declared.charge_line.ChargeLine.{ChargeLine}
 use Rattle.cfs_model.specs.declared.claim.Claim.{Claim}
 use Rattle.cfs_model.specs.declared.setting.Setting.TheVariants.{Slack}
 use Rattle.cfs_model.specs.declared.task.Place.TheVariants.{Wait}
@@ -51,6 +53,12 @@ abbrev pub idle_need : Option ℕ → ℕ → ℕ
 idle_need None time = 0
 idle_need (Some since) time = time - since
 
+-- a told charge needs a drift of how far it leaves its task's from none, up or down
+abbrev pub IsDriftNeed : Part → Option ChargeLine → ℕ → Type 0
+IsDriftNeed part None need = need ≡ 0
+IsDriftNeed part (Some charge) need =
+    (s : Entity) × (part.tasks charge.pid ≡ Some s) × (need ≡ nat_abs s.drift)
+
 -- what a step needs, where the processor has idled beside a waiting task since a time, or hasn't, and the deed finds
 -- this part: of each setting what it is asked for
 pub record AreStepNeeds (since : Option ℕ) (found : Part) (step : Step) (needs : KnobsView) : Type 0 where
@@ -58,6 +66,7 @@ pub record AreStepNeeds (since : Option ℕ) (found : Part) (step : Step) (needs
   pub credit : IsWakeNeed found step.deed step.claim needs.credit
   pub debit : IsBirthNeed found step.deed step.claim needs.debit
   pub slack : needs.slack ≡ idle_need since step.time
+  pub drift : IsDriftNeed found step.charge needs.drift
 
 -- the replay goes on by a step that passes, and this is what the step needs
 pub record PassesNeeding (knobs : KnobsView) (cpu : ℕ) (before : ReplayStateView) (step : Step) (after :

@@ -1,9 +1,10 @@
 -- What a page tells of the steps of one processor, and what a step adds to it (this project's profile).
 use Rattle.std.specs.Prelude.{ℕ, zero, suc, ◌+◌, ◌-◌, ◌==◌, if◌then◌else◌, Option, Some, None, option_to_list, List, []}
-use Rattle.std.specs.Prelude.{◌∷◌, ◌++◌, map}
+use Rattle.std.specs.Prelude.{◌∷◌, ◌++◌, map, nat_abs, ◌-ℤ◌}
 use Rattle.std.specs.List.{list_any}
 use Rattle.replay_model.specs.Part.{Part, Entity, cost_in}
 use Rattle.replay_model.specs.Deeds.{left_ticket, came_ticket}
+use Rattle.cfs_model.specs.declared.charge_line.ChargeLine.{ChargeLine}
 use Rattle.cfs_model.specs.declared.act.Way.TheVariants.{Ends}
 use Rattle.cfs_model.specs.declared.task.Place.{Place}
 use Rattle.cfs_model.specs.declared.task.Place.TheVariants.{Run}
@@ -54,14 +55,22 @@ abbrev pub tallies_after_run : Place → ℕ → ℕ → Tally → Tally
 tallies_after_run Run time cost tally = record tally { ran = tally.ran + time; charged = tally.charged + cost }
 tallies_after_run _ time cost tally = tally
 
+-- what a task that runs is charged at a time, in virtual nanoseconds: up to what is told of it, or exactly
+abbrev pub told_cost : Option ChargeLine → Part → ℕ → ℕ → Entity → ℕ
+told_cost None part time pid s = cost_in part time s
+told_cost (Some charge) part time pid s =
+    if charge.pid == pid then nat_abs (charge.v -ℤ s.runtime) else cost_in part time s
+
 -- the tally of a task after the charge at a time
-abbrev pub charged_tally : Part → ℕ → Option Entity → Tally → Tally
-charged_tally part time (Some s) tally = tallies_after_run s.place (time - part.mark) (cost_in part time s) tally
-charged_tally part time None tally = tally
+abbrev pub charged_tally : Part → ℕ → Option ChargeLine → Option Entity → Tally → Tally
+charged_tally part time charge (Some s) tally =
+    tallies_after_run s.place (time - part.mark) (told_cost charge part time tally.pid s) tally
+charged_tally part time charge None tally = tally
 
 -- the tallies after the charge at a time
-abbrev pub charged_tallies : Part → ℕ → List Tally → List Tally
-charged_tallies part time tallies = map (λ tally. charged_tally part time (part.tasks tally.pid) tally) tallies
+abbrev pub charged_tallies : Part → ℕ → Option ChargeLine → List Tally → List Tally
+charged_tallies part time charge tallies =
+    map (λ tally. charged_tally part time charge (part.tasks tally.pid) tally) tallies
 
 -- the tallies after a switch to a pid; pid 0 has none
 abbrev pub picked : ℕ → List Tally → List Tally
@@ -94,5 +103,5 @@ noted page part found step = record {
   came = page.came ++ came_by found step step.deed;
   births = page.births ++ births_of step.line step.deed;
   deaths = page.deaths ++ deaths_of step.line step.deed;
-  tallies = tallied step.deed (charged_tallies part step.time page.tallies);
+  tallies = tallied step.deed (charged_tallies part step.time step.charge page.tallies);
 }

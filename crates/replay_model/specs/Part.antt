@@ -1,4 +1,5 @@
--- The part of a machine at one processor, and its charge and lift. Sources: sched-design-CFS.rst, "Few implementation
+-- The part of a machine at one processor, and its charge, exactly or as told, and lift. Sources: sched-design-CFS.rst,
+-- "Few implementation
 -- details" and "The rbtree" (a running task's virtual runtime grows by the time that it ran, scaled by its weight;
 -- min_vruntime is monotonic and follows the smallest virtual runtime of the runqueue). That only events charge, the
 -- weight of the idle policy and the rounding are this project's profile.
@@ -7,7 +8,9 @@ use Rattle.std.specs.Prelude.{◌≤ℤ◌, ◌⊎◌}
 use Rattle.std.specs.Int.{int_max}
 use Rattle.cfs_model.specs.Charge.{charge_of}
 use Rattle.cfs_model.specs.Nice.{task_weight}
-use Rattle.cfs_model.specs.Machine.{Machine}
+use Rattle.cfs_model.specs.Machine.{Machine, put}
+use Rattle.cfs_model.specs.Told.{drift_after}
+use Rattle.cfs_model.specs.declared.charge_line.ChargeLine.{ChargeLine}
 use Rattle.cfs_model.specs.declared.task.Place.{Place}
 use Rattle.cfs_model.specs.declared.task.Place.TheVariants.{Run, Wait, Rest}
 use Rattle.cfs_model.specs.declared.policy.Policy.{Policy}
@@ -19,6 +22,8 @@ pub record Entity : Type 0 where
   pub policy : Policy
   -- the virtual runtime, in virtual nanoseconds
   pub runtime : ℤ
+  -- by how much its told charges stray in sum from exact ones since it came here, in virtual nanoseconds
+  pub drift : ℤ
 
 pub record Part : Type 0 where
   -- each pid that stands here
@@ -35,17 +40,17 @@ place_by false true rests = Some Wait
 place_by false false true = Some Rest
 place_by false false false = None
 
--- a task of this policy with this place, nice value and virtual runtime, where it has all three
-abbrev pub entity_by : Policy → Option Place → Option ℤ → Option ℤ → Option Entity
-entity_by policy (Some place) (Some nice) (Some v) =
-    Some (record { place = place; nice = nice; policy = policy; runtime = v })
-entity_by policy _ _ _ = None
+-- a task of this policy and drift with this place, nice value and virtual runtime, where it has all three
+abbrev pub entity_by : Policy → ℤ → Option Place → Option ℤ → Option ℤ → Option Entity
+entity_by policy drift (Some place) (Some nice) (Some v) =
+    Some (record { place = place; nice = nice; policy = policy; runtime = v; drift = drift })
+entity_by policy drift _ _ _ = None
 
 -- what a machine has of a pid at a processor
 abbrev pub entity_at : Machine → ℕ → ℕ → Option Entity
 entity_at m cpu pid =
-    entity_by (m.policy pid) (place_by (m.running cpu pid) (m.waiting cpu pid) (m.resting cpu pid)) (m.nice pid)
-    (m.runtime pid)
+    entity_by (m.policy pid) (m.drift pid) (place_by (m.running cpu pid) (m.waiting cpu pid) (m.resting cpu pid))
+    (m.nice pid) (m.runtime pid)
 
 -- the part of a machine at a processor
 abbrev pub part_of : Machine → ℕ → Part
@@ -72,17 +77,27 @@ abbrev pub runtime_after : Place → ℕ → ℤ → ℤ
 runtime_after Run cost v = v +ℤ pos cost
 runtime_after _ cost v = v
 
--- a task after the charge at a time
+-- a task after the exact charge at a time
 abbrev pub charged_in : Part → ℕ → Entity → Entity
 charged_in part time s = record s { runtime = runtime_after s.place (cost_in part time s) s.runtime }
 
--- who runs is charged, and the mark is the time
+-- who runs is charged exactly, and the mark is the time
 abbrev pub charged_part : Part → ℕ → Part
 charged_part part time = record {
   tasks = λ pid. option_map (charged_in part time) (part.tasks pid);
   floor = part.floor;
   mark = time;
 }
+
+-- a task that is told to have a virtual runtime, from what it is when charged exactly
+abbrev pub told_in : ℤ → Entity → Entity
+told_in told s = record s { runtime = told; drift = drift_after s.drift told s.runtime }
+
+-- a part as it is charged, exactly or as told, from what it is when charged exactly
+abbrev pub told_part : Option ChargeLine → Part → Part
+told_part None part = part
+told_part (Some charge) part =
+    record part { tasks = put part.tasks charge.pid (option_map (told_in charge.v) (part.tasks charge.pid)) }
 
 -- s is somebody who runs or waits
 abbrev pub IsQueuedHere : Entity → Type 0
@@ -103,8 +118,8 @@ IsRaisedHere part floor =
     (((pid : ℕ) (s : Entity) → part.tasks pid ≡ Some s → ¬ IsQueuedHere s) × (floor ≡ part.floor))
     ⊎ ((v : ℤ) × IsLeastHere part v × (floor ≡ int_max part.floor v))
 
--- after is before with its runner charged, and then the floor raised
-pub record IsLiftedPart (time : ℕ) (before after : Part) : Type 0 where
+-- after is before with its runner charged, exactly or as told, and then the floor raised
+pub record IsLiftedPart (time : ℕ) (charge : Option ChargeLine) (before after : Part) : Type 0 where
   pub floor : ℤ
-  pub raised : IsRaisedHere (charged_part before time) floor
-  pub result : after ≡ record (charged_part before time) { floor = floor }
+  pub raised : IsRaisedHere (told_part charge (charged_part before time)) floor
+  pub result : after ≡ record (told_part charge (charged_part before time)) { floor = floor }

@@ -1,8 +1,11 @@
--- What can be wrong with a step at one processor: its time, who runs, and who stands where (this project's profile).
--- Each condition says of which pid it holds.
-use Rattle.std.specs.Prelude.{◌≡◌, ◌≢◌, ℕ, zero, suc, ◌+◌, ◌<◌, Option, Some, None, IsSome, ℤ, pos, ◌+ℤ◌, ◌<ℤ◌, ◌⊎◌}
+-- What can be wrong with a step at one processor: its time, its charge, who runs, and who stands where (this project's
+-- profile). Each condition says of which pid it holds.
+use Rattle.std.specs.Prelude.{◌≡◌, ◌≢◌, ℕ, zero, suc, ◌+◌, ◌<◌, Option, Some, None, IsSome, ℤ, pos, ◌+ℤ◌, ◌<ℤ◌}
+use Rattle.std.specs.Prelude.{◌≤ℤ◌, ◌⊎◌}
 use Rattle.cfs_model.specs.Charge.{greatest}
 use Rattle.replay_model.specs.Part.{Part, Entity, IsIn, NobodyIn, cost_in}
+use Rattle.cfs_model.specs.Told.{drift_after, IsWithin}
+use Rattle.cfs_model.specs.declared.charge_line.ChargeLine.{ChargeLine}
 use Rattle.cfs_model.specs.declared.nice_line.NiceLine.{NiceLine}
 use Rattle.cfs_model.specs.declared.task.Place.TheVariants.{Run}
 use Rattle.replay_model.specs.declared.step.Deed.{Deed}
@@ -19,6 +22,19 @@ pub record IsOutOfRange (part : Part) (time pid : ℕ) : Type 0 where
   pub stands : part.tasks pid ≡ Some task
   pub runs : task.place ≡ Run
   pub above : (greatest < cost_in part time task) ⊎ (pos greatest <ℤ (task.runtime +ℤ pos (cost_in part time task)))
+
+-- a told charge is of the task that runs here, doesn't lower its virtual runtime, and leaves its drift within the bound
+pub record IsToldHere (bound : ℕ) (part : Part) (time : ℕ) (charge : ChargeLine) : Type 0 where
+  pub task : Entity
+  pub stands : part.tasks charge.pid ≡ Some task
+  pub runs : task.place ≡ Run
+  pub rises : task.runtime ≤ℤ charge.v
+  pub within : IsWithin bound (drift_after task.drift charge.v (task.runtime +ℤ pos (cost_in part time task)))
+
+-- a told charge that isn't so: it is the charge's pid
+abbrev pub IsWrongCharge : ℕ → Part → ℕ → Option ChargeLine → ℕ → Type 0
+IsWrongCharge bound part time None pid = ⊥
+IsWrongCharge bound part time (Some charge) pid = (¬ IsToldHere bound part time charge) × (pid ≡ charge.pid)
 
 -- a change of the nice value of a pid that doesn't stand here
 abbrev pub IsStrangeNice : Part → Option NiceLine → ℕ → Type 0

@@ -11,6 +11,10 @@ use Rattle.cfs_model.specs.declared.task.Task.{Task}
 abbrev pub ClaimInRange : Claimed → Type 0
 ClaimInRange event = IfSome event.claim (λ claim. IsInRange claim.v)
 
+-- an event's told charge, if it has one, is in range
+abbrev pub ChargeInRange : Claimed → Type 0
+ChargeInRange event = IfSome event.charge (λ charge. IsInRange charge.v)
+
 -- the times of the events never fall, and none is before this time
 abbrev pub TimesRise : ℕ → List Claimed → Type 0
 TimesRise time [] = ⊤
@@ -27,5 +31,6 @@ pub record IsRecord (start : ℕ) (floors : List ℤ) (tasks : List Task) (event
   pub tasks_within : AllByRecursion (λ t. t.cpu < cpus) tasks
   pub events_within : AllByRecursion (λ event. AllByRecursion (λ cpu. cpu < cpus) (touched event.entry.act)) events
   pub claims_in_range : AllByRecursion ClaimInRange events
+  pub charges_in_range : AllByRecursion ChargeInRange events
   pub times_rise : TimesRise start events
   pub lines_rise : LinesRise 0 events

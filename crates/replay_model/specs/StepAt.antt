@@ -3,6 +3,7 @@ use Rattle.std.specs.Prelude.{ℕ, ◌==◌, if◌then◌else◌, Option, None}
 use Rattle.cfs_model.specs.Claimed.{Claimed}
 use Rattle.cfs_model.specs.declared.act.Act.{Act}
 use Rattle.cfs_model.specs.declared.act.Act.TheVariants as act
+use Rattle.cfs_model.specs.declared.charge_line.ChargeLine.{ChargeLine}
 use Rattle.cfs_model.specs.declared.claim.Claim.{Claim}
 use Rattle.cfs_model.specs.declared.nice_line.NiceLine.{NiceLine}
 use Rattle.cfs_model.specs.declared.policy.Policy.{Policy}
@@ -29,6 +30,11 @@ abbrev pub nice_for : Deed → Option NiceLine → Option NiceLine
 nice_for (Arrive pid nice orig policy) change = None
 nice_for _ change = change
 
+-- the told charge on the event's line, but for the destination of a migration, which has none
+abbrev pub charge_for : Deed → Option ChargeLine → Option ChargeLine
+charge_for (Arrive pid nice orig policy) charge = None
+charge_for _ charge = charge
+
 -- the event as a processor that it touches sees it
 abbrev pub step_at : ℕ → Claimed → Step
 step_at cpu event = record {
@@ -37,4 +43,5 @@ step_at cpu event = record {
   deed = deed_at cpu event.policy event.entry.act;
   claim = claim_for (deed_at cpu event.policy event.entry.act) event.claim;
   nice = nice_for (deed_at cpu event.policy event.entry.act) event.nice;
+  charge = charge_for (deed_at cpu event.policy event.entry.act) event.charge;
 }

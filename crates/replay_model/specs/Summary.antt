@@ -1,17 +1,19 @@
 -- What a run did, in numbers: its events by their sort, and of each task how long it ran, what it was charged and how
 -- often it was picked (this project's profile). Said of the machine's states, as a run is.
 use Rattle.std.specs.Prelude.{◌≡◌, ℕ, suc, ◌+◌, ◌-◌, ◌==◌, not, Bool, true, false, if◌then◌else◌, List, [], ◌∷◌, ◌++◌}
-use Rattle.std.specs.Prelude.{length, map, filter, sum, count_by}
+use Rattle.std.specs.Prelude.{length, map, filter, sum, count_by, Option, Some, None, nat_abs, ◌-ℤ◌}
 use Rattle.std.specs.Option.{option_map_or}
 use Rattle.cfs_model.specs.Knobs.{KnobsView}
 use Rattle.cfs_model.specs.Machine.{Machine}
 use Rattle.cfs_model.specs.Claimed.{Claimed}
 use Rattle.cfs_model.specs.Touch.{touched}
 use Rattle.cfs_model.specs.Lifted.{cost_at}
+use Rattle.cfs_model.specs.Reniced.{home_of}
 use Rattle.cfs_model.specs.Run.{IsRun}
 use Rattle.cfs_model.specs.declared.act.Act.{Act}
 use Rattle.cfs_model.specs.declared.act.Act.TheVariants.{Switch, Born, Shift}
 use Rattle.cfs_model.specs.declared.act.Way.TheVariants.{Ends}
+use Rattle.cfs_model.specs.declared.charge_line.ChargeLine.{ChargeLine}
 use Rattle.cfs_model.specs.declared.task.Task.{Task}
 use Rattle.replay_model.specs.declared.page.Tally.{Tally}
 
@@ -54,24 +56,40 @@ how_many does events = count_by (λ event. does event.entry.act) events
 abbrev pub ran_at : Machine → ℕ → ℕ → ℕ → ℕ
 ran_at m time pid cpu = if m.running cpu pid then time - m.mark cpu else 0
 
--- what it is charged then, in virtual nanoseconds
-abbrev pub charged_at : Machine → ℕ → ℕ → ℕ → ℕ
-charged_at m time pid cpu =
-    if m.running cpu pid then option_map_or (λ nice. cost_at m cpu time nice (m.policy pid)) (m.nice pid) 0 else 0
+-- what a task is charged exactly at a processor and time, in virtual nanoseconds
+abbrev pub exact_cost : Machine → ℕ → ℕ → ℕ → ℕ
+exact_cost m time pid cpu = option_map_or (λ nice. cost_at m cpu time nice (m.policy pid)) (m.nice pid) 0
+
+-- what it is charged up to the virtual runtime that is told of it, and else exactly
+abbrev pub cost_as_told : Machine → ℕ → Option ChargeLine → ℕ → ℕ → ℕ
+cost_as_told m time None pid cpu = exact_cost m time pid cpu
+cost_as_told m time (Some charge) pid cpu =
+    if charge.pid == pid
+    then option_map_or (λ v. nat_abs (charge.v -ℤ v)) (m.runtime pid) 0
+    else exact_cost m time pid cpu
+
+-- the charge that is told at a processor: that on the event's line, where the event happens
+abbrev pub told_at : Claimed → ℕ → Option ChargeLine
+told_at event cpu = if home_of event.entry.act == cpu then event.charge else None
+
+-- what a task that runs at a processor is charged by an event, in virtual nanoseconds
+abbrev pub charged_at : Machine → Claimed → ℕ → ℕ → ℕ
+charged_at m event pid cpu =
+    if m.running cpu pid then cost_as_told m event.entry.time (told_at event cpu) pid cpu else 0
 
 -- an amount that events add up to, from the machine before each and the processors that it touches
-abbrev pub added_up : (Machine → ℕ → ℕ → ℕ) → Machine → List Claimed → List Machine → ℕ
+abbrev pub added_up : (Machine → Claimed → ℕ → ℕ) → Machine → List Claimed → List Machine → ℕ
 added_up amount before [] states = 0
 added_up amount before (event ∷ events) [] = 0
 added_up amount before (event ∷ events) (after ∷ states) =
-    sum (map (amount before event.entry.time) (touched event.entry.act)) + added_up amount after events states
+    sum (map (amount before event) (touched event.entry.act)) + added_up amount after events states
 
 -- what a task did over the events and states of a run
 abbrev pub tally_of : Machine → List Claimed → List Machine → ℕ → Tally
 tally_of first events states pid = record {
   pid = pid;
-  ran = added_up (λ m time cpu. ran_at m time pid cpu) first events states;
-  charged = added_up (λ m time cpu. charged_at m time pid cpu) first events states;
+  ran = added_up (λ m event cpu. ran_at m event.entry.time pid cpu) first events states;
+  charged = added_up (λ m event cpu. charged_at m event pid cpu) first events states;
   picks = how_many (picks pid) events;
 }
 

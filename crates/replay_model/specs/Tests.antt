@@ -4,8 +4,9 @@ use Rattle.std.specs.Prelude.{◌≡◌, ℕ, Option, ◌⊎◌, ⊤, List, [], 
 use Rattle.cfs_model.specs.Knobs.{KnobsView}
 use Rattle.replay_model.specs.Part.{Part}
 use Rattle.replay_model.specs.Found.{IsFound}
-use Rattle.replay_model.specs.QueueTests.{IsIdleTooLong, IsOutOfRange, IsStrangeNice, IsMoveHome, IsSelfSwitch}
-use Rattle.replay_model.specs.QueueTests.{IsPrevNotRunning, IsStrange, IsAlready, IsMoveRunning, IsWrongPrio}
+use Rattle.replay_model.specs.QueueTests.{IsIdleTooLong, IsOutOfRange, IsWrongCharge, IsStrangeNice, IsMoveHome}
+use Rattle.replay_model.specs.QueueTests.{IsSelfSwitch, IsPrevNotRunning, IsStrange, IsAlready, IsMoveRunning}
+use Rattle.replay_model.specs.QueueTests.{IsWrongPrio}
 use Rattle.replay_model.specs.ClaimTests.{IsClaimMissing, IsClaimExtra, IsClaimPid, IsWrongPutBack, IsWakeOutside}
 use Rattle.replay_model.specs.ClaimTests.{IsForkOutside, IsNextNotWaiting, IsIdleBesideWaiting, IsNotLeast}
 use Rattle.cfs_model.specs.declared.kind.Kind.{Kind}
@@ -28,11 +29,16 @@ FirstHolds [] kind pid = ⊥
 FirstHolds (test ∷ tests) kind pid =
     (test.holds pid × (kind ≡ test.kind)) ⊎ (((other : ℕ) → ¬ test.holds other) × FirstHolds tests kind pid)
 
+-- the tests of the charge, before it is made: that of the exact one, and that of what is told in its place
+abbrev pub charge_tests : KnobsView → Part → Step → List Test
+charge_tests knobs part step =
+    record { kind = kind.Range; holds = IsOutOfRange part step.time } ∷
+    record { kind = kind.WrongCharge; holds = IsWrongCharge knobs.drift part step.time step.charge } ∷ []
+
 -- the tests before the charge and the lift, where the processor has idled beside a waiting task since a time, or hasn't
 abbrev pub early_tests : KnobsView → Option ℕ → Part → Step → List Test
 early_tests knobs since part step =
-    record { kind = kind.IdleTooLong; holds = IsIdleTooLong knobs.slack since step.time } ∷
-    record { kind = kind.Range; holds = IsOutOfRange part step.time } ∷ []
+    record { kind = kind.IdleTooLong; holds = IsIdleTooLong knobs.slack since step.time } ∷ charge_tests knobs part step
 
 -- the tests after them, at this processor's part as the deed finds it
 abbrev pub late_tests : KnobsView → ℕ → Part → Step → List Test
@@ -58,5 +64,6 @@ late_tests knobs cpu part step =
 -- no test on the part holds, and found is the part as the deed finds it
 pub record PassesTests (knobs : KnobsView) (cpu : ℕ) (part : Part) (step : Step) (found : Part) : Type 0 where
   pub in_range : (pid : ℕ) → ¬ IsOutOfRange part step.time pid
+  pub told : (pid : ℕ) → ¬ IsWrongCharge knobs.drift part step.time step.charge pid
   pub is_found : IsFound step part found
   pub none : NoneHolds (late_tests knobs cpu found step)

@@ -1,4 +1,4 @@
-use cfs_model::{Claim, Nice, NiceLine, Policy, Way};
+use cfs_model::{ChargeLine, Claim, Nice, NiceLine, Policy, Way};
 
 /// What an event does at one processor. A migration is two deeds, one at each of its ends. Pid 0 is the
 /// processor's idle task.
@@ -53,4 +53,6 @@ pub struct Step {
     /// The change of a task's nice value on the line, which this step makes before its deed. A task that comes has
     /// none: it is the origin's.
     pub nice: Option<NiceLine>,
+    /// The told charge on the line. A task that comes has none: it is the origin's.
+    pub charge: Option<ChargeLine>,
 }

@@ -1,8 +1,8 @@
 use crate::answers::wants;
 use cfs_model::{
-    Kind, Knobs, Memory, Nice, Policy, PrioFault, birth_example, charge, floors_rise, idle_example,
-    marks_move, migration_example, one_list, pick_example, places, prefixes, put_back_example,
-    wake_example, weight, weight_of,
+    Kind, Knobs, Memory, Nice, Policy, PrioFault, birth_example, charge, drifts, floors_rise,
+    idle_example, marks_move, migration_example, no_drift, one_list, pick_example, places,
+    prefixes, put_back_example, told_example, untold, wake_example, weight, weight_of,
 };
 use part_laws::{migrations, pages, part_steps};
 use replay_laws::{closing, composition, endings, faults_end_runs, first_faults, replays};
@@ -103,14 +103,15 @@ fn prios_of_fair_tasks_are_100_to_139(rt: HostRuntime) {
     wants(&rt, &misread_prio(), &None);
 }
 
-/// The four settings, where they are in range.
-fn settings(knobs: Option<Knobs>) -> Option<(u64, u64, u64, u64)> {
+/// The five settings, where they are in range.
+fn settings(knobs: Option<Knobs>) -> Option<(u64, u64, u64, u64, u64)> {
     let knobs = knobs?;
     Some((
         knobs.granularity(),
         knobs.credit(),
         knobs.debit(),
         knobs.slack(),
+        knobs.drift(),
     ))
 }
 
@@ -120,23 +121,24 @@ fn settings_end_at_a_thousand_seconds(rt: HostRuntime) {
     let above = most + 1;
     wants(
         &rt,
-        &settings(Knobs::new(most, most, most, most)),
-        &Some((most, most, most, most)),
+        &settings(Knobs::new(most, most, most, most, most)),
+        &Some((most, most, most, most, most)),
     );
     wants(
         &rt,
         &[
-            Knobs::new(above, 0, 0, 0),
-            Knobs::new(0, above, 0, 0),
-            Knobs::new(0, 0, above, 0),
-            Knobs::new(0, 0, 0, above),
+            Knobs::new(above, 0, 0, 0, 0),
+            Knobs::new(0, above, 0, 0, 0),
+            Knobs::new(0, 0, above, 0, 0),
+            Knobs::new(0, 0, 0, above, 0),
+            Knobs::new(0, 0, 0, 0, above),
         ],
-        &[None; 4],
+        &[None; 5],
     );
     wants(
         &rt,
         &settings(Some(Knobs::standard())),
-        &Some((1_000_000, 3_000_000, 3_000_000, 100_000)),
+        &Some((1_000_000, 3_000_000, 3_000_000, 100_000, 0)),
     );
 }
 
@@ -170,6 +172,9 @@ fn laws_and_examples() {
     places();
     floors_rise();
     marks_move();
+    untold();
+    no_drift();
+    drifts();
     pages();
     part_steps();
     migrations();
@@ -185,4 +190,5 @@ fn laws_and_examples() {
     wake_example();
     idle_example();
     birth_example();
+    told_example();
 }

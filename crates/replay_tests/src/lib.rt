@@ -19,6 +19,8 @@ mod records;
 #[cfg(test)]
 mod replays;
 #[cfg(test)]
+mod told_charges;
+#[cfg(test)]
 mod wide_companions;
 #[cfg(test)]
 mod wide_readings;

@@ -164,6 +164,7 @@ fn step(deed: Deed, claim: Option<Claim>) -> Option<Step> {
         deed,
         claim,
         nice: None,
+        charge: None,
     })
 }
 

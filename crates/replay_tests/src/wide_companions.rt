@@ -10,13 +10,13 @@ use std::test::Fail;
 use std::thread::Threads;
 
 // Five lines, up to the first task.
-const HEAD: &[u8] = b"cfs-companion 2\ncpus 1\nstart 100.000000\nfloor 0 0\ntask 101 0 0 run 0\n";
+const HEAD: &[u8] = b"cfs-companion 3\ncpus 1\nstart 100.000000\nfloor 0 0\ntask 101 0 0 run 0\n";
 
 const FIRST: &[u8] = b"at 1 101 0\n";
 
-/// A companion's claims and changes of nice values as several threads read it: how many there are, and whether one
-/// thread reads the same.
-type Reading = (usize, usize, bool);
+/// A companion's claims, changes of nice values and charges as several threads read it: how many there are, and whether
+/// one thread reads the same.
+type Reading = (usize, usize, usize, bool);
 
 /// How a companion compares with its reading in one thread.
 fn compared(alloc: Global, text: &[u8], wide: &Companion) -> Result<Reading, Fail> {
@@ -24,7 +24,10 @@ fn compared(alloc: Global, text: &[u8], wide: &Companion) -> Result<Reading, Fai
     Ok((
         wide.claims().len(),
         wide.nices().len(),
-        wide.claims() == narrow.claims() && wide.nices() == narrow.nices(),
+        wide.charges().len(),
+        wide.claims() == narrow.claims()
+            && wide.nices() == narrow.nices()
+            && wide.charges() == narrow.charges(),
     ))
 }
 
@@ -35,17 +38,17 @@ fn reading_of<R: Threads + Sync>(rt: &R, alloc: Global, lines: Lines<'_>) -> Res
 }
 
 #[test]
-fn claims_and_changes_of_all_pieces_are_kept(rt: HostRuntime) -> Result<(), Fail> {
-    // Three pieces, with a claim each, and a change of a nice value in the second.
+fn claims_changes_and_charges_of_all_pieces_are_kept(rt: HostRuntime) -> Result<(), Fail> {
+    // Three pieces, with a claim each, a change of a nice value in the second, and a charge in the last two.
     let lines: [(&[u8], u32); 6] = [
         (HEAD, 1),
         (FIRST, 1),
         (COMMENT, 1100),
-        (b"nice 2 101 5\nat 2 101 400\n", 1),
+        (b"charge 2 101 400\nnice 2 101 5\nat 2 101 400\n", 1),
         (COMMENT, 1100),
-        (b"pass 3 101 7\n", 1),
+        (b"charge 3 102 7\npass 3 101 7\n", 1),
     ];
-    wants(&rt, &reading_of(&rt, rt.alloc(), &lines)?, &(3, 1, true));
+    wants(&rt, &reading_of(&rt, rt.alloc(), &lines)?, &(3, 1, 2, true));
     Ok(())
 }
 
@@ -64,9 +67,10 @@ fn refused(line: u64, cause: CompanionCause) -> Option<CompanionFault> {
 }
 
 /// Lines that are bad in the second piece, behind a claim at line 1.
-static REFUSED: [(&[u8], CompanionCause); 4] = [
+static REFUSED: [(&[u8], CompanionCause); 5] = [
     (FIRST, CompanionCause::LineOrder),
     (b"nice 1 101 5\n", CompanionCause::LineOrder),
+    (b"charge 1 101 0\n", CompanionCause::LineOrder),
     (b"task 102 0 0 wait 0\n", CompanionCause::Order),
     (b"a\nat 1 101 0\n", CompanionCause::BadLine),
 ];

@@ -3,11 +3,11 @@ use Rattle.std.proofs.Common.{◌≡◌, ℕ, ◌≤◌, ℤ, pos, ◌+ℤ◌, �
 use Rattle.std.proofs.lemmas.Int.{ints}
 use Rattle.cfs_model.specs.Charge.{greatest, charge_of}
 use Rattle.cfs_model.specs.Nice.{task_weight}
-use Rattle.cfs_model.specs.declared.task.Task.{Task}
+use Rattle.runqueue.specs.declared.sched_entity.SchedEntity.{SchedEntity}
 use Rattle.runqueue.specs.Tasks.{cost_of, charged_task, CanBeCharged}
 
 -- a task that is charged above the greatest can't be
-pub too_far : (delta : ℕ) (t : Task) (weight : ℕ) (cost : ℤ) → weight ≡ task_weight t.nice t.policy
+pub too_far : (delta : ℕ) (t : SchedEntity) (weight : ℕ) (cost : ℤ) → weight ≡ task_weight t.nice t.policy
     → cost ≡ pos (charge_of delta weight)
     → (pos greatest -ℤ cost) <ℤ t.v → CanBeCharged delta t → ⊥
 too_far delta t weight cost weighs costs far can =
@@ -16,7 +16,7 @@ too_far delta t weight cost weighs costs far can =
     absurd (omega (arith, ints))
 
 -- one that isn't can be, and is
-pub near_enough : (delta : ℕ) (t : Task) (weight : ℕ) (cost v : ℤ) → weight ≡ task_weight t.nice t.policy
+pub near_enough : (delta : ℕ) (t : SchedEntity) (weight : ℕ) (cost v : ℤ) → weight ≡ task_weight t.nice t.policy
     → charge_of delta weight ≤ greatest
     → cost ≡ pos (charge_of delta weight) → t.v ≤ℤ (pos greatest -ℤ cost) → v ≡ t.v +ℤ cost
     → CanBeCharged delta t × (record t { v = v } ≡ charged_task delta t)

@@ -11,7 +11,7 @@ use Rattle.replay_model.specs.Deeds.{with_entity}
 use Rattle.cfs_model.specs.Machine.{put}
 use Rattle.cfs_model.specs.declared.task.Place.{Place}
 use Rattle.cfs_model.specs.declared.task.Place.TheVariants.{Run, Wait, Rest}
-use Rattle.cfs_model.specs.declared.task.Task.{Task}
+use Rattle.runqueue.specs.declared.sched_entity.SchedEntity.{SchedEntity}
 use Rattle.runqueue.specs.Entities.{by_runtime, listed, entities, runtime_if, waiting_runtime, IsQueue, waiting_task}
 use Rattle.runqueue.specs.declared.waiting_task.WaitingTask.{WaitingTask}
 use Rattle.runqueue.specs.Tasks.{entity_of}
@@ -33,10 +33,11 @@ rest_run : Rest ≢ Run
 rest_run e = cc
 
 -- one more stands here
-module _ (runner : Option Task) (m n : BTreeMap ℕ Task) (a : BTreeSet WaitingTask) (kept : IsQueue runner m a)
-    (t : Task)
+module _ (runner : Option SchedEntity) (m n : BTreeMap ℕ SchedEntity) (a : BTreeSet WaitingTask) (kept : IsQueue
+    runner m a)
+    (t : SchedEntity)
     (none : entities runner m t.pid ≡ None) (u : Updates nat_cmp m n t.pid (Some t)) where
-  apart_new : (x : Task) → runner ≡ Some x → x.pid ≢ t.pid
+  apart_new : (x : SchedEntity) → runner ≡ Some x → x.pid ≢ t.pid
   apart_new = runner_apart runner m a kept t.pid (λ e. let f : None ≡ Some Run = sym (ap its_place none) ∙ e in cc)
 
   pub come_waits : (b : BTreeSet WaitingTask) → set.Updates by_runtime a b (waiting_task t.v t.pid) true
@@ -69,7 +70,8 @@ module _ (runner : Option Task) (m n : BTreeMap ℕ Task) (a : BTreeSet WaitingT
       (rewritten runner m n t.pid (Some t) u apart_new)
 
   -- taken out again, the map is as it was
-  pub come_undone : (o : BTreeMap ℕ Task) → Updates nat_cmp n o t.pid None → (q : ℕ) → get nat_cmp o q ≡ get nat_cmp m q
+  pub come_undone : (o : BTreeMap ℕ SchedEntity) → Updates nat_cmp n o t.pid None → (q : ℕ) → get nat_cmp o q
+      ≡ get nat_cmp m q
   come_undone o v q =
       elim (cases_eq q t.pid) [
         | inl same ↦ ap (get nat_cmp o) same ∙ map_at n o t.pid None v
@@ -78,12 +80,12 @@ module _ (runner : Option Task) (m n : BTreeMap ℕ Task) (a : BTreeSet WaitingT
         | inr other ↦ map_other n o t.pid None v q other ∙ map_other m n t.pid (Some t) u q other
       ]
     where
-      go : (x : Option Task) → option_map entity_of x ≡ None → x ≡ None
+      go : (x : Option SchedEntity) → option_map entity_of x ≡ None → x ≡ None
       go None e = refl
       go (Some y) e = cc
 
 -- one more runs here
-module _ (m n : BTreeMap ℕ Task) (a : BTreeSet WaitingTask) (kept : IsQueue None m a) (t : Task)
+module _ (m n : BTreeMap ℕ SchedEntity) (a : BTreeSet WaitingTask) (kept : IsQueue None m a) (t : SchedEntity)
     (none : listed m t.pid ≡ None)
     (u : Updates nat_cmp m n t.pid (Some t)) where
   run_is : (q : ℕ) → entities (Some t) n q ≡ put (listed m) t.pid (Some (entity_of t)) q
@@ -108,20 +110,22 @@ module _ (m n : BTreeMap ℕ Task) (a : BTreeSet WaitingTask) (kept : IsQueue No
   run_part floor mark = same_tasks (entities (Some t) n) (put (listed m) t.pid (Some (entity_of t))) floor mark run_is
 
 -- the same, where it is told by an equation that nobody ran
-pub come_runs_alone : (runner : Option Task) (m n : BTreeMap ℕ Task) (a : BTreeSet WaitingTask) → IsQueue runner m a
-    → runner ≡ None → (t : Task)
+pub come_runs_alone : (runner : Option SchedEntity) (m n : BTreeMap ℕ SchedEntity) (a : BTreeSet WaitingTask)
+    → IsQueue runner m a
+    → runner ≡ None → (t : SchedEntity)
     → entities runner m t.pid ≡ None → Updates nat_cmp m n t.pid (Some t) → t.place ≡ Run → IsQueue (Some t) n a
 come_runs_alone runner m n a kept e t none u runs =
     come_runs m n a (kept_runner runner m a None kept e) t
-    (subst (λ (r : Option Task). entities r m t.pid ≡ None) e none) u runs
+    (subst (λ (r : Option SchedEntity). entities r m t.pid ≡ None) e none) u runs
 
-pub run_part_alone : (runner : Option Task) (m n : BTreeMap ℕ Task) (a : BTreeSet WaitingTask) → IsQueue runner m a
-    → runner ≡ None → (t : Task)
+pub run_part_alone : (runner : Option SchedEntity) (m n : BTreeMap ℕ SchedEntity) (a : BTreeSet WaitingTask)
+    → IsQueue runner m a
+    → runner ≡ None → (t : SchedEntity)
     → entities runner m t.pid ≡ None → Updates nat_cmp m n t.pid (Some t) → (floor : ℤ) (mark : ℕ)
     → part_with (entities (Some t) n) floor mark ≡ with_entity (part_with (entities runner m) floor mark) t.pid
     (Some (entity_of t))
 run_part_alone runner m n a kept e t none u floor mark =
-    subst (λ (r : Option Task). part_with (entities (Some t) n) floor mark ≡ with_entity
+    subst (λ (r : Option SchedEntity). part_with (entities (Some t) n) floor mark ≡ with_entity
     (part_with (entities r m) floor mark) t.pid (Some (entity_of t))) (sym e)
     (run_part m n a (kept_runner runner m a None kept e) t
-    (subst (λ (r : Option Task). entities r m t.pid ≡ None) e none) u floor mark)
+    (subst (λ (r : Option SchedEntity). entities r m t.pid ≡ None) e none) u floor mark)

@@ -16,7 +16,7 @@ use Rattle.cfs_model.specs.Machine.{put}
 use Rattle.replay_model.specs.Part.{Entity, NobodyIn}
 use Rattle.cfs_model.specs.declared.task.Place.{Place}
 use Rattle.cfs_model.specs.declared.task.Place.TheVariants.{Run, Wait, Rest}
-use Rattle.cfs_model.specs.declared.task.Task.{Task}
+use Rattle.runqueue.specs.declared.sched_entity.SchedEntity.{SchedEntity}
 use Rattle.runqueue.specs.Queue.{IsTheRunner}
 use Rattle.runqueue.specs.Entities.{by_runtime, listed, entities, runtime_if, waiting_runtime, IsWaitingSet}
 use Rattle.runqueue.specs.Entities.{IsOnlyRunner, IsRunnerListed, IsQueue, waiting_task}
@@ -60,23 +60,25 @@ lower_runtime v w pid other e = go (int_cmp v w) (int_ranked v w (int_cmp v w) r
     go Greater h e = absurd cc
 
 -- the parts of what the type keeps
-pub queue_is : (runner : Option Task) (m : BTreeMap ℕ Task) (s : BTreeSet WaitingTask)
+pub queue_is : (runner : Option SchedEntity) (m : BTreeMap ℕ SchedEntity) (s : BTreeSet WaitingTask)
     → IsWaitingSet (entities runner m) s
     → IsOnlyRunner (entities runner m) runner → IsRunnerListed runner m → IsQueue runner m s
 unfolding IsQueue
 queue_is runner m s waiting only has = (waiting, only, has)
 
-pub waiting_in : (runner : Option Task) (m : BTreeMap ℕ Task) (s : BTreeSet WaitingTask) → IsQueue runner m s
+pub waiting_in : (runner : Option SchedEntity) (m : BTreeMap ℕ SchedEntity) (s : BTreeSet WaitingTask)
+    → IsQueue runner m s
     → IsWaitingSet (entities runner m) s
 unfolding IsQueue
 waiting_in runner m s kept = kept.0
 
-pub only_in : (runner : Option Task) (m : BTreeMap ℕ Task) (s : BTreeSet WaitingTask) → IsQueue runner m s
+pub only_in : (runner : Option SchedEntity) (m : BTreeMap ℕ SchedEntity) (s : BTreeSet WaitingTask) → IsQueue runner m s
     → IsOnlyRunner (entities runner m) runner
 unfolding IsQueue
 only_in runner m s kept = kept.1
 
-pub listed_in : (runner : Option Task) (m : BTreeMap ℕ Task) (s : BTreeSet WaitingTask) → IsQueue runner m s
+pub listed_in : (runner : Option SchedEntity) (m : BTreeMap ℕ SchedEntity) (s : BTreeSet WaitingTask)
+    → IsQueue runner m s
     → IsRunnerListed runner m
 unfolding IsQueue
 listed_in runner m s kept = kept.2
@@ -86,24 +88,25 @@ pub waits_where : (f : ℕ → Option Entity) (s : BTreeSet WaitingTask) → IsW
 unfolding IsWaitingSet
 waits_where f s h = h
 
-pub is_listed : (runner : Option Task) (m : BTreeMap ℕ Task) → IsRunnerListed runner m → (t : Task) → runner ≡ Some t
+pub is_listed : (runner : Option SchedEntity) (m : BTreeMap ℕ SchedEntity) → IsRunnerListed runner m → (t : SchedEntity)
+    → runner ≡ Some t
     → (t.place ≡ Run) × IsSome (get nat_cmp m t.pid)
 unfolding IsRunnerListed
 is_listed runner m h = h
 
-pub listed_none : (m : BTreeMap ℕ Task) → IsRunnerListed None m
+pub listed_none : (m : BTreeMap ℕ SchedEntity) → IsRunnerListed None m
 unfolding IsRunnerListed
 listed_none m t e = absurd cc
 
-pub listed_some : (m : BTreeMap ℕ Task) (t : Task) → t.place ≡ Run → IsSome (get nat_cmp m t.pid)
+pub listed_some : (m : BTreeMap ℕ SchedEntity) (t : SchedEntity) → t.place ≡ Run → IsSome (get nat_cmp m t.pid)
     → IsRunnerListed (Some t) m
 unfolding IsRunnerListed
 listed_some m t runs has u e =
     let same : t ≡ u = same_Some t u e in
-    let P : Task → Type 0 = λ x. (x.place ≡ Run) × IsSome (get nat_cmp m x.pid) in
+    let P : SchedEntity → Type 0 = λ x. (x.place ≡ Run) × IsSome (get nat_cmp m x.pid) in
     subst P same (runs, has)
 
-pub runs_alone : (f : ℕ → Option Entity) (runner : Option Task) → IsOnlyRunner f runner → (pid : ℕ)
+pub runs_alone : (f : ℕ → Option Entity) (runner : Option SchedEntity) → IsOnlyRunner f runner → (pid : ℕ)
     → its_place (f pid) ≡ Some Run
     → option_map (λ t. t.pid) runner ≡ Some pid
 unfolding IsOnlyRunner
@@ -123,7 +126,8 @@ waiting_none f s nobody none v q = (
 )
 
 -- who runs here
-pub the_runner : (runner : Option Task) (m : BTreeMap ℕ Task) (s : BTreeSet WaitingTask) (floor : ℤ) (mark : ℕ)
+pub the_runner : (runner : Option SchedEntity) (m : BTreeMap ℕ SchedEntity) (s : BTreeSet WaitingTask) (floor : ℤ)
+    (mark : ℕ)
     → IsQueue runner m s
     → IsTheRunner (record { tasks = entities runner m; floor = floor; mark = mark }) runner
 the_runner None m s floor mark kept =
@@ -135,14 +139,16 @@ the_runner (Some t) m s floor mark kept = (
 )
 
 -- nobody runs where the runqueue has no runner
-pub no_runner : (runner : Option Task) (m : BTreeMap ℕ Task) (s : BTreeSet WaitingTask) (floor : ℤ) (mark : ℕ)
+pub no_runner : (runner : Option SchedEntity) (m : BTreeMap ℕ SchedEntity) (s : BTreeSet WaitingTask) (floor : ℤ)
+    (mark : ℕ)
     → IsQueue runner m s
     → NobodyIn (record { tasks = entities runner m; floor = floor; mark = mark }) Run → runner ≡ None
 no_runner None m s floor mark kept nobody = refl
 no_runner (Some t) m s floor mark kept nobody =
     let ran = the_runner (Some t) m s floor mark kept in absurd (nobody t.pid (ap its_place ran.0 ∙ ap Some ran.1))
 
-pub nobody_runs : (runner : Option Task) (m : BTreeMap ℕ Task) (s : BTreeSet WaitingTask) (floor : ℤ) (mark : ℕ)
+pub nobody_runs : (runner : Option SchedEntity) (m : BTreeMap ℕ SchedEntity) (s : BTreeSet WaitingTask) (floor : ℤ)
+    (mark : ℕ)
     → IsQueue runner m s
     → runner ≡ None → NobodyIn (record { tasks = entities runner m; floor = floor; mark = mark }) Run
 nobody_runs runner m s floor mark kept none =
@@ -150,9 +156,10 @@ nobody_runs runner m s floor mark kept none =
     (the_runner runner m s floor mark kept)
 
 -- a pid that doesn't run isn't the runner's
-pub runner_apart : (runner : Option Task) (m : BTreeMap ℕ Task) (s : BTreeSet WaitingTask) → IsQueue runner m s
+pub runner_apart : (runner : Option SchedEntity) (m : BTreeMap ℕ SchedEntity) (s : BTreeSet WaitingTask)
+    → IsQueue runner m s
     → (pid : ℕ)
-    → (its_place (entities runner m pid) ≡ Some Run → ⊥) → (t : Task) → runner ≡ Some t → t.pid ≢ pid
+    → (its_place (entities runner m pid) ≡ Some Run → ⊥) → (t : SchedEntity) → runner ≡ Some t → t.pid ≢ pid
 runner_apart None m s kept pid ne t e same = cc
 runner_apart (Some u) m s kept pid ne t e same =
     let r = the_runner (Some u) m s (pos 0) 0 kept in
@@ -160,21 +167,23 @@ runner_apart (Some u) m s kept pid ne t e same =
     ne (ap its_place (ap (entities (Some u) m) (sym up) ∙ r.0) ∙ ap Some r.1)
 
 -- another pid than the runner's stands as the map has it
-pub entities_listed : (runner : Option Task) (m : BTreeMap ℕ Task) (pid : ℕ)
-    → ((t : Task) → runner ≡ Some t → t.pid ≢ pid)
+pub entities_listed : (runner : Option SchedEntity) (m : BTreeMap ℕ SchedEntity) (pid : ℕ)
+    → ((t : SchedEntity) → runner ≡ Some t → t.pid ≢ pid)
     → entities runner m pid ≡ listed m pid
 entities_listed None m pid apart = refl
 entities_listed (Some t) m pid apart = put-other (listed m) t.pid (Some (entity_of t)) pid (λ e. apart t refl (sym e))
 
 -- the map at the key of an update, and at another
-pub map_at : (m n : BTreeMap ℕ Task) (k : ℕ) (w : Option Task) → Updates nat_cmp m n k w → get nat_cmp n k ≡ w
+pub map_at : (m n : BTreeMap ℕ SchedEntity) (k : ℕ) (w : Option SchedEntity) → Updates nat_cmp m n k w
+    → get nat_cmp n k ≡ w
 map_at m n k w u = u.1
 
-pub map_other : (m n : BTreeMap ℕ Task) (k : ℕ) (w : Option Task) → Updates nat_cmp m n k w → (q : ℕ) → q ≢ k
+pub map_other : (m n : BTreeMap ℕ SchedEntity) (k : ℕ) (w : Option SchedEntity) → Updates nat_cmp m n k w → (q : ℕ)
+    → q ≢ k
     → get nat_cmp n q ≡ get nat_cmp m q
 map_other m n k w u q ne = u.2 q (other_key k q ne)
 
-listed_put : (m n : BTreeMap ℕ Task) (k : ℕ) (w : Option Task) → Updates nat_cmp m n k w → (q : ℕ)
+listed_put : (m n : BTreeMap ℕ SchedEntity) (k : ℕ) (w : Option SchedEntity) → Updates nat_cmp m n k w → (q : ℕ)
     → listed n q ≡ put (listed m) k (option_map entity_of w) q
 listed_put m n k w u q =
     elim (cases_eq q k) [
@@ -185,8 +194,9 @@ listed_put m n k w u q =
     ]
 
 -- the entry of one who doesn't run is written or taken out
-pub rewritten : (runner : Option Task) (m n : BTreeMap ℕ Task) (k : ℕ) (w : Option Task) → Updates nat_cmp m n k w
-    → ((t : Task) → runner ≡ Some t → t.pid ≢ k) → (q : ℕ)
+pub rewritten : (runner : Option SchedEntity) (m n : BTreeMap ℕ SchedEntity) (k : ℕ) (w : Option SchedEntity)
+    → Updates nat_cmp m n k w
+    → ((t : SchedEntity) → runner ≡ Some t → t.pid ≢ k) → (q : ℕ)
     → entities runner n q ≡ put (entities runner m) k (option_map entity_of w) q
 rewritten None m n k w u apart q = listed_put m n k w u q
 rewritten (Some t) m n k w u apart q =
@@ -200,7 +210,8 @@ rewritten (Some t) m n k w u apart q =
     ]
 
 -- the runner's entry is written or taken out, and nobody runs
-pub put_away : (t : Task) (m n : BTreeMap ℕ Task) (w : Option Task) → Updates nat_cmp m n t.pid w → (q : ℕ)
+pub put_away : (t : SchedEntity) (m n : BTreeMap ℕ SchedEntity) (w : Option SchedEntity)
+    → Updates nat_cmp m n t.pid w → (q : ℕ)
     → entities None n q ≡ put (entities (Some t) m) t.pid (option_map entity_of w) q
 put_away t m n w u q =
     listed_put m n t.pid w u q ∙ again (cases_eq q t.pid)
@@ -215,11 +226,15 @@ put_away t m n w u q =
         (sym (put-other (listed m) t.pid (Some (entity_of t)) q other))
 
 -- the map has the runner's entry, whatever other is written or taken out
-pub listed_kept : (runner : Option Task) (m n : BTreeMap ℕ Task) (k : ℕ) (w : Option Task) → Updates nat_cmp m n k w
-    → ((t : Task) → runner ≡ Some t → t.pid ≢ k) → IsRunnerListed runner m → IsRunnerListed runner n
+pub listed_kept : (runner : Option SchedEntity) (m n : BTreeMap ℕ SchedEntity) (k : ℕ) (w : Option SchedEntity)
+    → Updates nat_cmp m n k w
+    → ((t : SchedEntity) → runner ≡ Some t → t.pid ≢ k) → IsRunnerListed runner m → IsRunnerListed runner n
 unfolding IsRunnerListed
-listed_kept runner m n k w u apart has t e =
-    ((has t e).0, subst (λ (o : Option Task). IsSome o) (sym (map_other m n k w u t.pid (apart t e))) (has t e).1)
+listed_kept runner m n k w u apart has t e = (
+  (has t e).0,
+  subst (λ (o : Option SchedEntity). IsSome o) (sym (map_other m n k w u t.pid (apart t e))) (has t
+      e).1,
+)
 
 -- the virtual runtime of one who waits is its own
 pub runtime_own : (p : Place) (v w : ℤ) → runtime_if p v ≡ Some w → w ≡ v
@@ -313,7 +328,8 @@ module _ (f g : ℕ → Option Entity) (pid : ℕ) (s : Option Entity) (is : (q 
       ]
 
   -- it doesn't run
-  pub only_kept : (runner : Option Task) → IsOnlyRunner f runner → (its_place s ≡ Some Run → ⊥) → IsOnlyRunner g runner
+  pub only_kept : (runner : Option SchedEntity) → IsOnlyRunner f runner → (its_place s ≡ Some Run → ⊥)
+      → IsOnlyRunner g runner
   unfolding IsOnlyRunner
   only_kept runner only ne q i =
       elim (cases_eq q pid) [
@@ -322,7 +338,7 @@ module _ (f g : ℕ → Option Entity) (pid : ℕ) (s : Option Entity) (is : (q 
       ]
 
   -- it ran, and doesn't
-  pub only_left : (t : Task) → t.pid ≡ pid → IsOnlyRunner f (Some t) → (its_place s ≡ Some Run → ⊥)
+  pub only_left : (t : SchedEntity) → t.pid ≡ pid → IsOnlyRunner f (Some t) → (its_place s ≡ Some Run → ⊥)
       → IsOnlyRunner g None
   unfolding IsOnlyRunner
   only_left t e only ne q i =
@@ -332,7 +348,7 @@ module _ (f g : ℕ → Option Entity) (pid : ℕ) (s : Option Entity) (is : (q 
       ]
 
   -- it runs, and nobody did
-  pub only_comes : (t : Task) → t.pid ≡ pid → IsOnlyRunner f None → IsOnlyRunner g (Some t)
+  pub only_comes : (t : SchedEntity) → t.pid ≡ pid → IsOnlyRunner f None → IsOnlyRunner g (Some t)
   unfolding IsOnlyRunner
   only_comes t e only q i =
       elim (cases_eq q pid) [
@@ -341,7 +357,8 @@ module _ (f g : ℕ → Option Entity) (pid : ℕ) (s : Option Entity) (is : (q 
       ]
 
   -- it runs, as it did
-  pub only_runs : (t new : Task) → new.pid ≡ t.pid → t.pid ≡ pid → IsOnlyRunner f (Some t) → IsOnlyRunner g (Some new)
+  pub only_runs : (t new : SchedEntity) → new.pid ≡ t.pid → t.pid ≡ pid → IsOnlyRunner f (Some t)
+      → IsOnlyRunner g (Some new)
   unfolding IsOnlyRunner
   only_runs t new same e only q i =
       elim (cases_eq q pid) [
@@ -350,14 +367,15 @@ module _ (f g : ℕ → Option Entity) (pid : ℕ) (s : Option Entity) (is : (q 
       ]
 
 -- maps and sets that hold the same
-pub entities_same : (runner : Option Task) (m n : BTreeMap ℕ Task) → ((q : ℕ) → get nat_cmp n q ≡ get nat_cmp m q)
+pub entities_same : (runner : Option SchedEntity) (m n : BTreeMap ℕ SchedEntity) → ((q : ℕ) → get nat_cmp n q
+    ≡ get nat_cmp m q)
     → (q : ℕ)
     → entities runner n q ≡ entities runner m q
 entities_same None m n same q = ap (option_map entity_of) (same q)
 entities_same (Some t) m n same q = put-under (listed n) (listed m) t.pid (Some (entity_of t)) q
     (ap (option_map entity_of) (same q))
 
-pub same_queue : (runner : Option Task) (m n : BTreeMap ℕ Task) (a b : BTreeSet WaitingTask)
+pub same_queue : (runner : Option SchedEntity) (m n : BTreeMap ℕ SchedEntity) (a b : BTreeSet WaitingTask)
     → ((q : ℕ) → get nat_cmp n q ≡ get nat_cmp m q)
     → ((v : ℤ) (q : ℕ) → contains by_runtime b (waiting_task v q) ≡ contains by_runtime a (waiting_task v q))
     → IsQueue runner m a → IsQueue runner n b
@@ -369,5 +387,5 @@ same_queue runner m n a b same also kept =
         (λ x. also v q ∙ (kept.0 v q).1 (sym (ap waiting_runtime (s q)) ∙ x)),
       )),
       (λ q i. kept.1 q (sym (ap its_place (s q)) ∙ i)),
-      (λ t e. ((kept.2 t e).0, subst (λ (o : Option Task). IsSome o) (sym (same t.pid)) (kept.2 t e).1)),
+      (λ t e. ((kept.2 t e).0, subst (λ (o : Option SchedEntity). IsSome o) (sym (same t.pid)) (kept.2 t e).1)),
     )

@@ -6,7 +6,7 @@ use Rattle.std.proofs.lemmas.Option.{same_Some}
 use Rattle.cfs_model.specs.declared.act.Way.{Way}
 use Rattle.cfs_model.specs.declared.act.Way.TheVariants.{Stays, Sleeps, Ends}
 use Rattle.cfs_model.specs.declared.task.Place.TheVariants.{Run, Wait, Rest}
-use Rattle.cfs_model.specs.declared.task.Task.{Task}
+use Rattle.runqueue.specs.declared.sched_entity.SchedEntity.{SchedEntity}
 use Rattle.cfs_model.proofs.Moves.{put-same, put-other}
 use Rattle.replay_model.specs.Deeds.{part_after_prev, with_entity}
 use Rattle.replay_model.specs.Part.{NobodyIn, Part, Entity}
@@ -35,7 +35,7 @@ least_waits part (Some v) nobody h = record {
 }
 
 -- the runner goes to another place, or is gone
-module _ (part : Part) (t : Task) (ran : IsTheRunner part (Some t)) (pid : ℕ) (own : pid ≡ t.pid)
+module _ (part : Part) (t : SchedEntity) (ran : IsTheRunner part (Some t)) (pid : ℕ) (own : pid ≡ t.pid)
     (s : Option Entity) where
   abbrev moved : Part
   moved = with_entity part pid s
@@ -114,7 +114,8 @@ module _ (part : Part) (t : Task) (ran : IsTheRunner part (Some t)) (pid : ℕ) 
           let f : Run ≡ Wait = sym ran.1 ∙ ap (λ (x : Entity). x.place) e ∙ w.waits in
           absurd cc
 
-pub stays_least : (part : Part) (runner : Option Task) → IsTheRunner part runner → (o : Option ℤ) → IsLeastQueued part o
+pub stays_least : (part : Part) (runner : Option SchedEntity) → IsTheRunner part runner → (o : Option ℤ)
+    → IsLeastQueued part o
     → (prev : ℕ) → ((IsRunner part prev → ⊥) → ⊥) → IsLeastIfWaiting (part_after_prev part prev Stays) o
 stays_least part None nobody o h prev r =
     subst (λ (p : Part). IsLeastIfWaiting p o) (idle_prev part nobody Stays prev r) (least_waits part o nobody h)
@@ -124,7 +125,7 @@ stays_least part (Some t) ran o h prev r =
     (put_back part t ran prev p.1 (option_map (λ (s : Entity). record s { place = Wait }) (part.tasks prev)) o
     (ap (option_map (λ (s : Entity). record s { place = Wait })) (there part t ran prev p.1 None)) h)
 
-pub leaves_least : (part : Part) (runner : Option Task) → IsTheRunner part runner → (way : Way) → way ≢ Stays
+pub leaves_least : (part : Part) (runner : Option SchedEntity) → IsTheRunner part runner → (way : Way) → way ≢ Stays
     → (o : Option ℤ) → IsLeastIfWaiting part o
     → (prev : ℕ) → ((IsRunner part prev → ⊥) → ⊥) → IsLeastIfWaiting (part_after_prev part prev way) o
 leaves_least part None nobody way ne o h prev r =

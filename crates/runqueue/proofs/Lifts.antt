@@ -16,18 +16,23 @@ use Rattle.std.proofs.lemmas.Int.{ints, clamps}
 use Rattle.std.proofs.lemmas.Option.{same_Some}
 use Rattle.cfs_model.specs.Charge.{greatest}
 use Rattle.cfs_model.specs.Machine.{put}
+use Rattle.cfs_model.specs.Told.{drift_after, IsWithin}
+use Rattle.cfs_model.specs.declared.charge_line.ChargeLine.{ChargeLine}
 use Rattle.replay_model.specs.Needs.{IsLeastWaiting}
-use Rattle.replay_model.specs.Part.{Part, Entity, NobodyIn, charged_part, charged_in, cost_in, runtime_after}
-use Rattle.replay_model.specs.Part.{IsLeastHere}
-use Rattle.replay_model.specs.QueueTests.{IsOutOfRange}
+use Rattle.replay_model.specs.Part.{Part, Entity, NobodyIn, charged_part, charged_in, told_in, told_part}
+use Rattle.replay_model.specs.Part.{cost_in, runtime_after, IsLeastHere}
+use Rattle.replay_model.specs.QueueTests.{IsOutOfRange, IsWrongCharge}
 use Rattle.cfs_model.specs.declared.task.Place.{Place}
 use Rattle.cfs_model.specs.declared.task.Place.TheVariants.{Run, Wait, Rest}
-use Rattle.cfs_model.specs.declared.task.Task.{Task}
-use Rattle.runqueue.specs.Queue.{IsTheRunner, IsLeastIfWaiting, IsLeastQueued}
+use Rattle.runqueue.specs.declared.sched_entity.SchedEntity.{SchedEntity}
+use Rattle.runqueue.specs.Queue.{IsTheRunner, IsLeastIfWaiting, IsLeastQueued, IsChargeFault}
 use Rattle.runqueue.specs.Entities.{by_runtime, listed, entities, runtime_if, waiting_runtime, IsOnlyRunner, IsQueue}
 use Rattle.runqueue.specs.Entities.{waiting_task}
 use Rattle.runqueue.specs.declared.waiting_task.WaitingTask.{WaitingTask}
-use Rattle.runqueue.specs.Tasks.{cost_of, charged_task, CanBeCharged, entity_of}
+use Rattle.runqueue.specs.Tasks.{cost_of, charged_task, CanBeCharged, CanBeChargedAs, charged_as, told_task}
+use Rattle.runqueue.specs.Tasks.{IsChargeFaultOf, entity_of}
+use Rattle.runqueue.specs.declared.charging.ChargeFault.{ChargeFault}
+use Rattle.runqueue.specs.declared.charging.ChargeFault.TheVariants.{Range, Told}
 use Rattle.cfs_model.proofs.Moves.{put-other}
 use Rattle.runqueue.proofs.Parts.{part_with, its_place, same_tasks, put-at}
 use Rattle.runqueue.proofs.EntitiesKept.{queue_is, waiting_in, only_in, listed_in, listed_none, listed_some, is_listed}
@@ -35,10 +40,11 @@ use Rattle.runqueue.proofs.EntitiesKept.{waits_where, the_runner, stays, only_ru
 use Rattle.runqueue.proofs.EntitiesKept.{lower_runtime}
 
 -- nobody stands in an empty map, and nobody waits in an empty set
-pub empty_queue : (m : BTreeMap ℕ Task) (a : BTreeSet WaitingTask) → m.entries ≡ [] → a.keys ≡ [] → IsQueue None m a
+pub empty_queue : (m : BTreeMap ℕ SchedEntity) (a : BTreeSet WaitingTask) → m.entries ≡ [] → a.keys ≡ []
+    → IsQueue None m a
 empty_queue m a e f =
     let none : (q : ℕ) → listed m q ≡ None =
-    λ q. ap (λ (es : List (ℕ × Task)). option_map entity_of (lookup (is_at (nat_cmp q)) es)) e in
+    λ q. ap (λ (es : List (ℕ × SchedEntity)). option_map entity_of (lookup (is_at (nat_cmp q)) es)) e in
     queue_is None m a
     (waiting_none (listed m) a none (λ k. ap (list_any (is_at (by_runtime k))) f))
     (only_none (listed m) (λ q i. let h : None ≡ Some Run = sym (ap its_place (none q)) ∙ i in cc))
@@ -65,7 +71,7 @@ no_keys a none k = go a.keys none
     go [] h = refl
     go (x ∷ xs) h = absurd (h (omega arith))
 
-module _ (runner : Option Task) (m : BTreeMap ℕ Task) (a : BTreeSet WaitingTask) (floor : ℤ) (mark : ℕ)
+module _ (runner : Option SchedEntity) (m : BTreeMap ℕ SchedEntity) (a : BTreeSet WaitingTask) (floor : ℤ) (mark : ℕ)
     (kept : IsQueue runner m a) where
   -- the first of the set is the least of those who wait
   pub least_is : (k : WaitingTask) → IsTrue (contains by_runtime a k) → IsLowerBound by_runtime a k
@@ -109,13 +115,14 @@ pub wait_queued : (p : Place) → p ≡ Wait → p ≢ Rest
 wait_queued p e f = let g : Wait ≡ Rest = sym e ∙ f in cc
 
 -- the runner's virtual runtime is that of each who runs
-runner_only : (part : Part) (t : Task) → IsTheRunner part (Some t) → (pid : ℕ) (s : Entity) → part.tasks pid ≡ Some s
+runner_only : (part : Part) (t : SchedEntity) → IsTheRunner part (Some t) → (pid : ℕ) (s : Entity) → part.tasks pid
+    ≡ Some s
     → s.place ≡ Run → s.runtime ≡ t.v
 runner_only part t r pid s e runs =
     let p : pid ≡ t.pid = r.2 pid (ap its_place e ∙ ap Some runs) in
     ap (λ (x : Entity). x.runtime) (same_Some s (entity_of t) (sym e ∙ ap part.tasks p ∙ r.0))
 
-pub least_with_runner : (part : Part) (t : Task) (v : ℤ) → IsTheRunner part (Some t) → IsLeastWaiting part v
+pub least_with_runner : (part : Part) (t : SchedEntity) (v : ℤ) → IsTheRunner part (Some t) → IsLeastWaiting part v
     → IsLeastHere part (int_min v t.v)
 least_with_runner part t v r w =
     elim (cases_ℤ v t.v) [
@@ -150,7 +157,8 @@ least_with_runner part t v r w =
     each other s e (inl runs) = let h = runner_only part t r other s e runs in omega (arith, ints, clamps, h)
     each other s e (inr waits) = let h = w.least other s e waits in omega (arith, ints, clamps, h)
 
-pub least_of_runner : (part : Part) (t : Task) → IsTheRunner part (Some t) → NobodyIn part Wait → IsLeastHere part t.v
+pub least_of_runner : (part : Part) (t : SchedEntity) → IsTheRunner part (Some t) → NobodyIn part Wait
+    → IsLeastHere part t.v
 least_of_runner part t r nobody = record {
   pid = t.pid;
   task = entity_of t;
@@ -196,7 +204,8 @@ uncharged part time (Some s) ne = ap Some (go s.place (λ e. ne (ap Some e)))
     go Rest ne = refl
 
 -- nobody runs
-module _ (runner : Option Task) (m : BTreeMap ℕ Task) (a : BTreeSet WaitingTask) (floor : ℤ) (mark time : ℕ)
+module _ (runner : Option SchedEntity) (m : BTreeMap ℕ SchedEntity) (a : BTreeSet WaitingTask) (floor : ℤ) (mark time
+    : ℕ)
     (kept : IsQueue runner m a) (none : runner ≡ None) where
   nobody : NobodyIn (part_with (entities runner m) floor mark) Run
   nobody = subst (IsTheRunner (part_with (entities runner m) floor mark)) none (the_runner runner m a floor mark kept)
@@ -207,12 +216,18 @@ module _ (runner : Option Task) (m : BTreeMap ℕ Task) (a : BTreeSet WaitingTas
       same_tasks (entities runner m) (charged_part (part_with (entities runner m) floor mark) time).tasks floor time
       (λ q. uncharged (part_with (entities runner m) floor mark) time (entities runner m q) (nobody q))
 
+  -- nothing is right that is told
+  pub idle_wrong : (bound : ℕ) (charge : ChargeLine)
+      → IsWrongCharge bound (part_with (entities runner m) floor mark) time (Some charge) charge.pid
+  idle_wrong bound charge = ((λ h. nobody charge.pid (ap its_place h.stands ∙ ap Some h.runs)), refl)
+
   pub idle_in_range : (pid : ℕ) → ¬ IsOutOfRange (part_with (entities runner m) floor mark) time pid
   idle_in_range pid o = nobody pid (ap its_place o.stands ∙ ap Some o.runs)
 
 -- somebody runs
-module _ (runner : Option Task) (m : BTreeMap ℕ Task) (a : BTreeSet WaitingTask) (floor : ℤ) (mark time : ℕ)
-    (kept : IsQueue runner m a) (t : Task) (is : runner ≡ Some t) where
+module _ (runner : Option SchedEntity) (m : BTreeMap ℕ SchedEntity) (a : BTreeSet WaitingTask) (floor : ℤ) (mark time
+    : ℕ)
+    (kept : IsQueue runner m a) (t : SchedEntity) (is : runner ≡ Some t) where
   ran : IsTheRunner (part_with (entities runner m) floor mark) (Some t)
   ran = subst (IsTheRunner (part_with (entities runner m) floor mark)) is (the_runner runner m a floor mark kept)
 
@@ -242,37 +257,46 @@ module _ (runner : Option Task) (m : BTreeMap ℕ Task) (a : BTreeSet WaitingTas
       far (inr h) = inr (let c : ((t.v +ℤ pos (cost_of (time - mark) t)) ≤ℤ pos greatest)
           → ⊥ = λ n. cannot (h, n) in grind (arith, ints, c))
 
-  charged_entities : (q : ℕ) → entities (Some (charged_task (time - mark) t)) m q ≡ put (entities runner m) t.pid
-      (Some (entity_of (charged_task (time - mark) t))) q
-  charged_entities q =
+  -- the runner with another virtual runtime and drift, as it stands
+  abbrev with_values : ℤ → ℤ → SchedEntity
+  with_values v d = record t { v = v; drift = d }
+
+  valued_standing : (v d : ℤ) (q : ℕ)
+      → entities (Some (with_values v d)) m q ≡ put (entities runner m) t.pid (Some (entity_of (with_values v d))) q
+  valued_standing v d q =
       elim (cases_eq q t.pid) [
-        | inl same ↦ put-at (listed m) t.pid (Some (entity_of (charged_task (time - mark) t))) q same
-            ∙ sym (put-at (entities runner m) t.pid (Some (entity_of (charged_task (time - mark) t))) q same)
-        | inr other ↦ put-other (listed m) t.pid (Some (entity_of (charged_task (time - mark) t))) q other
+        | inl same ↦ put-at (listed m) t.pid (Some (entity_of (with_values v d))) q same
+            ∙ sym (put-at (entities runner m) t.pid (Some (entity_of (with_values v d))) q same)
+        | inr other ↦ put-other (listed m) t.pid (Some (entity_of (with_values v d))) q other
             ∙ sym (put-other (listed m) t.pid (Some (entity_of t)) q other) ∙ ap (λ r. entities r m q) (sym is)
-            ∙ sym (put-other (entities runner m) t.pid (Some (entity_of (charged_task (time - mark) t))) q other)
+            ∙ sym (put-other (entities runner m) t.pid (Some (entity_of (with_values v d))) q other)
       ]
 
-  pub charged_queue : IsQueue (Some (charged_task (time - mark) t)) m a
-  charged_queue =
-      let new : Task = charged_task (time - mark) t in
+  valued_queue : (v d : ℤ) → IsQueue (Some (with_values v d)) m a
+  valued_queue v d =
       let has = is_listed runner m (listed_in runner m a kept) t is in
-      queue_is (Some (charged_task (time - mark) t)) m a
-      (stays (entities runner m) (entities (Some (charged_task (time - mark) t)) m) t.pid
-      (Some (entity_of (charged_task (time - mark) t))) charged_entities a (waiting_in runner m a kept)
-      (ap (λ p. runtime_if p (charged_task (time - mark) t).v) ran.1
+      queue_is (Some (with_values v d)) m a
+      (stays (entities runner m) (entities (Some (with_values v d)) m) t.pid
+      (Some (entity_of (with_values v d))) (valued_standing v d) a (waiting_in runner m a kept)
+      (ap (λ p. runtime_if p v) ran.1
       ∙ sym (ap waiting_runtime ran.0 ∙ ap (λ p. runtime_if p t.v) ran.1)))
-      (only_runs (entities runner m) (entities (Some (charged_task (time - mark) t)) m) t.pid
-      (Some (entity_of (charged_task (time - mark) t))) charged_entities t (charged_task (time - mark) t) refl refl
+      (only_runs (entities runner m) (entities (Some (with_values v d)) m) t.pid
+      (Some (entity_of (with_values v d))) (valued_standing v d) t (with_values v d) refl refl
       (subst (λ r. IsOnlyRunner (entities runner m) r) is (only_in runner m a kept)))
-      (listed_some m (charged_task (time - mark) t) has.0 has.1)
+      (listed_some m (with_values v d) has.0 has.1)
 
-  pub charged_is : part_with (entities (Some (charged_task (time - mark) t)) m) floor time ≡ charged_part
+  pub charged_queue : (charge : Option ChargeLine) → IsQueue (Some (charged_as charge (charged_task (time - mark)
+      t))) m a
+  charged_queue None = valued_queue (t.v +ℤ pos (cost_of (time - mark) t)) t.drift
+  charged_queue (Some charge) =
+      valued_queue charge.v (drift_after t.drift charge.v (t.v +ℤ pos (cost_of (time - mark) t)))
+
+  exactly_is : part_with (entities (Some (charged_task (time - mark) t)) m) floor time ≡ charged_part
       (part_with (entities runner m) floor mark) time
-  charged_is =
+  exactly_is =
       same_tasks (entities (Some (charged_task (time - mark) t)) m)
       (charged_part (part_with (entities runner m) floor mark) time).tasks floor time (λ q.
-      charged_entities q ∙ elim (cases_eq q t.pid) [
+      valued_standing (t.v +ℤ pos (cost_of (time - mark) t)) t.drift q ∙ elim (cases_eq q t.pid) [
         | inl same ↦ put-at (entities runner m) t.pid (Some (entity_of (charged_task (time - mark) t))) q same
             ∙ ap (λ p. Some (record (entity_of t) { runtime = runtime_after p (cost_of (time - mark) t) t.v }))
             (sym ran.1 ∙ refl) ∙ refl
@@ -281,3 +305,71 @@ module _ (runner : Option Task) (m : BTreeMap ℕ Task) (a : BTreeSet WaitingTas
         | inr other ↦ put-other (entities runner m) t.pid (Some (entity_of (charged_task (time - mark) t))) q other
             ∙ uncharged (part_with (entities runner m) floor mark) time (entities runner m q) (λ i. other (ran.2 q i))
       ])
+
+  told_standing : (charge : ChargeLine) (exact : SchedEntity) → charge.pid ≡ exact.pid → (q : ℕ)
+      → entities (Some (told_task charge exact)) m q
+      ≡ (told_part (Some charge) (part_with (entities (Some exact) m) floor time)).tasks q
+  told_standing charge exact same q =
+      elim (cases_eq q exact.pid) [
+        | inl here ↦ put-at (listed m) exact.pid (Some (entity_of (told_task charge exact))) q here
+            ∙ sym (ap (option_map (told_in charge.v)) (put-at (listed m) exact.pid (Some (entity_of exact)) charge.pid
+            same))
+            ∙ sym (put-at (entities (Some exact) m) charge.pid (option_map (told_in charge.v)
+            (entities (Some exact) m charge.pid)) q (here ∙ sym same))
+        | inr other ↦ put-other (listed m) exact.pid (Some (entity_of (told_task charge exact))) q other
+            ∙ sym (put-other (listed m) exact.pid (Some (entity_of exact)) q other)
+            ∙ sym (put-other (entities (Some exact) m) charge.pid (option_map (told_in charge.v)
+            (entities (Some exact) m charge.pid)) q (λ e. other (e ∙ same)))
+      ]
+
+  pub charged_is : (bound : ℕ) (charge : Option ChargeLine)
+      → CanBeChargedAs bound charge t.v (charged_task (time - mark) t)
+      → part_with (entities (Some (charged_as charge (charged_task (time - mark) t))) m) floor time
+      ≡ told_part charge (charged_part (part_with (entities runner m) floor mark) time)
+  charged_is bound None can = exactly_is
+  charged_is bound (Some charge) can =
+      let exact = charged_task (time - mark) t in
+      same_tasks (entities (Some (told_task charge exact)) m)
+      (told_part (Some charge) (part_with (entities (Some exact) m) floor time)).tasks floor time
+      (told_standing charge exact can.pid)
+      ∙ ap (told_part (Some charge)) exactly_is
+
+  -- what can be told of the runner is right in the part, and what is right in the part can be told of it
+  pub told_right : (bound : ℕ) (charge : Option ChargeLine)
+      → CanBeChargedAs bound charge t.v (charged_task (time - mark) t)
+      → (pid : ℕ) → ¬ IsWrongCharge bound (part_with (entities runner m) floor mark) time charge pid
+  told_right bound None can pid h = h
+  told_right bound (Some charge) can pid h = h.0 (record {
+    task = entity_of t;
+    stands = ap (entities runner m) can.pid ∙ ran.0;
+    runs = ran.1;
+    rises = can.rises;
+    within = can.within;
+  })
+
+  pub told_wrong : (bound : ℕ) (charge : Option ChargeLine) (pid : ℕ)
+      → (¬ CanBeChargedAs bound charge t.v (charged_task (time - mark) t))
+      → option_map (λ (line : ChargeLine). line.pid) charge ≡ Some pid
+      → IsWrongCharge bound (part_with (entities runner m) floor mark) time charge pid
+  told_wrong bound None pid cannot e = absurd cc
+  told_wrong bound (Some charge) pid cannot e = (
+    (λ h.
+        let p : charge.pid ≡ t.pid = ran.2 charge.pid (ap its_place h.stands ∙ ap Some h.runs) in
+        let k : h.task ≡ entity_of t = same_Some h.task (entity_of t)
+        (sym h.stands ∙ ap (entities runner m) p ∙ ran.0) in
+        cannot (record {
+          pid = p;
+          rises = subst (λ (s : Entity). s.runtime ≤ℤ charge.v) k h.rises;
+          within = subst (λ (s : Entity). IsWithin bound (drift_after s.drift charge.v
+              (s.runtime +ℤ pos (cost_in (part_with (entities runner m) floor mark) time s)))) k h.within;
+        })),
+    sym (same_Some charge.pid pid e),
+  )
+
+  -- what is wrong with the runner's charge is wrong in the part
+  pub fault_there : (bound : ℕ) (charge : Option ChargeLine) (fault : ChargeFault)
+      → IsChargeFaultOf bound (time - mark) charge t fault
+      → IsChargeFault bound (part_with (entities runner m) floor mark) time charge fault
+  fault_there bound charge (Range pid) f =
+      subst (IsOutOfRange (part_with (entities runner m) floor mark) time) (sym f.0) (above_range f.1)
+  fault_there bound charge (Told pid) f = (fits_in_range f.0, told_wrong bound charge pid f.1 f.2)

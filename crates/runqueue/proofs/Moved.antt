@@ -18,7 +18,7 @@ use Rattle.cfs_model.specs.declared.act.Way.TheVariants.{Stays, Sleeps, Ends}
 use Rattle.cfs_model.specs.declared.claim.Claim.{Claim}
 use Rattle.cfs_model.specs.declared.task.Place.{Place}
 use Rattle.cfs_model.specs.declared.task.Place.TheVariants.{Run, Wait, Rest}
-use Rattle.cfs_model.specs.declared.task.Task.{Task}
+use Rattle.runqueue.specs.declared.sched_entity.SchedEntity.{SchedEntity}
 use Rattle.runqueue.specs.Queue.{IsTheRunner}
 use Rattle.runqueue.specs.Entities.{by_runtime, listed, entities, runtime_if, waiting_runtime, IsQueue, waiting_task}
 use Rattle.runqueue.specs.declared.waiting_task.WaitingTask.{WaitingTask}
@@ -54,7 +54,7 @@ after_way Sleeps s = Some (record s { place = Rest })
 after_way Ends s = None
 
 -- who runs is the previous task
-pub prev_is : (part : Part) (t : Task) → IsTheRunner part (Some t) → (prev : ℕ) → ((IsRunner part prev → ⊥) → ⊥)
+pub prev_is : (part : Part) (t : SchedEntity) → IsTheRunner part (Some t) → (prev : ℕ) → ((IsRunner part prev → ⊥) → ⊥)
     → (prev ≢ 0) × (prev ≡ t.pid)
 prev_is part t r zero h = absurd (h (λ nobody. nobody t.pid (ap its_place r.0 ∙ ap Some r.1)))
 prev_is part t r (suc n) h =
@@ -63,7 +63,8 @@ prev_is part t r (suc n) h =
       | inr other ↦ absurd (h (λ i. other (r.2 (suc n) i)))
     ]
 
-module _ (m n : BTreeMap ℕ Task) (a : BTreeSet WaitingTask) (t : Task) (kept : IsQueue (Some t) m a) (w : Option Task)
+module _ (m n : BTreeMap ℕ SchedEntity) (a : BTreeSet WaitingTask) (t : SchedEntity) (kept : IsQueue (Some t) m a) (w :
+    Option SchedEntity)
     (u : Updates nat_cmp m n t.pid w) where
   ran : IsTheRunner (part_with (entities (Some t) m) (pos 0) 0) (Some t)
   ran = the_runner (Some t) m a (pos 0) 0 kept
@@ -73,7 +74,14 @@ module _ (m n : BTreeMap ℕ Task) (a : BTreeSet WaitingTask) (t : Task) (kept :
 
   -- who ran waits
   pub back_queue : (b : BTreeSet WaitingTask) → set.Updates by_runtime a b (waiting_task t.v t.pid) true
-      → option_map entity_of w ≡ Some (record { place = Wait; nice = t.nice; policy = t.policy; runtime = t.v })
+      → option_map entity_of w ≡ Some (record {
+        place = Wait;
+        nice = t.nice;
+        policy = t.policy;
+        runtime = t.v;
+        drift =
+            t.drift;
+      })
       → IsQueue None n b
   back_queue b s is =
       let e : waiting_runtime (option_map entity_of w) ≡ Some t.v = ap waiting_runtime is in
@@ -126,24 +134,27 @@ module _ (m n : BTreeMap ℕ Task) (a : BTreeSet WaitingTask) (t : Task) (kept :
           ∙ after_ends (part_with (entities (Some t) m) floor mark) t.pid ne
 
 -- the same, where the runner is told by an equation
-pub kept_runner : (runner : Option Task) (m : BTreeMap ℕ Task) (a : BTreeSet WaitingTask) (r : Option Task)
+pub kept_runner : (runner : Option SchedEntity) (m : BTreeMap ℕ SchedEntity) (a : BTreeSet WaitingTask) (r : Option
+    SchedEntity)
     → IsQueue runner m a → runner ≡ r
     → IsQueue r m a
-kept_runner runner m a r kept e = subst (λ (x : Option Task). IsQueue x m a) e kept
+kept_runner runner m a r kept e = subst (λ (x : Option SchedEntity). IsQueue x m a) e kept
 
-pub runner_listed : (runner : Option Task) (m : BTreeMap ℕ Task) (a : BTreeSet WaitingTask) (t : Task)
+pub runner_listed : (runner : Option SchedEntity) (m : BTreeMap ℕ SchedEntity) (a : BTreeSet WaitingTask) (t :
+    SchedEntity)
     → IsQueue runner m a → runner ≡ Some t
     → IsSome (get nat_cmp m t.pid)
 runner_listed runner m a t kept e = (is_listed runner m (listed_in runner m a kept) t e).1
 
-pub runner_leaves : (runner : Option Task) (m n : BTreeMap ℕ Task) (a : BTreeSet WaitingTask) (t : Task)
+pub runner_leaves : (runner : Option SchedEntity) (m n : BTreeMap ℕ SchedEntity) (a : BTreeSet WaitingTask) (t :
+    SchedEntity)
     → IsQueue runner m a → runner ≡ Some t
-    → (w : Option Task) → Updates nat_cmp m n t.pid w → (floor : ℤ) (mark : ℕ) (way : Way)
+    → (w : Option SchedEntity) → Updates nat_cmp m n t.pid w → (floor : ℤ) (mark : ℕ) (way : Way)
     → option_map entity_of w ≡ after_way way (entity_of t)
     → (prev : ℕ) → ((IsRunner (part_with (entities runner m) floor mark) prev → ⊥) → ⊥)
     → part_with (entities None n) floor mark ≡ part_after_prev (part_with (entities runner m) floor mark) prev way
 runner_leaves runner m n a t kept e w u floor mark way is =
-    subst (λ (r : Option Task). (prev : ℕ) → ((IsRunner (part_with (entities r m) floor mark) prev → ⊥) → ⊥)
+    subst (λ (r : Option SchedEntity). (prev : ℕ) → ((IsRunner (part_with (entities r m) floor mark) prev → ⊥) → ⊥)
     → part_with (entities None n) floor mark ≡ part_after_prev (part_with (entities r m) floor mark) prev way) (sym e)
     (prev_entities m n a t (kept_runner runner m a (Some t) kept e) w u floor mark way is)
 
@@ -153,7 +164,8 @@ pub idle_prev : (part : Part) → IsTheRunner part None → (way : Way) (prev : 
 idle_prev part nobody way zero h = refl
 idle_prev part nobody way (suc n) h = absurd (h (λ i. nobody (suc n) i))
 
-pub nobody_leaves : (runner : Option Task) (m : BTreeMap ℕ Task) (a : BTreeSet WaitingTask) → IsQueue runner m a
+pub nobody_leaves : (runner : Option SchedEntity) (m : BTreeMap ℕ SchedEntity) (a : BTreeSet WaitingTask)
+    → IsQueue runner m a
     → runner ≡ None
     → (floor : ℤ) (mark : ℕ) (way : Way) (prev : ℕ)
     → ((IsRunner (part_with (entities runner m) floor mark) prev → ⊥) → ⊥)
@@ -163,7 +175,7 @@ nobody_leaves runner m a kept e floor mark way prev =
     (subst (IsTheRunner (part_with (entities runner m) floor mark)) e (the_runner runner m a floor mark kept)) way prev
 
 -- the next task runs
-pub next_queue : (m : BTreeMap ℕ Task) (a b : BTreeSet WaitingTask) (t new : Task) → IsQueue None m a
+pub next_queue : (m : BTreeMap ℕ SchedEntity) (a b : BTreeSet WaitingTask) (t new : SchedEntity) → IsQueue None m a
     → listed m new.pid ≡ Some (entity_of t)
     → set.Updates by_runtime a b (waiting_task t.v new.pid) false → new.place ≡ Run → IsQueue (Some new) m b
 next_queue m a b t new kept has s runs =
@@ -176,20 +188,21 @@ next_queue m a b t new kept has s runs =
     (only_in None m a kept))
     (listed_some m new runs (go (get nat_cmp m new.pid) has))
   where
-    go : (o : Option Task) → option_map entity_of o ≡ Some (entity_of t) → IsSome o
+    go : (o : Option SchedEntity) → option_map entity_of o ≡ Some (entity_of t) → IsSome o
     go None e = cc
     go (Some x) e = refl
 
-pub next_entities : (m : BTreeMap ℕ Task) (t new : Task) (floor : ℤ) (mark : ℕ) → listed m new.pid ≡ Some (entity_of t)
+pub next_entities : (m : BTreeMap ℕ SchedEntity) (t new : SchedEntity) (floor : ℤ) (mark : ℕ) → listed m new.pid
+    ≡ Some (entity_of t)
     → new.pid ≢ 0
-    → entity_of new ≡ record { place = Run; nice = t.nice; policy = t.policy; runtime = t.v }
+    → entity_of new ≡ record { place = Run; nice = t.nice; policy = t.policy; runtime = t.v; drift = t.drift }
     → part_with (entities (Some new) m) floor mark ≡ part_after_next (part_with (entities None m) floor mark) new.pid
 next_entities m t new floor mark has ne is =
     ap (with_entity (part_with (listed m) floor mark) new.pid)
     (ap Some is ∙ sym (ap (option_map (λ (s : Entity). record s { place = Run })) has))
     ∙ next_goes (part_with (entities None m) floor mark) new.pid ne
 
-pub no_next : (m : BTreeMap ℕ Task) (next : ℕ) (floor : ℤ) (mark : ℕ) → listed m next ≡ None → next ≢ 0
+pub no_next : (m : BTreeMap ℕ SchedEntity) (next : ℕ) (floor : ℤ) (mark : ℕ) → listed m next ≡ None → next ≢ 0
     → part_with (entities None m) floor mark ≡ part_after_next (part_with (entities None m) floor mark) next
 no_next m next floor mark none ne =
     written_over (part_with (listed m) floor mark) next
@@ -198,18 +211,20 @@ no_next m next floor mark none ne =
     ∙ next_goes (part_with (entities None m) floor mark) next ne
 
 -- one who doesn't run leaves
-module _ (runner : Option Task) (m n : BTreeMap ℕ Task) (a : BTreeSet WaitingTask) (kept : IsQueue runner m a) (pid : ℕ)
+module _ (runner : Option SchedEntity) (m n : BTreeMap ℕ SchedEntity) (a : BTreeSet WaitingTask) (kept : IsQueue
+    runner m a)
+    (pid : ℕ)
     (at_rest : its_place (entities runner m pid) ≡ Some Run → ⊥) (u : Updates nat_cmp m n pid None) where
-  apart : (t : Task) → runner ≡ Some t → t.pid ≢ pid
+  apart : (t : SchedEntity) → runner ≡ Some t → t.pid ≢ pid
   apart = runner_apart runner m a kept pid at_rest
 
-  pub gone_queue : (b : BTreeSet WaitingTask) (t : Task) → get nat_cmp m pid ≡ Some t
+  pub gone_queue : (b : BTreeSet WaitingTask) (t : SchedEntity) → get nat_cmp m pid ≡ Some t
       → set.Updates by_runtime a b (waiting_task t.v pid) false → IsQueue runner n b
   gone_queue b t has s =
       let own : (v : ℤ) → waiting_runtime (entities runner m pid) ≡ Some v → v ≡ t.v = λ v e.
       runtime_own t.place t.v v
       (sym (ap waiting_runtime (entities_listed runner m pid apart)
-      ∙ ap (λ (o : Option Task). waiting_runtime (option_map entity_of o)) has) ∙ e) in
+      ∙ ap (λ (o : Option SchedEntity). waiting_runtime (option_map entity_of o)) has) ∙ e) in
       queue_is runner n b
       (parts (entities runner m) (entities runner n) pid None (rewritten runner m n pid None u apart) a b t.v
       (waiting_in runner m a kept) s own refl)
@@ -223,7 +238,7 @@ module _ (runner : Option Task) (m n : BTreeMap ℕ Task) (a : BTreeSet WaitingT
       (stays (entities runner m) (entities runner n) pid None (rewritten runner m n pid None u apart) a
       (waiting_in runner m a kept)
       (sym (ap waiting_runtime (entities_listed runner m pid apart)
-      ∙ ap (λ (o : Option Task). waiting_runtime (option_map entity_of o)) none)))
+      ∙ ap (λ (o : Option SchedEntity). waiting_runtime (option_map entity_of o)) none)))
       (only_kept (entities runner m) (entities runner n) pid None (rewritten runner m n pid None u apart) runner
       (only_in runner m a kept) (λ e. cc))
       (listed_kept runner m n pid None u apart (listed_in runner m a kept))
@@ -234,22 +249,24 @@ module _ (runner : Option Task) (m n : BTreeMap ℕ Task) (a : BTreeSet WaitingT
       (rewritten runner m n pid None u apart)
 
 -- one who rests is woken
-module _ (runner : Option Task) (m n : BTreeMap ℕ Task) (a : BTreeSet WaitingTask) (kept : IsQueue runner m a) (pid : ℕ)
-    (t : Task)
+module _ (runner : Option SchedEntity) (m n : BTreeMap ℕ SchedEntity) (a : BTreeSet WaitingTask) (kept : IsQueue
+    runner m a)
+    (pid : ℕ)
+    (t : SchedEntity)
     (stands : Some (entity_of t) ≡ entities runner m pid) (rests : t.place ≡ Rest) where
-  apart_rest : (x : Task) → runner ≡ Some x → x.pid ≢ pid
+  apart_rest : (x : SchedEntity) → runner ≡ Some x → x.pid ≢ pid
   apart_rest = runner_apart runner m a kept pid (λ e. let f : Some Rest ≡ Some Run = ap Some (sym rests)
       ∙ ap its_place stands ∙ e in cc)
 
   pub wake_has : IsSome (get nat_cmp m pid)
   wake_has = go (get nat_cmp m pid) (stands ∙ entities_listed runner m pid apart_rest)
     where
-      go : (o : Option Task) → Some (entity_of t) ≡ option_map entity_of o → IsSome o
+      go : (o : Option SchedEntity) → Some (entity_of t) ≡ option_map entity_of o → IsSome o
       go None e = cc
       go (Some x) e = refl
 
-  module _ (w : Task) (u : Updates nat_cmp m n pid (Some w)) (v : ℤ)
-      (is : entity_of w ≡ record { place = Wait; nice = t.nice; policy = t.policy; runtime = v }) where
+  module _ (w : SchedEntity) (u : Updates nat_cmp m n pid (Some w)) (v : ℤ)
+      (is : entity_of w ≡ record { place = Wait; nice = t.nice; policy = t.policy; runtime = v; drift = t.drift }) where
     pub woken_queue : (b : BTreeSet WaitingTask) → set.Updates by_runtime a b (waiting_task v pid) true
         → IsQueue runner n b
     woken_queue b s =
@@ -269,7 +286,14 @@ module _ (runner : Option Task) (m n : BTreeMap ℕ Task) (a : BTreeSet WaitingT
         same_tasks (entities runner n) (put (entities runner m) pid (Some (entity_of w))) floor mark
         (rewritten runner m n pid (Some w) u apart_rest)
         ∙ ap (with_entity (part_with (entities runner m) floor mark) pid)
-        (ap Some is ∙ ap (λ (x : ℤ). Some (record { place = Wait; nice = t.nice; policy = t.policy; runtime = x }))
+        (ap Some is ∙ ap (λ (x : ℤ). Some (record {
+          place = Wait;
+          nice = t.nice;
+          policy = t.policy;
+          runtime = x;
+          drift =
+              t.drift;
+        }))
         (sym same)
         ∙ ap (λ p. Some (woken (Some claim) p (entity_of t))) (sym rests)
         ∙ ap (option_map (λ (s : Entity). woken (Some claim) s.place s)) stands)
@@ -292,30 +316,36 @@ nobody_woken part pid claim e =
     (ap (option_map (λ (x : Entity). woken (Some claim) x.place x)) e ∙ sym e)
 
 -- what the map has of a pid is what stands, but for the runner's
-pub stands_alone : (runner : Option Task) (m : BTreeMap ℕ Task) (pid : ℕ) → runner ≡ None
+pub stands_alone : (runner : Option SchedEntity) (m : BTreeMap ℕ SchedEntity) (pid : ℕ) → runner ≡ None
     → listed m pid ≡ entities runner m pid
 stands_alone runner m pid e = ap (λ r. entities r m pid) (sym e)
 
-pub stands_apart : (runner : Option Task) (m : BTreeMap ℕ Task) (pid : ℕ) (t : Task) → runner ≡ Some t → t.pid ≢ pid
+pub stands_apart : (runner : Option SchedEntity) (m : BTreeMap ℕ SchedEntity) (pid : ℕ) (t : SchedEntity) → runner
+    ≡ Some t
+    → t.pid ≢ pid
     → listed m pid ≡ entities runner m pid
 stands_apart runner m pid t e ne =
     sym (put-other (listed m) t.pid (Some (entity_of t)) pid (λ f. ne (sym f))) ∙ ap (λ r. entities r m pid) (sym e)
 
-pub stands_there : (runner : Option Task) (m : BTreeMap ℕ Task) (pid : ℕ) (t : Task) → runner ≡ Some t → t.pid ≡ pid
+pub stands_there : (runner : Option SchedEntity) (m : BTreeMap ℕ SchedEntity) (pid : ℕ) (t : SchedEntity) → runner
+    ≡ Some t
+    → t.pid ≡ pid
     → Some (entity_of t) ≡ entities runner m pid
 stands_there runner m pid t e same =
     sym (put-at (listed m) t.pid (Some (entity_of t)) pid (sym same)) ∙ ap (λ r. entities r m pid) (sym e)
 
 -- entries and keys that are as they were
-pub same_entries : (m n : BTreeMap ℕ Task) → n.entries ≡ m.entries → (q : ℕ) → get nat_cmp n q ≡ get nat_cmp m q
-same_entries m n e q = ap (λ (es : List (ℕ × Task)). lookup (is_at (nat_cmp q)) es) e
+pub same_entries : (m n : BTreeMap ℕ SchedEntity) → n.entries ≡ m.entries → (q : ℕ) → get nat_cmp n q ≡ get nat_cmp m q
+same_entries m n e q = ap (λ (es : List (ℕ × SchedEntity)). lookup (is_at (nat_cmp q)) es) e
 
 pub same_waiting_keys : (a b : BTreeSet WaitingTask) → b.keys ≡ a.keys → (v : ℤ) (q : ℕ)
     → contains by_runtime b (waiting_task v q) ≡ contains by_runtime a (waiting_task v q)
 same_waiting_keys a b e v q = ap (list_any (is_at (by_runtime (waiting_task v q)))) e
 
 -- a lift that is taken back
-pub restored_part : (runner r : Option Task) (m n : BTreeMap ℕ Task) (floor f : ℤ) (mark k : ℕ) → r ≡ runner → f ≡ floor
+pub restored_part : (runner r : Option SchedEntity) (m n : BTreeMap ℕ SchedEntity) (floor f : ℤ) (mark k : ℕ) → r
+    ≡ runner
+    → f ≡ floor
     → k ≡ mark
     → ((q : ℕ) → get nat_cmp n q ≡ get nat_cmp m q)
     → part_with (entities r n) f k ≡ part_with (entities runner m) floor mark

@@ -6,7 +6,7 @@ use Rattle.std.specs.BTreeSet.{BTreeSet, contains}
 use Rattle.std.specs.Ordering.{nat_cmp}
 use Rattle.std.proofs.lemmas.Bool.{cases_eq, cond-true, cond-false, eq-eqb, ne_eqb}
 use Rattle.cfs_model.specs.Machine.{put}
-use Rattle.cfs_model.specs.declared.task.Task.{Task}
+use Rattle.runqueue.specs.declared.sched_entity.SchedEntity.{SchedEntity}
 use Rattle.replay_model.specs.Deeds.{with_entity}
 use Rattle.replay_model.specs.Part.{Part, Entity}
 use Rattle.runqueue.specs.Queue.{HoldsSame, IsReniced, nice_listed}
@@ -25,32 +25,36 @@ abbrev changed : ℤ → Entity → Entity
 changed nice s = record s { nice = nice }
 
 -- the entry of a pid that is written over with another nice value
-pub written : (m n : BTreeMap ℕ Task) (pid : ℕ) (nice : ℤ) (t : Task) → get nat_cmp m pid ≡ Some t
+pub written : (m n : BTreeMap ℕ SchedEntity) (pid : ℕ) (nice : ℤ) (t : SchedEntity) → get nat_cmp m pid ≡ Some t
     → Updates nat_cmp m n pid (Some (record t { nice = nice })) → HasNice pid nice m n
 written m n pid nice t is u = record {
   here = map_at m n pid (Some (record t { nice = nice })) u
-      ∙ sym (ap (option_map (λ (x : Task). record x { nice = nice })) is);
+      ∙ sym (ap (option_map (λ (x : SchedEntity). record x { nice = nice })) is);
   there = map_other m n pid (Some (record t { nice = nice })) u;
 }
 
 -- written back, it is as it was
-pub written_back : (l m n : BTreeMap ℕ Task) (pid : ℕ) (nice before : ℤ) → HasNice pid nice l m → HasNice pid before m n
-    → Some before ≡ option_map (λ (t : Task). t.nice) (get nat_cmp l pid) → (q : ℕ) → get nat_cmp n q ≡ get nat_cmp l q
+pub written_back : (l m n : BTreeMap ℕ SchedEntity) (pid : ℕ) (nice before : ℤ) → HasNice pid nice l m
+    → HasNice pid before m n
+    → Some before ≡ option_map (λ (t : SchedEntity). t.nice) (get nat_cmp l pid) → (q : ℕ) → get nat_cmp n q
+    ≡ get nat_cmp l q
 written_back l m n pid nice before h back was q =
     elim (cases_eq q pid) [
       | inl same ↦ subst (λ k. get nat_cmp n k ≡ get nat_cmp l k) (sym same)
-          (back.here ∙ ap (option_map (λ (t : Task). record t { nice = before })) h.here ∙ go (get nat_cmp l pid) was)
+          (back.here ∙ ap (option_map (λ (t : SchedEntity). record t { nice = before })) h.here
+          ∙ go (get nat_cmp l pid) was)
       | inr other ↦ back.there q other ∙ h.there q other
     ]
   where
-    go : (o : Option Task) → Some before ≡ option_map (λ (t : Task). t.nice) o
-        → option_map (λ (t : Task). record t { nice = before })
-        (option_map (λ (t : Task). record t { nice = nice }) o) ≡ o
+    go : (o : Option SchedEntity) → Some before ≡ option_map (λ (t : SchedEntity). t.nice) o
+        → option_map (λ (t : SchedEntity). record t { nice = before })
+        (option_map (λ (t : SchedEntity). record t { nice = nice }) o) ≡ o
     go None e = cc
     go (Some t) e = let same : before ≡ t.nice = cc in ap (λ (x : ℤ). Some (record t { nice = x })) same
 
 -- nobody of a pid stands here that the map has no entry of
-pub nobody_listed : (runner : Option Task) (m : BTreeMap ℕ Task) (a : BTreeSet WaitingTask) → IsQueue runner m a
+pub nobody_listed : (runner : Option SchedEntity) (m : BTreeMap ℕ SchedEntity) (a : BTreeSet WaitingTask)
+    → IsQueue runner m a
     → (pid : ℕ) → get nat_cmp m pid ≡ None
     → entities runner m pid ≡ None
 nobody_listed None m a kept pid none = ap (option_map entity_of) none
@@ -64,7 +68,7 @@ nobody_listed (Some t) m a kept pid none =
           ∙ ap (option_map entity_of) none
     ]
   where
-    go : (o : Option Task) → IsSome o → o ≡ None → ⊥
+    go : (o : Option SchedEntity) → IsSome o → o ≡ None → ⊥
     go None i e = cc
     go (Some t) i e = cc
 
@@ -74,12 +78,15 @@ pub nobody_changed : (part : Part) (pid : ℕ) (nice : ℤ) → part.tasks pid �
 nobody_changed part pid nice none =
     written_over part pid (option_map (changed nice) (part.tasks pid)) (ap (option_map (changed nice)) none ∙ sym none)
 
-module _ (m n : BTreeMap ℕ Task) (pid : ℕ) (nice : ℤ) (h : HasNice pid nice m n) where
+module _ (m n : BTreeMap ℕ SchedEntity) (pid : ℕ) (nice : ℤ) (h : HasNice pid nice m n) where
   listed_here : listed n pid ≡ option_map (changed nice) (listed m pid)
   listed_here =
       ap (option_map entity_of) h.here ∙ go (get nat_cmp m pid)
     where
-      go : (o : Option Task) → option_map entity_of (option_map (λ (t : Task). record t { nice = nice }) o) ≡ option_map
+      go : (o : Option SchedEntity) → option_map entity_of (option_map (λ (t : SchedEntity). record t {
+        nice = nice;
+      }) o)
+          ≡ option_map
           (changed nice) (option_map entity_of o)
       go None = refl
       go (Some t) = refl
@@ -87,14 +94,14 @@ module _ (m n : BTreeMap ℕ Task) (pid : ℕ) (nice : ℤ) (h : HasNice pid nic
   listed_there : (q : ℕ) → q ≢ pid → listed n q ≡ listed m q
   listed_there q other = ap (option_map entity_of) (h.there q other)
 
-  changed_own : (t : Task) → t.pid ≡ pid → reniced_task pid nice t ≡ record t { nice = nice }
+  changed_own : (t : SchedEntity) → t.pid ≡ pid → reniced_task pid nice t ≡ record t { nice = nice }
   changed_own t own = cond-true (eqb t.pid pid) (record t { nice = nice }) t (eq-eqb t.pid pid own)
 
-  changed_other : (t : Task) → t.pid ≢ pid → reniced_task pid nice t ≡ t
+  changed_other : (t : SchedEntity) → t.pid ≢ pid → reniced_task pid nice t ≡ t
   changed_other t other = cond-false (eqb t.pid pid) (record t { nice = nice }) t (ne_eqb t.pid pid other)
 
   -- who stands
-  pub renices : (runner : Option Task) (q : ℕ) → entities (option_map (reniced_task pid nice) runner) n q
+  pub renices : (runner : Option SchedEntity) (q : ℕ) → entities (option_map (reniced_task pid nice) runner) n q
       ≡ put (entities runner m) pid (option_map (changed nice) (entities runner m pid)) q
   renices None q =
       elim (cases_eq q pid) [
@@ -105,8 +112,8 @@ module _ (m n : BTreeMap ℕ Task) (pid : ℕ) (nice : ℤ) (h : HasNice pid nic
       ]
   renices (Some t) q =
       elim (cases_eq t.pid pid) [
-        | inl own ↦ ap (λ (u : Task). entities (Some u) n q) (changed_own t own) ∙ its_own own (cases_eq q pid)
-        | inr other ↦ ap (λ (u : Task). entities (Some u) n q) (changed_other t other)
+        | inl own ↦ ap (λ (u : SchedEntity). entities (Some u) n q) (changed_own t own) ∙ its_own own (cases_eq q pid)
+        | inr other ↦ ap (λ (u : SchedEntity). entities (Some u) n q) (changed_other t other)
             ∙ another other (cases_eq q t.pid) (cases_eq q pid)
       ]
     where
@@ -137,7 +144,7 @@ module _ (m n : BTreeMap ℕ Task) (pid : ℕ) (nice : ℤ) (h : HasNice pid nic
           ∙ sym (put-other (listed m) t.pid (Some (entity_of t)) q ne)
           ∙ sym (put-other (entities (Some t) m) pid (option_map (changed nice) (entities (Some t) m pid)) q away)
 
-  pub reniced_part : (runner : Option Task) (floor : ℤ) (mark : ℕ)
+  pub reniced_part : (runner : Option SchedEntity) (floor : ℤ) (mark : ℕ)
       → part_with (entities (option_map (reniced_task pid nice) runner) n) floor mark
       ≡ with_entity (part_with (entities runner m) floor mark) pid
       (option_map (λ (s : Entity). record s { nice = nice }) (entities runner m pid))
@@ -147,7 +154,7 @@ module _ (m n : BTreeMap ℕ Task) (pid : ℕ) (nice : ℤ) (h : HasNice pid nic
       floor mark (renices runner)
 
   -- each stands where it did
-  places : (runner : Option Task) (q : ℕ)
+  places : (runner : Option SchedEntity) (q : ℕ)
       → its_place (entities (option_map (reniced_task pid nice) runner) n q) ≡ its_place (entities runner m q)
   places runner q =
       ap its_place (renices runner q)
@@ -163,14 +170,14 @@ module _ (m n : BTreeMap ℕ Task) (pid : ℕ) (nice : ℤ) (h : HasNice pid nic
       go None = refl
       go (Some s) = refl
 
-  own_pid : (t : Task) → (reniced_task pid nice t).pid ≡ t.pid
+  own_pid : (t : SchedEntity) → (reniced_task pid nice t).pid ≡ t.pid
   own_pid t = go (eqb t.pid pid)
     where
       go : (b : Bool) → (cond b (record t { nice = nice }) t).pid ≡ t.pid
       go true = refl
       go false = refl
 
-  own_place : (t : Task) → (reniced_task pid nice t).place ≡ t.place
+  own_place : (t : SchedEntity) → (reniced_task pid nice t).place ≡ t.place
   own_place t = go (eqb t.pid pid)
     where
       go : (b : Bool) → (cond b (record t { nice = nice }) t).place ≡ t.place
@@ -180,28 +187,28 @@ module _ (m n : BTreeMap ℕ Task) (pid : ℕ) (nice : ℤ) (h : HasNice pid nic
   entry_kept : (k : ℕ) → IsSome (get nat_cmp m k) → IsSome (get nat_cmp n k)
   entry_kept k has =
       elim (cases_eq k pid) [
-        | inl same ↦ subst (λ (o : Option Task). IsSome o) (sym (ap (get nat_cmp n) same ∙ h.here))
+        | inl same ↦ subst (λ (o : Option SchedEntity). IsSome o) (sym (ap (get nat_cmp n) same ∙ h.here))
             (go (get nat_cmp m pid) (subst (λ x. IsSome (get nat_cmp m x)) same has))
-        | inr other ↦ subst (λ (o : Option Task). IsSome o) (sym (h.there k other)) has
+        | inr other ↦ subst (λ (o : Option SchedEntity). IsSome o) (sym (h.there k other)) has
       ]
     where
-      go : (o : Option Task) → IsSome o → IsSome (option_map (λ (t : Task). record t { nice = nice }) o)
+      go : (o : Option SchedEntity) → IsSome o → IsSome (option_map (λ (t : SchedEntity). record t { nice = nice }) o)
       go None i = cc
       go (Some t) i = refl
 
-  only_it : (runner : Option Task) → IsOnlyRunner (entities runner m) runner
+  only_it : (runner : Option SchedEntity) → IsOnlyRunner (entities runner m) runner
       → IsOnlyRunner (entities (option_map (reniced_task pid nice) runner) n)
       (option_map (reniced_task pid nice) runner)
   unfolding IsOnlyRunner
   only_it runner only q i =
       pids runner ∙ only q (sym (places runner q) ∙ i)
     where
-      pids : (r : Option Task) → option_map (λ t. t.pid) (option_map (reniced_task pid nice) r) ≡ option_map
+      pids : (r : Option SchedEntity) → option_map (λ t. t.pid) (option_map (reniced_task pid nice) r) ≡ option_map
           (λ t. t.pid) r
       pids None = refl
       pids (Some t) = ap Some (own_pid t)
 
-  has_entry : (runner : Option Task) → IsRunnerListed runner m
+  has_entry : (runner : Option SchedEntity) → IsRunnerListed runner m
       → IsRunnerListed (option_map (reniced_task pid nice) runner) n
   has_entry None has = listed_none n
   has_entry (Some t) has =
@@ -209,7 +216,7 @@ module _ (m n : BTreeMap ℕ Task) (pid : ℕ) (nice : ℤ) (h : HasNice pid nic
       listed_some n (reniced_task pid nice t) (own_place t ∙ l.0)
       (subst (λ k. IsSome (get nat_cmp n k)) (sym (own_pid t)) (entry_kept t.pid l.1))
 
-  pub reniced_queue : (runner : Option Task) (a : BTreeSet WaitingTask) → IsQueue runner m a
+  pub reniced_queue : (runner : Option SchedEntity) (a : BTreeSet WaitingTask) → IsQueue runner m a
       → IsQueue (option_map (reniced_task pid nice) runner) n a
   reniced_queue runner a kept =
       queue_is (option_map (reniced_task pid nice) runner) n a
@@ -227,11 +234,11 @@ module _ (m n : BTreeMap ℕ Task) (pid : ℕ) (nice : ℤ) (h : HasNice pid nic
   listed_stands : get nat_cmp m pid ≢ None → listed m pid ≢ None
   listed_stands has none = has (go (get nat_cmp m pid) none)
     where
-      go : (o : Option Task) → option_map entity_of o ≡ None → o ≡ None
+      go : (o : Option SchedEntity) → option_map entity_of o ≡ None → o ≡ None
       go None e = refl
       go (Some t) e = cc
 
-  pub stands_listed : (runner : Option Task) → get nat_cmp m pid ≢ None → entities runner m pid ≢ None
+  pub stands_listed : (runner : Option SchedEntity) → get nat_cmp m pid ≢ None → entities runner m pid ≢ None
   stands_listed None has none = listed_stands has none
   stands_listed (Some t) has none =
       elim (cases_eq pid t.pid) [

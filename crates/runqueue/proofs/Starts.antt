@@ -13,7 +13,7 @@ use Rattle.replay_model.specs.Deeds.{with_entity}
 use Rattle.replay_model.specs.Part.{NobodyIn, Part}
 use Rattle.replay_model.specs.PartWords.{start_part}
 use Rattle.cfs_model.specs.Machine.{put}
-use Rattle.runqueue.specs.Tasks.{entity_of, RisesByPid}
+use Rattle.runqueue.specs.Tasks.{entity_from, RisesByPid}
 use Rattle.runqueue.proofs.Parts.{its_place, same_tasks}
 use Rattle.runqueue.proofs.TaskOf.{stands, stands_pushed, contains, option_cases}
 
@@ -45,7 +45,8 @@ module _ (tasks : List Task) (i : ℕ) (t : Task) (within : i < length tasks) (i
       let s : its_place (stands (take i tasks) pid) ≡ Some Run = sym (ap (λ (p : Part). its_place (p.tasks pid)) same)
       ∙ ran in
       elim (option_cases (task_of (take i tasks) pid)) [
-        | inl none ↦ let f : None ≡ Some Run = sym (ap (λ o. its_place (option_map entity_of o)) none) ∙ s in absurd cc
+        | inl none ↦ let f : None ≡ Some Run = sym (ap (λ o. its_place (option_map entity_from o)) none)
+            ∙ s in absurd cc
         | inr some ↦
             let c = contains (take i tasks) pid some.0 some.1 in
             let n : length (take i tasks) ≡ i = length-take-le i tasks (omega (arith, within)) in
@@ -54,17 +55,17 @@ module _ (tasks : List Task) (i : ℕ) (t : Task) (within : i < length tasks) (i
             get_or_default tasks c.0 t some.0 (omega (arith, below, within))
             ∙ sym (get_or-take i tasks c.0 some.0 below) ∙ c.2 in
             let there : some.0.place ≡ Run =
-            same_Some some.0.place Run (sym (ap (λ o. its_place (option_map entity_of o)) some.1) ∙ s) in
+            same_Some some.0.place Run (sym (ap (λ o. its_place (option_map entity_from o)) some.1) ∙ s) in
             let R : Task → Type 0 = λ x. x.place ≡ Run in
             absurd (one c.0 i t below within (subst R (sym e) there) (subst R is runs))
       ]
 
   -- one task more
   pub one_task_more : RisesByPid tasks → (floor : ℤ) (mark : ℕ)
-      → with_entity (start_part (take i tasks) floor mark) t.pid (Some (entity_of t)) ≡ start_part
+      → with_entity (start_part (take i tasks) floor mark) t.pid (Some (entity_from t)) ≡ start_part
       (take (i + 1) tasks) floor mark
   one_task_more rise floor mark =
       sym (same_tasks (stands (take i tasks ++ t ∷ []))
-      (put (stands (take i tasks)) t.pid (Some (entity_of t))) floor mark
+      (put (stands (take i tasks)) t.pid (Some (entity_from t))) floor mark
       (stands_pushed (take i tasks) t (before_none rise)))
       ∙ ap (λ l. start_part l floor mark) (ap (λ x. take i tasks ++ x ∷ []) is ∙ sym (take_more tasks i t within))

@@ -7,7 +7,7 @@ use Rattle.cfs_model.specs.Machine.{put}
 use Rattle.cfs_model.specs.Start.{task_of}
 use Rattle.cfs_model.specs.declared.task.Task.{Task}
 use Rattle.replay_model.specs.Part.{Entity}
-use Rattle.runqueue.specs.Tasks.{entity_of}
+use Rattle.runqueue.specs.Tasks.{entity_from}
 use Rattle.cfs_model.proofs.Moves.{put-same, put-other}
 
 -- the task of the first pid, and of another
@@ -34,7 +34,7 @@ option_cases (Some x) = inr (x, refl)
 
 -- what a list of tasks says of a pid
 abbrev pub stands : List Task → ℕ → Option Entity
-stands tasks pid = option_map entity_of (task_of tasks pid)
+stands tasks pid = option_map entity_from (task_of tasks pid)
 
 -- one more task
 task_of-push : (tasks : List Task) (t : Task) (q : ℕ) → q ≢ t.pid → task_of (tasks ++ t ∷ []) q ≡ task_of tasks q
@@ -55,13 +55,14 @@ task_of-pushed (x ∷ xs) t e =
     ]
 
 pub stands_pushed : (tasks : List Task) (t : Task) → task_of tasks t.pid ≡ None → (q : ℕ)
-    → stands (tasks ++ t ∷ []) q ≡ put (stands tasks) t.pid (Some (entity_of t)) q
+    → stands (tasks ++ t ∷ []) q ≡ put (stands tasks) t.pid (Some (entity_from t)) q
 stands_pushed tasks t e q =
     elim (cases_eq q t.pid) [
-      | inl same ↦ subst (λ x. stands (tasks ++ t ∷ []) x ≡ put (stands tasks) t.pid (Some (entity_of t)) x) (sym same)
-          (ap (option_map entity_of) (task_of-pushed tasks t e)
-          ∙ sym (put-same (stands tasks) t.pid (Some (entity_of t))))
-      | inr other ↦ ap (option_map entity_of) (task_of-push tasks t q other)
+      | inl same ↦ subst (λ x. stands (tasks ++ t ∷ []) x ≡ put (stands tasks) t.pid (Some (entity_from t)) x) (sym
+          same)
+          (ap (option_map entity_from) (task_of-pushed tasks t e)
+          ∙ sym (put-same (stands tasks) t.pid (Some (entity_from t))))
+      | inr other ↦ ap (option_map entity_from) (task_of-push tasks t q other)
           ∙ sym (put-other (stands tasks) t.pid _ q other)
     ]
 

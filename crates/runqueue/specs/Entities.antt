@@ -10,7 +10,7 @@ use Rattle.cfs_model.specs.Machine.{put}
 use Rattle.replay_model.specs.Part.{Entity}
 use Rattle.cfs_model.specs.declared.task.Place.{Place}
 use Rattle.cfs_model.specs.declared.task.Place.TheVariants.{Run, Wait}
-use Rattle.cfs_model.specs.declared.task.Task.{Task}
+use Rattle.runqueue.specs.declared.sched_entity.SchedEntity.{SchedEntity}
 use Rattle.runqueue.specs.Tasks.{entity_of}
 use Rattle.runqueue.specs.declared.waiting_task.WaitingTask.{WaitingTask}
 
@@ -23,21 +23,21 @@ abbrev pub by_runtime : WaitingTask → WaitingTask → Ordering
 by_runtime x y = ordering_then (int_cmp x.v y.v) (nat_cmp x.pid y.pid)
 
 -- what the map has of a pid
-abbrev pub listed : BTreeMap ℕ Task → ℕ → Option Entity
+abbrev pub listed : BTreeMap ℕ SchedEntity → ℕ → Option Entity
 listed tasks pid = option_map entity_of (get nat_cmp tasks pid)
 
 -- who runs stands as it runs, everybody else as the map has it
-abbrev pub entities : Option Task → BTreeMap ℕ Task → ℕ → Option Entity
+abbrev pub entities : Option SchedEntity → BTreeMap ℕ SchedEntity → ℕ → Option Entity
 entities None tasks = listed tasks
 entities (Some t) tasks = put (listed tasks) t.pid (Some (entity_of t))
 
 -- a task with this nice value, if it is that of the pid
-abbrev pub reniced_task : ℕ → ℤ → Task → Task
+abbrev pub reniced_task : ℕ → ℤ → SchedEntity → SchedEntity
 reniced_task pid nice t = if t.pid == pid then record t { nice = nice } else t
 
 -- the map's entry of a pid has this nice value, if there is one, and each other entry is as it was
-pub record HasNice (pid : ℕ) (nice : ℤ) (old new : BTreeMap ℕ Task) : Type 0 where
-  pub here : get nat_cmp new pid ≡ option_map (λ (t : Task). record t { nice = nice }) (get nat_cmp old pid)
+pub record HasNice (pid : ℕ) (nice : ℤ) (old new : BTreeMap ℕ SchedEntity) : Type 0 where
+  pub here : get nat_cmp new pid ≡ option_map (λ (t : SchedEntity). record t { nice = nice }) (get nat_cmp old pid)
   pub there : (other : ℕ) → other ≢ pid → get nat_cmp new other ≡ get nat_cmp old other
 
 -- the virtual runtime of one who waits
@@ -55,21 +55,21 @@ IsWaitingSet tasks waiting = (v : ℤ) (pid : ℕ) → IsTrue (contains by_runti
     ↔ (waiting_runtime (tasks pid) ≡ Some v)
 
 -- nobody runs but the runner
-unfoldable pub IsOnlyRunner : (ℕ → Option Entity) → Option Task → Type 0
+unfoldable pub IsOnlyRunner : (ℕ → Option Entity) → Option SchedEntity → Type 0
 IsOnlyRunner tasks runner =
     (pid : ℕ) → option_map (λ s. s.place) (tasks pid) ≡ Some Run → option_map (λ t. t.pid) runner ≡ Some pid
 
 -- the runner runs, and the map has an entry of its pid
-unfoldable pub IsRunnerListed : Option Task → BTreeMap ℕ Task → Type 0
-IsRunnerListed runner tasks = (t : Task) → runner ≡ Some t → (t.place ≡ Run) × IsSome (get nat_cmp tasks t.pid)
+unfoldable pub IsRunnerListed : Option SchedEntity → BTreeMap ℕ SchedEntity → Type 0
+IsRunnerListed runner tasks = (t : SchedEntity) → runner ≡ Some t → (t.place ≡ Run) × IsSome (get nat_cmp tasks t.pid)
 
 -- map, set and runner tell of the same tasks
-unfoldable pub IsQueue : Option Task → BTreeMap ℕ Task → BTreeSet WaitingTask → Type 0
+unfoldable pub IsQueue : Option SchedEntity → BTreeMap ℕ SchedEntity → BTreeSet WaitingTask → Type 0
 IsQueue runner tasks waiting =
     IsWaitingSet (entities runner tasks) waiting × IsOnlyRunner (entities runner tasks) runner
     × IsRunnerListed runner tasks
 
-pub IsQueue-prop : (runner : Option Task) (tasks : BTreeMap ℕ Task) (waiting : BTreeSet WaitingTask)
+pub IsQueue-prop : (runner : Option SchedEntity) (tasks : BTreeMap ℕ SchedEntity) (waiting : BTreeSet WaitingTask)
     → IsProp (IsQueue runner tasks waiting)
 unfolding IsQueue IsWaitingSet IsOnlyRunner IsRunnerListed
 IsQueue-prop runner tasks waiting = Prim.hlevel props

@@ -5,10 +5,14 @@ use Rattle.std.specs.BTreeSet.{contains}
 use Rattle.std.specs.Ordering.{nat_cmp}
 use Rattle.replay_model.specs.Needs.{IsLeastWaiting}
 use Rattle.replay_model.specs.Part.{Part, Entity, IsIn, NobodyIn, IsQueuedHere, IsLeastHere}
+use Rattle.replay_model.specs.QueueTests.{IsOutOfRange, IsWrongCharge}
+use Rattle.cfs_model.specs.declared.charge_line.ChargeLine.{ChargeLine}
 use Rattle.cfs_model.specs.declared.task.Place.TheVariants.{Run, Wait}
-use Rattle.cfs_model.specs.declared.task.Task.{Task}
+use Rattle.runqueue.specs.declared.sched_entity.SchedEntity.{SchedEntity}
 use Rattle.runqueue.specs.Entities.{HasNice, entities, by_runtime, waiting_task}
 use Rattle.runqueue.specs.Tasks.{entity_of}
+use Rattle.runqueue.specs.declared.charging.ChargeFault.{ChargeFault}
+use Rattle.runqueue.specs.declared.charging.ChargeFault.TheVariants.{Range, Told}
 use Rattle.runqueue.specs.declared.lift.Unlifted.{Unlifted}
 use Rattle.runqueue.specs.declared.runqueue.Runqueue.{Runqueue}
 
@@ -30,7 +34,7 @@ pub record IsUnlifted (queue : Runqueue) (before : Unlifted) : Type 0 where
 
 -- the nice value that the map has of a pid
 abbrev pub nice_listed : Runqueue → ℕ → Option ℤ
-nice_listed queue pid = option_map (λ (t : Task). t.nice) (get nat_cmp queue.tasks pid)
+nice_listed queue pid = option_map (λ (t : SchedEntity). t.nice) (get nat_cmp queue.tasks pid)
 
 -- the map has this nice value of a pid, if it has an entry of it; each other entry and the set are as they were
 pub record IsReniced (pid : ℕ) (nice : ℤ) (old new : Runqueue) : Type 0 where
@@ -38,7 +42,7 @@ pub record IsReniced (pid : ℕ) (nice : ℤ) (old new : Runqueue) : Type 0 wher
   pub waiting : new.waiting ≡ old.waiting
 
 -- the one who runs here, if somebody does
-abbrev pub IsTheRunner : Part → Option Task → Type 0
+abbrev pub IsTheRunner : Part → Option SchedEntity → Type 0
 IsTheRunner part None = NobodyIn part Run
 IsTheRunner part (Some t) =
     (part.tasks t.pid ≡ Some (entity_of t)) × (t.place ≡ Run) × ((pid : ℕ) → IsIn part Run pid → pid ≡ t.pid)
@@ -54,9 +58,15 @@ IsLeastQueued part None = (pid : ℕ) (s : Entity) → part.tasks pid ≡ Some s
 IsLeastQueued part (Some v) = IsLeastHere part v
 
 -- the task of a pid, if it stands here
-abbrev pub IsTaskAt : Part → ℕ → Option Task → Type 0
+abbrev pub IsTaskAt : Part → ℕ → Option SchedEntity → Type 0
 IsTaskAt part pid task = option_map entity_of task ≡ part.tasks pid
 
 -- the task of a pid that a switch names, if it stands here; pid 0 is no task
-abbrev pub IsSwitchTask : Part → ℕ → Option Task → Type 0
+abbrev pub IsSwitchTask : Part → ℕ → Option SchedEntity → Type 0
 IsSwitchTask part pid task = pid ≢ 0 → IsTaskAt part pid task
+
+-- what is wrong with a charge: the exact one, or that which is told in its place
+abbrev pub IsChargeFault : ℕ → Part → ℕ → Option ChargeLine → ChargeFault → Type 0
+IsChargeFault bound part time charge (Range pid) = IsOutOfRange part time pid
+IsChargeFault bound part time charge (Told pid) =
+    ((other : ℕ) → ¬ IsOutOfRange part time other) × IsWrongCharge bound part time charge pid

@@ -7,9 +7,11 @@ mod moves;
 mod readers;
 mod renice;
 mod runqueue;
+mod sched_entity;
 mod waiting_task;
 
-pub use charging::charged;
+pub use charging::{ChargeFault, charged, told};
 pub use lift::Unlifted;
 pub use runqueue::Runqueue;
+pub use sched_entity::SchedEntity;
 pub use waiting_task::WaitingTask;

@@ -1,17 +1,20 @@
-ghost use Rattle.std.specs.Prelude.{◌≡◌, ℕ, OnOk, OnErr, IfErr};
-ghost use Rattle.replay_model.specs.Part.{IsLiftedPart, charged_part};
-ghost use Rattle.replay_model.specs.QueueTests.{IsOutOfRange};
-ghost use Rattle.runqueue.specs.Queue.{HoldsSame, IsUnlifted, runqueue_view};
+ghost use Rattle.std.specs.Prelude.{◌≡◌, ℕ, ◌≤◌, OnOk, OnErr, IfOk, IfErr};
+ghost use Rattle.cfs_model.specs.Limits.{greatest_setting};
+ghost use Rattle.replay_model.specs.Part.{IsLiftedPart, charged_part, told_part};
+ghost use Rattle.replay_model.specs.QueueTests.{IsOutOfRange, IsWrongCharge};
+ghost use Rattle.runqueue.specs.Queue.{HoldsSame, IsChargeFault, IsUnlifted, runqueue_view};
+ghost use Rattle.runqueue.specs.Tasks.{CanBeCharged, CanBeChargedAs, IsChargeFaultOf, charged_as, charged_task};
 ghost use Rattle.runqueue.specs.declared.runqueue.Runqueue.{Runqueue};
 
-use crate::charging::charged;
+use crate::charging::{ChargeFault, charged, told};
 use crate::runqueue::Runqueue;
-use cfs_model::Task;
+use crate::sched_entity::SchedEntity;
+use cfs_model::ChargeLine;
 
 /// What a charge and its lift change of a runqueue.
 #[derive(Clone, Copy)]
 pub struct Unlifted {
-    pub(crate) runner: Option<Task>,
+    pub(crate) runner: Option<SchedEntity>,
     /// In virtual nanoseconds.
     pub(crate) floor: i64,
     /// In nanoseconds.
@@ -19,15 +22,23 @@ pub struct Unlifted {
 }
 
 impl Runqueue {
-    /// Charges who runs, up to this time, and raises the floor. Else the pid of the one whom that takes out of range.
-    pub fn lift(&mut self, time: u64) -> Result<(), u32>
+    /// Charges who runs, up to this time, exactly or as told within a drift, in virtual nanoseconds; and raises the
+    /// floor. Else what is wrong with the charge.
+    pub fn lift(
+        &mut self,
+        time: u64,
+        charge: Option<ChargeLine>,
+        drift: u64,
+    ) -> Result<(), ChargeFault>
+        requires { drift ≤ greatest_setting }
         ensures in_range { OnOk result ((pid : ℕ) → IsOutOfRange (runqueue_view self.old) time pid → ⊥) }
-        ensures lifted { OnOk result (IsLiftedPart time (runqueue_view self.old) (runqueue_view self.new)) }
-        ensures above { IfErr result (IsOutOfRange (runqueue_view self.old) time) }
+        ensures told { OnOk result ((pid : ℕ) → IsWrongCharge drift (runqueue_view self.old) time charge pid → ⊥) }
+        ensures lifted { OnOk result (IsLiftedPart time charge (runqueue_view self.old) (runqueue_view self.new)) }
+        ensures fault { IfErr result (IsChargeFault drift (runqueue_view self.old) time charge) }
         ensures unlifted { OnErr result (runqueue_view self.new ≡ runqueue_view self.old) }
         ensures same { HoldsSame self.old self.new }
     {
-        self.charge(time)?;
+        self.charge(time, charge, drift)?;
         if let Some(least) = self.least_queued() {
             self.floor = self.floor.max(least);
         }
@@ -35,24 +46,35 @@ impl Runqueue {
     }
 
     /// The same without the floor.
-    fn charge(&mut self, time: u64) -> Result<(), u32>
+    fn charge(
+        &mut self,
+        time: u64,
+        charge: Option<ChargeLine>,
+        drift: u64,
+    ) -> Result<(), ChargeFault>
+        requires { drift ≤ greatest_setting }
         ensures in_range { OnOk result ((pid : ℕ) → IsOutOfRange (runqueue_view self.old) time pid → ⊥) }
-        ensures charged { OnOk result (runqueue_view self.new ≡ charged_part (runqueue_view self.old) time) }
-        ensures above { IfErr result (IsOutOfRange (runqueue_view self.old) time) }
+        ensures told { OnOk result ((pid : ℕ) → IsWrongCharge drift (runqueue_view self.old) time charge pid → ⊥) }
+        ensures charged { OnOk result
+            (runqueue_view self.new ≡ told_part charge (charged_part (runqueue_view self.old) time)) }
+        ensures fault { IfErr result (IsChargeFault drift (runqueue_view self.old) time charge) }
         ensures uncharged { OnErr result (runqueue_view self.new ≡ runqueue_view self.old) }
         ensures same { (self.new.tasks ≡ self.old.tasks) × (self.new.waiting ≡ self.old.waiting) }
     {
         let Some(task) = self.runner else {
+            if let Some(line) = charge {
+                return Err(ChargeFault::Told(line.pid));
+            }
             self.mark = time;
             return Ok(());
         };
-        match charged(task, time.saturating_sub(self.mark)) {
+        match charge_of(task, time.saturating_sub(self.mark), charge, drift) {
             Ok(after) => {
                 self.runner = Some(after);
                 self.mark = time;
                 Ok(())
             }
-            Err(pid) => Err(pid),
+            Err(fault) => Err(fault),
         }
     }
 
@@ -76,5 +98,34 @@ impl Runqueue {
         self.runner = before.runner;
         self.floor = before.floor;
         self.mark = before.mark;
+    }
+}
+
+/// The task after a charge for `delta` nanoseconds, exact or as told within a drift. Else what is wrong with it.
+fn charge_of(
+    task: SchedEntity,
+    delta: u64,
+    charge: Option<ChargeLine>,
+    drift: u64,
+) -> Result<SchedEntity, ChargeFault>
+    requires { drift ≤ greatest_setting }
+    ensures fits { IfOk result (λ after. CanBeCharged delta task
+        × CanBeChargedAs drift charge task.v (charged_task delta task)
+        × (after ≡ charged_as charge (charged_task delta task))) }
+    ensures fault { IfErr result (IsChargeFaultOf drift delta charge task) }
+{
+    let own = task.v;
+    match charged(task, delta) {
+        Ok(exact) => match charge {
+            None => Ok(exact),
+            Some(line) => {
+                let pid = line.pid;
+                match told(own, exact, line, drift) {
+                    Some(after) => Ok(after),
+                    None => Err(ChargeFault::Told(pid)),
+                }
+            }
+        },
+        Err(pid) => Err(ChargeFault::Range(pid)),
     }
 }

@@ -13,6 +13,7 @@ ghost use Rattle.runqueue.specs.Tasks.{entity_of, RisesByPid};
 ghost use Rattle.runqueue.specs.Queue.{HoldsSame, IsSwitchTask, IsTaskAt, runqueue_view};
 
 use crate::runqueue::Runqueue;
+use crate::sched_entity::SchedEntity;
 use crate::waiting_task::WaitingTask;
 use cfs_model::{Claim, IDLE_PID, Memory, Place, Task, Way};
 use std::alloc::Global;
@@ -45,7 +46,7 @@ impl Runqueue {
     {
         let mut queue = Runqueue::empty(alloc, floor, mark);
         for task in tasks {
-            queue.add(*task)?;
+            queue.add(SchedEntity::of(*task))?;
         }
         Ok(queue)
     }
@@ -75,7 +76,7 @@ impl Runqueue {
     }
 
     /// Who runs waits. Where memory is wanted nothing changes.
-    fn put_back(&mut self, runner: Task) -> Result<(), Memory>
+    fn put_back(&mut self, runner: SchedEntity) -> Result<(), Memory>
         requires { self.old.runner ≡ Some runner }
         ensures part { OnOk result
             ((prev : ℕ) → ((IsRunner (runqueue_view self.old) prev → ⊥) → ⊥)
@@ -95,7 +96,7 @@ impl Runqueue {
     }
 
     /// Who runs rests.
-    fn put_to_rest(&mut self, runner: Task)
+    fn put_to_rest(&mut self, runner: SchedEntity)
         requires { self.old.runner ≡ Some runner }
         ensures part { (prev : ℕ) → ((IsRunner (runqueue_view self.old) prev → ⊥) → ⊥)
             → runqueue_view self.new ≡ part_after_prev (runqueue_view self.old) prev Sleeps }
@@ -108,7 +109,7 @@ impl Runqueue {
     }
 
     /// Who runs is gone.
-    fn end(&mut self, runner: Task)
+    fn end(&mut self, runner: SchedEntity)
         requires { self.old.runner ≡ Some runner }
         ensures part { (prev : ℕ) → ((IsRunner (runqueue_view self.old) prev → ⊥) → ⊥)
             → runqueue_view self.new ≡ part_after_prev (runqueue_view self.old) prev Ends }
@@ -119,7 +120,7 @@ impl Runqueue {
     }
 
     /// The next task of a switch runs, as it stands here.
-    pub fn set_next(&mut self, next: u32, task: Option<Task>)
+    pub fn set_next(&mut self, next: u32, task: Option<SchedEntity>)
         requires nobody { NobodyIn (runqueue_view self.old) Run }
         requires task { IsSwitchTask (runqueue_view self.old) next task }
         ensures { runqueue_view self.new ≡ part_after_next (runqueue_view self.old) next }
@@ -152,7 +153,7 @@ impl Runqueue {
 
     /// The task of this pid, as it stands here, waits at the claimed virtual runtime, if it rests. Where memory is
     /// wanted nothing changes.
-    pub fn wake(&mut self, pid: u32, task: Option<Task>, claim: Claim) -> Result<(), Memory>
+    pub fn wake(&mut self, pid: u32, task: Option<SchedEntity>, claim: Claim) -> Result<(), Memory>
         requires { IsTaskAt (runqueue_view self.old) pid task }
         ensures part { OnOk result (runqueue_view self.new ≡ wakes (runqueue_view self.old) pid (Some claim)) }
         ensures same { OnErr result (HoldsSame self.old self.new) }
@@ -175,7 +176,7 @@ impl Runqueue {
     }
 
     /// One more task stands here. Where memory is wanted nothing changes.
-    pub fn add(&mut self, task: Task) -> Result<(), Memory>
+    pub fn add(&mut self, task: SchedEntity) -> Result<(), Memory>
         requires apart { (runqueue_view self.old).tasks task.pid ≡ None }
         requires alone { task.place ≡ Run → NobodyIn (runqueue_view self.old) Run }
         ensures part { OnOk result
@@ -204,7 +205,7 @@ impl Runqueue {
 }
 
 /// Writes over the entry that the map has of the pid.
-pub(crate) fn write_over(tasks: &mut BTreeMap<u32, Task>, pid: u32, task: Task)
+pub(crate) fn write_over(tasks: &mut BTreeMap<u32, SchedEntity>, pid: u32, task: SchedEntity)
     requires { IsSome (get nat_cmp tasks.old pid) }
     ensures { Updates nat_cmp tasks.old tasks.new pid (Some task) }
 {

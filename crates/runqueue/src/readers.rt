@@ -7,13 +7,14 @@ ghost use Rattle.runqueue.specs.Entities.{IsWaitingSet, listed};
 ghost use Rattle.runqueue.specs.Tasks.{entity_of};
 
 use crate::runqueue::Runqueue;
+use crate::sched_entity::SchedEntity;
 use crate::waiting_task::WaitingTask;
-use cfs_model::{IDLE_PID, Task, Way};
+use cfs_model::{IDLE_PID, Way};
 use std::collections::BTreeSet;
 
 impl Runqueue {
     /// Who runs, if somebody does.
-    pub fn runner(&self) -> Option<Task>
+    pub fn runner(&self) -> Option<SchedEntity>
         ensures { IsTheRunner (runqueue_view self.now) result }
     {
         self.runner
@@ -73,7 +74,7 @@ impl Runqueue {
     }
 
     /// The task of this pid, if it stands here.
-    pub fn task_at(&self, pid: u32) -> Option<Task>
+    pub fn task_at(&self, pid: u32) -> Option<SchedEntity>
         ensures { IsTaskAt (runqueue_view self.now) pid result }
     {
         match self.runner {
@@ -89,7 +90,7 @@ impl Runqueue {
     }
 
     /// The task of a pid that a switch names, if it stands here; none of pid 0.
-    pub fn switch_task(&self, pid: u32) -> Option<Task>
+    pub fn switch_task(&self, pid: u32) -> Option<SchedEntity>
         ensures { IsSwitchTask (runqueue_view self.now) pid result }
     {
         if pid == IDLE_PID {
@@ -100,7 +101,7 @@ impl Runqueue {
     }
 
     /// What the map has of this pid.
-    fn listed(&self, pid: u32) -> Option<Task>
+    fn listed(&self, pid: u32) -> Option<SchedEntity>
         ensures { option_map entity_of result ≡ listed self.now.tasks pid }
     {
         self.tasks.get(&pid).copied()

@@ -6,7 +6,8 @@ ghost use Rattle.runqueue.specs.Entities.{reniced_task};
 
 use crate::moves::write_over;
 use crate::runqueue::Runqueue;
-use cfs_model::{Nice, Task};
+use crate::sched_entity::SchedEntity;
+use cfs_model::Nice;
 
 impl Runqueue {
     /// The task of this pid has this nice value from now on, if it stands here; what the map had of it is answered.
@@ -30,7 +31,7 @@ impl Runqueue {
 }
 
 /// Who runs, with this nice value if it is the task of this pid.
-fn reniced_runner(runner: Option<Task>, pid: u32, nice: Nice) -> Option<Task>
+fn reniced_runner(runner: Option<SchedEntity>, pid: u32, nice: Nice) -> Option<SchedEntity>
     ensures { result ≡ option_map (reniced_task pid nice) runner }
 {
     let mut task = runner?;

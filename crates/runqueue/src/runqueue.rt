@@ -1,16 +1,16 @@
 ghost use Rattle.runqueue.specs.Entities.{IsQueue, IsQueue-prop};
 
+use crate::sched_entity::SchedEntity;
 use crate::waiting_task::WaitingTask;
-use cfs_model::Task;
 use std::collections::{BTreeMap, BTreeSet};
 
 /// Those who stand at the processor, and what the processor keeps.
 #[derive(Drop)]
 pub struct Runqueue {
     /// Who runs, if somebody does.
-    pub(crate) runner: Option<Task>,
+    pub(crate) runner: Option<SchedEntity>,
     /// Everybody by pid; who runs as it stood before.
-    pub(crate) tasks: BTreeMap<u32, Task>,
+    pub(crate) tasks: BTreeMap<u32, SchedEntity>,
     /// Those who wait, in their order.
     pub(crate) waiting: BTreeSet<WaitingTask>,
     /// In virtual nanoseconds.

@@ -1,27 +1,31 @@
 -- Each step of a run from a start in order is lawful.
 use Rattle.std.proofs.Common.{◌≡◌, ◌≢◌, ℕ, suc, zero, ◌-◌, ◌*◌, ◌/◌, Bool, true, false, if◌then◌else◌, IsTrue}
-use Rattle.std.proofs.Common.{Option, Some, ℤ, pos, ◌+ℤ◌, List, [], ◌∷◌, inl, inr, refl, sym, ap, ◌∙◌, subst}
+use Rattle.std.proofs.Common.{Option, Some, None, ℤ, pos, ◌+ℤ◌, ◌≤ℤ◌, List, [], ◌∷◌, inl, inr, refl, sym, ap, ◌∙◌}
+use Rattle.std.proofs.Common.{subst}
 use Rattle.std.specs.Prelude.{⊤}
 use Rattle.std.proofs.lemmas.Bool.{false≢true}
-use Rattle.cfs_model.proofs.Moves.{pair_cases, put-other, same_or_not}
+use Rattle.cfs_model.proofs.Moves.{pair_cases, put-other, put-same, same_or_not}
+use Rattle.cfs_model.proofs.ToldCharge.{untold_is}
 use Rattle.cfs_model.specs.Claimed.{Claimed}
 use Rattle.cfs_model.specs.Laws.{StartInOrder, StepKeepsOrder}
-use Rattle.cfs_model.specs.Lifted.{IsLifted, charged, charged_runtime, cost_at}
-use Rattle.cfs_model.specs.Machine.{Machine, Stands, put_pair, with_floor}
+use Rattle.cfs_model.specs.Lifted.{IsLifted, IsLiftedAt, charged, charged_runtime, cost_at}
+use Rattle.cfs_model.specs.Machine.{Machine, Stands, put_pair, with_drift, with_floor, with_runtime}
 use Rattle.cfs_model.specs.Nice.{task_weight}
 use Rattle.cfs_model.specs.Order.{IsInOrder}
 use Rattle.cfs_model.specs.Run.{AreSteps}
 use Rattle.cfs_model.specs.Knobs.{KnobsView}
 use Rattle.cfs_model.specs.Start.{start_machine}
 use Rattle.cfs_model.specs.Step.{Changes, IsStep, after_prev}
+use Rattle.cfs_model.specs.Told.{IsWithin, drift_after}
 use Rattle.cfs_model.specs.Touch.{touched}
 use Rattle.cfs_model.specs.declared.act.Act.{Act}
 use Rattle.cfs_model.specs.declared.act.Act.TheVariants.{Switch, Wake, Born, Shift}
+use Rattle.cfs_model.specs.declared.charge_line.ChargeLine.{ChargeLine}
 use Rattle.cfs_model.specs.declared.claim.Claim.{Claim}
 use Rattle.cfs_model.specs.declared.task.Place.TheVariants.{Run, Wait}
 use Rattle.ticket_book.specs.SaidEvents.{events_of}
-use Rattle.sched_audit.specs.LawsOfAYes.{AreLawful, IsAmong, IsLawful, IsOrderly, IsPickedWithin}
-use Rattle.sched_audit.specs.LawsOfAYes.{TextsStartOrderly, YesIsLawful}
+use Rattle.sched_audit.specs.LawsOfAYes.{AreLawful, IsAmong, IsChargedAs, IsLawful, IsOrderly, IsPickedWithin}
+use Rattle.sched_audit.specs.LawsOfAYes.{IsToldOf, TextsStartOrderly, YesIsLawful}
 use Rattle.sched_audit.proofs.Starts.{start_of_texts}
 use Rattle.cfs_model.specs.declared.policy.Policy.{Policy}
 
@@ -56,44 +60,163 @@ AreApart (cpu ∷ cpus) = (¬ IsAmong cpu cpus) × AreApart cpus
 abbrev first_lift : ℕ → ℕ → Machine → ℤ → Machine
 first_lift time cpu before floor = with_floor (charged before cpu time) cpu floor
 
-others_stay : (time : ℕ) (cpus : List ℕ) (before after : Machine) → IsLifted time cpus before after → (pid : ℕ)
+-- where nothing is told, who runs at none of the processors stays
+untold_stay : (bound time : ℕ) (cpus : List ℕ) (before after : Machine) → IsLifted bound time None cpus before after
+    → (pid : ℕ) → ((cpu : ℕ) → IsAmong cpu cpus → ¬ Stands before Run cpu pid)
+    → after.runtime pid ≡ before.runtime pid
+untold_stay bound time [] before after l pid none = ap (λ (m : Machine). m.runtime pid) l
+untold_stay bound time (one ∷ cpus) before after l pid none =
+    let rest = subst (λ b. IsLifted bound time None cpus b after) (untold_is bound time one before l.0 l.1) l.2 in
+    untold_stay bound time cpus (first_lift time one before l.1.floor) after rest pid (λ cpu h. none cpu (inr h))
+    ∙ if_not (before.running one pid) (charged_runtime before one time pid) (before.runtime pid) (none one (inl refl))
+
+-- and nobody's drift changes
+untold_drift : (bound time : ℕ) (cpus : List ℕ) (before after : Machine) → IsLifted bound time None cpus before after
+    → (pid : ℕ) → after.drift pid ≡ before.drift pid
+untold_drift bound time [] before after l pid = ap (λ (m : Machine). m.drift pid) l
+untold_drift bound time (one ∷ cpus) before after l pid =
+    let rest = subst (λ b. IsLifted bound time None cpus b after) (untold_is bound time one before l.0 l.1) l.2 in
+    untold_drift bound time cpus (first_lift time one before l.1.floor) after rest pid
+
+-- the machine behind the first of some lifts, where a charge is told
+abbrev told_lift : ℕ → ℕ → ChargeLine → ℤ → Machine → ℤ → Machine
+told_lift time cpu line exact before floor =
+    with_floor (with_drift (with_runtime (charged before cpu time) line.pid line.v) line.pid
+    (drift_after (before.drift line.pid) line.v exact)) cpu floor
+
+told_lift_is : (bound time cpu : ℕ) (line : ChargeLine) (before after : Machine)
+    (l : IsLiftedAt bound time (Some line) cpu before after)
+    → after ≡ told_lift time cpu line l.charges.0.exact before l.floor
+told_lift_is bound time cpu line before after l = l.result ∙ ap (λ m. with_floor m cpu l.floor) l.charges.1
+
+others_stay : (bound time : ℕ) (charge : Option ChargeLine) (cpus : List ℕ) (before after : Machine)
+    → IsLifted bound time charge cpus before after → (pid : ℕ)
     → ((cpu : ℕ) → IsAmong cpu cpus → ¬ Stands before Run cpu pid) → after.runtime pid ≡ before.runtime pid
-others_stay time [] before after l pid none = ap (λ (m : Machine). m.runtime pid) l
-others_stay time (one ∷ cpus) before after l pid none =
-    let rest = subst (λ b. IsLifted time cpus b after) l.1.result l.2 in
-    others_stay time cpus (first_lift time one before l.1.floor) after rest pid (λ cpu h. none cpu (inr h))
+others_stay bound time None cpus before after l pid none = untold_stay bound time cpus before after l pid none
+others_stay bound time (Some line) [] before after l pid none = ap (λ (m : Machine). m.runtime pid) l
+others_stay bound time (Some line) (one ∷ cpus) before after l pid none =
+    let exact = l.1.charges.0.exact in
+    let rest = subst (λ b. IsLifted bound time None cpus b after) (told_lift_is bound time one line before l.0 l.1) l.2
+    in
+    let other : pid ≢ line.pid =
+    (λ e. none one (inl refl) (subst (λ p. Stands before Run one p) (sym e) l.1.charges.0.runs)) in
+    untold_stay bound time cpus (told_lift time one line exact before l.1.floor) after rest pid
+    (λ cpu h. none cpu (inr h))
+    ∙ put-other (charged before one time).runtime line.pid (Some line.v) pid other
     ∙ if_not (before.running one pid) (charged_runtime before one time pid) (before.runtime pid) (none one (inl refl))
 
 -- a task runs on one processor alone
 abbrev RunsOnce : Machine → Type 0
 RunsOnce m = (pid cpu other : ℕ) → Stands m Run cpu pid → Stands m Run other pid → cpu ≡ other
 
-quotients : (time : ℕ) (cpus : List ℕ) (before after : Machine) → AreApart cpus → RunsOnce before
-    → IsLifted time cpus before after → (cpu pid : ℕ) (nice v : ℤ) → IsAmong cpu cpus → Stands before Run cpu pid
+untold_quotients : (bound time : ℕ) (cpus : List ℕ) (before after : Machine) → AreApart cpus → RunsOnce before
+    → IsLifted bound time None cpus before after → (cpu pid : ℕ) (nice v : ℤ) → IsAmong cpu cpus
+    → Stands before Run cpu pid
     → before.nice pid ≡ Some nice → before.runtime pid ≡ Some v
     → after.runtime pid ≡ Some (v +ℤ pos ((time - before.mark cpu) * 1024 / task_weight nice (before.policy pid)))
-quotients time [] before after apart once l cpu pid nice v among runs e f = absurd among
-quotients time (one ∷ cpus) before after apart once l cpu pid nice v (inl same) runs e f =
-    let rest = subst (λ b. IsLifted time cpus b after) l.1.result l.2 in
+untold_quotients bound time [] before after apart once l cpu pid nice v among runs e f = absurd among
+untold_quotients bound time (one ∷ cpus) before after apart once l cpu pid nice v (inl same) runs e f =
+    let rest = subst (λ b. IsLifted bound time None cpus b after) (untold_is bound time one before l.0 l.1) l.2 in
     let here : Stands before Run one pid = subst (λ n. Stands before Run n pid) same runs in
     let charge : after.runtime pid ≡ Some (v +ℤ pos (cost_at before one time nice (before.policy pid))) =
-    others_stay time cpus (first_lift time one before l.1.floor) after rest pid
+    untold_stay bound time cpus (first_lift time one before l.1.floor) after rest pid
     (λ other h at. apart.0 (subst (λ n. IsAmong n cpus) (once pid other one at here) h))
     ∙ if_so (before.running one pid) (charged_runtime before one time pid) (before.runtime pid) here
     ∙ charged_is before one time pid nice v e f in
     subst (λ n. after.runtime pid
     ≡ Some (v +ℤ pos ((time - before.mark n) * 1024 / task_weight nice (before.policy pid))))
     (sym same) charge
-quotients time (one ∷ cpus) before after apart once l cpu pid nice v (inr among) runs e f =
-    let rest = subst (λ b. IsLifted time cpus b after) l.1.result l.2 in
+untold_quotients bound time (one ∷ cpus) before after apart once l cpu pid nice v (inr among) runs e f =
+    let rest = subst (λ b. IsLifted bound time None cpus b after) (untold_is bound time one before l.0 l.1) l.2 in
     let other : cpu ≢ one = (λ same. apart.0 (subst (λ n. IsAmong n cpus) same among)) in
     let elsewhere : ¬ Stands before Run one pid = (λ at. other (once pid cpu one runs at)) in
     let kept = if_not (before.running one pid) (charged_runtime before one time pid) (before.runtime pid) elsewhere
     ∙ f in
     subst (λ n. after.runtime pid ≡ Some (v +ℤ pos ((time - n) * 1024 / task_weight nice (before.policy pid))))
     (put-other before.mark one time cpu other)
-    (quotients time cpus (first_lift time one before l.1.floor) after apart.1 once rest cpu pid nice v among runs e
+    (untold_quotients bound time cpus (first_lift time one before l.1.floor) after apart.1 once rest cpu pid nice v
+    among runs e
     kept)
+
+quotients : (bound time : ℕ) (charge : Option ChargeLine) (cpus : List ℕ) (before after : Machine) → AreApart cpus
+    → RunsOnce before → IsLifted bound time charge cpus before after → (cpu pid : ℕ) (nice v : ℤ) → IsAmong cpu cpus
+    → Stands before Run cpu pid → before.nice pid ≡ Some nice → before.runtime pid ≡ Some v → ¬ IsToldOf charge pid
+    → after.runtime pid ≡ Some (v +ℤ pos ((time - before.mark cpu) * 1024 / task_weight nice (before.policy pid)))
+quotients bound time None cpus before after apart once l cpu pid nice v among runs e f untold =
+    untold_quotients bound time cpus before after apart once l cpu pid nice v among runs e f
+quotients bound time (Some line) [] before after apart once l cpu pid nice v among runs e f untold = absurd among
+quotients bound time (Some line) (one ∷ cpus) before after apart once l cpu pid nice v (inl same) runs e f untold =
+    let exact = l.1.charges.0.exact in
+    let rest = subst (λ b. IsLifted bound time None cpus b after) (told_lift_is bound time one line before l.0 l.1) l.2
+    in
+    let here : Stands before Run one pid = subst (λ n. Stands before Run n pid) same runs in
+    let charge : after.runtime pid ≡ Some (v +ℤ pos (cost_at before one time nice (before.policy pid))) =
+    untold_stay bound time cpus (told_lift time one line exact before l.1.floor) after rest pid
+    (λ other h at. apart.0 (subst (λ n. IsAmong n cpus) (once pid other one at here) h))
+    ∙ put-other (charged before one time).runtime line.pid (Some line.v) pid (λ same_pid. untold (sym same_pid))
+    ∙ if_so (before.running one pid) (charged_runtime before one time pid) (before.runtime pid) here
+    ∙ charged_is before one time pid nice v e f in
+    subst (λ n. after.runtime pid
+    ≡ Some (v +ℤ pos ((time - before.mark n) * 1024 / task_weight nice (before.policy pid))))
+    (sym same) charge
+quotients bound time (Some line) (one ∷ cpus) before after apart once l cpu pid nice v (inr among) runs e f untold =
+    let exact = l.1.charges.0.exact in
+    let rest = subst (λ b. IsLifted bound time None cpus b after) (told_lift_is bound time one line before l.0 l.1) l.2
+    in
+    let other : cpu ≢ one = (λ same. apart.0 (subst (λ n. IsAmong n cpus) same among)) in
+    let elsewhere : ¬ Stands before Run one pid = (λ at. other (once pid cpu one runs at)) in
+    let kept = put-other (charged before one time).runtime line.pid (Some line.v) pid
+    (λ same_pid. untold (sym same_pid))
+    ∙ if_not (before.running one pid) (charged_runtime before one time pid) (before.runtime pid) elsewhere ∙ f in
+    subst (λ n. after.runtime pid ≡ Some (v +ℤ pos ((time - n) * 1024 / task_weight nice (before.policy pid))))
+    (put-other before.mark one time cpu other)
+    (untold_quotients bound time cpus (told_lift time one line exact before l.1.floor) after apart.1 once rest cpu pid
+    nice v among runs e kept)
+
+-- of whom a charge is told, who runs at the first of the processors
+told_runs : (bound time : ℕ) (line : ChargeLine) (cpus : List ℕ) (before after : Machine) → cpus ≢ []
+    → IsLifted bound time (Some line) cpus before after
+    → (cpu : ℕ) × IsAmong cpu cpus × Stands before Run cpu line.pid
+told_runs bound time line [] before after some l = absurd (some refl)
+told_runs bound time line (one ∷ cpus) before after some l = (one, inl refl, l.1.charges.0.runs)
+
+one_value : (u v : ℤ) → Some u ≡ Some v → u ≡ v
+one_value u v e = cc
+
+charged_as : (bound time : ℕ) (line : ChargeLine) (cpus : List ℕ) (before after : Machine) → cpus ≢ [] → AreApart cpus
+    → RunsOnce before → IsLifted bound time (Some line) cpus before after → (cpu : ℕ) (nice v : ℤ)
+    → Stands before Run cpu line.pid → before.nice line.pid ≡ Some nice → before.runtime line.pid ≡ Some v
+    → IsChargedAs bound time cpu line nice v before after
+charged_as bound time line [] before after some apart once l cpu nice v runs e f = absurd (some refl)
+charged_as bound time line (one ∷ cpus) before after some apart once l cpu nice v runs e f =
+    let t = l.1.charges.0 in
+    let behind = told_lift time one line t.exact before l.1.floor in
+    let rest = subst (λ b. IsLifted bound time None cpus b after) (told_lift_is bound time one line before l.0 l.1) l.2
+    in
+    let exact : t.exact ≡ v +ℤ pos (cost_at before one time nice (before.policy line.pid)) = one_value t.exact _
+    (sym t.charged
+    ∙ if_so (before.running one line.pid) (charged_runtime before one time line.pid) (before.runtime line.pid) t.runs
+    ∙ charged_is before one time line.pid nice v e f) in
+    let drift : after.drift line.pid ≡ drift_after (before.drift line.pid) line.v t.exact =
+    untold_drift bound time cpus behind after rest line.pid
+    ∙ put-same before.drift line.pid (drift_after (before.drift line.pid) line.v t.exact) in
+    record {
+      runtime = untold_stay bound time cpus behind after rest line.pid
+          (λ other h at. apart.0 (subst (λ n. IsAmong n cpus) (once line.pid other one at t.runs) h))
+          ∙ put-same (charged before one time).runtime line.pid (Some line.v);
+      rises = subst (λ x. x ≤ℤ line.v) (one_value t.own v (sym t.runtime ∙ f)) t.rises;
+      drift = drift ∙ ap (λ x. drift_after (before.drift line.pid) line.v x) (exact
+          ∙ ap (λ n. v +ℤ pos ((time - before.mark n) * 1024 / task_weight nice (before.policy line.pid)))
+          (sym (once line.pid cpu one runs t.runs)));
+      within = subst (IsWithin bound) (sym drift) t.within;
+    }
+
+-- an event touches a processor
+touches_some : (act : Act) → touched act ≢ []
+touches_some (Switch cpu prev prev_nice way next next_nice) = λ e. cc
+touches_some (Wake cpu pid nice) = λ e. cc
+touches_some (Born cpu pid nice) = λ e. cc
+touches_some (Shift orig dest pid nice) = λ e. cc
 
 -- the processors that an event touches differ
 touched_apart : (knobs : KnobsView) (m : Machine) (act : Act) (claim : Option Claim) (policy : Policy) (after : Machine)
@@ -138,10 +261,19 @@ lawful_step keeps knobs before event after o s = record {
   lifted = s.lifted;
   is_lifted = s.is_lifted;
   charges = record {
-    quotient = quotients event.entry.time (touched event.entry.act) before s.lifted
+    quotient = quotients knobs.drift event.entry.time event.charge (touched event.entry.act) before s.lifted
         (touched_apart knobs s.found event.entry.act event.claim event.policy after s.changes)
         (orderly_of before o).one_processor s.is_lifted;
-    others = others_stay event.entry.time (touched event.entry.act) before s.lifted s.is_lifted;
+    runs = λ line is. told_runs knobs.drift event.entry.time line (touched event.entry.act) before s.lifted
+        (touches_some event.entry.act) (subst (λ c. IsLifted knobs.drift event.entry.time c (touched event.entry.act)
+        before s.lifted) is s.is_lifted);
+    told = λ line is. charged_as knobs.drift event.entry.time line (touched event.entry.act) before s.lifted
+        (touches_some event.entry.act)
+        (touched_apart knobs s.found event.entry.act event.claim event.policy after s.changes)
+        (orderly_of before o).one_processor (subst (λ c. IsLifted knobs.drift event.entry.time c
+        (touched event.entry.act) before s.lifted) is s.is_lifted);
+    others = others_stay knobs.drift event.entry.time event.charge (touched event.entry.act) before s.lifted
+        s.is_lifted;
   };
   pick = pick_of knobs s.found event.entry.act event.claim event.policy after s.changes;
   orderly = orderly_of after (keeps knobs before event after o s);

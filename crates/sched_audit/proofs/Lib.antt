@@ -5,4 +5,6 @@ mod OneOf
 mod Outcomes
 mod Passing
 mod Starts
+mod Versions
 mod Written
+pub mod Ended

@@ -1,6 +1,6 @@
 -- Two texts come to one outcome, by cases on what each answer says: the trace has one answer, then the companion, then
 -- their joining, and the record one verdict.
-use Rattle.std.proofs.Common.{◌≡◌, ℕ, List, Option, Some, Result, Ok, Err, inl, inr, refl, sym, ap, ◌∙◌, subst}
+use Rattle.std.proofs.Common.{◌≡◌, ℕ, Bool, List, Option, Some, Result, Ok, Err, inl, inr, refl, sym, ap, ◌∙◌, subst}
 use Rattle.std.specs.Io.KnownBytes.{Appends}
 use Rattle.cfs_model.specs.Order.{IsStart}
 use Rattle.cfs_model.specs.declared.act.Entry.{Entry}
@@ -18,13 +18,14 @@ use Rattle.sched_audit.specs.Known.{Agrees}
 use Rattle.sched_audit.specs.OneOutcome.{AreOneOutcome, Gave, OneRunBy, outcome_view}
 use Rattle.sched_audit.specs.Report.{report_of}
 use Rattle.sched_audit.specs.Run.{IsOutcomeOf}
-use Rattle.sched_audit.specs.Texts.{AreBothRead, IsRecordOf, IsRefused}
+use Rattle.sched_audit.specs.Texts.{AreBothRead, IsRecordOf, IsRefused, TellsCharges}
 use Rattle.sched_audit.specs.declared.cause.Cause.{Cause}
 use Rattle.sched_audit.specs.declared.outcome.Outcome.{Outcome}
 use Rattle.sched_audit.specs.declared.outcome.Outcome.TheVariants as outcomes
 use Rattle.sched_audit.specs.declared.source.Source.{Source}
 use Rattle.sched_audit.specs.declared.source.Source.TheVariants.{Trace, Companion, Join}
 use Rattle.sched_audit.proofs.Starts.{start_of_texts}
+use Rattle.sched_audit.proofs.Versions.{one_telling}
 
 -- each text has one answer, and so has their joining
 abbrev pub OneTrace : Type 0
@@ -138,12 +139,14 @@ module _ (trace companion : List ℕ) (one_trace : OneTrace) (one_companion : On
           same_refusal source from line other cause why p q
 
 -- outcomes that tell the same have one report and one status, where these go by what is told
-module _ {J V : Type 0} (view : J → V) (lines : J → List ℕ) (fault_of : J → Option FirstFault) (seen_lines : V → List ℕ)
-    (seen_fault : V → Option FirstFault) (by_lines : (j : J) → lines j ≡ seen_lines (view j))
+module _ {J V : Type 0} (view : J → V) (lines : Bool → J → List ℕ) (fault_of : J → Option FirstFault)
+    (seen_lines : Bool → V → List ℕ) (seen_fault : V → Option FirstFault)
+    (by_lines : (tells : Bool) (j : J) → lines tells j ≡ seen_lines tells (view j))
     (by_fault : (j : J) → fault_of j ≡ seen_fault (view j)) where
-  report_seen : (one : Outcome J) → report_of lines one ≡ report_of seen_lines (outcome_view view one)
-  report_seen (outcomes.Judged j) = by_lines j
-  report_seen (outcomes.Text source line cause) = refl
+  report_seen : (tells : Bool) (one : Outcome J)
+      → report_of (lines tells) one ≡ report_of (seen_lines tells) (outcome_view view one)
+  report_seen tells (outcomes.Judged j) = by_lines tells j
+  report_seen tells (outcomes.Text source line cause) = refl
 
   status_seen : (one : Outcome J) → status_of fault_of one ≡ status_of seen_fault (outcome_view view one)
   status_seen (outcomes.Judged j) =
@@ -154,7 +157,7 @@ module _ {J V : Type 0} (view : J → V) (lines : J → List ℕ) (fault_of : J 
       → AreOneOutcome view lines fault_of one other
   one_by_view one other same = record {
     same = same;
-    report = report_seen one ∙ ap (report_of seen_lines) same ∙ sym (report_seen other);
+    report = λ tells. report_seen tells one ∙ ap (report_of (seen_lines tells)) same ∙ sym (report_seen tells other);
     status = status_seen one ∙ ap (status_of seen_fault) same ∙ sym (status_seen other);
   }
 
@@ -163,14 +166,20 @@ known_is : (known : Option (List ℕ)) (bytes whole : List ℕ) → known ≡ So
 known_is known bytes whole e agrees = sym (subst (λ k. Agrees k whole) e agrees)
 
 answer_at : {J : Type 0} (is_of : RecordView → J → Type 0) (trace companion : Option (List ℕ)) (bytes text : List ℕ)
-    (outcome : Outcome J) → trace ≡ Some bytes → companion ≡ Some text → IsOutcomeOf is_of trace companion outcome
-    → OutcomeAnswer is_of bytes text outcome
-answer_at is_of trace companion bytes text outcome e f is =
+    (outcome : Outcome J) (tells : Bool) → trace ≡ Some bytes → companion ≡ Some text
+    → IsOutcomeOf is_of trace companion outcome tells → OutcomeAnswer is_of bytes text outcome
+answer_at is_of trace companion bytes text outcome tells e f is =
     subst (λ b. OutcomeAnswer is_of b text outcome) (known_is trace bytes is.trace_bytes e is.trace_whole)
     (subst (λ b. OutcomeAnswer is_of is.trace_bytes b outcome)
     (known_is companion text is.companion_bytes f is.companion_whole) is.answer)
 
-pub one_run_by : {J V : Type 0} (is_of : RecordView → J → Type 0) (view : J → V) (lines : J → List ℕ)
+telling_at : {J : Type 0} (is_of : RecordView → J → Type 0) (trace companion : Option (List ℕ)) (text : List ℕ)
+    (outcome : Outcome J) (tells : Bool) → companion ≡ Some text → IsOutcomeOf is_of trace companion outcome tells
+    → TellsCharges text tells
+telling_at is_of trace companion text outcome tells f is =
+    subst (λ b. TellsCharges b tells) (known_is companion text is.companion_bytes f is.companion_whole) is.tells
+
+pub one_run_by : {J V : Type 0} (is_of : RecordView → J → Type 0) (view : J → V) (lines : Bool → J → List ℕ)
     (fault_of : J → Option FirstFault)
     → ((trace companion : List ℕ) (one other : Outcome J) → OutcomeAnswer is_of trace companion one
     → OutcomeAnswer is_of trace companion other → AreOneOutcome view lines fault_of one other)
@@ -180,12 +189,16 @@ one_run_by is_of view lines fault_of law bytes text trace companion trace_again 
     let first = runs.answered in
     let second = run_again.answered in
     let are = law bytes text first.0 second.0
-    (answer_at is_of trace.gave companion.gave bytes text first.0 gave.0 gave.1 first.1)
-    (answer_at is_of trace_again.gave companion_again.gave bytes text second.0 also.0 also.1 second.1) in (
-      first.3 ∙ are.status ∙ sym second.3,
+    (answer_at is_of trace.gave companion.gave bytes text first.0 first.1 gave.0 gave.1 first.2)
+    (answer_at is_of trace_again.gave companion_again.gave bytes text second.0 second.1 also.0 also.1 second.2) in
+    let tells = one_telling text first.1 second.1
+    (telling_at is_of trace.gave companion.gave text first.0 first.1 gave.1 first.2)
+    (telling_at is_of trace_again.gave companion_again.gave text second.0 second.1 also.1 second.2) in
+    let report = are.report first.1 ∙ ap (λ (t : Bool). report_of (lines t) second.0) tells in (
+      first.4 ∙ are.status ∙ sym second.4,
       (
-        report_of lines first.0,
-        first.2,
-        subst (λ b. Appends out_again.before out_again.taken b) (sym are.report) second.2,
+        report_of (lines first.1) first.0,
+        first.3,
+        subst (λ b. Appends out_again.before out_again.taken b) (sym report) second.3,
       ),
     )

@@ -1,15 +1,18 @@
 -- What a yes says of each moment of the run (this project's profile): no task runs on two processors or waits in two
--- queues, each charge is the quotient of the time by the weight, rounded down, and each pick is within the granularity.
-use Rattle.std.specs.Prelude.{◌≡◌, ℕ, suc, ◌-◌, ◌*◌, ◌/◌, ◌⊎◌, ⊤, Some, List, [], ◌∷◌, ℤ, pos, ◌+ℤ◌, ◌≤ℤ◌}
+-- queues, each charge is the quotient of the time by the weight, rounded down, or as told within the drift, and each
+-- pick is within the granularity.
+use Rattle.std.specs.Prelude.{◌≡◌, ℕ, suc, ◌-◌, ◌*◌, ◌/◌, ◌⊎◌, ⊤, Option, Some, None, List, [], ◌∷◌, ℤ, pos, ◌+ℤ◌, ◌≤ℤ◌}
 use Rattle.cfs_model.specs.Claimed.{Claimed}
 use Rattle.cfs_model.specs.Lifted.{IsLifted}
 use Rattle.cfs_model.specs.Machine.{Machine, Stands}
 use Rattle.cfs_model.specs.Nice.{task_weight}
 use Rattle.cfs_model.specs.Knobs.{KnobsView}
 use Rattle.cfs_model.specs.Start.{start_machine}
+use Rattle.cfs_model.specs.Told.{IsWithin, drift_after}
 use Rattle.cfs_model.specs.Touch.{touched}
 use Rattle.cfs_model.specs.declared.act.Act.{Act}
 use Rattle.cfs_model.specs.declared.act.Act.TheVariants.{Switch}
+use Rattle.cfs_model.specs.declared.charge_line.ChargeLine.{ChargeLine}
 use Rattle.cfs_model.specs.declared.task.Place.TheVariants.{Run, Wait}
 use Rattle.sched_record.specs.Record.{RecordView}
 use Rattle.ticket_book.specs.SaidEvents.{events_of}
@@ -29,14 +32,35 @@ abbrev pub IsAmong : ℕ → List ℕ → Type 0
 IsAmong cpu [] = ⊥
 IsAmong cpu (one ∷ cpus) = (cpu ≡ one) ⊎ IsAmong cpu cpus
 
+-- a charge is told, and of this pid
+abbrev pub IsToldOf : Option ChargeLine → ℕ → Type 0
+IsToldOf None pid = ⊥
+IsToldOf (Some line) pid = line.pid ≡ pid
+
+-- who had this nice value and this virtual runtime is charged as the line tells: its virtual runtime is the told one,
+-- which isn't below; its drift grows by how much that is above the exact one, and stays within the bound
+pub record IsChargedAs (bound time cpu : ℕ) (line : ChargeLine) (nice v : ℤ) (before after : Machine) : Type 0 where
+  pub runtime : after.runtime line.pid ≡ Some line.v
+  pub rises : v ≤ℤ line.v
+  pub drift : after.drift line.pid ≡ drift_after (before.drift line.pid) line.v
+      (v +ℤ pos ((time - before.mark cpu) * 1024 / task_weight nice (before.policy line.pid)))
+  pub within : IsWithin bound (after.drift line.pid)
+
 -- at a time, who runs at one of these processors is charged for the time since the last charge there: this times 1024,
--- divided by the task's weight, rounded down; and nobody else is charged
-pub record AreCharged (time : ℕ) (cpus : List ℕ) (before after : Machine) : Type 0 where
-  pub quotient : (cpu pid : ℕ) (nice v : ℤ) → IsAmong cpu cpus → Stands before Run cpu pid
-      → before.nice pid ≡ Some nice → before.runtime pid ≡ Some v
-      → after.runtime pid ≡ Some (v +ℤ pos ((time - before.mark cpu) * 1024 / task_weight nice (before.policy pid)))
-  pub others : (pid : ℕ) → ((cpu : ℕ) → IsAmong cpu cpus → ¬ Stands before Run cpu pid)
-      → after.runtime pid ≡ before.runtime pid
+-- divided by the task's weight, rounded down; but one of whom a charge is told, as it is told; and nobody else is
+-- charged
+pub record AreCharged (bound time : ℕ) (charge : Option ChargeLine) (cpus : List ℕ) (before after : Machine) : Type 0
+  where
+    pub quotient : (cpu pid : ℕ) (nice v : ℤ) → IsAmong cpu cpus → Stands before Run cpu pid
+        → before.nice pid ≡ Some nice → before.runtime pid ≡ Some v → ¬ IsToldOf charge pid
+        → after.runtime pid ≡ Some (v +ℤ pos ((time - before.mark cpu) * 1024 / task_weight nice (before.policy pid)))
+    pub runs : (line : ChargeLine) → charge ≡ Some line
+        → (cpu : ℕ) × IsAmong cpu cpus × Stands before Run cpu line.pid
+    pub told : (line : ChargeLine) → charge ≡ Some line → (cpu : ℕ) (nice v : ℤ) → Stands before Run cpu line.pid
+        → before.nice line.pid ≡ Some nice → before.runtime line.pid ≡ Some v
+        → IsChargedAs bound time cpu line nice v before after
+    pub others : (pid : ℕ) → ((cpu : ℕ) → IsAmong cpu cpus → ¬ Stands before Run cpu pid)
+        → after.runtime pid ≡ before.runtime pid
 
 -- behind a switch to a task it runs there, with a virtual runtime at most the granularity above that of each task that
 -- waits there
@@ -52,8 +76,8 @@ IsPickedWithin granularity _ after = ⊤
 -- machine behind it
 pub record IsLawful (knobs : KnobsView) (before : Machine) (event : Claimed) (after : Machine) : Type 0 where
   pub lifted : Machine
-  pub is_lifted : IsLifted event.entry.time (touched event.entry.act) before lifted
-  pub charges : AreCharged event.entry.time (touched event.entry.act) before lifted
+  pub is_lifted : IsLifted knobs.drift event.entry.time event.charge (touched event.entry.act) before lifted
+  pub charges : AreCharged knobs.drift event.entry.time event.charge (touched event.entry.act) before lifted
   pub pick : IsPickedWithin knobs.granularity event.entry.act after
   pub orderly : IsOrderly after
 

@@ -1,6 +1,6 @@
 -- Two texts come to one outcome; so the bytes that a run reads fix the bytes that it writes and its status (this
 -- project's profile).
-use Rattle.std.specs.Prelude.{◌≡◌, ℕ, List, Option, Some, Ok}
+use Rattle.std.specs.Prelude.{◌≡◌, ℕ, Bool, List, Option, Some, Ok}
 use Rattle.std.specs.Io.KnownBytes.{Appends}
 use Rattle.cfs_model.specs.Knobs.{KnobsView}
 use Rattle.replay_model.specs.declared.first_fault.FirstFault.{FirstFault}
@@ -28,17 +28,17 @@ abbrev pub least_view : LeastSettings → LeastSettings
 least_view least = least
 
 -- two outcomes tell the same, and so have the same report and the same status
-pub record AreOneOutcome {J V : Type 0} (view : J → V) (lines : J → List ℕ) (fault_of : J → Option FirstFault)
+pub record AreOneOutcome {J V : Type 0} (view : J → V) (lines : Bool → J → List ℕ) (fault_of : J → Option FirstFault)
     (one other : Outcome J) : Type 0 where
   pub same : outcome_view view one ≡ outcome_view view other
-  pub report : report_of lines one ≡ report_of lines other
+  pub report : (tells_charges : Bool) → report_of (lines tells_charges) one ≡ report_of (lines tells_charges) other
   pub status : status_of fault_of one ≡ status_of fault_of other
 
 -- two outcomes of the same two texts, by the same settings, are one
 abbrev pub OneOutcome : Type 0
 OneOutcome = (knobs : KnobsView) (trace companion : List ℕ) (one other : Outcome Verdict)
     → OutcomeAnswer (IsVerdict knobs) trace companion one → OutcomeAnswer (IsVerdict knobs) trace companion other
-    → AreOneOutcome verdict_view verdict_lines verdict_fault one other
+    → AreOneOutcome verdict_view (λ _. verdict_lines) verdict_fault one other
 
 -- so are two of the least settings
 abbrev pub OneLeastOutcome : Type 0
@@ -57,7 +57,8 @@ TookTheSame out other = (report : List ℕ) × Appends out.before out.taken repo
 
 -- two runs over inputs that gave the same bytes, each of which answers a status: it is the same one, and they wrote the
 -- same bytes
-abbrev pub OneRunBy : {J : Type 0} → (RecordView → J → Type 0) → (J → List ℕ) → (J → Option FirstFault) → Type 0
+abbrev pub OneRunBy : {J : Type 0} → (RecordView → J → Type 0) → (Bool → J → List ℕ) → (J → Option FirstFault)
+    → Type 0
 OneRunBy is_of lines fault_of = (bytes text : List ℕ) (trace companion trace_again companion_again : Input)
     (out out_again : Output) (status again : Status) → Gave trace companion bytes text
     → Gave trace_again companion_again bytes text → Runs is_of lines fault_of trace companion out (Ok status)
@@ -66,7 +67,7 @@ OneRunBy is_of lines fault_of = (bytes text : List ℕ) (trace companion trace_a
 
 -- of verdicts, by the same settings
 abbrev pub OneRun : Type 0
-OneRun = (knobs : KnobsView) → OneRunBy (IsVerdict knobs) verdict_lines verdict_fault
+OneRun = (knobs : KnobsView) → OneRunBy (IsVerdict knobs) (λ _. verdict_lines) verdict_fault
 
 -- of the least settings
 abbrev pub OneLeastRun : Type 0

@@ -1,5 +1,5 @@
 -- The report (this project's format): its lines, each ended by a line feed, with numbers in plain decimal.
-use Rattle.std.specs.Prelude.{ℕ, Option, Some, None, List, [], ◌∷◌, ◌++◌, codes, decimal, map}
+use Rattle.std.specs.Prelude.{ℕ, Bool, true, false, Option, Some, None, List, [], ◌∷◌, ◌++◌, codes, decimal, map}
 use Rattle.std.specs.List.{concat}
 use Rattle.sched_audit.specs.declared.source.Source.{Source}
 use Rattle.sched_audit.specs.declared.source.Source.TheVariants.{Trace, Companion, Join}
@@ -15,6 +15,7 @@ use Rattle.cfs_model.specs.Kinds.{name_of, text_of}
 use Rattle.cfs_model.specs.Knobs.{KnobsView, all_settings, value_at}
 use Rattle.cfs_model.specs.Options.{name_of_setting}
 use Rattle.cfs_model.specs.declared.setting.Setting.{Setting}
+use Rattle.cfs_model.specs.declared.setting.Setting.TheVariants.{Granularity, Credit, Debit, Slack}
 use Rattle.cfs_model.specs.declared.kind.Kind.{Kind}
 use Rattle.replay_model.specs.declared.first_fault.FirstFault.{FirstFault}
 use Rattle.replay_model.specs.declared.page.Tally.{Tally}
@@ -108,9 +109,14 @@ setting_line knobs which = count_line (codes "least " ++ name_of_setting which) 
 abbrev pub lines_of_settings : KnobsView → List Setting → List ℕ
 lines_of_settings knobs settings = concat (map (setting_line knobs) settings)
 
--- each setting
-abbrev pub setting_lines : KnobsView → List ℕ
-setting_lines knobs = lines_of_settings knobs all_settings
+-- the settings that are told: the drift among them where the companion tells charges
+abbrev pub told_settings : Bool → List Setting
+told_settings true = all_settings
+told_settings false = Granularity ∷ Credit ∷ Debit ∷ Slack ∷ []
+
+-- each of those
+abbrev pub setting_lines : Bool → KnobsView → List ℕ
+setting_lines tells_charges knobs = lines_of_settings knobs (told_settings tells_charges)
 
 -- what is written for a verdict
 abbrev pub verdict_lines : Verdict → List ℕ
@@ -122,10 +128,10 @@ abbrev pub verdict_fault : Verdict → Option FirstFault
 verdict_fault (verdicts.Run summary) = None
 verdict_fault (verdicts.Fault fault) = Some fault
 
--- what is written for least settings
-abbrev pub least_lines : LeastSettings → List ℕ
-least_lines (leasts.Found knobs) = setting_lines knobs
-least_lines (leasts.Fault fault) = fault_line fault
+-- what is written for least settings, by whether the companion tells charges
+abbrev pub least_lines : Bool → LeastSettings → List ℕ
+least_lines tells_charges (leasts.Found knobs) = setting_lines tells_charges knobs
+least_lines tells_charges (leasts.Fault fault) = fault_line fault
 
 -- and the fault that they name
 abbrev pub least_fault : LeastSettings → Option FirstFault

@@ -15,15 +15,17 @@ use Rattle.sched_audit.specs.Answer.{OutcomeAnswer}
 use Rattle.sched_audit.specs.Codes.{status_of}
 use Rattle.sched_audit.specs.Known.{Agrees, AppendsFront, IsCutShort, most_reads}
 use Rattle.sched_audit.specs.Report.{report_of}
+use Rattle.sched_audit.specs.Texts.{TellsCharges}
 
--- the outcome is that of the bytes that the two inputs still gave
+-- the outcome is that of the bytes that the two inputs still gave, and so is it whether the companion tells charges
 pub record IsOutcomeOf {J : Type 0} (is_of : RecordView → J → Type 0) (trace companion : Option (List ℕ))
-    (outcome : Outcome J) : Type 0 where
+    (outcome : Outcome J) (tells_charges : Bool) : Type 0 where
   pub trace_bytes : List ℕ
   pub companion_bytes : List ℕ
   pub trace_whole : Agrees trace trace_bytes
   pub companion_whole : Agrees companion companion_bytes
   pub answer : OutcomeAnswer is_of trace_bytes companion_bytes outcome
+  pub tells : TellsCharges companion_bytes tells_charges
 
 -- what is kept of two inputs beside their outcome: the record that was judged, or the companion's bytes, where a text
 -- was refused
@@ -73,19 +75,24 @@ pub record Reads {A : Type 0} (trace companion : Input) (result : Result A Fault
   pub bounded : (trace.calls ≤ most_reads) × (companion.calls ≤ most_reads)
   pub order : IsErrOf result ReadTrace → companion.calls ≡ 0
 
--- what a run over two inputs writes to an output, and what it answers, by what it judges of their record
-pub record Runs {J : Type 0} (is_of : RecordView → J → Type 0) (lines : J → List ℕ) (fault_of : J → Option FirstFault)
-    (trace companion : Input) (out : Output) (result : Result Status Fault) : Type 0 where
-  -- where a status is answered, the report of the two inputs' outcome was written and nothing else, and the status is
-  -- that outcome's
-  pub answered : IfOk result (λ status. (outcome : Outcome J) × IsOutcomeOf is_of trace.gave companion.gave outcome
-      × Appends out.before out.taken (report_of lines outcome) × (status ≡ status_of fault_of outcome))
-  pub reads : Reads trace companion result
-  -- and no write failed
-  pub written : OnOk result (out.has_failed ≡ false)
-  -- a write fault comes only where a write failed or took no byte, and a front of the report was written
-  pub write : IsErrOf result Write → out.has_failed ≡ true
-  pub front : IsErrOf result Write → (outcome : Outcome J) × IsOutcomeOf is_of trace.gave companion.gave outcome
-      × AppendsFront out.before out.taken (report_of lines outcome)
-  -- at any other fault nothing was written, and no write failed
-  pub unwritten : IfErr result (λ fault. fault ≢ Write → Keeps out.before out.taken × (out.has_failed ≡ false))
+-- what a run over two inputs writes to an output, and what it answers, by what it judges of their record and by the
+-- lines that tell that, where the companion tells charges and where it doesn't
+pub record Runs {J : Type 0} (is_of : RecordView → J → Type 0) (lines : Bool → J → List ℕ)
+    (fault_of : J → Option FirstFault) (trace companion : Input) (out : Output) (result : Result Status Fault) : Type 0
+  where
+    -- where a status is answered, the report of the two inputs' outcome was written and nothing else, and the status is
+    -- that outcome's
+    pub answered : IfOk result (λ status. (outcome : Outcome J) × (tells_charges : Bool)
+        × IsOutcomeOf is_of trace.gave companion.gave outcome tells_charges
+        × Appends out.before out.taken (report_of (lines tells_charges) outcome)
+        × (status ≡ status_of fault_of outcome))
+    pub reads : Reads trace companion result
+    -- and no write failed
+    pub written : OnOk result (out.has_failed ≡ false)
+    -- a write fault comes only where a write failed or took no byte, and a front of the report was written
+    pub write : IsErrOf result Write → out.has_failed ≡ true
+    pub front : IsErrOf result Write → (outcome : Outcome J) × (tells_charges : Bool)
+        × IsOutcomeOf is_of trace.gave companion.gave outcome tells_charges
+        × AppendsFront out.before out.taken (report_of (lines tells_charges) outcome)
+    -- at any other fault nothing was written, and no write failed
+    pub unwritten : IfErr result (λ fault. fault ≢ Write → Keeps out.before out.taken × (out.has_failed ≡ false))

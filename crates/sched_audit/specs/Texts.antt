@@ -1,8 +1,8 @@
 -- What two texts mean together, and what refuses them (this project's profile). What each means by itself is said by
 -- the crates that read them.
-use Rattle.std.specs.Prelude.{◌≡◌, ℕ, List, Ok, Err}
+use Rattle.std.specs.Prelude.{◌≡◌, ◌↔◌, ℕ, Bool, IsTrue, List, Ok, Err}
 use Rattle.cfs_model.specs.declared.act.Entry.{Entry}
-use Rattle.companion_file.specs.Companion.{CompanionView, CompanionAnswer}
+use Rattle.companion_file.specs.Companion.{AreOfVersion, CompanionView, CompanionAnswer}
 use Rattle.companion_file.specs.declared.fault.CompanionCause.{CompanionCause}
 use Rattle.sched_record.specs.Trace.{TraceAnswer}
 use Rattle.sched_record.specs.Record.{RecordView, RecordAnswer}
@@ -12,6 +12,7 @@ use Rattle.sched_audit.specs.Causes.{trace_cause, companion_cause, join_cause}
 use Rattle.sched_audit.specs.declared.cause.Cause.{Cause}
 use Rattle.sched_audit.specs.declared.source.Source.{Source}
 use Rattle.sched_audit.specs.declared.source.Source.TheVariants.{Trace, Companion, Join}
+use Rattle.text_parts.specs.Lines.{lines_of}
 
 -- both texts can be read, and these are the trace's events and the companion's start, policies, claims and changes of
 -- nice values
@@ -41,3 +42,7 @@ IsRefused trace companion Companion line cause =
     (events : List Entry) × (c : CompanionCause)
     × TraceAnswer trace (Ok events) × CompanionAnswer companion (Err (line, c)) × (cause ≡ companion_cause c)
 IsRefused trace companion Join line cause = IsJoinRefused trace companion line cause
+
+-- whether the companion tells charges: it names version 3 of its format
+abbrev pub TellsCharges : List ℕ → Bool → Type 0
+TellsCharges companion tells_charges = IsTrue tells_charges ↔ AreOfVersion (lines_of companion) 3

@@ -46,7 +46,7 @@ pub fn run<R: RandomSource + Threads + Wait + Sync, T: Feed, C: Feed, G: Gate, S
     requires companion { C.calls companion.old ≡ 0 }
     requires out { S.has_failed out.old ≡ false }
     // The report of the verdict on the two inputs, or of a refusal, was written, and else it is told why not.
-    ensures { Runs (IsVerdict knobs) verdict_lines verdict_fault
+    ensures { Runs (IsVerdict knobs) (λ _. verdict_lines) verdict_fault
         (input_of (T.left trace.old) (T.left trace.new) (T.calls trace.new) (T.has_failed trace.new)
         (T.has_ended trace.new)) (input_of (C.left companion.old) (C.left companion.new) (C.calls companion.new)
         (C.has_failed companion.new) (C.has_ended companion.new))

@@ -6,6 +6,8 @@ use sched_record::Record;
 pub struct Hearing<J = Verdict> {
     pub outcome: Outcome<J>,
     pub kept: Kept,
+    /// Whether the companion is of version 3, so that the report of least settings tells the drift.
+    pub tells_charges: bool,
 }
 
 /// What is kept of two inputs.

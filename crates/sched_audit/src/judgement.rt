@@ -1,4 +1,4 @@
-ghost use Rattle.std.specs.Prelude.{◌≡◌, ◌++◌, ℕ, IfOk, List, OnOk, Option, string_bytes};
+ghost use Rattle.std.specs.Prelude.{◌≡◌, ◌++◌, ℕ, Bool, IfOk, List, OnOk, Option, string_bytes};
 ghost use Rattle.cfs_model.specs.Knobs.{KnobsView};
 ghost use Rattle.replay_model.specs.declared.first_fault.FirstFault.{FirstFault};
 ghost use Rattle.sched_record.specs.Record.{RecordView, record_view};
@@ -19,8 +19,8 @@ pub trait Judgement: Drop {
     /// By which settings the processors are then replayed.
     ghost replayed_by: { KnobsView → KnobsView };
 
-    /// What a report says of it.
-    ghost lines: { Self → List ℕ };
+    /// What a report says of it, by whether the companion tells charges.
+    ghost lines: { Bool → Self → List ℕ };
 
     /// The fault that it names, if it does.
     ghost fault: { Self → Option FirstFault };
@@ -34,9 +34,9 @@ pub trait Judgement: Drop {
         requires { AreOwn (replayed_by knobs) (record_view joined.now) (book_view book) }
         ensures { IfOk result (is_of knobs (record_view joined.now)) };
 
-    /// Writes what a report says of it.
-    fn push(&self, text: &mut String) -> Result<(), AllocError>
-        ensures { OnOk result (string_bytes text.new ≡ string_bytes text.old ++ lines self.now) };
+    /// Writes what a report says of it, by whether the companion tells charges.
+    fn push(&self, text: &mut String, tells_charges: bool) -> Result<(), AllocError>
+        ensures { OnOk result (string_bytes text.new ≡ string_bytes text.old ++ lines tells_charges self.now) };
 
     /// The fault that it names, if it does.
     fn fault(&self) -> Option<FirstFault>

@@ -6,10 +6,11 @@ ghost use Rattle.sched_record.specs.Trace.{TraceAnswer};
 ghost use Rattle.sched_audit.specs.Answer.{IsAnswer, OutcomeAnswer};
 ghost use Rattle.sched_audit.specs.Known.{Agrees};
 ghost use Rattle.sched_audit.specs.Run.{IsKept, IsOutcomeOf, Reads, Runs, input_of, output_of};
+ghost use Rattle.sched_audit.specs.Texts.{TellsCharges};
 
 use crate::lines::read_lines;
 use crate::reading::read_all;
-use crate::texts::record_of;
+use crate::texts::{record_of, tells_charges};
 use crate::{
     Fault, Feed, Gate, Hearing, Judgement, Kept, Outcome, Refused, Sink, Status, write_report,
 };
@@ -64,10 +65,14 @@ pub(crate) fn run_judged<
         (output_of (S.taken out.old) (S.taken out.new) (S.has_failed out.new)) result }
 {
     let hearing: Hearing<J> = judge(rt, alloc, trace, companion, knobs, gate)?;
-    let Hearing { outcome, kept } = hearing;
+    let Hearing {
+        outcome,
+        kept,
+        tells_charges,
+    } = hearing;
     // What was read is given back before the report is written.
     drop(kept);
-    write_report(alloc, &outcome, out)
+    write_report(alloc, &outcome, tells_charges, out)
 }
 
 /// Reads the trace to its end, then the companion, and judges them. What was read is kept beside the outcome.
@@ -83,7 +88,8 @@ pub fn judge<J: Judgement, R: RandomSource + Threads + Wait + Sync, T: Feed, C: 
     requires trace { T.calls trace.old ≡ 0 }
     requires companion { C.calls companion.old ≡ 0 }
     ensures outcome { IfOk result (λ hearing.
-        IsOutcomeOf (J.is_of knobs) (T.left trace.old) (C.left companion.old) hearing.outcome) }
+        IsOutcomeOf (J.is_of knobs) (T.left trace.old) (C.left companion.old) hearing.outcome
+        hearing.tells_charges) }
     ensures reads { Reads
         (input_of (T.left trace.old) (T.left trace.new) (T.calls trace.new) (T.has_failed trace.new)
         (T.has_ended trace.new)) (input_of (C.left companion.old) (C.left companion.new) (C.calls companion.new)
@@ -109,14 +115,18 @@ fn hearing_of<J: Judgement, R: RandomSource + Threads + Wait + Sync, G: Gate>(
         → IfOk result (λ hearing. IsKept (J.is_of knobs) left hearing.outcome hearing.kept) }
     ensures outcome { (text : List ℕ) → Tells trace (TraceAnswer text)
         → IfOk result (λ hearing. OutcomeAnswer (J.is_of knobs) text companion.items hearing.outcome) }
+    ensures tells { IfOk result (λ hearing. TellsCharges companion.items hearing.tells_charges) }
 {
-    match record_of(rt, alloc, trace, &companion) {
+    let text = companion.as_slice();
+    let tells_charges = tells_charges(text);
+    match record_of(rt, alloc, trace, text) {
         Ok(record) => {
             drop(companion);
             let judged = judged(rt, alloc, &record, knobs, gate)?;
             Ok(Hearing {
                 outcome: Outcome::Judged(judged),
                 kept: Kept::Record(record),
+                tells_charges,
             })
         }
         Err(
@@ -132,6 +142,7 @@ fn hearing_of<J: Judgement, R: RandomSource + Threads + Wait + Sync, G: Gate>(
                 cause,
             },
             kept: Kept::Companion(companion),
+            tells_charges,
         }),
         Err(Refused::Memory) => Err(Memory),
     }

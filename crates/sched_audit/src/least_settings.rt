@@ -10,6 +10,14 @@ use sched_record::Record;
 use std::alloc::AllocError;
 use ticket_book::Book;
 
+/// What is told where the companion tells no charges: each setting but the drift.
+const WITHOUT_DRIFT: [Setting; 4] = [
+    Setting::Granularity,
+    Setting::Credit,
+    Setting::Debit,
+    Setting::Slack,
+];
+
 impl Judgement for LeastSettings {
     ghost use Rattle.cfs_model.specs.Least.{greatest_settings};
     ghost use Rattle.sched_audit.specs.Report.{least_fault, least_lines};
@@ -32,9 +40,9 @@ impl Judgement for LeastSettings {
         Ok(closed.least)
     }
 
-    fn push(&self, text: &mut String) -> Result<(), AllocError> {
+    fn push(&self, text: &mut String, tells_charges: bool) -> Result<(), AllocError> {
         match self {
-            LeastSettings::Found(knobs) => push_settings(text, *knobs),
+            LeastSettings::Found(knobs) => push_settings(text, *knobs, tells_charges),
             LeastSettings::Fault(fault) => push_fault(text, fault),
         }
     }
@@ -47,11 +55,15 @@ impl Judgement for LeastSettings {
     }
 }
 
-/// Writes each of the settings.
-fn push_settings(text: &mut String, knobs: Knobs) -> Result<(), AllocError>
-    ensures { OnOk result (string_bytes text.new ≡ string_bytes text.old ++ setting_lines knobs) }
+/// Writes each of the settings that are told, by whether the companion tells charges.
+fn push_settings(text: &mut String, knobs: Knobs, tells_charges: bool) -> Result<(), AllocError>
+    ensures { OnOk result (string_bytes text.new ≡ string_bytes text.old ++ setting_lines tells_charges knobs) }
 {
-    push_each(text, knobs, &Setting::ALL)
+    if tells_charges {
+        push_each(text, knobs, &Setting::ALL)
+    } else {
+        push_each(text, knobs, &WITHOUT_DRIFT)
+    }
 }
 
 /// Writes each of these settings.

@@ -10,33 +10,44 @@ use std::alloc::{AllocError, Global};
 pub fn report(alloc: Global, outcome: &Outcome) -> Result<Vec<u8>, Memory>
     ensures { IfOk result (λ text. text.items ≡ report_of verdict_lines outcome.now) }
 {
-    report_on(alloc, outcome)
+    // No verdict's report tells a drift.
+    report_on(alloc, outcome, false)
 }
 
-/// What is written for the outcome of a search for the least settings.
-pub fn least_report(alloc: Global, outcome: &Outcome<LeastSettings>) -> Result<Vec<u8>, Memory>
-    ensures { IfOk result (λ text. text.items ≡ report_of least_lines outcome.now) }
+/// What is written for the outcome of a search for the least settings, by whether the companion tells charges: with
+/// those it has a line of the drift.
+pub fn least_report(
+    alloc: Global,
+    outcome: &Outcome<LeastSettings>,
+    tells_charges: bool,
+) -> Result<Vec<u8>, Memory>
+    ensures { IfOk result (λ text. text.items ≡ report_of (least_lines tells_charges) outcome.now) }
 {
-    report_on(alloc, outcome)
+    report_on(alloc, outcome, tells_charges)
 }
 
-/// What is written for what was judged, or for a refusal.
+/// What is written for what was judged, or for a refusal, by whether the companion tells charges.
 pub(crate) fn report_on<J: Judgement>(
     alloc: Global,
     outcome: &Outcome<J>,
+    tells_charges: bool,
 ) -> Result<Vec<u8>, Memory>
-    ensures { IfOk result (λ text. text.items ≡ report_of J.lines outcome.now) }
+    ensures { IfOk result (λ text. text.items ≡ report_of (J.lines tells_charges) outcome.now) }
 {
-    let text = text_of(alloc, outcome)?;
+    let text = text_of(alloc, outcome, tells_charges)?;
     Ok(text.into_bytes())
 }
 
-fn text_of<J: Judgement>(alloc: Global, outcome: &Outcome<J>) -> Result<String, AllocError>
-    ensures { IfOk result (λ text. string_bytes text ≡ report_of J.lines outcome.now) }
+fn text_of<J: Judgement>(
+    alloc: Global,
+    outcome: &Outcome<J>,
+    tells_charges: bool,
+) -> Result<String, AllocError>
+    ensures { IfOk result (λ text. string_bytes text ≡ report_of (J.lines tells_charges) outcome.now) }
 {
     let mut text = String::new(alloc);
     match outcome {
-        Outcome::Judged(judged) => judged.push(&mut text)?,
+        Outcome::Judged(judged) => judged.push(&mut text, tells_charges)?,
         Outcome::Text {
             source,
             line,

@@ -2,9 +2,10 @@ ghost use Rattle.std.specs.Prelude.{ℕ, List};
 ghost use Rattle.sched_record.specs.Trace.{TraceAnswer};
 ghost use Rattle.sched_record.specs.Seen.{Tells};
 ghost use Rattle.sched_audit.specs.Refusals.{IsTexts};
+ghost use Rattle.sched_audit.specs.Texts.{TellsCharges};
 
 use crate::Refused;
-use companion_file::read_companion_wide;
+use companion_file::{read_companion_wide, version_of_text};
 use sched_record::{Record, Trace, TraceFault, join};
 use std::alloc::Global;
 use std::thread::Threads;
@@ -23,5 +24,15 @@ pub(crate) fn record_of(
     match join(trace, companion) {
         Ok(record) => Ok(record),
         Err((_trace, _companion, fault)) => Err(fault.into()),
+    }
+}
+
+/// Whether a companion is of the version that tells charges.
+pub(crate) fn tells_charges(companion: &[u8]) -> bool
+    ensures { TellsCharges companion.now result }
+{
+    match version_of_text(companion) {
+        Some(version) => version == 3,
+        None => false,
     }
 }

@@ -26,7 +26,7 @@ impl Judgement for Verdict {
 
     ghost replayed_by = { λ knobs. knobs };
 
-    ghost lines = { verdict_lines };
+    ghost lines = { λ _. verdict_lines };
 
     ghost fault = { verdict_fault };
 
@@ -39,7 +39,7 @@ impl Judgement for Verdict {
         Ok(closed.verdict)
     }
 
-    fn push(&self, text: &mut String) -> Result<(), AllocError> {
+    fn push(&self, text: &mut String, _tells_charges: bool) -> Result<(), AllocError> {
         match self {
             Verdict::Run(summary) => push_run(text, summary),
             Verdict::Fault(fault) => push_fault(text, fault),

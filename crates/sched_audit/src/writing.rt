@@ -8,27 +8,29 @@ use crate::reporting::report_on;
 use crate::{Fault, Judgement, Outcome, Sink, Status};
 use std::alloc::Global;
 
-/// Writes the report of an outcome, and answers its status.
+/// Writes the report of an outcome, by whether the companion tells charges, and answers its status.
 pub fn write_report<J: Judgement, S: Sink>(
     alloc: Global,
     outcome: &Outcome<J>,
+    tells_charges: bool,
     out: &mut S,
 ) -> Result<Status, Fault>
     // No write failed.
     requires { S.has_failed out.old ≡ false }
     ensures status { IfOk result (λ status. status ≡ status_of J.fault outcome.now) }
-    ensures whole { OnOk result (Appends (S.taken out.old) (S.taken out.new) (report_of J.lines outcome.now)) }
+    ensures whole { OnOk result
+        (Appends (S.taken out.old) (S.taken out.new) (report_of (J.lines tells_charges) outcome.now)) }
     ensures written { OnOk result (S.has_failed out.new ≡ false) }
     // The output's fault comes only where a write failed or took no byte, and a front of the report was written.
     ensures fault { IfErr result (λ fault. (fault ≡ Fault.Write) ⊎ (fault ≡ Fault.Memory)) }
     ensures write { IsErrOf result Fault.Write → S.has_failed out.new ≡ true }
     ensures front { IsErrOf result Fault.Write
-        → AppendsFront (S.taken out.old) (S.taken out.new) (report_of J.lines outcome.now) }
+        → AppendsFront (S.taken out.old) (S.taken out.new) (report_of (J.lines tells_charges) outcome.now) }
     // Where memory is wanted nothing was written.
     ensures unwritten { IsErrOf result Fault.Memory
         → Keeps (S.taken out.old) (S.taken out.new) × (S.has_failed out.new ≡ false) }
 {
-    let report = report_on(alloc, outcome)?;
+    let report = report_on(alloc, outcome, tells_charges)?;
     write_all(out, &report)?;
     Ok(outcome.status())
 }

@@ -40,7 +40,7 @@ pub(crate) fn answer_explained<
     let knobs = request.knobs;
     let hearing: Hearing<J> = judge(rt, alloc, &mut trace, &mut companion, knobs, &OpenGate)?;
     let mut out = SinkOf::new(io::writer(rt));
-    let status = write_report(alloc, &hearing.outcome, &mut out)?;
+    let status = write_report(alloc, &hearing.outcome, hearing.tells_charges, &mut out)?;
     if status != Status::Yes {
         let told = told_of(rt, alloc, request, hearing, &trace)?;
         let told = match &told {
@@ -68,7 +68,7 @@ fn told_of<J: Judgement, R: Files + RandomSource, F: Feed>(
     hearing: Hearing<J>,
     trace: &KeepingFeed<F>,
 ) -> Result<Option<Vec<u8>>, Fault> {
-    let Hearing { outcome, kept } = hearing;
+    let Hearing { outcome, kept, .. } = hearing;
     match (outcome, kept) {
         (Outcome::Judged(judged), Kept::Record(record)) => match judged.fault() {
             Some(fault) => {

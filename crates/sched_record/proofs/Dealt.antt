@@ -4,11 +4,12 @@ use Rattle.std.proofs.Common.{eqb, Option, Some, None, refl, sym, ap, ◌∙◌,
 use Rattle.std.specs.Prelude.{find}
 use Rattle.std.proofs.lemmas.Bool.{eq-eqb, ne_eqb}
 use Rattle.std.proofs.lemmas.List.{map_more}
-use Rattle.cfs_model.specs.Claimed.{claim_at, nice_at, with_claim}
-use Rattle.replay_model.specs.StepAt.{claim_for, deed_at, nice_for, step_at}
+use Rattle.cfs_model.specs.Claimed.{charge_at, claim_at, nice_at, with_claim}
+use Rattle.replay_model.specs.StepAt.{charge_for, claim_for, deed_at, nice_for, step_at}
 use Rattle.cfs_model.specs.declared.act.Entry.{Entry}
 use Rattle.cfs_model.specs.declared.claim.Claim.{Claim}
 use Rattle.cfs_model.specs.declared.nice_line.NiceLine.{NiceLine}
+use Rattle.cfs_model.specs.declared.charge_line.ChargeLine.{ChargeLine}
 use Rattle.replay_model.specs.declared.step.Deed.{Deed}
 use Rattle.replay_model.specs.declared.step.Step.{Step}
 use Rattle.sched_record.proofs.Indexing.{step_of, touching}
@@ -39,37 +40,45 @@ item_missing {X} f (item ∷ items) line none =
     ∙ item_missing f items line (λ k e h. none (suc k) e (omega arith))
 
 -- a step with what stands on its line
-step_is : (cpu : ℕ) (claims : List Claim) (nices : List NiceLine) (policy : Entry
+step_is : (cpu : ℕ) (claims : List Claim) (nices : List NiceLine) (charges : List ChargeLine) (policy : Entry
     → Policy) (event : Entry) (deed : Deed) (found claim : Option Claim) (change nice : Option NiceLine)
+    (told charge : Option ChargeLine)
     → deed ≡ deed_at cpu (policy event) event.act → found ≡ claim_at claims event.line → claim ≡ claim_for deed found
-    → change ≡ nice_at nices event.line
-    → nice ≡ nice_for deed change
-    → record { line = event.line; time = event.time; deed = deed; claim = claim; nice = nice } ≡ step_at cpu
-    (with_claim claims nices policy event)
-step_is cpu claims nices policy event deed found claim change nice is_deed is_found is_claim is_change is_nice =
-    let step : Deed → Option Claim → Option NiceLine
-    → Step = λ d c n. record { line = event.line; time = event.time; deed = d; claim = c; nice = n } in
-    ap (λ c. step deed c nice) (is_claim ∙ ap (λ f. claim_for deed f) is_found)
-    ∙ ap (λ n. step deed (claim_for deed (claim_at claims event.line)) n) (is_nice
-    ∙ ap (λ f. nice_for deed f) is_change)
-    ∙ ap (λ d. step d (claim_for d (claim_at claims event.line)) (nice_for d (nice_at nices event.line))) is_deed
+    → change ≡ nice_at nices event.line → nice ≡ nice_for deed change → told ≡ charge_at charges event.line
+    → charge ≡ charge_for deed told
+    → record { line = event.line; time = event.time; deed = deed; claim = claim; nice = nice; charge = charge }
+    ≡ step_at cpu (with_claim claims nices charges policy event)
+step_is cpu claims nices charges policy event deed found claim change nice told charge is_deed is_found is_claim
+    is_change is_nice is_told is_charge =
+    let step : Deed → Option Claim → Option NiceLine → Option ChargeLine → Step =
+    λ d c n t. record { line = event.line; time = event.time; deed = d; claim = c; nice = n; charge = t } in
+    let found_claim = claim_at claims event.line in
+    let found_nice = nice_at nices event.line in
+    let found_charge = charge_at charges event.line in
+    ap (λ c. step deed c nice charge) (is_claim ∙ ap (λ f. claim_for deed f) is_found)
+    ∙ ap (λ n. step deed (claim_for deed found_claim) n charge) (is_nice ∙ ap (λ f. nice_for deed f) is_change)
+    ∙ ap (λ t. step deed (claim_for deed found_claim) (nice_for deed found_nice) t) (is_charge
+    ∙ ap (λ f. charge_for deed f) is_told)
+    ∙ ap (λ d. step d (claim_for d found_claim) (nice_for d found_nice) (charge_for d found_charge)) is_deed
 
 -- the step of the next of the events that touch the processor
-pub dealt_more : (cpu : ℕ) (claims : List Claim) (nices : List NiceLine) (policy : Entry
+pub dealt_more : (cpu : ℕ) (claims : List Claim) (nices : List NiceLine) (charges : List ChargeLine) (policy : Entry
     → Policy) (events : List Entry) (i : ℕ) (event : Entry) (steps : List Step) (deed : Deed)
-    (found claim : Option Claim) (change nice : Option NiceLine) → i < length (touching cpu events)
+    (found claim : Option Claim) (change nice : Option NiceLine) (told charge : Option ChargeLine)
+    → i < length (touching cpu events)
     → event ≡ get_or (touching cpu events) i event
-    → steps ≡ map (step_of cpu claims nices policy) (take i (touching cpu events))
+    → steps ≡ map (step_of cpu claims nices charges policy) (take i (touching cpu events))
     → deed ≡ deed_at cpu (policy event) event.act → found ≡ claim_at claims event.line → claim ≡ claim_for deed found
-    → change ≡ nice_at nices event.line
-    → nice ≡ nice_for deed change
-    → steps ++ record { line = event.line; time = event.time; deed = deed; claim = claim; nice = nice } ∷ []
-    ≡ map (step_of cpu claims nices policy) (take (i + 1) (touching cpu events))
-dealt_more cpu claims nices policy events i event steps deed found claim change nice h is_event dealt is_deed is_found
-    is_claim is_change is_nice =
+    → change ≡ nice_at nices event.line → nice ≡ nice_for deed change → told ≡ charge_at charges event.line
+    → charge ≡ charge_for deed told
+    → steps
+    ++ record { line = event.line; time = event.time; deed = deed; claim = claim; nice = nice; charge = charge } ∷ []
+    ≡ map (step_of cpu claims nices charges policy) (take (i + 1) (touching cpu events))
+dealt_more cpu claims nices charges policy events i event steps deed found claim change nice told charge h is_event
+    dealt is_deed is_found is_claim is_change is_nice is_told is_charge =
     let there = touching cpu events in
-    ap (λ step. steps ++ step ∷ []) (step_is cpu claims nices policy event deed found claim change nice is_deed is_found
-    is_claim is_change is_nice
-    ∙ ap (step_of cpu claims nices policy) is_event)
-    ∙ ap (λ ss. ss ++ step_of cpu claims nices policy (get_or there i event) ∷ []) dealt
-    ∙ sym (map_more (step_of cpu claims nices policy) there i event h)
+    ap (λ step. steps ++ step ∷ []) (step_is cpu claims nices charges policy event deed found claim change nice told
+    charge is_deed is_found is_claim is_change is_nice is_told is_charge
+    ∙ ap (step_of cpu claims nices charges policy) is_event)
+    ∙ ap (λ ss. ss ++ step_of cpu claims nices charges policy (get_or there i event) ∷ []) dealt
+    ∙ sym (map_more (step_of cpu claims nices charges policy) there i event h)

@@ -11,6 +11,7 @@ use Rattle.cfs_model.specs.Limits.{most_processors}
 use Rattle.cfs_model.specs.declared.act.Entry.{Entry}
 use Rattle.cfs_model.specs.declared.claim.Claim.{Claim}
 use Rattle.cfs_model.specs.declared.nice_line.NiceLine.{NiceLine}
+use Rattle.cfs_model.specs.declared.charge_line.ChargeLine.{ChargeLine}
 use Rattle.replay_model.specs.StepAt.{step_at}
 use Rattle.replay_model.specs.Cut.{steps_at, touches}
 use Rattle.replay_model.specs.declared.step.Step.{Step}
@@ -120,25 +121,28 @@ indices_within cpu events =
     (within_from cpu 0 events)
 
 -- an event with what is said on its line, as a processor sees it
-abbrev pub step_of : ℕ → List Claim → List NiceLine → (Entry → Policy) → Entry → Step
-step_of cpu claims nices policy event = step_at cpu (with_claim claims nices policy event)
+abbrev pub step_of : ℕ → List Claim → List NiceLine → List ChargeLine → (Entry → Policy) → Entry → Step
+step_of cpu claims nices charges policy event = step_at cpu (with_claim claims nices charges policy event)
 
 -- the steps at a processor are those of the events that touch it
-pub steps_are : (cpu : ℕ) (claims : List Claim) (nices : List NiceLine) (policy : Entry → Policy) (events : List Entry)
-    → steps_at cpu (claimed claims nices policy events) ≡ map (step_of cpu claims nices policy) (touching cpu events)
-steps_are cpu claims nices policy [] = refl
-steps_are cpu claims nices policy (event ∷ events) =
-    by (touches_cpu cpu event.act) refl (steps_are cpu claims nices policy events)
+pub steps_are : (cpu : ℕ) (claims : List Claim) (nices : List NiceLine) (charges : List ChargeLine)
+    (policy : Entry → Policy) (events : List Entry)
+    → steps_at cpu (claimed claims nices charges policy events)
+    ≡ map (step_of cpu claims nices charges policy) (touching cpu events)
+steps_are cpu claims nices charges policy [] = refl
+steps_are cpu claims nices charges policy (event ∷ events) =
+    by (touches_cpu cpu event.act) refl (steps_are cpu claims nices charges policy events)
   where
     by : (b : Bool) → touches_cpu cpu event.act ≡ b
-        → steps_at cpu (claimed claims nices policy events) ≡ map (step_of cpu claims nices policy)
+        → steps_at cpu (claimed claims nices charges policy events) ≡ map (step_of cpu claims nices charges policy)
         (touching cpu events)
         → map (step_at cpu) (cond (touches_cpu cpu event.act)
-        (with_claim claims nices policy event ∷ filter (touches cpu) (claimed claims nices policy events))
-        (filter (touches cpu) (claimed claims nices policy events)))
-        ≡ map (step_of cpu claims nices policy) (cond (touches_cpu cpu event.act) (event ∷ touching cpu events)
+        (with_claim claims nices charges policy event ∷ filter (touches cpu) (claimed claims nices charges policy
+        events))
+        (filter (touches cpu) (claimed claims nices charges policy events)))
+        ≡ map (step_of cpu claims nices charges policy) (cond (touches_cpu cpu event.act) (event ∷ touching cpu events)
         (touching cpu events))
-    by true e rest = rw e (ap (λ xs. step_of cpu claims nices policy event ∷ xs) rest)
+    by true e rest = rw e (ap (λ xs. step_of cpu claims nices charges policy event ∷ xs) rest)
     by false e rest = rw e rest
 
 -- what stands at the next index is the next of these events

@@ -5,6 +5,7 @@ use Rattle.std.specs.Prelude.{All, Any}
 use Rattle.cfs_model.specs.declared.act.Entry.{Entry}
 use Rattle.cfs_model.specs.declared.claim.Claim.{Claim}
 use Rattle.cfs_model.specs.declared.nice_line.NiceLine.{NiceLine}
+use Rattle.cfs_model.specs.declared.charge_line.ChargeLine.{ChargeLine}
 use Rattle.cfs_model.specs.Touch.{touched}
 use Rattle.companion_file.specs.Companion.{CompanionView}
 use Rattle.sched_record.specs.declared.joining.JoinCause.{JoinCause}
@@ -60,8 +61,10 @@ none_stray events companion line good (inl claim) =
     claim.1 (said_line (λ (c : Claim). c.line) events companion.claims line good.claimed claim.0)
 none_stray events companion line good (inr (inl change)) =
     change.1 (said_line (λ (n : NiceLine). n.line) events companion.nices line good.reniced change.0)
-none_stray events companion line good (inr (inr (k, idle, h, at, (on, stray)))) =
+none_stray events companion line good (inr (inr (inl (k, idle, h, at, (on, stray))))) =
     stray (subst (NamesBirth events) at (good.born k idle h))
+none_stray events companion line good (inr (inr (inr charge))) =
+    charge.1 (said_line (λ (c : ChargeLine). c.line) events companion.charges line good.charged charge.0)
 
 one_stray : (events : List Entry) (companion : CompanionView) (m n : ℕ) → IsFirstStray events companion m
     → IsFirstStray events companion n → m ≡ n

@@ -188,8 +188,7 @@ pub not_idle_before : (idles : List IdleLine) (spans : List IdleSpan) (policies 
 not_idle_before idles spans policies events line pid told start some none =
     let birth = last_birth 0 events line pid in
     let above = birth_above_line 0 events line pid some in
-    let none_starts : starts_span spans birth pid ≡ false =
-    elim (cases_Bool (starts_span spans birth pid)) [
+    let none_starts : starts_span spans birth pid ≡ false = elim (cases_Bool (starts_span spans birth pid)) [
       | inr isnt ↦ isnt
       | inl is_so ↦ (
           let at = any_span spans birth pid is_so in

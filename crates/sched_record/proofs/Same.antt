@@ -10,6 +10,7 @@ use Rattle.cfs_model.specs.declared.claim.Claim.{Claim}
 use Rattle.cfs_model.specs.declared.claim.ClaimSort.{ClaimSort}
 use Rattle.cfs_model.specs.declared.claim.ClaimSort.TheVariants.{At, Pass}
 use Rattle.cfs_model.specs.declared.nice_line.NiceLine.{NiceLine}
+use Rattle.cfs_model.specs.declared.charge_line.ChargeLine.{ChargeLine}
 use Rattle.replay_model.specs.declared.step.Deed.{Deed}
 use Rattle.replay_model.specs.declared.step.Deed.TheVariants.{Switch, Wake, Born, Leave, Arrive}
 use Rattle.replay_model.specs.declared.step.Step.{Step}
@@ -20,6 +21,7 @@ use Rattle.cfs_model.specs.contracts.act.WayPartialEq.TheImpl as way_eq
 use Rattle.cfs_model.specs.contracts.claim.ClaimPartialEq.TheImpl as claim_eq
 use Rattle.cfs_model.specs.contracts.claim.ClaimSortPartialEq.TheImpl as sort_eq
 use Rattle.cfs_model.specs.contracts.nice_line.NiceLinePartialEq.TheImpl as nice_eq
+use Rattle.cfs_model.specs.contracts.charge_line.ChargeLinePartialEq.TheImpl as charge_eq
 use Rattle.replay_model.specs.contracts.step.DeedPartialEq.TheImpl as deed_eq
 use Rattle.replay_model.specs.contracts.step.StepPartialEq.TheImpl as step_eq
 use Rattle.cfs_model.specs.contracts.task.TaskPartialEq.TheImpl as task_eq
@@ -57,6 +59,16 @@ change_decides : (a b : Option NiceLine) → Decides (option_eq (nice_eq.ghosts)
 change_decides None None = (λ _. refl, λ _. refl)
 change_decides (Some a) (Some b) = Decides-like _ (λ h. cc) (λ e. cc) (nice_decides a b)
 change_decides a b = (λ h. cc, λ h. cc)
+
+charge_decides : (a b : ChargeLine) → Decides ((charge_eq.ghosts).eq a b) (a ≡ b)
+charge_decides a b =
+    Decides-like _ (λ h i. record { line = h.0 i; pid = h.1.0 i; v = h.1.1 i }) (λ e. (cc, (cc, cc)))
+    (Decides-and _ _ (Decides-eqb a.line b.line) (Decides-and _ _ (Decides-eqb a.pid b.pid) (Decides-int_eq a.v b.v)))
+
+told_decides : (a b : Option ChargeLine) → Decides (option_eq (charge_eq.ghosts).eq a b) (a ≡ b)
+told_decides None None = (λ _. refl, λ _. refl)
+told_decides (Some a) (Some b) = Decides-like _ (λ h. cc) (λ e. cc) (charge_decides a b)
+told_decides a b = (λ h. cc, λ h. cc)
 
 deed_decides : (a b : Deed) → Decides ((deed_eq.ghosts).eq a b) (a ≡ b)
 deed_decides (Switch prev prev_nice way next next_nice) (Switch prev' prev_nice' way' next' next_nice') =
@@ -102,12 +114,13 @@ step_decides a b =
       time = h.1.0 i;
       deed = h.1.1.0 i;
       claim = h.1.1.1.0 i;
-      nice = h.1.1.1.1 i;
+      nice = h.1.1.1.1.0 i;
+      charge = h.1.1.1.1.1 i;
     })
-    (λ e. (cc, (cc, (cc, (cc, cc)))))
+    (λ e. (cc, (cc, (cc, (cc, (cc, cc))))))
     (Decides-and _ _ (Decides-eqb a.line b.line) (Decides-and _ _ (Decides-eqb a.time b.time)
     (Decides-and _ _ (deed_decides a.deed b.deed) (Decides-and _ _ (option_decides a.claim b.claim)
-    (change_decides a.nice b.nice)))))
+    (Decides-and _ _ (change_decides a.nice b.nice) (told_decides a.charge b.charge))))))
 
 -- two streams hold the same where each of what they hold is equal
 pub is_same_decides : (a b : StreamView) → Decides (is_same a b) (a ≡ b)

@@ -1,4 +1,5 @@
--- The least lines of stray claims, changes of nice values and idle lines: the least of them is the least of all.
+-- The least lines of stray claims, changes of nice values, idle lines and charges: the least of them is the least of
+-- all.
 use Rattle.std.proofs.Common.{◌≡◌, ℕ, ◌+◌, ◌<◌, ◌≤◌, ◌&&◌, List, [], ◌∷◌, length, get_or, min, Option, Some, None}
 use Rattle.std.proofs.Common.{IsTrue, Bool, true, false, true≢false, eqb, inl, inr, ◌⊎◌, refl, sym, ap, ◌∙◌, subst}
 use Rattle.std.proofs.Common.{arith}
@@ -92,7 +93,7 @@ same_at : {X : Type 0} (items : List X) (k : ℕ) (d : X) → k < length items
     → get_or items k (get_or items k d) ≡ get_or items k d
 same_at items k d h = get_or_default items k (get_or items k d) d h
 
--- where no line is stray, claims and changes of nice values stand on events' lines
+-- where no line is stray, claims, changes of nice values and charges stand on events' lines
 pub claims_on_events : (events : List Entry) (companion : CompanionView)
     → ((line : ℕ) → ¬ IsStray events companion line)
     → All (λ claim. IsTrue (is_event_line events claim.line)) companion.claims
@@ -107,17 +108,26 @@ nices_on_events events companion none k d h =
       stray,
     ))))
 
+pub charges_on_events : (events : List Entry) (companion : CompanionView)
+    → ((line : ℕ) → ¬ IsStray events companion line)
+    → All (λ charge. IsTrue (is_event_line events charge.line)) companion.charges
+charges_on_events events companion none k d h =
+    on_not _ (λ stray. none _ (inr (inr (inr (
+      (k, get_or companion.charges k d, h, same_at companion.charges k d h, refl),
+      stray,
+    )))))
+
 -- and idle lines of births on one of their pid
 pub idles_on_births : (events : List Entry) (companion : CompanionView) → ((line : ℕ) → ¬ IsStray events companion line)
     → All (NamesBirth events) companion.idles
 idles_on_births events companion none k d h some =
-    on_not _ (λ stray. none _ (inr (inr (
+    on_not _ (λ stray. none _ (inr (inr (inl (
       k,
       get_or companion.idles k d,
       h,
       same_at companion.idles k d h,
       (refl, λ names. stray (names some)),
-    ))))
+    )))))
 
 -- what stands at the index tells whether a birth of the pid stands on the line
 there_at : (events : List Entry) (to_index : ℕ) (idle : IdleLine) (d : Entry) → to_index < length events

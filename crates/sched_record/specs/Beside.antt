@@ -22,6 +22,10 @@ IsClaimIndex r = IsIndexBeside _ (λ claim. claim.line) r.claims r.events
 abbrev pub IsNiceIndex : RecordView → ℕ → ℕ → Type 0
 IsNiceIndex r = IsIndexBeside _ (λ change. change.line) r.nices r.events
 
+-- such an index in a record's charges
+abbrev pub IsChargeIndex : RecordView → ℕ → ℕ → Type 0
+IsChargeIndex r = IsIndexBeside _ (λ charge. charge.line) r.charges r.events
+
 -- the event at the index is the birth that the idle line speaks of
 abbrev pub is_birth_there : List Entry → ℕ → IdleLine → Bool
 is_birth_there events index idle =

@@ -9,6 +9,7 @@ use Rattle.cfs_model.specs.declared.act.Entry.{Entry}
 use Rattle.cfs_model.specs.declared.claim.Claim.{Claim}
 use Rattle.cfs_model.specs.declared.idle_line.IdleLine.{IdleLine}
 use Rattle.cfs_model.specs.declared.nice_line.NiceLine.{NiceLine}
+use Rattle.cfs_model.specs.declared.charge_line.ChargeLine.{ChargeLine}
 use Rattle.cfs_model.specs.Touch.{touched}
 use Rattle.companion_file.specs.Companion.{CompanionView}
 use Rattle.sched_record.specs.declared.joining.JoinCause.{JoinCause}
@@ -71,19 +72,23 @@ HasStrayNice events nices line = Any (λ change. change.line ≡ line) nices × 
 abbrev pub HasStrayIdle : List Entry → List IdleLine → ℕ → Type 0
 HasStrayIdle events idles line = Any (λ idle. (idle.line ≡ line) × (¬ NamesBirth events idle)) idles
 
+-- a charge is told on the line, which is no event's
+abbrev pub HasStrayCharge : List Entry → List ChargeLine → ℕ → Type 0
+HasStrayCharge events charges line = Any (λ charge. charge.line ≡ line) charges × (¬ IsTrue (is_event_line events line))
+
 -- one of these does
 abbrev pub IsStray : List Entry → CompanionView → ℕ → Type 0
 IsStray events companion line =
     HasStrayClaim events companion.claims line ⊎ HasStrayNice events companion.nices line
-    ⊎ HasStrayIdle events companion.idles line
+    ⊎ HasStrayIdle events companion.idles line ⊎ HasStrayCharge events companion.charges line
 
 -- the least number of which this holds, if there is one
 abbrev pub IsLeastOf : (ℕ → Type 0) → Option ℕ → Type 0
 IsLeastOf P None = (n : ℕ) → ¬ P n
 IsLeastOf P (Some n) = P n × ((m : ℕ) → P m → n ≤ m)
 
--- the least line on which a claim or a change of a nice value stands that is no event's line, or an idle line with no
--- birth of its pid
+-- the least line on which a claim, a change of a nice value or a charge stands that is no event's line, or an idle line
+-- with no birth of its pid
 abbrev pub IsFirstStray : List Entry → CompanionView → ℕ → Type 0
 IsFirstStray events companion line = IsLeastOf (IsStray events companion) (Some line)
 
@@ -103,6 +108,7 @@ pub record GoTogether (events : List Entry) (companion : CompanionView) : Type 0
   pub claimed : All (λ claim. IsTrue (is_event_line events claim.line)) companion.claims
   pub reniced : All (λ change. IsTrue (is_event_line events change.line)) companion.nices
   pub born : All (NamesBirth events) companion.idles
+  pub charged : All (λ charge. IsTrue (is_event_line events charge.line)) companion.charges
 
 -- the record of a trace's events and a companion: all of both
 abbrev pub joined_record : List Entry → CompanionView → RecordView
@@ -115,6 +121,7 @@ joined_record events c = record {
   claims = c.claims;
   nices = c.nices;
   idles = c.idles;
+  charges = c.charges;
 }
 
 -- joining gives the record of both, or the first reason why they don't go together

@@ -46,6 +46,7 @@ companion_part r = record {
   claims = r.claims;
   nices = r.nices;
   idles = r.idles;
+  charges = r.charges;
 }
 
 -- both parts are in order, and they go together
@@ -57,3 +58,4 @@ pub record IsRecordInOrder (r : RecordView) : Type 0 where
   pub claimed : All (λ claim. IsTrue (is_event_line r.events claim.line)) r.claims
   pub reniced : All (λ change. IsTrue (is_event_line r.events change.line)) r.nices
   pub born : All (NamesBirth r.events) r.idles
+  pub charged : All (λ charge. IsTrue (is_event_line r.events charge.line)) r.charges

@@ -4,6 +4,7 @@ use Rattle.cfs_model.specs.declared.act.Entry.{Entry}
 use Rattle.cfs_model.specs.declared.claim.Claim.{Claim}
 use Rattle.cfs_model.specs.declared.idle_line.IdleLine.{IdleLine}
 use Rattle.cfs_model.specs.declared.nice_line.NiceLine.{NiceLine}
+use Rattle.cfs_model.specs.declared.charge_line.ChargeLine.{ChargeLine}
 use Rattle.cfs_model.specs.declared.policy.Policy.{Policy}
 use Rattle.cfs_model.specs.declared.task.Task.{Task}
 use Rattle.cfs_model.specs.Claimed.{policy_in}
@@ -19,6 +20,7 @@ pub record RecordView : Type 0 where
   pub claims : List Claim
   pub nices : List NiceLine
   pub idles : List IdleLine
+  pub charges : List ChargeLine
 
 -- the policy of the task that an event of the record bears or moves
 abbrev pub policy_of : RecordView → Entry → Policy

@@ -6,6 +6,7 @@ use Rattle.cfs_model.specs.Nice.{IsNice}
 use Rattle.replay_model.specs.Cut.{StreamView, cut}
 use Rattle.cfs_model.specs.declared.claim.Claim.{Claim}
 use Rattle.cfs_model.specs.declared.nice_line.NiceLine.{NiceLine}
+use Rattle.cfs_model.specs.declared.charge_line.ChargeLine.{ChargeLine}
 use Rattle.replay_model.specs.declared.step.Deed.{Deed}
 use Rattle.replay_model.specs.declared.step.Deed.TheVariants.{Switch, Wake, Born, Leave, Arrive}
 use Rattle.replay_model.specs.declared.step.Step.{Step}
@@ -30,6 +31,11 @@ pub record OwnsNice (step : Step) (change : NiceLine) : Type 0 where
   pub line : change.line ≡ step.line
   pub in_range : IsNice change.nice
 
+-- a step's told charge stands on its line, with a virtual runtime in range
+pub record OwnsCharge (step : Step) (charge : ChargeLine) : Type 0 where
+  pub line : charge.line ≡ step.line
+  pub in_range : IsInRange charge.v
+
 -- what every stream keeps
 pub record IsStream (s : StreamView) : Type 0 where
   pub here : All (λ task. task.cpu ≡ s.cpu) s.tasks
@@ -44,7 +50,8 @@ pub record IsStream (s : StreamView) : Type 0 where
   pub no_idle : All (λ step. All (λ pid. 0 < pid) (tasks_of_deed step.deed)) s.steps
   pub claims : All (λ step. (claim : Claim) → step.claim ≡ Some claim → OwnsClaim step claim) s.steps
   pub nices : All (λ step. (change : NiceLine) → step.nice ≡ Some change → OwnsNice step change) s.steps
+  pub charges : All (λ step. (charge : ChargeLine) → step.charge ≡ Some charge → OwnsCharge step charge) s.steps
 
 -- what a processor sees of a record
 abbrev pub cut_of : RecordView → ℕ → StreamView
-cut_of r cpu = cut r.start r.floors r.tasks (claimed r.claims r.nices (policy_of r) r.events) cpu
+cut_of r cpu = cut r.start r.floors r.tasks (claimed r.claims r.nices r.charges (policy_of r) r.events) cpu

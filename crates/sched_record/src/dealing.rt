@@ -1,14 +1,15 @@
 ghost use Rattle.std.specs.Prelude.{◌≡◌, ◌==◌, ℕ, ◌<◌, ◌≤◌, length, pos, IfOk, slice_index_or};
-ghost use Rattle.cfs_model.specs.Claimed.{claim_at, nice_at};
-ghost use Rattle.replay_model.specs.StepAt.{claim_for, deed_at as deed_here, nice_for, step_at as step_here};
+ghost use Rattle.cfs_model.specs.Claimed.{charge_at, claim_at, nice_at};
 ghost use Rattle.replay_model.specs.Cut.{tasks_at};
+ghost use Rattle.replay_model.specs.StepAt.{charge_for, claim_for, deed_at as deed_here, nice_for};
+ghost use Rattle.replay_model.specs.StepAt.{step_at as step_here};
 
 use crate::lists::Steps;
 use crate::on_line::{index_from, index_near, item_on};
 use crate::policies::{has_span, policy_if_idle, span_before};
 use crate::record::Record;
 use crate::stream::Stream;
-use cfs_model::{Act, Claim, Entry, Memory, NO_LINE, NiceLine, Policy, Task};
+use cfs_model::{Act, ChargeLine, Claim, Entry, Memory, NO_LINE, NiceLine, Policy, Task};
 use companion_file::Tasks;
 use replay_model::{Deed, Step};
 use std::alloc::Global;
@@ -19,7 +20,7 @@ impl Record {
     ghost use Rattle.cfs_model.specs.Start.{policies_at_start};
     ghost use Rattle.cfs_model.specs.declared.act.Entry.{Entry};
     ghost use Rattle.replay_model.specs.Cut.{steps_at};
-    ghost use Rattle.sched_record.specs.Beside.{IsClaimIndex, IsNiceIndex};
+    ghost use Rattle.sched_record.specs.Beside.{IsChargeIndex, IsClaimIndex, IsNiceIndex};
     ghost use Rattle.sched_record.specs.RecordView.{policy_of};
     ghost use Rattle.sched_record.specs.Record.{record_view};
     ghost use Rattle.sched_record.specs.Stream.{cut_of, stream_view};
@@ -73,6 +74,21 @@ impl Record {
         (item_on(nices, index, line), index)
     }
 
+    /// The charge that is told on an event's line, sought from an index in the charges on, and the index for the next
+    /// event. The walk begins at index 0.
+    pub fn charge_beside(&self, event: usize, from: usize) -> (Option<ChargeLine>, usize)
+        requires event { event < length (record_view self.now).events }
+        requires from { IsChargeIndex (record_view self.now) event from }
+        ensures charge { (entry : Entry) → result.0 ≡ charge_at (record_view self.now).charges
+            (slice_index_or (record_view self.now).events event entry).line }
+        ensures next { IsChargeIndex (record_view self.now) (event + 1) result.1 }
+    {
+        let charges = self.charges();
+        let line = self.events()[event].line;
+        let index = index_from(charges, from, line);
+        (item_on(charges, index, line), index)
+    }
+
     /// The policy of the task that an event bears or moves. It takes no memory.
     pub fn policy_at(&self, event: usize) -> Policy
         requires { event < length (record_view self.now).events }
@@ -116,33 +132,39 @@ impl Record {
     fn steps_of(&self, alloc: Global, cpu: u32) -> Result<Steps, Memory>
         requires { cpu < (record_view self.now).cpus }
         ensures { let r = record_view self.now in
-            IfOk result (λ list. list ≡ steps_at cpu (claimed r.claims r.nices (policy_of r) r.events)) }
+            IfOk result (λ list. list ≡ steps_at cpu (claimed r.claims r.nices r.charges (policy_of r) r.events)) }
     {
         let trace = self.trace();
         let claims = self.claims();
         let nices = self.nices();
+        let charges = self.charges();
         let events = self.events();
         let indices = trace.indices(cpu);
         let mut steps = Vec::with_capacity(alloc, indices.len())?;
         let mut claims_from = 0;
         let mut nices_from = 0;
+        let mut charges_from = 0;
         for index in indices {
             let event = events[*index as usize];
             let hint = trace.hint(*index);
             claims_from = index_near(claims, claims_from, hint.claim, event.line);
             nices_from = index_near(nices, nices_from, hint.nice, event.line);
+            charges_from = index_near(charges, charges_from, hint.charge, event.line);
             let claimed = item_on(claims, claims_from, event.line);
             let change = item_on(nices, nices_from, event.line);
+            let told = item_on(charges, charges_from, event.line);
             let policy = self.policy_of(&event);
             let deed = deed_at(event.act, policy, cpu);
             let claim = claim_for(&deed, claimed);
             let nice = nice_for(&deed, change);
+            let charge = charge_for(&deed, told);
             steps.push(Step {
                 line: event.line,
                 time: event.time,
                 deed,
                 claim,
                 nice,
+                charge,
             })?;
         }
         Ok(Steps::from_vec(steps))
@@ -170,16 +192,23 @@ fn tasks_of(alloc: Global, tasks: &[Task], cpu: u32) -> Result<Tasks, Memory>
     Ok(Tasks::from_vec(here))
 }
 
-/// An event with the claim and the change of a nice value on its line, and the policy of the task that it bears or
-/// moves, as a processor that it touches sees it.
+/// An event with the claim, the change of a nice value and the told charge on its line, and the policy of the task that
+/// it bears or moves, as a processor that it touches sees it.
 pub fn step_at(
     event: Entry,
     claim: Option<Claim>,
     nice: Option<NiceLine>,
+    charge: Option<ChargeLine>,
     policy: Policy,
     cpu: u32,
 ) -> Step
-    ensures { result ≡ step_here cpu (record { entry = event; claim = claim; nice = nice; policy = policy }) }
+    ensures { result ≡ step_here cpu (record {
+      entry = event;
+      claim = claim;
+      nice = nice;
+      charge = charge;
+      policy = policy;
+    }) }
 {
     let deed = deed_at(event.act, policy, cpu);
     Step {
@@ -188,6 +217,7 @@ pub fn step_at(
         deed,
         claim: claim_for(&deed, claim),
         nice: nice_for(&deed, nice),
+        charge: charge_for(&deed, charge),
     }
 }
 
@@ -249,5 +279,15 @@ fn nice_for(deed: &Deed, change: Option<NiceLine>) -> Option<NiceLine>
     match *deed {
         Deed::Arrive { .. } => None,
         Deed::Switch { .. } | Deed::Wake { .. } | Deed::Born { .. } | Deed::Leave { .. } => change,
+    }
+}
+
+/// The told charge of a step: a task that comes has none.
+fn charge_for(deed: &Deed, charge: Option<ChargeLine>) -> Option<ChargeLine>
+    ensures { result ≡ charge_for deed.now charge }
+{
+    match *deed {
+        Deed::Arrive { .. } => None,
+        Deed::Switch { .. } | Deed::Wake { .. } | Deed::Born { .. } | Deed::Leave { .. } => charge,
     }
 }

@@ -3,7 +3,7 @@ ghost use Rattle.cfs_model.specs.Limits.{most_processors};
 ghost use Rattle.sched_record.specs.Indices.{indices_at, touches_cpu};
 
 use crate::on_line::index_from;
-use cfs_model::{Act, Claim, Entry, MOST_PROCESSORS, Memory, NiceLine};
+use cfs_model::{Act, ChargeLine, Claim, Entry, MOST_PROCESSORS, Memory, NiceLine};
 use plain_list::PlainList;
 use std::alloc::Global;
 use std::marker::Model;
@@ -11,15 +11,21 @@ use std::marker::Model;
 /// How many events have one hint together. What the companion says of so many is passed over one by one.
 const EVENTS_A_HINT: usize = 16;
 
-/// Where in a record's claims, and in its changes of nice values, those on an event's line or below it begin.
+/// Where in a record's claims, in its changes of nice values and in its charges, those on an event's line or below it
+/// begin.
 #[derive(Clone, Copy, Debug)]
 pub(crate) struct Hint {
     pub(crate) claim: usize,
     pub(crate) nice: usize,
+    pub(crate) charge: usize,
 }
 
 /// The hint of an event that has none.
-const NO_HINT: Hint = Hint { claim: 0, nice: 0 };
+const NO_HINT: Hint = Hint {
+    claim: 0,
+    nice: 0,
+    charge: 0,
+};
 
 /// For each processor the indices of the events that touch it, so that what a processor sees of a record is found
 /// without going over all of it. Processors from `MOST_PROCESSORS` on have none: no record has them.
@@ -60,9 +66,15 @@ impl Indices {
         }
     }
 
-    /// Sets the hints: where in these claims and these changes of nice values those of the events begin. Takes no
+    /// Sets the hints: where in these claims, changes of nice values and charges those of the events begin. Takes no
     /// memory.
-    pub(crate) fn set_hints(&mut self, events: &[Entry], claims: &[Claim], nices: &[NiceLine])
+    pub(crate) fn set_hints(
+        &mut self,
+        events: &[Entry],
+        claims: &[Claim],
+        nices: &[NiceLine],
+        charges: &[ChargeLine],
+    )
         ensures { self.new ≡ self.old }
     {
         let mut first = 0;
@@ -72,6 +84,7 @@ impl Indices {
                 last = Hint {
                     claim: index_from(claims, last.claim, event.line),
                     nice: index_from(nices, last.nice, event.line),
+                    charge: index_from(charges, last.charge, event.line),
                 };
                 *hint = last;
             }

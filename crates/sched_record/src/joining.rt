@@ -26,8 +26,8 @@ pub enum JoinCause {
     CpuOutside,
     /// The first event comes before the start.
     StartLate,
-    /// A claim or a change of a nice value stands on a line that is no event's, or an idle line of a task that is born
-    /// on one that is no birth of its pid: the least such line.
+    /// A claim, a change of a nice value or a charge stands on a line that is no event's, or an idle line of a task
+    /// that is born on one that is no birth of its pid: the least such line.
     ClaimNoEvent,
 }
 
@@ -122,8 +122,8 @@ fn early_line(events: &[Entry], start: u64) -> Option<u32>
     }
 }
 
-/// The least line of a claim or of a change of a nice value that is no event's line, or of an idle line with no birth
-/// of its pid.
+/// The least line of a claim, of a change of a nice value or of a charge that is no event's line, or of an idle line
+/// with no birth of its pid.
 fn stray_line(events: &[Entry], companion: &Companion) -> Option<u32>
     requires { AllPairs (λ a b. a.line < b.line) events.now }
     ensures claimed { IfNone result (All (λ claim. IsTrue (is_event_line events.now claim.line))
@@ -131,12 +131,15 @@ fn stray_line(events: &[Entry], companion: &Companion) -> Option<u32>
     ensures reniced { IfNone result (All (λ change. IsTrue (is_event_line events.now change.line))
         (companion_view companion.now).nices) }
     ensures born { IfNone result (All (NamesBirth events.now) (companion_view companion.now).idles) }
+    ensures charged { IfNone result (All (λ charge. IsTrue (is_event_line events.now charge.line))
+        (companion_view companion.now).charges) }
     ensures found { IfSome result (λ line. IsFirstStray events.now (companion_view companion.now) line) }
 {
     let claim = first_stray(events, companion.claims());
     let change = first_stray(events, companion.nices());
     let idle = first_stray_idle(events, companion.idles());
-    lesser(claim, lesser(change, idle))
+    let charge = first_stray(events, companion.charges());
+    lesser(claim, lesser(change, lesser(idle, charge)))
 }
 
 /// The lesser of the lines that there are.

@@ -1,7 +1,7 @@
 ghost use Rattle.std.specs.Prelude.{◌≡◌, ◌==◌, ℕ, ◌<◌, ◌≤◌, find, length, slice_index_or};
 ghost use Rattle.std.specs.List.{AllPairs};
 
-use cfs_model::{Claim, Entry, NiceLine};
+use cfs_model::{ChargeLine, Claim, Entry, NiceLine};
 
 /// What stands on a line of the trace.
 pub(crate) trait OnLine {
@@ -30,6 +30,14 @@ impl OnLine for Claim {
 
 impl OnLine for NiceLine {
     ghost line = { λ change. change.line };
+
+    fn line(&self) -> u32 {
+        self.line
+    }
+}
+
+impl OnLine for ChargeLine {
+    ghost line = { λ charge. charge.line };
 
     fn line(&self) -> u32 {
         self.line

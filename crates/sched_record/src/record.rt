@@ -6,7 +6,7 @@ ghost use Rattle.sched_record.specs.Policies.{EndsAtBirth};
 
 use crate::ending::end_spans;
 use crate::trace::Trace;
-use cfs_model::{Claim, Entry, IdleLine, NO_LINE, NiceLine, Task};
+use cfs_model::{ChargeLine, Claim, Entry, IdleLine, NO_LINE, NiceLine, Task};
 use companion_file::{Companion, IdleSpan};
 use std::alloc::Global;
 
@@ -30,7 +30,7 @@ impl Record {
     {
         let mut trace = trace;
         let mut companion = companion;
-        trace.set_hints(companion.claims(), companion.nices());
+        trace.set_hints(companion.claims(), companion.nices(), companion.charges());
         end_spans(trace.events(), &mut companion);
         Record { trace, companion }
     }
@@ -75,6 +75,13 @@ impl Record {
         ensures { result.now ≡ (record_view self.now).idles }
     {
         self.companion.idles()
+    }
+
+    /// The charges that are told, in the order of their lines.
+    pub fn charges(&self) -> &[ChargeLine]
+        ensures { result.now ≡ (record_view self.now).charges }
+    {
+        self.companion.charges()
     }
 
     /// From which line to which tasks are of the idle policy, by rising pid, and at one pid by rising line.

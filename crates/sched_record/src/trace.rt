@@ -6,7 +6,7 @@ ghost use Rattle.sched_record.specs.Kept.{AreInOrder};
 
 use crate::indices::{Hint, Indices};
 use crate::lists::Events;
-use cfs_model::{Claim, Entry, NiceLine};
+use cfs_model::{ChargeLine, Claim, Entry, NiceLine};
 use std::alloc::Global;
 use std::mem::size_of;
 
@@ -49,13 +49,13 @@ impl Trace {
         self.indices.at(cpu)
     }
 
-    /// Sets the hints: where in these claims and these changes of nice values those of the events begin, for `hint`.
-    /// Takes no memory.
-    pub(crate) fn set_hints(&mut self, claims: &[Claim], nices: &[NiceLine])
+    /// Sets the hints: where in these claims, changes of nice values and charges those of the events begin. Takes no
+    /// memory.
+    pub(crate) fn set_hints(&mut self, claims: &[Claim], nices: &[NiceLine], charges: &[ChargeLine])
         ensures { trace_view self.new ≡ trace_view self.old }
     {
         self.indices
-            .set_hints(self.events.as_slice(), claims, nices);
+            .set_hints(self.events.as_slice(), claims, nices, charges);
     }
 
     /// Where that of this event and later ones may begin, in the lists by which the hints were set.

@@ -150,9 +150,9 @@ pages_add_up knobs start floors tasks events cpus pages r enough say = (run, eac
         tally_is pid (total_by (λ t. t.ran) pid ts) t.ran (total_by (λ t. t.charged) pid ts) t.charged
         (total_by (λ t. t.picks) pid ts) t.picks
         (all (λ t. t.ran) pid (ran_by pid) (λ cpu k. (at cpu k).ran pid)
-        ∙ given_is_added (λ m time cpu. ran_at m time pid cpu) m events run.states)
+        ∙ given_is_added (λ m event cpu. ran_at m event.entry.time pid cpu) m events run.states)
         (all (λ t. t.charged) pid (charged_by pid) (λ cpu k. (at cpu k).charged pid)
-        ∙ given_is_added (λ m time cpu. charged_at m time pid cpu) m events run.states)
+        ∙ given_is_added (λ m event cpu. charged_at m event pid cpu) m events run.states)
         (all (λ t. t.picks) pid (picked_by pid) (λ cpu k. (at cpu k).picks pid)
         ∙ given_is_counted knobs pid m events run.states run.steps)
 

@@ -1,6 +1,6 @@
 -- The tallies of a processor before its first step: one for each of its tasks, of one that has done nothing.
 use Rattle.std.proofs.Common.{◌≡◌, ℕ, ◌<◌, nat_eq, Bool, true, false, ◌||◌, cond, Some, option_map, ℤ, List, [], ◌∷◌}
-use Rattle.std.proofs.Common.{map, find, refl, sym, ap, ◌∙◌, subst, arith}
+use Rattle.std.proofs.Common.{map, find, pos, refl, sym, ap, ◌∙◌, subst, arith}
 use Rattle.std.specs.List.{AllByRecursion}
 use Rattle.std.proofs.lemmas.Bool.{ne_eqb}
 use Rattle.cfs_model.specs.Claimed.{Claimed}
@@ -33,7 +33,8 @@ has_found [] floor start pid s e = absurd cc
 has_found (t ∷ tasks) floor start pid s e = go (nat_eq t.pid pid) e (has_found tasks floor start pid s)
   where
     go : (b : Bool)
-        → option_map (λ (t : Task). record { place = t.place; nice = t.nice; policy = t.policy; runtime = t.v })
+        → option_map (λ (t : Task). record
+        { place = t.place; nice = t.nice; policy = t.policy; runtime = t.v; drift = pos 0 })
         (cond b (Some t) (find (λ (u : Task). nat_eq u.pid pid) tasks)) ≡ Some s
         → ((start_part tasks floor start).tasks pid ≡ Some s → has_tally (idle_tallies tasks) pid ≡ true)
         → (b || has_tally (idle_tallies tasks) pid) ≡ true

@@ -1,9 +1,10 @@
 -- What a charge adds to the tallies of a page, where each pid that stands at the processor has one: the time since the
--- mark and its cost, to that of who runs.
+-- mark and its cost, exact or as told, to that of who runs.
 use Rattle.std.proofs.Common.{◌≡◌, ℕ, ◌+◌, ◌-◌, true, false, Option, Some, None, List, refl, sym, ap, ◌∙◌, arith}
-use Rattle.replay_model.specs.Part.{Part, Entity, cost_in}
-use Rattle.replay_model.specs.Noted.{tallies_after_run, charged_tally, charged_tallies}
+use Rattle.replay_model.specs.Part.{Part, Entity}
+use Rattle.replay_model.specs.Noted.{told_cost, tallies_after_run, charged_tally, charged_tallies}
 use Rattle.tally_laws.proofs.TalliesSaid.{said, has_tally, Once, KeepsPid, has_map, said_map, once_map}
+use Rattle.cfs_model.specs.declared.charge_line.ChargeLine.{ChargeLine}
 use Rattle.cfs_model.specs.declared.task.Place.{Place}
 use Rattle.cfs_model.specs.declared.task.Place.TheVariants.{Run, Wait, Rest}
 use Rattle.replay_model.specs.declared.page.Tally.{Tally}
@@ -18,9 +19,9 @@ abbrev pub time_of : Part → ℕ → Option Entity → ℕ
 time_of part time None = 0
 time_of part time (Some s) = of_runner s.place (time - part.mark)
 
-abbrev pub charge_to : Part → ℕ → Option Entity → ℕ
-charge_to part time None = 0
-charge_to part time (Some s) = of_runner s.place (cost_in part time s)
+abbrev pub charge_to : Part → ℕ → Option ChargeLine → ℕ → Option Entity → ℕ
+charge_to part time charge pid None = 0
+charge_to part time charge pid (Some s) = of_runner s.place (told_cost charge part time pid s)
 
 run_pid : (place : Place) (time cost : ℕ) (tally : Tally) → (tallies_after_run place time cost tally).pid ≡ tally.pid
 run_pid Run time cost tally = refl
@@ -46,28 +47,28 @@ run_picks Wait time cost tally = omega arith
 run_picks Rest time cost tally = omega arith
 
 -- the charge of one tally
-module _ (part : Part) (time : ℕ) where
-  charge_pid : (o : Option Entity) (tally : Tally) → (charged_tally part time o tally).pid ≡ tally.pid
+module _ (part : Part) (time : ℕ) (charge : Option ChargeLine) where
+  charge_pid : (o : Option Entity) (tally : Tally) → (charged_tally part time charge o tally).pid ≡ tally.pid
   charge_pid None tally = refl
-  charge_pid (Some s) tally = run_pid s.place (time - part.mark) (cost_in part time s) tally
+  charge_pid (Some s) tally = run_pid s.place (time - part.mark) (told_cost charge part time tally.pid s) tally
 
   charge_ran : (o : Option Entity) (tally : Tally)
-      → (charged_tally part time o tally).ran ≡ tally.ran + time_of part time o
+      → (charged_tally part time charge o tally).ran ≡ tally.ran + time_of part time o
   charge_ran None tally = omega arith
-  charge_ran (Some s) tally = run_ran s.place (time - part.mark) (cost_in part time s) tally
+  charge_ran (Some s) tally = run_ran s.place (time - part.mark) (told_cost charge part time tally.pid s) tally
 
   charge_charged : (o : Option Entity) (tally : Tally)
-      → (charged_tally part time o tally).charged ≡ tally.charged + charge_to part time o
+      → (charged_tally part time charge o tally).charged ≡ tally.charged + charge_to part time charge tally.pid o
   charge_charged None tally = omega arith
-  charge_charged (Some s) tally = run_charged s.place (time - part.mark) (cost_in part time s) tally
+  charge_charged (Some s) tally = run_charged s.place (time - part.mark) (told_cost charge part time tally.pid s) tally
 
   charge_picks : (o : Option Entity) (tally : Tally)
-      → (charged_tally part time o tally).picks ≡ tally.picks + 0
+      → (charged_tally part time charge o tally).picks ≡ tally.picks + 0
   charge_picks None tally = omega arith
-  charge_picks (Some s) tally = run_picks s.place (time - part.mark) (cost_in part time s) tally
+  charge_picks (Some s) tally = run_picks s.place (time - part.mark) (told_cost charge part time tally.pid s) tally
 
   abbrev pub charged_one : Tally → Tally
-  charged_one tally = charged_tally part time (part.tasks tally.pid) tally
+  charged_one tally = charged_tally part time charge (part.tasks tally.pid) tally
 
   pub charge_keeps : KeepsPid charged_one
   charge_keeps tally = charge_pid (part.tasks tally.pid) tally
@@ -86,32 +87,35 @@ uncovered part tallies covers pid none = go (part.tasks pid) refl
     go (Some s) e = let k : true ≡ false = sym (covers pid s e) ∙ none in absurd cc
 
 -- the tallies after the charge
-module _ (part : Part) (time : ℕ) (tallies : List Tally) (covers : Covers part tallies) where
-  pub charged_ran : (pid : ℕ) → said (λ t. t.ran) (charged_tallies part time tallies) pid
-      ≡ said (λ t. t.ran) tallies pid + time_of part time (part.tasks pid)
-  charged_ran pid = said_map (λ t. t.ran) (charged_one part time) (charge_keeps part time) pid
-      (time_of part time (part.tasks pid))
-      (λ tally e. charge_ran part time (part.tasks tally.pid) tally
-      ∙ ap (λ p. tally.ran + time_of part time (part.tasks p)) e)
-      tallies (λ none. ap (time_of part time) (uncovered part tallies covers pid none))
+module _ (part : Part) (time : ℕ) (charge : Option ChargeLine) (tallies : List Tally) (covers : Covers part tallies)
+  where
+    pub charged_ran : (pid : ℕ) → said (λ t. t.ran) (charged_tallies part time charge tallies) pid
+        ≡ said (λ t. t.ran) tallies pid + time_of part time (part.tasks pid)
+    charged_ran pid = said_map (λ t. t.ran) (charged_one part time charge) (charge_keeps part time charge) pid
+        (time_of part time (part.tasks pid))
+        (λ tally e. charge_ran part time charge (part.tasks tally.pid) tally
+        ∙ ap (λ p. tally.ran + time_of part time (part.tasks p)) e)
+        tallies (λ none. ap (time_of part time) (uncovered part tallies covers pid none))
 
-  pub charged_charged : (pid : ℕ) → said (λ t. t.charged) (charged_tallies part time tallies) pid
-      ≡ said (λ t. t.charged) tallies pid + charge_to part time (part.tasks pid)
-  charged_charged pid = said_map (λ t. t.charged) (charged_one part time) (charge_keeps part time) pid
-      (charge_to part time (part.tasks pid))
-      (λ tally e. charge_charged part time (part.tasks tally.pid) tally
-      ∙ ap (λ p. tally.charged + charge_to part time (part.tasks p)) e)
-      tallies (λ none. ap (charge_to part time) (uncovered part tallies covers pid none))
+    pub charged_charged : (pid : ℕ) → said (λ t. t.charged) (charged_tallies part time charge tallies) pid
+        ≡ said (λ t. t.charged) tallies pid + charge_to part time charge pid (part.tasks pid)
+    charged_charged pid = said_map (λ t. t.charged) (charged_one part time charge) (charge_keeps part time charge) pid
+        (charge_to part time charge pid (part.tasks pid))
+        (λ tally e. charge_charged part time charge (part.tasks tally.pid) tally
+        ∙ ap (λ p. tally.charged + charge_to part time charge p (part.tasks p)) e)
+        tallies (λ none. ap (charge_to part time charge pid) (uncovered part tallies covers pid none))
 
-  pub charged_picks : (pid : ℕ) → said (λ t. t.picks) (charged_tallies part time tallies) pid
-      ≡ said (λ t. t.picks) tallies pid + 0
-  charged_picks pid = said_map (λ t. t.picks) (charged_one part time) (charge_keeps part time) pid 0
-      (λ tally e. charge_picks part time (part.tasks tally.pid) tally) tallies (λ none. refl)
+    pub charged_picks : (pid : ℕ) → said (λ t. t.picks) (charged_tallies part time charge tallies) pid
+        ≡ said (λ t. t.picks) tallies pid + 0
+    charged_picks pid = said_map (λ t. t.picks) (charged_one part time charge) (charge_keeps part time charge) pid 0
+        (λ tally e. charge_picks part time charge (part.tasks tally.pid) tally) tallies (λ none. refl)
 
-pub charged_has : (part : Part) (time : ℕ) (tallies : List Tally) (pid : ℕ)
-    → has_tally (charged_tallies part time tallies) pid ≡ has_tally tallies pid
-charged_has part time tallies pid = has_map (charged_one part time) (charge_keeps part time) tallies pid
+pub charged_has : (part : Part) (time : ℕ) (charge : Option ChargeLine) (tallies : List Tally) (pid : ℕ)
+    → has_tally (charged_tallies part time charge tallies) pid ≡ has_tally tallies pid
+charged_has part time charge tallies pid = has_map (charged_one part time charge) (charge_keeps part time charge)
+    tallies pid
 
-pub charged_once : (part : Part) (time : ℕ) (tallies : List Tally) → Once tallies
-    → Once (charged_tallies part time tallies)
-charged_once part time tallies once = once_map (charged_one part time) (charge_keeps part time) tallies once
+pub charged_once : (part : Part) (time : ℕ) (charge : Option ChargeLine) (tallies : List Tally) → Once tallies
+    → Once (charged_tallies part time charge tallies)
+charged_once part time charge tallies once = once_map (charged_one part time charge) (charge_keeps part time charge)
+    tallies once

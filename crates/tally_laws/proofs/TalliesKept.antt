@@ -14,6 +14,7 @@ use Rattle.tally_laws.proofs.TalliesSaid.{has_tally, Once}
 use Rattle.tally_laws.proofs.TalliesCharged.{charged_once}
 use Rattle.tally_laws.proofs.TalliesOfDeeds.{tallied_once}
 use Rattle.tally_laws.proofs.TalliesAtStart.{tallies_at_start}
+use Rattle.cfs_model.specs.declared.charge_line.ChargeLine.{ChargeLine}
 use Rattle.replay_model.specs.declared.page.StepFault.{StepFault}
 use Rattle.replay_model.specs.declared.page.Tally.{Tally}
 use Rattle.replay_model.specs.declared.step.Deed.{Deed}
@@ -21,7 +22,8 @@ use Rattle.replay_model.specs.declared.step.Step.{Step}
 
 -- what a charge, and each deed of a kind, keep of tallies
 pub record Keeps (P : List Tally → Type 0) (Is : Deed → Type 0) : Type 0 where
-  pub charge : (part : Part) (time : ℕ) (tallies : List Tally) → P tallies → P (charged_tallies part time tallies)
+  pub charge : (part : Part) (time : ℕ) (charge : Option ChargeLine) (tallies : List Tally) → P tallies
+      → P (charged_tallies part time charge tallies)
   pub deed : (deed : Deed) (tallies : List Tally) → Is deed → P tallies → P (tallied deed tallies)
 
 module _ (P : List Tally → Type 0) (Is : Deed → Type 0) (k : Keeps P Is) (knobs : KnobsView) (cpu : ℕ) where
@@ -29,8 +31,8 @@ module _ (P : List Tally → Type 0) (Is : Deed → Type 0) (k : Keeps P Is) (kn
       → IsReplayStep knobs cpu o s step next → P s.page.tallies → P next.page.tallies
   step_keeps (Some fault) s step next is r h = subst (λ x. P x.page.tallies) (sym r) h
   step_keeps None s step next is (inl p) h = subst (λ (page : PageView). P page.tallies) (sym p.page)
-      (k.deed step.deed (charged_tallies s.part step.time s.page.tallies) is
-      (k.charge s.part step.time s.page.tallies h))
+      (k.deed step.deed (charged_tallies s.part step.time step.charge s.page.tallies) is
+      (k.charge s.part step.time step.charge s.page.tallies h))
   step_keeps None s step next is (inr f) h = subst (λ x. P x.page.tallies) (sym f.result) h
 
   pub replay_keeps : (s : ReplayStateView) (steps : List Step) (last : ReplayStateView)

@@ -1,7 +1,7 @@
 -- What a deed adds to the tallies of a page, where each pid that stands at the processor has one: a pick, to that of a
 -- switch's next task. Each pid that stands there after it has one too.
 use Rattle.std.proofs.Common.{◌≡◌, ℕ, zero, suc, ◌+◌, nat_eq, Bool, true, false, cond, Option, Some, None, option_map}
-use Rattle.std.proofs.Common.{inl, inr, List, refl, sym, ap, ◌∙◌, true≢false, arith}
+use Rattle.std.proofs.Common.{pos, inl, inr, List, refl, sym, ap, ◌∙◌, true≢false, arith}
 use Rattle.std.proofs.lemmas.Bool.{eq-eqb, ne_eqb}
 use Rattle.cfs_model.specs.Machine.{put}
 use Rattle.replay_model.specs.Part.{Part, Entity, IsIn}
@@ -180,12 +180,14 @@ deed_covers part (Wake task nice) claim tallies covers =
     map_covers part tallies task (λ s. woken claim s.place s) covers
 deed_covers part (Born task nice policy) claim tallies covers =
     put_covers part (with_tally task tallies) task
-    (option_map (λ (c : Claim). record { place = Wait; nice = nice; policy = policy; runtime = c.v }) claim)
+    (option_map
+    (λ (c : Claim). record { place = Wait; nice = nice; policy = policy; runtime = c.v; drift = pos 0 }) claim)
     (covers_more part (Born task nice policy) tallies covers) (λ s e. has_with_same task tallies)
 deed_covers part (Leave task nice dest) claim tallies covers = gone_covers part tallies task covers
 deed_covers part (Arrive task nice orig policy) claim tallies covers =
     put_covers part (with_tally task tallies) task
-    (option_map (λ (c : Claim). record { place = place_of_sort c.sort; nice = nice; policy = policy; runtime = c.v })
+    (option_map
+    (λ (c : Claim). record { place = place_of_sort c.sort; nice = nice; policy = policy; runtime = c.v; drift = pos 0 })
     claim)
     (covers_more part (Arrive task nice orig policy) tallies covers) (λ s e. has_with_same task tallies)
 

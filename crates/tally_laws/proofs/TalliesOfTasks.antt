@@ -81,7 +81,8 @@ module _ (K : ℕ → Type 0) where
 
   of_kept : Keeps ArePidsOf BringsHere
   of_kept = record {
-    charge = λ part time tallies h. of_map (charged_one part time) (charge_keeps part time) tallies h;
+    charge = λ part time charge tallies h. of_map (charged_one part time charge) (charge_keeps part time charge)
+        tallies h;
     deed = of_deed;
   }
 

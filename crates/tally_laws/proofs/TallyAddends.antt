@@ -129,12 +129,12 @@ all_addends knobs amount n m (event ∷ events) (after ∷ states) steps within 
     omega arith
 
 -- which is how the tally of a run adds up, and how often a pid is picked
-pub given_is_added : (amount : Machine → ℕ → ℕ → ℕ) (m : Machine) (events : List Claimed) (states : List Machine)
-    → given_by (λ x event cpu. amount x event.entry.time cpu) m events states ≡ added_up amount m events states
+pub given_is_added : (amount : Amount) (m : Machine) (events : List Claimed) (states : List Machine)
+    → given_by amount m events states ≡ added_up amount m events states
 given_is_added amount m [] states = refl
 given_is_added amount m (event ∷ events) [] = refl
 given_is_added amount m (event ∷ events) (after ∷ states) =
-    ap (λ n. sum (map (amount m event.entry.time) (touched event.entry.act)) + n)
+    ap (λ n. sum (map (amount m event) (touched event.entry.act)) + n)
     (given_is_added amount after events states)
 
 -- an event picks at the one processor that it touches, if it picks

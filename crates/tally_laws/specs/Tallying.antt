@@ -59,4 +59,4 @@ TalliesBounded = (knobs : KnobsView) (start : ℕ) (floors : List ℤ) (tasks : 
     (last pid : ℕ)
     → IsStart floors tasks → AllByRecursion (λ event. event.entry.time ≤ last) events
     → (run : IsRun knobs start (start_machine start floors tasks) events)
-    → IsOfAtMost (length events) last (tally_of (start_machine start floors tasks) events run.states pid)
+    → IsOfAtMost (length events) last knobs.drift (tally_of (start_machine start floors tasks) events run.states pid)

@@ -1,6 +1,7 @@
 -- The tallies on the pages of all processors, added up task by task, and the summary that they tell (this project's
 -- profile).
-use Rattle.std.specs.Prelude.{◌≡◌, ℕ, zero, suc, ◌*◌, ◌≤◌, ◌==◌, if◌then◌else◌, List, [], ◌++◌, length, map, sum_by}
+use Rattle.std.specs.Prelude.{◌≡◌, ℕ, zero, suc, ◌+◌, ◌*◌, ◌≤◌, ◌==◌, if◌then◌else◌, List, [], ◌++◌, length, map}
+use Rattle.std.specs.Prelude.{sum_by}
 use Rattle.cfs_model.specs.Limits.{greatest_runtime}
 use Rattle.cfs_model.specs.Machine.{Machine}
 use Rattle.cfs_model.specs.Claimed.{Claimed}
@@ -42,8 +43,9 @@ TalliesAddUp first events states pages cpus =
     (pid : ℕ) → total_of (tallies_below pages cpus) pid ≡ tally_of first events states pid
 
 -- what so many events make of a tally at most, where their times are at most a last one: each charges at most two
--- processors, each for no longer than that time and by no more than the greatest virtual runtime, and it picks at most
--- once
-abbrev pub IsOfAtMost : ℕ → ℕ → Tally → Type 0
-IsOfAtMost count last tally =
-    (tally.ran ≤ count * (2 * last)) × (tally.charged ≤ count * (2 * greatest_runtime)) × (tally.picks ≤ count)
+-- processors, each for no longer than that time and by no more than the greatest virtual runtime and twice the drift,
+-- and it picks at most once
+abbrev pub IsOfAtMost : ℕ → ℕ → ℕ → Tally → Type 0
+IsOfAtMost count last drift tally =
+    (tally.ran ≤ count * (2 * last)) × (tally.charged ≤ count * (2 * (greatest_runtime + 2 * drift)))
+    × (tally.picks ≤ count)

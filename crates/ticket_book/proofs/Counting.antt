@@ -8,6 +8,7 @@ use Rattle.cfs_model.specs.Claimed.{Claimed, claimed, with_claim}
 use Rattle.cfs_model.specs.declared.act.Act.{Act}
 use Rattle.cfs_model.specs.declared.act.Entry.{Entry}
 use Rattle.cfs_model.specs.declared.claim.Claim.{Claim}
+use Rattle.cfs_model.specs.declared.charge_line.ChargeLine.{ChargeLine}
 use Rattle.cfs_model.specs.declared.nice_line.NiceLine.{NiceLine}
 use Rattle.replay_model.specs.Summary.{how_many, is_birth, is_death, is_migration, is_switch}
 use Rattle.ticket_book.specs.EventCounts.{AreCountsBelow, counts_of, with_event}
@@ -51,12 +52,13 @@ counts_below events i bound within most = record {
         omega (arith, few, n, within, most)
 
 -- the counts among events with what is said on their lines
-pub count_claimed : (does : Act → Bool) (claims : List Claim) (nices : List NiceLine) (policy : Entry
+pub count_claimed : (does : Act → Bool) (claims : List Claim) (nices : List NiceLine) (charges : List ChargeLine)
+    (policy : Entry
     → Policy) (events : List Entry)
-    → count_by (λ (e : Entry). does e.act) events ≡ how_many does (claimed claims nices policy events)
-count_claimed does claims nices policy [] = refl
-count_claimed does claims nices policy (event ∷ events) =
+    → count_by (λ (e : Entry). does e.act) events ≡ how_many does (claimed claims nices charges policy events)
+count_claimed does claims nices charges policy [] = refl
+count_claimed does claims nices charges policy (event ∷ events) =
     sum_by-cons (λ (e : Entry). cond (does e.act) 1 0) event events
-    ∙ ap (λ n. cond (does event.act) 1 0 + n) (count_claimed does claims nices policy events)
+    ∙ ap (λ n. cond (does event.act) 1 0 + n) (count_claimed does claims nices charges policy events)
     ∙ sym (sum_by-cons (λ (e : Claimed). cond (does e.entry.act) 1 0)
-    (with_claim claims nices policy event) (claimed claims nices policy events))
+    (with_claim claims nices charges policy event) (claimed claims nices charges policy events))

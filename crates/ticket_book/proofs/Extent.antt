@@ -1,5 +1,6 @@
 -- How many events a record can have and how late they are, so that no sum over them is too great.
-use Rattle.std.proofs.Common.{◌≡◌, ℕ, zero, suc, ◌*◌, ◌-◌, ◌^◌, ◌<◌, ◌≤◌, List, [], ◌∷◌, length, get_or, All, inl}
+use Rattle.std.proofs.Common.{◌≡◌, ℕ, zero, suc, ◌+◌, ◌*◌, ◌-◌, ◌^◌, ◌<◌, ◌≤◌, List, [], ◌∷◌, length, get_or, All}
+use Rattle.std.proofs.Common.{inl}
 use Rattle.std.proofs.Common.{inr, ap, arith}
 use Rattle.std.specs.List.{AllByRecursion, AllPairs}
 use Rattle.std.specs.Option.{option_map_or}
@@ -7,9 +8,10 @@ use Rattle.std.proofs.Math.Nat.{mul-le-mul}
 use Rattle.std.proofs.lemmas.Bool.{cases_lt}
 use Rattle.std.proofs.lemmas.Option.{slice_get-get_or}
 use Rattle.cfs_model.specs.Claimed.{claimed}
-use Rattle.cfs_model.specs.Limits.{greatest_runtime, no_line}
+use Rattle.cfs_model.specs.Limits.{greatest_runtime, greatest_setting, no_line}
 use Rattle.cfs_model.specs.declared.act.Entry.{Entry}
 use Rattle.cfs_model.specs.declared.claim.Claim.{Claim}
+use Rattle.cfs_model.specs.declared.charge_line.ChargeLine.{ChargeLine}
 use Rattle.cfs_model.specs.declared.nice_line.NiceLine.{NiceLine}
 use Rattle.replay_model.specs.declared.page.Tally.{Tally}
 use Rattle.sched_record.specs.Record.{last_event}
@@ -52,24 +54,31 @@ events_few (event ∷ events) first rise =
     omega (arith, last, count)
 
 -- the same of events with what is said on their lines
-pub times_below : (claims : List Claim) (nices : List NiceLine) (policy : Entry
+pub times_below : (claims : List Claim) (nices : List NiceLine) (charges : List ChargeLine) (policy : Entry
     → Policy) (events : List Entry) (last : ℕ)
     → All (λ event. event.time ≤ last) events
-    → AllByRecursion (λ event. event.entry.time ≤ last) (claimed claims nices policy events)
-times_below claims nices policy [] last below = tt
-times_below claims nices policy (event ∷ events) last below =
-    (below 0 event (omega arith), times_below claims nices policy events last (λ k d h. below (suc k) d (omega arith)))
+    → AllByRecursion (λ event. event.entry.time ≤ last) (claimed claims nices charges policy events)
+times_below claims nices charges policy [] last below = tt
+times_below claims nices charges policy (event ∷ events) last below = (
+  below 0 event (omega arith),
+  times_below claims nices charges policy events last (λ k d h. below (suc k) d
+      (omega arith)),
+)
 
 -- what so many events by so late a time allow fits
-pub bounds_fit : (tally : Tally) (events last : ℕ) → events < 2 ^ 32 → last < 2 ^ 64
-    → (tally.ran ≤ events * (2 * last)) × (tally.charged ≤ events * (2 * greatest_runtime)) × (tally.picks ≤ events)
+pub bounds_fit : (tally : Tally) (events last drift : ℕ) → events < 2 ^ 32 → last < 2 ^ 64
+    → drift ≤ greatest_setting
+    → (tally.ran ≤ events * (2 * last)) × (tally.charged ≤ events * (2 * (greatest_runtime + 2 * drift)))
+    × (tally.picks ≤ events)
     → FitsTally tally
-bounds_fit tally events last few early bounds =
+bounds_fit tally events last drift few early within bounds =
     let few_events : events ≤ 2 ^ 32 = omega arith in
     let early_last : 2 * last ≤ 2 ^ 65 = omega arith in
     let ran : events * (2 * last) ≤ 2 ^ 32 * 2 ^ 65 = mul-le-mul few_events early_last in
+    let cheap : 2 * (greatest_runtime + 2 * drift) ≤ 2 ^ 65 = omega arith in
+    let charged : events * (2 * (greatest_runtime + 2 * drift)) ≤ 2 ^ 32 * 2 ^ 65 = mul-le-mul few_events cheap in
     record {
       ran = (let b = bounds.0 in omega (arith, ran, b));
-      charged = (let b = bounds.1 in omega (arith, b, few));
+      charged = (let b = bounds.1 in omega (arith, charged, b));
       picks = (let b = bounds.2 in omega (arith, b, few));
     }

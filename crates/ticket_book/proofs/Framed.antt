@@ -43,8 +43,8 @@ cut_from : (r : RecordView) (cpu : ℕ) (s : StreamView) → s.steps ≡ (cut_of
     → IsFramed r cpu s → s ≡ cut_of r cpu
 cut_from r cpu s steps tasks framed =
     parts steps tasks framed.cpu_is framed.floor framed.start
-    (framed.last_time ∙ same_last_time r.start r.claims r.nices (policy_of r) r.events)
-    (framed.last_line ∙ same_last_line r.claims r.nices (policy_of r) r.events)
+    (framed.last_time ∙ same_last_time r.start r.claims r.nices r.charges (policy_of r) r.events)
+    (framed.last_line ∙ same_last_line r.claims r.nices r.charges (policy_of r) r.events)
   where
     parts : s.steps ≡ (cut_of r cpu).steps → s.tasks ≡ (cut_of r cpu).tasks → s.cpu ≡ cpu
         → s.floor ≡ slice_index_or r.floors cpu (pos 0) → s.start ≡ r.start
@@ -68,8 +68,9 @@ framed_from r cpu s same = record {
   floor = ap (λ (t : StreamView). t.floor) same;
   start = ap (λ (t : StreamView). t.start) same;
   last_time = ap (λ (t : StreamView). t.last_time) same
-      ∙ sym (same_last_time r.start r.claims r.nices (policy_of r) r.events);
-  last_line = ap (λ (t : StreamView). t.last_line) same ∙ sym (same_last_line r.claims r.nices (policy_of r) r.events);
+      ∙ sym (same_last_time r.start r.claims r.nices r.charges (policy_of r) r.events);
+  last_line = ap (λ (t : StreamView). t.last_line) same ∙ sym (same_last_line r.claims r.nices r.charges (policy_of
+      r) r.events);
 }
 
 pub cut_decides : (r : RecordView) (cpu : ℕ) (s : StreamView) (steps : List Step) (tasks all_tasks : List Task)

@@ -11,6 +11,7 @@ use Rattle.cfs_model.proofs.Moves.{same_or_not}
 use Rattle.cfs_model.specs.Claimed.{claimed}
 use Rattle.cfs_model.specs.declared.act.Entry.{Entry}
 use Rattle.cfs_model.specs.declared.claim.Claim.{Claim}
+use Rattle.cfs_model.specs.declared.charge_line.ChargeLine.{ChargeLine}
 use Rattle.cfs_model.specs.declared.nice_line.NiceLine.{NiceLine}
 use Rattle.cfs_model.specs.declared.task.Task.{Task}
 use Rattle.replay_model.specs.Noted.{new_tally, with_tally}
@@ -44,11 +45,12 @@ births_more events i event within is =
     ∙ ap births_in (ap (λ e. take i events ++ e ∷ []) is ∙ sym (take_more events i event within))
 
 -- the births among events with what is said on their lines
-pub births_claimed : (claims : List Claim) (nices : List NiceLine) (policy : Entry → Policy) (events : List Entry)
-    → births_in events ≡ born_in (claimed claims nices policy events)
-births_claimed claims nices policy [] = refl
-births_claimed claims nices policy (event ∷ events) = ap (λ pids. born_by event.act
-    ++ pids) (births_claimed claims nices policy events)
+pub births_claimed : (claims : List Claim) (nices : List NiceLine) (charges : List ChargeLine) (policy : Entry
+    → Policy) (events : List Entry)
+    → births_in events ≡ born_in (claimed claims nices charges policy events)
+births_claimed claims nices charges policy [] = refl
+births_claimed claims nices charges policy (event ∷ events) = ap (λ pids. born_by event.act
+    ++ pids) (births_claimed claims nices charges policy events)
 
 -- whether a pid is among some
 abbrev pub names_pid : List ℕ → ℕ → Bool
@@ -135,13 +137,14 @@ named_once xs (y ∷ ys) =
     ∙ ap (λ pids. map new_tally (each_once pids)) (append_assoc xs (y ∷ []) ys)
 
 -- the tasks that the start names, and then those that are born
-pub all_named : (tasks : List Task) (claims : List Claim) (nices : List NiceLine) (policy : Entry
+pub all_named : (tasks : List Task) (claims : List Claim) (nices : List NiceLine) (charges : List ChargeLine) (policy
+    : Entry
     → Policy) (events : List Entry)
     (none named all : List Tally) → none ≡ [] → named ≡ with_named (map (λ task. task.pid) tasks) none
     → all ≡ with_named (births_in events) named
-    → all ≡ map new_tally (tasks_of_run tasks (claimed claims nices policy events))
-all_named tasks claims nices policy events none named all empty first second =
+    → all ≡ map new_tally (tasks_of_run tasks (claimed claims nices charges policy events))
+all_named tasks claims nices charges policy events none named all empty first second =
     let pids : List ℕ = map (λ (task : Task). task.pid) tasks in
     both_named pids (births_in events) none named all first second
     ∙ ap (with_named (pids ++ births_in events)) empty ∙ named_once [] (pids ++ births_in events)
-    ∙ ap (λ born. map new_tally (each_once (pids ++ born))) (births_claimed claims nices policy events)
+    ∙ ap (λ born. map new_tally (each_once (pids ++ born))) (births_claimed claims nices charges policy events)

@@ -25,9 +25,9 @@ module _ (r : RecordView) (tasks : List Task) (events : List Entry) (are_tasks :
   pub tasks_named : (none named all : List Tally) → none ≡ [] → named ≡ with_named (map (λ task. task.pid) tasks) none
       → all ≡ with_named (births_in events) named → all ≡ map new_tally (tasks_of_run r.tasks (events_of r))
   tasks_named none named all empty first second =
-      all_named tasks r.claims r.nices (policy_of r) events none named all empty first second
-      ∙ ap (λ ts. map new_tally (tasks_of_run ts (claimed r.claims r.nices (policy_of r) events))) are_tasks
-      ∙ ap (λ es. map new_tally (tasks_of_run r.tasks (claimed r.claims r.nices (policy_of r) es))) are_events
+      all_named tasks r.claims r.nices r.charges (policy_of r) events none named all empty first second
+      ∙ ap (λ ts. map new_tally (tasks_of_run ts (claimed r.claims r.nices r.charges (policy_of r) events))) are_tasks
+      ∙ ap (λ es. map new_tally (tasks_of_run r.tasks (claimed r.claims r.nices r.charges (policy_of r) es))) are_events
 
   same_summary : (a b : SummaryView) → a.events ≡ b.events → a.switches ≡ b.switches → a.migrations ≡ b.migrations
       → a.births ≡ b.births → a.deaths ≡ b.deaths → a.tallies ≡ b.tallies → a ≡ b
@@ -56,10 +56,14 @@ module _ (r : RecordView) (tasks : List Task) (events : List Entry) (are_tasks :
   summary_is_of tallies before sums counts summary named added counted is =
       is ∙ same_summary _ (summary_by tallies r.tasks (events_of r))
       (ap length are_events ∙ sym (length-map r.events _))
-      (ap (λ (k : EventCounts). k.switches) told ∙ count_claimed is_switch r.claims r.nices (policy_of r) r.events)
-      (ap (λ (k : EventCounts). k.migrations) told ∙ count_claimed is_migration r.claims r.nices (policy_of r) r.events)
-      (ap (λ (k : EventCounts). k.births) told ∙ count_claimed is_birth r.claims r.nices (policy_of r) r.events)
-      (ap (λ (k : EventCounts). k.deaths) told ∙ count_claimed is_death r.claims r.nices (policy_of r) r.events)
+      (ap (λ (k : EventCounts). k.switches) told ∙ count_claimed is_switch r.claims r.nices r.charges (policy_of r)
+      r.events)
+      (ap (λ (k : EventCounts). k.migrations) told ∙ count_claimed is_migration r.claims r.nices r.charges (policy_of
+      r) r.events)
+      (ap (λ (k : EventCounts). k.births) told ∙ count_claimed is_birth r.claims r.nices r.charges (policy_of r)
+      r.events)
+      (ap (λ (k : EventCounts). k.deaths) told ∙ count_claimed is_death r.claims r.nices r.charges (policy_of r)
+      r.events)
       (added ∙ ap (map (with_tallies tallies)) named ∙ totals_added tallies (tasks_of_run r.tasks (events_of r)))
     where
       told : counts ≡ counts_of r.events

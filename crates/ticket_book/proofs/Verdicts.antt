@@ -6,6 +6,7 @@ use Rattle.std.specs.List.{AllPairs}
 use Rattle.std.proofs.lemmas.List.{length-map}
 use Rattle.std.proofs.lemmas.Option.{slice_get_within}
 use Rattle.cfs_model.specs.Claimed.{with_claim}
+use Rattle.cfs_model.specs.Limits.{greatest_setting}
 use Rattle.cfs_model.specs.Knobs.{KnobsView}
 use Rattle.cfs_model.specs.declared.act.Entry.{Entry}
 use Rattle.cfs_model.specs.Start.{start_machine}
@@ -46,8 +47,9 @@ pub record_in_order : (r : RecordView) → IsRecordInOrder r
 record_in_order r o =
     let start = start_from r.floors r.tasks o.companion.pids_rise o.companion.one_runs_a_cpu
     (λ k d h. (o.companion.tasks_in_limits k d h).v) o.companion.floors_in_limits in
-    record_from r.start r.floors r.tasks r.claims r.nices (policy_of r) r.events r.cpus start
+    record_from r.start r.floors r.tasks r.claims r.nices r.charges (policy_of r) r.events r.cpus start
     (λ k d h. (o.companion.tasks_in_limits k d h).cpu) o.inside (λ k d h. (o.companion.claims_in_limits k d h).v)
+    (λ k d h. (o.companion.charges_in_limits k d h).v)
     o.events.never_falls o.started o.events.lines_rise o.events.from_one
 
 -- the page at an index
@@ -113,19 +115,19 @@ module _ (knobs : KnobsView) (r : RecordView) (pages : List ReplayView) (suffici
     -- and no sum of their tallies is too great
     pub sums_fit : PagesAddUp → TalliesBounded → (last_time last_line : ℕ) → last_time ≡ record_last_time r
         → last_time < 2 ^ 64
-        → last_line ≡ record_last_line r → last_line < 2 ^ 32 → (pids : List ℕ)
+        → last_line ≡ record_last_line r → last_line < 2 ^ 32 → knobs.drift ≤ greatest_setting → (pids : List ℕ)
         → All (λ pid. FitsTally (total_of (tallies_below (view_at pages) (length pages)) pid)) pids
-    sums_fit add_up bounded last_time last_line time_is time line_is line pids k d h =
+    sums_fit add_up bounded last_time last_line time_is time line_is line drift pids k d h =
         let added = add_up knobs r.start r.floors r.tasks (events_of r) (length pages) (view_at pages)
         (in_record o) all_suffice nothing in
         let pid = get_or pids k d in
         subst FitsTally (sym (added.1 pid))
-        (bounds_fit _ (length (events_of r)) last_time
-        (let n = length-map r.events (with_claim r.claims r.nices (policy_of r)) in
+        (bounds_fit _ (length (events_of r)) last_time knobs.drift
+        (let n = length-map r.events (with_claim r.claims r.nices r.charges (policy_of r)) in
         let few = events_few r.events o.events.from_one o.events.lines_rise in
-        omega (arith, n, few, line_is, line)) time
+        omega (arith, n, few, line_is, line)) time drift
         (bounded knobs r.start r.floors r.tasks (events_of r) last_time pid (in_record o).is_start
-        (times_below r.claims r.nices (policy_of r) r.events last_time
+        (times_below r.claims r.nices r.charges (policy_of r) r.events last_time
         (λ j e w. let below = last_greatest
         (λ (event : Entry). event.time) r.events r.start o.events.never_falls j e w in
         omega (arith, below, time_is))) added.0))

@@ -8,6 +8,7 @@ use Rattle.std.proofs.lemmas.List.{get_or_default, map-append, take_all, take_mo
 use Rattle.cfs_model.specs.Claimed.{Claimed, claimed, with_claim}
 use Rattle.cfs_model.specs.declared.act.Entry.{Entry}
 use Rattle.cfs_model.specs.declared.claim.Claim.{Claim}
+use Rattle.cfs_model.specs.declared.charge_line.ChargeLine.{ChargeLine}
 use Rattle.cfs_model.specs.declared.nice_line.NiceLine.{NiceLine}
 use Rattle.cfs_model.specs.declared.task.Task.{Task}
 use Rattle.replay_model.specs.Cause.{FaultCause}
@@ -29,11 +30,12 @@ use Rattle.cfs_model.specs.declared.policy.Policy.{Policy}
 
 -- how far a walk has come
 pub record HasCome (pages : List ReplayView) (tasks : List Task) (claims : List Claim) (nices : List NiceLine)
+    (charges : List ChargeLine)
     (policy : Entry → Policy)
     (events : List Entry) (i : ℕ) (walk : Walk) : Type 0 where
-  pub nothing : SayNothing (view_at pages) (length pages) tasks (claimed claims nices policy (take i events))
+  pub nothing : SayNothing (view_at pages) (length pages) tasks (claimed claims nices charges policy (take i events))
   pub alive : (pid : ℕ) → alive_view walk.alive pid ≡ roll_of (named tasks)
-      (claimed claims nices policy (take i events)) pid
+      (claimed claims nices charges policy (take i events)) pid
   pub stands : (k : ℕ) (d : Entry) → i ≤ k → k < length events → StandsAt pages (get_or events k d).line walk
 
 -- one more element
@@ -66,11 +68,12 @@ say_push pages cpus tasks xs x nothing allow = record {
   births = births_push (named tasks) xs x nothing.births allow.act.birth;
 }
 
-module _ (pages : List ReplayView) (tasks : List Task) (claims : List Claim) (nices : List NiceLine) (policy : Entry
+module _ (pages : List ReplayView) (tasks : List Task) (claims : List Claim) (nices : List NiceLine) (charges : List
+    ChargeLine) (policy : Entry
     → Policy) (events : List Entry) where
   -- before the first event
   pub walk_starts : (walk : Walk) → ((pid : ℕ) → alive_view walk.alive pid ≡ named tasks pid)
-      → ((line : ℕ) → StandsAt pages line walk) → HasCome pages tasks claims nices policy events 0 walk
+      → ((line : ℕ) → StandsAt pages line walk) → HasCome pages tasks claims nices charges policy events 0 walk
   walk_starts walk alive stands = record {
     nothing = record { no_fault = λ cpu lt. tt; tickets = tt; births = tt };
     alive = alive;
@@ -78,32 +81,36 @@ module _ (pages : List ReplayView) (tasks : List Task) (claims : List Claim) (ni
   }
 
   module _ (i : ℕ) (event : Entry) (lt : i < length events) (is : event ≡ get_or events i event) where
-    one_more : claimed claims nices policy (take (i + 1) events) ≡ claimed claims nices policy (take i events)
-        ++ with_claim claims nices policy event ∷ []
+    one_more : claimed claims nices charges policy (take (i + 1) events)
+        ≡ claimed claims nices charges policy (take i events)
+        ++ with_claim claims nices charges policy event ∷ []
     one_more =
-        ap (claimed claims nices policy) (take_more events i event lt ∙ ap (λ e. take i events ++ e ∷ []) (sym is))
-        ∙ map-append (with_claim claims nices policy) (take i events) (event ∷ [])
+        ap (claimed claims nices charges policy) (take_more events i event lt
+        ∙ ap (λ e. take i events ++ e ∷ []) (sym is))
+        ∙ map-append (with_claim claims nices charges policy) (take i events) (event ∷ [])
 
     -- after the next event, where nothing is said against it
     pub walk_goes_on : (before here after : Walk) → AllPairs (λ a b. a.line < b.line) events
-        → HasCome pages tasks claims nices policy events i before
+        → HasCome pages tasks claims nices charges policy events i before
         → here.alive ≡ before.alive → StandsAt pages event.line here
-        → Allow (view_at pages) (length pages) (alive_view before.alive) (with_claim claims nices policy event)
+        → Allow (view_at pages) (length pages) (alive_view before.alive) (with_claim claims nices charges policy event)
         → ((pid : ℕ) → alive_view after.alive pid ≡ roll_after (alive_view here.alive) event.act pid)
         → after.deadline ≡ here.deadline → after.left ≡ here.left → after.came ≡ here.came
-        → HasCome pages tasks claims nices policy events (i + 1) after
+        → HasCome pages tasks claims nices charges policy events (i + 1) after
     walk_goes_on before here after rise come same stands allow alive deadline left came =
-        let roll : alive_view before.alive ≡ roll_of (named tasks) (claimed claims nices policy (take i events)) =
+        let roll : alive_view before.alive ≡ roll_of (named tasks) (claimed claims nices charges policy (take i
+        events)) =
         fun_ext come.alive in
         record {
           nothing = subst (SayNothing (view_at pages) (length pages) tasks) (sym one_more)
-              (say_push (view_at pages) (length pages) tasks (claimed claims nices policy (take i events))
-              (with_claim claims nices policy event) come.nothing
-              (subst (λ f. Allow (view_at pages) (length pages) f (with_claim claims nices policy event)) roll allow));
+              (say_push (view_at pages) (length pages) tasks (claimed claims nices charges policy (take i events))
+              (with_claim claims nices charges policy event) come.nothing
+              (subst (λ f. Allow (view_at pages) (length pages) f (with_claim claims nices charges policy event))
+              roll allow));
           alive = λ pid. alive pid ∙ ap (λ a. roll_after (alive_view a) event.act pid) same
               ∙ ap (λ f. roll_after f event.act pid) roll
-              ∙ ap (λ f. f pid) (sym (roll_push (named tasks) (claimed claims nices policy (take i events))
-              (with_claim claims nices policy event)))
+              ∙ ap (λ f. f pid) (sym (roll_push (named tasks) (claimed claims nices charges policy (take i events))
+              (with_claim claims nices charges policy event)))
               ∙ ap (λ xs. roll_of (named tasks) xs pid) (sym one_more);
           stands = λ k d low within.
               let first = ap (λ (e : Entry). e.line) is in
@@ -121,25 +128,27 @@ module _ (pages : List ReplayView) (tasks : List Task) (claims : List Claim) (ni
         }
 
     -- what is said first against the next event is what the pages tell
-    pub walk_ends : (before : Walk) (cause : FaultCause) → HasCome pages tasks claims nices policy events i before
+    pub walk_ends : (before : Walk) (cause : FaultCause) → HasCome pages tasks claims nices charges policy events i
+        before
         → IsCauseOf (view_at pages) (length pages) (alive_view before.alive)
-        (with_claim claims nices policy event) cause
-        → TellFault (view_at pages) (length pages) tasks (claimed claims nices policy events) event.line cause
+        (with_claim claims nices charges policy event) cause
+        → TellFault (view_at pages) (length pages) tasks (claimed claims nices charges policy events) event.line cause
     walk_ends before cause come why = record {
-      before = claimed claims nices policy (take i events);
-      event = with_claim claims nices policy event;
-      rest = claimed claims nices policy (drop (i + 1) events);
-      whole = ap (claimed claims nices policy) (split_at events i event lt is)
-          ∙ map-append (with_claim claims nices policy) (take i events) (event ∷ drop (i + 1) events);
+      before = claimed claims nices charges policy (take i events);
+      event = with_claim claims nices charges policy event;
+      rest = claimed claims nices charges policy (drop (i + 1) events);
+      whole = ap (claimed claims nices charges policy) (split_at events i event lt is)
+          ∙ map-append (with_claim claims nices charges policy) (take i events) (event ∷ drop (i + 1) events);
       line_is = refl;
       nothing = come.nothing;
-      why = subst (λ f. IsCauseOf (view_at pages) (length pages) f (with_claim claims nices policy event) cause)
+      why = subst (λ f. IsCauseOf (view_at pages) (length pages) f (with_claim claims nices charges policy event) cause)
           (fun_ext come.alive) why;
     }
 
   -- where nothing was said against any event
-  pub walk_is_done : (i : ℕ) (walk : Walk) → length events ≤ i → HasCome pages tasks claims nices policy events i walk
-      → SayNothing (view_at pages) (length pages) tasks (claimed claims nices policy events)
+  pub walk_is_done : (i : ℕ) (walk : Walk) → length events ≤ i
+      → HasCome pages tasks claims nices charges policy events i walk
+      → SayNothing (view_at pages) (length pages) tasks (claimed claims nices charges policy events)
   walk_is_done i walk le come =
-      subst (λ es. SayNothing (view_at pages) (length pages) tasks (claimed claims nices policy es))
+      subst (λ es. SayNothing (view_at pages) (length pages) tasks (claimed claims nices charges policy es))
       (take_all i events le) come.nothing

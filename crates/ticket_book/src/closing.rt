@@ -37,8 +37,9 @@ pub(crate) fn verdict_on(
         }
         None => {
             tallying();
-            // No sum is too great: no time is above the last, and there are no more events than lines.
-            let _last = (joined.last_time(), joined.last_line());
+            // No sum is too great: no time is above the last, there are no more events than lines, and the drift is a
+            // setting.
+            let _last = (joined.last_time(), joined.last_line(), knobs.drift());
             Ok(Verdict::Run(summary_by(alloc, pages, joined, hasher)?))
         }
     }

@@ -10,7 +10,7 @@ ghost use Rattle.ticket_book.specs.Cursor.{AreFollowed, IsFollowed, steps_in};
 ghost use Rattle.ticket_book.specs.SaidEvents.{events_of};
 
 use crate::cursor::Cursor;
-use cfs_model::{Claim, Entry, Memory, NiceLine, Policy};
+use cfs_model::{ChargeLine, Claim, Entry, Memory, NiceLine, Policy};
 use queue_replay::Page;
 use replay_model::Step;
 use sched_record::{Record, step_at};
@@ -29,36 +29,41 @@ pub(crate) fn cursors_of(
     let mut cursors = Vec::from_elem(alloc, Cursor::At(0), joined.cpus() as usize)?;
     let mut claim_index = 0;
     let mut nice_index = 0;
+    let mut charge_index = 0;
     for (index, event) in joined.events().iter().enumerate() {
         let (claim, next_claim) = joined.claim_beside(index, claim_index);
         let (nice, next_nice) = joined.nice_beside(index, nice_index);
+        let (charge, next_charge) = joined.charge_beside(index, charge_index);
         let policy = joined.policy_at(index);
-        follow(&mut cursors, slots, event, claim, &nice, policy);
+        follow(&mut cursors, slots, event, claim, &nice, charge, policy);
         claim_index = next_claim;
         nice_index = next_nice;
+        charge_index = next_charge;
     }
     Ok(cursors)
 }
 
-/// Deals one more event, with the claim and the change of a nice value on its line, and the policy of the task that it
-/// bears or moves.
+/// Deals one more event, with the claim, the change of a nice value and the told charge on its line, and the policy of
+/// the task that it bears or moves.
 fn follow(
     cursors: &mut [Cursor],
     slots: &[Option<Page>],
     event: &Entry,
     claim: Option<Claim>,
     nice: &Option<NiceLine>,
+    charge: Option<ChargeLine>,
     policy: Policy,
 )
     ensures { (events : List Claimed) → AreFollowed slots.now cursors.old events
         → AreFollowed slots.now cursors.new
-        (events ++ record { entry = event.now; claim = claim; nice = nice.now; policy = policy } ∷ []) }
+        (events ++ record { entry = event.now; claim = claim; nice = nice.now; charge = charge; policy = policy } ∷
+        []) }
 {
     let (first, second) = event.act.ends();
-    let step = step_at(*event, claim, *nice, policy, first);
+    let step = step_at(*event, claim, *nice, charge, policy, first);
     follow_at(cursors, slots, first, step);
     if second != first {
-        let step = step_at(*event, claim, *nice, policy, second);
+        let step = step_at(*event, claim, *nice, charge, policy, second);
         follow_at(cursors, slots, second, step);
     }
 }

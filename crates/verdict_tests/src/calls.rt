@@ -3,8 +3,8 @@
 
 use crate::answers::wants_about;
 use crate::machines::{Lines, Recording};
-use audit_crew::{Gate, audit, audit_serial, crew};
-use cfs_model::{Kind, Knobs};
+use audit_crew::{Gate, OpenGate, audit, audit_serial, crew};
+use cfs_model::{Kind, Knobs, Setting};
 use companion_file::read_companion;
 use pid_table::PidHasher;
 use sched_record::{Record, Stream, join, read_trace};
@@ -14,7 +14,7 @@ use std::random::RandomSource;
 use std::sync::Wait;
 use std::test::Fail;
 use std::thread::Threads;
-use ticket_book::{Closed, Verdict};
+use ticket_book::{Closed, ClosedLeast, LeastSettings, Verdict};
 
 /// The line, processor, pid and kind of a fault, where there is one.
 pub(crate) type MaybeFault = Option<(u32, u32, u32, Kind)>;
@@ -151,4 +151,33 @@ pub(crate) fn gathered<R: RandomSource + Threads + Wait + Sync, G: Gate>(
 ) -> Result<(u32, u64), Fail> {
     let record = record_of(alloc, recording)?;
     gathered_on(rt, alloc, &record, gate)
+}
+
+/// The least settings of a record, by a crew.
+fn least_of<R: RandomSource + Threads + Wait + Sync>(
+    rt: &R,
+    alloc: Global,
+    record: &Record,
+) -> Result<ClosedLeast, Fail> {
+    let gathered = crew(rt, alloc, record, Knobs::greatest(), &OpenGate)?;
+    Ok(gathered.book.close_least(record)?)
+}
+
+/// The drift among least settings, if there are such.
+fn drift_of(least: &LeastSettings) -> Option<u64> {
+    match least {
+        LeastSettings::Found(knobs) => Some(knobs.get(Setting::Drift)),
+        LeastSettings::Fault(_) => None,
+    }
+}
+
+/// The least drift of a recording, where it is a run at some settings.
+pub(crate) fn drift_needed<R: RandomSource + Threads + Wait + Sync>(
+    rt: &R,
+    alloc: Global,
+    recording: &Recording,
+) -> Result<Option<u64>, Fail> {
+    let record = record_of(alloc, recording)?;
+    let closed = least_of(rt, alloc, &record)?;
+    Ok(drift_of(&closed.least))
 }

@@ -28,4 +28,6 @@ mod stepwise;
 #[cfg(test)]
 mod stops;
 #[cfg(test)]
+mod told_charges;
+#[cfg(test)]
 mod verdicts;

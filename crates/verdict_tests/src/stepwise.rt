@@ -3,7 +3,7 @@
 use crate::answers::wants_about;
 use crate::calls::stream_of;
 use crate::machines::{End, Recording, recordings};
-use crate::{idle_policy, nice_changes};
+use crate::{idle_policy, nice_changes, told_charges};
 use cfs_model::Knobs;
 use queue_replay::{Page, Replay, State};
 use sched_record::Stream;
@@ -118,7 +118,8 @@ fn a_page_is_the_same_however_its_steps_are_cut(rt: HostRuntime) -> Result<(), F
 }
 
 #[test]
-fn so_it_is_with_changes_and_policies(rt: HostRuntime) -> Result<(), Fail> {
+fn so_it_is_with_changes_policies_and_told_charges(rt: HostRuntime) -> Result<(), Fail> {
     wants_replayed(&rt, rt.alloc(), &nice_changes::recordings())?;
-    wants_replayed(&rt, rt.alloc(), &idle_policy::recordings())
+    wants_replayed(&rt, rt.alloc(), &idle_policy::recordings())?;
+    wants_replayed(&rt, rt.alloc(), &told_charges::recordings())
 }

@@ -1,11 +1,12 @@
 ghost use Rattle.std.specs.Prelude.{◌≡◌, ◌↔◌, OnOk, IfOk, IsTrue};
 ghost use Rattle.text_parts.specs.Lines.{lines_of};
 ghost use Rattle.companion_file.specs.Draft.{KeepsOrder};
-ghost use Rattle.companion_file.specs.Piecewise.{SaysOn, FollowsOn, ClaimsFollow, ChangesFollow, head_of, with_piece};
+ghost use Rattle.companion_file.specs.Piecewise.{SaysOn, FollowsOn, ClaimsFollow, ChangesFollow, ChargesFollow};
+ghost use Rattle.companion_file.specs.Piecewise.{head_of, with_piece};
 
 use crate::draft::Draft;
 use crate::fault::{CompanionCause, Refusal};
-use cfs_model::{Claim, NiceLine};
+use cfs_model::{ChargeLine, Claim, NiceLine};
 use std::alloc::AllocError;
 use text_parts::lines::next_line;
 
@@ -65,6 +66,15 @@ impl Draft {
         }
     }
 
+    fn charges_follow(&self, charges: &[ChargeLine]) -> bool
+        ensures { IsTrue result ↔ ChargesFollow self.now charges.now }
+    {
+        match charges {
+            [] => true,
+            [first, ..] => self.may_charge_at(u64::from(first.line)),
+        }
+    }
+
     /// Whether a piece that was read behind the head alone says the same behind all that was said.
     fn is_followed_by(&self, later: &Draft) -> bool
         ensures { IsTrue result ↔ FollowsOn self.now later.now }
@@ -76,6 +86,7 @@ impl Draft {
             && later.idles.is_empty()
             && self.claims_follow(&later.claims)
             && self.changes_follow(&later.nices)
+            && self.charges_follow(&later.charges)
     }
 
     /// Puts what a piece said behind what was said.
@@ -87,6 +98,7 @@ impl Draft {
         }
         self.claims.extend_from_slice(&later.claims)?;
         self.nices.extend_from_slice(&later.nices)?;
+        self.charges.extend_from_slice(&later.charges)?;
         Ok(())
     }
 }

@@ -1,10 +1,11 @@
 ghost use Rattle.std.specs.Prelude.{◌≡◌, nat_le, not, true, ◌==◌};
 ghost use Rattle.std.specs.Option.{option_map_or};
-ghost use Rattle.companion_file.specs.Earlier.{last_task, last_claim, last_nice, last_idle};
-ghost use Rattle.companion_file.specs.Tests.{is_above_claims, may_claim_at, may_change_at, may_be_idle};
+ghost use Rattle.companion_file.specs.Earlier.{last_task, last_claim, last_nice, last_idle, last_charge};
+ghost use Rattle.companion_file.specs.Tests.{is_above_claims, is_above_changes, is_from_charges};
+ghost use Rattle.companion_file.specs.Tests.{may_claim_at, may_change_at, may_charge_at, may_be_idle};
 
 use crate::draft::Draft;
-use cfs_model::{Claim, IdleLine, NiceLine, Task};
+use cfs_model::{ChargeLine, Claim, IdleLine, NiceLine, Task};
 
 impl Draft {
     fn last_task(&self) -> Option<Task>
@@ -31,6 +32,12 @@ impl Draft {
         self.idles.last().copied()
     }
 
+    fn last_charge(&self) -> Option<ChargeLine>
+        ensures { result ≡ last_charge self.now }
+    {
+        self.charges.last().copied()
+    }
+
     pub(super) fn is_pid_next(&self, pid: u64) -> bool
         ensures { result ≡ option_map_or (λ last. nat_le last.pid pid) (last_task self.now) true }
     {
@@ -52,6 +59,20 @@ impl Draft {
             .is_none_or(|last| u64::from(last.line) < line)
     }
 
+    fn is_above_changes(&self, line: u64) -> bool
+        ensures { result ≡ is_above_changes self.now line }
+    {
+        self.last_nice()
+            .is_none_or(|change| u64::from(change.line) < line)
+    }
+
+    fn is_from_charges(&self, line: u64) -> bool
+        ensures { result ≡ is_from_charges self.now line }
+    {
+        self.last_charge()
+            .is_none_or(|charge| u64::from(charge.line) <= line)
+    }
+
     pub(super) fn may_claim_at(&self, line: u64) -> bool
         ensures { result ≡ may_claim_at self.now line }
     {
@@ -59,13 +80,21 @@ impl Draft {
             && self
                 .last_nice()
                 .is_none_or(|change| u64::from(change.line) <= line)
+            && self.is_from_charges(line)
     }
 
     pub(super) fn may_change_at(&self, line: u64) -> bool
         ensures { result ≡ may_change_at self.now line }
     {
-        self.last_nice()
-            .is_none_or(|change| u64::from(change.line) < line)
+        self.is_above_changes(line) && self.is_above_claims(line) && self.is_from_charges(line)
+    }
+
+    pub(super) fn may_charge_at(&self, line: u64) -> bool
+        ensures { result ≡ may_charge_at self.now line }
+    {
+        self.last_charge()
+            .is_none_or(|charge| u64::from(charge.line) < line)
+            && self.is_above_changes(line)
             && self.is_above_claims(line)
     }
 

@@ -1,13 +1,14 @@
 ghost use Rattle.std.specs.Prelude.{◌≡◌};
 ghost use Rattle.cfs_model.specs.declared.policy.Policy.TheVariants.{Normal};
 ghost use Rattle.companion_file.specs.Shape.{cpus_line, start_line, floor_line, task_line, claim_line, nice_line};
+ghost use Rattle.companion_file.specs.Shape.{charge_line};
 ghost use Rattle.companion_file.specs.Draft.{AddsTested, KeepsOrder, TakesFirst, Takes};
 ghost use Rattle.companion_file.specs.Statement.{stated};
 
 use crate::draft::Draft;
 use crate::fault::{CompanionCause, Refusal};
 use crate::known_lines::{is_group, version_of};
-use crate::limits::{change_within, claim_within, is_value};
+use crate::limits::{change_within, charge_within, claim_within, is_value};
 use crate::shapes::statement_of;
 use crate::statement::Statement;
 use cfs_model::{ClaimSort, GREATEST_SECONDS, MOST_PROCESSORS, NANOSECONDS_PER_SECOND, Place};
@@ -127,6 +128,22 @@ impl Draft {
         Ok(())
     }
 
+    fn say_charge(&mut self, line: u64, pid: u64, v: i64) -> Result<(), Refusal>
+        ensures { AddsTested self.old (charge_line (record { line = line; pid = pid; v = v })) result self.new }
+    {
+        if !self.has_all_floors() {
+            return Err(Refusal::Bad(CompanionCause::Order));
+        }
+        let Some(charge) = charge_within(line, pid, v) else {
+            return Err(Refusal::Bad(CompanionCause::NumberRange));
+        };
+        if !self.may_charge_at(line) {
+            return Err(Refusal::Bad(CompanionCause::LineOrder));
+        }
+        self.charges.push(charge)?;
+        Ok(())
+    }
+
     fn say(&mut self, statement: Statement) -> Result<(), Refusal>
         requires { KeepsOrder self.old }
         ensures { AddsTested self.old (stated statement) result self.new }
@@ -146,6 +163,7 @@ impl Draft {
             Statement::Claim { line, pid, v, sort } => self.say_claim(line, pid, v, sort),
             Statement::Nice { line, pid, nice } => self.say_nice(line, pid, nice),
             Statement::Idle { line, pid } => self.say_idle(line, pid),
+            Statement::Charge { line, pid, v } => self.say_charge(line, pid, v),
         }
     }
 

@@ -9,12 +9,12 @@ use Rattle.cfs_model.specs.Lifted.{IsLiftedAt, IsLifted}
 use Rattle.cfs_model.specs.Reniced.{home_of, IsReniced}
 use Rattle.cfs_model.specs.Step.{Changes, IsMigration, IsStep}
 use Rattle.cfs_model.specs.Order.{IsInOrder}
-use Rattle.replay_model.specs.Record.{ClaimInRange}
+use Rattle.replay_model.specs.Record.{ClaimInRange, ChargeInRange}
 use Rattle.replay_model.specs.Part.{Part, part_of, IsLiftedPart}
 use Rattle.replay_model.specs.Deeds.{reniced, left_ticket, came_ticket}
 use Rattle.replay_model.specs.AfterDeed.{after_deed}
-use Rattle.replay_model.specs.QueueTests.{IsOutOfRange, IsStrangeNice}
-use Rattle.replay_model.specs.StepAt.{deed_at, claim_for, nice_for, step_at}
+use Rattle.replay_model.specs.QueueTests.{IsOutOfRange, IsWrongCharge, IsStrangeNice}
+use Rattle.replay_model.specs.StepAt.{deed_at, claim_for, nice_for, charge_for, step_at}
 use Rattle.part_laws.specs.TouchedParts.{MovesBetween, RestStays}
 use Rattle.part_laws.specs.Migrations.{PartsMigrate, MachineMigrates}
 use Rattle.cfs_model.proofs.KeptOrder.{IsApart, lifted_apart}
@@ -28,6 +28,7 @@ use Rattle.part_laws.proofs.migrating.PartMigration.{migration_parts, leave_clea
 use Rattle.part_laws.proofs.migrating.PartMigration.{migration_exists}
 use Rattle.cfs_model.specs.declared.act.Act.{Act}
 use Rattle.cfs_model.specs.declared.act.Act.TheVariants.{Shift}
+use Rattle.cfs_model.specs.declared.charge_line.ChargeLine.{ChargeLine}
 use Rattle.cfs_model.specs.declared.nice_line.NiceLine.{NiceLine}
 use Rattle.replay_model.specs.declared.step.Deed.TheVariants.{Leave, Arrive}
 use Rattle.cfs_model.specs.declared.policy.Policy.{Policy}
@@ -45,28 +46,33 @@ arrive_deed act policy orig dest pid nice e ne = ap (deed_at dest policy) e
     ∙ ap (λ b. cond b (Leave pid nice dest) (Arrive pid nice orig policy)) (ne_eqb orig dest ne)
 
 -- a lift at both ends, end by end
-pub record LiftsBoth (time orig dest : ℕ) (before lifted : Machine) : Type 0 where
+pub record LiftsBoth (bound time : ℕ) (charge : Option ChargeLine) (orig dest : ℕ) (before lifted : Machine)
+    : Type 0 where
   pub orig_range : (pid : ℕ) → ¬ IsOutOfRange (part_of before orig) time pid
-  pub orig_lift : IsLiftedPart time (part_of before orig) (part_of lifted orig)
+  pub orig_told : (pid : ℕ) → ¬ IsWrongCharge bound (part_of before orig) time charge pid
+  pub orig_lift : IsLiftedPart time charge (part_of before orig) (part_of lifted orig)
   pub dest_range : (pid : ℕ) → ¬ IsOutOfRange (part_of before dest) time pid
-  pub dest_lift : IsLiftedPart time (part_of before dest) (part_of lifted dest)
+  pub dest_lift : IsLiftedPart time None (part_of before dest) (part_of lifted dest)
   pub others : RestStays before lifted orig dest
 
-both_lifted : (time orig dest : ℕ) (before lifted : Machine) → IsApart before → orig ≢ dest
-    → IsLifted time (orig ∷ dest ∷ []) before lifted → LiftsBoth time orig dest before lifted
-both_lifted time orig dest before lifted a ne l =
+both_lifted : (bound time : ℕ) (charge : Option ChargeLine) (orig dest : ℕ) (before lifted : Machine)
+    → IsApart before → orig ≢ dest → IsLifted bound time charge (orig ∷ dest ∷ []) before lifted
+    → LiftsBoth bound time charge orig dest before lifted
+both_lifted bound time charge orig dest before lifted a ne l =
     let between = l.0 in
-    let second : IsLiftedAt time dest between lifted = subst (λ x. IsLiftedAt time dest between x) (sym l.2.2) l.2.1 in
-    let first = lifted_here before a time orig between l.1 in
-    let apart = lifted_apart time (orig ∷ []) before between (between, l.1, refl) a in
-    let then = lifted_here between apart time dest lifted second in
+    let second : IsLiftedAt bound time None dest between lifted =
+    subst (λ x. IsLiftedAt bound time None dest between x) (sym l.2.2) l.2.1 in
+    let first = lifted_here before a bound time charge orig between l.1 in
+    let apart = lifted_apart bound time charge (orig ∷ []) before between (between, l.1, refl) a in
+    let then = lifted_here between apart bound time None dest lifted second in
     let at_orig : part_of lifted orig ≡ part_of between orig = then.2 orig ne in
     let at_dest : part_of between dest ≡ part_of before dest = first.2 dest (λ e. ne (sym e)) in
     record {
       orig_range = first.0;
-      orig_lift = subst (λ p. IsLiftedPart time (part_of before orig) p) (sym at_orig) first.1;
+      orig_told = first.3;
+      orig_lift = subst (λ p. IsLiftedPart time charge (part_of before orig) p) (sym at_orig) first.1;
       dest_range = subst (λ p. (pid : ℕ) → ¬ IsOutOfRange p time pid) at_dest then.0;
-      dest_lift = subst (λ p. IsLiftedPart time p (part_of lifted dest)) at_dest then.1;
+      dest_lift = subst (λ p. IsLiftedPart time None p (part_of lifted dest)) at_dest then.1;
       others = λ d no_orig no_dest. then.2 d no_dest ∙ first.2 d no_orig;
     }
 
@@ -81,33 +87,52 @@ arrive_nice : (act : Act) (policy : Policy) (orig dest pid : ℕ) (nice : ℤ) (
 arrive_nice act policy orig dest pid nice change e ne =
     ap (λ d. nice_for d change) (arrive_deed act policy orig dest pid nice e ne)
 
+-- and the told charge
+leave_charge : (act : Act) (policy : Policy) (orig dest pid : ℕ) (nice : ℤ) (charge : Option ChargeLine)
+    → act ≡ Shift orig dest pid nice → charge_for (deed_at orig policy act) charge ≡ charge
+leave_charge act policy orig dest pid nice charge e =
+    ap (λ d. charge_for d charge) (leave_deed act policy orig dest pid nice e)
+
+arrive_charge : (act : Act) (policy : Policy) (orig dest pid : ℕ) (nice : ℤ) (charge : Option ChargeLine)
+    → act ≡ Shift orig dest pid nice → orig ≢ dest → charge_for (deed_at dest policy act) charge ≡ None
+arrive_charge act policy orig dest pid nice charge e ne =
+    ap (λ d. charge_for d charge) (arrive_deed act policy orig dest pid nice e ne)
+
 pub parts_migrate : PartsMigrate
 parts_migrate knobs before after event orig dest pid nice o e s =
     let act = event.entry.act in
     let time = event.entry.time in
-    let lifted_order = lifted_apart time (touched act) before s.lifted s.is_lifted (apart_of before o) in
+    let charge = event.charge in
+    let lifted_order = lifted_apart knobs.drift time charge (touched act) before s.lifted s.is_lifted (apart_of
+    before o)
+    in
     let r : IsReniced orig event.nice s.lifted s.found = subst (λ x. IsReniced x event.nice s.lifted s.found)
     (ap home_of e) s.is_reniced in
     let n = reniced_here s.lifted lifted_order orig event.nice s.found r in
     let a = reniced_apart orig event.nice s.lifted s.found r lifted_order in
     let m : IsMigration s.found orig dest pid nice event.claim event.policy after = subst
     (λ x. Changes knobs s.found x event.claim event.policy after) e s.changes in
-    let l = both_lifted time orig dest before s.lifted (apart_of before o) m.differ
-    (subst (λ x. IsLifted time (touched x) before s.lifted) e s.is_lifted) in
+    let l = both_lifted knobs.drift time charge orig dest before s.lifted (apart_of before o) m.differ
+    (subst (λ x. IsLifted knobs.drift time charge (touched x) before s.lifted) e s.is_lifted) in
     let p = migration_parts s.found a orig dest pid nice event.claim event.policy after m in
     let leave = leave_deed act event.policy orig dest pid nice e in
     let arrive = arrive_deed act event.policy orig dest pid nice e m.differ in
     let left_nice = leave_nice act event.policy orig dest pid nice event.nice e in
-    let came_nice = arrive_nice act event.policy orig dest pid nice event.nice e m.differ in (
+    let came_nice = arrive_nice act event.policy orig dest pid nice event.nice e m.differ in
+    let left_charge = leave_charge act event.policy orig dest pid nice charge e in
+    let came_charge = arrive_charge act event.policy orig dest pid nice charge e m.differ in (
       m.differ,
       record {
         leave = record {
           found = part_of s.found orig;
           passes = record {
             in_range = l.orig_range;
+            told = subst (λ x. (q : ℕ) → ¬ IsWrongCharge knobs.drift (part_of before orig) time x q) (sym left_charge)
+                l.orig_told;
             is_found = record {
               lifted = part_of s.lifted orig;
-              is_lifted = l.orig_lift;
+              is_lifted = subst (λ x. IsLiftedPart time x (part_of before orig) (part_of s.lifted orig))
+                  (sym left_charge) l.orig_lift;
               is_reniced = n.0 ∙ ap (λ x. reniced x (part_of s.lifted orig)) (sym left_nice);
             };
             none = none_of knobs orig (part_of s.found orig) (step_at orig event)
@@ -121,9 +146,12 @@ parts_migrate knobs before after event orig dest pid nice o e s =
           found = part_of s.found dest;
           passes = record {
             in_range = l.dest_range;
+            told = subst (λ x. (q : ℕ) → ¬ IsWrongCharge knobs.drift (part_of before dest) time x q) (sym came_charge)
+                (λ q h. h);
             is_found = record {
               lifted = part_of s.lifted dest;
-              is_lifted = l.dest_lift;
+              is_lifted = subst (λ x. IsLiftedPart time x (part_of before dest) (part_of s.lifted dest))
+                  (sym came_charge) l.dest_lift;
               is_reniced = n.1 dest (λ same. m.differ (sym same))
                   ∙ ap (λ x. reniced x (part_of s.lifted dest)) (sym came_nice);
             };
@@ -150,7 +178,8 @@ not_home knobs before event orig dest pid nice left came e s same =
 
 -- what is told of a migration by its ends
 module _ (knobs : KnobsView) (before : Machine) (event : Claimed) (orig dest pid : ℕ) (nice : ℤ) (left came : Part)
-    (o : IsInOrder before) (range : ClaimInRange event) (e : event.entry.act ≡ Shift orig dest pid nice)
+    (o : IsInOrder before) (range : ClaimInRange event) (charges : ChargeInRange event)
+    (e : event.entry.act ≡ Shift orig dest pid nice)
     (ne : orig ≢ dest) (s : MovesBetween knobs before event orig dest pid nice left came) where
   -- the machine's step, and the parts after it
   abbrev Migrates : Type 0
@@ -159,7 +188,8 @@ module _ (knobs : KnobsView) (before : Machine) (event : Claimed) (orig dest pid
       × (part_of after dest ≡ came) × RestStays before after orig dest
 
   -- from the machine's own change to the machine after
-  after_change : (lifted found : Machine) → IsLifted event.entry.time (orig ∷ dest ∷ []) before lifted
+  after_change : (lifted found : Machine) → IsLifted knobs.drift event.entry.time event.charge (orig ∷ dest ∷ [])
+      before lifted
       → IsReniced orig event.nice lifted found → IsApart found → part_of found orig ≡ s.leave.found
       → part_of found dest ≡ s.arrive.found → RestStays before found orig dest → (after : Machine)
       → IsMigration found orig dest pid nice event.claim event.policy after → Migrates
@@ -169,8 +199,9 @@ module _ (knobs : KnobsView) (before : Machine) (event : Claimed) (orig dest pid
       let leave = leave_deed act event.policy orig dest pid nice e in
       let arrive = arrive_deed act event.policy orig dest pid nice e ne in
       let p = migration_parts found a orig dest pid nice event.claim event.policy after m in
-      let is_lifted : IsLifted time (touched act) before lifted = subst
-      (λ x. IsLifted time (touched x) before lifted) (sym e) both in
+      let charge = event.charge in
+      let is_lifted : IsLifted knobs.drift time charge (touched act) before lifted = subst
+      (λ x. IsLifted knobs.drift time charge (touched x) before lifted) (sym e) both in
       let is_reniced : IsReniced (home_of act) event.nice lifted found = subst
       (λ x. IsReniced (home_of x) event.nice lifted found) (sym e) r in
       let changes : Changes knobs found act event.claim event.policy after = subst
@@ -183,7 +214,7 @@ module _ (knobs : KnobsView) (before : Machine) (event : Claimed) (orig dest pid
         changes = changes;
         in_range = change_range knobs found act event.claim event.policy after changes range
             (reniced_range orig event.nice lifted found r
-            (lifted_range time (touched act) before lifted is_lifted o.in_range));
+            (lifted_range knobs.drift time charge (touched act) before lifted is_lifted charges o.in_range));
       } in (
         after,
         step,
@@ -196,7 +227,8 @@ module _ (knobs : KnobsView) (before : Machine) (event : Claimed) (orig dest pid
       )
 
   -- from the machine as the event finds it to the machine after
-  after_found : (lifted found : Machine) → IsLifted event.entry.time (orig ∷ dest ∷ []) before lifted
+  after_found : (lifted found : Machine) → IsLifted knobs.drift event.entry.time event.charge (orig ∷ dest ∷ [])
+      before lifted
       → IsReniced orig event.nice lifted found → IsApart found → part_of found orig ≡ s.leave.found
       → part_of found dest ≡ s.arrive.found → RestStays before found orig dest → Migrates
   after_found lifted found both r a here there rest =
@@ -215,14 +247,15 @@ module _ (knobs : KnobsView) (before : Machine) (event : Claimed) (orig dest pid
       after_change lifted found both r a here there rest c.0 c.1
 
   -- from a machine lifted at both ends to the machine after
-  after_lift : (lifted : Machine) → IsLifted event.entry.time (orig ∷ dest ∷ []) before lifted
+  after_lift : (lifted : Machine) → IsLifted knobs.drift event.entry.time event.charge (orig ∷ dest ∷ []) before lifted
       → part_of lifted orig ≡ s.leave.passes.is_found.lifted
       → part_of lifted dest ≡ s.arrive.passes.is_found.lifted → RestStays before lifted orig dest → Migrates
   after_lift lifted both here there rest =
       let act = event.entry.act in
       let left_nice = leave_nice act event.policy orig dest pid nice event.nice e in
       let came_nice = arrive_nice act event.policy orig dest pid nice event.nice e ne in
-      let a = lifted_apart event.entry.time (orig ∷ dest ∷ []) before lifted both (apart_of before o) in
+      let a = lifted_apart knobs.drift event.entry.time event.charge (orig ∷ dest ∷ []) before lifted both
+      (apart_of before o) in
       let leaves = s.leave.passes.is_found in
       let arrives = s.arrive.passes.is_found in
       let n = renice_exists lifted a orig event.nice s.leave.found
@@ -235,18 +268,27 @@ module _ (knobs : KnobsView) (before : Machine) (event : Claimed) (orig dest pid
       (λ d no_orig no_dest. n.3 d no_orig ∙ rest d no_orig no_dest)
 
 pub machine_migrates : MachineMigrates
-machine_migrates knobs before event orig dest pid nice left came o r e s =
+machine_migrates knobs before event orig dest pid nice left came o r c e s =
     let time = event.entry.time in
+    let charge = event.charge in
     let ne = not_home knobs before event orig dest pid nice left came e s in
+    let left_charge = leave_charge event.entry.act event.policy orig dest pid nice charge e in
+    let came_charge = arrive_charge event.entry.act event.policy orig dest pid nice charge e ne in
     let leaves = s.leave.passes.is_found in
     let arrives = s.arrive.passes.is_found in
     let first = lift_exists before
-    (apart_of before o) time orig leaves.lifted s.leave.passes.in_range leaves.is_lifted in
-    let apart = lifted_apart time (orig ∷ []) before first.0 (first.0, first.1, refl) (apart_of before o) in
+    (apart_of before o) knobs.drift time charge orig leaves.lifted s.leave.passes.in_range
+    (subst (λ x. (pid : ℕ) → ¬ IsWrongCharge knobs.drift (part_of before orig) time x pid) left_charge
+    s.leave.passes.told)
+    (subst (λ x. IsLiftedPart time x (part_of before orig) leaves.lifted) left_charge leaves.is_lifted) in
+    let apart = lifted_apart knobs.drift time charge (orig ∷ []) before first.0 (first.0, first.1, refl)
+    (apart_of before o) in
     let at_dest : part_of first.0 dest ≡ part_of before dest = first.3 dest (λ e. ne (sym e)) in
-    let then = lift_exists first.0 apart time dest arrives.lifted
+    let then = lift_exists first.0 apart knobs.drift time None dest arrives.lifted
     (subst (λ p. (pid : ℕ) → ¬ IsOutOfRange p time pid) (sym at_dest) s.arrive.passes.in_range)
-    (subst (λ p. IsLiftedPart time p arrives.lifted) (sym at_dest) arrives.is_lifted) in
-    after_lift knobs before event orig dest pid nice left came o r e ne s then.0
+    (λ pid h. h)
+    (subst (λ p. IsLiftedPart time None p arrives.lifted) (sym at_dest)
+    (subst (λ x. IsLiftedPart time x (part_of before dest) arrives.lifted) came_charge arrives.is_lifted)) in
+    after_lift knobs before event orig dest pid nice left came o r c e ne s then.0
     (first.0, first.1, (then.0, then.1, refl)) (then.3 orig ne ∙ first.2) then.2
     (λ d no_orig no_dest. then.3 d no_dest ∙ first.3 d no_orig)

@@ -1,15 +1,18 @@
 -- A migration's own change in the machine, and in the parts at its two ends.
-use Rattle.std.proofs.Common.{◌≡◌, ◌≢◌, ℕ, true, false, Option, Some, None, option_map, ℤ, ◌+ℤ◌, ◌-ℤ◌, inl, inr}
+use Rattle.std.proofs.Common.{◌≡◌, ◌≢◌, ℕ, true, false, Option, Some, None, option_map, ℤ, pos, ◌+ℤ◌, ◌-ℤ◌, inl}
+use Rattle.std.proofs.Common.{inr}
 use Rattle.std.proofs.Common.{refl, sym, ap, ◌∙◌, subst, arith}
 use Rattle.std.proofs.lemmas.Int.{ints}
 use Rattle.cfs_model.specs.Knobs.{KnobsView}
 use Rattle.cfs_model.specs.Machine.{Machine, Stands, put_pair, pairs_of, with_move, without_task, with_runtime}
+use Rattle.cfs_model.specs.Machine.{with_drift}
 use Rattle.cfs_model.specs.Claimed.{ClaimSays}
 use Rattle.cfs_model.specs.Step.{MovesBy, IsMigration}
 use Rattle.replay_model.specs.Part.{Part, Entity, part_of, entity_at}
 use Rattle.replay_model.specs.AfterDeed.{after_deed}
 use Rattle.replay_model.specs.Deeds.{with_entity, place_of_sort, left_ticket, came_ticket}
 use Rattle.replay_model.specs.ClaimTests.{IsClaimMissing, IsClaimExtra, IsClaimPid}
+use Rattle.cfs_model.proofs.DriftSums.{drift-with_move}
 use Rattle.cfs_model.proofs.FloorsRise.{floor-with_pairs}
 use Rattle.cfs_model.proofs.KeptOrder.{IsApart, same_sets}
 use Rattle.cfs_model.proofs.MarksMove.{mark-with_pairs}
@@ -35,15 +38,15 @@ module _ (m : Machine) (place : Place) (orig dest pid : ℕ) (w : ℤ) where
   moved : Machine
   moved = with_move m pid place orig place dest
 
-  set_runtime : (n : Machine) → (r : Place) → pairs_of (with_runtime n pid w) r ≡ pairs_of n r
-  set_runtime n = same_sets n (with_runtime n pid w) refl refl refl
+  set_values : (n : Machine) → (r : Place) → pairs_of (with_drift (with_runtime n pid w) pid (pos 0)) r ≡ pairs_of n r
+  set_values n = same_sets n (with_drift (with_runtime n pid w) pid (pos 0)) refl refl refl
 
   pub moved_placed : IsApart m → Stands m place orig pid
-      → IsPutAt m (with_runtime (with_move m pid place orig place dest) pid w) pid place dest
+      → IsPutAt m (with_drift (with_runtime (with_move m pid place orig place dest) pid w) pid (pos 0)) pid place dest
   moved_placed a h =
       placed_same m (with_move m pid place orig place dest)
-      (with_runtime (with_move m pid place orig place dest) pid w) pid place dest
-      (set_runtime (with_move m pid place orig place dest))
+      (with_drift (with_runtime (with_move m pid place orig place dest) pid w) pid (pos 0)) pid place dest
+      (set_values (with_move m pid place orig place dest))
       (move_placed m pid place orig place dest (alone m a place orig pid h))
 
   same_runtime : (with_move m pid place orig place dest).runtime ≡ m.runtime
@@ -64,12 +67,15 @@ module _ (m : Machine) (place : Place) (orig dest pid : ℕ) (w : ℤ) where
       (put_pair (pairs_of (without_task m place orig pid) place) dest pid true)
       ∙ policy-with_pairs m place (put_pair (pairs_of m place) orig pid false)
 
-  pub moved_keeps : KeepsRest m (with_runtime (with_move m pid place orig place dest) pid w) pid
+  pub moved_keeps : KeepsRest m (with_drift (with_runtime (with_move m pid place orig place dest) pid w) pid (pos 0))
+      pid
   moved_keeps = record {
     runtimes = λ q ne. put-other (with_move m pid place orig place dest).runtime pid (Some w) q ne
         ∙ ap (λ f. f q) same_runtime;
     nices = λ q ne. ap (λ f. f q) same_nice;
     policies = λ q ne. ap (λ f. f q) same_policy;
+    drifts = λ q ne. put-other (with_move m pid place orig place dest).drift pid (pos 0) q ne
+        ∙ ap (λ f. f q) (drift-with_move m pid place orig place dest);
     floors = floor-with_pairs (without_task m place orig pid) place
         (put_pair (pairs_of (without_task m place orig pid) place) dest pid true)
         ∙ floor-with_pairs m place (put_pair (pairs_of m place) orig pid false);
@@ -79,11 +85,11 @@ module _ (m : Machine) (place : Place) (orig dest pid : ℕ) (w : ℤ) where
   }
 
   pub moved_nice : (nice : ℤ) → m.nice pid ≡ Some nice
-      → (with_runtime (with_move m pid place orig place dest) pid w).nice pid ≡ Some nice
+      → (with_drift (with_runtime (with_move m pid place orig place dest) pid w) pid (pos 0)).nice pid ≡ Some nice
   moved_nice nice e = ap (λ f. f pid) same_nice ∙ e
 
   pub moved_policy : (policy : Policy) → m.policy pid ≡ policy
-      → (with_runtime (with_move m pid place orig place dest) pid w).policy pid ≡ policy
+      → (with_drift (with_runtime (with_move m pid place orig place dest) pid w) pid (pos 0)).policy pid ≡ policy
   moved_policy policy e = ap (λ f. f pid) same_policy ∙ e
 
 sort_place : (place : Place) (sort : ClaimSort) → MovesBy place sort → place_of_sort sort ≡ place
@@ -102,13 +108,20 @@ moves_by place Pass e = subst (λ x. MovesBy x Pass) (sym e) tt
 comes_to : (claim : Option Claim) (sort : ClaimSort) (place : Place) (pid : ℕ) (nice : ℤ) (policy : Policy) (v : ℤ)
     → MovesBy place sort → ClaimSays claim sort pid v
     → option_map (λ (c : Claim). let s : Entity = record
-    { place = place_of_sort c.sort; nice = nice; policy = policy; runtime = c.v } in s) claim ≡ Some
-    (record { place = place; nice = nice; policy = policy; runtime = v })
+    { place = place_of_sort c.sort; nice = nice; policy = policy; runtime = c.v; drift = pos 0 } in s) claim ≡ Some
+    (record { place = place; nice = nice; policy = policy; runtime = v; drift = pos 0 })
 comes_to None sort place pid nice policy v b h = absurd h
 comes_to (Some claim) sort place pid nice policy v b h =
-    ap (λ x. Some (record { place = place_of_sort x; nice = nice; policy = policy; runtime = claim.v })) h.0
-    ∙ ap (λ x. Some (record { place = x; nice = nice; policy = policy; runtime = claim.v })) (sort_place place sort b)
-    ∙ ap (λ x. Some (record { place = place; nice = nice; policy = policy; runtime = x })) h.2
+    ap (λ x. Some (record {
+      place = place_of_sort x;
+      nice = nice;
+      policy = policy;
+      runtime = claim.v;
+      drift = pos 0;
+    })) h.0
+    ∙ ap (λ x. Some (record { place = x; nice = nice; policy = policy; runtime = claim.v; drift = pos 0 })) (sort_place
+    place sort b)
+    ∙ ap (λ x. Some (record { place = place; nice = nice; policy = policy; runtime = x; drift = pos 0 })) h.2
 
 -- the parts after a migration
 pub migration_parts : (m : Machine) → IsApart m
@@ -119,14 +132,16 @@ pub migration_parts : (m : Machine) → IsApart m
     × ((d : ℕ) → d ≢ orig → d ≢ dest → part_of after d ≡ part_of m d)
 migration_parts m a orig dest pid nice claim policy after s =
     let w : ℤ = (s.own -ℤ m.floor orig) +ℤ m.floor dest in
-    let next = with_runtime (with_move m pid s.place orig s.place dest) pid w in
+    let next = with_drift (with_runtime (with_move m pid s.place orig s.place dest) pid w) pid (pos 0) in
     let p = moved_placed m s.place orig dest pid w a s.stands in
     let k = moved_keeps m s.place orig dest pid w in (
       ap (λ x. part_of x orig) s.result ∙ placed_away m next pid s.place dest p k orig s.differ,
       ap (λ x. part_of x dest) s.result
-          ∙ placed_part m next pid s.place dest nice policy w p k (moved_nice m s.place orig dest pid w nice s.prio)
+          ∙ placed_part m next pid s.place dest nice policy w (pos 0) p k (moved_nice m s.place orig dest pid w nice
+          s.prio)
           (moved_policy m s.place orig dest pid w policy s.policy_is)
           (put-same (with_move m pid s.place orig s.place dest).runtime pid (Some w))
+          (put-same (with_move m pid s.place orig s.place dest).drift pid (pos 0))
           ∙ ap (with_entity (part_of m dest) pid) (sym (comes_to claim s.sort s.place pid nice policy w s.moves
           s.claimed)),
       (λ d ne other. ap (λ x. part_of x d) s.result ∙ placed_away m next pid s.place dest p k d other
@@ -296,7 +311,9 @@ migration_exists knobs m a orig dest pid line nice (Some claim) policy l c t = g
         (m.floor dest) (ap (λ (x : Ticket). x.offset) same) in
         let who : claim.pid ≡ pid = elim
         (same_or_not claim.pid pid) [ inl e ↦ e | inr ne ↦ absurd (c.other claim.pid ((pid, refl, ne), refl)) ] in (
-          with_runtime (with_move m pid s.place orig s.place dest) pid ((s.runtime -ℤ m.floor orig) +ℤ m.floor dest),
+          with_drift
+              (with_runtime (with_move m pid s.place orig s.place dest) pid
+              ((s.runtime -ℤ m.floor orig) +ℤ m.floor dest)) pid (pos 0),
           record {
             differ = λ e. l.home pid (sym e, refl);
             place = s.place;

@@ -4,7 +4,7 @@ use Rattle.std.proofs.Common.{◌≡◌, ℕ, Option, ℤ, ◌≤ℤ◌, inl, in
 use Rattle.std.proofs.lemmas.Int.{ints}
 use Rattle.std.specs.Int.{int_max}
 use Rattle.cfs_model.specs.Knobs.{KnobsView}
-use Rattle.replay_model.specs.Part.{Part, charged_part, IsLeastHere, IsRaisedHere, IsLiftedPart}
+use Rattle.replay_model.specs.Part.{Part, charged_part, told_part, IsLeastHere, IsRaisedHere, IsLiftedPart}
 use Rattle.replay_model.specs.Found.{IsFound}
 use Rattle.replay_model.specs.Deeds.{reniced}
 use Rattle.replay_model.specs.AfterDeed.{after_deed}
@@ -12,6 +12,7 @@ use Rattle.replay_model.specs.QueueTests.{IsIdleTooLong}
 use Rattle.replay_model.specs.Tests.{Test, NoneHolds, FirstHolds, early_tests, late_tests}
 use Rattle.replay_model.specs.Page.{ReplayStateView, IsSince, PassesStep, FailsTest, FailsStep}
 use Rattle.part_laws.specs.TouchedParts.{PartStep}
+use Rattle.cfs_model.specs.declared.charge_line.ChargeLine.{ChargeLine}
 use Rattle.cfs_model.specs.declared.kind.Kind.{Kind}
 use Rattle.replay_model.specs.declared.step.Step.{Step}
 
@@ -28,17 +29,18 @@ same_floor p f g (inr a) (inl b) = absurd (b.0 a.1.pid a.1.task a.1.stands a.1.q
 same_floor p f g (inr a) (inr b) = a.2 ∙ ap (int_max p.floor) (same_least p a.0 b.0 a.1 b.1) ∙ sym b.2
 
 -- at most one lift
-pub same_lift : (time : ℕ) (before one other : Part) → IsLiftedPart time before one → IsLiftedPart time before other
-    → one ≡ other
-same_lift time before one other a b =
-    a.result ∙ ap (λ f. record (charged_part before time) { floor = f })
-    (same_floor (charged_part before time) a.floor b.floor a.raised b.raised) ∙ sym b.result
+pub same_lift : (time : ℕ) (charge : Option ChargeLine) (before one other : Part) → IsLiftedPart time charge before one
+    → IsLiftedPart time charge before other → one ≡ other
+same_lift time charge before one other a b =
+    let told = told_part charge (charged_part before time) in
+    a.result ∙ ap (λ f. record told { floor = f }) (same_floor told a.floor b.floor a.raised b.raised) ∙ sym b.result
 
 -- at most one part as a deed finds it
 pub same_found : (step : Step) (before one other : Part) → IsFound step before one → IsFound step before other
     → one ≡ other
 same_found step before one other a b =
-    a.is_reniced ∙ ap (reniced step.nice) (same_lift step.time before a.lifted b.lifted a.is_lifted b.is_lifted)
+    a.is_reniced ∙ ap (reniced step.nice) (same_lift step.time step.charge before a.lifted b.lifted a.is_lifted
+    b.is_lifted)
     ∙ sym b.is_reniced
 
 -- at most one since
@@ -64,7 +66,7 @@ step_no_fault knobs cpu before step part after s in_time f = go f.fails
   where
     go : FailsTest knobs cpu before step f.kind f.pid → ⊥
     go (inl early) = none_first (early_tests knobs before.since before.part step) f.kind f.pid
-        (in_time, (s.passes.in_range, tt)) early
+        (in_time, (s.passes.in_range, (s.passes.told, tt))) early
     go (inr late) =
         none_first (late_tests knobs cpu late.0 step) f.kind f.pid
         (subst (λ p. NoneHolds (late_tests knobs cpu p step))

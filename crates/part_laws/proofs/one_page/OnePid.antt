@@ -4,14 +4,16 @@ use Rattle.std.specs.Bool.{⊤}
 use Rattle.cfs_model.specs.Knobs.{KnobsView}
 use Rattle.replay_model.specs.Part.{Part, Entity, IsIn}
 use Rattle.replay_model.specs.PartWords.{OneRunsIn}
-use Rattle.replay_model.specs.QueueTests.{IsIdleTooLong, IsOutOfRange, IsStrangeNice, IsMoveHome, IsSelfSwitch}
-use Rattle.replay_model.specs.QueueTests.{IsPrevNotRunning, IsStrange, IsAlready, IsMoveRunning, IsWrongPrio}
+use Rattle.replay_model.specs.QueueTests.{IsIdleTooLong, IsOutOfRange, IsWrongCharge, IsStrangeNice, IsMoveHome}
+use Rattle.replay_model.specs.QueueTests.{IsSelfSwitch, IsPrevNotRunning, IsStrange, IsAlready, IsMoveRunning}
+use Rattle.replay_model.specs.QueueTests.{IsWrongPrio}
 use Rattle.replay_model.specs.ClaimTests.{claimant, IsClaimMissing, IsClaimExtra, IsClaimPid, IsWrongPutBack}
 use Rattle.replay_model.specs.ClaimTests.{IsWakeOutside, IsForkOutside, IsNextNotWaiting, IsIdleBesideWaiting}
 use Rattle.replay_model.specs.ClaimTests.{IsNotLeast}
-use Rattle.replay_model.specs.Tests.{Test, FirstHolds, early_tests, late_tests}
+use Rattle.replay_model.specs.Tests.{Test, FirstHolds, charge_tests, early_tests, late_tests}
 use Rattle.replay_model.proofs.Options.{same_some}
 use Rattle.cfs_model.specs.declared.act.Way.TheVariants.{Stays, Sleeps, Ends}
+use Rattle.cfs_model.specs.declared.charge_line.ChargeLine.{ChargeLine}
 use Rattle.cfs_model.specs.declared.claim.Claim.{Claim}
 use Rattle.cfs_model.specs.declared.kind.Kind.{Kind}
 use Rattle.cfs_model.specs.declared.nice_line.NiceLine.{NiceLine}
@@ -45,11 +47,16 @@ idle_one : (slack : ℕ) (since : Option ℕ) (time : ℕ) → OfOne (IsIdleTooL
 idle_one slack None time p q h k = absurd h
 idle_one slack (Some x) time p q h k = both 0 p q h.1 k.1
 
-pub range_one : (part : Part) (time : ℕ) → OneRunsIn part → OfOne (IsOutOfRange part time)
+range_one : (part : Part) (time : ℕ) → OneRunsIn part → OfOne (IsOutOfRange part time)
 range_one part time one p q h k = one p q (runs p h) (runs q k)
   where
     runs : (pid : ℕ) → IsOutOfRange part time pid → IsIn part Run pid
     runs pid h = ap (option_map (λ (s : Entity). s.place)) h.stands ∙ ap Some h.runs
+
+charge_one : (bound : ℕ) (part : Part) (time : ℕ) (charge : Option ChargeLine)
+    → OfOne (IsWrongCharge bound part time charge)
+charge_one bound part time None p q h k = absurd h
+charge_one bound part time (Some charge) p q h k = both charge.pid p q h.1 k.1
 
 nice_one : (part : Part) (change : Option NiceLine) → OfOne (IsStrangeNice part change)
 nice_one part None p q h k = absurd h
@@ -177,9 +184,17 @@ module _ (cpu : ℕ) (part : Part) where
   least_one granularity (Leave task nice dest) p q h k = absurd h
   least_one granularity (Arrive task nice orig policy) p q h k = absurd h
 
+pub charges_one : (knobs : KnobsView) (part : Part) (step : Step) → OneRunsIn part
+    → EachOfOne (charge_tests knobs part step)
+charges_one knobs part step one =
+    (range_one part step.time one, (charge_one knobs.drift part step.time step.charge, tt))
+
 pub early_one : (knobs : KnobsView) (since : Option ℕ) (part : Part) (step : Step) → OneRunsIn part
     → EachOfOne (early_tests knobs since part step)
-early_one knobs since part step one = (idle_one knobs.slack since step.time, (range_one part step.time one, tt))
+early_one knobs since part step one = (
+  idle_one knobs.slack since step.time,
+  charges_one knobs part step one,
+)
 
 pub late_one : (knobs : KnobsView) (cpu : ℕ) (part : Part) (step : Step) → EachOfOne (late_tests knobs cpu part step)
 late_one knobs cpu part step =

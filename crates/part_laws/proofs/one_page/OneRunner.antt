@@ -1,8 +1,9 @@
 -- A step that passes the tests leaves at most one task running.
-use Rattle.std.proofs.Common.{◌≡◌, ◌≢◌, ℕ, zero, suc, Option, Some, None, option_map, ℤ, ◌⊎◌, inl, inr, refl, sym}
+use Rattle.std.proofs.Common.{◌≡◌, ◌≢◌, ℕ, zero, suc, Option, Some, None, option_map, ℤ, pos, ◌⊎◌, inl, inr, refl}
+use Rattle.std.proofs.Common.{sym}
 use Rattle.std.proofs.Common.{ap, ◌∙◌, subst}
 use Rattle.cfs_model.specs.Knobs.{KnobsView}
-use Rattle.replay_model.specs.Part.{Part, Entity, place_in, IsIn, NobodyIn, charged_in, IsLiftedPart}
+use Rattle.replay_model.specs.Part.{Part, Entity, place_in, IsIn, NobodyIn}
 use Rattle.replay_model.specs.PartWords.{OneRunsIn}
 use Rattle.replay_model.specs.Found.{IsFound}
 use Rattle.replay_model.specs.Deeds.{with_entity, goes, part_after_prev, place_of_sort}
@@ -11,6 +12,7 @@ use Rattle.replay_model.specs.QueueTests.{IsRunner}
 use Rattle.cfs_model.proofs.Moves.{put-same, put-other, same_or_not}
 use Rattle.replay_model.proofs.Clear.{IsClear, place_or}
 use Rattle.replay_model.proofs.Options.{no_some}
+use Rattle.replay_model.proofs.PartFacts.{place_lifted}
 use Rattle.part_laws.proofs.stepping.PartRenice.{reniced_in}
 use Rattle.cfs_model.specs.declared.act.Way.{Way}
 use Rattle.cfs_model.specs.declared.act.Way.TheVariants.{Stays, Sleeps, Ends}
@@ -26,15 +28,6 @@ use Rattle.cfs_model.specs.declared.policy.Policy.{Policy}
 
 abbrev place_of : Option Entity → Option Place
 place_of o = option_map (λ (s : Entity). s.place) o
-
--- a charge and a lift move nobody
-lifted_in : (time : ℕ) (part lifted : Part) → IsLiftedPart time part lifted → (pid : ℕ)
-    → place_in lifted pid ≡ place_in part pid
-lifted_in time part lifted l pid = ap (λ (x : Part). place_of (x.tasks pid)) l.result ∙ go (part.tasks pid)
-  where
-    go : (o : Option Entity) → place_of (option_map (charged_in part time) o) ≡ place_of o
-    go None = refl
-    go (Some s) = refl
 
 -- who runs after a change at one pid
 changed_in : (l : Part) (pid : ℕ) (o : Option Entity) (p : ℕ) → IsIn (with_entity l pid o) Run p
@@ -99,7 +92,8 @@ wake_run claim (Some s) h = ap Some (woken_run claim s s.place refl cc)
 
 born_run : (nice : ℤ) (policy : Policy) (claim : Option Claim)
     → place_of (option_map
-    (λ (c : Claim). let s : Entity = record { place = Wait; nice = nice; policy = policy; runtime = c.v } in s) claim)
+    (λ (c : Claim). let s : Entity = record { place = Wait; nice = nice; policy = policy; runtime = c.v; drift = pos 0 }
+    in s) claim)
     ≡ Some Run → ⊥
 born_run nice policy None h = no_some Run h
 born_run nice policy (Some claim) h = cc
@@ -107,7 +101,7 @@ born_run nice policy (Some claim) h = cc
 come_run : (nice : ℤ) (policy : Policy) (claim : Option Claim)
     → place_of (option_map
     (λ (c : Claim). let s : Entity = record
-    { place = place_of_sort c.sort; nice = nice; policy = policy; runtime = c.v } in s) claim)
+    { place = place_of_sort c.sort; nice = nice; policy = policy; runtime = c.v; drift = pos 0 } in s) claim)
     ≡ Some Run → ⊥
 come_run nice policy None h = no_some Run h
 come_run nice policy (Some claim) h = go claim.sort h
@@ -134,7 +128,7 @@ place_in_found : (step : Step) (part found : Part) → IsFound step part found �
     → place_in found pid ≡ place_in part pid
 place_in_found step part found f pid =
     ap (λ (x : Part). place_in x pid) f.is_reniced ∙ reniced_in step.nice f.lifted pid
-    ∙ lifted_in step.time part f.lifted f.is_lifted pid
+    ∙ place_lifted step.time step.charge part f.lifted f.is_lifted pid
 
 -- after a step that passes
 pub step_one_runs : (knobs : KnobsView) (cpu : ℕ) (part found : Part) (step : Step)

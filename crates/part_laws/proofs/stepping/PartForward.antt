@@ -1,24 +1,25 @@
 -- A step of the machine by an event that touches one processor is a step of the part there, and other parts stay.
 use Rattle.std.proofs.Common.{◌≡◌, ℕ, Option, [], ◌∷◌, sym, ap, ◌∙◌, subst}
 use Rattle.cfs_model.specs.Knobs.{KnobsView}
-use Rattle.cfs_model.specs.Machine.{Machine, Stands, with_floor}
+use Rattle.cfs_model.specs.Machine.{Machine, Stands}
 use Rattle.cfs_model.specs.Touch.{touched}
-use Rattle.cfs_model.specs.Lifted.{charged, IsLiftedAt, IsLifted}
+use Rattle.cfs_model.specs.Lifted.{IsLiftedAt, IsLifted}
 use Rattle.cfs_model.specs.Reniced.{IsReniced}
 use Rattle.cfs_model.specs.Step.{Changes}
-use Rattle.replay_model.specs.Part.{part_of}
+use Rattle.replay_model.specs.Part.{part_of, IsLiftedPart}
 use Rattle.replay_model.specs.Deeds.{reniced}
 use Rattle.replay_model.specs.AfterDeed.{after_deed}
-use Rattle.replay_model.specs.QueueTests.{IsStrangeNice}
+use Rattle.replay_model.specs.QueueTests.{IsWrongCharge, IsStrangeNice}
 use Rattle.replay_model.specs.StepAt.{deed_at, claim_for, step_at}
 use Rattle.part_laws.specs.TouchedParts.{BornNowhere, OthersStay}
 use Rattle.part_laws.specs.PartSteps.{PartSteps}
-use Rattle.cfs_model.proofs.KeptOrder.{IsApart, lifted_apart}
+use Rattle.cfs_model.proofs.KeptOrder.{IsApart, stands_same, lifted_apart}
+use Rattle.cfs_model.proofs.ToldCharge.{lifted_pairs}
 use Rattle.cfs_model.proofs.StepOrder.{apart_of}
 use Rattle.cfs_model.proofs.Renice.{reniced_apart}
 use Rattle.replay_model.proofs.Clear.{IsClear, none_of}
 use Rattle.part_laws.proofs.stepping.PartLift.{lifted_here}
-use Rattle.part_laws.proofs.stepping.PartRenice.{reniced_here, reniced_stands, home_is, nice_is}
+use Rattle.part_laws.proofs.stepping.PartRenice.{reniced_here, reniced_stands, home_is, nice_is, charge_is}
 use Rattle.part_laws.proofs.stepping.PartSwitch.{switch_part}
 use Rattle.part_laws.proofs.stepping.SwitchClear.{switch_clear}
 use Rattle.part_laws.proofs.stepping.PartPlaced.{wake_part, birth_part}
@@ -26,9 +27,9 @@ use Rattle.part_laws.proofs.stepping.PlacedClear.{wake_clear, birth_clear}
 use Rattle.part_laws.proofs.stepping.PartSteps.{heads}
 use Rattle.cfs_model.specs.declared.act.Act.{Act}
 use Rattle.cfs_model.specs.declared.act.Act.TheVariants.{Switch, Wake, Born, Shift}
+use Rattle.cfs_model.specs.declared.charge_line.ChargeLine.{ChargeLine}
 use Rattle.cfs_model.specs.declared.claim.Claim.{Claim}
 use Rattle.cfs_model.specs.declared.task.Place.{Place}
-use Rattle.cfs_model.specs.declared.task.Place.TheVariants.{Run, Wait, Rest}
 use Rattle.cfs_model.specs.declared.policy.Policy.{Policy}
 
 -- what an event's own change says of the parts
@@ -70,14 +71,11 @@ change_says knobs m a cpu (Born here pid nice) claim policy after t s =
 change_says knobs m a cpu (Shift orig dest pid nice) claim policy after t s = absurd cc
 
 -- who stands somewhere stands there in the lifted machine too
-pub still_stands : (m lifted : Machine) (time cpu : ℕ) → IsLiftedAt time cpu m lifted → (place : Place) (d pid : ℕ)
-    → Stands m place d pid → Stands lifted place d pid
-still_stands m lifted time cpu l place d pid h = subst (λ x. Stands x place d pid) (sym l.result) (go place h)
-  where
-    go : (place : Place) → Stands m place d pid → Stands (with_floor (charged m cpu time) cpu l.floor) place d pid
-    go Run h = h
-    go Wait h = h
-    go Rest h = h
+pub still_stands : (m lifted : Machine) (bound time : ℕ) (charge : Option ChargeLine) (cpu : ℕ)
+    → IsLiftedAt bound time charge cpu m lifted → (place : Place) (d pid : ℕ) → Stands m place d pid
+    → Stands lifted place d pid
+still_stands m lifted bound time charge cpu l place d pid h =
+    stands_same lifted m (λ r. sym (lifted_pairs bound time charge cpu m lifted l r)) place d pid h
 
 nowhere_before : (m found : Machine) → ((place : Place) (d pid : ℕ) → Stands m place d pid → Stands found place d pid)
     → (act : Act) → BornNowhere found act → BornNowhere m act
@@ -90,11 +88,14 @@ pub part_steps : PartSteps
 part_steps knobs before after event cpu o t s =
     let act = event.entry.act in
     let time = event.entry.time in
-    let one : IsLifted time (cpu ∷ []) before s.lifted = subst
-    (λ cpus. IsLifted time cpus before s.lifted) t s.is_lifted in
-    let l : IsLiftedAt time cpu before s.lifted = subst (λ x. IsLiftedAt time cpu before x) (sym one.2) one.1 in
-    let h = lifted_here before (apart_of before o) time cpu s.lifted l in
-    let a = lifted_apart time (touched act) before s.lifted s.is_lifted (apart_of before o) in
+    let charge = event.charge in
+    let one : IsLifted knobs.drift time charge (cpu ∷ []) before s.lifted = subst
+    (λ cpus. IsLifted knobs.drift time charge cpus before s.lifted) t s.is_lifted in
+    let l : IsLiftedAt knobs.drift time charge cpu before s.lifted =
+    subst (λ x. IsLiftedAt knobs.drift time charge cpu before x) (sym one.2) one.1 in
+    let h = lifted_here before (apart_of before o) knobs.drift time charge cpu s.lifted l in
+    let told = charge_is act event.policy cpu charge t in
+    let a = lifted_apart knobs.drift time charge (touched act) before s.lifted s.is_lifted (apart_of before o) in
     let r : IsReniced cpu event.nice s.lifted s.found = subst (λ x. IsReniced x event.nice s.lifted s.found)
     (home_is act cpu t) s.is_reniced in
     let n = reniced_here s.lifted a cpu event.nice s.found r in
@@ -103,14 +104,15 @@ part_steps knobs before after event cpu o t s =
     event.policy after t s.changes in (
       nowhere_before before s.found
           (λ place d pid k. reniced_stands cpu event.nice s.lifted s.found r place d pid
-          (still_stands before s.lifted time cpu l place d pid k)) act c.nowhere,
+          (still_stands before s.lifted knobs.drift time charge cpu l place d pid k)) act c.nowhere,
       record {
         found = part_of s.found cpu;
         passes = record {
           in_range = h.0;
+          told = subst (λ x. (pid : ℕ) → ¬ IsWrongCharge knobs.drift (part_of before cpu) time x pid) (sym told) h.3;
           is_found = record {
             lifted = part_of s.lifted cpu;
-            is_lifted = h.1;
+            is_lifted = subst (λ x. IsLiftedPart time x (part_of before cpu) (part_of s.lifted cpu)) (sym told) h.1;
             is_reniced = n.0 ∙ ap (λ x. reniced x (part_of s.lifted cpu)) (sym nice);
           };
           none = none_of knobs cpu (part_of s.found cpu) (step_at cpu event)

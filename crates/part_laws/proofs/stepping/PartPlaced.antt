@@ -6,6 +6,7 @@ use Rattle.std.proofs.lemmas.Int.{ints, by_lt_z}
 use Rattle.std.specs.Int.{int_max}
 use Rattle.cfs_model.specs.Knobs.{KnobsView}
 use Rattle.cfs_model.specs.Machine.{Machine, Stands, with_move, with_runtime, with_nice, with_task, with_policy}
+use Rattle.cfs_model.specs.Machine.{with_drift}
 use Rattle.cfs_model.specs.Claimed.{ClaimSays}
 use Rattle.cfs_model.specs.Step.{IsWakeQueued, IsWakeResting, IsBirth}
 use Rattle.replay_model.specs.Part.{Part, Entity, part_of, entity_at, place_in}
@@ -38,31 +39,22 @@ wakes_none p pid =
     go (Some s) = refl
 
 -- the claimed place of a woken task
-woken_to : (claim : Option Claim) (pid : ℕ) (nice : ℤ) (policy : Policy) (own placed : ℤ)
+woken_to : (claim : Option Claim) (pid : ℕ) (nice : ℤ) (policy : Policy) (own placed drift : ℤ)
     → ClaimSays claim At pid placed
-    → option_map (λ s. woken claim s.place s) (Some (record {
-      place = Rest;
-      nice = nice;
-      policy = policy;
-      runtime =
-          own;
-    }))
-    ≡ Some (record { place = Wait; nice = nice; policy = policy; runtime = placed })
-woken_to None pid nice policy own placed h = absurd h
-woken_to (Some claim) pid nice policy own placed h =
-    ap (λ v. Some (record { place = Wait; nice = nice; policy = policy; runtime = v })) h.2
+    → option_map (λ s. woken claim s.place s)
+    (Some (record { place = Rest; nice = nice; policy = policy; runtime = own; drift = drift }))
+    ≡ Some (record { place = Wait; nice = nice; policy = policy; runtime = placed; drift = drift })
+woken_to None pid nice policy own placed drift h = absurd h
+woken_to (Some claim) pid nice policy own placed drift h =
+    ap (λ v. Some (record { place = Wait; nice = nice; policy = policy; runtime = v; drift = drift })) h.2
 
 born_to : (claim : Option Claim) (pid : ℕ) (nice : ℤ) (policy : Policy) (placed : ℤ) → ClaimSays claim At pid placed
-    → option_map (λ (c : Claim). let s : Entity = record {
-      place = Wait;
-      nice = nice;
-      policy = policy;
-      runtime = c.v;
-    } in s)
-    claim ≡ Some (record { place = Wait; nice = nice; policy = policy; runtime = placed })
+    → option_map (λ (c : Claim). let s : Entity = record
+    { place = Wait; nice = nice; policy = policy; runtime = c.v; drift = pos 0 } in s) claim
+    ≡ Some (record { place = Wait; nice = nice; policy = policy; runtime = placed; drift = pos 0 })
 born_to None pid nice policy placed h = absurd h
 born_to (Some claim) pid nice policy placed h =
-    ap (λ v. Some (record { place = Wait; nice = nice; policy = policy; runtime = v })) h.2
+    ap (λ v. Some (record { place = Wait; nice = nice; policy = policy; runtime = v; drift = pos 0 })) h.2
 
 -- a wakeup of the machine is one of the part, and other parts stay
 pub wake_part : (knobs : KnobsView) (m : Machine) → IsApart m
@@ -84,16 +76,17 @@ wake_part knobs m a cpu pid nice claim after (inr s) =
       runtimes = put-other m.runtime pid (Some s.placed);
       nices = λ q _. refl;
       policies = λ q _. refl;
+      drifts = λ q _. refl;
       floors = refl;
       marks = refl;
     } in (
       ap (λ x. part_of x cpu) s.result
-          ∙ placed_part m next pid Wait cpu nice (m.policy pid) s.placed p keeps s.prio refl
-          (put-same m.runtime pid (Some s.placed))
+          ∙ placed_part m next pid Wait cpu nice (m.policy pid) s.placed (m.drift pid) p keeps s.prio refl
+          (put-same m.runtime pid (Some s.placed)) refl
           ∙ ap (with_entity (part_of m cpu) pid)
           (sym (ap (option_map (λ (t : Entity). woken claim t.place t))
           (is_stander m a Rest cpu pid nice s.own s.rests s.prio s.runtime)
-          ∙ woken_to claim pid nice (m.policy pid) s.own s.placed s.claimed)),
+          ∙ woken_to claim pid nice (m.policy pid) s.own s.placed (m.drift pid) s.claimed)),
       (λ d ne. ap (λ x. part_of x d) s.result ∙ placed_away m next pid Wait cpu p keeps d ne
           ∙ none_there m d pid (elsewhere m a Rest cpu pid s.rests d ne)),
     )
@@ -105,19 +98,21 @@ pub birth_part : (knobs : KnobsView) (m : Machine) (cpu pid : ℕ) (nice : ℤ) 
     × ((d : ℕ) → d ≢ cpu → part_of after d ≡ part_of m d)
 birth_part knobs m cpu pid nice claim policy after s =
     let joined = with_task m Wait cpu pid in
-    let next = with_policy (with_nice (with_runtime joined pid s.placed) pid nice) pid policy in
+    let next = with_drift (with_policy (with_nice (with_runtime joined pid s.placed) pid nice) pid policy) pid (pos
+    0) in
     let p = placed_same m joined next pid Wait cpu (same_sets joined next refl refl refl)
     (join_placed m pid Wait cpu s.nowhere) in
     let keeps : KeepsRest m next pid = record {
       runtimes = put-other m.runtime pid (Some s.placed);
       nices = put-other m.nice pid (Some nice);
       policies = put-other m.policy pid policy;
+      drifts = put-other m.drift pid (pos 0);
       floors = refl;
       marks = refl;
     } in (
       ap (λ x. part_of x cpu) s.result
-          ∙ placed_part m next pid Wait cpu nice policy s.placed p keeps (put-same m.nice pid (Some nice))
-          (put-same m.policy pid policy) (put-same m.runtime pid (Some s.placed))
+          ∙ placed_part m next pid Wait cpu nice policy s.placed (pos 0) p keeps (put-same m.nice pid (Some nice))
+          (put-same m.policy pid policy) (put-same m.runtime pid (Some s.placed)) (put-same m.drift pid (pos 0))
           ∙ ap (with_entity (part_of m cpu) pid) (sym (born_to claim pid nice policy s.placed s.claimed)),
       (λ d ne. ap (λ x. part_of x d) s.result ∙ placed_away m next pid Wait cpu p keeps d ne
           ∙ none_there m d pid (λ r. s.nowhere r d)),
@@ -222,6 +217,7 @@ birth_exists knobs m cpu pid nice (Some claim) policy c nowhere =
     let who : claim.pid ≡ pid = elim
     (same_or_not claim.pid pid) [ inl e ↦ e | inr ne ↦ absurd (c.other claim.pid ((pid, refl, ne), refl)) ] in
     let b = bounds_of (m.floor cpu) (m.floor cpu +ℤ pos knobs.debit) claim.v (λ h. c.fork pid (h, refl)) in (
-      with_policy (with_nice (with_runtime (with_task m Wait cpu pid) pid claim.v) pid nice) pid policy,
+      with_drift (with_policy (with_nice (with_runtime (with_task m Wait cpu pid) pid claim.v) pid nice) pid policy) pid
+          (pos 0),
       record { nowhere = nowhere; placed = claim.v; claimed = (sort, who, refl); from = b.0; to = b.1; result = refl },
     )

@@ -8,13 +8,14 @@ use Rattle.cfs_model.specs.Reniced.{home_of, IsReniced}
 use Rattle.replay_model.specs.Part.{Part, Entity, place_by, entity_by, entity_at, part_of, place_in}
 use Rattle.replay_model.specs.Deeds.{reniced}
 use Rattle.replay_model.specs.QueueTests.{IsStrangeNice}
-use Rattle.replay_model.specs.StepAt.{deed_at, nice_for}
+use Rattle.replay_model.specs.StepAt.{deed_at, nice_for, charge_for}
 use Rattle.cfs_model.proofs.KeptOrder.{IsApart}
 use Rattle.cfs_model.proofs.Moves.{put-same, put-other, same_or_not}
 use Rattle.cfs_model.proofs.Renice.{reniced_is}
 use Rattle.replay_model.proofs.PartFacts.{same_part, stands_as, values_of, no_place}
 use Rattle.cfs_model.specs.declared.act.Act.{Act}
 use Rattle.cfs_model.specs.declared.act.Act.TheVariants.{Switch, Wake, Born, Shift}
+use Rattle.cfs_model.specs.declared.charge_line.ChargeLine.{ChargeLine}
 use Rattle.cfs_model.specs.declared.nice_line.NiceLine.{NiceLine}
 use Rattle.cfs_model.specs.declared.task.Place.{Place}
 use Rattle.cfs_model.specs.declared.task.Place.TheVariants.{Run, Wait, Rest}
@@ -48,6 +49,16 @@ reniced_in change part pid = kept (option_map (λ (s : Entity). s.place)) go cha
     go nice None = refl
     go nice (Some s) = refl
 
+pub reniced_drift : (change : Option NiceLine) (part : Part) (pid : ℕ)
+    → option_map (λ (s : Entity). s.drift) ((reniced change part).tasks pid)
+    ≡ option_map (λ (s : Entity). s.drift) (part.tasks pid)
+reniced_drift change part pid = kept (option_map (λ (s : Entity). s.drift)) go change part pid
+  where
+    go : (nice : ℤ) (o : Option Entity)
+        → option_map (λ (s : Entity). s.drift) (option_map (with_new nice) o) ≡ option_map (λ (s : Entity). s.drift) o
+    go nice None = refl
+    go nice (Some s) = refl
+
 pub reniced_some : (change : Option NiceLine) (part : Part) (pid : ℕ)
     → is_some ((reniced change part).tasks pid) ≡ is_some (part.tasks pid)
 reniced_some change part pid = kept is_some go change part pid
@@ -56,11 +67,12 @@ reniced_some change part pid = kept is_some go change part pid
     go nice None = refl
     go nice (Some s) = refl
 
-nice_by : (policy : Policy) (place : Option Place) (old nice : ℤ) (v : Option ℤ)
-    → entity_by policy place (Some nice) v ≡ option_map (with_new nice) (entity_by policy place (Some old) v)
-nice_by policy None old nice v = refl
-nice_by policy (Some place) old nice None = refl
-nice_by policy (Some place) old nice (Some v) = refl
+nice_by : (policy : Policy) (drift : ℤ) (place : Option Place) (old nice : ℤ) (v : Option ℤ)
+    → entity_by policy drift place (Some nice) v ≡ option_map (with_new nice) (entity_by policy drift place (Some
+    old) v)
+nice_by policy drift None old nice v = refl
+nice_by policy drift (Some place) old nice None = refl
+nice_by policy drift (Some place) old nice (Some v) = refl
 
 -- where a pid stands
 abbrev place_at : Machine → ℕ → ℕ → Option Place
@@ -70,21 +82,22 @@ module _ (m : Machine) (a : IsApart m) (cpu pid : ℕ) (nice : ℤ) (place : Pla
   nice_here : entity_at (with_nice m pid nice) cpu pid ≡ option_map (with_new nice) (entity_at m cpu pid)
   nice_here =
       let s = values_of m a place cpu pid h in
-      ap (λ n. entity_by (m.policy pid) (place_at m cpu pid) n (m.runtime pid)) (put-same m.nice pid (Some nice))
-      ∙ nice_by (m.policy pid) (place_at m cpu pid) s.0.nice nice (m.runtime pid)
-      ∙ ap (λ n. option_map (with_new nice) (entity_by (m.policy pid) (place_at m cpu pid) n (m.runtime pid)))
-      (sym s.3.nice)
+      ap (λ n. entity_by (m.policy pid) (m.drift pid) (place_at m cpu pid) n (m.runtime pid))
+      (put-same m.nice pid (Some nice))
+      ∙ nice_by (m.policy pid) (m.drift pid) (place_at m cpu pid) s.0.nice nice (m.runtime pid)
+      ∙ ap (λ n. option_map (with_new nice)
+      (entity_by (m.policy pid) (m.drift pid) (place_at m cpu pid) n (m.runtime pid))) (sym s.3.nice)
 
   nice_other : (d q : ℕ) → q ≢ pid → entity_at (with_nice m pid nice) d q ≡ entity_at m d q
-  nice_other d q ne = ap (λ n. entity_by (m.policy q) (place_at m d q) n (m.runtime q))
+  nice_other d q ne = ap (λ n. entity_by (m.policy q) (m.drift q) (place_at m d q) n (m.runtime q))
       (put-other m.nice pid (Some nice) q ne)
 
   -- the pid stands at no other processor
   nice_elsewhere : (d : ℕ) → d ≢ cpu → entity_at (with_nice m pid nice) d pid ≡ entity_at m d pid
   nice_elsewhere d ne =
       let none = no_place m d pid (λ other k. ne (a.one_place pid other place d cpu k h).1) in
-      ap (λ p. entity_by (m.policy pid) p ((with_nice m pid nice).nice pid) (m.runtime pid)) none
-      ∙ ap (λ p. entity_by (m.policy pid) p (m.nice pid) (m.runtime pid)) (sym none)
+      ap (λ p. entity_by (m.policy pid) (m.drift pid) p ((with_nice m pid nice).nice pid) (m.runtime pid)) none
+      ∙ ap (λ p. entity_by (m.policy pid) (m.drift pid) p (m.nice pid) (m.runtime pid)) (sym none)
 
 -- a change in the machine is one in the part where the task stands, which it does there; no other part changes
 pub reniced_here : (m : Machine) → IsApart m → (cpu : ℕ) (change : Option NiceLine) (found : Machine)
@@ -174,6 +187,7 @@ reniced_stood cpu change m found r place d pid h =
     go Rest h = h
 
 -- an event that touches one processor changes the nice value of a task there, and the processor's step has the change
+-- and the told charge
 pub home_is : (act : Act) (cpu : ℕ) → touched act ≡ cpu ∷ [] → home_of act ≡ cpu
 home_is (Switch here prev pn way next nn) cpu t = cc
 home_is (Wake here pid nice) cpu t = cc
@@ -186,3 +200,10 @@ nice_is (Switch here prev pn way next nn) policy cpu change t = refl
 nice_is (Wake here pid nice) policy cpu change t = refl
 nice_is (Born here pid nice) policy cpu change t = refl
 nice_is (Shift orig dest pid nice) policy cpu change t = absurd cc
+
+pub charge_is : (act : Act) (policy : Policy) (cpu : ℕ) (charge : Option ChargeLine) → touched act ≡ cpu ∷ []
+    → charge_for (deed_at cpu policy act) charge ≡ charge
+charge_is (Switch here prev pn way next nn) policy cpu charge t = refl
+charge_is (Wake here pid nice) policy cpu charge t = refl
+charge_is (Born here pid nice) policy cpu charge t = refl
+charge_is (Shift orig dest pid nice) policy cpu charge t = absurd cc

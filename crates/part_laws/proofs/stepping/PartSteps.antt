@@ -1,33 +1,34 @@
 -- A step of the machine by an event that touches one processor, from the step of the part there.
-use Rattle.std.proofs.Common.{◌≡◌, ℕ, Option, ℤ, [], ◌∷◌, refl, sym, ap, ◌∙◌, subst}
+use Rattle.std.proofs.Common.{◌≡◌, ℕ, Option, [], ◌∷◌, refl, sym, ap, ◌∙◌, subst}
 use Rattle.cfs_model.specs.Knobs.{KnobsView}
-use Rattle.cfs_model.specs.Machine.{Machine, Stands, with_floor}
+use Rattle.cfs_model.specs.Machine.{Machine, Stands}
 use Rattle.cfs_model.specs.Touch.{touched}
-use Rattle.cfs_model.specs.Lifted.{charged, IsLifted}
+use Rattle.cfs_model.specs.Lifted.{IsLiftedAt, IsLifted}
 use Rattle.cfs_model.specs.Reniced.{home_of, IsReniced}
 use Rattle.cfs_model.specs.Step.{after_prev, after_next, Changes, IsStep}
-use Rattle.replay_model.specs.Part.{part_of}
+use Rattle.replay_model.specs.Part.{part_of, IsLiftedPart}
 use Rattle.replay_model.specs.Deeds.{reniced}
 use Rattle.replay_model.specs.AfterDeed.{after_deed}
-use Rattle.replay_model.specs.QueueTests.{IsStrangeNice}
+use Rattle.replay_model.specs.QueueTests.{IsWrongCharge, IsStrangeNice}
 use Rattle.replay_model.specs.Tests.{NoneHolds, late_tests}
 use Rattle.replay_model.specs.StepAt.{deed_at, claim_for, step_at}
 use Rattle.part_laws.specs.TouchedParts.{BornNowhere, OthersStay}
 use Rattle.part_laws.specs.PartSteps.{MachineSteps}
-use Rattle.cfs_model.proofs.KeptOrder.{IsApart, lifted_apart}
+use Rattle.cfs_model.proofs.KeptOrder.{IsApart, stands_same, lifted_apart}
+use Rattle.cfs_model.proofs.ToldCharge.{lifted_pairs}
 use Rattle.cfs_model.proofs.StepOrder.{apart_of, step_in_order}
 use Rattle.cfs_model.proofs.Range.{lifted_range, change_range}
 use Rattle.cfs_model.proofs.Renice.{reniced_apart, reniced_range}
 use Rattle.replay_model.proofs.Clear.{IsClear, clear_of, stands_of}
 use Rattle.part_laws.proofs.stepping.PartLift.{lift_exists}
-use Rattle.part_laws.proofs.stepping.PartRenice.{renice_exists, reniced_stood, home_is, nice_is}
+use Rattle.part_laws.proofs.stepping.PartRenice.{renice_exists, reniced_stood, home_is, nice_is, charge_is}
 use Rattle.part_laws.proofs.stepping.PartSwitch.{switch_part, switch_exists}
 use Rattle.part_laws.proofs.stepping.PartPlaced.{wake_part, wake_exists, birth_part, birth_exists}
 use Rattle.cfs_model.specs.declared.act.Act.{Act}
 use Rattle.cfs_model.specs.declared.act.Act.TheVariants.{Switch, Wake, Born, Shift}
+use Rattle.cfs_model.specs.declared.charge_line.ChargeLine.{ChargeLine}
 use Rattle.cfs_model.specs.declared.claim.Claim.{Claim}
 use Rattle.cfs_model.specs.declared.task.Place.{Place}
-use Rattle.cfs_model.specs.declared.task.Place.TheVariants.{Run, Wait, Rest}
 use Rattle.cfs_model.specs.declared.policy.Policy.{Policy}
 
 -- an event's own change, and the parts after it
@@ -72,11 +73,11 @@ change_exists knobs m a cpu (Born here pid nice) claim policy t b =
 change_exists knobs m a cpu (Shift orig dest pid nice) claim policy t b = absurd cc
 
 -- a lift leaves everybody where they stood
-lifted_sets : (m : Machine) (cpu time : ℕ) (f : ℤ) (place : Place) (d pid : ℕ)
-    → Stands (with_floor (charged m cpu time) cpu f) place d pid → Stands m place d pid
-lifted_sets m cpu time f Run d pid h = h
-lifted_sets m cpu time f Wait d pid h = h
-lifted_sets m cpu time f Rest d pid h = h
+lifted_sets : (bound time : ℕ) (charge : Option ChargeLine) (cpu : ℕ) (m lifted : Machine)
+    → IsLiftedAt bound time charge cpu m lifted → (place : Place) (d pid : ℕ) → Stands lifted place d pid
+    → Stands m place d pid
+lifted_sets bound time charge cpu m lifted l place d pid h =
+    stands_same m lifted (lifted_pairs bound time charge cpu m lifted l) place d pid h
 
 found_nowhere : (m found : Machine) → ((place : Place) (d pid : ℕ) → Stands found place d pid → Stands m place d pid)
     → (act : Act) → BornNowhere m act → BornNowhere found act
@@ -86,14 +87,18 @@ found_nowhere m found stood (Born here pid nice) b = λ place other h. b place o
 found_nowhere m found stood (Shift orig dest pid nice) b = tt
 
 pub machine_steps : MachineSteps
-machine_steps knobs before event cpu part o r t b s =
+machine_steps knobs before event cpu part o r c t b s =
     let act = event.entry.act in
     let time = event.entry.time in
+    let charge = event.charge in
+    let told = charge_is act event.policy cpu charge t in
     let f = s.passes.is_found in
-    let l = lift_exists before (apart_of before o) time cpu f.lifted s.passes.in_range f.is_lifted in
-    let lifted : IsLifted time (touched act) before l.0 = subst (λ cpus. IsLifted time cpus before l.0) (sym t)
-    (l.0, l.1, refl) in
-    let a = lifted_apart time (touched act) before l.0 lifted (apart_of before o) in
+    let l = lift_exists before (apart_of before o) knobs.drift time charge cpu f.lifted s.passes.in_range
+    (subst (λ x. (pid : ℕ) → ¬ IsWrongCharge knobs.drift (part_of before cpu) time x pid) told s.passes.told)
+    (subst (λ x. IsLiftedPart time x (part_of before cpu) f.lifted) told f.is_lifted) in
+    let lifted : IsLifted knobs.drift time charge (touched act) before l.0 =
+    subst (λ cpus. IsLifted knobs.drift time charge cpus before l.0) (sym t) (l.0, l.1, refl) in
+    let a = lifted_apart knobs.drift time charge (touched act) before l.0 lifted (apart_of before o) in
     let nice = nice_is act event.policy cpu event.nice t in
     let n = renice_exists l.0 a cpu event.nice s.found
     (f.is_reniced ∙ ap (λ x. reniced x f.lifted) nice ∙ ap (reniced event.nice) (sym l.2))
@@ -103,26 +108,27 @@ machine_steps knobs before event cpu part o r t b s =
     (sym (home_is act cpu t)) n.1 in
     let clear = clear_of knobs cpu (part_of n.0 cpu) (step_at cpu event)
     (subst (λ p. NoneHolds (late_tests knobs cpu p (step_at cpu event))) (sym n.2) s.passes.none) in
-    let nowhere = found_nowhere before n.0 (λ place d pid h. lifted_sets before cpu time l.1.floor place d pid
-    (subst (λ x. Stands x place d pid) l.1.result (reniced_stood cpu event.nice l.0 n.0 n.1 place d pid h))) act b in
-    let c = change_exists knobs n.0 (reniced_apart cpu event.nice l.0 n.0 n.1 a) cpu act event.claim event.policy t
+    let nowhere = found_nowhere before n.0 (λ place d pid h. lifted_sets knobs.drift time charge cpu before l.0 l.1
+    place d pid (reniced_stood cpu event.nice l.0 n.0 n.1 place d pid h)) act b in
+    let e = change_exists knobs n.0 (reniced_apart cpu event.nice l.0 n.0 n.1 a) cpu act event.claim event.policy t
     nowhere
     clear in
-    let step : IsStep knobs before event c.after = record {
+    let step : IsStep knobs before event e.after = record {
       lifted = l.0;
       is_lifted = lifted;
       found = n.0;
       is_reniced = renices;
-      changes = c.changes;
-      in_range = change_range knobs n.0 act event.claim event.policy c.after c.changes r
-          (reniced_range cpu event.nice l.0 n.0 n.1 (lifted_range time (touched act) before l.0 lifted o.in_range));
+      changes = e.changes;
+      in_range = change_range knobs n.0 act event.claim event.policy e.after e.changes r
+          (reniced_range cpu event.nice l.0 n.0 n.1
+          (lifted_range knobs.drift time charge (touched act) before l.0 lifted c o.in_range));
     } in (
-      c.after,
+      e.after,
       step,
-      step_in_order knobs before event c.after o step,
-      c.here ∙ ap (λ p. after_deed p (deed_at cpu event.policy act) (claim_for (deed_at cpu event.policy act)
+      step_in_order knobs before event e.after o step,
+      e.here ∙ ap (λ p. after_deed p (deed_at cpu event.policy act) (claim_for (deed_at cpu event.policy act)
           event.claim))
           n.2
           ∙ sym s.result,
-      (λ d ne. c.others d ne ∙ n.3 d ne ∙ l.3 d ne),
+      (λ d ne. e.others d ne ∙ n.3 d ne ∙ l.3 d ne),
     )

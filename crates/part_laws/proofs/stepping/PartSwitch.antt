@@ -30,10 +30,10 @@ pub prev_part : (m : Machine) → IsApart m → (cpu prev : ℕ) (way : Way) →
 prev_part m a cpu zero way h = (refl, (λ d ne. refl))
 prev_part m a cpu (suc n) Stays h =
     goes_here m (with_move m (suc n) Run cpu Wait cpu) a Run cpu (suc n) Wait h
-    (move_placed m (suc n) Run cpu Wait cpu (alone m a Run cpu (suc n) h)) refl refl refl refl refl
+    (move_placed m (suc n) Run cpu Wait cpu (alone m a Run cpu (suc n) h)) refl refl refl refl refl refl
 prev_part m a cpu (suc n) Sleeps h =
     goes_here m (with_move m (suc n) Run cpu Rest cpu) a Run cpu (suc n) Rest h
-    (move_placed m (suc n) Run cpu Rest cpu (alone m a Run cpu (suc n) h)) refl refl refl refl refl
+    (move_placed m (suc n) Run cpu Rest cpu (alone m a Run cpu (suc n) h)) refl refl refl refl refl refl
 prev_part m a cpu (suc n) Ends h =
     let between = without_task m Run cpu (suc n) in
     let after = without_values between (suc n) in
@@ -44,6 +44,7 @@ prev_part m a cpu (suc n) Ends h =
       runtimes = put-other m.runtime (suc n) None;
       nices = put-other m.nice (suc n) None;
       policies = λ q _. refl;
+      drifts = λ q _. refl;
       floors = refl;
       marks = refl;
     } in (
@@ -58,7 +59,7 @@ next_part : (granularity : ℕ) (m : Machine) → IsApart m → (cpu next : ℕ)
 next_part granularity m a cpu zero h = (refl, (λ d ne. refl))
 next_part granularity m a cpu (suc n) h =
     goes_here m (with_move m (suc n) Wait cpu Run cpu) a Wait cpu (suc n) Run h.2
-    (move_placed m (suc n) Wait cpu Run cpu (alone m a Wait cpu (suc n) h.2)) refl refl refl refl refl
+    (move_placed m (suc n) Wait cpu Run cpu (alone m a Wait cpu (suc n) h.2)) refl refl refl refl refl refl
 
 -- a switch of the machine is one of the part, and other parts stay
 pub switch_part : (knobs : KnobsView) (m : Machine) → IsApart m

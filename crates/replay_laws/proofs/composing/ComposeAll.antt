@@ -11,7 +11,7 @@ use Rattle.cfs_model.specs.Run.{AreSteps, times_of}
 use Rattle.replay_model.specs.QueueTests.{IsIdleTooLong}
 use Rattle.replay_model.specs.StepAt.{step_at}
 use Rattle.replay_model.specs.Cut.{steps_at, last_time_of}
-use Rattle.replay_model.specs.Record.{ClaimInRange, TimesRise, LinesRise}
+use Rattle.replay_model.specs.Record.{ClaimInRange, ChargeInRange, TimesRise, LinesRise}
 use Rattle.replay_model.specs.Page.{ReplayStateView, IsReplay}
 use Rattle.replay_model.specs.Roll.{roll_after, BirthsAreNew}
 use Rattle.replay_model.specs.Tickets.{TicketsAgree}
@@ -35,6 +35,7 @@ pub record AtEvents (knobs : KnobsView) (m : Machine) (time : ℕ) (s : ℕ → 
   pub lines_rise : LinesRise lines events
   pub times_rise : TimesRise time events
   pub claims : AllByRecursion ClaimInRange events
+  pub charges : AllByRecursion ChargeInRange events
   pub agree : AllByRecursion (λ event. TicketsAgree (λ cpu. (end cpu).page) event.entry.line event.entry.act) events
   pub roll : RollIs alive m
   pub new : BirthsAreNew alive events
@@ -61,6 +62,7 @@ first_of_steps knobs m time s event events end alive at =
       above = at.lines_rise.0;
       rise = at.lines_rise.1;
       claim = at.claims.0;
+      charge = at.charges.0;
       agree = at.agree.0;
       roll = at.roll;
       new = at.new.0;
@@ -124,6 +126,7 @@ later knobs m time s event events end alive at after step a = record {
   lines_rise = at.lines_rise.1;
   times_rise = at.times_rise.1;
   claims = at.claims.1;
+  charges = at.charges.1;
   agree = at.agree.1;
   roll = roll_step alive knobs m event after (at.follows 0).order at.roll step;
   new = at.new.1;

@@ -70,6 +70,7 @@ compose_cuts knobs start floors tasks events cpus pages r each agree new =
       lines_rise = r.lines_rise;
       times_rise = r.times_rise;
       claims = r.claims_in_range;
+      charges = r.charges_in_range;
       agree = all_agree cpus pages ends (λ cpu k. (each cpu).left k)
           (λ cpu k. (each cpu).came k) events r.events_within agree;
       roll = start_roll start floors tasks;

@@ -13,7 +13,7 @@ use Rattle.replay_model.specs.Part.{part_of}
 use Rattle.replay_model.specs.Tests.{PassesTests}
 use Rattle.replay_model.specs.Cut.{touches, steps_at}
 use Rattle.replay_model.specs.StepAt.{step_at}
-use Rattle.replay_model.specs.Record.{ClaimInRange, LinesRise}
+use Rattle.replay_model.specs.Record.{ClaimInRange, ChargeInRange, LinesRise}
 use Rattle.replay_model.specs.Page.{ReplayStateView, PassesStep, IsReplay}
 use Rattle.replay_model.specs.Roll.{BirthIsNew}
 use Rattle.replay_model.specs.Tickets.{ticket_at, TicketsAgree}
@@ -73,6 +73,7 @@ pub record AtEvent (knobs : KnobsView) (m : Machine) (time : ℕ) (s : ℕ → R
   pub above : lines < event.entry.line
   pub rise : LinesRise event.entry.line events
   pub claim : ClaimInRange event
+  pub charge : ChargeInRange event
   pub agree : TicketsAgree (λ cpu. (end cpu).page) event.entry.line event.entry.act
   pub roll : RollIs alive m
   pub new : BirthIsNew alive event.entry.act
@@ -102,7 +103,7 @@ module _ (knobs : KnobsView) (m : Machine) (time : ℕ) (s : ℕ
   one_exists : (cpu : ℕ) → touched event.entry.act ≡ cpu ∷ [] → (after : Machine) × IsStep knobs m event after
   one_exists cpu t =
       let p = here cpu (touches_first cpu event.entry.act [] t) in
-      let w = machine_steps knobs m event cpu p.next.part (at.follows cpu).order at.claim t
+      let w = machine_steps knobs m event cpu p.next.part (at.follows cpu).order at.claim at.charge t
       (born_nowhere alive m (at.follows cpu).order at.roll event.entry.act at.new)
       (part_step knobs cpu m (s cpu) event p.next (at.follows cpu).part p.passes) in
       (w.0, w.1)
@@ -133,7 +134,7 @@ module _ (knobs : KnobsView) (m : Machine) (time : ℕ) (s : ℕ
       let agree : ticket_at line (end orig).page.left ≡ ticket_at line (end dest).page.came = subst
       (TicketsAgree (λ cpu. (end cpu).page) line) e at.agree in
       let w = machine_migrates knobs m event orig dest pid nice o.next.part d.next.part
-      (at.follows orig).order at.claim e (record {
+      (at.follows orig).order at.claim at.charge e (record {
         leave = part_step knobs orig m (s orig) event o.next (at.follows orig).part o.passes;
         arrive = part_step knobs dest m (s dest) event d.next (at.follows dest).part d.passes;
         tickets = sym left ∙ agree ∙ came;

@@ -5,7 +5,7 @@ use Rattle.cfs_model.specs.Knobs.{KnobsView}
 use Rattle.cfs_model.specs.Machine.{Machine, put, put_pair, pairs_of, without_task}
 use Rattle.cfs_model.specs.Claimed.{Claimed}
 use Rattle.cfs_model.specs.Touch.{touched}
-use Rattle.cfs_model.specs.Lifted.{IsLifted}
+use Rattle.cfs_model.specs.Lifted.{charged, IsLifted}
 use Rattle.cfs_model.specs.Reniced.{home_of}
 use Rattle.cfs_model.specs.Step.{after_prev, after_next, Changes, IsStep}
 use Rattle.cfs_model.specs.Order.{IsInOrder}
@@ -14,12 +14,14 @@ use Rattle.replay_model.specs.Roll.{roll_after, BirthIsNew, named}
 use Rattle.part_laws.specs.TouchedParts.{BornNowhere}
 use Rattle.cfs_model.proofs.Moves.{put-same, put-other, same_or_not}
 use Rattle.cfs_model.proofs.KeptOrder.{lifted_apart}
+use Rattle.cfs_model.proofs.ToldCharge.{told_is}
 use Rattle.cfs_model.proofs.StepOrder.{nice-with_pairs, apart_of}
 use Rattle.cfs_model.proofs.Renice.{reniced_keys}
 use Rattle.cfs_model.specs.declared.act.Act.{Act}
 use Rattle.cfs_model.specs.declared.act.Act.TheVariants.{Switch, Wake, Born, Shift}
 use Rattle.cfs_model.specs.declared.act.Way.{Way}
 use Rattle.cfs_model.specs.declared.act.Way.TheVariants.{Stays, Sleeps, Ends}
+use Rattle.cfs_model.specs.declared.charge_line.ChargeLine.{ChargeLine}
 use Rattle.cfs_model.specs.declared.claim.Claim.{Claim}
 use Rattle.cfs_model.specs.declared.task.Task.{Task}
 use Rattle.cfs_model.specs.declared.policy.Policy.{Policy}
@@ -28,10 +30,12 @@ use Rattle.cfs_model.specs.declared.policy.Policy.{Policy}
 abbrev pub RollIs : (ℕ → Bool) → Machine → Type 0
 RollIs alive m = (pid : ℕ) → is_some (m.nice pid) ≡ alive pid
 
-lifted_nice : (time : ℕ) (cpus : List ℕ) (before lifted : Machine) → IsLifted time cpus before lifted
-    → lifted.nice ≡ before.nice
-lifted_nice time [] before lifted l = ap (λ m. m.nice) l
-lifted_nice time (cpu ∷ cpus) before lifted l = lifted_nice time cpus l.0 lifted l.2 ∙ ap (λ m. m.nice) l.1.result
+lifted_nice : (bound time : ℕ) (charge : Option ChargeLine) (cpus : List ℕ) (before lifted : Machine)
+    → IsLifted bound time charge cpus before lifted → lifted.nice ≡ before.nice
+lifted_nice bound time charge [] before lifted l = ap (λ m. m.nice) l
+lifted_nice bound time charge (cpu ∷ cpus) before lifted l =
+    lifted_nice bound time None cpus l.0 lifted l.2 ∙ ap (λ m. m.nice) l.1.result
+    ∙ ap (λ m. m.nice) (told_is bound charge cpu before (charged before cpu time) l.1.told l.1.charges)
 
 put_roll : (f : ℕ → Option ℤ) (alive : ℕ → Bool) (pid : ℕ) (o : Option ℤ) (b : Bool) → is_some o ≡ b
     → ((q : ℕ) → is_some (f q) ≡ alive q) → (q : ℕ) → is_some (put f pid o q) ≡ put alive pid b q
@@ -78,8 +82,8 @@ found_keys knobs m event after o s q =
     let act = event.entry.act in
     let time = event.entry.time in
     reniced_keys (home_of act) event.nice s.lifted s.found s.is_reniced
-    (lifted_apart time (touched act) m s.lifted s.is_lifted (apart_of m o)) q
-    ∙ ap (λ f. is_some (f q)) (lifted_nice time (touched act) m s.lifted s.is_lifted)
+    (lifted_apart knobs.drift time event.charge (touched act) m s.lifted s.is_lifted (apart_of m o)) q
+    ∙ ap (λ f. is_some (f q)) (lifted_nice knobs.drift time event.charge (touched act) m s.lifted s.is_lifted)
 
 -- the roll after a step
 pub roll_step : (alive : ℕ → Bool) (knobs : KnobsView) (m : Machine) (event : Claimed) (after : Machine) → IsInOrder m

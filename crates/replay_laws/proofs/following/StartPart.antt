@@ -60,7 +60,7 @@ stands_named start floors tasks Wait cpu pid h = h
 stands_named start floors tasks Rest cpu pid h = h
 
 abbrev stander_at_start : Task → Entity
-stander_at_start t = record { place = t.place; nice = t.nice; policy = t.policy; runtime = t.v }
+stander_at_start t = record { place = t.place; nice = t.nice; policy = t.policy; runtime = t.v; drift = pos 0 }
 
 start_stander : (start : ℕ) (floors : List ℤ) (tasks : List Task) → IsStart floors tasks → (cpu pid : ℕ)
     → entity_at (start_machine start floors tasks) cpu pid ≡ option_map stander_at_start
@@ -76,7 +76,7 @@ start_stander start floors tasks s cpu pid = go (task_of tasks pid) refl
         (apart_of (start_machine start floors tasks) (start_in_order start floors tasks s)) t.place cpu pid t.nice
         t.v h
         (ap (option_map (λ (x : Task). x.nice)) e) (ap (option_map (λ (x : Task). x.v)) e)
-        ∙ ap (λ x. Some (record { place = t.place; nice = t.nice; policy = x; runtime = t.v }))
+        ∙ ap (λ x. Some (record { place = t.place; nice = t.nice; policy = x; runtime = t.v; drift = pos 0 }))
         (ap (λ o. option_map_or (λ (x : Task). x.policy) o Normal) e)
     at t e false f =
         no_stander (start_machine start floors tasks) cpu pid (λ place h.

@@ -108,7 +108,8 @@ one_here : (knobs other : KnobsView) (cpu : ℕ) (m : Machine) (time : ℕ) (s :
 one_here knobs other cpu m time s event after events last needs f step late soon touch part p =
     let mine = subst (λ x. PartStep other cpu x (step_at cpu event) (part_of after cpu)) f.part part in
     let here : AtMost p.1 other =
-    needs_of_tests other cpu s.part (step_at cpu event) p.3.passes.found mine.found s.since p.1 mine.passes
+    needs_of_tests knobs other cpu s.part (step_at cpu event) p.3.passes.found mine.found s.since p.1
+    p.3.passes.passes mine.passes
     (same_found (step_at cpu event) s.part mine.found p.3.passes.found mine.passes.is_found
     p.3.passes.passes.is_found) p.3.needs_are soon in
     let now = passes_within knobs other cpu s (step_at cpu event) p.0 p.1 p.3 here in

@@ -1,25 +1,32 @@
 -- A step that passes under some settings passes under others just where these are at least what it needs.
-use Rattle.std.proofs.Common.{◌≡◌, ◌≢◌, ℕ, zero, suc, ◌+◌, ◌<◌, ◌≤◌, Option, Some, None, ℤ, pos, ◌+ℤ◌, ◌≤ℤ◌, ◌<ℤ◌, inl}
-use Rattle.std.proofs.Common.{inr, refl, sym, ap, subst, arith}
+use Rattle.std.proofs.Common.{◌≡◌, ◌≢◌, ℕ, zero, suc, ◌+◌, ◌<◌, ◌≤◌, Option, Some, None, ℤ, pos, nat_abs, ◌+ℤ◌, ◌≤ℤ◌}
+use Rattle.std.proofs.Common.{◌<ℤ◌, inl, inr, option_map, refl, sym, ap, ◌∙◌, subst, arith}
 use Rattle.std.proofs.lemmas.Int.{ints, clamps}
 use Rattle.std.proofs.lemmas.Bool.{cases_lt}
 use Rattle.cfs_model.specs.Knobs.{KnobsView}
 use Rattle.cfs_model.specs.Least.{AtMost}
-use Rattle.replay_model.specs.Part.{Part, Entity, IsIn, place_in}
-use Rattle.replay_model.specs.QueueTests.{IsIdleTooLong}
+use Rattle.cfs_model.specs.Told.{drift_after}
+use Rattle.replay_model.specs.Part.{Part, Entity, IsIn, place_in, cost_in, runtime_after, charged_in, charged_part}
+use Rattle.replay_model.specs.Part.{told_in, told_part}
+use Rattle.replay_model.specs.Found.{IsFound}
+use Rattle.replay_model.specs.QueueTests.{IsIdleTooLong, IsWrongCharge}
 use Rattle.replay_model.specs.ClaimTests.{if_resting, IsClaimExtra, IsInWakeBounds, IsWakeOutside, IsInForkBounds}
 use Rattle.replay_model.specs.ClaimTests.{IsForkOutside, IsNotLeast}
 use Rattle.replay_model.specs.Tests.{PassesTests}
 use Rattle.replay_model.specs.Page.{ReplayStateView, PassesStep}
-use Rattle.replay_model.specs.Needs.{IsExcess, IsPickNeed, IsWakeNeed, IsBirthNeed, idle_need, AreStepNeeds}
-use Rattle.replay_model.specs.Needs.{PassesNeeding}
+use Rattle.replay_model.specs.Needs.{IsExcess, IsPickNeed, IsWakeNeed, IsBirthNeed, idle_need, IsDriftNeed}
+use Rattle.replay_model.specs.Needs.{AreStepNeeds, PassesNeeding}
 use Rattle.replay_laws.specs.LeastSettings.{PassesFromNeeds}
-use Rattle.replay_model.proofs.Clear.{IsClear, clear_of, stands_of, none_of, place_or}
+use Rattle.replay_model.proofs.Clear.{IsClear, clear_of, stands_of, none_of, place_or, is_told, size_within}
+use Rattle.replay_model.proofs.Clear.{within_size}
 use Rattle.replay_model.proofs.PartFacts.{task_in}
 use Rattle.replay_model.proofs.Options.{same_some}
+use Rattle.cfs_model.proofs.Moves.{put-same}
 use Rattle.part_laws.proofs.one_page.OneLift.{same_found}
+use Rattle.part_laws.proofs.stepping.PartRenice.{reniced_drift}
+use Rattle.cfs_model.specs.declared.charge_line.ChargeLine.{ChargeLine}
 use Rattle.cfs_model.specs.declared.claim.Claim.{Claim}
-use Rattle.cfs_model.specs.declared.setting.Setting.TheVariants.{Granularity, Credit, Debit, Slack}
+use Rattle.cfs_model.specs.declared.setting.Setting.TheVariants.{Granularity, Credit, Debit, Slack, Drift}
 use Rattle.cfs_model.specs.declared.task.Place.{Place}
 use Rattle.cfs_model.specs.declared.task.Place.TheVariants.{Run, Wait, Rest}
 use Rattle.replay_model.specs.declared.step.Deed.{Deed}
@@ -191,6 +198,60 @@ in_time_by : (bound : ℕ) (since : Option ℕ) (time : ℕ) → ((pid : ℕ) �
 in_time_by bound since time h x e = at_most_or time (x + bound)
     (λ k. h 0 (subst (λ o. IsIdleTooLong bound o time 0) (sym e) (k, refl)))
 
+-- a told charge: the drift of its task in the part that a deed finds is the one after it
+told_drift : (time : ℕ) (charge : ChargeLine) (part : Part) (s : Entity) → part.tasks charge.pid ≡ Some s
+    → s.place ≡ Run
+    → option_map (λ (t : Entity). t.drift) ((told_part (Some charge) (charged_part part time)).tasks charge.pid)
+    ≡ Some (drift_after s.drift charge.v (s.runtime +ℤ pos (cost_in part time s)))
+told_drift time charge part s e run =
+    let exactly = charged_part part time in
+    ap (option_map (λ (t : Entity). t.drift))
+    (put-same exactly.tasks charge.pid (option_map (told_in charge.v) (exactly.tasks charge.pid))
+    ∙ ap (λ o. option_map (told_in charge.v) (option_map (charged_in part time) o)) e)
+    ∙ ap (λ place. Some (drift_after s.drift charge.v (runtime_after place (cost_in part time s) s.runtime))) run
+
+found_drift : (step : Step) (part found : Part) (charge : ChargeLine) (s t : Entity) → step.charge ≡ Some charge
+    → IsFound step part found → part.tasks charge.pid ≡ Some s → s.place ≡ Run → found.tasks charge.pid ≡ Some t
+    → t.drift ≡ drift_after s.drift charge.v (s.runtime +ℤ pos (cost_in part step.time s))
+found_drift step part found charge s t e f h run k =
+    same_some (Some t.drift) t.drift
+    (drift_after s.drift charge.v (s.runtime +ℤ pos (cost_in part step.time s))) refl
+    (ap (option_map (λ (x : Entity). x.drift)) (sym k)
+    ∙ ap (λ (p : Part). option_map (λ (x : Entity). x.drift) (p.tasks charge.pid)) f.is_reniced
+    ∙ reniced_drift step.nice f.lifted charge.pid
+    ∙ ap (λ (p : Part). option_map (λ (x : Entity). x.drift) (p.tasks charge.pid)) f.is_lifted.result
+    ∙ ap (λ o. option_map (λ (x : Entity). x.drift) ((told_part o (charged_part part step.time)).tasks charge.pid)) e
+    ∙ told_drift step.time charge part s h run)
+
+-- it is within a bound just where the need is
+drift_within : (known bound need : ℕ) (step : Step) (part found : Part) (charge : Option ChargeLine)
+    → step.charge ≡ charge → IsFound step part found → IsDriftNeed found charge need → need ≤ bound
+    → ((pid : ℕ) → ¬ IsWrongCharge known part step.time charge pid)
+    → (pid : ℕ) → ¬ IsWrongCharge bound part step.time charge pid
+drift_within known bound need step part found None e f n h none pid k = k
+drift_within known bound need step part found (Some charge) e f n h none pid k =
+    let t = is_told known part step.time charge none in
+    let drift = drift_after t.task.drift charge.v (t.task.runtime +ℤ pos (cost_in part step.time t.task)) in
+    let same : n.0.drift ≡ drift = found_drift step part found charge t.task n.0 e f t.stands t.runs n.1 in
+    k.0 (record {
+      task = t.task;
+      stands = t.stands;
+      runs = t.runs;
+      rises = t.rises;
+      within = size_within bound drift
+          (subst (λ d. nat_abs d ≤ bound) same (subst (λ x. x ≤ bound) n.2 h));
+    })
+
+drift_needs : (bound need : ℕ) (step : Step) (part found : Part) (charge : Option ChargeLine)
+    → step.charge ≡ charge → IsFound step part found → IsDriftNeed found charge need
+    → ((pid : ℕ) → ¬ IsWrongCharge bound part step.time charge pid) → need ≤ bound
+drift_needs bound need step part found None e f n none = none_needed need bound n
+drift_needs bound need step part found (Some charge) e f n none =
+    let t = is_told bound part step.time charge none in
+    let drift = drift_after t.task.drift charge.v (t.task.runtime +ℤ pos (cost_in part step.time t.task)) in
+    let same : n.0.drift ≡ drift = found_drift step part found charge t.task n.0 e f t.stands t.runs n.1 in
+    subst (λ x. x ≤ bound) (sym n.2) (subst (λ d. nat_abs d ≤ bound) (sym same) (within_size bound drift t.within))
+
 -- the tests of a step that passes, under other settings
 tests_within : (knobs other : KnobsView) (cpu : ℕ) (part : Part) (step : Step) (found : Part) (since : Option ℕ)
     (needs : KnobsView)
@@ -200,6 +261,9 @@ tests_within knobs other cpu part step found since needs p n h =
     let c = clear_of knobs cpu found step p.none in
     record {
       in_range = p.in_range;
+      told = drift_within knobs.drift other.drift needs.drift step part found step.charge refl p.is_found n.drift (h
+          Drift)
+          p.told;
       is_found = p.is_found;
       none = none_of other cpu found step (stands_of knobs cpu found step p.none) (record {
         home = c.home;
@@ -237,24 +301,28 @@ passes_within knobs other cpu before step after needs p h = record {
 }
 
 -- settings under which a step's tests pass are at least what it needs
-pub needs_of_tests : (other : KnobsView) (cpu : ℕ) (part : Part) (step : Step) (found mine : Part) (since : Option ℕ)
+pub needs_of_tests : (knobs other : KnobsView) (cpu : ℕ) (part : Part) (step : Step) (found mine : Part) (since :
+    Option ℕ)
     (needs : KnobsView)
-    → PassesTests other cpu part step mine → mine ≡ found → AreStepNeeds since found step needs
+    → PassesTests knobs cpu part step found → PassesTests other cpu part step mine → mine ≡ found
+    → AreStepNeeds since found step needs
     → ((x : ℕ) → since ≡ Some x → step.time ≤ x + other.slack) → AtMost needs other
-needs_of_tests other cpu part step found mine since needs p e n policy = each
+needs_of_tests knobs other cpu part step found mine since needs p q e n policy = each
   where
     c : IsClear other cpu found step.deed step.claim
-    c = subst (λ x. IsClear other cpu x step.deed step.claim) e (clear_of other cpu mine step p.none)
+    c = subst (λ x. IsClear other cpu x step.deed step.claim) e (clear_of other cpu mine step q.none)
 
     each : AtMost needs other
     each Granularity = pick_needs other.granularity needs.granularity found step.deed n.granularity c.least
     each Credit = wake_needs other.credit needs.credit found step.deed step.claim n.credit c.extra c.wake
     each Debit = birth_needs other.debit needs.debit found step.deed step.claim n.debit c.fork
     each Slack = subst (λ x. x ≤ other.slack) (sym n.slack) (idle_needs other.slack since step.time policy)
+    each Drift = drift_needs other.drift needs.drift step part found step.charge refl p.is_found n.drift q.told
 
 pub passes_from_needs : PassesFromNeeds
 passes_from_needs knobs other cpu before step after needs p = (
-  (λ also. needs_of_tests other cpu before.part step p.passes.found also.found before.since needs also.passes
+  (λ also. needs_of_tests knobs other cpu before.part step p.passes.found also.found before.since needs p.passes.passes
+      also.passes
       (same_found step before.part also.found p.passes.found also.passes.is_found p.passes.passes.is_found) p.needs_are
       (in_time_by other.slack before.since step.time also.in_time)),
   (λ h. passes_within knobs other cpu before step after needs p h),

@@ -9,14 +9,14 @@ use Rattle.cfs_model.specs.Order.{IsInOrder}
 use Rattle.cfs_model.specs.Run.{times_of, last_of}
 use Rattle.replay_model.specs.Part.{Part, part_of}
 use Rattle.replay_model.specs.PartWords.{OneRunsIn}
-use Rattle.replay_model.specs.Tests.{FirstHolds, late_tests, PassesTests}
+use Rattle.replay_model.specs.Tests.{FirstHolds, charge_tests, late_tests, PassesTests}
 use Rattle.replay_model.specs.StepAt.{step_at}
 use Rattle.replay_model.specs.Cause.{SlackFails, FaultCause, FailsOn, FailsAt, PassesAt, IsActCause, IsIdlingCause}
 use Rattle.replay_model.specs.Cause.{IsCause}
 use Rattle.cfs_model.proofs.OneNext.{one_list}
 use Rattle.replay_model.proofs.PartFacts.{stands_at}
 use Rattle.part_laws.proofs.one_page.OneLift.{same_found, none_first}
-use Rattle.part_laws.proofs.one_page.OnePid.{range_one, late_one, one_first}
+use Rattle.part_laws.proofs.one_page.OnePid.{charges_one, late_one, one_first}
 use Rattle.replay_laws.proofs.ending.RunEndings.{order_after}
 use Rattle.cfs_model.specs.declared.act.Act.{Act}
 use Rattle.cfs_model.specs.declared.act.Act.TheVariants.{Switch, Wake, Born, Shift}
@@ -34,9 +34,11 @@ same_cause a b e f g =
 one_test : (knobs : KnobsView) (cpu : ℕ) (part : Part) (step : Step) → OneRunsIn part → (kind other : Kind) (p q : ℕ)
     → FailsOn knobs cpu part step kind p → FailsOn knobs cpu part step other q → (kind ≡ other) × (p ≡ q)
 one_test knobs cpu part step one kind other p q (inl h) (inl k) =
-    (h.1 ∙ sym k.1, range_one part step.time one p q h.0 k.0)
-one_test knobs cpu part step one kind other p q (inl h) (inr k) = absurd (k.0 p h.0)
-one_test knobs cpu part step one kind other p q (inr h) (inl k) = absurd (h.0 q k.0)
+    one_first (charge_tests knobs part step) (charges_one knobs part step one) kind other p q h k
+one_test knobs cpu part step one kind other p q (inl h) (inr k) =
+    absurd (none_first (charge_tests knobs part step) kind p k.0 h)
+one_test knobs cpu part step one kind other p q (inr h) (inl k) =
+    absurd (none_first (charge_tests knobs part step) other q h.0 k)
 one_test knobs cpu part step one kind other p q (inr h) (inr k) =
     one_first (late_tests knobs cpu k.1.0 step) (late_one knobs cpu k.1.0 step) kind other p q
     (subst (λ x. FirstHolds (late_tests knobs cpu x step) kind p) (same_found step part h.1.0 k.1.0 h.1.1 k.1.1)
@@ -45,7 +47,8 @@ one_test knobs cpu part step one kind other p q (inr h) (inr k) =
 -- none fails on a part that passes
 passes_or_fails : (knobs : KnobsView) (cpu : ℕ) (part : Part) (step : Step) (found : Part) (kind : Kind) (pid : ℕ)
     → PassesTests knobs cpu part step found → FailsOn knobs cpu part step kind pid → ⊥
-passes_or_fails knobs cpu part step found kind pid p (inl h) = p.in_range pid h.0
+passes_or_fails knobs cpu part step found kind pid p (inl h) =
+    none_first (charge_tests knobs part step) kind pid (p.in_range, (p.told, tt)) h
 passes_or_fails knobs cpu part step found kind pid p (inr h) =
     none_first (late_tests knobs cpu found step) kind pid p.none
     (subst (λ x. FirstHolds (late_tests knobs cpu x step) kind pid)

@@ -6,7 +6,7 @@ use Rattle.std.proofs.Common.{[], ◌∷◌, refl, sym, ap, ◌∙◌, subst}
 use Rattle.cfs_model.specs.Knobs.{KnobsView}
 use Rattle.replay_model.specs.Part.{Part}
 use Rattle.replay_model.specs.QueueTests.{IsIdleTooLong}
-use Rattle.replay_model.specs.Tests.{Test, FirstHolds, late_tests}
+use Rattle.replay_model.specs.Tests.{Test, FirstHolds, charge_tests, late_tests}
 use Rattle.replay_model.specs.Page.{ReplayStateView, FailsTest, deadline_of}
 use Rattle.replay_model.specs.Cause.{FailsOn}
 use Rattle.replay_model.proofs.Options.{no_some, some_no, same_some}
@@ -42,6 +42,11 @@ late_timeless : (knobs : KnobsView) (cpu : ℕ) (part : Part) (step : Step) (kin
 late_timeless knobs cpu part step kind pid slack since h =
     timeless kind (first_timeless (late_tests knobs cpu part step) kind pid refl h) slack since
 
+charge_timeless : (knobs : KnobsView) (part : Part) (step : Step) (kind : Kind) (pid slack : ℕ) (since : Option ℕ)
+    → FirstHolds (charge_tests knobs part step) kind pid → deadline_of kind slack since ≡ None
+charge_timeless knobs part step kind pid slack since h =
+    timeless kind (first_timeless (charge_tests knobs part step) kind pid refl h) slack since
+
 -- a processor has idled since a time, and this long after it is before a step's time
 pub record IsDue (slack : ℕ) (since : Option ℕ) (deadline time : ℕ) : Type 0 where
   pub from : ℕ
@@ -62,9 +67,8 @@ pub with_deadline : (knobs : KnobsView) (cpu : ℕ) (s : ReplayStateView) (step 
     → IsDue knobs.slack s.since deadline step.time
 with_deadline knobs cpu s step kind pid deadline (inl (inl h)) e =
     idle_due knobs.slack s.since deadline step.time pid h.0 (ap (λ k. deadline_of k knobs.slack s.since) (sym h.1) ∙ e)
-with_deadline knobs cpu s step kind pid deadline (inl (inr (h, inl k))) e =
-    no_some deadline (ap (λ x. deadline_of x knobs.slack s.since) (sym k.1) ∙ e)
-with_deadline knobs cpu s step kind pid deadline (inl (inr (h, inr k))) e = absurd k.1
+with_deadline knobs cpu s step kind pid deadline (inl (inr h)) e =
+    no_some deadline (sym (charge_timeless knobs s.part step kind pid knobs.slack s.since h.1) ∙ e)
 with_deadline knobs cpu s step kind pid deadline (inr h) e =
     no_some deadline (sym (late_timeless knobs cpu h.0 step kind pid knobs.slack s.since h.3) ∙ e)
 
@@ -80,9 +84,8 @@ pub without_deadline : (knobs : KnobsView) (cpu : ℕ) (s : ReplayStateView) (st
 without_deadline knobs cpu s step kind pid (inl (inl h)) e =
     absurd (idle_has_deadline knobs.slack s.since step.time pid h.0
     (ap (λ k. deadline_of k knobs.slack s.since) (sym h.1) ∙ e))
-without_deadline knobs cpu s step kind pid (inl (inr (h, inl k))) e = inl k
-without_deadline knobs cpu s step kind pid (inl (inr (h, inr k))) e = absurd k.1
-without_deadline knobs cpu s step kind pid (inr h) e = inr (h.1.1.0, (h.0, h.2, h.3))
+without_deadline knobs cpu s step kind pid (inl (inr h)) e = inl h.1
+without_deadline knobs cpu s step kind pid (inr h) e = inr (h.1.1, (h.0, h.2, h.3))
 
 -- a processor that has idled for too long at a step has that fault, with that deadline
 pub idling_fails : (knobs : KnobsView) (cpu : ℕ) (s : ReplayStateView) (step : Step) (kind : Kind) (pid x : ℕ)

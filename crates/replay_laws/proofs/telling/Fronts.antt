@@ -12,7 +12,7 @@ use Rattle.cfs_model.specs.Touch.{touched}
 use Rattle.replay_model.specs.QueueTests.{IsIdleTooLong}
 use Rattle.replay_model.specs.Cut.{steps_at, last_time_of, last_line_after}
 use Rattle.replay_model.specs.Noted.{PageView}
-use Rattle.replay_model.specs.Record.{ClaimInRange, TimesRise, LinesRise, IsRecord}
+use Rattle.replay_model.specs.Record.{ClaimInRange, ChargeInRange, TimesRise, LinesRise, IsRecord}
 use Rattle.replay_model.specs.Page.{ReplayStateView, IsReplay}
 use Rattle.replay_laws.specs.CutReplay.{IsCutReplay, PassesCut}
 use Rattle.replay_laws.specs.Telling.{IdlesBefore, ComesAfter}
@@ -57,6 +57,7 @@ record_front start floors tasks before rest cpus r = record {
   events_within = all_front (λ event. AllByRecursion (λ cpu. cpu < cpus) (touched event.entry.act)) before rest
       r.events_within;
   claims_in_range = all_front ClaimInRange before rest r.claims_in_range;
+  charges_in_range = all_front ChargeInRange before rest r.charges_in_range;
   times_rise = rise_front start before rest r.times_rise;
   lines_rise = lines_front 0 before rest r.lines_rise;
 }

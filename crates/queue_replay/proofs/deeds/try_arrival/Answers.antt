@@ -1,4 +1,4 @@
-use Rattle.std.proofs.Common.{◌∙◌, sym, ap, refl, Some}
+use Rattle.std.proofs.Common.{◌∙◌, sym, ap, refl, Some, pos}
 use Rattle.replay_model.specs.AfterDeed.{after_deed}
 use Rattle.replay_model.specs.Deeds.{came_ticket, with_entity}
 use Rattle.replay_model.specs.Part.{Entity}
@@ -49,7 +49,14 @@ returns-clause-tried c knobs =
     (c.in_ok-add-in-Some-claim.ensures.part
     ∙ ap (λ p. with_entity part p (Some (entity_of task.result))) task.ensures.pid
     ∙ ap (λ (s : Entity). with_entity part pid (Some s)) task.ensures.entity
-    ∙ ap (λ p. with_entity part pid (Some (record { place = p; nice = nice; policy = policy; runtime = claim.v })))
+    ∙ ap (λ p. with_entity part pid (Some (record {
+      place = p;
+      nice = nice;
+      policy = policy;
+      runtime = claim.v;
+      drift =
+          pos 0;
+    })))
     c.place_of.ensures
     ∙ ap (after_deed part deed) (sym c.in-Some-claim.is))
     (c.came_ticket-ticket.ensures ∙ ap (came_ticket part step.line pid nice policy) (sym c.in-Some-claim.is)) refl

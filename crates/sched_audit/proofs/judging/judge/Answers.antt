@@ -10,4 +10,5 @@ returns-clause-outcome g c =
       trace_whole = read.1;
       companion_whole = c.in_ok-companion.ensures.all;
       answer = c.in_ok-hearing_of.ensures.outcome read.0 (c.finish.ensures.answered (lines_of read.0) read.2);
+      tells = c.in_ok-hearing_of.ensures.tells;
     }

@@ -7,6 +7,6 @@ use Rattle.sched_audit.proofs.laws.one_least_outcome.Goals as goal
 
 pub returns : goal.returns
 returns c trace companion one other p q =
-    one_by_view least_view least_lines least_fault least_lines least_fault (λ least. refl) (λ least. refl) one other
+    one_by_view least_view least_lines least_fault least_lines least_fault (λ _ least. refl) (λ least. refl) one other
     (same_outcome trace companion c.one_trace_answer.ensures c.one_companion_answer.ensures c.one_record_answer.ensures
     IsLeastAnswer least_view (λ r a b start x y. c.one_least_answer.ensures r a b start x y) one other p q)

@@ -29,6 +29,7 @@ by_fault (Fault fault) = refl
 
 pub returns : goal.returns
 returns c knobs trace companion one other p q =
-    one_by_view verdict_view verdict_lines verdict_fault seen_lines seen_fault by_lines by_fault one other
+    one_by_view verdict_view (λ _. verdict_lines) verdict_fault (λ _. seen_lines) seen_fault (λ _. by_lines) by_fault
+    one other
     (same_outcome trace companion c.one_trace_answer.ensures c.one_companion_answer.ensures c.one_record_answer.ensures
     (IsVerdict knobs) verdict_view (λ r a b start x y. c.one_verdict.ensures knobs r a start x b y) one other p q)

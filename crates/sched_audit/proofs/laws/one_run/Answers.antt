@@ -8,7 +8,7 @@ use Rattle.sched_audit.proofs.laws.one_run.Goals as goal
 
 pub returns-clause-verdict : goal.returns-clause-verdict
 returns-clause-verdict c knobs =
-    one_run_by (IsVerdict knobs) verdict_view verdict_lines verdict_fault (c.one_outcome.ensures knobs)
+    one_run_by (IsVerdict knobs) verdict_view (λ _. verdict_lines) verdict_fault (c.one_outcome.ensures knobs)
 
 pub returns-clause-least : goal.returns-clause-least
 returns-clause-least c =

@@ -6,4 +6,4 @@ use Rattle.ticket_book.proofs.closing.told_by.Given as goal
 abbrev pub invariant-loop-event : goal.invariant-loop-event
 invariant-loop-event l =
     let r = record_view l.joined in
-    HasCome l.pages r.tasks r.claims r.nices (policy_of r) l.event-items l.event-index l.walk
+    HasCome l.pages r.tasks r.claims r.nices r.charges (policy_of r) l.event-items l.event-index l.walk

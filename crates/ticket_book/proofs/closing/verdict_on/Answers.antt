@@ -1,4 +1,5 @@
-use Rattle.std.proofs.Common.{length, subst}
+use Rattle.std.proofs.Common.{length, subst, ◌≤◌}
+use Rattle.cfs_model.specs.Limits.{greatest_setting}
 use Rattle.replay_model.specs.Summary.{tasks_of_run}
 use Rattle.sched_record.specs.Record.{record_view}
 use Rattle.ticket_book.specs.SaidEvents.{events_of}
@@ -29,7 +30,9 @@ summary_by-requires c =
     sums_fit c.args.knobs r pages c.requires order
     nothing c.tallying.ensures.totals c.tallying.ensures.bounded c.last_time.result c.last_line.result
     c.last_time.ensures
-    c.last_time.type_inv c.last_line.ensures c.last_line.type_inv (tasks_of_run r.tasks (events_of r))
+    c.last_time.type_inv c.last_line.ensures c.last_line.type_inv
+    (subst (λ n. n ≤ greatest_setting) c.drift.ensures.same c.drift.ensures.in_range) (tasks_of_run r.tasks
+    (events_of r))
 
 pub returns-in_ok-summary_by-in-None : goal.returns-in_ok-summary_by-in-None
 returns-in_ok-summary_by-in-None c =

@@ -15,11 +15,19 @@ new-requires-clause-in_order c =
       claims = c.self.inside.claims.items;
       nices = c.self.inside.nices.items;
       idles = c.self.inside.idles.items;
+      charges = c.self.inside.charges.items;
     } in
     let order : KeepsOrder said = subst KeepsOrder (sym c.self.view_is) c.requires.order in
     let whole : has_all_floors said ≡ true = subst (λ (s : Said). has_all_floors s ≡ true) (sym c.self.view_is)
     (sym c.has_all_floors.ensures ∙ c.if-not-has_all_floors.false) in
-    rw (c.from_vec.ensures, c.from_vec-2.ensures, c.from_vec-3.ensures, c.from_vec-4.ensures, c.from_vec-5.ensures)
+    rw (
+      c.from_vec.ensures,
+      c.from_vec-2.ensures,
+      c.from_vec-3.ensures,
+      c.from_vec-4.ensures,
+      c.from_vec-5.ensures,
+      c.from_vec-6.ensures,
+    )
     (in_order said c.in_ok-cpus.field-0 c.in_ok-start.field-0 order c.in_ok-cpus.was c.in_ok-start.was whole)
 
 pub new-requires-clause-spans_told : goal.new-requires-clause-spans_told

@@ -1,16 +1,22 @@
-use Rattle.std.proofs.Common.{Ok, ◌∙◌, ◌+◌, ◌-◌, List, All, Option, sym, ap, subst, inr, refl}
+use Rattle.std.proofs.Common.{◌≡◌, ◌≢◌, ℕ, Ok, ◌∙◌, ◌+◌, ◌-◌, List, All, Option, Some, None, IfSome, option_map, sym}
+use Rattle.std.proofs.Common.{ap, subst, inr, refl}
+use Rattle.cfs_model.specs.declared.charge_line.ChargeLine.{ChargeLine}
 use Rattle.cfs_model.specs.declared.memory.Memory.{Memory}
 use Rattle.replay_model.specs.Deeds.{reniced}
+use Rattle.replay_model.specs.Part.{Part, Entity, IsLiftedPart}
+use Rattle.replay_model.specs.QueueTests.{IsWrongCharge}
+use Rattle.replay_model.proofs.Clear.{is_told}
+use Rattle.replay_model.proofs.PartFacts.{place_lifted}
 use Rattle.replay_model.specs.declared.page.Tally.{Tally}
-use Rattle.queue_replay.specs.Counting.{stretched}
-use Rattle.queue_replay.specs.Stretches.{IsWithin}
+use Rattle.queue_replay.specs.Stretches.{IsWithin, stretch_between, stretched}
+use Rattle.queue_replay.specs.declared.stretch.Stretch.{Stretch}
 use Rattle.queue_replay.specs.Needing.{step_needs}
 use Rattle.queue_replay.specs.Rows.{HoldsUnmade, IsTried}
 use Rattle.runqueue.specs.Queue.{runqueue_view}
 use Rattle.queue_replay.specs.declared.outcome.Outcome.{Outcome}
 use Rattle.queue_replay.proofs.Counts.{charged_same}
-use Rattle.queue_replay.proofs.Growing.{IsRan, noted_ran, ran_picks, tallied_within}
-use Rattle.queue_replay.proofs.Needed.{needs_of_step}
+use Rattle.queue_replay.proofs.Growing.{IsRan, ran_picks, stretched_ran, tallied_within}
+use Rattle.queue_replay.proofs.Needed.{need_reniced, needs_of_step}
 use Rattle.queue_replay.proofs.Noting.{page_is}
 use Rattle.queue_replay.proofs.Rows.{is_later}
 use Rattle.runqueue.proofs.Renices.{holds_both}
@@ -19,12 +25,16 @@ use Rattle.queue_replay.proofs.replay_state.ReplayState.pass.Goals as goal
 pub returns-in-Ok-Failed-clause-fails : goal.returns-in-Ok-Failed-clause-fails
 returns-in-Ok-Failed-clause-fails c =
     let l = c.in_default.ensures in
+    let right : (pid : ℕ) → ¬ IsWrongCharge c.args.knobs.drift (runqueue_view c.args.self.now.queue)
+    c.args.step.now.time c.args.step.now.charge pid = λ pid. subst
+    (λ n. ¬ IsWrongCharge n (runqueue_view c.args.self.now.queue) c.args.step.now.time c.args.step.now.charge pid)
+    c.drift.ensures.same (l.told pid) in
     let lifted = runqueue_view c.lift.new.self in
     let T : Outcome → Type 0 = λ o. IsTried c.args.knobs c.args.cpu
     (reniced c.args.step.now.nice lifted) c.args.step.now (runqueue_view c.try_step.new.queue) o in
     inr (
       reniced c.args.step.now.nice lifted,
-      (c.requires.in_time, (l.in_range, tt)),
+      (c.requires.in_time, (l.in_range, (right, tt))),
       record {
         lifted =
             lifted;
@@ -63,27 +73,28 @@ restore-requires-in-Err-try_step c =
           c.in-Err-try_step.ensures.same,
     )
 
-pub note_stretch-requires-clause-fits : goal.note_stretch-requires-clause-fits
-note_stretch-requires-clause-fits c =
-    let old = c.args.self.now in
-    let q = old.queue in
-    let step = c.args.step.now in
-    (noted_ran (runqueue_view q) step.time c.saturating_sub-time.result old.made c.in_default.ensures.in_range
-    (c.saturating_sub-time.ensures ∙ ap (λ n. step.time - n) c.mark.ensures) c.saturating_sub-time.type_inv
-    c.runner-runner.result
-    c.runner-runner.ensures
-    old.draft.tallies.table.rows c.requires.going.within).0
+-- a charge that may be told is of a task that stands here after it
+stands_after : (bound time : ℕ) (part lifted : Part) (charge : Option ChargeLine)
+    → ((pid : ℕ) → ¬ IsWrongCharge bound part time charge pid) → IsLiftedPart time charge part lifted
+    → IfSome charge (λ line. lifted.tasks line.pid ≢ None)
+stands_after bound time part lifted None right l = tt
+stands_after bound time part lifted (Some line) right l = λ none.
+    let told = is_told bound part time line right in
+    let place : Some told.task.place ≡ None = sym (ap (option_map (λ (s : Entity). s.place)) told.stands)
+    ∙ sym (place_lifted time (Some line) part lifted l line.pid) ∙ ap (option_map (λ (s : Entity). s.place)) none in
+    absurd cc
+
+pub drift_need-drift-requires : goal.drift_need-drift-requires
+drift_need-drift-requires c =
+    let l = c.in_default.ensures in
+    stands_after c.drift.result c.args.step.now.time (runqueue_view c.args.self.now.queue)
+    (runqueue_view c.lift.new.self) c.args.step.now.charge l.told l.lifted
 
 pub note-requires-clause-within : goal.note-requires-clause-within
 note-requires-clause-within c =
     let old = c.args.self.now in
-    let q = old.queue in
-    let step = c.args.step.now in
-    let ran = (noted_ran (runqueue_view q) step.time c.saturating_sub-time.result old.made c.in_default.ensures.in_range
-    (c.saturating_sub-time.ensures ∙ ap (λ n. step.time - n) c.mark.ensures) c.saturating_sub-time.type_inv
-    c.runner-runner.result
-    c.runner-runner.ensures
-    old.draft.tallies.table.rows c.requires.going.within).1 in
+    let ran = stretched_ran old.made c.stretch_between-stretch.result old.draft.tallies.table.rows
+    c.stretch_between-stretch.ensures.bounds c.requires.going.within in
     let P : List Tally → Type 0 = λ l. All (IsRan old.made) l in
     ran_picks old.made c.note_stretch.new.self.tallies.table.rows (subst P (sym c.note_stretch.ensures.tallies) ran)
 
@@ -94,18 +105,19 @@ returns-clause-passes c _ =
     let step = c.args.step.now in
     let lifted = runqueue_view c.lift.new.self in
     let l = c.in_default.ensures in
+    let right : (pid : ℕ) → ¬ IsWrongCharge c.args.knobs.drift (runqueue_view c.args.self.now.queue)
+    c.args.step.now.time c.args.step.now.charge pid = λ pid. subst
+    (λ n. ¬ IsWrongCharge n (runqueue_view c.args.self.now.queue) c.args.step.now.time c.args.step.now.charge pid)
+    c.drift.ensures.same (l.told pid) in
     let T : Outcome → Type 0 = λ o. IsTried c.args.knobs c.args.cpu (reniced step.nice lifted) step
     (runqueue_view c.try_step.new.queue) o in
     let tried = subst T c.in-Ok-Made.field-0-is c.in-Ok-Made.ensures.tried in
     let deed = c.in-Ok-Made.deed in
-    let needs = step_needs step.deed deed.need c.idled_time-idled.result in
+    let needs = step_needs step.deed deed.need c.idled_time-idled.result c.drift_need-drift.result in
     let mid = c.note_stretch.new.self in
     let s = c.note_stretch.ensures.same in
-    let ran = (noted_ran (runqueue_view q) step.time c.saturating_sub-time.result old.made c.in_default.ensures.in_range
-    (c.saturating_sub-time.ensures ∙ ap (λ n. step.time - n) c.mark.ensures) c.saturating_sub-time.type_inv
-    c.runner-runner.result
-    c.runner-runner.ensures
-    old.draft.tallies.table.rows c.requires.going.within).1 in
+    let ran = stretched_ran old.made c.stretch_between-stretch.result old.draft.tallies.table.rows
+    c.stretch_between-stretch.ensures.bounds c.requires.going.within in
     let P : List Tally → Type 0 = λ x. All (IsRan old.made) x in
     let W : List Tally → Type 0 = λ x. All (IsWithin (old.made + 1)) x in
     record {
@@ -117,6 +129,7 @@ returns-clause-passes c _ =
             found = reniced step.nice lifted;
             passes = record {
               in_range = l.in_range;
+              told = right;
               is_found = record { lifted = lifted; is_lifted = l.lifted; is_reniced = refl };
               none = tried.0;
             };
@@ -126,10 +139,12 @@ returns-clause-passes c _ =
                 (reniced step.nice lifted) step c.in-Ok-Made.deed.ticket c.requires.going.fault
                 (record { line = s.0; fault = s.1; left = s.2; came = s.3; births = s.4; deaths = s.5 })
                 (c.note_stretch.ensures.tallies
-                ∙ ap (λ n. stretched c.runner-runner.result n old.draft.tallies.table.rows)
-                (c.saturating_sub-time.ensures ∙ ap (λ n. step.time - n) c.mark.ensures)
-                ∙ sym (charged_same (runqueue_view q) step.time c.runner-runner.result
-                c.runner-runner.ensures
+                ∙ ap (λ (s : Option Stretch). stretched s old.draft.tallies.table.rows)
+                (c.stretch_between-stretch.ensures.same
+                ∙ ap (λ n. stretch_between c.runner-runner.result c.runner.result n) (c.saturating_sub-time.ensures
+                ∙ ap (λ n. step.time - n) c.mark.ensures))
+                ∙ sym (charged_same (runqueue_view q) lifted step.time step.charge c.runner-runner.result
+                c.runner.result c.runner-runner.ensures l.lifted c.runner.ensures
                 old.draft.tallies.table.rows))
                 tried.2
                 (let n = c.note.ensures in record {
@@ -143,7 +158,9 @@ returns-clause-passes c _ =
                 });
           };
           needs_are = needs_of_step old.since
-              (reniced step.nice lifted) step deed.need c.idled_time-idled.result tried.3 c.idled_time-idled.ensures;
+              (reniced step.nice lifted) step deed.need c.idled_time-idled.result c.drift_need-drift.result tried.3
+              c.idled_time-idled.ensures
+              (need_reniced step.nice lifted step.charge c.drift_need-drift.result c.drift_need-drift.ensures);
         },
         c.raise.ensures,
       );

@@ -1,5 +1,5 @@
 use Rattle.std.proofs.Common.{Option, sym, ap, subst, ◌∙◌}
-use Rattle.cfs_model.specs.declared.task.Task.{Task}
+use Rattle.runqueue.specs.declared.sched_entity.SchedEntity.{SchedEntity}
 use Rattle.runqueue.specs.Entities.{IsQueue, entities}
 use Rattle.runqueue.specs.Queue.{runqueue_view}
 use Rattle.runqueue.proofs.Parts.{part_with}
@@ -24,7 +24,7 @@ invariant_of-self c =
     let pid = c.args.pid in
     let nice = c.args.nice in
     record {
-      kept = subst (λ (r : Option Task). IsQueue r c.write_over.new.tasks c.args.self.now.waiting)
+      kept = subst (λ (r : Option SchedEntity). IsQueue r c.write_over.new.tasks c.args.self.now.waiting)
           (sym c.reniced_runner-self.ensures)
           (reniced_queue q.tasks n pid nice
           (written q.tasks n pid nice c.in_ok-task.field-0.now
@@ -38,7 +38,8 @@ returns-clause-part c =
     let n = c.write_over.new.tasks in
     let pid = c.args.pid in
     let nice = c.args.nice in
-    ap (λ (r : Option Task). part_with (entities r c.write_over.new.tasks) c.args.self.now.floor c.args.self.now.mark)
+    ap (λ (r : Option SchedEntity). part_with (entities r c.write_over.new.tasks) c.args.self.now.floor
+    c.args.self.now.mark)
     c.reniced_runner-self.ensures
     ∙ reniced_part q.tasks n pid nice (written q.tasks n pid nice c.in_ok-task.field-0.now
     (sym c.in_ok-task.ensures.value) c.write_over.ensures)

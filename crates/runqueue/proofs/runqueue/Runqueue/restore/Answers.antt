@@ -1,5 +1,5 @@
 use Rattle.std.proofs.Common.{◌≡◌, ◌∙◌, Option, rules, sym, subst, to_z, of_z, w64}
-use Rattle.cfs_model.specs.declared.task.Task.{Task}
+use Rattle.runqueue.specs.declared.sched_entity.SchedEntity.{SchedEntity}
 use Rattle.runqueue.specs.Entities.{IsQueue}
 use Rattle.runqueue.proofs.Moved.{restored_part}
 use Rattle.runqueue.proofs.EntitiesKept.{same_queue}
@@ -11,7 +11,7 @@ invariant_of-self c =
     let now = c.args.self.now in
     let same = c.requires.2 in
     record {
-      kept = subst (λ (r : Option Task). IsQueue r now.tasks now.waiting) (sym c.requires.1.runner)
+      kept = subst (λ (r : Option SchedEntity). IsQueue r now.tasks now.waiting) (sym c.requires.1.runner)
           (same_queue q.runner q.tasks now.tasks q.waiting now.waiting same.tasks same.waiting q.kept);
     }
 

@@ -2,7 +2,7 @@ use Rattle.std.proofs.Common.{◌≡◌, ℤ, false, sym, ap, ◌∙◌, subst, 
 use Rattle.std.proofs.Common.{of_z, w64}
 use Rattle.std.specs.BTreeSet as set
 use Rattle.cfs_model.specs.declared.task.Place.TheVariants.{Run}
-use Rattle.cfs_model.specs.declared.task.Task.{Task}
+use Rattle.runqueue.specs.declared.sched_entity.SchedEntity.{SchedEntity}
 use Rattle.replay_model.specs.AfterDeed.{part_after_next}
 use Rattle.replay_model.specs.Part.{Part}
 use Rattle.runqueue.specs.Entities.{by_runtime, entities, waiting_task}
@@ -19,7 +19,7 @@ invariant_of-self c =
     let whole : to_z w64 (of_z w64 t.v) ≡ t.v = search rules in
     let has : Some (entity_of t) ≡ entities None q.tasks c.args.next =
     sym (ap (option_map entity_of) c.in-Some.is) ∙ c.requires.task c.if-next-eq-IDLE_PID.false
-    ∙ ap (λ (r : Option Task). entities r q.tasks c.args.next) none in
+    ∙ ap (λ (r : Option SchedEntity). entities r q.tasks c.args.next) none in
     record {
       kept = next_queue q.tasks q.waiting c.remove.new.self t _
           (kept_runner q.runner q.tasks q.waiting None q.kept none) (sym has)
@@ -34,18 +34,17 @@ returns-in-Some c =
     let t = c.in-Some.task in
     let has : Some (entity_of t) ≡ entities None q.tasks c.args.next =
     sym (ap (option_map entity_of) c.in-Some.is) ∙ c.requires.task c.if-next-eq-IDLE_PID.false
-    ∙ ap (λ (r : Option Task). entities r q.tasks c.args.next) none in
+    ∙ ap (λ (r : Option SchedEntity). entities r q.tasks c.args.next) none in
     next_entities q.tasks t (record {
       pid = c.args.next;
       nice = t.nice;
       policy = t.policy;
-      cpu = t.cpu;
       place = Run;
-      v =
-          t.v;
+      v = t.v;
+      drift = t.drift;
     }) q.floor q.mark (sym has) c.if-next-eq-IDLE_PID.false
     refl
-    ∙ ap (λ (r : Option Task). part_after_next
+    ∙ ap (λ (r : Option SchedEntity). part_after_next
     (record { tasks = entities r q.tasks; floor = q.floor; mark = q.mark }) c.args.next) (sym none)
 
 pub returns-in_default : goal.returns-in_default
@@ -53,9 +52,9 @@ returns-in_default c =
     let q = c.args.self.now in
     let none = no_runner q.runner q.tasks q.waiting q.floor q.mark q.kept c.requires.nobody in
     let e : entities None q.tasks c.args.next ≡ None =
-    ap (λ (r : Option Task). entities r q.tasks c.args.next) (sym none)
+    ap (λ (r : Option SchedEntity). entities r q.tasks c.args.next) (sym none)
     ∙ sym (c.requires.task c.if-next-eq-IDLE_PID.false) ∙ ap (option_map entity_of) c.in_default.is in
-    let P : Option Task → Type 0 = λ r.
+    let P : Option SchedEntity → Type 0 = λ r.
     (let p : Part = record { tasks = entities r q.tasks; floor = q.floor; mark = q.mark } in
     p ≡ part_after_next p c.args.next) in
     subst P (sym none) (no_next q.tasks c.args.next q.floor q.mark e c.if-next-eq-IDLE_PID.false)

@@ -43,7 +43,8 @@ invariant_of-self-in-Rest c =
     record {
       kept = woken_queue q.runner q.tasks c.write_over.new.tasks q.waiting q.kept c.args.pid t e c.in-Rest.is _
           c.write_over.ensures v
-          (ap (λ (x : ℤ). record { place = Wait; nice = t.nice; policy = t.policy; runtime = x }) whole)
+          (ap (λ (x : ℤ). record { place = Wait; nice = t.nice; policy = t.policy; runtime = x; drift = t.drift })
+          whole)
           c.insert.new.self
           (subst (λ (x : ℤ). set.Updates by_runtime q.waiting c.insert.new.self (waiting_task x c.args.pid) true) whole
           c.in_ok-insert-in-Rest.ensures.updates);
@@ -59,5 +60,6 @@ returns-in_ok-insert-in-Rest-clause-part c =
     let whole : to_z w64 (of_z w64 v) ≡ v = search rules in
     woken_part q.runner q.tasks c.write_over.new.tasks q.waiting q.kept c.args.pid t e c.in-Rest.is _
     c.write_over.ensures v
-    (ap (λ (x : ℤ). record { place = Wait; nice = t.nice; policy = t.policy; runtime = x }) whole) q.floor q.mark
+    (ap (λ (x : ℤ). record { place = Wait; nice = t.nice; policy = t.policy; runtime = x; drift = t.drift }) whole)
+    q.floor q.mark
     c.args.claim refl

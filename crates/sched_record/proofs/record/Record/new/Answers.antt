@@ -22,14 +22,15 @@ joined_in_order events companion kept in_order together = record {
   claimed = together.claimed;
   reniced = together.reniced;
   born = together.born;
+  charged = together.charged;
 }
 
 pub invariant_of-result : goal.invariant_of-result
 invariant_of-result c = record {
   in_order = subst (λ companion. IsRecordInOrder (joined_record c.set_hints.new.self.events companion))
       (sym c.end_spans.ensures.others)
-      (subst (λ events. IsRecordInOrder (joined_record events (companion_view c.args.companion)))
-      (sym c.set_hints.ensures)
+      (subst (λ events. IsRecordInOrder (joined_record events (companion_view c.args.companion))) (sym
+      c.set_hints.ensures)
       (joined_in_order c.args.trace.events (companion_view c.args.companion) c.args.companion.in_order
       c.args.trace.in_order c.requires));
   spans_end = subst (λ events. All (EndsAtBirth events) c.end_spans.new.companion.spans) c.events.ensures

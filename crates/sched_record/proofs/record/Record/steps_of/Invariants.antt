@@ -2,6 +2,7 @@ use Rattle.std.proofs.Common.{◌≡◌, ◌≤◌, length, map, take}
 use Rattle.cfs_model.specs.declared.act.Entry.{Entry}
 use Rattle.cfs_model.specs.declared.claim.Claim.{Claim}
 use Rattle.cfs_model.specs.declared.nice_line.NiceLine.{NiceLine}
+use Rattle.cfs_model.specs.declared.charge_line.ChargeLine.{ChargeLine}
 use Rattle.sched_record.specs.RecordView.{policy_of}
 use Rattle.sched_record.specs.Record.{record_view}
 use Rattle.sched_record.proofs.Indexing.{step_of, touching}
@@ -16,6 +17,9 @@ invariant-loop-index l = record {
   nices_within : l.nices_from ≤ length l.nices;
   nices_passed : HasPassed (λ (change : NiceLine). change.line) (λ (event : Entry). event.line) l.nices
       (touching l.cpu l.events) l.nices_from l.index-index;
-  dealt : l.steps.items ≡ map (step_of l.cpu l.claims l.nices (policy_of (record_view l.self)))
+  charges_within : l.charges_from ≤ length l.charges;
+  charges_passed : HasPassed (λ (charge : ChargeLine). charge.line) (λ (event : Entry). event.line) l.charges
+      (touching l.cpu l.events) l.charges_from l.index-index;
+  dealt : l.steps.items ≡ map (step_of l.cpu l.claims l.nices l.charges (policy_of (record_view l.self)))
       (take l.index-index (touching l.cpu l.events));
 }

@@ -1,0 +1,127 @@
+//! What the companion tells of a charge, beside the exact one.
+
+use crate::charge::Charge;
+use crate::place_bounds::push_stood;
+use crate::scene::Scene;
+use cfs_model::ChargeLine;
+use runqueue::{Runqueue, SchedEntity};
+use std::alloc::AllocError;
+use std::fmt;
+
+/// A charge of who runs, as the companion tells it.
+#[derive(Clone, Copy)]
+pub(crate) struct ToldCharge {
+    exact: Charge,
+    /// The virtual runtime after it, in virtual nanoseconds, signed.
+    to: i64,
+}
+
+impl ToldCharge {
+    /// That of who runs, up to a time in nanoseconds; none where what is told is of another task.
+    pub(crate) fn at(queue: &Runqueue, time: u64, told: Option<ChargeLine>) -> Option<ToldCharge> {
+        let ChargeLine { pid, v, .. } = told?;
+        let exact = Charge::at(queue, time)?;
+        if exact.task.pid == pid {
+            Some(ToldCharge { exact, to: v })
+        } else {
+            None
+        }
+    }
+
+    /// How far it leads above the exact charge, in virtual nanoseconds; below 0 where it leads below that.
+    fn stray(&self) -> i128 {
+        i128::from(self.to).saturating_sub(self.exact.to())
+    }
+
+    /// The task's drift after it, in virtual nanoseconds.
+    fn drift_after(&self) -> i128 {
+        i128::from(self.exact.task.drift).saturating_add(self.stray())
+    }
+}
+
+impl fmt::Display for ToldCharge {
+    fn fmt<W: fmt::Write>(&self, f: &mut fmt::Formatter<W>) -> fmt::Result {
+        let SchedEntity { pid, v, drift, .. } = self.exact.task;
+        let to = self.to;
+        let after = self.drift_after();
+        write!(
+            f,
+            "pid {pid} from {v} to {to}, so its drift goes from {drift} to {after}"
+        )
+    }
+}
+
+/// The told charge that a processor took, if one was told.
+pub(crate) fn push_told_charge(
+    text: &mut String,
+    cpu: u32,
+    told: Option<ToldCharge>,
+) -> Result<(), AllocError> {
+    match told {
+        Some(told) => writeln!(text, "# told charge at cpu {cpu}: {told}"),
+        None => Ok(()),
+    }
+}
+
+/// What is wrong with a told charge: whose it is, that it takes virtual runtime away, or how far its task drifts.
+pub(crate) fn push_wrong_charge(text: &mut String, scene: &Scene) -> Result<(), AllocError> {
+    let queue = &scene.here.queue;
+    match ToldCharge::at(queue, scene.event.time, scene.event.charge) {
+        Some(told) => {
+            push_told_at(text, &told)?;
+            push_drift(text, &told, scene.knobs.drift())
+        }
+        None => {
+            push_not_its(text, scene.here.cpu, scene.fault.pid, queue.runner())?;
+            push_stood(text, scene)
+        }
+    }
+}
+
+fn push_not_its(
+    text: &mut String,
+    cpu: u32,
+    told: u32,
+    runner: Option<SchedEntity>,
+) -> Result<(), AllocError> {
+    match runner {
+        Some(SchedEntity { pid, .. }) => writeln!(
+            text,
+            "# the told charge is of pid {told}, but at cpu {cpu} pid {pid} runs"
+        ),
+        None => writeln!(
+            text,
+            "# the told charge is of pid {told}, but at cpu {cpu} nobody runs"
+        ),
+    }
+}
+
+/// Where the told charge leads, beside where the task was, or where it is by the exact charge.
+fn push_told_at(text: &mut String, told: &ToldCharge) -> Result<(), AllocError> {
+    let SchedEntity { pid, v, .. } = told.exact.task;
+    let to = told.to;
+    if to < v {
+        let apart = v.abs_diff(to);
+        return writeln!(
+            text,
+            "# pid {pid} is told at {to}, which is {apart} below {v}, where it was before the charge: no charge takes virtual runtime away"
+        );
+    }
+    let exact = told.exact.to();
+    let stray = told.stray();
+    let apart = stray.unsigned_abs();
+    let side = if stray < 0 { "below" } else { "above" };
+    writeln!(
+        text,
+        "# pid {pid} is told at {to}, which is {apart} {side} {exact}, where it is by the exact charge"
+    )
+}
+
+fn push_drift(text: &mut String, told: &ToldCharge, most: u64) -> Result<(), AllocError> {
+    let before = told.exact.task.drift;
+    let after = told.drift_after();
+    writeln!(
+        text,
+        "# its drift would go from {before} to {after}; the setting allows {most} either way"
+    )
+}

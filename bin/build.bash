@@ -8,7 +8,8 @@ is_built() {
     -type f \( -name '*.rt' -o -name '*.antt' -o -name crates.txt \) -newer "$program" -print -quit)" ]
 }
 
-# A line for each crate below the program's, lowest first: its name, and then all crates of the tree below it.
+# A line for each crate below the program's: its name, and then all crates of the tree below it. Those come first with
+# which the longest chain of lines begins that is still to be proved, so each behind those below it.
 crates_below() {
   awk -v top="$crate" '
     function visit(name, i, count, names) {
@@ -16,22 +17,40 @@ crates_below() {
       seen[name]
       count = split(uses[name], names)
       for (i = 1; i <= count; i++) { visit(names[i]); take(name, names[i]) }
-      if (name != top) print name within[name]
+      order[++last] = name
     }
     function take(name, other, i, count, names) {
       count = other in uses ? split(other within[other], names) : 0
       for (i = 1; i <= count; i++)
         if (!index(within[name] " ", " " names[i] " ")) within[name] = within[name] " " names[i]
     }
+    # From the top down, so that what stands on a crate has its own length by then.
+    function rise(name, i, count, names) {
+      length_from[name] += lines[name] + 1
+      count = split(uses[name], names)
+      for (i = 1; i <= count; i++)
+        if (length_from[names[i]] < length_from[name]) length_from[names[i]] = length_from[name]
+      if (name != top) print length_from[name], name within[name]
+    }
+    FNR == NR { lines[$1] = $2; next }
     { sub(/#.*/, "") }
     /:/ { split($0, sides, ":"); split(sides[1], words); uses[words[1]] = sides[2] }
-    END { visit(top) }' "$top/crates.txt"
+    END { visit(top); for (; last; last--) rise(order[last]) }' <(line_counts) "$top/crates.txt" |
+    sort -rns -k 1,1 | cut -d ' ' -f 2-
 }
 
-# Calls rt in a crate's folder below this one, which proves that crate, and tells that it did. What rt says is kept
-# below `logs`.
+# How many lines each crate of the tree has to be proved.
+line_counts() {
+  local folder
+  for folder in "$top"/crates/*; do
+    echo "${folder##*/} $(find "$folder" -name out -prune -o \( -name '*.rt' -o -name '*.antt' \) -exec cat {} + | wc -l)"
+  done
+}
+
+# Calls rt in a crate's folder below this one, with so much niceness, which proves that crate, and tells that it did.
+# What rt says is kept below `logs`.
 prove() {
-  (cd "$1/crates/$2" && exec rt "$3") >"$logs/$2" 2>&1 </dev/null
+  (cd "$1/crates/$2" && exec nice -n "$4" rt "$3") >"$logs/$2" 2>&1 </dev/null
   local status=$?
   if grep -q "^crate $2:" "$logs/$2"; then echo "$command: proved $2" >&2; fi
   return $status
@@ -48,15 +67,18 @@ lines_of() {
   awk -v names=" $* " 'split($0, words, /[ :]/) && index(names, " " words[1] " ")' "$top/crates.txt"
 }
 
-# Builds the library of the first crate named; the others are all that stand below it. Two runs of rt with a crate in
-# common wait for each other, so each has a tree of its own, of links to the files of this one. What it made comes back.
+# Builds the library of the first crate named, with so much niceness; the others are all that stand below it. Two runs
+# of rt with a crate in common wait for each other, so each has a tree of its own, of links to the files of this one.
+# What it made comes back.
 library() {
+  local niceness=$1
+  shift
   local tree=$beside/$1 name status
   # Bash lets what runs beside it ignore an interrupt.
   trap - INT
   mkdir -p "$tree/crates" && lines_of "$@" >"$tree/crates.txt" || return 1
   for name; do cp -al "$top/crates/$name" "$tree/crates" || return 1; done
-  prove "$tree" "$1" lib
+  prove "$tree" "$1" lib "$niceness"
   status=$?
   rm -rf "$top/crates/$1/out"
   [ ! -d "$tree/crates/$1/out" ] || mv "$tree/crates/$1/out" "$top/crates/$1" || status=1
@@ -64,25 +86,32 @@ library() {
   touch "$tree/done"
 }
 
-# Builds the libraries below the program: two for four processors, since a run of rt keeps two of them busy. Each begins
-# when those below it are there, and none behind one that failed.
+# How many libraries are built at once: a run of rt keeps two processors busy, and takes up to four gigabytes.
+most_at_once() {
+  local room
+  room=$(awk '/^MemAvailable:/ { print int($2 / 4e6) }' /proc/meminfo)
+  echo $((room < $(nproc) * 3 / 4 ? room : $(nproc) * 3 / 4))
+}
+
+# Builds the libraries below the program. Each begins when those below it are there, and none behind one that failed. It
+# leaves the processors to those before it in the order: the longest chain is what all waits for.
 libraries() {
-  local -A below=()
-  local waiting=() later name names one most=$(($(nproc) / 2)) running=0 status=0
-  while read -r name names; do waiting+=("$name") below[$name]=$names; done < <(crates_below)
+  local -A below=() begun=()
+  local order=() name names most running=0 status=0 niceness
+  most=$(most_at_once)
+  while read -r name names; do order+=("$name") below[$name]=$names; done < <(crates_below)
   while :; do
-    later=()
-    for name in "${waiting[@]}"; do
-      if { [ $running = 0 ] || [ $running -lt $most ]; } && are_there ${below[$name]}; then
-        library "$name" ${below[$name]} &
-        running=$((running + 1))
-      else
-        later+=("$name")
+    niceness=0
+    for name in "${order[@]}"; do
+      if [ -z "${begun[$name]-}" ]; then
+        { [ $running = 0 ] || [ $running -lt "$most" ]; } && are_there ${below[$name]} || continue
+        begun[$name]=yes running=$((running + 1))
+        library $niceness "$name" ${below[$name]} &
       fi
+      [ -e "$beside/$name/done" ] || niceness=10
     done
-    waiting=("${later[@]}")
     [ $running -gt 0 ] || return $status
-    wait -n || { status=1 waiting=(); }
+    wait -n || { status=1 order=(); }
     running=$((running - 1))
   done
 }
@@ -109,7 +138,7 @@ build() {
   libraries || exit 70
   rm -r "$beside"
   # Without words the program ends at once, by a status of its own.
-  prove "$top" "$crate" run
+  prove "$top" "$crate" run 0
   { [ -x "$program" ] && grep -q '^logic=proved' "$logs/$crate"; } || { tell_failure "$crate"; exit 70; }
   touch "$program"
   exec 9<&-

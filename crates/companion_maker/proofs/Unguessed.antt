@@ -1,8 +1,8 @@
 -- The plain companion is read, and joins with every trace whose processors it has: its first three lines and then one
 -- floor after another, each good after those before it.
-use Rattle.std.proofs.Common.{length-append, ◌≡◌, ℕ, ◌+◌, ◌<◌, ◌≤◌, Bool, true, false, ◌&&◌, List, [], ◌∷◌, ◌++◌}
+use Rattle.std.proofs.Common.{length-append, ◌≡◌, ℕ, ◌+◌, ◌<◌, Bool, true, false, ◌&&◌, List, [], ◌∷◌, ◌++◌}
 use Rattle.std.proofs.Common.{length, map, Some, None, Ok, refl, sym, ap, subst, ◌∙◌, inl, inr, arith, codes}
-use Rattle.std.specs.Prelude.{ℤ, pos, All, MatchOption, nat_lt, ◌==◌}
+use Rattle.std.specs.Prelude.{pos, All, MatchOption, nat_lt, ◌==◌}
 use Rattle.std.specs.List.{list_all}
 use Rattle.std.proofs.lemmas.Bool.{ltb-true, lt-ltb, eqb-true, eq-eqb, ne_eqb}
 use Rattle.std.proofs.lemmas.List.Elements.{All-nil}
@@ -11,15 +11,14 @@ use Rattle.cfs_model.specs.Limits.{most_processors}
 use Rattle.text_parts.specs.Lines.{lines_of, is_comment, IsComment}
 use Rattle.text_parts.specs.Numerals.{is_digit, value_of}
 use Rattle.companion_file.specs.Shape.{Shape, version_line, cpus_line, start_line, floor_line}
-use Rattle.companion_file.specs.Spelling.{spaced, IsNumber, IsInteger, IsSpelled, IsControlGroup}
-use Rattle.companion_file.specs.Earlier.{Said, summed, has_all_floors}
+use Rattle.companion_file.specs.Spelling.{IsNumber, IsSpelled, IsControlGroup}
+use Rattle.companion_file.specs.Earlier.{Said, summed}
 use Rattle.companion_file.specs.Tests.{fault_of, tested, IsJudged, IsJudgedFirst, IsJudgedLater}
-use Rattle.companion_file.specs.Draft.{with_line}
-use Rattle.companion_file.specs.Companion.{CompanionView, CompanionAnswer, AreGood, IsRead}
+use Rattle.companion_file.specs.Companion.{CompanionView, CompanionAnswer, AreGood}
 use Rattle.companion_file.proofs.Summing.{summed-push}
 use Rattle.sched_record.specs.Join.{GoTogether, BeginsInTime, IsInside}
 use Rattle.companion_maker.specs.Fitting.{ReadsAndJoins}
-use Rattle.companion_maker.specs.Unguessed.{floor_words, floor_text, plain_lines, unlined, plain}
+use Rattle.companion_maker.specs.Unguessed.{floor_words, floor_text, plain_lines, plain}
 
 split_plain : lines_of plain ≡ plain_lines
 unfolding lines_of plain

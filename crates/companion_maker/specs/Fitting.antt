@@ -1,5 +1,5 @@
 -- When the text of a companion fits a trace (this project's profile).
-use Rattle.std.specs.Prelude.{◌≡◌, ℕ, List, Ok}
+use Rattle.std.specs.Prelude.{ℕ, List, Ok}
 use Rattle.cfs_model.specs.declared.act.Entry.{Entry}
 use Rattle.cfs_model.specs.Limits.{most_processors}
 use Rattle.companion_file.specs.Companion.{CompanionView, CompanionAnswer}

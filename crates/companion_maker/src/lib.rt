@@ -2,16 +2,25 @@
 #![tactic(auto)]
 
 mod candidate;
+mod debug;
+mod draft;
+mod floors;
 mod forecast;
+mod known;
 mod machine;
 mod made;
 mod making;
 mod named;
 mod not_made;
 mod opening;
+mod outset;
 mod plain;
+mod printed;
+mod prints;
 mod processor;
+mod start;
 mod strategy;
+mod task_line;
 mod touching;
 mod values;
 mod wishes;

@@ -7,26 +7,39 @@ ghost use Rattle.sched_record.specs.Trace.{TraceAnswer};
 ghost use Rattle.sched_record.specs.Seen.{trace_view};
 ghost use Rattle.companion_maker.specs.Fitting.{ReadsAndJoins, IsNotMadeFor};
 
-use crate::candidate::{Candidate, Outset, better_candidate, candidate_of};
+use crate::debug::told_floors;
+use crate::draft::{Draft, better_draft, draft_of, kernel_draft};
+use crate::floors::Floors;
 use crate::forecast::Forecast;
+use crate::known::Known;
 use crate::made::{Guessed, Made};
 use crate::not_made::NotMade;
 use crate::opening::tasks_at_start;
+use crate::outset::Outset;
 use crate::plain::plain_text;
+use crate::prints::Prints;
 use crate::strategy::{STRATEGIES, Strategy};
 use crate::touching::processors_of;
 use crate::wishes::Wishes;
 use crate::writing::text_of;
 use cfs_model::{Entry, MOST_PROCESSORS, Memory};
 use companion_file::{CompanionFault, read_companion};
+use pid_table::PidHasher;
 use sched_record::{Trace, join, one_trace_answer, outside_line, read_trace};
 use std::alloc::Global;
 
 /// The strategy that mostly needs the least granularity.
 const MOSTLY_BEST: Strategy = Strategy::Picked;
 
-/// A companion for the text of a trace.
-pub fn companion_of_text(alloc: Global, text: &[u8], wishes: &Wishes) -> Result<Made, NotMade>
+/// A companion for the text of a trace, and for what `sched/debug` told when the trace was begun, where that is given.
+/// Pids are hashed by these keys.
+pub fn companion_of_text(
+    alloc: Global,
+    text: &[u8],
+    debug: Option<&[u8]>,
+    wishes: &Wishes,
+    hasher: PidHasher,
+) -> Result<Made, NotMade>
     // What is made is a companion, and joins with the trace.
     ensures fits { IfOk result (λ made. (events : List Event) × TraceAnswer text.now (Ok events)
         × ReadsAndJoins events made.text.items) }
@@ -41,13 +54,38 @@ pub fn companion_of_text(alloc: Global, text: &[u8], wishes: &Wishes) -> Result<
         × TraceAnswer text.now (Ok events) × IsFirstOutside most_processors events line }
 {
     one_trace_answer();
-    make_companion(alloc, read_trace(alloc, text)?, wishes)
+    let trace = read_trace(alloc, text)?;
+    let known = wanted_values(alloc, text, debug, trace.events(), wishes)?;
+    companion_of_trace(alloc, trace, known, wishes, hasher)
 }
 
-/// A companion for a trace. What was guessed is read back and joined with the trace; where that should fail, the
-/// companion is the plain one, which goes together with every trace.
+/// A companion for a trace, from its events alone. Pids are hashed by these keys.
+pub fn make_companion(
+    alloc: Global,
+    trace: Trace,
+    wishes: &Wishes,
+    hasher: PidHasher,
+) -> Result<Made, NotMade>
+    // What is made is a companion, and joins with the trace.
+    ensures fits { IfOk result (λ made. ReadsAndJoins (trace_view trace) made.text.items) }
+    // It is made for every trace whose processors a companion can have, unless a growth is refused.
+    ensures made { All (IsInside most_processors) (trace_view trace) → IfErr result (λ why. why ≡ NotMade.Memory) }
+    // Else it is said why: the first event that touches a processor which no companion has.
+    ensures outside { IfErr result (IsNotMadeFor (trace_view trace)) }
+{
+    companion_of_trace(alloc, trace, Known::nothing(alloc), wishes, hasher)
+}
+
+/// A companion for a trace of which this is known. What was found is read back and joined with the trace; where that
+/// should fail, the companion is the plain one, which goes together with every trace.
 #[tactic(auto, using(sched_record::proofs::OneRecord::none_outside))]
-pub fn make_companion(alloc: Global, trace: Trace, wishes: &Wishes) -> Result<Made, NotMade>
+fn companion_of_trace(
+    alloc: Global,
+    trace: Trace,
+    known: Known,
+    wishes: &Wishes,
+    hasher: PidHasher,
+) -> Result<Made, NotMade>
     // What is made is a companion, and joins with the trace.
     ensures fits { IfOk result (λ made. ReadsAndJoins (trace_view trace) made.text.items) }
     // It is made for every trace whose processors a companion can have, unless a growth is refused.
@@ -60,7 +98,7 @@ pub fn make_companion(alloc: Global, trace: Trace, wishes: &Wishes) -> Result<Ma
             line: u64::from(line),
         });
     }
-    let made = guessed_text(alloc, trace.events(), wishes)?;
+    let made = found_text(alloc, trace.events(), known, wishes, hasher)?;
     if go_together(alloc, trace, made.text.as_slice())? {
         Ok(made)
     } else {
@@ -69,6 +107,24 @@ pub fn make_companion(alloc: Global, trace: Trace, wishes: &Wishes) -> Result<Ma
             guess: None,
         })
     }
+}
+
+/// What the texts tell of the kernel's own values, where a companion is to be made by these.
+fn wanted_values(
+    alloc: Global,
+    text: &[u8],
+    debug: Option<&[u8]>,
+    events: &[Entry],
+    wishes: &Wishes,
+) -> Result<Known, Memory> {
+    if wishes.strategy != Some(Strategy::Kernel) {
+        return Ok(Known::nothing(alloc));
+    }
+    let floors = match debug {
+        Some(told) => told_floors(told),
+        None => Floors::unknown(),
+    };
+    Ok(Known::of(alloc, Prints::of(alloc, text, events)?, floors))
 }
 
 /// Whether the text is a companion that goes together with the trace.
@@ -82,41 +138,53 @@ fn go_together(alloc: Global, trace: Trace, text: &[u8]) -> Result<bool, Memory>
     }
 }
 
-/// The companion that the strategies find.
-fn guessed_text(alloc: Global, events: &[Entry], wishes: &Wishes) -> Result<Made, Memory> {
+/// The companion that the kernel's own values tell, or that the strategies find.
+fn found_text(
+    alloc: Global,
+    events: &[Entry],
+    known: Known,
+    wishes: &Wishes,
+    hasher: PidHasher,
+) -> Result<Made, Memory> {
     let outset = Outset {
         cpus: processors_of(events),
         start: events.first().map_or(0, |event| event.time),
         tasks: tasks_at_start(alloc, events)?,
         forecast: Forecast::of(alloc, events)?,
+        hasher,
     };
-    let candidate = best_of(alloc, &outset, events, wishes)?;
+    let draft = if known.prints().is_empty() {
+        best_of(alloc, &outset, events, wishes)?
+    } else {
+        kernel_draft(alloc, &outset, events, wishes, known)?
+    };
     Ok(Made {
-        text: text_of(alloc, &outset, &candidate)?,
+        text: text_of(alloc, &outset, &draft)?,
         guess: Some(Guessed {
-            strategy: candidate.strategy,
-            granularity: candidate.granularity,
+            strategy: draft.candidate.strategy,
+            granularity: draft.candidate.granularity,
         }),
     })
 }
 
-/// What the wanted strategy makes; where none is named, what needs the least granularity.
+/// What the wanted strategy makes; where none of those that guess is named, what needs the least granularity.
 fn best_of(
     alloc: Global,
     outset: &Outset,
     events: &[Entry],
     wishes: &Wishes,
-) -> Result<Candidate, Memory> {
-    if let Some(strategy) = wishes.strategy {
-        return candidate_of(alloc, outset, events, wishes, strategy);
+) -> Result<Draft, Memory> {
+    match wishes.strategy {
+        None | Some(Strategy::Kernel) => (),
+        Some(strategy) => return draft_of(alloc, outset, events, wishes, strategy),
     }
     // It goes first, so that the others are soon given up.
-    let mut best = candidate_of(alloc, outset, events, wishes, MOSTLY_BEST)?;
+    let mut best = draft_of(alloc, outset, events, wishes, MOSTLY_BEST)?;
     for strategy in STRATEGIES {
         if *strategy == MOSTLY_BEST {
             continue;
         }
-        if let Some(better) = better_candidate(alloc, outset, events, wishes, *strategy, &best)? {
+        if let Some(better) = better_draft(alloc, outset, events, wishes, *strategy, &best)? {
             best = better;
         }
     }

@@ -1,4 +1,5 @@
 use cfs_model::{Claim, Memory, Place, Task, Way};
+use pid_table::PidHasher;
 use runqueue::{Runqueue, SchedEntity};
 use std::alloc::Global;
 
@@ -12,9 +13,9 @@ pub(crate) struct Processor {
 
 impl Processor {
     /// Nobody stands there.
-    pub(crate) fn new(alloc: Global, start: u64) -> Processor {
+    pub(crate) fn new(alloc: Global, hasher: PidHasher, floor: i64, start: u64) -> Processor {
         Processor {
-            queue: Runqueue::empty(alloc, 0, start),
+            queue: Runqueue::empty(alloc, hasher, floor, start),
             free_line: 0,
         }
     }

@@ -10,9 +10,11 @@ pub enum Strategy {
     Picked,
     /// As near as may be to the least who waits, where it is the next to be picked at its processor, else as high.
     Level,
+    /// As the kernel placed it, where the trace prints what it charged. Else the best of the others is taken.
+    Kernel,
 }
 
-/// All strategies, in their order.
+/// The strategies that guess, in their order.
 pub const STRATEGIES: &[Strategy] = &[
     Strategy::Low,
     Strategy::High,
@@ -28,6 +30,7 @@ impl Strategy {
             Strategy::High => "high",
             Strategy::Picked => "picked",
             Strategy::Level => "level",
+            Strategy::Kernel => "kernel",
         }
     }
 
@@ -38,6 +41,7 @@ impl Strategy {
             "high" => Some(Strategy::High),
             "picked" => Some(Strategy::Picked),
             "level" => Some(Strategy::Level),
+            "kernel" => Some(Strategy::Kernel),
             _ => None,
         }
     }

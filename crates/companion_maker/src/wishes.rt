@@ -4,9 +4,9 @@ use cfs_model::{Knobs, Setting};
 /// What a companion is made by.
 #[derive(Clone, Copy, Debug, PartialEq, Eq)]
 pub struct Wishes {
-    /// The settings within whose bounds tasks are placed.
+    /// The settings within whose bounds tasks are placed, where it is guessed where.
     pub knobs: Knobs,
-    /// The one strategy to follow. None for the one that needs the least granularity.
+    /// The one strategy to follow. None for that of the guesses which needs the least granularity.
     pub strategy: Option<Strategy>,
 }
 

@@ -27,7 +27,7 @@ impl Processor {
         if cpu >= record.cpus() {
             return Ok(Processor {
                 cpu,
-                queue: Runqueue::empty(alloc, 0, record.start()),
+                queue: Runqueue::empty(alloc, hasher, 0, record.start()),
                 since: None,
             });
         }

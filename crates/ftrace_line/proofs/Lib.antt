@@ -6,3 +6,4 @@ pub mod Labels
 pub mod OneReading
 pub mod Answered
 pub mod Shapes
+pub mod Fronts

@@ -3,3 +3,4 @@ pub mod Line
 pub mod Seen
 pub mod Front
 pub mod Meaning
+pub mod Usual

@@ -56,7 +56,7 @@ pub(crate) fn after_name(line: &[u8]) -> Option<&[u8]>
 /// What follows the column of thread groups, where it is there.
 #[inline(always)]
 #[tactic(auto, unfolding(crate::specs::Meaning::after_group))]
-fn after_group(text: &[u8]) -> Option<&[u8]>
+pub(crate) fn after_group(text: &[u8]) -> Option<&[u8]>
     ensures { Gives (λ x. x.now) result (after_group text.now) }
 {
     match after_brackets(text) {
@@ -100,7 +100,7 @@ fn group_width(text: &[u8]) -> usize
 /// The processor in its square brackets, and what follows them. It has three digits or more.
 #[inline(always)]
 #[tactic(auto, unfolding(crate::specs::Meaning::processor_at))]
-fn processor_at(text: &[u8]) -> Option<(u64, &[u8])>
+pub(crate) fn processor_at(text: &[u8]) -> Option<(u64, &[u8])>
     ensures { Gives (λ x. (x.0, x.1.now)) result (processor_at text.now) }
 {
     let number = number_at(after_byte(text, b'[')?);
@@ -126,7 +126,7 @@ fn clock_at(text: &[u8]) -> Option<(Time, &[u8])>
 /// A time with its colon and space, and what follows them.
 #[inline(always)]
 #[tactic(auto, unfolding(crate::specs::Meaning::stamp_at))]
-fn stamp_at(text: &[u8]) -> Option<(Time, &[u8])>
+pub(crate) fn stamp_at(text: &[u8]) -> Option<(Time, &[u8])>
     ensures { Gives (λ x. (x.0.seconds, x.0.nanoseconds, x.1.now)) result (stamp_at text.now) }
 {
     let (time, rest) = time_at(text)?;

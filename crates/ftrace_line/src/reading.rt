@@ -90,7 +90,7 @@ fn after_count(text: &[u8]) -> Option<&[u8]>
 /// Which of the four events a text is.
 #[inline(always)]
 #[tactic(auto, unfolding(crate::specs::Meaning::kind_at))]
-fn kind_of(text: &[u8]) -> Option<Which>
+pub(crate) fn kind_of(text: &[u8]) -> Option<Which>
     ensures { result ≡ kind_at text.now }
 {
     if begins_with(text, b"sched_switch: ") {
@@ -110,7 +110,7 @@ fn kind_of(text: &[u8]) -> Option<Which>
 
 /// The fields of an event: what stands behind its label.
 #[inline(always)]
-fn fields_of(which: Which, text: &[u8]) -> &[u8]
+pub(crate) fn fields_of(which: Which, text: &[u8]) -> &[u8]
     requires { length (label_of which) ≤ length text.now }
     ensures { result.now ≡ fields_of which text.now }
 {

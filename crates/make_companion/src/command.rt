@@ -12,6 +12,8 @@ use std::convert::AsStr;
 pub(crate) struct Request<'a> {
     /// The name of the trace's file, as given.
     pub trace: &'a str,
+    /// The name of a file as `sched/debug` of debugfs, as given.
+    pub debug: Option<&'a str>,
     pub wishes: Wishes,
 }
 
@@ -26,7 +28,7 @@ pub(crate) fn command_line<'a, S: AsStr>(
         Some(request) => Ok(request),
         None => Err(command.error(
             ErrorKind::ValueValidation,
-            "a strategy is one of best, low, high, picked and level",
+            "a strategy is one of kernel, best, low, high, picked and level",
         )?),
     }
 }
@@ -46,8 +48,14 @@ fn command<'a>(alloc: Global) -> Result<Command<'a>, AllocError> {
                 .long("strategy")
                 .value_name("NAME")
                 .help(
-                    "How tasks are placed: low, high, picked, level, or best, which tries all [default: best]",
+                    "How tasks are placed: kernel, or by guess: low, high, picked, level, best [default: kernel]",
                 ),
+        )?
+        .arg(
+            Arg::new(alloc, "debug")
+                .long("debug")
+                .value_name("FILE")
+                .help("What sched/debug told when the recording began: the floors at the start"),
         )?;
     with_settings(alloc, named)
 }
@@ -75,11 +83,13 @@ fn option_of(alloc: Global, setting: Setting) -> Arg<'static> {
 /// The name and the wishes that the values are; None where one has no sense.
 fn request_of<'a>(matches: &ArgMatches<'a>) -> Option<Request<'a>> {
     let strategy = match matches.get_str("strategy") {
-        None | Some("best") => None,
+        None => Some(Strategy::Kernel),
+        Some("best") => None,
         Some(name) => Some(Strategy::of_name(name)?),
     };
     Some(Request {
         trace: matches.get_str("TRACE")?,
+        debug: matches.get_str("debug"),
         wishes: Wishes {
             knobs: knobs_of(matches)?,
             strategy,

@@ -10,6 +10,8 @@ pub enum Ending {
     Refused,
     /// The trace couldn't be read.
     Unread,
+    /// The file of `--debug` couldn't be read.
+    DebugUnread,
     /// The companion couldn't be written.
     Unwritten,
     /// A growth was refused.
@@ -26,7 +28,7 @@ impl Ending {
         match self {
             Ending::Told => 0,
             Ending::Refused => 2,
-            Ending::Unread | Ending::Unwritten => 3,
+            Ending::Unread | Ending::DebugUnread | Ending::Unwritten => 3,
             Ending::Memory => 4,
             Ending::Misused => 5,
         }
@@ -37,6 +39,7 @@ impl Ending {
         match self {
             Ending::Told | Ending::Refused | Ending::Misused => None,
             Ending::Unread => Some("cannot read the trace"),
+            Ending::DebugUnread => Some("cannot read the file of --debug"),
             Ending::Unwritten => Some("cannot write the companion"),
             Ending::Memory => Some("out of memory"),
         }

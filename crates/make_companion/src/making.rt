@@ -1,16 +1,21 @@
 use crate::cause_word::CauseWord;
-use crate::command::command_line;
+use crate::command::{Request, command_line};
 use crate::ending::Ending;
 use clap::Error;
 use clap::error::ErrorKind::OutOfMemory;
 use companion_maker::{NotMade, Wishes, companion_of_text};
+use pid_table::PidHasher;
 use std::alloc::Global;
 use std::io::{ErrorKind, Write};
+use std::random::RandomSource;
 use std::rt::{Env, Files};
 use std::{env, fs, io};
 
 /// Does what the command line says.
-pub fn obey<R: Env + Files + Print + Eprint + AllocGlobal>(rt: &R, alloc: Global) -> Ending {
+pub fn obey<R: Env + Files + Print + Eprint + RandomSource + AllocGlobal>(
+    rt: &R,
+    alloc: Global,
+) -> Ending {
     let words = match words_of(rt, alloc) {
         Ok(words) => words,
         Err(error) if error.kind() == ErrorKind::OutOfMemory => return Ending::Memory,
@@ -20,7 +25,7 @@ pub fn obey<R: Env + Files + Print + Eprint + AllocGlobal>(rt: &R, alloc: Global
         }
     };
     match command_line(alloc, words.as_slice()) {
-        Ok(request) => make(rt, alloc, request.trace, &request.wishes),
+        Ok(request) => make(rt, alloc, &request),
         Err(error) => tell(rt, &error),
     }
 }
@@ -31,18 +36,41 @@ fn words_of<R: Env + AllocGlobal>(rt: &R, alloc: Global) -> io::Result<Vec<Strin
 }
 
 /// Makes the companion, and writes it to standard output.
-fn make<R: Files + Print + Eprint + AllocGlobal>(
+fn make<R: Files + Print + Eprint + RandomSource + AllocGlobal>(
     rt: &R,
     alloc: Global,
-    trace: &str,
-    wishes: &Wishes,
+    request: &Request<'_>,
 ) -> Ending {
-    let text = match fs::read(rt, trace) {
+    let text = match fs::read(rt, request.trace) {
         Ok(text) => text,
         Err(error) if error.kind() == ErrorKind::OutOfMemory => return Ending::Memory,
         Err(_) => return Ending::Unread,
     };
-    match companion_of_text(alloc, text.as_slice(), wishes) {
+    let Some(name) = request.debug else {
+        return write_companion(rt, alloc, text.as_slice(), None, &request.wishes);
+    };
+    match fs::read(rt, name) {
+        Ok(debug) => write_companion(
+            rt,
+            alloc,
+            text.as_slice(),
+            Some(debug.as_slice()),
+            &request.wishes,
+        ),
+        Err(error) if error.kind() == ErrorKind::OutOfMemory => Ending::Memory,
+        Err(_) => Ending::DebugUnread,
+    }
+}
+
+/// Writes the companion for these texts to standard output.
+fn write_companion<R: Print + Eprint + RandomSource + AllocGlobal>(
+    rt: &R,
+    alloc: Global,
+    text: &[u8],
+    debug: Option<&[u8]>,
+    wishes: &Wishes,
+) -> Ending {
+    match companion_of_text(alloc, text, debug, wishes, PidHasher::random(rt)) {
         Ok(made) => {
             if made.guess.is_none() {
                 let _ = eprintln!(rt;

@@ -2,13 +2,13 @@ ghost use Rattle.std.specs.Prelude.{◌≡◌, length};
 ghost use Rattle.replay_model.specs.Page.{IsPageOf};
 ghost use Rattle.queue_replay.specs.Made.{reached_of};
 ghost use Rattle.queue_replay.specs.Needing.{HasNeeds};
-ghost use Rattle.sched_record.specs.Stream.{stream_view};
+ghost use Rattle.processor_stream.specs.Stream.{stream_view};
 
 use crate::found::Found;
 use crate::tag::{Reached, Tag};
 use cfs_model::{Amounts, Knobs};
+use processor_stream::Stream;
 use replay_model::{LifeEvent, StepFault, Tally, Ticket};
-use sched_record::Stream;
 use std::marker::Model;
 
 /// What the replay of one processor found, by its first steps.
@@ -26,7 +26,7 @@ impl Model for Page {
     ghost use Rattle.queue_replay.specs.Needing.{HasNeeds};
     ghost use Rattle.queue_replay.specs.Replay.{ReplayView};
     ghost use Rattle.replay_model.specs.Page.{IsPageOf};
-    ghost use Rattle.sched_record.specs.Stream.{stream_view};
+    ghost use Rattle.processor_stream.specs.Stream.{stream_view};
 
     ghost Value = { ReplayView };
 

@@ -76,8 +76,9 @@ impl PageDraft {
         Ok(())
     }
 
-    /// Adds a stretch of the runner, if there is one, to its tally. Each tally is that of at most so many steps.
-    pub fn note_stretch(&mut self, stretch: Option<Stretch>, steps: usize)
+    /// Adds a stretch of the runner, if there is one, to its tally, which is expected at an index. Each tally is that
+    /// of at most so many steps.
+    pub fn note_stretch(&mut self, stretch: Option<Stretch>, expected: usize, steps: usize)
         requires few { steps < 2 ^ 64 - 1 }
         requires within { All (IsWithin steps) self.old.tallies.table.rows }
         ensures tallies { self.new.tallies.table.rows ≡ stretched stretch self.old.tallies.table.rows }
@@ -87,13 +88,13 @@ impl PageDraft {
             × (self.new.deaths ≡ self.old.deaths) }
     {
         if let Some(stretch) = stretch {
-            self.tallies.add_stretch(stretch, steps);
+            self.tallies.add_stretch(stretch, expected, steps);
         }
     }
 
-    /// Notes a step that passed, with its ticket if it has one. Takes no memory. Each tally is that of at most so many
-    /// steps.
-    pub fn note(&mut self, step: &Step, ticket: Option<Ticket>, steps: usize)
+    /// Notes a step that passed, with its ticket if it has one. Takes no memory. The tally of who then runs is expected
+    /// at an index. Each tally is that of at most so many steps.
+    pub fn note(&mut self, step: &Step, ticket: Option<Ticket>, expected: usize, steps: usize)
         requires room { HasDraftRoom step.now.deed self.old }
         requires few { steps < 2 ^ 64 - 1 }
         requires within { All (λ tally. tally.picks ≤ steps) self.old.tallies.table.rows }
@@ -116,7 +117,7 @@ impl PageDraft {
             } => {
                 self.note_end(step.line, prev, way);
                 if next != IDLE_PID {
-                    self.tallies.add_pick(next, steps);
+                    self.tallies.add_pick(next, expected, steps);
                 }
             }
             Deed::Wake { .. } => {}

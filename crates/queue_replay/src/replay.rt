@@ -4,7 +4,7 @@ ghost use Rattle.queue_replay.specs.Counting.{page_draft_view};
 ghost use Rattle.queue_replay.specs.Made.{IsAt, IsCut, IsPartAfter, GoesOn, state_of};
 ghost use Rattle.replay_model.specs.Part.{Part};
 ghost use Rattle.runqueue.specs.Queue.{runqueue_view};
-ghost use Rattle.sched_record.specs.Stream.{stream_view};
+ghost use Rattle.processor_stream.specs.Stream.{stream_view};
 
 use crate::page::Page;
 use crate::replay_state::ReplayState;
@@ -12,8 +12,8 @@ use crate::running::{make_steps, start};
 use crate::state::State;
 use cfs_model::{Knobs, Memory};
 use pid_table::PidHasher;
+use processor_stream::Stream;
 use runqueue::Runqueue;
-use sched_record::Stream;
 use std::alloc::Global;
 use std::marker::Model;
 
@@ -29,7 +29,7 @@ impl Model for Replay {
     ghost use Rattle.queue_replay.specs.Counting.{page_draft_view};
     ghost use Rattle.queue_replay.specs.Made.{IsAt};
     ghost use Rattle.queue_replay.specs.Replay.{ReplayView};
-    ghost use Rattle.sched_record.specs.Stream.{stream_view};
+    ghost use Rattle.processor_stream.specs.Stream.{stream_view};
 
     ghost Value = { ReplayView };
 

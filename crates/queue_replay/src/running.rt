@@ -6,7 +6,7 @@ ghost use Rattle.queue_replay.specs.Counting.{page_draft_view};
 ghost use Rattle.queue_replay.specs.ReplayState.{IsGoing, replay_state_view};
 ghost use Rattle.queue_replay.specs.Made.{IsAt, IsCut, GoesOn};
 ghost use Rattle.runqueue.specs.Queue.{runqueue_view};
-ghost use Rattle.sched_record.specs.Stream.{stream_view};
+ghost use Rattle.processor_stream.specs.Stream.{stream_view};
 
 use crate::needs::raise_slack;
 use crate::page_draft::PageDraft;
@@ -14,9 +14,9 @@ use crate::replay_state::{ReplayState, idle_deadline, idled_time, since_after};
 use crate::tally_book::TallyBook;
 use cfs_model::{Amounts, IDLE_PID, Kind, Knobs, Memory, NO_LINE};
 use pid_table::PidHasher;
+use processor_stream::Stream;
 use replay_model::StepFault;
 use runqueue::Runqueue;
-use sched_record::Stream;
 use std::alloc::Global;
 
 /// Makes so many steps at most.
@@ -123,7 +123,13 @@ fn before_steps(alloc: Global, stream: &Stream, hasher: PidHasher) -> Result<Rep
     ensures going { IfOk result IsGoing }
     ensures needs { IfOk result (λ state. state.needs ≡ only_slack 0) }
 {
-    let queue = Runqueue::of_tasks(alloc, stream.tasks(), stream.floor(), stream.start())?;
+    let queue = Runqueue::of_tasks(
+        alloc,
+        hasher,
+        stream.tasks(),
+        stream.floor(),
+        stream.start(),
+    )?;
     Ok(ReplayState {
         made: 0,
         since: since_after(None, stream.start(), &queue),

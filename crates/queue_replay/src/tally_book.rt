@@ -18,8 +18,6 @@ use std::alloc::Global;
 pub struct TallyBook {
     /// One for each pid, in the order in which they were named.
     pub table: PidTable<Tally>,
-    /// Where the tally was that was written last: who runs is asked for again at each step.
-    recent: usize,
     pub ghost own: { AreOwn table } by { AreOwn-prop table },
 }
 
@@ -46,7 +44,6 @@ impl TallyBook {
     {
         TallyBook {
             table: PidTable::new(alloc, hasher),
-            recent: 0,
         }
     }
 
@@ -83,10 +80,20 @@ impl TallyBook {
         ensures none { result ≡ None → All (λ tally. tally.pid ≢ pid) self.now.table.rows }
         ensures apart { AreApart self.now.table.rows }
     {
-        if self.is_at(self.recent, pid) {
-            return Some(self.recent);
-        }
         self.table.index_of(pid)
+    }
+
+    /// The same, where the tally is expected at an index: it is looked at before the table is asked.
+    fn index_from(&self, expected: usize, pid: u32) -> Option<usize>
+        ensures found { (index : ℕ) → result ≡ Some index → (index < length self.now.table.rows)
+            × ((d : TallyOf) → (get_or self.now.table.rows index d).pid ≡ pid) }
+        ensures none { result ≡ None → All (λ tally. tally.pid ≢ pid) self.now.table.rows }
+        ensures apart { AreApart self.now.table.rows }
+    {
+        if self.is_at(expected, pid) {
+            return Some(expected);
+        }
+        self.index_of(pid)
     }
 
     /// Whether the tally at this index is that of the pid.
@@ -110,29 +117,29 @@ impl TallyBook {
         }
     }
 
-    /// Adds a stretch of running to the tally of its task. Each tally is that of at most so many steps.
-    pub(crate) fn add_stretch(&mut self, stretch: Stretch, steps: usize)
+    /// Adds a stretch of running to the tally of its task, which is expected at an index. Each tally is that of at most
+    /// so many steps.
+    pub(crate) fn add_stretch(&mut self, stretch: Stretch, expected: usize, steps: usize)
         requires few { steps < 2 ^ 64 - 1 }
         requires within { All (IsWithin steps) self.old.table.rows }
         ensures tallies { self.new.table.rows
             ≡ map (ran_tally stretch.pid stretch.time stretch.cost) self.old.table.rows }
         ensures room { self.new.table.room ≡ self.old.table.room }
     {
-        if let Some(index) = self.index_of(stretch.pid) {
+        if let Some(index) = self.index_from(expected, stretch.pid) {
             add_run(self.table.row_mut(index), stretch);
-            self.recent = index;
         }
     }
 
-    /// Adds a switch to the tally of the pid. Each tally is that of at most so many steps.
-    pub(crate) fn add_pick(&mut self, pid: u32, steps: usize)
+    /// Adds a switch to the tally of the pid, which is expected at an index. Each tally is that of at most so many
+    /// steps.
+    pub(crate) fn add_pick(&mut self, pid: u32, expected: usize, steps: usize)
         requires few { steps < 2 ^ 64 - 1 }
         requires within { All (λ tally. tally.picks ≤ steps) self.old.table.rows }
         ensures { self.new.table.rows ≡ map (picked_tally pid) self.old.table.rows }
     {
-        if let Some(index) = self.index_of(pid) {
+        if let Some(index) = self.index_from(expected, pid) {
             pick(self.table.row_mut(index), pid);
-            self.recent = index;
         }
     }
 }

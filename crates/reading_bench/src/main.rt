@@ -1,5 +1,5 @@
-//! Times the readers on a file, `reading_bench events|trace|trace_wide|companion|companion_wide FILE ROUNDS`, and the
-//! audit of a recording, by stages and whole, in one thread and in several, `reading_bench stages TRACE COMPANION
+//! Times the readers on a file, `reading_bench events|usual|trace|trace_wide|companion|companion_wide FILE ROUNDS`, and
+//! the audit of a recording, by stages and whole, in one thread and in several, `reading_bench stages TRACE COMPANION
 //! ROUNDS`; and the naming of the pids of a trace's births, by two hashes, `reading_bench naming TRACE ROUNDS`.
 #![tactic(auto)]
 

@@ -1,15 +1,18 @@
 use companion_file::{Companion, CompanionFault, read_companion, read_companion_wide};
 use ftrace_line::{Line, read_line};
-use sched_event::{Event, read_event};
+use sched_event::{Event, UsualEvent, read_event, usual_line};
 use sched_record::{Trace, TraceFault, read_trace, read_trace_wide};
 use std::thread::Threads;
-use text_parts::lines::next_line;
+use text_parts::lines::{is_comment, next_line};
 
 /// What a reading found, so that none of it can be left out.
 #[derive(Clone, Copy, Debug, PartialEq, Eq)]
 pub enum Found {
     /// How many events there are, and a sum over them.
     Events { count: u64, sum: u64 },
+    /// How many lines have the usual form, how many others are no comments, which the reader of all lines reads, and a
+    /// sum over the events of the former.
+    Usual { lines: u64, others: u64, sum: u64 },
     /// How many events or claims a record keeps.
     Kept { count: usize },
     /// The text is refused, or memory ran out.
@@ -20,6 +23,7 @@ pub enum Found {
 pub fn found_by<R: AllocGlobal + Threads + Sync>(rt: &R, what: &str, text: &[u8]) -> Option<Found> {
     match what {
         "events" => Some(events_of(text)),
+        "usual" => Some(usual_of(text)),
         "trace" => Some(kept(read_trace(rt.alloc(), text))),
         "trace_wide" => Some(kept(read_trace_wide(rt, rt.alloc(), text))),
         "companion" => Some(claims_kept(read_companion(rt.alloc(), text))),
@@ -55,6 +59,46 @@ fn events_of(text: &[u8]) -> Found {
         rest = after;
     }
     Found::Events { count, sum }
+}
+
+/// What a usual line at the front of a text adds to the sum; none where the line has another form.
+fn usual_part(text: &[u8]) -> Option<u64> {
+    match usual_line(text) {
+        Some(usual) => Some(part_of(usual.event)),
+        None => None,
+    }
+}
+
+/// What an event that was told by its line's usual form adds to the sum.
+fn part_of(event: Option<UsualEvent>) -> u64 {
+    match event {
+        Some(event) => event.time ^ u64::from(event.act.home()),
+        None => 0,
+    }
+}
+
+/// Counts the lines of the usual form, and those of another that are no comments.
+fn usual_of(text: &[u8]) -> Found {
+    let mut lines = 0u64;
+    let mut others = 0u64;
+    let mut sum = 0u64;
+    let mut rest = text;
+    while !rest.is_empty() {
+        let (line, after) = next_line(rest);
+        match usual_part(rest) {
+            Some(part) => {
+                lines = lines.wrapping_add(1);
+                sum = sum.wrapping_add(part);
+            }
+            None => {
+                if !is_comment(line) {
+                    others = others.wrapping_add(1);
+                }
+            }
+        }
+        rest = after;
+    }
+    Found::Usual { lines, others, sum }
 }
 
 /// How much a trace that was read keeps.

@@ -16,3 +16,5 @@ mod events;
 mod idle_lines;
 #[cfg(test)]
 mod lines;
+#[cfg(test)]
+mod usual_lines;

@@ -1,10 +1,8 @@
 -- What one more task makes of the runqueue, and of the part that it stands for.
 use Rattle.std.proofs.Common.{◌≡◌, ◌≢◌, ℕ, true, Option, Some, None, is_some, option_map, ℤ, inl, inr, refl, sym, ap}
-use Rattle.std.proofs.Common.{◌∙◌, subst}
-use Rattle.std.specs.BTreeMap.{BTreeMap, get, Updates}
+use Rattle.std.proofs.Common.{◌∙◌, subst, Result, Ok, Err, OnErr}
 use Rattle.std.specs.BTreeSet as set
 use Rattle.std.specs.BTreeSet.{BTreeSet}
-use Rattle.std.specs.Ordering.{nat_cmp}
 use Rattle.std.proofs.lemmas.Bool.{cases_eq}
 use Rattle.std.proofs.lemmas.Option.{same_Some}
 use Rattle.replay_model.specs.Deeds.{with_entity}
@@ -13,12 +11,13 @@ use Rattle.cfs_model.specs.declared.task.Place.{Place}
 use Rattle.cfs_model.specs.declared.task.Place.TheVariants.{Run, Wait, Rest}
 use Rattle.runqueue.specs.declared.sched_entity.SchedEntity.{SchedEntity}
 use Rattle.runqueue.specs.Entities.{by_runtime, listed, entities, runtime_if, waiting_runtime, IsQueue, waiting_task}
+use Rattle.runqueue.specs.TaskRows.{TaskRows, Writes}
 use Rattle.runqueue.specs.declared.waiting_task.WaitingTask.{WaitingTask}
 use Rattle.runqueue.specs.Tasks.{entity_of}
 use Rattle.runqueue.proofs.Parts.{part_with, its_place, same_tasks, put-at, put-under}
 use Rattle.runqueue.proofs.EntitiesKept.{queue_is, waiting_in, only_in, listed_in, listed_some, listed_kept}
 use Rattle.runqueue.proofs.EntitiesKept.{runner_apart}
-use Rattle.runqueue.proofs.EntitiesKept.{entities_listed, map_at, map_other, rewritten, joins, stays, only_kept}
+use Rattle.runqueue.proofs.EntitiesKept.{map_at, map_other, rewritten, joins, stays, only_kept}
 use Rattle.runqueue.proofs.EntitiesKept.{only_comes}
 use Rattle.runqueue.proofs.Moved.{kept_runner}
 
@@ -32,11 +31,16 @@ wait_run e = cc
 rest_run : Rest ≢ Run
 rest_run e = cc
 
+-- what holds anyhow holds where there is an error
+pub on_err : {T E : Type 0} (r : Result T E) (X : Type 0) → X → OnErr r X
+on_err (Ok x) X h = tt
+on_err (Err e) X h = h
+
 -- one more stands here
-module _ (runner : Option SchedEntity) (m n : BTreeMap ℕ SchedEntity) (a : BTreeSet WaitingTask) (kept : IsQueue
+module _ (runner : Option SchedEntity) (m n : TaskRows) (a : BTreeSet WaitingTask) (kept : IsQueue
     runner m a)
     (t : SchedEntity)
-    (none : entities runner m t.pid ≡ None) (u : Updates nat_cmp m n t.pid (Some t)) where
+    (none : entities runner m t.pid ≡ None) (u : Writes m n t.pid (Some t)) where
   apart_new : (x : SchedEntity) → runner ≡ Some x → x.pid ≢ t.pid
   apart_new = runner_apart runner m a kept t.pid (λ e. let f : None ≡ Some Run = sym (ap its_place none) ∙ e in cc)
 
@@ -69,25 +73,10 @@ module _ (runner : Option SchedEntity) (m n : BTreeMap ℕ SchedEntity) (a : BTr
   come_part floor mark = same_tasks (entities runner n) (put (entities runner m) t.pid (Some (entity_of t))) floor mark
       (rewritten runner m n t.pid (Some t) u apart_new)
 
-  -- taken out again, the map is as it was
-  pub come_undone : (o : BTreeMap ℕ SchedEntity) → Updates nat_cmp n o t.pid None → (q : ℕ) → get nat_cmp o q
-      ≡ get nat_cmp m q
-  come_undone o v q =
-      elim (cases_eq q t.pid) [
-        | inl same ↦ ap (get nat_cmp o) same ∙ map_at n o t.pid None v
-            ∙ sym (go (get nat_cmp m t.pid) (sym (entities_listed runner m t.pid apart_new) ∙ none))
-            ∙ ap (get nat_cmp m) (sym same)
-        | inr other ↦ map_other n o t.pid None v q other ∙ map_other m n t.pid (Some t) u q other
-      ]
-    where
-      go : (x : Option SchedEntity) → option_map entity_of x ≡ None → x ≡ None
-      go None e = refl
-      go (Some y) e = cc
-
 -- one more runs here
-module _ (m n : BTreeMap ℕ SchedEntity) (a : BTreeSet WaitingTask) (kept : IsQueue None m a) (t : SchedEntity)
+module _ (m n : TaskRows) (a : BTreeSet WaitingTask) (kept : IsQueue None m a) (t : SchedEntity)
     (none : listed m t.pid ≡ None)
-    (u : Updates nat_cmp m n t.pid (Some t)) where
+    (u : Writes m n t.pid (Some t)) where
   run_is : (q : ℕ) → entities (Some t) n q ≡ put (listed m) t.pid (Some (entity_of t)) q
   run_is q =
       elim (cases_eq q t.pid) [
@@ -110,18 +99,18 @@ module _ (m n : BTreeMap ℕ SchedEntity) (a : BTreeSet WaitingTask) (kept : IsQ
   run_part floor mark = same_tasks (entities (Some t) n) (put (listed m) t.pid (Some (entity_of t))) floor mark run_is
 
 -- the same, where it is told by an equation that nobody ran
-pub come_runs_alone : (runner : Option SchedEntity) (m n : BTreeMap ℕ SchedEntity) (a : BTreeSet WaitingTask)
+pub come_runs_alone : (runner : Option SchedEntity) (m n : TaskRows) (a : BTreeSet WaitingTask)
     → IsQueue runner m a
     → runner ≡ None → (t : SchedEntity)
-    → entities runner m t.pid ≡ None → Updates nat_cmp m n t.pid (Some t) → t.place ≡ Run → IsQueue (Some t) n a
+    → entities runner m t.pid ≡ None → Writes m n t.pid (Some t) → t.place ≡ Run → IsQueue (Some t) n a
 come_runs_alone runner m n a kept e t none u runs =
     come_runs m n a (kept_runner runner m a None kept e) t
     (subst (λ (r : Option SchedEntity). entities r m t.pid ≡ None) e none) u runs
 
-pub run_part_alone : (runner : Option SchedEntity) (m n : BTreeMap ℕ SchedEntity) (a : BTreeSet WaitingTask)
+pub run_part_alone : (runner : Option SchedEntity) (m n : TaskRows) (a : BTreeSet WaitingTask)
     → IsQueue runner m a
     → runner ≡ None → (t : SchedEntity)
-    → entities runner m t.pid ≡ None → Updates nat_cmp m n t.pid (Some t) → (floor : ℤ) (mark : ℕ)
+    → entities runner m t.pid ≡ None → Writes m n t.pid (Some t) → (floor : ℤ) (mark : ℕ)
     → part_with (entities (Some t) n) floor mark ≡ with_entity (part_with (entities runner m) floor mark) t.pid
     (Some (entity_of t))
 run_part_alone runner m n a kept e t none u floor mark =

@@ -1,7 +1,6 @@
 -- What an entry that is written or taken out makes of who stands, and of those who wait.
 use Rattle.std.proofs.Common.{◌≡◌, ◌≢◌, ◌↔◌, ℕ, Bool, true, false, IsTrue, IsSome, Option, Some, None, option_map, ℤ}
 use Rattle.std.proofs.Common.{pos, ◌≤ℤ◌, ◌<ℤ◌, ◌⊎◌, inl, inr, refl, sym, ap, ◌∙◌, subst, true≢false, arith}
-use Rattle.std.specs.BTreeMap.{BTreeMap, get, Updates}
 use Rattle.std.specs.BTreeSet as set
 use Rattle.std.specs.BTreeSet.{BTreeSet, contains}
 use Rattle.std.specs.Ordering.{nat_cmp, int_cmp, is_eq, is_gt, ordering_then, MatchOrdering}
@@ -20,6 +19,7 @@ use Rattle.runqueue.specs.declared.sched_entity.SchedEntity.{SchedEntity}
 use Rattle.runqueue.specs.Queue.{IsTheRunner}
 use Rattle.runqueue.specs.Entities.{by_runtime, listed, entities, runtime_if, waiting_runtime, IsWaitingSet}
 use Rattle.runqueue.specs.Entities.{IsOnlyRunner, IsRunnerListed, IsQueue, waiting_task}
+use Rattle.runqueue.specs.TaskRows.{TaskRows, Writes, task_in}
 use Rattle.runqueue.specs.declared.waiting_task.WaitingTask.{WaitingTask}
 use Rattle.runqueue.specs.Tasks.{entity_of}
 use Rattle.cfs_model.proofs.Moves.{put-same, put-other}
@@ -29,14 +29,6 @@ from_is_eq : (o : Ordering) → is_eq o ≡ true → o ≡ Equal
 from_is_eq Less e = absurd cc
 from_is_eq Equal e = refl
 from_is_eq Greater e = absurd cc
-
--- keys that differ aren't one in the order
-pub other_key : (k q : ℕ) → q ≢ k → is_eq (nat_cmp k q) ≡ false
-other_key k q ne = go (is_eq (nat_cmp k q)) refl
-  where
-    go : (b : Bool) → is_eq (nat_cmp k q) ≡ b → b ≡ false
-    go false e = refl
-    go true e = absurd (ne (sym (exact_unsigned k q (from_is_eq (nat_cmp k q) e))))
 
 -- pairs that the order takes for one are one
 pub exact_runtimes : (x y : WaitingTask) → is_eq (by_runtime x y) ≡ true → x ≡ y
@@ -60,24 +52,24 @@ lower_runtime v w pid other e = go (int_cmp v w) (int_ranked v w (int_cmp v w) r
     go Greater h e = absurd cc
 
 -- the parts of what the type keeps
-pub queue_is : (runner : Option SchedEntity) (m : BTreeMap ℕ SchedEntity) (s : BTreeSet WaitingTask)
+pub queue_is : (runner : Option SchedEntity) (m : TaskRows) (s : BTreeSet WaitingTask)
     → IsWaitingSet (entities runner m) s
     → IsOnlyRunner (entities runner m) runner → IsRunnerListed runner m → IsQueue runner m s
 unfolding IsQueue
 queue_is runner m s waiting only has = (waiting, only, has)
 
-pub waiting_in : (runner : Option SchedEntity) (m : BTreeMap ℕ SchedEntity) (s : BTreeSet WaitingTask)
+pub waiting_in : (runner : Option SchedEntity) (m : TaskRows) (s : BTreeSet WaitingTask)
     → IsQueue runner m s
     → IsWaitingSet (entities runner m) s
 unfolding IsQueue
 waiting_in runner m s kept = kept.0
 
-pub only_in : (runner : Option SchedEntity) (m : BTreeMap ℕ SchedEntity) (s : BTreeSet WaitingTask) → IsQueue runner m s
+pub only_in : (runner : Option SchedEntity) (m : TaskRows) (s : BTreeSet WaitingTask) → IsQueue runner m s
     → IsOnlyRunner (entities runner m) runner
 unfolding IsQueue
 only_in runner m s kept = kept.1
 
-pub listed_in : (runner : Option SchedEntity) (m : BTreeMap ℕ SchedEntity) (s : BTreeSet WaitingTask)
+pub listed_in : (runner : Option SchedEntity) (m : TaskRows) (s : BTreeSet WaitingTask)
     → IsQueue runner m s
     → IsRunnerListed runner m
 unfolding IsQueue
@@ -88,22 +80,22 @@ pub waits_where : (f : ℕ → Option Entity) (s : BTreeSet WaitingTask) → IsW
 unfolding IsWaitingSet
 waits_where f s h = h
 
-pub is_listed : (runner : Option SchedEntity) (m : BTreeMap ℕ SchedEntity) → IsRunnerListed runner m → (t : SchedEntity)
+pub is_listed : (runner : Option SchedEntity) (m : TaskRows) → IsRunnerListed runner m → (t : SchedEntity)
     → runner ≡ Some t
-    → (t.place ≡ Run) × IsSome (get nat_cmp m t.pid)
+    → (t.place ≡ Run) × IsSome (task_in m t.pid)
 unfolding IsRunnerListed
 is_listed runner m h = h
 
-pub listed_none : (m : BTreeMap ℕ SchedEntity) → IsRunnerListed None m
+pub listed_none : (m : TaskRows) → IsRunnerListed None m
 unfolding IsRunnerListed
 listed_none m t e = absurd cc
 
-pub listed_some : (m : BTreeMap ℕ SchedEntity) (t : SchedEntity) → t.place ≡ Run → IsSome (get nat_cmp m t.pid)
+pub listed_some : (m : TaskRows) (t : SchedEntity) → t.place ≡ Run → IsSome (task_in m t.pid)
     → IsRunnerListed (Some t) m
 unfolding IsRunnerListed
 listed_some m t runs has u e =
     let same : t ≡ u = same_Some t u e in
-    let P : SchedEntity → Type 0 = λ x. (x.place ≡ Run) × IsSome (get nat_cmp m x.pid) in
+    let P : SchedEntity → Type 0 = λ x. (x.place ≡ Run) × IsSome (task_in m x.pid) in
     subst P same (runs, has)
 
 pub runs_alone : (f : ℕ → Option Entity) (runner : Option SchedEntity) → IsOnlyRunner f runner → (pid : ℕ)
@@ -126,7 +118,7 @@ waiting_none f s nobody none v q = (
 )
 
 -- who runs here
-pub the_runner : (runner : Option SchedEntity) (m : BTreeMap ℕ SchedEntity) (s : BTreeSet WaitingTask) (floor : ℤ)
+pub the_runner : (runner : Option SchedEntity) (m : TaskRows) (s : BTreeSet WaitingTask) (floor : ℤ)
     (mark : ℕ)
     → IsQueue runner m s
     → IsTheRunner (record { tasks = entities runner m; floor = floor; mark = mark }) runner
@@ -139,7 +131,7 @@ the_runner (Some t) m s floor mark kept = (
 )
 
 -- nobody runs where the runqueue has no runner
-pub no_runner : (runner : Option SchedEntity) (m : BTreeMap ℕ SchedEntity) (s : BTreeSet WaitingTask) (floor : ℤ)
+pub no_runner : (runner : Option SchedEntity) (m : TaskRows) (s : BTreeSet WaitingTask) (floor : ℤ)
     (mark : ℕ)
     → IsQueue runner m s
     → NobodyIn (record { tasks = entities runner m; floor = floor; mark = mark }) Run → runner ≡ None
@@ -147,7 +139,7 @@ no_runner None m s floor mark kept nobody = refl
 no_runner (Some t) m s floor mark kept nobody =
     let ran = the_runner (Some t) m s floor mark kept in absurd (nobody t.pid (ap its_place ran.0 ∙ ap Some ran.1))
 
-pub nobody_runs : (runner : Option SchedEntity) (m : BTreeMap ℕ SchedEntity) (s : BTreeSet WaitingTask) (floor : ℤ)
+pub nobody_runs : (runner : Option SchedEntity) (m : TaskRows) (s : BTreeSet WaitingTask) (floor : ℤ)
     (mark : ℕ)
     → IsQueue runner m s
     → runner ≡ None → NobodyIn (record { tasks = entities runner m; floor = floor; mark = mark }) Run
@@ -156,7 +148,7 @@ nobody_runs runner m s floor mark kept none =
     (the_runner runner m s floor mark kept)
 
 -- a pid that doesn't run isn't the runner's
-pub runner_apart : (runner : Option SchedEntity) (m : BTreeMap ℕ SchedEntity) (s : BTreeSet WaitingTask)
+pub runner_apart : (runner : Option SchedEntity) (m : TaskRows) (s : BTreeSet WaitingTask)
     → IsQueue runner m s
     → (pid : ℕ)
     → (its_place (entities runner m pid) ≡ Some Run → ⊥) → (t : SchedEntity) → runner ≡ Some t → t.pid ≢ pid
@@ -167,23 +159,23 @@ runner_apart (Some u) m s kept pid ne t e same =
     ne (ap its_place (ap (entities (Some u) m) (sym up) ∙ r.0) ∙ ap Some r.1)
 
 -- another pid than the runner's stands as the map has it
-pub entities_listed : (runner : Option SchedEntity) (m : BTreeMap ℕ SchedEntity) (pid : ℕ)
+pub entities_listed : (runner : Option SchedEntity) (m : TaskRows) (pid : ℕ)
     → ((t : SchedEntity) → runner ≡ Some t → t.pid ≢ pid)
     → entities runner m pid ≡ listed m pid
 entities_listed None m pid apart = refl
 entities_listed (Some t) m pid apart = put-other (listed m) t.pid (Some (entity_of t)) pid (λ e. apart t refl (sym e))
 
 -- the map at the key of an update, and at another
-pub map_at : (m n : BTreeMap ℕ SchedEntity) (k : ℕ) (w : Option SchedEntity) → Updates nat_cmp m n k w
-    → get nat_cmp n k ≡ w
-map_at m n k w u = u.1
+pub map_at : (m n : TaskRows) (k : ℕ) (w : Option SchedEntity) → Writes m n k w
+    → task_in n k ≡ w
+map_at m n k w u = u.here
 
-pub map_other : (m n : BTreeMap ℕ SchedEntity) (k : ℕ) (w : Option SchedEntity) → Updates nat_cmp m n k w → (q : ℕ)
+pub map_other : (m n : TaskRows) (k : ℕ) (w : Option SchedEntity) → Writes m n k w → (q : ℕ)
     → q ≢ k
-    → get nat_cmp n q ≡ get nat_cmp m q
-map_other m n k w u q ne = u.2 q (other_key k q ne)
+    → task_in n q ≡ task_in m q
+map_other m n k w u q ne = u.there q ne
 
-listed_put : (m n : BTreeMap ℕ SchedEntity) (k : ℕ) (w : Option SchedEntity) → Updates nat_cmp m n k w → (q : ℕ)
+listed_put : (m n : TaskRows) (k : ℕ) (w : Option SchedEntity) → Writes m n k w → (q : ℕ)
     → listed n q ≡ put (listed m) k (option_map entity_of w) q
 listed_put m n k w u q =
     elim (cases_eq q k) [
@@ -194,8 +186,8 @@ listed_put m n k w u q =
     ]
 
 -- the entry of one who doesn't run is written or taken out
-pub rewritten : (runner : Option SchedEntity) (m n : BTreeMap ℕ SchedEntity) (k : ℕ) (w : Option SchedEntity)
-    → Updates nat_cmp m n k w
+pub rewritten : (runner : Option SchedEntity) (m n : TaskRows) (k : ℕ) (w : Option SchedEntity)
+    → Writes m n k w
     → ((t : SchedEntity) → runner ≡ Some t → t.pid ≢ k) → (q : ℕ)
     → entities runner n q ≡ put (entities runner m) k (option_map entity_of w) q
 rewritten None m n k w u apart q = listed_put m n k w u q
@@ -210,8 +202,8 @@ rewritten (Some t) m n k w u apart q =
     ]
 
 -- the runner's entry is written or taken out, and nobody runs
-pub put_away : (t : SchedEntity) (m n : BTreeMap ℕ SchedEntity) (w : Option SchedEntity)
-    → Updates nat_cmp m n t.pid w → (q : ℕ)
+pub put_away : (t : SchedEntity) (m n : TaskRows) (w : Option SchedEntity)
+    → Writes m n t.pid w → (q : ℕ)
     → entities None n q ≡ put (entities (Some t) m) t.pid (option_map entity_of w) q
 put_away t m n w u q =
     listed_put m n t.pid w u q ∙ again (cases_eq q t.pid)
@@ -226,8 +218,8 @@ put_away t m n w u q =
         (sym (put-other (listed m) t.pid (Some (entity_of t)) q other))
 
 -- the map has the runner's entry, whatever other is written or taken out
-pub listed_kept : (runner : Option SchedEntity) (m n : BTreeMap ℕ SchedEntity) (k : ℕ) (w : Option SchedEntity)
-    → Updates nat_cmp m n k w
+pub listed_kept : (runner : Option SchedEntity) (m n : TaskRows) (k : ℕ) (w : Option SchedEntity)
+    → Writes m n k w
     → ((t : SchedEntity) → runner ≡ Some t → t.pid ≢ k) → IsRunnerListed runner m → IsRunnerListed runner n
 unfolding IsRunnerListed
 listed_kept runner m n k w u apart has t e = (
@@ -367,16 +359,16 @@ module _ (f g : ℕ → Option Entity) (pid : ℕ) (s : Option Entity) (is : (q 
       ]
 
 -- maps and sets that hold the same
-pub entities_same : (runner : Option SchedEntity) (m n : BTreeMap ℕ SchedEntity) → ((q : ℕ) → get nat_cmp n q
-    ≡ get nat_cmp m q)
+pub entities_same : (runner : Option SchedEntity) (m n : TaskRows) → ((q : ℕ) → task_in n q
+    ≡ task_in m q)
     → (q : ℕ)
     → entities runner n q ≡ entities runner m q
 entities_same None m n same q = ap (option_map entity_of) (same q)
 entities_same (Some t) m n same q = put-under (listed n) (listed m) t.pid (Some (entity_of t)) q
     (ap (option_map entity_of) (same q))
 
-pub same_queue : (runner : Option SchedEntity) (m n : BTreeMap ℕ SchedEntity) (a b : BTreeSet WaitingTask)
-    → ((q : ℕ) → get nat_cmp n q ≡ get nat_cmp m q)
+pub same_queue : (runner : Option SchedEntity) (m n : TaskRows) (a b : BTreeSet WaitingTask)
+    → ((q : ℕ) → task_in n q ≡ task_in m q)
     → ((v : ℤ) (q : ℕ) → contains by_runtime b (waiting_task v q) ≡ contains by_runtime a (waiting_task v q))
     → IsQueue runner m a → IsQueue runner n b
 unfolding IsQueue IsWaitingSet IsOnlyRunner IsRunnerListed

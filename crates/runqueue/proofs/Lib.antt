@@ -1,5 +1,6 @@
 pub mod Charges
 pub mod Parts
+pub mod TaskRows
 pub mod TaskOf
 pub mod EntitiesKept
 pub mod Lifts

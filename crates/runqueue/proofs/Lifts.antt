@@ -2,12 +2,11 @@
 use Rattle.std.proofs.Common.{◌≡◌, ◌≢◌, ℕ, ◌-◌, ◌<◌, ◌≤◌, false, IsTrue, List, [], ◌∷◌, length, Option, Some, None}
 use Rattle.std.proofs.Common.{option_map, ℤ, pos, ◌+ℤ◌, ◌≤ℤ◌, ◌<ℤ◌, ◌⊎◌, inl, inr, refl, sym, ap, ◌∙◌, subst}
 use Rattle.std.proofs.Common.{true≢false, arith}
-use Rattle.std.specs.BTreeMap.{BTreeMap, is_at}
+use Rattle.std.specs.BTreeMap.{is_at}
 use Rattle.std.specs.BTreeSet.{BTreeSet, contains, IsLowerBound, btree_set_len}
 use Rattle.std.specs.Int.{int_min}
 use Rattle.std.specs.List.{list_any}
-use Rattle.std.specs.Map.{lookup}
-use Rattle.std.specs.Ordering.{nat_cmp, int_cmp, MatchOrdering}
+use Rattle.std.specs.Ordering.{int_cmp, MatchOrdering}
 use Rattle.std.specs.declared.cmp.Ordering.{Ordering}
 use Rattle.std.specs.declared.cmp.Ordering.TheVariants.{Less, Equal, Greater}
 use Rattle.std.proofs.lemmas.Bool.{cases_lt, cases_eq}
@@ -28,6 +27,8 @@ use Rattle.runqueue.specs.declared.sched_entity.SchedEntity.{SchedEntity}
 use Rattle.runqueue.specs.Queue.{IsTheRunner, IsLeastIfWaiting, IsLeastQueued, IsChargeFault}
 use Rattle.runqueue.specs.Entities.{by_runtime, listed, entities, runtime_if, waiting_runtime, IsOnlyRunner, IsQueue}
 use Rattle.runqueue.specs.Entities.{waiting_task}
+use Rattle.pid_table.specs.Rows.{index_in}
+use Rattle.runqueue.specs.TaskRows.{IsSeated, TaskRows}
 use Rattle.runqueue.specs.declared.waiting_task.WaitingTask.{WaitingTask}
 use Rattle.runqueue.specs.Tasks.{cost_of, charged_task, CanBeCharged, CanBeChargedAs, charged_as, told_task}
 use Rattle.runqueue.specs.Tasks.{IsChargeFaultOf, entity_of}
@@ -38,17 +39,25 @@ use Rattle.runqueue.proofs.Parts.{part_with, its_place, same_tasks, put-at}
 use Rattle.runqueue.proofs.EntitiesKept.{queue_is, waiting_in, only_in, listed_in, listed_none, listed_some, is_listed}
 use Rattle.runqueue.proofs.EntitiesKept.{waits_where, the_runner, stays, only_runs, only_none, waiting_none}
 use Rattle.runqueue.proofs.EntitiesKept.{lower_runtime}
+use Rattle.runqueue.proofs.TaskRows.{seated_at, task_none}
 
 -- nobody stands in an empty map, and nobody waits in an empty set
-pub empty_queue : (m : BTreeMap ℕ SchedEntity) (a : BTreeSet WaitingTask) → m.entries ≡ [] → a.keys ≡ []
+pub empty_queue : (m : TaskRows) (a : BTreeSet WaitingTask) → m.pids ≡ [] → a.keys ≡ []
     → IsQueue None m a
 empty_queue m a e f =
     let none : (q : ℕ) → listed m q ≡ None =
-    λ q. ap (λ (es : List (ℕ × SchedEntity)). option_map entity_of (lookup (is_at (nat_cmp q)) es)) e in
+    λ q. ap (option_map entity_of) (task_none m e q) in
     queue_is None m a
     (waiting_none (listed m) a none (λ k. ap (list_any (is_at (by_runtime k))) f))
     (only_none (listed m) (λ q i. let h : None ≡ Some Run = sym (ap its_place (none q)) ∙ i in cc))
     (listed_none m)
+
+-- who runs keeps its row when it is charged
+pub charged_seated : (charge : Option ChargeLine) (delta : ℕ) (t : SchedEntity) (pids : List ℕ) (seat : ℕ)
+    → index_in pids t.pid ≡ Some seat
+    → IsSeated (Some (charged_as charge (charged_task delta t))) pids seat
+charged_seated None delta t pids seat is = seated_at (charged_task delta t) pids seat is
+charged_seated (Some line) delta t pids seat is = seated_at (told_task line (charged_task delta t)) pids seat is
 
 -- one who waits
 waits_is : (o : Option Entity) (v : ℤ) → waiting_runtime o ≡ Some v → (s : Entity) × (o ≡ Some s) × (s.place ≡ Wait)
@@ -71,7 +80,7 @@ no_keys a none k = go a.keys none
     go [] h = refl
     go (x ∷ xs) h = absurd (h (omega arith))
 
-module _ (runner : Option SchedEntity) (m : BTreeMap ℕ SchedEntity) (a : BTreeSet WaitingTask) (floor : ℤ) (mark : ℕ)
+module _ (runner : Option SchedEntity) (m : TaskRows) (a : BTreeSet WaitingTask) (floor : ℤ) (mark : ℕ)
     (kept : IsQueue runner m a) where
   -- the first of the set is the least of those who wait
   pub least_is : (k : WaitingTask) → IsTrue (contains by_runtime a k) → IsLowerBound by_runtime a k
@@ -204,7 +213,7 @@ uncharged part time (Some s) ne = ap Some (go s.place (λ e. ne (ap Some e)))
     go Rest ne = refl
 
 -- nobody runs
-module _ (runner : Option SchedEntity) (m : BTreeMap ℕ SchedEntity) (a : BTreeSet WaitingTask) (floor : ℤ) (mark time
+module _ (runner : Option SchedEntity) (m : TaskRows) (a : BTreeSet WaitingTask) (floor : ℤ) (mark time
     : ℕ)
     (kept : IsQueue runner m a) (none : runner ≡ None) where
   nobody : NobodyIn (part_with (entities runner m) floor mark) Run
@@ -225,7 +234,7 @@ module _ (runner : Option SchedEntity) (m : BTreeMap ℕ SchedEntity) (a : BTree
   idle_in_range pid o = nobody pid (ap its_place o.stands ∙ ap Some o.runs)
 
 -- somebody runs
-module _ (runner : Option SchedEntity) (m : BTreeMap ℕ SchedEntity) (a : BTreeSet WaitingTask) (floor : ℤ) (mark time
+module _ (runner : Option SchedEntity) (m : TaskRows) (a : BTreeSet WaitingTask) (floor : ℤ) (mark time
     : ℕ)
     (kept : IsQueue runner m a) (t : SchedEntity) (is : runner ≡ Some t) where
   ran : IsTheRunner (part_with (entities runner m) floor mark) (Some t)

@@ -1,12 +1,10 @@
 -- What a move of one task makes of the runqueue, and of the part that it stands for.
-use Rattle.std.proofs.Common.{◌≡◌, ◌≢◌, ℕ, zero, suc, true, false, IsSome, List, Option, Some, None, option_map, ℤ, pos}
+use Rattle.std.proofs.Common.{◌≡◌, ◌≢◌, ℕ, zero, suc, true, false, IsSome, Option, Some, None, option_map, ℤ, pos}
 use Rattle.std.proofs.Common.{inl, inr, refl, sym, ap, ◌∙◌, subst}
-use Rattle.std.specs.BTreeMap.{BTreeMap, get, is_at, Updates}
+use Rattle.std.specs.BTreeMap.{is_at}
 use Rattle.std.specs.BTreeSet as set
 use Rattle.std.specs.BTreeSet.{BTreeSet, contains}
 use Rattle.std.specs.List.{list_any}
-use Rattle.std.specs.Map.{lookup}
-use Rattle.std.specs.Ordering.{nat_cmp}
 use Rattle.std.proofs.lemmas.Bool.{cases_eq}
 use Rattle.replay_model.specs.Deeds.{with_entity, goes, part_after_prev}
 use Rattle.replay_model.specs.AfterDeed.{part_after_next, woken, wakes}
@@ -21,6 +19,7 @@ use Rattle.cfs_model.specs.declared.task.Place.TheVariants.{Run, Wait, Rest}
 use Rattle.runqueue.specs.declared.sched_entity.SchedEntity.{SchedEntity}
 use Rattle.runqueue.specs.Queue.{IsTheRunner}
 use Rattle.runqueue.specs.Entities.{by_runtime, listed, entities, runtime_if, waiting_runtime, IsQueue, waiting_task}
+use Rattle.runqueue.specs.TaskRows.{TaskRows, Writes, task_in}
 use Rattle.runqueue.specs.declared.waiting_task.WaitingTask.{WaitingTask}
 use Rattle.runqueue.specs.Tasks.{entity_of}
 use Rattle.cfs_model.proofs.Moves.{put-other}
@@ -63,9 +62,9 @@ prev_is part t r (suc n) h =
       | inr other ↦ absurd (h (λ i. other (r.2 (suc n) i)))
     ]
 
-module _ (m n : BTreeMap ℕ SchedEntity) (a : BTreeSet WaitingTask) (t : SchedEntity) (kept : IsQueue (Some t) m a) (w :
+module _ (m n : TaskRows) (a : BTreeSet WaitingTask) (t : SchedEntity) (kept : IsQueue (Some t) m a) (w :
     Option SchedEntity)
-    (u : Updates nat_cmp m n t.pid w) where
+    (u : Writes m n t.pid w) where
   ran : IsTheRunner (part_with (entities (Some t) m) (pos 0) 0) (Some t)
   ran = the_runner (Some t) m a (pos 0) 0 kept
 
@@ -134,22 +133,22 @@ module _ (m n : BTreeMap ℕ SchedEntity) (a : BTreeSet WaitingTask) (t : SchedE
           ∙ after_ends (part_with (entities (Some t) m) floor mark) t.pid ne
 
 -- the same, where the runner is told by an equation
-pub kept_runner : (runner : Option SchedEntity) (m : BTreeMap ℕ SchedEntity) (a : BTreeSet WaitingTask) (r : Option
+pub kept_runner : (runner : Option SchedEntity) (m : TaskRows) (a : BTreeSet WaitingTask) (r : Option
     SchedEntity)
     → IsQueue runner m a → runner ≡ r
     → IsQueue r m a
 kept_runner runner m a r kept e = subst (λ (x : Option SchedEntity). IsQueue x m a) e kept
 
-pub runner_listed : (runner : Option SchedEntity) (m : BTreeMap ℕ SchedEntity) (a : BTreeSet WaitingTask) (t :
+pub runner_listed : (runner : Option SchedEntity) (m : TaskRows) (a : BTreeSet WaitingTask) (t :
     SchedEntity)
     → IsQueue runner m a → runner ≡ Some t
-    → IsSome (get nat_cmp m t.pid)
+    → IsSome (task_in m t.pid)
 runner_listed runner m a t kept e = (is_listed runner m (listed_in runner m a kept) t e).1
 
-pub runner_leaves : (runner : Option SchedEntity) (m n : BTreeMap ℕ SchedEntity) (a : BTreeSet WaitingTask) (t :
+pub runner_leaves : (runner : Option SchedEntity) (m n : TaskRows) (a : BTreeSet WaitingTask) (t :
     SchedEntity)
     → IsQueue runner m a → runner ≡ Some t
-    → (w : Option SchedEntity) → Updates nat_cmp m n t.pid w → (floor : ℤ) (mark : ℕ) (way : Way)
+    → (w : Option SchedEntity) → Writes m n t.pid w → (floor : ℤ) (mark : ℕ) (way : Way)
     → option_map entity_of w ≡ after_way way (entity_of t)
     → (prev : ℕ) → ((IsRunner (part_with (entities runner m) floor mark) prev → ⊥) → ⊥)
     → part_with (entities None n) floor mark ≡ part_after_prev (part_with (entities runner m) floor mark) prev way
@@ -164,7 +163,7 @@ pub idle_prev : (part : Part) → IsTheRunner part None → (way : Way) (prev : 
 idle_prev part nobody way zero h = refl
 idle_prev part nobody way (suc n) h = absurd (h (λ i. nobody (suc n) i))
 
-pub nobody_leaves : (runner : Option SchedEntity) (m : BTreeMap ℕ SchedEntity) (a : BTreeSet WaitingTask)
+pub nobody_leaves : (runner : Option SchedEntity) (m : TaskRows) (a : BTreeSet WaitingTask)
     → IsQueue runner m a
     → runner ≡ None
     → (floor : ℤ) (mark : ℕ) (way : Way) (prev : ℕ)
@@ -175,7 +174,7 @@ nobody_leaves runner m a kept e floor mark way prev =
     (subst (IsTheRunner (part_with (entities runner m) floor mark)) e (the_runner runner m a floor mark kept)) way prev
 
 -- the next task runs
-pub next_queue : (m : BTreeMap ℕ SchedEntity) (a b : BTreeSet WaitingTask) (t new : SchedEntity) → IsQueue None m a
+pub next_queue : (m : TaskRows) (a b : BTreeSet WaitingTask) (t new : SchedEntity) → IsQueue None m a
     → listed m new.pid ≡ Some (entity_of t)
     → set.Updates by_runtime a b (waiting_task t.v new.pid) false → new.place ≡ Run → IsQueue (Some new) m b
 next_queue m a b t new kept has s runs =
@@ -186,13 +185,13 @@ next_queue m a b t new kept has s runs =
     (waiting_in None m a kept) s own (ap (λ p. runtime_if p new.v) runs))
     (only_comes (listed m) (entities (Some new) m) new.pid (Some (entity_of new)) (λ q. refl) new refl
     (only_in None m a kept))
-    (listed_some m new runs (go (get nat_cmp m new.pid) has))
+    (listed_some m new runs (go (task_in m new.pid) has))
   where
     go : (o : Option SchedEntity) → option_map entity_of o ≡ Some (entity_of t) → IsSome o
     go None e = cc
     go (Some x) e = refl
 
-pub next_entities : (m : BTreeMap ℕ SchedEntity) (t new : SchedEntity) (floor : ℤ) (mark : ℕ) → listed m new.pid
+pub next_entities : (m : TaskRows) (t new : SchedEntity) (floor : ℤ) (mark : ℕ) → listed m new.pid
     ≡ Some (entity_of t)
     → new.pid ≢ 0
     → entity_of new ≡ record { place = Run; nice = t.nice; policy = t.policy; runtime = t.v; drift = t.drift }
@@ -202,7 +201,7 @@ next_entities m t new floor mark has ne is =
     (ap Some is ∙ sym (ap (option_map (λ (s : Entity). record s { place = Run })) has))
     ∙ next_goes (part_with (entities None m) floor mark) new.pid ne
 
-pub no_next : (m : BTreeMap ℕ SchedEntity) (next : ℕ) (floor : ℤ) (mark : ℕ) → listed m next ≡ None → next ≢ 0
+pub no_next : (m : TaskRows) (next : ℕ) (floor : ℤ) (mark : ℕ) → listed m next ≡ None → next ≢ 0
     → part_with (entities None m) floor mark ≡ part_after_next (part_with (entities None m) floor mark) next
 no_next m next floor mark none ne =
     written_over (part_with (listed m) floor mark) next
@@ -211,14 +210,14 @@ no_next m next floor mark none ne =
     ∙ next_goes (part_with (entities None m) floor mark) next ne
 
 -- one who doesn't run leaves
-module _ (runner : Option SchedEntity) (m n : BTreeMap ℕ SchedEntity) (a : BTreeSet WaitingTask) (kept : IsQueue
+module _ (runner : Option SchedEntity) (m n : TaskRows) (a : BTreeSet WaitingTask) (kept : IsQueue
     runner m a)
     (pid : ℕ)
-    (at_rest : its_place (entities runner m pid) ≡ Some Run → ⊥) (u : Updates nat_cmp m n pid None) where
+    (at_rest : its_place (entities runner m pid) ≡ Some Run → ⊥) (u : Writes m n pid None) where
   apart : (t : SchedEntity) → runner ≡ Some t → t.pid ≢ pid
   apart = runner_apart runner m a kept pid at_rest
 
-  pub gone_queue : (b : BTreeSet WaitingTask) (t : SchedEntity) → get nat_cmp m pid ≡ Some t
+  pub gone_queue : (b : BTreeSet WaitingTask) (t : SchedEntity) → task_in m pid ≡ Some t
       → set.Updates by_runtime a b (waiting_task t.v pid) false → IsQueue runner n b
   gone_queue b t has s =
       let own : (v : ℤ) → waiting_runtime (entities runner m pid) ≡ Some v → v ≡ t.v = λ v e.
@@ -232,7 +231,7 @@ module _ (runner : Option SchedEntity) (m n : BTreeMap ℕ SchedEntity) (a : BTr
       (only_in runner m a kept) (λ e. cc))
       (listed_kept runner m n pid None u apart (listed_in runner m a kept))
 
-  pub nowhere_queue : get nat_cmp m pid ≡ None → IsQueue runner n a
+  pub nowhere_queue : task_in m pid ≡ None → IsQueue runner n a
   nowhere_queue none =
       queue_is runner n a
       (stays (entities runner m) (entities runner n) pid None (rewritten runner m n pid None u apart) a
@@ -248,8 +247,16 @@ module _ (runner : Option SchedEntity) (m n : BTreeMap ℕ SchedEntity) (a : BTr
   gone_entities floor mark = same_tasks (entities runner n) (put (entities runner m) pid None) floor mark
       (rewritten runner m n pid None u apart)
 
+-- who stands where nobody runs has a task in the rows
+pub listed_has : (m : TaskRows) (pid : ℕ) (s : Entity) → listed m pid ≡ Some s → IsSome (task_in m pid)
+listed_has m pid s has = go (task_in m pid) has
+  where
+    go : (o : Option SchedEntity) → option_map entity_of o ≡ Some s → IsSome o
+    go None e = cc
+    go (Some x) e = refl
+
 -- one who rests is woken
-module _ (runner : Option SchedEntity) (m n : BTreeMap ℕ SchedEntity) (a : BTreeSet WaitingTask) (kept : IsQueue
+module _ (runner : Option SchedEntity) (m n : TaskRows) (a : BTreeSet WaitingTask) (kept : IsQueue
     runner m a)
     (pid : ℕ)
     (t : SchedEntity)
@@ -258,14 +265,14 @@ module _ (runner : Option SchedEntity) (m n : BTreeMap ℕ SchedEntity) (a : BTr
   apart_rest = runner_apart runner m a kept pid (λ e. let f : Some Rest ≡ Some Run = ap Some (sym rests)
       ∙ ap its_place stands ∙ e in cc)
 
-  pub wake_has : IsSome (get nat_cmp m pid)
-  wake_has = go (get nat_cmp m pid) (stands ∙ entities_listed runner m pid apart_rest)
+  pub wake_has : IsSome (task_in m pid)
+  wake_has = go (task_in m pid) (stands ∙ entities_listed runner m pid apart_rest)
     where
       go : (o : Option SchedEntity) → Some (entity_of t) ≡ option_map entity_of o → IsSome o
       go None e = cc
       go (Some x) e = refl
 
-  module _ (w : SchedEntity) (u : Updates nat_cmp m n pid (Some w)) (v : ℤ)
+  module _ (w : SchedEntity) (u : Writes m n pid (Some w)) (v : ℤ)
       (is : entity_of w ≡ record { place = Wait; nice = t.nice; policy = t.policy; runtime = v; drift = t.drift }) where
     pub woken_queue : (b : BTreeSet WaitingTask) → set.Updates by_runtime a b (waiting_task v pid) true
         → IsQueue runner n b
@@ -316,38 +323,35 @@ nobody_woken part pid claim e =
     (ap (option_map (λ (x : Entity). woken (Some claim) x.place x)) e ∙ sym e)
 
 -- what the map has of a pid is what stands, but for the runner's
-pub stands_alone : (runner : Option SchedEntity) (m : BTreeMap ℕ SchedEntity) (pid : ℕ) → runner ≡ None
+pub stands_alone : (runner : Option SchedEntity) (m : TaskRows) (pid : ℕ) → runner ≡ None
     → listed m pid ≡ entities runner m pid
 stands_alone runner m pid e = ap (λ r. entities r m pid) (sym e)
 
-pub stands_apart : (runner : Option SchedEntity) (m : BTreeMap ℕ SchedEntity) (pid : ℕ) (t : SchedEntity) → runner
+pub stands_apart : (runner : Option SchedEntity) (m : TaskRows) (pid : ℕ) (t : SchedEntity) → runner
     ≡ Some t
     → t.pid ≢ pid
     → listed m pid ≡ entities runner m pid
 stands_apart runner m pid t e ne =
     sym (put-other (listed m) t.pid (Some (entity_of t)) pid (λ f. ne (sym f))) ∙ ap (λ r. entities r m pid) (sym e)
 
-pub stands_there : (runner : Option SchedEntity) (m : BTreeMap ℕ SchedEntity) (pid : ℕ) (t : SchedEntity) → runner
+pub stands_there : (runner : Option SchedEntity) (m : TaskRows) (pid : ℕ) (t : SchedEntity) → runner
     ≡ Some t
     → t.pid ≡ pid
     → Some (entity_of t) ≡ entities runner m pid
 stands_there runner m pid t e same =
     sym (put-at (listed m) t.pid (Some (entity_of t)) pid (sym same)) ∙ ap (λ r. entities r m pid) (sym e)
 
--- entries and keys that are as they were
-pub same_entries : (m n : BTreeMap ℕ SchedEntity) → n.entries ≡ m.entries → (q : ℕ) → get nat_cmp n q ≡ get nat_cmp m q
-same_entries m n e q = ap (λ (es : List (ℕ × SchedEntity)). lookup (is_at (nat_cmp q)) es) e
-
+-- keys that are as they were
 pub same_waiting_keys : (a b : BTreeSet WaitingTask) → b.keys ≡ a.keys → (v : ℤ) (q : ℕ)
     → contains by_runtime b (waiting_task v q) ≡ contains by_runtime a (waiting_task v q)
 same_waiting_keys a b e v q = ap (list_any (is_at (by_runtime (waiting_task v q)))) e
 
 -- a lift that is taken back
-pub restored_part : (runner r : Option SchedEntity) (m n : BTreeMap ℕ SchedEntity) (floor f : ℤ) (mark k : ℕ) → r
+pub restored_part : (runner r : Option SchedEntity) (m n : TaskRows) (floor f : ℤ) (mark k : ℕ) → r
     ≡ runner
     → f ≡ floor
     → k ≡ mark
-    → ((q : ℕ) → get nat_cmp n q ≡ get nat_cmp m q)
+    → ((q : ℕ) → task_in n q ≡ task_in m q)
     → part_with (entities r n) f k ≡ part_with (entities runner m) floor mark
 restored_part runner r m n floor f mark k e g h same =
     same_tasks (entities r n) (entities r m) f k (entities_same r m n same)

@@ -1,9 +1,7 @@
 -- What another nice value of one task makes of the runqueue, and of the part that it stands for.
-use Rattle.std.proofs.Common.{◌≡◌, ◌≢◌, ℕ, Bool, true, false, cond, eqb, IsSome, Option, Some, None, option_map, ◌⊎◌, ℤ}
-use Rattle.std.proofs.Common.{inl, inr, refl, sym, ap, ◌∙◌, subst}
-use Rattle.std.specs.BTreeMap.{BTreeMap, get, Updates}
+use Rattle.std.proofs.Common.{◌≡◌, ◌≢◌, ℕ, Bool, true, false, cond, eqb, IsSome, List, Option, Some, None, option_map}
+use Rattle.std.proofs.Common.{◌⊎◌, ℤ, inl, inr, refl, sym, ap, ◌∙◌, subst}
 use Rattle.std.specs.BTreeSet.{BTreeSet, contains}
-use Rattle.std.specs.Ordering.{nat_cmp}
 use Rattle.std.proofs.lemmas.Bool.{cases_eq, cond-true, cond-false, eq-eqb, ne_eqb}
 use Rattle.cfs_model.specs.Machine.{put}
 use Rattle.runqueue.specs.declared.sched_entity.SchedEntity.{SchedEntity}
@@ -14,6 +12,9 @@ use Rattle.runqueue.specs.Entities.{by_runtime, HasNice, IsOnlyRunner, IsQueue, 
 use Rattle.runqueue.specs.Entities.{waiting_runtime, reniced_task, waiting_task}
 use Rattle.runqueue.specs.Tasks.{entity_of}
 use Rattle.runqueue.specs.declared.runqueue.Runqueue.{Runqueue}
+use Rattle.runqueue.specs.TaskRows.{IsSeated, TaskRows, Writes, task_in}
+use Rattle.runqueue.proofs.TaskRows.{seated_at, seated_is, seated_none}
+use Rattle.pid_table.specs.Rows.{index_in}
 use Rattle.runqueue.specs.declared.waiting_task.WaitingTask.{WaitingTask}
 use Rattle.cfs_model.proofs.Moves.{put-other}
 use Rattle.runqueue.proofs.Parts.{part_with, its_place, put-at, same_tasks, written_over}
@@ -25,8 +26,8 @@ abbrev changed : ℤ → Entity → Entity
 changed nice s = record s { nice = nice }
 
 -- the entry of a pid that is written over with another nice value
-pub written : (m n : BTreeMap ℕ SchedEntity) (pid : ℕ) (nice : ℤ) (t : SchedEntity) → get nat_cmp m pid ≡ Some t
-    → Updates nat_cmp m n pid (Some (record t { nice = nice })) → HasNice pid nice m n
+pub written : (m n : TaskRows) (pid : ℕ) (nice : ℤ) (t : SchedEntity) → task_in m pid ≡ Some t
+    → Writes m n pid (Some (record t { nice = nice })) → HasNice pid nice m n
 written m n pid nice t is u = record {
   here = map_at m n pid (Some (record t { nice = nice })) u
       ∙ sym (ap (option_map (λ (x : SchedEntity). record x { nice = nice })) is);
@@ -34,15 +35,15 @@ written m n pid nice t is u = record {
 }
 
 -- written back, it is as it was
-pub written_back : (l m n : BTreeMap ℕ SchedEntity) (pid : ℕ) (nice before : ℤ) → HasNice pid nice l m
+pub written_back : (l m n : TaskRows) (pid : ℕ) (nice before : ℤ) → HasNice pid nice l m
     → HasNice pid before m n
-    → Some before ≡ option_map (λ (t : SchedEntity). t.nice) (get nat_cmp l pid) → (q : ℕ) → get nat_cmp n q
-    ≡ get nat_cmp l q
+    → Some before ≡ option_map (λ (t : SchedEntity). t.nice) (task_in l pid) → (q : ℕ) → task_in n q
+    ≡ task_in l q
 written_back l m n pid nice before h back was q =
     elim (cases_eq q pid) [
-      | inl same ↦ subst (λ k. get nat_cmp n k ≡ get nat_cmp l k) (sym same)
+      | inl same ↦ subst (λ k. task_in n k ≡ task_in l k) (sym same)
           (back.here ∙ ap (option_map (λ (t : SchedEntity). record t { nice = before })) h.here
-          ∙ go (get nat_cmp l pid) was)
+          ∙ go (task_in l pid) was)
       | inr other ↦ back.there q other ∙ h.there q other
     ]
   where
@@ -53,17 +54,17 @@ written_back l m n pid nice before h back was q =
     go (Some t) e = let same : before ≡ t.nice = cc in ap (λ (x : ℤ). Some (record t { nice = x })) same
 
 -- nobody of a pid stands here that the map has no entry of
-pub nobody_listed : (runner : Option SchedEntity) (m : BTreeMap ℕ SchedEntity) (a : BTreeSet WaitingTask)
+pub nobody_listed : (runner : Option SchedEntity) (m : TaskRows) (a : BTreeSet WaitingTask)
     → IsQueue runner m a
-    → (pid : ℕ) → get nat_cmp m pid ≡ None
+    → (pid : ℕ) → task_in m pid ≡ None
     → entities runner m pid ≡ None
 nobody_listed None m a kept pid none = ap (option_map entity_of) none
 nobody_listed (Some t) m a kept pid none =
     elim (cases_eq t.pid pid) [
       | inl own ↦
-          let has : IsSome (get nat_cmp m t.pid) = (is_listed (Some t) m (listed_in (Some t) m a kept) t refl).1 in
-          let gone : get nat_cmp m t.pid ≡ None = ap (get nat_cmp m) own ∙ none in
-          absurd (go (get nat_cmp m t.pid) has gone)
+          let has : IsSome (task_in m t.pid) = (is_listed (Some t) m (listed_in (Some t) m a kept) t refl).1 in
+          let gone : task_in m t.pid ≡ None = ap (task_in m) own ∙ none in
+          absurd (go (task_in m t.pid) has gone)
       | inr other ↦ put-other (listed m) t.pid (Some (entity_of t)) pid (λ e. other (sym e))
           ∙ ap (option_map entity_of) none
     ]
@@ -72,16 +73,28 @@ nobody_listed (Some t) m a kept pid none =
     go None i e = cc
     go (Some t) i e = cc
 
+-- who runs keeps its row when a nice value changes
+pub reniced_seated : (runner : Option SchedEntity) (pids : List ℕ) (seat pid : ℕ) (nice : ℤ)
+    → IsSeated runner pids seat → IsSeated (option_map (reniced_task pid nice) runner) pids seat
+reniced_seated None pids seat pid nice seated = seated_none None pids seat refl
+reniced_seated (Some t) pids seat pid nice seated =
+    seated_at (reniced_task pid nice t) pids seat
+    (ap (index_in pids) (go (eqb t.pid pid)) ∙ seated_is (Some t) pids seat seated t refl)
+  where
+    go : (b : Bool) → (cond b (record t { nice = nice }) t).pid ≡ t.pid
+    go true = refl
+    go false = refl
+
 -- a part where nobody of the pid stands
 pub nobody_changed : (part : Part) (pid : ℕ) (nice : ℤ) → part.tasks pid ≡ None
     → part ≡ with_entity part pid (option_map (λ (s : Entity). record s { nice = nice }) (part.tasks pid))
 nobody_changed part pid nice none =
     written_over part pid (option_map (changed nice) (part.tasks pid)) (ap (option_map (changed nice)) none ∙ sym none)
 
-module _ (m n : BTreeMap ℕ SchedEntity) (pid : ℕ) (nice : ℤ) (h : HasNice pid nice m n) where
+module _ (m n : TaskRows) (pid : ℕ) (nice : ℤ) (h : HasNice pid nice m n) where
   listed_here : listed n pid ≡ option_map (changed nice) (listed m pid)
   listed_here =
-      ap (option_map entity_of) h.here ∙ go (get nat_cmp m pid)
+      ap (option_map entity_of) h.here ∙ go (task_in m pid)
     where
       go : (o : Option SchedEntity) → option_map entity_of (option_map (λ (t : SchedEntity). record t {
         nice = nice;
@@ -184,11 +197,11 @@ module _ (m n : BTreeMap ℕ SchedEntity) (pid : ℕ) (nice : ℤ) (h : HasNice 
       go true = refl
       go false = refl
 
-  entry_kept : (k : ℕ) → IsSome (get nat_cmp m k) → IsSome (get nat_cmp n k)
+  entry_kept : (k : ℕ) → IsSome (task_in m k) → IsSome (task_in n k)
   entry_kept k has =
       elim (cases_eq k pid) [
-        | inl same ↦ subst (λ (o : Option SchedEntity). IsSome o) (sym (ap (get nat_cmp n) same ∙ h.here))
-            (go (get nat_cmp m pid) (subst (λ x. IsSome (get nat_cmp m x)) same has))
+        | inl same ↦ subst (λ (o : Option SchedEntity). IsSome o) (sym (ap (task_in n) same ∙ h.here))
+            (go (task_in m pid) (subst (λ x. IsSome (task_in m x)) same has))
         | inr other ↦ subst (λ (o : Option SchedEntity). IsSome o) (sym (h.there k other)) has
       ]
     where
@@ -214,7 +227,7 @@ module _ (m n : BTreeMap ℕ SchedEntity) (pid : ℕ) (nice : ℤ) (h : HasNice 
   has_entry (Some t) has =
       let l = is_listed (Some t) m has t refl in
       listed_some n (reniced_task pid nice t) (own_place t ∙ l.0)
-      (subst (λ k. IsSome (get nat_cmp n k)) (sym (own_pid t)) (entry_kept t.pid l.1))
+      (subst (λ k. IsSome (task_in n k)) (sym (own_pid t)) (entry_kept t.pid l.1))
 
   pub reniced_queue : (runner : Option SchedEntity) (a : BTreeSet WaitingTask) → IsQueue runner m a
       → IsQueue (option_map (reniced_task pid nice) runner) n a
@@ -231,14 +244,14 @@ module _ (m n : BTreeMap ℕ SchedEntity) (pid : ℕ) (nice : ℤ) (h : HasNice 
       go (Some s) = refl
 
   -- who has an entry stands here
-  listed_stands : get nat_cmp m pid ≢ None → listed m pid ≢ None
-  listed_stands has none = has (go (get nat_cmp m pid) none)
+  listed_stands : task_in m pid ≢ None → listed m pid ≢ None
+  listed_stands has none = has (go (task_in m pid) none)
     where
       go : (o : Option SchedEntity) → option_map entity_of o ≡ None → o ≡ None
       go None e = refl
       go (Some t) e = cc
 
-  pub stands_listed : (runner : Option SchedEntity) → get nat_cmp m pid ≢ None → entities runner m pid ≢ None
+  pub stands_listed : (runner : Option SchedEntity) → task_in m pid ≢ None → entities runner m pid ≢ None
   stands_listed None has none = listed_stands has none
   stands_listed (Some t) has none =
       elim (cases_eq pid t.pid) [
@@ -250,6 +263,7 @@ module _ (m n : BTreeMap ℕ SchedEntity) (pid : ℕ) (nice : ℤ) (h : HasNice 
 -- maps and sets that hold the same as each other
 pub holds_both : (a b c : Runqueue) → HoldsSame a b → HoldsSame b c → HoldsSame a c
 holds_both a b c g h = record {
+  pids = h.pids ∙ g.pids;
   tasks = λ pid. h.tasks pid ∙ g.tasks pid;
   waiting = λ v pid. h.waiting v pid ∙ g.waiting v pid;
 }
@@ -259,6 +273,7 @@ pub renice_undone : (a b c d : Runqueue) (pid : ℕ) (nice before : ℤ) → IsR
     → IsReniced pid before c d
     → Some before ≡ nice_listed a pid → HoldsSame a d
 renice_undone a b c d pid nice before g same h was = record {
+  pids = h.pids ∙ same.pids ∙ g.pids;
   tasks = written_back a.tasks c.tasks d.tasks pid nice before
       (record {
         here = same.tasks pid ∙ g.listed.here;

@@ -1,7 +1,6 @@
 -- Who stands at a processor: who runs, kept by itself, everybody by pid, and those who wait in their order (this
 -- project's profile).
 use Rattle.std.specs.Prelude.{◌≡◌, ◌≢◌, ℕ, ◌==◌, if◌then◌else◌, ◌↔◌, IsTrue, IsSome, Option, Some, None, option_map, ℤ}
-use Rattle.std.specs.BTreeMap.{BTreeMap, get}
 use Rattle.std.specs.BTreeSet.{BTreeSet, contains}
 use Rattle.std.specs.Ordering.{nat_cmp, int_cmp, ordering_then}
 use Rattle.std.specs.declared.cmp.Ordering.{Ordering}
@@ -11,6 +10,7 @@ use Rattle.replay_model.specs.Part.{Entity}
 use Rattle.cfs_model.specs.declared.task.Place.{Place}
 use Rattle.cfs_model.specs.declared.task.Place.TheVariants.{Run, Wait}
 use Rattle.runqueue.specs.declared.sched_entity.SchedEntity.{SchedEntity}
+use Rattle.runqueue.specs.TaskRows.{TaskRows, task_in}
 use Rattle.runqueue.specs.Tasks.{entity_of}
 use Rattle.runqueue.specs.declared.waiting_task.WaitingTask.{WaitingTask}
 
@@ -22,12 +22,12 @@ waiting_task v pid = record { v = v; pid = pid }
 abbrev pub by_runtime : WaitingTask → WaitingTask → Ordering
 by_runtime x y = ordering_then (int_cmp x.v y.v) (nat_cmp x.pid y.pid)
 
--- what the map has of a pid
-abbrev pub listed : BTreeMap ℕ SchedEntity → ℕ → Option Entity
-listed tasks pid = option_map entity_of (get nat_cmp tasks pid)
+-- what the rows have of a pid
+abbrev pub listed : TaskRows → ℕ → Option Entity
+listed tasks pid = option_map entity_of (task_in tasks pid)
 
--- who runs stands as it runs, everybody else as the map has it
-abbrev pub entities : Option SchedEntity → BTreeMap ℕ SchedEntity → ℕ → Option Entity
+-- who runs stands as it runs, everybody else as the rows have it
+abbrev pub entities : Option SchedEntity → TaskRows → ℕ → Option Entity
 entities None tasks = listed tasks
 entities (Some t) tasks = put (listed tasks) t.pid (Some (entity_of t))
 
@@ -35,10 +35,10 @@ entities (Some t) tasks = put (listed tasks) t.pid (Some (entity_of t))
 abbrev pub reniced_task : ℕ → ℤ → SchedEntity → SchedEntity
 reniced_task pid nice t = if t.pid == pid then record t { nice = nice } else t
 
--- the map's entry of a pid has this nice value, if there is one, and each other entry is as it was
-pub record HasNice (pid : ℕ) (nice : ℤ) (old new : BTreeMap ℕ SchedEntity) : Type 0 where
-  pub here : get nat_cmp new pid ≡ option_map (λ (t : SchedEntity). record t { nice = nice }) (get nat_cmp old pid)
-  pub there : (other : ℕ) → other ≢ pid → get nat_cmp new other ≡ get nat_cmp old other
+-- the rows' task of a pid has this nice value, if there is one, and each other task is as it was
+pub record HasNice (pid : ℕ) (nice : ℤ) (old new : TaskRows) : Type 0 where
+  pub here : task_in new pid ≡ option_map (λ (t : SchedEntity). record t { nice = nice }) (task_in old pid)
+  pub there : (other : ℕ) → other ≢ pid → task_in new other ≡ task_in old other
 
 -- the virtual runtime of one who waits
 abbrev pub runtime_if : Place → ℤ → Option ℤ
@@ -59,17 +59,17 @@ unfoldable pub IsOnlyRunner : (ℕ → Option Entity) → Option SchedEntity →
 IsOnlyRunner tasks runner =
     (pid : ℕ) → option_map (λ s. s.place) (tasks pid) ≡ Some Run → option_map (λ t. t.pid) runner ≡ Some pid
 
--- the runner runs, and the map has an entry of its pid
-unfoldable pub IsRunnerListed : Option SchedEntity → BTreeMap ℕ SchedEntity → Type 0
-IsRunnerListed runner tasks = (t : SchedEntity) → runner ≡ Some t → (t.place ≡ Run) × IsSome (get nat_cmp tasks t.pid)
+-- the runner runs, and the rows have a task of its pid
+unfoldable pub IsRunnerListed : Option SchedEntity → TaskRows → Type 0
+IsRunnerListed runner tasks = (t : SchedEntity) → runner ≡ Some t → (t.place ≡ Run) × IsSome (task_in tasks t.pid)
 
--- map, set and runner tell of the same tasks
-unfoldable pub IsQueue : Option SchedEntity → BTreeMap ℕ SchedEntity → BTreeSet WaitingTask → Type 0
+-- rows, set and runner tell of the same tasks
+unfoldable pub IsQueue : Option SchedEntity → TaskRows → BTreeSet WaitingTask → Type 0
 IsQueue runner tasks waiting =
     IsWaitingSet (entities runner tasks) waiting × IsOnlyRunner (entities runner tasks) runner
     × IsRunnerListed runner tasks
 
-pub IsQueue-prop : (runner : Option SchedEntity) (tasks : BTreeMap ℕ SchedEntity) (waiting : BTreeSet WaitingTask)
+pub IsQueue-prop : (runner : Option SchedEntity) (tasks : TaskRows) (waiting : BTreeSet WaitingTask)
     → IsProp (IsQueue runner tasks waiting)
 unfolding IsQueue IsWaitingSet IsOnlyRunner IsRunnerListed
 IsQueue-prop runner tasks waiting = Prim.hlevel props

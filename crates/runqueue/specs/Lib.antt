@@ -1,3 +1,4 @@
 pub mod Tasks
+pub mod TaskRows
 pub mod Entities
 pub mod Queue

@@ -1,8 +1,6 @@
 -- A runqueue, as the part of a machine at its processor (this project's profile).
 use Rattle.std.specs.Prelude.{◌≡◌, ◌≢◌, ℕ, Option, Some, None, option_map, ℤ}
-use Rattle.std.specs.BTreeMap.{get}
 use Rattle.std.specs.BTreeSet.{contains}
-use Rattle.std.specs.Ordering.{nat_cmp}
 use Rattle.replay_model.specs.Needs.{IsLeastWaiting}
 use Rattle.replay_model.specs.Part.{Part, Entity, IsIn, NobodyIn, IsQueuedHere, IsLeastHere}
 use Rattle.replay_model.specs.QueueTests.{IsOutOfRange, IsWrongCharge}
@@ -10,6 +8,7 @@ use Rattle.cfs_model.specs.declared.charge_line.ChargeLine.{ChargeLine}
 use Rattle.cfs_model.specs.declared.task.Place.TheVariants.{Run, Wait}
 use Rattle.runqueue.specs.declared.sched_entity.SchedEntity.{SchedEntity}
 use Rattle.runqueue.specs.Entities.{HasNice, entities, by_runtime, waiting_task}
+use Rattle.runqueue.specs.TaskRows.{task_in}
 use Rattle.runqueue.specs.Tasks.{entity_of}
 use Rattle.runqueue.specs.declared.charging.ChargeFault.{ChargeFault}
 use Rattle.runqueue.specs.declared.charging.ChargeFault.TheVariants.{Range, Told}
@@ -20,24 +19,27 @@ use Rattle.runqueue.specs.declared.runqueue.Runqueue.{Runqueue}
 abbrev pub runqueue_view : Runqueue → Part
 runqueue_view queue = record { tasks = entities queue.runner queue.tasks; floor = queue.floor; mark = queue.mark }
 
--- the map and the set of a runqueue are as they were
+-- the rows and the set of a runqueue are as they were
 pub record HoldsSame (old new : Runqueue) : Type 0 where
-  pub tasks : (pid : ℕ) → get nat_cmp new.tasks pid ≡ get nat_cmp old.tasks pid
+  pub pids : new.tasks.pids ≡ old.tasks.pids
+  pub tasks : (pid : ℕ) → task_in new.tasks pid ≡ task_in old.tasks pid
   pub waiting : (v : ℤ) (pid : ℕ)
       → contains by_runtime new.waiting (waiting_task v pid) ≡ contains by_runtime old.waiting (waiting_task v pid)
 
 -- what a charge and its lift change of a runqueue, as it stands
 pub record IsUnlifted (queue : Runqueue) (before : Unlifted) : Type 0 where
   pub runner : before.runner ≡ queue.runner
+  pub seat : before.seat ≡ queue.seat
   pub floor : before.floor ≡ queue.floor
   pub mark : before.mark ≡ queue.mark
 
--- the nice value that the map has of a pid
+-- the nice value that the rows have of a pid
 abbrev pub nice_listed : Runqueue → ℕ → Option ℤ
-nice_listed queue pid = option_map (λ (t : SchedEntity). t.nice) (get nat_cmp queue.tasks pid)
+nice_listed queue pid = option_map (λ (t : SchedEntity). t.nice) (task_in queue.tasks pid)
 
--- the map has this nice value of a pid, if it has an entry of it; each other entry and the set are as they were
+-- the rows have this nice value of a pid, if they have a task of it; each other task and the set are as they were
 pub record IsReniced (pid : ℕ) (nice : ℤ) (old new : Runqueue) : Type 0 where
+  pub pids : new.tasks.pids ≡ old.tasks.pids
   pub listed : HasNice pid nice old.tasks new.tasks
   pub waiting : new.waiting ≡ old.waiting
 

@@ -8,6 +8,7 @@ mod readers;
 mod renice;
 mod runqueue;
 mod sched_entity;
+mod task_rows;
 mod waiting_task;
 
 pub use charging::{ChargeFault, charged, told};

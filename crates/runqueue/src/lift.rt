@@ -15,6 +15,7 @@ use cfs_model::ChargeLine;
 #[derive(Clone, Copy)]
 pub struct Unlifted {
     pub(crate) runner: Option<SchedEntity>,
+    pub(crate) seat: usize,
     /// In virtual nanoseconds.
     pub(crate) floor: i64,
     /// In nanoseconds.
@@ -84,6 +85,7 @@ impl Runqueue {
     {
         Unlifted {
             runner: self.runner,
+            seat: self.seat,
             floor: self.floor,
             mark: self.mark,
         }
@@ -96,6 +98,7 @@ impl Runqueue {
             → runqueue_view self.new ≡ runqueue_view queue }
     {
         self.runner = before.runner;
+        self.seat = before.seat;
         self.floor = before.floor;
         self.mark = before.mark;
     }

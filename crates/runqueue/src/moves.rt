@@ -1,7 +1,5 @@
-ghost use Rattle.std.specs.Prelude.{◌≡◌, ℕ, [], None, Some, IsSome, IfOk, OnOk, OnErr};
+ghost use Rattle.std.specs.Prelude.{◌≡◌, ℕ, [], None, Some, IfOk, OnOk, OnErr};
 ghost use Rattle.std.specs.List.{AllPairs};
-ghost use Rattle.std.specs.BTreeMap.{Updates, get};
-ghost use Rattle.std.specs.Ordering.{nat_cmp};
 ghost use Rattle.cfs_model.specs.declared.task.Place.TheVariants.{Run};
 ghost use Rattle.cfs_model.specs.declared.act.Way.TheVariants.{Stays, Sleeps, Ends};
 ghost use Rattle.replay_model.specs.AfterDeed.{part_after_next, wakes};
@@ -14,19 +12,22 @@ ghost use Rattle.runqueue.specs.Queue.{HoldsSame, IsSwitchTask, IsTaskAt, runque
 
 use crate::runqueue::Runqueue;
 use crate::sched_entity::SchedEntity;
+use crate::task_rows::{put, take_out, write_over, write_row};
 use crate::waiting_task::WaitingTask;
 use cfs_model::{Claim, IDLE_PID, Memory, Place, Task, Way};
+use pid_table::{PidHasher, PidTable};
 use std::alloc::Global;
-use std::collections::{BTreeMap, BTreeSet};
+use std::collections::BTreeSet;
 
 impl Runqueue {
-    /// Nobody.
-    pub fn empty(alloc: Global, floor: i64, mark: u64) -> Runqueue
+    /// Nobody. Pids are hashed by these keys.
+    pub fn empty(alloc: Global, hasher: PidHasher, floor: i64, mark: u64) -> Runqueue
         ensures { runqueue_view result ≡ start_part [] floor mark }
     {
         Runqueue {
             runner: None,
-            tasks: BTreeMap::new(alloc),
+            seat: 0,
+            tasks: PidTable::new(alloc, hasher),
             waiting: BTreeSet::new(alloc),
             floor,
             mark,
@@ -36,6 +37,7 @@ impl Runqueue {
     /// The runqueue of these tasks: their pids rise, and at most one of them runs.
     pub fn of_tasks(
         alloc: Global,
+        hasher: PidHasher,
         tasks: &[Task],
         floor: i64,
         mark: u64,
@@ -44,7 +46,7 @@ impl Runqueue {
         requires one { AllPairs (λ t u. t.place ≡ Run → u.place ≡ Run → ⊥) tasks.now }
         ensures { IfOk result (λ queue. runqueue_view queue ≡ start_part tasks.now floor mark) }
     {
-        let mut queue = Runqueue::empty(alloc, floor, mark);
+        let mut queue = Runqueue::empty(alloc, hasher, floor, mark);
         for task in tasks {
             queue.add(SchedEntity::of(*task))?;
         }
@@ -90,7 +92,7 @@ impl Runqueue {
         })?;
         let mut task = runner;
         task.place = Place::Wait;
-        write_over(&mut self.tasks, task.pid, task);
+        write_row(&mut self.tasks, self.seat, Some(task));
         self.runner = None;
         Ok(())
     }
@@ -104,7 +106,7 @@ impl Runqueue {
     {
         let mut task = runner;
         task.place = Place::Rest;
-        write_over(&mut self.tasks, task.pid, task);
+        write_row(&mut self.tasks, self.seat, Some(task));
         self.runner = None;
     }
 
@@ -115,7 +117,7 @@ impl Runqueue {
             → runqueue_view self.new ≡ part_after_prev (runqueue_view self.old) prev Ends }
         ensures nobody { NobodyIn (runqueue_view self.new) Run }
     {
-        self.tasks.remove(&runner.pid);
+        write_row(&mut self.tasks, self.seat, None);
         self.runner = None;
     }
 
@@ -129,6 +131,9 @@ impl Runqueue {
             return;
         }
         if let Some(task) = task {
+            let Some(seat) = self.tasks.index_of(next) else {
+                unreachable!();
+            };
             let waited = WaitingTask {
                 v: task.v,
                 pid: next,
@@ -138,6 +143,7 @@ impl Runqueue {
             runner.pid = next;
             runner.place = Place::Run;
             self.runner = Some(runner);
+            self.seat = seat;
         }
     }
 
@@ -146,7 +152,7 @@ impl Runqueue {
         requires { IsIn (runqueue_view self.old) Run pid → ⊥ }
         ensures { runqueue_view self.new ≡ with_entity (runqueue_view self.old) pid None }
     {
-        if let Some(task) = self.tasks.remove(&pid) {
+        if let Some(task) = take_out(&mut self.tasks, pid) {
             self.waiting.remove(&WaitingTask { v: task.v, pid });
         }
     }
@@ -183,33 +189,23 @@ impl Runqueue {
             (runqueue_view self.new ≡ with_entity (runqueue_view self.old) task.pid (Some (entity_of task))) }
         ensures same { OnErr result (HoldsSame self.old self.new) }
     {
-        self.tasks.insert(task.pid, task)?;
+        self.tasks.make_room()?;
+        let pid = task.pid;
         match task.place {
             Place::Run => {
+                self.seat = put(&mut self.tasks, pid, &task);
                 self.runner = Some(task);
                 Ok(())
             }
-            Place::Wait => match self.waiting.insert(WaitingTask {
-                v: task.v,
-                pid: task.pid,
-            }) {
-                Ok(_) => Ok(()),
-                Err(_) => {
-                    self.tasks.remove(&task.pid);
-                    Err(Memory)
-                }
-            },
-            Place::Rest => Ok(()),
+            Place::Wait => {
+                self.waiting.insert(WaitingTask { v: task.v, pid })?;
+                put(&mut self.tasks, pid, &task);
+                Ok(())
+            }
+            Place::Rest => {
+                put(&mut self.tasks, pid, &task);
+                Ok(())
+            }
         }
-    }
-}
-
-/// Writes over the entry that the map has of the pid.
-pub(crate) fn write_over(tasks: &mut BTreeMap<u32, SchedEntity>, pid: u32, task: SchedEntity)
-    requires { IsSome (get nat_cmp tasks.old pid) }
-    ensures { Updates nat_cmp tasks.old tasks.new pid (Some task) }
-{
-    if tasks.insert(pid, task).is_err() {
-        unreachable!();
     }
 }

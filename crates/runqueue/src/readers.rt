@@ -1,13 +1,14 @@
-ghost use Rattle.std.specs.Prelude.{◌≡◌, ℕ, option_map};
+ghost use Rattle.std.specs.Prelude.{◌≡◌, ℕ};
 ghost use Rattle.replay_model.specs.Deeds.{part_after_prev};
 ghost use Rattle.replay_model.specs.QueueTests.{IsRunner};
 ghost use Rattle.runqueue.specs.Queue.{IsLeastIfWaiting, IsLeastQueued, IsSwitchTask, IsTaskAt, IsTheRunner};
 ghost use Rattle.runqueue.specs.Queue.{runqueue_view};
-ghost use Rattle.runqueue.specs.Entities.{IsWaitingSet, listed};
-ghost use Rattle.runqueue.specs.Tasks.{entity_of};
+ghost use Rattle.runqueue.specs.Entities.{IsWaitingSet};
+ghost use Rattle.runqueue.specs.TaskRows.{IsSeated};
 
 use crate::runqueue::Runqueue;
 use crate::sched_entity::SchedEntity;
+use crate::task_rows::listed;
 use crate::waiting_task::WaitingTask;
 use cfs_model::{IDLE_PID, Way};
 use std::collections::BTreeSet;
@@ -18,6 +19,14 @@ impl Runqueue {
         ensures { IsTheRunner (runqueue_view self.now) result }
     {
         self.runner
+    }
+
+    /// Where the row of who runs is, by the order in which the pids first stood here; without meaning where nobody
+    /// runs.
+    pub fn seat(&self) -> usize
+        ensures { IsSeated self.now.runner self.now.tasks.pids result }
+    {
+        self.seat
     }
 
     /// Those who wait, in their order.
@@ -82,10 +91,10 @@ impl Runqueue {
                 if task.pid == pid {
                     Some(task)
                 } else {
-                    self.listed(pid)
+                    listed(&self.tasks, pid)
                 }
             }
-            None => self.listed(pid),
+            None => listed(&self.tasks, pid),
         }
     }
 
@@ -98,12 +107,5 @@ impl Runqueue {
         } else {
             self.task_at(pid)
         }
-    }
-
-    /// What the map has of this pid.
-    fn listed(&self, pid: u32) -> Option<SchedEntity>
-        ensures { option_map entity_of result ≡ listed self.now.tasks pid }
-    {
-        self.tasks.get(&pid).copied()
     }
 }

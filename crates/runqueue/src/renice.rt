@@ -4,9 +4,9 @@ ghost use Rattle.replay_model.specs.Part.{Entity};
 ghost use Rattle.runqueue.specs.Queue.{IsReniced, nice_listed, runqueue_view};
 ghost use Rattle.runqueue.specs.Entities.{reniced_task};
 
-use crate::moves::write_over;
 use crate::runqueue::Runqueue;
 use crate::sched_entity::SchedEntity;
+use crate::task_rows::{listed, write_over};
 use cfs_model::Nice;
 
 impl Runqueue {
@@ -21,7 +21,7 @@ impl Runqueue {
         ensures strange { result ≡ None → (runqueue_view self.old).tasks pid ≡ None }
         ensures stands { result ≢ None → (runqueue_view self.old).tasks pid ≢ None }
     {
-        let mut task = *self.tasks.get(&pid)?;
+        let mut task = listed(&self.tasks, pid)?;
         let before = task.nice;
         task.nice = nice;
         write_over(&mut self.tasks, pid, task);

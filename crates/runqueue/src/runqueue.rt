@@ -1,16 +1,20 @@
 ghost use Rattle.runqueue.specs.Entities.{IsQueue, IsQueue-prop};
+ghost use Rattle.runqueue.specs.TaskRows.{IsSeated, IsSeated-prop};
 
 use crate::sched_entity::SchedEntity;
+use crate::task_rows::TaskRows;
 use crate::waiting_task::WaitingTask;
-use std::collections::{BTreeMap, BTreeSet};
+use std::collections::BTreeSet;
 
 /// Those who stand at the processor, and what the processor keeps.
 #[derive(Drop)]
 pub struct Runqueue {
     /// Who runs, if somebody does.
     pub(crate) runner: Option<SchedEntity>,
+    /// Where the row of who runs is; without meaning where nobody does.
+    pub(crate) seat: usize,
     /// Everybody by pid; who runs as it stood before.
-    pub(crate) tasks: BTreeMap<u32, SchedEntity>,
+    pub(crate) tasks: TaskRows,
     /// Those who wait, in their order.
     pub(crate) waiting: BTreeSet<WaitingTask>,
     /// In virtual nanoseconds.
@@ -18,4 +22,5 @@ pub struct Runqueue {
     /// The time of the last charge, in nanoseconds.
     pub(crate) mark: u64,
     pub ghost kept: { IsQueue runner tasks waiting } by { IsQueue-prop runner tasks waiting },
+    pub ghost seated: { IsSeated runner tasks.pids seat } by { IsSeated-prop runner tasks.pids seat },
 }

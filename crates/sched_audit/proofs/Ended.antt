@@ -1,9 +1,9 @@
 -- How a run ends whose inputs were heard: by the ending of its write.
 use Rattle.std.proofs.Common.{◌≡◌, ◌≢◌, Bool, ◌⊎◌, inl, inr, Result, Ok, Err, IfOk, IfErr, IsErrOf, OnOk, ap}
-use Rattle.sched_audit.specs.declared.fault.Fault.{Fault}
-use Rattle.sched_audit.specs.declared.fault.Fault.TheVariants.{ReadTrace, ReadCompanion, Write, Memory}
-use Rattle.sched_audit.specs.declared.outcome.Outcome.{Outcome}
-use Rattle.sched_audit.specs.declared.status.Status.{Status}
+use Rattle.audit_input.specs.declared.fault.Fault.{Fault}
+use Rattle.audit_input.specs.declared.fault.Fault.TheVariants.{ReadTrace, ReadCompanion, Write, Memory}
+use Rattle.audit_report.specs.declared.outcome.Outcome.{Outcome}
+use Rattle.audit_report.specs.declared.status.Status.{Status}
 use Rattle.sched_audit.specs.Run.{Input, Reads}
 
 -- a status is answered with the outcome whose report was written

@@ -12,20 +12,20 @@ use Rattle.sched_record.specs.Trace.{TraceAnswer}
 use Rattle.sched_record.specs.declared.cause.TraceCause.{TraceCause}
 use Rattle.sched_record.specs.declared.joining.JoinCause.{JoinCause}
 use Rattle.sched_audit.specs.Answer.{OutcomeAnswer}
-use Rattle.sched_audit.specs.Causes.{trace_cause, companion_cause, join_cause}
-use Rattle.sched_audit.specs.Codes.{status_by, status_of}
-use Rattle.sched_audit.specs.Known.{Agrees}
+use Rattle.audit_input.specs.Causes.{trace_cause, companion_cause, join_cause}
+use Rattle.audit_report.specs.Codes.{status_by, status_of}
+use Rattle.audit_input.specs.Known.{Agrees}
 use Rattle.sched_audit.specs.OneOutcome.{AreOneOutcome, Gave, OneRunBy, outcome_view}
-use Rattle.sched_audit.specs.Report.{report_of}
+use Rattle.audit_report.specs.Report.{report_of}
 use Rattle.sched_audit.specs.Run.{IsOutcomeOf}
-use Rattle.sched_audit.specs.Texts.{AreBothRead, IsRecordOf, IsRefused, TellsCharges}
-use Rattle.sched_audit.specs.declared.cause.Cause.{Cause}
-use Rattle.sched_audit.specs.declared.outcome.Outcome.{Outcome}
-use Rattle.sched_audit.specs.declared.outcome.Outcome.TheVariants as outcomes
-use Rattle.sched_audit.specs.declared.source.Source.{Source}
-use Rattle.sched_audit.specs.declared.source.Source.TheVariants.{Trace, Companion, Join}
+use Rattle.audit_input.specs.Texts.{AreBothRead, IsRecordOf, IsRefused, TellsCharges}
+use Rattle.audit_input.specs.declared.cause.Cause.{Cause}
+use Rattle.audit_report.specs.declared.outcome.Outcome.{Outcome}
+use Rattle.audit_report.specs.declared.outcome.Outcome.TheVariants as outcomes
+use Rattle.audit_input.specs.declared.source.Source.{Source}
+use Rattle.audit_input.specs.declared.source.Source.TheVariants.{Trace, Companion, Join}
 use Rattle.sched_audit.proofs.Starts.{start_of_texts}
-use Rattle.sched_audit.proofs.Versions.{one_telling}
+use Rattle.audit_input.proofs.Versions.{one_telling}
 
 -- each text has one answer, and so has their joining
 abbrev pub OneTrace : Type 0

@@ -2,10 +2,10 @@
 use Rattle.std.proofs.Common.{◌≡◌, ap, ℕ, List, Result, Ok, Err}
 use Rattle.std.specs.Result.{IsErrAnd}
 use Rattle.sched_record.specs.Record.{RecordView}
-use Rattle.sched_audit.specs.declared.refused.Refused.{Refused}
-use Rattle.sched_audit.specs.declared.refused.Refused.TheVariants as refusals
+use Rattle.audit_input.specs.declared.refused.Refused.{Refused}
+use Rattle.audit_input.specs.declared.refused.Refused.TheVariants as refusals
 use Rattle.sched_audit.specs.Answer.{IsAnswer}
-use Rattle.sched_audit.specs.Refusals.{IsTexts}
+use Rattle.audit_input.specs.Refusals.{IsTexts}
 
 -- an answer that is this error
 pub error_is : {A : Type 0} (answer : Result A Refused) (refused : Refused) → IsErrAnd answer (λ e. e ≡ refused)

@@ -6,7 +6,7 @@ use Rattle.companion_file.specs.Earlier.{summed}
 use Rattle.replay_model.proofs.StartFrom.{start_from}
 use Rattle.sched_record.specs.Record.{RecordView}
 use Rattle.text_parts.specs.Lines.{lines_of}
-use Rattle.sched_audit.specs.Texts.{IsRecordOf}
+use Rattle.audit_input.specs.Texts.{IsRecordOf}
 
 pub start_of_texts : (trace companion : List ℕ) (r : RecordView) → IsRecordOf trace companion r
     → IsStart r.floors r.tasks

@@ -2,11 +2,11 @@
 -- on their record says, and what its least settings are, by ticket_book.
 use Rattle.std.specs.Prelude.{ℕ, ⊤, List, Result, Ok, Err}
 use Rattle.sched_record.specs.Record.{RecordView}
-use Rattle.sched_audit.specs.Texts.{IsRecordOf, IsRefused}
-use Rattle.sched_audit.specs.declared.outcome.Outcome.{Outcome}
-use Rattle.sched_audit.specs.declared.outcome.Outcome.TheVariants as outcomes
-use Rattle.sched_audit.specs.declared.refused.Refused.{Refused}
-use Rattle.sched_audit.specs.declared.refused.Refused.TheVariants as refusals
+use Rattle.audit_input.specs.Texts.{IsRecordOf, IsRefused}
+use Rattle.audit_report.specs.declared.outcome.Outcome.{Outcome}
+use Rattle.audit_report.specs.declared.outcome.Outcome.TheVariants as outcomes
+use Rattle.audit_input.specs.declared.refused.Refused.{Refused}
+use Rattle.audit_input.specs.declared.refused.Refused.TheVariants as refusals
 
 -- the outcome of a trace and its companion: what is judged of their record, or why one of them is refused
 abbrev pub OutcomeAnswer : {J : Type 0} → (RecordView → J → Type 0) → List ℕ → List ℕ → Outcome J → Type 0

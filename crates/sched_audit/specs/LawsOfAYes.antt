@@ -18,7 +18,7 @@ use Rattle.sched_record.specs.Record.{RecordView}
 use Rattle.ticket_book.specs.SaidEvents.{events_of}
 use Rattle.ticket_book.specs.SummaryView.{SummaryView}
 use Rattle.ticket_book.specs.Verdict.{IsScheduled}
-use Rattle.sched_audit.specs.Texts.{IsRecordOf}
+use Rattle.audit_input.specs.Texts.{IsRecordOf}
 
 -- no task runs on two processors, waits in two queues, or runs and waits; and no two tasks run on one processor
 pub record IsOrderly (m : Machine) : Type 0 where

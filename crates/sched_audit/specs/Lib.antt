@@ -1,12 +1,5 @@
-pub mod Texts
-pub mod Causes
-pub mod Refusals
 pub mod Answer
 pub mod Codes
-pub mod Report
-pub mod Known
 pub mod Run
-pub mod Held
-pub mod CommandLine
 pub mod OneOutcome
 pub mod LawsOfAYes

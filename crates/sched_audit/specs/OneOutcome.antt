@@ -11,12 +11,12 @@ use Rattle.ticket_book.specs.Verdict.{IsVerdict}
 use Rattle.ticket_book.specs.declared.least_settings.LeastSettings.{LeastSettings}
 use Rattle.ticket_book.specs.declared.verdict.Verdict.{Verdict}
 use Rattle.sched_audit.specs.Answer.{OutcomeAnswer}
-use Rattle.sched_audit.specs.Codes.{status_of}
-use Rattle.sched_audit.specs.Report.{least_fault, least_lines, report_of, verdict_fault, verdict_lines}
+use Rattle.audit_report.specs.Codes.{status_of}
+use Rattle.audit_report.specs.Report.{least_fault, least_lines, report_of, verdict_fault, verdict_lines}
 use Rattle.sched_audit.specs.Run.{Input, Output, Runs}
-use Rattle.sched_audit.specs.declared.outcome.Outcome.{Outcome}
-use Rattle.sched_audit.specs.declared.outcome.Outcome.TheVariants.{Judged, Text}
-use Rattle.sched_audit.specs.declared.status.Status.{Status}
+use Rattle.audit_report.specs.declared.outcome.Outcome.{Outcome}
+use Rattle.audit_report.specs.declared.outcome.Outcome.TheVariants.{Judged, Text}
+use Rattle.audit_report.specs.declared.status.Status.{Status}
 
 -- an outcome, with what was judged as it is seen
 abbrev pub outcome_view : {J V : Type 0} → (J → V) → Outcome J → Outcome V

@@ -4,18 +4,19 @@ use Rattle.std.specs.Prelude.{OnOk, IsErrOf}
 use Rattle.std.specs.Io.KnownBytes.{Appends, IsAtEnd, Keeps}
 use Rattle.replay_model.specs.declared.first_fault.FirstFault.{FirstFault}
 use Rattle.sched_record.specs.Record.{RecordView, record_view}
-use Rattle.sched_audit.specs.declared.fault.Fault.{Fault}
-use Rattle.sched_audit.specs.declared.fault.Fault.TheVariants.{ReadTrace, ReadCompanion, Write, Memory}
-use Rattle.sched_audit.specs.declared.status.Status.{Status}
+use Rattle.audit_input.specs.declared.fault.Fault.{Fault}
+use Rattle.audit_input.specs.declared.fault.Fault.TheVariants.{ReadTrace, ReadCompanion, Write, Memory}
+use Rattle.audit_report.specs.declared.status.Status.{Status}
 use Rattle.sched_audit.specs.declared.hearing.Kept.{Kept}
 use Rattle.sched_audit.specs.declared.hearing.Kept.TheVariants.{Record, Companion}
-use Rattle.sched_audit.specs.declared.outcome.Outcome.{Outcome}
-use Rattle.sched_audit.specs.declared.outcome.Outcome.TheVariants.{Judged, Text}
+use Rattle.audit_report.specs.declared.outcome.Outcome.{Outcome}
+use Rattle.audit_report.specs.declared.outcome.Outcome.TheVariants.{Judged, Text}
 use Rattle.sched_audit.specs.Answer.{OutcomeAnswer}
-use Rattle.sched_audit.specs.Codes.{status_of}
-use Rattle.sched_audit.specs.Known.{Agrees, AppendsFront, IsCutShort, most_reads}
-use Rattle.sched_audit.specs.Report.{report_of}
-use Rattle.sched_audit.specs.Texts.{TellsCharges}
+use Rattle.audit_report.specs.Codes.{status_of}
+use Rattle.audit_input.specs.Known.{Agrees, IsCutShort, most_reads}
+use Rattle.audit_report.specs.Report.{report_of}
+use Rattle.audit_report.specs.Taken.{AppendsFront}
+use Rattle.audit_input.specs.Texts.{TellsCharges}
 
 -- the outcome is that of the bytes that the two inputs still gave, and so is it whether the companion tells charges
 pub record IsOutcomeOf {J : Type 0} (is_of : RecordView → J → Type 0) (trace companion : Option (List ℕ))

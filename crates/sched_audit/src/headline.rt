@@ -2,7 +2,7 @@
 
 ghost use Rattle.std.specs.Prelude.{◌≡◌, false};
 ghost use Rattle.sched_audit.specs.Answer.{IsAnswer};
-ghost use Rattle.sched_audit.specs.Report.{least_fault, least_lines, verdict_fault, verdict_lines};
+ghost use Rattle.audit_report.specs.Report.{least_fault, least_lines, verdict_fault, verdict_lines};
 ghost use Rattle.sched_audit.specs.Run.{Runs, input_of, output_of};
 ghost use Rattle.ticket_book.specs.LeastAnswer.{IsLeastAnswer};
 ghost use Rattle.ticket_book.specs.Verdict.{IsVerdict};

@@ -4,17 +4,15 @@ ghost use Rattle.sched_record.specs.Record.{record_view};
 ghost use Rattle.sched_record.specs.Seen.{Tells};
 ghost use Rattle.sched_record.specs.Trace.{TraceAnswer};
 ghost use Rattle.sched_audit.specs.Answer.{IsAnswer, OutcomeAnswer};
-ghost use Rattle.sched_audit.specs.Known.{Agrees};
+ghost use Rattle.audit_input.specs.Known.{Agrees};
 ghost use Rattle.sched_audit.specs.Run.{IsKept, IsOutcomeOf, Reads, Runs, input_of, output_of};
-ghost use Rattle.sched_audit.specs.Texts.{TellsCharges};
+ghost use Rattle.audit_input.specs.Texts.{TellsCharges};
 
-use crate::lines::read_lines;
-use crate::reading::read_all;
-use crate::texts::{record_of, tells_charges};
 use crate::{
     Fault, Feed, Gate, Hearing, Judgement, Kept, Outcome, Refused, Sink, Status, write_report,
 };
 use audit_crew::crew;
+use audit_input::{read_all, read_lines, record_of, tells_charges};
 use cfs_model::{Knobs, Memory};
 use sched_record::{Record, Trace, TraceFault, read_trace_wide};
 use std::alloc::Global;

@@ -4,7 +4,7 @@ ghost use Rattle.sched_audit_program.specs.Codes.{code_of_ending};
 use sched_audit::{Fault, Status};
 
 /// How the program ends.
-#[derive(Clone, Copy, Debug, PartialEq, Eq)]
+#[derive(Clone, Copy)]
 pub enum Ending {
     /// The report was written.
     Answered(Status),

@@ -1,7 +1,5 @@
 //! The report of an audit, and behind it why that is a fault, or which line is refused.
-use crate::checkpoints::Checkpoint;
-use crate::keeping_feed::KeepingFeed;
-use crate::line_finding::line_of;
+use audit_input::{KeepingFeed, line_again, line_of};
 use cfs_model::Knobs;
 use fault_explainer::{explanation, quoted_line};
 use pid_table::PidHasher;
@@ -12,9 +10,9 @@ use sched_audit::{
 };
 use sched_record::Record;
 use std::alloc::Global;
-use std::fs::{File, OpenFile};
+use std::fs::OpenFile;
 use std::io;
-use std::io::{ErrorKind, Read, Seek, SeekFrom, Write};
+use std::io::{ErrorKind, Write};
 use std::random::RandomSource;
 use std::rt::Files;
 use std::sync::Wait;
@@ -42,12 +40,7 @@ pub(crate) fn answer_explained<
     let mut out = SinkOf::new(io::writer(rt));
     let status = write_report(alloc, &hearing.outcome, hearing.tells_charges, &mut out)?;
     if status != Status::Yes {
-        let told = told_of(rt, alloc, request, hearing, &trace)?;
-        let told = match &told {
-            Some(told) => told.as_slice(),
-            None => NOT_EXPLAINED,
-        };
-        io::writer(rt).write_all(told).map_err(|_| Fault::Write)?;
+        explain(rt, alloc, request, &hearing, &trace)?;
     }
     Ok(status)
 }
@@ -60,21 +53,36 @@ fn is_regular<F: OpenFile>(file: &F) -> bool {
     }
 }
 
+/// Writes what there is to say of a fault or a refusal.
+fn explain<J: Judgement, R: Files + Print + RandomSource, F: Feed>(
+    rt: &R,
+    alloc: Global,
+    request: &Request<'_>,
+    hearing: &Hearing<J>,
+    trace: &KeepingFeed<F>,
+) -> Result<(), Fault> {
+    let told = told_of(rt, alloc, request, hearing, trace)?;
+    let told = match &told {
+        Some(told) => told.as_slice(),
+        None => NOT_EXPLAINED,
+    };
+    io::writer(rt).write_all(told).map_err(|_| Fault::Write)
+}
+
 /// What there is to say of a fault or a refusal. None where the trace can't be read a second time.
 fn told_of<J: Judgement, R: Files + RandomSource, F: Feed>(
     rt: &R,
     alloc: Global,
     request: &Request<'_>,
-    hearing: Hearing<J>,
+    hearing: &Hearing<J>,
     trace: &KeepingFeed<F>,
 ) -> Result<Option<Vec<u8>>, Fault> {
-    let Hearing { outcome, kept, .. } = hearing;
-    match (outcome, kept) {
+    match (&hearing.outcome, &hearing.kept) {
         (Outcome::Judged(judged), Kept::Record(record)) => match judged.fault() {
             Some(fault) => {
                 let quote = quoted_trace(rt, alloc, request.trace, trace, u64::from(fault.line))?;
                 let knobs = J::replayed_by(request.knobs);
-                with_explanation(alloc, quote, &record, knobs, &fault, PidHasher::random(rt))
+                with_explanation(alloc, quote, record, knobs, &fault, PidHasher::random(rt))
             }
             None => Ok(None),
         },
@@ -85,8 +93,8 @@ fn told_of<J: Judgement, R: Files + RandomSource, F: Feed>(
                 ..
             },
             Kept::Companion(text),
-        ) => quoted(alloc, text.as_slice(), 0, line),
-        (Outcome::Text { line, .. }, _) => quoted_trace(rt, alloc, request.trace, trace, line),
+        ) => quoted(alloc, *line, line_of(alloc, text.as_slice(), *line)),
+        (Outcome::Text { line, .. }, _) => quoted_trace(rt, alloc, request.trace, trace, *line),
         (Outcome::Judged(_), Kept::Companion(_)) => Ok(None),
     }
 }
@@ -113,8 +121,7 @@ fn with_explanation(
     }
 }
 
-/// The trace's line of this number: from what was kept of it, else from the file, which is opened again. It is sought
-/// from the last checkpoint before it on.
+/// The trace's line of this number, as it is shown.
 fn quoted_trace<R: Files, F: Feed>(
     rt: &R,
     alloc: Global,
@@ -122,49 +129,21 @@ fn quoted_trace<R: Files, F: Feed>(
     trace: &KeepingFeed<F>,
     number: u64,
 ) -> Result<Option<Vec<u8>>, Fault> {
-    let checkpoint = trace.checkpoint_before(number);
-    match trace.kept()? {
-        Some(text) => quoted(alloc, from(text, checkpoint), checkpoint.lines, number),
-        None => match opened_at(rt, name, checkpoint) {
-            Ok(file) => quoted(alloc, file, checkpoint.lines, number),
-            Err(error) => unread(&error),
-        },
-    }
+    quoted(alloc, number, line_again(rt, alloc, name, trace, number))
 }
 
-/// A text from a checkpoint on.
-fn from(text: &[u8], checkpoint: Checkpoint) -> &[u8] {
-    text.get(checkpoint.offset as usize..).unwrap_or(&[])
-}
-
-/// A file, which is read from a checkpoint on.
-fn opened_at<R: Files>(rt: &R, name: &str, checkpoint: Checkpoint) -> io::Result<R::File> {
-    let mut file = File::open(rt, name)?;
-    file.seek(SeekFrom::Start(checkpoint.offset))?;
-    Ok(file)
-}
-
-/// The line of this number, as it is shown; what is read begins behind so many lines of the text.
-fn quoted<T: Read + Drop>(
+/// A line of this number, as it is shown, where the text could be read a second time. Want of memory is told.
+fn quoted(
     alloc: Global,
-    text: T,
-    before: u64,
     number: u64,
+    line: io::Result<Option<Vec<u8>>>,
 ) -> Result<Option<Vec<u8>>, Fault> {
-    match line_of(alloc, text, number.saturating_sub(before)) {
+    match line {
         Ok(line) => {
             let line = line.as_ref().map(|line| line.as_slice());
             Ok(Some(quoted_line(alloc, number, line)?))
         }
-        Err(error) => unread(&error),
-    }
-}
-
-/// What follows from a failure: want of memory is told, and what can't be read isn't shown.
-fn unread(error: &io::Error) -> Result<Option<Vec<u8>>, Fault> {
-    if error.kind() == ErrorKind::OutOfMemory {
-        Err(Fault::Memory)
-    } else {
-        Ok(None)
+        Err(error) if error.kind() == ErrorKind::OutOfMemory => Err(Fault::Memory),
+        Err(_) => Ok(None),
     }
 }

@@ -1,12 +1,9 @@
 //! `sched_audit TRACE COMPANION`, with options: judges a recorded schedule and prints the report.
 #![tactic(auto)]
 
-mod checkpoints;
 mod command;
 mod ending;
 mod explaining;
-mod keeping_feed;
-mod line_finding;
 
 use ending::Ending;
 use std::process::ExitCode;

@@ -8,3 +8,4 @@ pub mod Wakeups
 pub mod Verdicts
 pub mod Judgements
 pub mod Answering
+pub mod UsualFields

@@ -7,3 +7,4 @@ pub mod Event
 pub mod Reading
 pub mod Judging
 pub mod FieldsView
+pub mod Usual

@@ -1,5 +1,6 @@
 ghost use Rattle.std.specs.Prelude.{◌≡◌};
-ghost use Rattle.sched_event.specs.Seen.{event_view};
+ghost use Rattle.sched_event.specs.EventView.{switched, woken, born, migrated};
+ghost use Rattle.sched_event.specs.Seen.{event_view, switch_view, wakeup_view, migration_view};
 ghost use Rattle.sched_event.specs.Act.{act_of, is_put_back, is_gone, is_runnable, way_of};
 
 use cfs_model::{Act, IDLE_PID, Nice, Way};
@@ -90,40 +91,78 @@ fn way_of(state: &[u8]) -> Way
     }
 }
 
+impl Switch<'_> {
+    /// What the switch does.
+    #[inline(always)]
+    pub(crate) fn act(&self) -> Act
+        ensures { result ≡ act_of (switched (switch_view self.now)) }
+    {
+        Act::Switch {
+            cpu: self.cpu,
+            prev: self.prev,
+            prev_nice: self.prev_nice,
+            way: if self.prev == IDLE_PID {
+                Way::Stays
+            } else {
+                way_of(self.prev_state)
+            },
+            next: self.next,
+            next_nice: self.next_nice,
+        }
+    }
+}
+
+impl Wakeup<'_> {
+    /// What the wakeup of a task that slept does.
+    #[inline(always)]
+    pub(crate) fn wake(&self) -> Act
+        ensures { result ≡ act_of (woken (wakeup_view self.now)) }
+    {
+        Act::Wake {
+            cpu: self.target,
+            pid: self.pid,
+            nice: self.nice,
+        }
+    }
+
+    /// What the first wakeup of a task does.
+    #[inline(always)]
+    pub(crate) fn birth(&self) -> Act
+        ensures { result ≡ act_of (born (wakeup_view self.now)) }
+    {
+        Act::Born {
+            cpu: self.target,
+            pid: self.pid,
+            nice: self.nice,
+        }
+    }
+}
+
+impl Migration<'_> {
+    /// What the migration does.
+    #[inline(always)]
+    pub(crate) fn act(&self) -> Act
+        ensures { result ≡ act_of (migrated (migration_view self.now)) }
+    {
+        Act::Shift {
+            orig: self.orig,
+            dest: self.dest,
+            pid: self.pid,
+            nice: self.nice,
+        }
+    }
+}
+
 impl<'a> Event<'a> {
     /// What the event does.
     pub fn act(&self) -> Act
         ensures { result ≡ act_of (event_view self.now) }
     {
         match self {
-            Event::Switch(switch) => Act::Switch {
-                cpu: switch.cpu,
-                prev: switch.prev,
-                prev_nice: switch.prev_nice,
-                way: if switch.prev == IDLE_PID {
-                    Way::Stays
-                } else {
-                    way_of(switch.prev_state)
-                },
-                next: switch.next,
-                next_nice: switch.next_nice,
-            },
-            Event::Wakeup(wakeup) => Act::Wake {
-                cpu: wakeup.target,
-                pid: wakeup.pid,
-                nice: wakeup.nice,
-            },
-            Event::WakeupNew(wakeup) => Act::Born {
-                cpu: wakeup.target,
-                pid: wakeup.pid,
-                nice: wakeup.nice,
-            },
-            Event::Migration(migration) => Act::Shift {
-                orig: migration.orig,
-                dest: migration.dest,
-                pid: migration.pid,
-                nice: migration.nice,
-            },
+            Event::Switch(switch) => switch.act(),
+            Event::Wakeup(wakeup) => wakeup.wake(),
+            Event::WakeupNew(birth) => birth.birth(),
+            Event::Migration(migration) => migration.act(),
         }
     }
 }

@@ -19,7 +19,7 @@ pub(crate) struct PrioFields<'a> {
 }
 
 /// The most bytes that a name has.
-const NAME_MAX: usize = 15;
+pub(crate) const NAME_MAX: usize = 15;
 
 /// The digits that the text begins with, and what follows them.
 #[inline(always)]
@@ -127,7 +127,7 @@ fn index_if_same(index: u8, found: u8, byte: u8) -> u8
 
 /// Twice a number, or the greatest.
 #[inline(always)]
-fn doubled(number: u8) -> u8
+pub(crate) fn doubled(number: u8) -> u8
     ensures { result ≡ min (number + number) 255 }
 {
     number.saturating_add(number)

@@ -9,8 +9,11 @@ mod migration;
 mod numeral;
 mod read;
 mod switch;
+mod usual;
+mod usual_fields;
 mod wakeup;
 
 pub use event::{Event, Migration, Switch, Wakeup};
 pub use fault::EventFault;
 pub use read::{one_answer, one_reading, read_event};
+pub use usual::{UsualEvent, UsualLine, usual_line};

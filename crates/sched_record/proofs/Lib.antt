@@ -11,7 +11,6 @@ pub mod Pairs
 pub mod Indexing
 pub mod Reader
 pub mod Rising
-pub mod Same
 pub mod Seeking
 pub mod Settled
 pub mod StreamsKept

@@ -27,7 +27,8 @@ use Rattle.cfs_model.specs.Order.{RunApart}
 use Rattle.companion_file.specs.Order.{IsClaimInLimits, IsNiceLineInLimits, IsTaskInLimits, IsChargeLineInLimits}
 use Rattle.sched_record.specs.RecordView.{RecordView, policy_of}
 use Rattle.sched_record.specs.Kept.{IsRecordInOrder, IsNamed, tasks_of}
-use Rattle.sched_record.specs.StreamKept.{IsStream, OwnsCharge, OwnsClaim, OwnsNice, cut_of, tasks_of_deed}
+use Rattle.processor_stream.specs.StreamKept.{IsStream, OwnsCharge, OwnsClaim, OwnsNice, tasks_of_deed}
+use Rattle.sched_record.specs.Stream.{cut_of}
 use Rattle.sched_record.proofs.Pairs.{pairs_map, pairs_filter, found_in}
 use Rattle.cfs_model.specs.declared.policy.Policy.{Policy}
 

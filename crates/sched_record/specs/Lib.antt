@@ -7,8 +7,6 @@ pub mod Indices
 pub mod Policies
 pub mod Record
 pub mod Said
-pub mod Same
-pub mod StreamKept
 pub mod Stream
 pub mod Trace
 pub mod Seen

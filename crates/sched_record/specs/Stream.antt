@@ -1,16 +1,12 @@
--- A stream, as contracts see it (this project's profile).
-use Rattle.sched_record.specs.declared.stream.Stream.{Stream}
+-- What a processor sees of a record (this project's profile).
+use Rattle.std.specs.Prelude.{ℕ}
+use Rattle.cfs_model.specs.Claimed.{claimed}
+use Rattle.replay_model.specs.Cut.{cut}
 pub use Rattle.replay_model.specs.Cut.{StreamView}
-pub use Rattle.sched_record.specs.StreamKept.{IsStream, cut_of}
+pub use Rattle.processor_stream.specs.StreamKept.{IsStream}
+pub use Rattle.processor_stream.specs.Stream.{stream_view}
+use Rattle.sched_record.specs.RecordView.{RecordView, policy_of}
 
--- the stream, without where it lies in memory
-abbrev pub stream_view : Stream → StreamView
-stream_view s = record {
-  cpu = s.cpu;
-  tasks = s.tasks;
-  floor = s.floor;
-  start = s.start;
-  steps = s.steps;
-  last_time = s.last_time;
-  last_line = s.last_line;
-}
+-- the record's cut for a processor
+abbrev pub cut_of : RecordView → ℕ → StreamView
+cut_of r cpu = cut r.start r.floors r.tasks (claimed r.claims r.nices r.charges (policy_of r) r.events) cpu

@@ -4,13 +4,12 @@ ghost use Rattle.replay_model.specs.Cut.{tasks_at};
 ghost use Rattle.replay_model.specs.StepAt.{charge_for, claim_for, deed_at as deed_here, nice_for};
 ghost use Rattle.replay_model.specs.StepAt.{step_at as step_here};
 
-use crate::lists::Steps;
 use crate::on_line::{index_from, index_near, item_on};
 use crate::policies::{has_span, policy_if_idle, span_before};
 use crate::record::Record;
-use crate::stream::Stream;
 use cfs_model::{Act, ChargeLine, Claim, Entry, Memory, NO_LINE, NiceLine, Policy, Task};
 use companion_file::Tasks;
+use processor_stream::{Steps, Stream};
 use replay_model::{Deed, Step};
 use std::alloc::Global;
 
@@ -33,15 +32,15 @@ impl Record {
         let alloc = self.allocator();
         let tasks = tasks_of(alloc, self.tasks(), cpu)?;
         let steps = self.steps_of(alloc, cpu)?;
-        Ok(Stream {
+        Ok(Stream::new(
             cpu,
             tasks,
-            floor: floor_of(self.floors(), cpu),
-            start: self.start(),
+            floor_of(self.floors(), cpu),
+            self.start(),
             steps,
-            last_time: self.last_time(),
-            last_line: self.last_line(),
-        })
+            self.last_time(),
+            self.last_line(),
+        ))
     }
 
     /// The claim on an event's line, sought from an index in the claims on, and the index for the next event. The walk

@@ -1,13 +1,54 @@
+ghost use Rattle.std.specs.Prelude.{◌≡◌, ℕ, ◌<◌, ◌∷◌, List, length, MatchOption, Ok};
+ghost use Rattle.std.specs.List.{before_first};
+ghost use Rattle.text_parts.specs.Lines.{is_line_feed, lines_of};
+ghost use Rattle.ftrace_line.specs.Line.{LineAnswer, other};
+ghost use Rattle.sched_event.specs.Usual.{SaysAct};
 ghost use Rattle.sched_record.specs.Said.{LineSays};
 
 use crate::cause::TraceCause;
 use cfs_model::{Entry, GREATEST_LINE};
 use ftrace_line::{Line, read_line};
-use sched_event::read_event;
+use sched_event::{UsualEvent, read_event, usual_line};
+use text_parts::lines::next_line;
+
+/// What the first line of a text says, and what follows that line. The number of the line counts from 1, comments
+/// included.
+#[inline(always)]
+pub fn next_entry(number: u64, text: &[u8]) -> (Result<Option<Entry>, TraceCause>, &[u8])
+    requires { 0 < length text.now }
+    ensures says { LineSays number (before_first is_line_feed text.now) result.0 }
+    ensures lines { lines_of text.now ≡ before_first is_line_feed text.now ∷ lines_of result.1.now }
+    ensures shorter { length result.1.now < length text.now }
+{
+    if let Some(usual) = usual_line(text) {
+        return (usual_entry(number, usual.event), usual.rest);
+    }
+    let (line, rest) = next_line(text);
+    (line_entry(number, line), rest)
+}
+
+/// The event that a line says which is read already, if it says one of the four.
+#[inline(always)]
+fn usual_entry(number: u64, said: Option<UsualEvent>) -> Result<Option<Entry>, TraceCause>
+    ensures { (line : List ℕ) → MatchOption said (LineAnswer line (Ok other)) (SaysAct line)
+        → LineSays number line result }
+{
+    if number > GREATEST_LINE {
+        return Err(TraceCause::TooManyLines);
+    }
+    match said {
+        None => Ok(None),
+        Some(event) => Ok(Some(Entry {
+            line: number as u32,
+            time: event.time,
+            act: event.act,
+        })),
+    }
+}
 
 /// The event that a line says, if it says one. The number of the line counts from 1, comments included.
 #[inline(always)]
-pub fn line_entry(number: u64, line: &[u8]) -> Result<Option<Entry>, TraceCause>
+fn line_entry(number: u64, line: &[u8]) -> Result<Option<Entry>, TraceCause>
     ensures { LineSays number line.now result }
 {
     if number > GREATEST_LINE {

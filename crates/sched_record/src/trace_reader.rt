@@ -5,13 +5,12 @@ ghost use Rattle.sched_record.specs.Indices.{AreIndicesOf};
 ghost use Rattle.sched_record.specs.ReadLines.{AreKept};
 
 use crate::cause::{TraceCause, TraceFault};
-use crate::entry::line_entry;
+use crate::entry::next_entry;
 use crate::indices::Indices;
 use crate::lists::Events;
 use crate::trace::Trace;
 use cfs_model::{Entry, GREATEST_LINE, Memory};
 use std::alloc::Global;
-use text_parts::lines::next_line;
 
 /// A bad line: its number, from 1, comments counted, and why it is bad.
 #[derive(Clone, Copy, Debug, PartialEq, Eq)]
@@ -37,11 +36,12 @@ pub struct TraceReader {
 }
 
 impl TraceReader {
-    ghost use Rattle.std.specs.Prelude.{◌↔◌, ℕ, ◌∷◌, ◌++◌, [], List, IfOk, IsTrue, OnOk, OnErr, IsErrOf};
+    ghost use Rattle.std.specs.Prelude.{◌↔◌, ℕ, ◌+◌, ◌∷◌, ◌++◌, [], List, IfOk, IsNone, IsTrue, OnOk, OnErr, IsErrOf};
     ghost use Rattle.text_parts.specs.Lines.{lines_of};
     ghost use Rattle.ftrace_line.specs.Front.{IsSettled};
     ghost use Rattle.sched_record.specs.declared.trace_reader.TraceReader.{TraceReader as Reader};
     ghost use Rattle.sched_record.specs.Reader.{HasRead, HasReadFront, TakesOn};
+    ghost use Rattle.sched_record.specs.Said.{LineSays};
     ghost use Rattle.sched_record.specs.Trace.{LinesAnswer};
     ghost use Rattle.sched_record.specs.Seen.{Tells};
 
@@ -68,8 +68,11 @@ impl TraceReader {
     {
         let mut rest = text;
         while !rest.is_empty() {
-            let (line, after) = next_line(rest);
-            self.take_line(line)?;
+            if self.bad.is_some() {
+                return Ok(());
+            }
+            let (said, after) = next_entry(self.count + 1, rest);
+            self.take(said)?;
             rest = after;
         }
         Ok(())
@@ -160,18 +163,17 @@ impl TraceReader {
         }
     }
 
-    /// Reads one more line.
+    /// Reads one more line, behind lines of which none is bad; it says this.
     #[inline(always)]
-    fn take_line(&mut self, line: &[u8]) -> Result<(), Memory>
-        ensures read { OnOk result ((lines : List (List ℕ)) → HasRead self.old lines
-            → HasRead self.new (lines ++ line.now ∷ [])) }
+    fn take(&mut self, said: Result<Option<Entry>, TraceCause>) -> Result<(), Memory>
+        requires good { IsNone self.old.bad }
+        requires says { (line : List ℕ) × LineSays (self.old.count + 1) line said }
+        ensures read { OnOk result ((lines : List (List ℕ)) (line : List ℕ) → LineSays (self.old.count + 1) line said
+            → HasRead self.old lines → HasRead self.new (lines ++ line ∷ [])) }
         ensures memory { OnErr result ((lines : List (List ℕ)) → HasRead self.old lines → HasRead self.new lines) }
     {
-        if self.bad.is_some() {
-            return Ok(());
-        }
         let number = self.count + 1;
-        match line_entry(number, line) {
+        match said {
             Err(cause) => self.bad = Some(BadLine {
                 line: number,
                 cause,

@@ -6,3 +6,4 @@ pub mod Runs
 pub mod Fronts
 pub mod Times
 pub mod Words
+pub mod Unbroken

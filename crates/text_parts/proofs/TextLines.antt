@@ -7,18 +7,18 @@ use Rattle.std.proofs.lemmas.List.{drop_all, take_all, drop-drop, length-drop}
 use Rattle.std.proofs.lemmas.List.Sums.{position_or_len_is}
 use Rattle.text_parts.specs.Lines.{is_line_feed, with_front, lines_of}
 
-before_first-cons : (b : ℕ) (s : List ℕ) → is_line_feed b ≡ false →
+pub before_first-cons : (b : ℕ) (s : List ℕ) → is_line_feed b ≡ false →
     before_first is_line_feed (b ∷ s) ≡ b ∷ before_first is_line_feed s
 before_first-cons b s e = rw (e, one-add) refl
 
-after_first-cons : (b : ℕ) (s : List ℕ) → is_line_feed b ≡ false
+pub after_first-cons : (b : ℕ) (s : List ℕ) → is_line_feed b ≡ false
     → after_first is_line_feed (b ∷ s) ≡ after_first is_line_feed s
 after_first-cons b s e = rw (e, add-one, one-add, add-one) refl
 
-before_first_at : (b : ℕ) (s : List ℕ) → is_line_feed b ≡ true → before_first is_line_feed (b ∷ s) ≡ []
+pub before_first_at : (b : ℕ) (s : List ℕ) → is_line_feed b ≡ true → before_first is_line_feed (b ∷ s) ≡ []
 before_first_at b s e = rw e refl
 
-after_first_at : (b : ℕ) (s : List ℕ) → is_line_feed b ≡ true → after_first is_line_feed (b ∷ s) ≡ s
+pub after_first_at : (b : ℕ) (s : List ℕ) → is_line_feed b ≡ true → after_first is_line_feed (b ∷ s) ≡ s
 after_first_at b s e = rw e refl
 
 pub lines_of_nil : lines_of [] ≡ []

@@ -3,3 +3,4 @@ pub mod Numerals
 pub mod Lines
 pub mod Time
 pub mod Reading
+pub mod Unbroken

@@ -1,4 +1,4 @@
-ghost use Rattle.std.specs.Prelude.{◌≡◌, ◌<◌, ◌≤◌, ◌∷◌, ◌++◌, ℕ, List, false, length, take, drop};
+ghost use Rattle.std.specs.Prelude.{◌≡◌, ◌<◌, ◌≤◌, [], ◌∷◌, ◌++◌, ℕ, List, false, length, take, drop, IfSome};
 ghost use Rattle.std.specs.List.{before_first, after_first, list_any};
 ghost use Rattle.text_parts.specs.Lines.{is_line_feed, lines_of, IsWhole, is_comment};
 
@@ -18,6 +18,19 @@ pub fn next_line(text: &[u8]) -> (&[u8], &[u8])
             (line, &rest[1..])
         }
         None => (text, &text[text.len()..]),
+    }
+}
+
+/// What follows the line that ends at the front of a text: by a line feed, or because the text ends.
+#[inline(always)]
+pub fn line_end(text: &[u8]) -> Option<&[u8]>
+    ensures line { IfSome result (λ rest. before_first is_line_feed text.now ≡ []) }
+    ensures rest { IfSome result (λ rest. rest.now ≡ after_first is_line_feed text.now) }
+{
+    match text {
+        [] => Some(text),
+        [b'\n', rest @ ..] => Some(rest),
+        _ => None,
     }
 }
 

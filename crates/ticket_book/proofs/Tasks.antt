@@ -9,7 +9,7 @@ use Rattle.std.proofs.lemmas.List.Elements.{filter-append}
 use Rattle.cfs_model.specs.declared.task.Task.{Task}
 use Rattle.cfs_model.specs.contracts.task.TaskPartialEq.TheImpl as task_eq
 use Rattle.replay_model.specs.Cut.{tasks_at}
-use Rattle.sched_record.proofs.Same.{task_decides}
+use Rattle.processor_stream.proofs.Same.{task_decides}
 use Rattle.ticket_book.proofs.Cursors.{keeps_up}
 
 true_of_not : (b : Bool) → not b ≡ false → b ≡ true

@@ -1,7 +1,7 @@
 use Rattle.std.proofs.Common.{◌∙◌, ap, get_or, length, arith}
 use Rattle.queue_replay.proofs.Replays.{reached_one_more, at_middle, at_end}
 use Rattle.queue_replay.proofs.running.advance.Goals as goal
-use Rattle.sched_record.specs.Stream.{stream_view}
+use Rattle.processor_stream.specs.Stream.{stream_view}
 
 pub returns-then-state-steps-clause-at : goal.returns-then-state-steps-clause-at
 returns-then-state-steps-clause-at c =

@@ -1,7 +1,7 @@
 use Rattle.queue_replay.specs.Counting.{page_draft_view}
 use Rattle.queue_replay.proofs.Replays.{running_more}
 use Rattle.queue_replay.proofs.running.make_steps.Goals as goal
-use Rattle.sched_record.specs.Stream.{stream_view}
+use Rattle.processor_stream.specs.Stream.{stream_view}
 
 pub loop-left-preserved : goal.loop-left-preserved
 loop-left-preserved c =

@@ -1,7 +1,7 @@
 use Rattle.queue_replay.specs.Counting.{page_draft_view}
 use Rattle.queue_replay.proofs.Replays.{IsRunning}
 use Rattle.queue_replay.proofs.running.make_steps.Given as goal
-use Rattle.sched_record.specs.Stream.{stream_view}
+use Rattle.processor_stream.specs.Stream.{stream_view}
 
 abbrev pub invariant-loop-left : goal.invariant-loop-left
 invariant-loop-left l =

@@ -4,7 +4,7 @@ use Rattle.queue_replay.specs.Made.{IsAt}
 use Rattle.queue_replay.proofs.Replays.{reached_start, at_middle, at_end}
 use Rattle.queue_replay.proofs.running.start.Goals as goal
 use Rattle.queue_replay.proofs.running.start.Goals.{then-is_empty, else-is_empty}
-use Rattle.sched_record.specs.Stream.{stream_view}
+use Rattle.processor_stream.specs.Stream.{stream_view}
 
 pub returns-clause-at : goal.returns-clause-at
 returns-clause-at c =

@@ -1,6 +1,6 @@
 use Rattle.std.proofs.Common.{subst}
 use Rattle.sched_record.specs.Record.{record_view}
-use Rattle.sched_audit.specs.Texts.{IsRecordOf}
+use Rattle.audit_input.specs.Texts.{IsRecordOf}
 use Rattle.sched_audit.proofs.judging.hearing_of.Goals as goal
 
 pub returns-in-Err-Text-clause-outcome : goal.returns-in-Err-Text-clause-outcome

@@ -1,6 +1,6 @@
 use Rattle.std.proofs.Common.{subst, sym}
 use Rattle.sched_audit.specs.Answer.{IsAnswer}
-use Rattle.sched_audit.specs.Refusals.{IsTexts}
+use Rattle.audit_input.specs.Refusals.{IsTexts}
 use Rattle.sched_audit.proofs.Outcomes.{error_is, refused_answer}
 use Rattle.sched_audit.proofs.judging.texts_judged.Goals as goal
 

@@ -1,7 +1,7 @@
 use Rattle.std.proofs.Common.{refl}
 use Rattle.ticket_book.specs.LeastAnswer.{IsLeastAnswer}
 use Rattle.sched_audit.specs.OneOutcome.{least_view}
-use Rattle.sched_audit.specs.Report.{least_fault, least_lines}
+use Rattle.audit_report.specs.Report.{least_fault, least_lines}
 use Rattle.sched_audit.proofs.OneOf.{one_by_view, same_outcome}
 use Rattle.sched_audit.proofs.laws.one_least_outcome.Goals as goal
 

@@ -5,7 +5,7 @@ use Rattle.ticket_book.specs.OneVerdict.{VerdictView, faulted, ran, verdict_view
 use Rattle.ticket_book.specs.Verdict.{IsVerdict}
 use Rattle.ticket_book.specs.declared.verdict.Verdict.{Verdict}
 use Rattle.ticket_book.specs.declared.verdict.Verdict.TheVariants.{Run, Fault}
-use Rattle.sched_audit.specs.Report.{fault_line, run_lines, verdict_fault, verdict_lines}
+use Rattle.audit_report.specs.Report.{fault_line, run_lines, verdict_fault, verdict_lines}
 use Rattle.sched_audit.proofs.OneOf.{one_by_view, same_outcome}
 use Rattle.sched_audit.proofs.laws.one_outcome.Goals as goal
 

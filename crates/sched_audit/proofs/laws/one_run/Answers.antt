@@ -2,7 +2,7 @@ use Rattle.ticket_book.specs.LeastAnswer.{IsLeastAnswer}
 use Rattle.ticket_book.specs.OneVerdict.{verdict_view}
 use Rattle.ticket_book.specs.Verdict.{IsVerdict}
 use Rattle.sched_audit.specs.OneOutcome.{least_view}
-use Rattle.sched_audit.specs.Report.{least_fault, least_lines, verdict_fault, verdict_lines}
+use Rattle.audit_report.specs.Report.{least_fault, least_lines, verdict_fault, verdict_lines}
 use Rattle.sched_audit.proofs.OneOf.{one_run_by}
 use Rattle.sched_audit.proofs.laws.one_run.Goals as goal
 

@@ -1,5 +1,5 @@
 use Rattle.std.proofs.Common.{◌<◌, ◌∙◌, IfSome, length, subst, sym}
-use Rattle.queue_replay.proofs.Indexed.{own_there, own_nowhere}
+use Rattle.queue_replay.proofs.Indexed.{own_apart, own_there, own_nowhere}
 use Rattle.queue_replay.proofs.tally_book.TallyBook.index_of.Goals as goal
 
 pub returns-clause-found : goal.returns-clause-found
@@ -13,3 +13,8 @@ pub returns-clause-none : goal.returns-clause-none
 returns-clause-none c is =
     let book = c.args.self.now in
     own_nowhere book.table book.own c.args.pid (sym c.index_of.ensures.index ∙ is)
+
+pub returns-clause-apart : goal.returns-clause-apart
+returns-clause-apart c =
+    let book = c.args.self.now in
+    own_apart book.table book.own c.index_of.ensures.sound

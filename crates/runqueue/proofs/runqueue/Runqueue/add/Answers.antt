@@ -1,82 +1,130 @@
-use Rattle.std.proofs.Common.{◌≡◌, ℤ, true, refl, subst, rules, to_z, of_z, w64}
+use Rattle.std.proofs.Common.{◌≡◌, ℤ, Some, true, refl, subst, rules, to_z, of_z, w64}
 use Rattle.std.specs.BTreeSet as set
 use Rattle.runqueue.specs.Entities.{by_runtime, waiting_task}
+use Rattle.runqueue.specs.TaskRows.{KeepsRows}
 use Rattle.runqueue.proofs.EntitiesKept.{no_runner, same_queue}
-use Rattle.runqueue.proofs.Moved.{same_entries, same_waiting_keys}
-use Rattle.runqueue.proofs.Coming.{come_runs_alone, run_part_alone, come_rests, come_waits, come_part, come_undone}
+use Rattle.runqueue.proofs.Moved.{same_waiting_keys}
+use Rattle.runqueue.proofs.Coming.{come_runs_alone, run_part_alone, come_rests, come_waits, come_part, on_err}
+use Rattle.runqueue.specs.Queue.{HoldsSame}
+use Rattle.runqueue.proofs.TaskRows.{keeps_same, seated_at, seated_kept, task_same, writes_from}
 use Rattle.runqueue.proofs.runqueue.Runqueue.add.Goals as goal
 
 pub invariant_of-self : goal.invariant_of-self
 invariant_of-self c =
     let q = c.args.self.now in
+    let room = c.make_room.new.self in
+    let e = c.make_room.ensures in
     record {
-      kept = same_queue q.runner q.tasks c.insert.new.self q.waiting q.waiting
-          (same_entries q.tasks c.insert.new.self c.in_err-insert.ensures.err) (λ v p. refl) q.kept;
+      kept = same_queue q.runner q.tasks room q.waiting q.waiting (task_same q.tasks room e.pids e.rows)
+          (λ v p. refl) q.kept;
+      seated = seated_kept q.runner q.tasks.pids room.pids q.seat q.seated
+          (keeps_same q.tasks.pids room.pids e.pids);
     }
+
+pub returns-in_err-make_room-clause-same : goal.returns-in_err-make_room-clause-same
+returns-in_err-make_room-clause-same c =
+    let q = c.args.self.now in
+    let e = c.make_room.ensures in
+    on_err c.from_residual.result (HoldsSame q _)
+    (record {
+      pids = e.pids;
+      tasks = task_same q.tasks c.make_room.new.self e.pids e.rows;
+      waiting = λ v p. refl;
+    })
 
 pub invariant_of-self-in-Run : goal.invariant_of-self-in-Run
 invariant_of-self-in-Run c =
     let q = c.args.self.now in
+    let t = c.args.task in
+    let e = c.make_room.ensures in
     record {
-      kept = come_runs_alone q.runner q.tasks c.insert.new.self q.waiting q.kept
-          (no_runner q.runner q.tasks q.waiting q.floor q.mark q.kept (c.requires.alone c.in-Run.is)) c.args.task
-          c.requires.apart c.in_ok-insert.ensures.updates c.in-Run.is;
+      kept = come_runs_alone q.runner q.tasks c.put-self.new.tasks q.waiting q.kept
+          (no_runner q.runner q.tasks q.waiting q.floor q.mark q.kept (c.requires.alone c.in-Run.is)) t
+          c.requires.apart
+          (writes_from q.tasks c.make_room.new.self c.put-self.new.tasks t.pid (Some t) e.pids e.rows
+          c.put-self.ensures.written) c.in-Run.is;
+      seated = seated_at t c.put-self.new.tasks.pids c.put-self.result c.put-self.ensures.row;
     }
 
 pub returns-in-Run-clause-part : goal.returns-in-Run-clause-part
 returns-in-Run-clause-part c =
     let q = c.args.self.now in
-    run_part_alone q.runner q.tasks c.insert.new.self q.waiting q.kept
-    (no_runner q.runner q.tasks q.waiting q.floor q.mark q.kept (c.requires.alone c.in-Run.is)) c.args.task
-    c.requires.apart c.in_ok-insert.ensures.updates q.floor q.mark
+    let t = c.args.task in
+    let e = c.make_room.ensures in
+    run_part_alone q.runner q.tasks c.put-self.new.tasks q.waiting q.kept
+    (no_runner q.runner q.tasks q.waiting q.floor q.mark q.kept (c.requires.alone c.in-Run.is)) t
+    c.requires.apart
+    (writes_from q.tasks c.make_room.new.self c.put-self.new.tasks t.pid (Some t) e.pids e.rows
+    c.put-self.ensures.written) q.floor q.mark
 
 pub invariant_of-self-in-Rest : goal.invariant_of-self-in-Rest
 invariant_of-self-in-Rest c =
     let q = c.args.self.now in
+    let t = c.args.task in
+    let e = c.make_room.ensures in
+    let n = c.put-in-Rest.new.tasks in
     record {
-      kept = come_rests q.runner q.tasks c.insert.new.self q.waiting q.kept c.args.task c.requires.apart
-          c.in_ok-insert.ensures.updates c.in-Rest.is;
+      kept = come_rests q.runner q.tasks n q.waiting q.kept t c.requires.apart
+          (writes_from q.tasks c.make_room.new.self n t.pid (Some t) e.pids e.rows c.put-in-Rest.ensures.written)
+          c.in-Rest.is;
+      seated = seated_kept q.runner q.tasks.pids n.pids q.seat q.seated
+          (subst (λ pids. KeepsRows pids n.pids) e.pids c.put-in-Rest.ensures.kept);
     }
 
 pub returns-in-Rest-clause-part : goal.returns-in-Rest-clause-part
 returns-in-Rest-clause-part c =
     let q = c.args.self.now in
-    come_part q.runner q.tasks c.insert.new.self q.waiting q.kept c.args.task c.requires.apart
-    c.in_ok-insert.ensures.updates q.floor q.mark
+    let t = c.args.task in
+    let e = c.make_room.ensures in
+    come_part q.runner q.tasks c.put-in-Rest.new.tasks q.waiting q.kept t c.requires.apart
+    (writes_from q.tasks c.make_room.new.self c.put-in-Rest.new.tasks t.pid (Some t) e.pids e.rows
+    c.put-in-Rest.ensures.written) q.floor q.mark
 
-pub invariant_of-self-in-Ok : goal.invariant_of-self-in-Ok
-invariant_of-self-in-Ok c =
+pub invariant_of-self-in-Wait : goal.invariant_of-self-in-Wait
+invariant_of-self-in-Wait c =
     let q = c.args.self.now in
     let t = c.args.task in
+    let e = c.make_room.ensures in
+    let n = c.put.new.tasks in
     let whole : to_z w64 (of_z w64 t.v) ≡ t.v = search rules in
     record {
-      kept = come_waits q.runner q.tasks c.insert.new.self q.waiting q.kept t c.requires.apart
-          c.in_ok-insert.ensures.updates c.insert-in-Wait.new.self
-          (subst (λ (v : ℤ). set.Updates by_runtime q.waiting c.insert-in-Wait.new.self (waiting_task v t.pid) true)
-          whole c.in-Ok.ensures.updates) c.in-Wait.is;
+      kept = come_waits q.runner q.tasks n q.waiting q.kept t c.requires.apart
+          (writes_from q.tasks c.make_room.new.self n t.pid (Some t) e.pids e.rows c.put.ensures.written)
+          c.insert.new.self
+          (subst (λ (v : ℤ). set.Updates by_runtime q.waiting c.insert.new.self (waiting_task v t.pid) true)
+          whole c.in_ok-insert-in-Wait.ensures.updates) c.in-Wait.is;
+      seated = seated_kept q.runner q.tasks.pids n.pids q.seat q.seated
+          (subst (λ pids. KeepsRows pids n.pids) e.pids c.put.ensures.kept);
     }
 
-pub returns-in-Ok-clause-part : goal.returns-in-Ok-clause-part
-returns-in-Ok-clause-part c =
+pub returns-in_ok-insert-in-Wait-clause-part : goal.returns-in_ok-insert-in-Wait-clause-part
+returns-in_ok-insert-in-Wait-clause-part c =
     let q = c.args.self.now in
-    come_part q.runner q.tasks c.insert.new.self q.waiting q.kept c.args.task c.requires.apart
-    c.in_ok-insert.ensures.updates q.floor q.mark
+    let t = c.args.task in
+    let e = c.make_room.ensures in
+    come_part q.runner q.tasks c.put.new.tasks q.waiting q.kept t c.requires.apart
+    (writes_from q.tasks c.make_room.new.self c.put.new.tasks t.pid (Some t) e.pids e.rows
+    c.put.ensures.written) q.floor q.mark
 
-pub invariant_of-self-in-Err : goal.invariant_of-self-in-Err
-invariant_of-self-in-Err c =
+pub invariant_of-self-in-Break-branch-2 : goal.invariant_of-self-in-Break-branch-2
+invariant_of-self-in-Break-branch-2 c =
     let q = c.args.self.now in
+    let room = c.make_room.new.self in
+    let e = c.make_room.ensures in
     record {
-      kept = same_queue q.runner q.tasks c.remove.new.self q.waiting c.insert-in-Wait.new.self
-          (come_undone q.runner q.tasks c.insert.new.self q.waiting q.kept c.args.task c.requires.apart
-          c.in_ok-insert.ensures.updates c.remove.new.self c.remove.ensures.updates)
-          (same_waiting_keys q.waiting c.insert-in-Wait.new.self c.in-Err.ensures.err) q.kept;
+      kept = same_queue q.runner q.tasks room q.waiting c.insert.new.self (task_same q.tasks room e.pids e.rows)
+          (same_waiting_keys q.waiting c.insert.new.self c.in_err-insert-in-Wait.ensures.err) q.kept;
+      seated = seated_kept q.runner q.tasks.pids room.pids q.seat q.seated
+          (keeps_same q.tasks.pids room.pids e.pids);
     }
 
-pub returns-in-Err-clause-same : goal.returns-in-Err-clause-same
-returns-in-Err-clause-same c =
+pub returns-in_err-insert-in-Wait-clause-same : goal.returns-in_err-insert-in-Wait-clause-same
+returns-in_err-insert-in-Wait-clause-same c =
     let q = c.args.self.now in
-    record {
-      tasks = come_undone q.runner q.tasks c.insert.new.self q.waiting q.kept c.args.task c.requires.apart
-          c.in_ok-insert.ensures.updates c.remove.new.self c.remove.ensures.updates;
-      waiting = same_waiting_keys q.waiting c.insert-in-Wait.new.self c.in-Err.ensures.err;
-    }
+    let e = c.make_room.ensures in
+    on_err c.from_residual-in_err-insert-in-Wait.result (HoldsSame q _)
+    (record {
+      pids = e.pids;
+      tasks = task_same q.tasks c.make_room.new.self e.pids e.rows;
+      waiting = same_waiting_keys q.waiting c.insert.new.self c.in_err-insert-in-Wait.ensures.err;
+    })

@@ -1,7 +1,6 @@
 use Rattle.std.proofs.Common.{◌≡◌, ◌∙◌, ap, subst, sym, Some, None, option_map, to_z, of_z, w64}
 use Rattle.replay_model.specs.Deeds.{with_entity}
-use Rattle.replay_model.specs.Part.{NobodyIn, Part}
-use Rattle.replay_model.specs.PartWords.{start_part}
+use Rattle.replay_model.specs.Part.{Part}
 use Rattle.cfs_model.specs.declared.task.Place.TheVariants.{Run}
 use Rattle.runqueue.specs.Queue.{runqueue_view}
 use Rattle.runqueue.specs.Tasks.{entity_of, entity_from}

@@ -2,6 +2,7 @@ use Rattle.std.proofs.Common.{◌≡◌, ℤ, false, subst, sym, ◌∙◌, rule
 use Rattle.std.specs.BTreeSet as set
 use Rattle.runqueue.specs.Entities.{by_runtime, waiting_task}
 use Rattle.runqueue.proofs.Moved.{gone_queue, nowhere_queue, gone_entities}
+use Rattle.runqueue.proofs.TaskRows.{keeps_same, seated_kept}
 use Rattle.runqueue.proofs.runqueue.Runqueue.remove.Goals as goal
 
 pub invariant_of-self : goal.invariant_of-self
@@ -10,30 +11,34 @@ invariant_of-self c =
     let t = c.in-Some.task in
     let whole : to_z w64 (of_z w64 t.v) ≡ t.v = search rules in
     record {
-      kept = gone_queue q.runner q.tasks c.remove.new.self q.waiting q.kept c.args.pid c.requires
-          c.remove.ensures.updates c.remove-in-Some.new.self t
-          (sym c.remove.ensures.value ∙ c.in-Some.is)
-          (subst (λ (v : ℤ). set.Updates by_runtime q.waiting c.remove-in-Some.new.self
-          (waiting_task v c.args.pid) false) whole c.remove-in-Some.ensures.updates);
+      kept = gone_queue q.runner q.tasks c.take_out.new.tasks q.waiting q.kept c.args.pid c.requires
+          c.take_out.ensures.gone c.remove.new.self t
+          (sym c.take_out.ensures.value ∙ c.in-Some.is)
+          (subst (λ (v : ℤ). set.Updates by_runtime q.waiting c.remove.new.self
+          (waiting_task v c.args.pid) false) whole c.remove.ensures.updates);
+      seated = seated_kept q.runner q.tasks.pids c.take_out.new.tasks.pids q.seat q.seated
+          (keeps_same q.tasks.pids c.take_out.new.tasks.pids c.take_out.ensures.pids);
     }
 
 pub invariant_of-self-in_default : goal.invariant_of-self-in_default
 invariant_of-self-in_default c =
     let q = c.args.self.now in
     record {
-      kept = nowhere_queue q.runner q.tasks c.remove.new.self q.waiting q.kept c.args.pid c.requires
-          c.remove.ensures.updates
-          (sym c.remove.ensures.value ∙ c.in_default.is);
+      kept = nowhere_queue q.runner q.tasks c.take_out.new.tasks q.waiting q.kept c.args.pid c.requires
+          c.take_out.ensures.gone
+          (sym c.take_out.ensures.value ∙ c.in_default.is);
+      seated = seated_kept q.runner q.tasks.pids c.take_out.new.tasks.pids q.seat q.seated
+          (keeps_same q.tasks.pids c.take_out.new.tasks.pids c.take_out.ensures.pids);
     }
 
 pub returns-in-Some : goal.returns-in-Some
 returns-in-Some c =
     let q = c.args.self.now in
-    gone_entities q.runner q.tasks c.remove.new.self q.waiting q.kept c.args.pid c.requires c.remove.ensures.updates
+    gone_entities q.runner q.tasks c.take_out.new.tasks q.waiting q.kept c.args.pid c.requires c.take_out.ensures.gone
     q.floor q.mark
 
 pub returns-in_default : goal.returns-in_default
 returns-in_default c =
     let q = c.args.self.now in
-    gone_entities q.runner q.tasks c.remove.new.self q.waiting q.kept c.args.pid c.requires c.remove.ensures.updates
+    gone_entities q.runner q.tasks c.take_out.new.tasks q.waiting q.kept c.args.pid c.requires c.take_out.ensures.gone
     q.floor q.mark

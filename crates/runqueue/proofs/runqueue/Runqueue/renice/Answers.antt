@@ -1,21 +1,23 @@
-use Rattle.std.proofs.Common.{Option, sym, ap, subst, ◌∙◌}
+use Rattle.std.proofs.Common.{Option, option_map, refl, sym, ap, subst, ◌∙◌}
 use Rattle.runqueue.specs.declared.sched_entity.SchedEntity.{SchedEntity}
-use Rattle.runqueue.specs.Entities.{IsQueue, entities}
+use Rattle.runqueue.specs.Entities.{IsQueue, entities, reniced_task}
 use Rattle.runqueue.specs.Queue.{runqueue_view}
 use Rattle.runqueue.proofs.Parts.{part_with}
-use Rattle.runqueue.proofs.Renices.{nobody_changed, nobody_listed, reniced_part, reniced_queue, stands_listed, written}
+use Rattle.runqueue.proofs.TaskRows.{seated_same}
+use Rattle.runqueue.proofs.Renices.{nobody_changed, nobody_listed, reniced_part, reniced_queue, reniced_seated}
+use Rattle.runqueue.proofs.Renices.{stands_listed, written}
 use Rattle.runqueue.proofs.runqueue.Runqueue.renice.Goals as goal
 
 pub returns-in_err-task-clause-part : goal.returns-in_err-task-clause-part
 returns-in_err-task-clause-part c =
     let q = c.args.self.now in
     nobody_changed (runqueue_view q) c.args.pid c.args.nice
-    (nobody_listed q.runner q.tasks q.waiting q.kept c.args.pid (sym c.in_err-task.ensures.value))
+    (nobody_listed q.runner q.tasks q.waiting q.kept c.args.pid (sym c.in_err-task.ensures))
 
 pub returns-in_err-task-clause-strange : goal.returns-in_err-task-clause-strange
 returns-in_err-task-clause-strange c none =
     let q = c.args.self.now in
-    nobody_listed q.runner q.tasks q.waiting q.kept c.args.pid (sym c.in_err-task.ensures.value)
+    nobody_listed q.runner q.tasks q.waiting q.kept c.args.pid (sym c.in_err-task.ensures)
 
 pub invariant_of-self : goal.invariant_of-self
 invariant_of-self c =
@@ -27,9 +29,12 @@ invariant_of-self c =
       kept = subst (λ (r : Option SchedEntity). IsQueue r c.write_over.new.tasks c.args.self.now.waiting)
           (sym c.reniced_runner-self.ensures)
           (reniced_queue q.tasks n pid nice
-          (written q.tasks n pid nice c.in_ok-task.field-0.now
-          (sym c.in_ok-task.ensures.value) c.write_over.ensures)
+          (written q.tasks n pid nice c.in_ok-task.task
+          (sym c.in_ok-task.ensures) c.write_over.ensures.written)
           q.runner q.waiting q.kept);
+      seated = seated_same (option_map (reniced_task pid nice) q.runner) c.reniced_runner-self.result q.tasks.pids
+          n.pids q.seat q.seat c.reniced_runner-self.ensures c.write_over.ensures.pids refl
+          (reniced_seated q.runner q.tasks.pids q.seat pid nice q.seated);
     }
 
 pub returns-clause-part : goal.returns-clause-part
@@ -41,8 +46,8 @@ returns-clause-part c =
     ap (λ (r : Option SchedEntity). part_with (entities r c.write_over.new.tasks) c.args.self.now.floor
     c.args.self.now.mark)
     c.reniced_runner-self.ensures
-    ∙ reniced_part q.tasks n pid nice (written q.tasks n pid nice c.in_ok-task.field-0.now
-    (sym c.in_ok-task.ensures.value) c.write_over.ensures)
+    ∙ reniced_part q.tasks n pid nice (written q.tasks n pid nice c.in_ok-task.task
+    (sym c.in_ok-task.ensures) c.write_over.ensures.written)
     q.runner q.floor q.mark
 
 pub returns-clause-stands : goal.returns-clause-stands
@@ -51,6 +56,6 @@ returns-clause-stands c some =
     let n = c.write_over.new.tasks in
     let pid = c.args.pid in
     let nice = c.args.nice in
-    stands_listed q.tasks n pid nice (written q.tasks n pid nice c.in_ok-task.field-0.now
-    (sym c.in_ok-task.ensures.value) c.write_over.ensures)
-    q.runner (λ e. let f = c.in_ok-task.ensures.value ∙ e in cc)
+    stands_listed q.tasks n pid nice (written q.tasks n pid nice c.in_ok-task.task
+    (sym c.in_ok-task.ensures) c.write_over.ensures.written)
+    q.runner (λ e. let f = c.in_ok-task.ensures ∙ e in cc)

@@ -7,9 +7,21 @@ use Rattle.replay_model.specs.AfterDeed.{part_after_next}
 use Rattle.replay_model.specs.Part.{Part}
 use Rattle.runqueue.specs.Entities.{by_runtime, entities, waiting_task}
 use Rattle.runqueue.specs.Tasks.{entity_of}
-use Rattle.runqueue.proofs.Moved.{kept_runner, next_entities, next_queue, no_next}
+use Rattle.runqueue.proofs.TaskRows.{has_row, seated_at}
+use Rattle.runqueue.proofs.Moved.{kept_runner, listed_has, next_entities, next_queue, no_next}
 use Rattle.runqueue.proofs.EntitiesKept.{no_runner}
 use Rattle.runqueue.proofs.runqueue.Runqueue.set_next.Goals as goal
+
+pub unreachable-requires : goal.unreachable-requires
+unreachable-requires c =
+    let q = c.args.self.now in
+    let none = no_runner q.runner q.tasks q.waiting q.floor q.mark q.kept c.requires.nobody in
+    let t = c.in-Some.task in
+    let has : Some (entity_of t) ≡ entities None q.tasks c.args.next =
+    sym (ap (option_map entity_of) c.in-Some.is) ∙ c.requires.task c.if-next-eq-IDLE_PID.false
+    ∙ ap (λ (r : Option SchedEntity). entities r q.tasks c.args.next) none in
+    has_row q.tasks c.args.next (listed_has q.tasks c.args.next (entity_of t) (sym has))
+    (sym c.index_of.ensures.index ∙ c.in_default-index_of.is)
 
 pub invariant_of-self : goal.invariant_of-self
 invariant_of-self c =
@@ -25,10 +37,12 @@ invariant_of-self c =
           (kept_runner q.runner q.tasks q.waiting None q.kept none) (sym has)
           (subst (λ (v : ℤ). set.Updates by_runtime q.waiting c.remove.new.self (waiting_task v c.args.next) false)
           whole c.remove.ensures.updates) refl;
+      seated = seated_at _ q.tasks.pids c.in-Some-index_of.seat
+          (sym c.index_of.ensures.index ∙ c.in-Some-index_of.is);
     }
 
-pub returns-in-Some : goal.returns-in-Some
-returns-in-Some c =
+pub returns-in-Some-index_of : goal.returns-in-Some-index_of
+returns-in-Some-index_of c =
     let q = c.args.self.now in
     let none = no_runner q.runner q.tasks q.waiting q.floor q.mark q.kept c.requires.nobody in
     let t = c.in-Some.task in

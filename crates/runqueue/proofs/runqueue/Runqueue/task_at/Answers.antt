@@ -1,4 +1,5 @@
-use Rattle.std.proofs.Common.{◌∙◌}
+use Rattle.std.proofs.Common.{◌∙◌, ap, option_map}
+use Rattle.runqueue.specs.Tasks.{entity_of}
 use Rattle.runqueue.proofs.Moved.{stands_there, stands_apart, stands_alone}
 use Rattle.runqueue.proofs.runqueue.Runqueue.task_at.Goals as goal
 
@@ -10,9 +11,10 @@ returns-then-task-pid c =
 pub returns-else-task-pid : goal.returns-else-task-pid
 returns-else-task-pid c =
     let q = c.args.self.now in
-    c.listed.ensures ∙ stands_apart q.runner q.tasks c.args.pid c.in-Some.task c.in-Some.is c.if-task-pid.false
+    ap (option_map entity_of) c.listed.ensures
+    ∙ stands_apart q.runner q.tasks c.args.pid c.in-Some.task c.in-Some.is c.if-task-pid.false
 
 pub returns-in-None : goal.returns-in-None
 returns-in-None c =
     let q = c.args.self.now in
-    c.listed-in-None.ensures ∙ stands_alone q.runner q.tasks c.args.pid c.in-None.is
+    ap (option_map entity_of) c.listed-in-None.ensures ∙ stands_alone q.runner q.tasks c.args.pid c.in-None.is

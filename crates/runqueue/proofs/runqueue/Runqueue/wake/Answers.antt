@@ -5,6 +5,7 @@ use Rattle.runqueue.specs.Queue.{runqueue_view}
 use Rattle.runqueue.specs.Entities.{by_runtime, entities, waiting_task}
 use Rattle.runqueue.specs.Tasks.{entity_of}
 use Rattle.runqueue.proofs.Moved.{nobody_woken, not_woken, wake_has, woken_queue, woken_part}
+use Rattle.runqueue.proofs.TaskRows.{keeps_same, seated_kept}
 use Rattle.runqueue.proofs.runqueue.Runqueue.wake.Goals as goal
 
 pub returns-in_default-clause-part : goal.returns-in_default-clause-part
@@ -42,12 +43,14 @@ invariant_of-self-in-Rest c =
     let whole : to_z w64 (of_z w64 v) ≡ v = search rules in
     record {
       kept = woken_queue q.runner q.tasks c.write_over.new.tasks q.waiting q.kept c.args.pid t e c.in-Rest.is _
-          c.write_over.ensures v
+          c.write_over.ensures.written v
           (ap (λ (x : ℤ). record { place = Wait; nice = t.nice; policy = t.policy; runtime = x; drift = t.drift })
           whole)
           c.insert.new.self
           (subst (λ (x : ℤ). set.Updates by_runtime q.waiting c.insert.new.self (waiting_task x c.args.pid) true) whole
           c.in_ok-insert-in-Rest.ensures.updates);
+      seated = seated_kept q.runner q.tasks.pids c.write_over.new.tasks.pids q.seat q.seated
+          (keeps_same q.tasks.pids c.write_over.new.tasks.pids c.write_over.ensures.pids);
     }
 
 pub returns-in_ok-insert-in-Rest-clause-part : goal.returns-in_ok-insert-in-Rest-clause-part
@@ -59,7 +62,7 @@ returns-in_ok-insert-in-Rest-clause-part c =
     ∙ c.requires in
     let whole : to_z w64 (of_z w64 v) ≡ v = search rules in
     woken_part q.runner q.tasks c.write_over.new.tasks q.waiting q.kept c.args.pid t e c.in-Rest.is _
-    c.write_over.ensures v
+    c.write_over.ensures.written v
     (ap (λ (x : ℤ). record { place = Wait; nice = t.nice; policy = t.policy; runtime = x; drift = t.drift }) whole)
     q.floor q.mark
     c.args.claim refl

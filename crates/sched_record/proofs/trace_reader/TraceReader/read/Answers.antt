@@ -1,28 +1,47 @@
 use Rattle.std.proofs.Common.{◌≡◌, ℕ, ◌<◌, ◌++◌, ◌∷◌, [], eqb, false, sym, ap, subst, ◌∙◌, arith}
 use Rattle.std.proofs.lemmas.Bool.{eqb-true, eqb-false}
 use Rattle.std.proofs.lemmas.List.{append_assoc, nil_from_length}
-use Rattle.text_parts.specs.Lines.{lines_of}
+use Rattle.std.specs.List.{before_first}
+use Rattle.text_parts.specs.Lines.{is_line_feed, lines_of}
 use Rattle.sched_record.specs.Reader.{HasRead}
-use Rattle.sched_record.proofs.Reader.{no_lines}
+use Rattle.sched_record.proofs.Reader.{no_lines, bad_stays}
 use Rattle.sched_record.proofs.trace_reader.TraceReader.read.Goals as goal
 
 -- what a test for emptiness says
 some_left : (n : ℕ) → eqb n 0 ≡ false → 0 < n
 some_left n e = let ne = eqb-false n 0 e in omega (arith, ne)
 
+pub next_entry-said-requires : goal.next_entry-said-requires
+next_entry-said-requires c = some_left _ (sym c.is_empty.ensures ∙ c.loop-rest-test.true)
+
+pub take-requires-clause-good : goal.take-requires-clause-good
+take-requires-clause-good c = sym c.is_some.ensures ∙ c.if-is_some.false
+
+pub take-requires-clause-says : goal.take-requires-clause-says
+take-requires-clause-says c = (before_first is_line_feed c.loop-rest.rest.now, c.next_entry-said.ensures.says)
+
+pub returns-then-is_some-clause-read : goal.returns-then-is_some-clause-read
+returns-then-is_some-clause-read c lines read =
+    let before = c.loop-rest.invariant in
+    let left = lines_of c.loop-rest.rest.now in
+    subst (HasRead c.loop-rest.self) (append_assoc lines before.front left
+    ∙ ap (λ ls. lines ++ ls) (sym before.parts))
+    (bad_stays c.loop-rest.self (lines ++ before.front) left (sym c.is_some.ensures ∙ c.if-is_some.true)
+    (before.read lines read))
+
 pub loop-rest-preserved : goal.loop-rest-preserved
 loop-rest-preserved c =
     let before = c.loop-rest.invariant in
-    let line = c.next_line.result.0.now in
-    let after = c.next_line.result.1.now in
-    let some = some_left _ (sym c.is_empty.ensures ∙ c.loop-rest-test.true) in
+    let line = before_first is_line_feed c.loop-rest.rest.now in
+    let after = c.next_entry-said.result.1.now in
     record {
       front = before.front ++ line ∷ [];
-      parts = before.parts ∙ ap (λ ls. before.front ++ ls) (c.next_line.ensures.lines some)
+      parts = before.parts ∙ ap (λ ls. before.front ++ ls) c.next_entry-said.ensures.lines
           ∙ sym (append_assoc before.front (line ∷ []) (lines_of after));
       read = λ lines read.
-          subst (λ ls. HasRead c.take_line.new.self ls) (append_assoc lines before.front (line ∷ []))
-          (c.in_ok-take_line.ensures.read (lines ++ before.front) (before.read lines read));
+          subst (λ ls. HasRead c.take.new.self ls) (append_assoc lines before.front (line ∷ []))
+          (c.in_ok-take.ensures.read (lines ++ before.front) line c.next_entry-said.ensures.says
+          (before.read lines read));
     }
 
 pub returns-clause-read : goal.returns-clause-read

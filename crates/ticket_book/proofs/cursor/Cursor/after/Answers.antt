@@ -1,7 +1,7 @@
 use Rattle.std.proofs.Common.{rules, sym, ◌∙◌, true≢false, arith}
 use Rattle.std.proofs.lemmas.Bool.Decides.{Decides-at}
 use Rattle.std.proofs.lemmas.List.{get_or_default}
-use Rattle.sched_record.proofs.Same.{step_decides}
+use Rattle.processor_stream.proofs.Same.{step_decides}
 use Rattle.ticket_book.specs.Cursor.{IsCursor}
 use Rattle.ticket_book.specs.declared.cursor.Cursor.TheVariants.{At}
 use Rattle.ticket_book.proofs.Cursors.{falls_apart, keeps_up, stays_apart}

@@ -1,0 +1,4 @@
+mod Counting
+mod Holding
+mod Passing
+pub mod Versions

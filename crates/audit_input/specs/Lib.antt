@@ -1,0 +1,7 @@
+pub mod Texts
+pub mod Causes
+pub mod Refusals
+pub mod Words
+pub mod Codes
+pub mod Known
+pub mod Held

@@ -1,0 +1,32 @@
+//! What goes into an audit: two inputs are read to their ends, and are a record together, or one text is refused.
+//! A line of theirs can be had again.
+#![tactic(auto)]
+
+mod again;
+mod cause;
+mod checkpoints;
+mod failed;
+mod fault;
+mod feed;
+mod feed_of;
+mod keeping_feed;
+mod line_finding;
+mod lines;
+mod reading;
+mod refused;
+mod source;
+mod texts;
+
+pub use again::line_again;
+pub use cause::Cause;
+pub use failed::Failed;
+pub use fault::Fault;
+pub use feed::Feed;
+pub use feed_of::FeedOf;
+pub use keeping_feed::KeepingFeed;
+pub use line_finding::line_of;
+pub use lines::read_lines;
+pub use reading::read_all;
+pub use refused::Refused;
+pub use source::Source;
+pub use texts::{record_of, tells_charges};

@@ -1,0 +1,109 @@
+-- The report (this project's format): its lines, each ended by a line feed, with numbers in plain decimal.
+use Rattle.std.specs.Prelude.{ℕ, Bool, true, false, Option, Some, None, List, [], ◌∷◌, ◌++◌, codes, decimal, map}
+use Rattle.std.specs.List.{concat}
+use Rattle.audit_input.specs.Words.{cause_word, source_word}
+use Rattle.audit_input.specs.declared.cause.Cause.{Cause}
+use Rattle.audit_input.specs.declared.source.Source.{Source}
+use Rattle.audit_report.specs.declared.outcome.Outcome.{Outcome}
+use Rattle.audit_report.specs.declared.outcome.Outcome.TheVariants.{Judged, Text}
+use Rattle.cfs_model.specs.Kinds.{name_of, text_of}
+use Rattle.cfs_model.specs.Knobs.{KnobsView, all_settings, value_at}
+use Rattle.cfs_model.specs.Options.{name_of_setting}
+use Rattle.cfs_model.specs.declared.setting.Setting.{Setting}
+use Rattle.cfs_model.specs.declared.setting.Setting.TheVariants.{Granularity, Credit, Debit, Slack}
+use Rattle.cfs_model.specs.declared.kind.Kind.{Kind}
+use Rattle.replay_model.specs.declared.first_fault.FirstFault.{FirstFault}
+use Rattle.replay_model.specs.declared.page.Tally.{Tally}
+use Rattle.ticket_book.specs.SummaryView.{SummaryView, summary_view}
+use Rattle.ticket_book.specs.declared.least_settings.LeastSettings.{LeastSettings}
+use Rattle.ticket_book.specs.declared.least_settings.LeastSettings.TheVariants as leasts
+use Rattle.ticket_book.specs.declared.verdict.Verdict.{Verdict}
+use Rattle.ticket_book.specs.declared.verdict.Verdict.TheVariants as verdicts
+
+-- a text, and then a line feed
+abbrev pub line_of : List ℕ → List ℕ
+line_of text = text ++ 10 ∷ []
+
+-- a number and what it counts
+abbrev pub count_line : List ℕ → ℕ → List ℕ
+count_line what count = line_of (what ++ (codes " " ++ decimal count))
+
+-- what a task did, in nanoseconds, virtual nanoseconds and switches to it
+abbrev pub tally_line : Tally → List ℕ
+tally_line t =
+    line_of (codes "task " ++ (decimal t.pid ++ (codes " ran " ++ (decimal t.ran
+    ++ (codes " charged " ++ (decimal t.charged ++ (codes " picks " ++ decimal t.picks)))))))
+
+-- a run, and how often each thing happened in it
+abbrev pub count_lines : SummaryView → List ℕ
+count_lines summary =
+    line_of (codes "run") ++ (count_line (codes "events") summary.events
+    ++ (count_line (codes "switches") summary.switches
+    ++ (count_line (codes "migrations") summary.migrations ++ (count_line (codes "births") summary.births
+    ++ count_line (codes "deaths") summary.deaths))))
+
+-- what each task did
+abbrev pub tally_lines : List Tally → List ℕ
+tally_lines tallies = concat (map tally_line tallies)
+
+-- a run, and what it did
+abbrev pub run_lines : SummaryView → List ℕ
+run_lines summary = count_lines summary ++ tally_lines summary.tallies
+
+-- what is wrong, by the kind's name and text
+abbrev pub words_of : Kind → List ℕ
+words_of kind = name_of kind ++ (codes ": " ++ text_of kind)
+
+-- the line of a fault
+abbrev pub fault_line : FirstFault → List ℕ
+fault_line f =
+    line_of (codes "fault line " ++ (decimal f.line ++ (codes " cpu " ++ (decimal f.cpu
+    ++ (codes " pid " ++ (decimal f.pid ++ (codes " " ++ words_of f.kind)))))))
+
+-- the line of a refusal
+abbrev pub refusal_line : Source → ℕ → Cause → List ℕ
+refusal_line source line cause =
+    line_of (codes "refused " ++ (source_word source
+    ++ (codes " line " ++ (decimal line ++ (codes " " ++ cause_word cause)))))
+
+-- a setting, in nanoseconds, by the name of its option
+abbrev pub setting_line : KnobsView → Setting → List ℕ
+setting_line knobs which = count_line (codes "least " ++ name_of_setting which) (value_at knobs which)
+
+-- each of these settings
+abbrev pub lines_of_settings : KnobsView → List Setting → List ℕ
+lines_of_settings knobs settings = concat (map (setting_line knobs) settings)
+
+-- the settings that are told: the drift among them where the companion tells charges
+abbrev pub told_settings : Bool → List Setting
+told_settings true = all_settings
+told_settings false = Granularity ∷ Credit ∷ Debit ∷ Slack ∷ []
+
+-- each of those
+abbrev pub setting_lines : Bool → KnobsView → List ℕ
+setting_lines tells_charges knobs = lines_of_settings knobs (told_settings tells_charges)
+
+-- what is written for a verdict
+abbrev pub verdict_lines : Verdict → List ℕ
+verdict_lines (verdicts.Run summary) = run_lines (summary_view summary)
+verdict_lines (verdicts.Fault fault) = fault_line fault
+
+-- and the fault that it names
+abbrev pub verdict_fault : Verdict → Option FirstFault
+verdict_fault (verdicts.Run summary) = None
+verdict_fault (verdicts.Fault fault) = Some fault
+
+-- what is written for least settings, by whether the companion tells charges
+abbrev pub least_lines : Bool → LeastSettings → List ℕ
+least_lines tells_charges (leasts.Found knobs) = setting_lines tells_charges knobs
+least_lines tells_charges (leasts.Fault fault) = fault_line fault
+
+-- and the fault that they name
+abbrev pub least_fault : LeastSettings → Option FirstFault
+least_fault (leasts.Found knobs) = None
+least_fault (leasts.Fault fault) = Some fault
+
+-- what is written for an outcome
+abbrev pub report_of : {J : Type 0} → (J → List ℕ) → Outcome J → List ℕ
+report_of lines (Judged judged) = lines judged
+report_of lines (Text source line cause) = refusal_line source line cause

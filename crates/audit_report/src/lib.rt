@@ -1,0 +1,20 @@
+//! What comes out of an audit: a verdict, the least settings or a refusal, with its report and its status.
+#![tactic(auto)]
+
+mod judgement;
+mod least_settings;
+mod outcome;
+mod reporting;
+mod sink;
+mod sink_of;
+mod status;
+mod verdict;
+mod writing;
+
+pub use judgement::Judgement;
+pub use outcome::Outcome;
+pub use reporting::{least_report, report};
+pub use sink::Sink;
+pub use sink_of::SinkOf;
+pub use status::Status;
+pub use writing::write_report;

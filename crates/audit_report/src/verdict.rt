@@ -1,0 +1,97 @@
+//! A verdict, as an audit of two texts tells it.
+ghost use Rattle.std.specs.Prelude.{◌≡◌, ◌++◌, OnOk, string_bytes};
+ghost use Rattle.ticket_book.specs.SummaryView.{summary_view};
+ghost use Rattle.audit_report.specs.Report.{count_lines, run_lines, tally_lines};
+
+use crate::Judgement;
+use crate::reporting::push_fault;
+use cfs_model::{Knobs, Memory};
+use replay_model::{FirstFault, Tally};
+use sched_record::Record;
+use std::alloc::AllocError;
+use ticket_book::{Book, Summary, Verdict};
+
+// Writes lines at the end of a text, each with its line feed.
+macro_rules! lines {
+    ($text:ident; $($line:literal),+) => {{
+        $(writeln!($text, $line)?;)+
+    }};
+}
+
+impl Judgement for Verdict {
+    ghost use Rattle.audit_report.specs.Report.{verdict_fault, verdict_lines};
+    ghost use Rattle.ticket_book.specs.Verdict.{IsVerdict};
+
+    ghost is_of = { IsVerdict };
+
+    ghost replayed_by = { λ knobs. knobs };
+
+    ghost lines = { λ _. verdict_lines };
+
+    ghost fault = { verdict_fault };
+
+    fn replayed_by(knobs: Knobs) -> Knobs {
+        knobs
+    }
+
+    fn of_book(book: Book, joined: &Record, knobs: Knobs) -> Result<Verdict, Memory> {
+        let closed = book.close_own(joined, knobs)?;
+        Ok(closed.verdict)
+    }
+
+    fn push(&self, text: &mut String, _tells_charges: bool) -> Result<(), AllocError> {
+        match self {
+            Verdict::Run(summary) => push_run(text, summary),
+            Verdict::Fault(fault) => push_fault(text, fault),
+        }
+    }
+
+    fn fault(&self) -> Option<FirstFault> {
+        match self {
+            Verdict::Run(_) => None,
+            Verdict::Fault(fault) => Some(*fault),
+        }
+    }
+}
+
+/// Writes that it is a run, and what it did.
+fn push_run(text: &mut String, summary: &Summary) -> Result<(), AllocError>
+    ensures { OnOk result (string_bytes text.new ≡ string_bytes text.old ++ run_lines (summary_view summary.now)) }
+{
+    push_counts(text, summary)?;
+    push_tallies(text, summary.tallies.as_slice())
+}
+
+/// Writes that it is a run, and how often each thing happened in it.
+fn push_counts(text: &mut String, summary: &Summary) -> Result<(), AllocError>
+    ensures { OnOk result (string_bytes text.new ≡ string_bytes text.old ++ count_lines (summary_view summary.now)) }
+{
+    let Summary {
+        events,
+        switches,
+        migrations,
+        births,
+        deaths,
+        ..
+    } = summary;
+    lines!(text;
+        "run", "events {events}", "switches {switches}", "migrations {migrations}", "births {births}", "deaths {deaths}"
+    );
+    Ok(())
+}
+
+/// Writes each task's tally.
+fn push_tallies(text: &mut String, tallies: &[Tally]) -> Result<(), AllocError>
+    ensures { OnOk result (string_bytes text.new ≡ string_bytes text.old ++ tally_lines tallies.now) }
+{
+    for tally in tallies {
+        let Tally {
+            pid,
+            ran,
+            charged,
+            picks,
+        } = tally;
+        lines!(text; "task {pid} ran {ran} charged {charged} picks {picks}");
+    }
+    Ok(())
+}

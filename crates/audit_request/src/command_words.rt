@@ -1,0 +1,216 @@
+//! The command line, as clap reads it.
+
+ghost use Rattle.std.specs.Bool.{OnTrue};
+ghost use Rattle.std.specs.Prelude.{◌≡◌, IfOk, IfSome, None, false, map};
+ghost use Rattle.clap.specs.Walk.{first_of};
+ghost use Rattle.clap.specs.Words.{app_of, found_of, rows_of, rule_of};
+ghost use Rattle.cfs_model.specs.Knobs.{AreInRange, all_settings, nothing, settings_by};
+ghost use Rattle.audit_request.specs.CommandLine.{HasNoSetting, HaveNone, IsAskedBy, IsRequestOf, audit_app};
+ghost use Rattle.audit_request.specs.CommandLine.{beside_none, flag_rule, is_flagged, lone_flag_rule};
+ghost use Rattle.audit_request.specs.CommandLine.{name_rule, setting_of, setting_rule, with_settings, with_values};
+
+use crate::Request;
+use cfs_model::{Amounts, GREATEST_SETTING, Knobs, Setting};
+use clap::error::ErrorKind;
+use clap::{Arg, ArgAction, ArgMatches, Command, Error, value_parser};
+use std::alloc::{AllocError, Global};
+use std::convert::AsStr;
+
+/// What these words ask for; the first is the program's own name.
+pub fn command_line<'a, S: AsStr>(alloc: Global, words: &'a [S]) -> Result<Request<'a>, Error>
+    ensures { IfOk result (IsAskedBy (map S.text words.now)) }
+{
+    let mut command = command(alloc)?;
+    let matches = command.try_get_matches_from_mut(words)?;
+    match request_of(&matches) {
+        Some(request) => Ok(request),
+        // clap has tested all that is tested again there.
+        None => Err(command.error(
+            ErrorKind::ValueValidation,
+            "a value is missing or out of range",
+        )?),
+    }
+}
+
+/// The two names, the settings, the two flags, and what clap adds: help and the version.
+fn command<'a>(alloc: Global) -> Result<Command<'a>, AllocError>
+    ensures { IfOk result (λ command. app_of command ≡ audit_app) }
+{
+    let named = Command::new(alloc, "sched_audit")
+        .version("0.1.0")
+        .about("Judges a recorded CFS schedule: a run, or its first fault")
+        .bin_name("sched_audit")?
+        .arg(name(alloc, "TRACE", "The recording: the file `trace` of tracefs"))?
+        .arg(name(
+            alloc,
+            "COMPANION",
+            "The start, and the claimed virtual runtimes",
+        ))?;
+    with_settings(alloc, named, &Setting::ALL)?
+        .arg(lone_flag(
+            alloc,
+            "least",
+            "Print the least settings at which the recording is a run",
+        )?)?
+        .arg(flag(
+            alloc,
+            "explain",
+            "After a fault or a refusal, say why in lines that begin with #",
+        ))
+}
+
+/// The command with an option for each of these settings.
+fn with_settings<'a>(
+    alloc: Global,
+    command: Command<'a>,
+    settings: &[Setting],
+) -> Result<Command<'a>, AllocError>
+    ensures { IfOk result (λ more. app_of more ≡ with_settings settings.now (app_of command.entry)) }
+{
+    let mut more = command;
+    for setting in settings {
+        more = more.arg(option_of(alloc, *setting))?;
+    }
+    Ok(more)
+}
+
+/// A file's name, which has to be there.
+fn name<'a>(alloc: Global, id: &'a str, help: &'a str) -> Arg<'a>
+    ensures rule { rule_of result ≡ name_rule id.now }
+    ensures local { result.global ≡ false }
+{
+    Arg::new(alloc, id).required(true).help(help)
+}
+
+/// A setting's option, with a number of nanoseconds.
+fn option_of(alloc: Global, setting: Setting) -> Arg<'static>
+    ensures rule { rule_of result ≡ setting_rule setting }
+    ensures local { result.global ≡ false }
+{
+    let name = setting.name();
+    let help = setting.help();
+    Arg::new(alloc, name)
+        .long(name)
+        .value_name("N")
+        .value_parser(value_parser!(u64).range(0..=GREATEST_SETTING as i64))
+        .help(help)
+}
+
+/// An option without a value.
+fn flag<'a>(alloc: Global, id: &'a str, help: &'a str) -> Arg<'a>
+    ensures rule { rule_of result ≡ flag_rule id.now }
+    ensures local { result.global ≡ false }
+{
+    Arg::new(alloc, id)
+        .long(id)
+        .action(ArgAction::SetTrue)
+        .help(help)
+}
+
+/// A flag that doesn't go with any of the settings.
+fn lone_flag(
+    alloc: Global,
+    id: &'static str,
+    help: &'static str,
+) -> Result<Arg<'static>, AllocError>
+    ensures rule { IfOk result (λ flag. rule_of flag ≡ lone_flag_rule id.now) }
+    ensures local { IfOk result (λ flag. flag.global ≡ false) }
+{
+    beside_none(flag(alloc, id, help), &Setting::ALL)
+}
+
+/// A flag that doesn't go with any of these settings either.
+fn beside_none(flag: Arg<'static>, settings: &[Setting]) -> Result<Arg<'static>, AllocError>
+    ensures rule { IfOk result (λ lone. rule_of lone ≡ beside_none settings.now (rule_of flag.entry)) }
+    ensures local { IfOk result (λ lone. lone.global ≡ flag.entry.global) }
+{
+    let mut lone = flag;
+    for setting in settings {
+        lone = lone.conflicts_with(setting.name())?;
+    }
+    Ok(lone)
+}
+
+/// The names, the settings and the flags that the values are; None where one has no sense, or where a setting is given
+/// beside `--least`.
+fn request_of<'a>(matches: &ArgMatches<'a>) -> Option<Request<'a>>
+    ensures { IfSome result (IsRequestOf (rows_of (found_of matches.now))) }
+{
+    let least = flag_of(matches, "least")?;
+    if least && !has_no_setting(matches) {
+        return None;
+    }
+    Some(Request {
+        trace: matches.get_str("TRACE")?,
+        companion: matches.get_str("COMPANION")?,
+        knobs: knobs_of(matches)?,
+        least,
+        explain: flag_of(matches, "explain")?,
+    })
+}
+
+/// Whether none of the settings is given.
+fn has_no_setting(matches: &ArgMatches<'_>) -> bool
+    ensures { OnTrue result (HasNoSetting (rows_of (found_of matches.now))) }
+{
+    have_none(matches, &Setting::ALL)
+}
+
+/// Whether none of these settings is given.
+fn have_none(matches: &ArgMatches<'_>, settings: &[Setting]) -> bool
+    ensures { OnTrue result (HaveNone (rows_of (found_of matches.now)) settings.now) }
+{
+    for setting in settings {
+        if !is_absent(matches, setting.name()) {
+            return false;
+        }
+    }
+    true
+}
+
+/// Whether an option isn't given.
+fn is_absent(matches: &ArgMatches<'_>, id: &str) -> bool
+    ensures { OnTrue result (first_of id.now (rows_of (found_of matches.now)) ≡ None) }
+{
+    matches.get_str(id).is_none()
+}
+
+/// The settings that the values are; None where one has no sense.
+fn knobs_of(matches: &ArgMatches<'_>) -> Option<Knobs>
+    ensures same { IfSome result (λ knobs. knobs ≡ settings_by (setting_of (rows_of (found_of matches.now)))) }
+    ensures in_range { IfSome result (λ _. AreInRange (settings_by (setting_of (rows_of (found_of matches.now))))) }
+{
+    Knobs::of(amounts_of(matches, &Setting::ALL)?)
+}
+
+/// The values of these settings, and nothing of any other; None where one has no sense.
+fn amounts_of(matches: &ArgMatches<'_>, settings: &[Setting]) -> Option<Amounts>
+    ensures { IfSome result (λ amounts. amounts
+        ≡ with_values (setting_of (rows_of (found_of matches.now))) settings.now nothing) }
+{
+    let mut amounts = Amounts::none();
+    for setting in settings {
+        amounts = amounts.with(*setting, number_of(matches, *setting)?);
+    }
+    Some(amounts)
+}
+
+/// A setting's number, or its default where its option isn't given; None where it is no number.
+fn number_of(matches: &ArgMatches<'_>, setting: Setting) -> Option<u64>
+    ensures { IfSome result (λ number. number ≡ setting_of (rows_of (found_of matches.now)) setting) }
+{
+    match matches.try_get_one::<u64>(setting.name()) {
+        Ok(number) => Some(number.unwrap_or(setting.standard())),
+        Err(_) => None,
+    }
+}
+
+/// Whether a flag is given; None where its value is neither.
+fn flag_of(matches: &ArgMatches<'_>, id: &str) -> Option<bool>
+    ensures { IfSome result (λ given. given ≡ is_flagged id.now (rows_of (found_of matches.now))) }
+{
+    match matches.try_get_one::<bool>(id) {
+        Ok(given) => Some(given.unwrap_or(false)),
+        Err(_) => None,
+    }
+}

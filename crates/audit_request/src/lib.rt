@@ -1,0 +1,8 @@
+//! What is asked of an audit: a command line's words, as clap reads them.
+#![tactic(auto)]
+
+mod command_words;
+mod request;
+
+pub use command_words::command_line;
+pub use request::Request;

@@ -1,0 +1,116 @@
+use crate::candidate::Candidate;
+use crate::known::Known;
+use crate::machine::Machine;
+use crate::outset::Outset;
+use crate::start::Start;
+use crate::strategy::Strategy;
+use crate::wishes::Wishes;
+use cfs_model::{Entry, Memory};
+use std::alloc::Global;
+
+/// How often the events are gone through again at most, where placements turned out to be others.
+const MOST_RETURNS: usize = 4;
+
+/// What a companion says: who stands where at the start, and what the events do.
+#[derive(Drop)]
+pub(crate) struct Draft {
+    pub start: Start,
+    pub candidate: Candidate,
+}
+
+/// What a strategy makes of the events.
+pub(crate) fn draft_of(
+    alloc: Global,
+    outset: &Outset,
+    events: &[Entry],
+    wishes: &Wishes,
+    strategy: Strategy,
+) -> Result<Draft, Memory> {
+    let known = Known::nothing(alloc);
+    let start = Start::of(alloc, outset, events, wishes, &known)?;
+    let mut machine = Machine::new(alloc, outset, &start, wishes, strategy, &known)?;
+    follow(&mut machine, outset, events, &known, None)?;
+    Ok(Draft {
+        start,
+        candidate: machine.into_candidate(),
+    })
+}
+
+/// What the kernel's own values make of the events. Where no print tells a placement, what is found later tells what it
+/// has to be; then the events are gone through again.
+pub(crate) fn kernel_draft(
+    alloc: Global,
+    outset: &Outset,
+    events: &[Entry],
+    wishes: &Wishes,
+    known: Known,
+) -> Result<Draft, Memory> {
+    let mut known = known;
+    for _ in 0..MOST_RETURNS {
+        let start = Start::of(alloc, outset, events, wishes, &known)?;
+        let mut machine = Machine::new(alloc, outset, &start, wishes, Strategy::Kernel, &known)?;
+        follow(&mut machine, outset, events, &known, None)?;
+        if !machine.asks() {
+            return Ok(Draft {
+                start,
+                candidate: machine.into_candidate(),
+            });
+        }
+        machine.tell_asked(&mut known)?;
+    }
+    let start = Start::of(alloc, outset, events, wishes, &known)?;
+    let mut machine = Machine::new(alloc, outset, &start, wishes, Strategy::Kernel, &known)?;
+    follow(&mut machine, outset, events, &known, None)?;
+    Ok(Draft {
+        start,
+        candidate: machine.into_candidate(),
+    })
+}
+
+/// The same as `draft_of`, where it is better than another.
+pub(crate) fn better_draft(
+    alloc: Global,
+    outset: &Outset,
+    events: &[Entry],
+    wishes: &Wishes,
+    strategy: Strategy,
+    other: &Draft,
+) -> Result<Option<Draft>, Memory> {
+    let known = Known::nothing(alloc);
+    let start = Start::of(alloc, outset, events, wishes, &known)?;
+    let mut machine = Machine::new(alloc, outset, &start, wishes, strategy, &known)?;
+    if follow(&mut machine, outset, events, &known, Some(&other.candidate))? {
+        Ok(Some(Draft {
+            start,
+            candidate: machine.into_candidate(),
+        }))
+    } else {
+        Ok(None)
+    }
+}
+
+/// Goes through the events by the rules, and answers whether what is made is better than a rival. It gives up at the
+/// first event by which it can't be any more: what is needed never falls.
+fn follow(
+    machine: &mut Machine,
+    outset: &Outset,
+    events: &[Entry],
+    known: &Known,
+    rival: Option<&Candidate>,
+) -> Result<bool, Memory> {
+    for (place, event) in events.iter().enumerate() {
+        if !is_better(machine, rival) {
+            return Ok(false);
+        }
+        machine.pass(event, outset.forecast.is_picked(place), known)?;
+    }
+    Ok(is_better(machine, rival))
+}
+
+/// Whether what is made so far is better than a rival, if there is one.
+fn is_better(machine: &Machine, rival: Option<&Candidate>) -> bool {
+    match rival {
+        Some(rival) => machine.candidate().is_better_than(rival),
+        None => true,
+    }
+}

@@ -1,0 +1,94 @@
+use crate::known::Known;
+use crate::outset::Outset;
+use crate::task_line::TaskLine;
+use crate::values::above;
+use crate::wishes::Wishes;
+use cfs_model::{Act, Entry, MOST_PROCESSORS, Place};
+
+/// The floor of each processor, where it is known.
+#[derive(Clone, Copy)]
+pub(crate) struct Floors {
+    floors: [Option<i64>; MOST_PROCESSORS],
+}
+
+impl Floors {
+    /// No floor is known.
+    pub(crate) fn unknown() -> Floors {
+        Floors {
+            floors: [None; MOST_PROCESSORS],
+        }
+    }
+
+    /// At the start: what the kernel told, unless a placement bounds it lower. Where it told none, or nobody is placed,
+    /// the least virtual runtime of those who run or wait; where nobody does, what the first placement tells.
+    pub(crate) fn of(outset: &Outset, events: &[Entry], wishes: &Wishes, known: &Known) -> Floors {
+        let mut found = Floors::unknown();
+        if known.prints().is_empty() {
+            return found;
+        }
+        for task in outset.tasks.as_slice() {
+            if task.place != Place::Rest {
+                found.lower(task.cpu, known.at_start(task, outset.start));
+            }
+        }
+        let mut bounds = Floors::unknown();
+        for event in events {
+            if let Some((cpu, bound)) = bound_of(event, wishes, known) {
+                found.begin(cpu, bound);
+                bounds.lower(cpu, Some(bound));
+            }
+        }
+        found.take_told(known.floors(), &bounds);
+        found
+    }
+
+    /// Takes the floors that were told, as far as each is bounded: since they were told when some events were over,
+    /// none is above what the placements say.
+    fn take_told(&mut self, told: &Floors, bounds: &Floors) {
+        for cpu in 0..MOST_PROCESSORS as u32 {
+            if let (Some(told), Some(bound)) = (told.at(cpu), bounds.at(cpu)) {
+                self.set(cpu, told.min(bound));
+            }
+        }
+    }
+
+    fn set(&mut self, cpu: u32, v: i64) {
+        if let Some(floor) = self.floors.get_mut(cpu as usize) {
+            *floor = Some(v);
+        }
+    }
+
+    /// That of a processor.
+    pub(crate) fn at(&self, cpu: u32) -> Option<i64> {
+        self.floors.get(cpu as usize).copied().flatten()
+    }
+
+    /// The floor isn't above this.
+    fn lower(&mut self, cpu: u32, v: Option<i64>) {
+        if let (Some(floor), Some(v)) = (self.floors.get_mut(cpu as usize), v) {
+            *floor = Some(floor.unwrap_or(v).min(v));
+        }
+    }
+
+    /// The floor is this, where it isn't known.
+    pub(crate) fn begin(&mut self, cpu: u32, v: i64) {
+        if let Some(floor) = self.floors.get_mut(cpu as usize) {
+            *floor = Some(floor.unwrap_or(v));
+        }
+    }
+}
+
+/// The processor at which an event places a task, and what its floor is at most by that, now and at the start: a task
+/// that is woken lies at most the credit below it, and a new one not below.
+fn bound_of(event: &Entry, wishes: &Wishes, known: &Known) -> Option<(u32, i64)> {
+    let line = event.line;
+    let act = event.act;
+    match act {
+        Act::Wake { cpu, pid, nice } => {
+            let v = known.placed(TaskLine { pid, line }, nice)?;
+            Some((cpu, above(v, wishes.knobs.credit())))
+        }
+        Act::Born { cpu, pid, nice } => Some((cpu, known.placed(TaskLine { pid, line }, nice)?)),
+        Act::Switch { .. } | Act::Shift { .. } => None,
+    }
+}

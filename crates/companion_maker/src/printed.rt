@@ -1,0 +1,84 @@
+//! Reads what a kernel prints of a charge.
+
+use bstr::ByteSlice;
+use cfs_model::{GREATEST_PID, GREATEST_RUNTIME, NANOSECONDS_PER_SECOND};
+use ftrace_line::read_line;
+use text_parts::numerals::numeral_at;
+use text_parts::pieces::after_front;
+use text_parts::time::read_time;
+
+/// The most bytes of a task's name.
+const NAME_MAX: usize = 15;
+
+/// A charge of a task, as the event `sched_stat_runtime` prints it.
+#[derive(Clone, Copy, Debug, PartialEq, Eq)]
+pub(crate) struct Printed {
+    /// In nanoseconds.
+    pub time: u64,
+    pub amounts: PrintedAmounts,
+}
+
+/// What the event's text says.
+#[derive(Clone, Copy, Debug, PartialEq, Eq)]
+pub(crate) struct PrintedAmounts {
+    pub pid: u32,
+    /// How long the task ran since it was charged last, in nanoseconds.
+    pub runtime: u64,
+    /// What it has come to, in virtual nanoseconds.
+    pub v: i64,
+}
+
+/// The charge that a line of a trace prints, if it is a line of that event. Another line of a trace that can be read
+/// has none: the label has to stand right behind the head, and the text has to have each field.
+pub(crate) fn printed_charge(line: &[u8]) -> Option<Printed> {
+    let (head, text) = line.split_once_str(b": sched_stat_runtime: ")?;
+    // Where a head ends before the label, the label is a part of another event's text.
+    if read_line(head).is_ok() {
+        return None;
+    }
+    Some(Printed {
+        time: time_of(head)?,
+        amounts: amounts_of(text)?,
+    })
+}
+
+/// The time that a head ends in.
+fn time_of(head: &[u8]) -> Option<u64> {
+    let (_, word) = head.rsplit_once_str(b" ")?;
+    let time = read_time(word)?;
+    Some(
+        time.seconds
+            .saturating_mul(NANOSECONDS_PER_SECOND)
+            .saturating_add(time.nanoseconds),
+    )
+}
+
+/// What the event's text says, where it is `comm=NAME pid=N runtime=N [ns] vruntime=N [ns]` and the numbers are in
+/// range.
+fn amounts_of(text: &[u8]) -> Option<PrintedAmounts> {
+    let named = after_front(text, b"comm=")?;
+    for width in 0..NAME_MAX + 1 {
+        if width <= named.len() {
+            if let Some(amounts) = amounts_behind_name(&named[width..]) {
+                return Some(amounts);
+            }
+        }
+    }
+    None
+}
+
+/// The same behind the task's name.
+fn amounts_behind_name(text: &[u8]) -> Option<PrintedAmounts> {
+    let (pid, rest) = numeral_at(after_front(text, b" pid=")?)?;
+    let (runtime, rest) = numeral_at(after_front(rest, b" runtime=")?)?;
+    let (v, rest) = numeral_at(after_front(rest, b" [ns] vruntime=")?)?;
+    let end = after_front(rest, b" [ns]")?;
+    if !end.is_empty() || pid > GREATEST_PID || v > GREATEST_RUNTIME as u64 {
+        return None;
+    }
+    Some(PrintedAmounts {
+        pid: pid as u32,
+        runtime,
+        v: v as i64,
+    })
+}

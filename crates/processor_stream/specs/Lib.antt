@@ -1,0 +1,3 @@
+pub mod Same
+pub mod StreamKept
+pub mod Stream

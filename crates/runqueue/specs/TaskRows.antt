@@ -1,0 +1,39 @@
+-- The tasks of a processor in rows by pid, in the order in which they first stood there: a row stays when its task goes
+-- (this project's profile).
+use Rattle.std.specs.Prelude.{◌≡◌, ◌≢◌, ℕ, Option, Some, None, List, slice_get}
+use Rattle.std.proofs.Props.{props}
+use Rattle.pid_table.specs.Rows.{Rows, index_in}
+use Rattle.runqueue.specs.declared.sched_entity.SchedEntity.{SchedEntity}
+
+abbrev pub TaskRows : Type 0
+TaskRows = Rows (Option SchedEntity)
+
+-- the task of a row, if there is a row and its task hasn't gone
+abbrev pub task_of_row : Option (Option SchedEntity) → Option SchedEntity
+task_of_row None = None
+task_of_row (Some task) = task
+
+abbrev pub task_at_index : List (Option SchedEntity) → Option ℕ → Option SchedEntity
+task_at_index rows None = None
+task_at_index rows (Some index) = task_of_row (slice_get rows index)
+
+-- the task that the rows have of a pid
+unfoldable pub task_in : TaskRows → ℕ → Option SchedEntity
+task_in table pid = task_at_index table.rows (index_in table.pids pid)
+
+-- the rows have this task of a pid, and of each other what they had
+pub record Writes (old new : TaskRows) (pid : ℕ) (task : Option SchedEntity) : Type 0 where
+  pub here : task_in new pid ≡ task
+  pub there : (other : ℕ) → other ≢ pid → task_in new other ≡ task_in old other
+
+-- each pid that has a row has it where it was
+unfoldable pub KeepsRows : List ℕ → List ℕ → Type 0
+KeepsRows old new = (pid row : ℕ) → index_in old pid ≡ Some row → index_in new pid ≡ Some row
+
+-- the runner's row is at this index
+unfoldable pub IsSeated : Option SchedEntity → List ℕ → ℕ → Type 0
+IsSeated runner pids seat = (t : SchedEntity) → runner ≡ Some t → index_in pids t.pid ≡ Some seat
+
+pub IsSeated-prop : (runner : Option SchedEntity) (pids : List ℕ) (seat : ℕ) → IsProp (IsSeated runner pids seat)
+unfolding IsSeated
+IsSeated-prop runner pids seat = Prim.hlevel props

@@ -1,9 +1,0 @@
--- What the text has, with the settings that are still to be gone over, is the whole.
-use Rattle.std.proofs.Common.{◌≡◌, ◌++◌, string_bytes, drop}
-use Rattle.sched_audit.specs.Report.{lines_of_settings}
-use Rattle.sched_audit.proofs.least_settings.push_each.Given as goal
-
-abbrev pub invariant-loop-setting : goal.invariant-loop-setting
-invariant-loop-setting l =
-    string_bytes l.text ++ lines_of_settings l.knobs (drop l.setting-index l.settings)
-    ≡ string_bytes l.fn.text ++ lines_of_settings l.fn.knobs l.fn.settings

@@ -1,0 +1,112 @@
+//! The fields of a text that goes on behind its line: no line ends in what is read here.
+
+ghost use Rattle.std.specs.Prelude.{◌≡◌, ◌<◌, ◌≤◌, length, take, IfSome};
+ghost use Rattle.std.specs.List.{prefix_len};
+ghost use Rattle.text_parts.specs.Unbroken.{IsUnbroken};
+ghost use Rattle.sched_event.specs.Texts.{IsName, IsState};
+ghost use Rattle.sched_event.specs.Usual.{HasField, is_plain};
+
+use crate::fields::{NAME_MAX, doubled};
+use text_parts::pieces::{after_front, begins_with};
+
+/// The name behind a key, up to the first place where the next key stands, and the text from that key on.
+#[inline(always)]
+pub(crate) fn name<'a>(text: &'a [u8], key: &[u8], next: &[u8]) -> Option<(&'a [u8], &'a [u8])>
+    ensures name { IfSome result (λ x. IsName x.0.now) }
+    ensures field { IfSome result (λ x. HasField key.now text.now x.0.now x.1.now) }
+{
+    let after = after_front(text, key)?;
+    let index = name_length(after, next)?;
+    Some(after.split_at(index))
+}
+
+/// The letters of a state behind a key, and what follows them.
+#[inline(always)]
+pub(crate) fn state<'a>(text: &'a [u8], key: &[u8]) -> Option<(&'a [u8], &'a [u8])>
+    ensures state { IfSome result (λ x. IsState x.0.now) }
+    ensures field { IfSome result (λ x. HasField key.now text.now x.0.now x.1.now) }
+{
+    let after = after_front(text, key)?;
+    let count = plain_count(after);
+    if count == 0 {
+        return None;
+    }
+    Some(after.split_at(count))
+}
+
+/// How many bytes of a name stand before a key.
+#[inline(always)]
+fn name_length(text: &[u8], next: &[u8]) -> Option<usize>
+    ensures short { IfSome result (λ index. index ≤ 15) }
+    ensures within { IfSome result (λ index. index ≤ length text.now) }
+    ensures unbroken { IfSome result (λ index. IsUnbroken (take index text.now)) }
+{
+    if text.len() <= NAME_MAX {
+        return None;
+    }
+    let mut index = usize::from(first_gap(text));
+    while index <= NAME_MAX {
+        if begins_with(&text[index..], next) {
+            return Some(index);
+        }
+        if text[index] != b' ' {
+            return None;
+        }
+        index = next_gap(text, index + 1);
+    }
+    None
+}
+
+/// The first of the first sixteen indices at which a space or a control character stands, or 16. Names have all
+/// lengths, so all indices are looked at with no branch to guess.
+#[inline(always)]
+fn first_gap(text: &[u8]) -> u8
+    requires { 15 < length text.now }
+    ensures within { result ≤ 16 }
+    ensures plain { IsUnbroken (take result text.now) }
+{
+    let mut first = 16;
+    for index in 0..16u8 {
+        first = first.min(index_if_gap(index, text[usize::from(index)]));
+    }
+    first
+}
+
+/// The index where its byte is a space or a control character, or else 16 or more. There is no test: sixteen times what
+/// another byte is above the space is above every index, so that sixteen indices are looked at by a few instructions.
+#[inline(always)]
+fn index_if_gap(index: u8, byte: u8) -> u8
+    requires { index < 16 }
+    ensures gap { byte ≤ 32 → result ≡ index }
+    ensures other { 32 < byte → 16 ≤ result }
+{
+    let twice = doubled(byte.saturating_sub(b' '));
+    index.saturating_add(doubled(doubled(doubled(twice))))
+}
+
+/// The next index up to 16 at which a space or a control character stands, or 16.
+#[inline(always)]
+fn next_gap(text: &[u8], from: usize) -> usize
+    requires long { 15 < length text.now }
+    requires from { from ≤ 16 }
+    requires unbroken { IsUnbroken (take from text.now) }
+    ensures later { from ≤ result }
+    ensures within { result ≤ 16 }
+    ensures unbroken { IsUnbroken (take result text.now) }
+{
+    let mut index = from;
+    while index <= NAME_MAX && text[index] > b' ' {
+        index += 1;
+    }
+    index
+}
+
+/// How many bytes stand before the first space or control character.
+#[inline(always)]
+#[tactic(auto, using(text_parts::proofs::Runs::prefix_within))]
+fn plain_count(text: &[u8]) -> usize
+    ensures count { result ≡ prefix_len is_plain text.now }
+    ensures within { result ≤ length text.now }
+{
+    text.iter().take_while(|byte| **byte > b' ').count()
+}

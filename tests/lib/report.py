@@ -1,6 +1,7 @@
 """What a script of the tests is called with, and what it tells in the end: how many results passed, how many failed."""
 
 import os
+import subprocess
 import sys
 import tempfile
 from pathlib import Path
@@ -16,6 +17,12 @@ def words_of(doc, least, most=None):
         print(doc.splitlines()[0], file=sys.stderr)
         sys.exit(2)
     return words
+
+
+def tracked_in(folder):
+    """The tracked files of a tree, by their names there."""
+    names = subprocess.run(["git", "-C", folder, "ls-files", "-z"], stdout=subprocess.PIPE, check=True).stdout.decode()
+    return [name for name in names.split("\0") if name and (Path(folder) / name).is_file()]
 
 
 def without_toolchain():

@@ -13,6 +13,8 @@ MOST_SETTING = 10**12
 SETTINGS = "granularity", "credit", "debit", "slack", "drift"
 ONE_BELOW = "NotLeast", "WakeBounds", "ForkBounds", "IdleTooLong", "WrongCharge"
 
+OPTIONS = tuple(f"--{name}-ns" for name in SETTINGS)
+
 KINDS = {
     "IdleTooLong": "idle beside a waiting task",
     "Range": "virtual runtime out of range",
@@ -44,8 +46,8 @@ CAUSES = {
 
 
 def options_of(settings):
-    """The words that ask for settings, by their names."""
-    return tuple(word for name, value in settings.items() for word in (f"--{name}-ns", str(value)))
+    """The words that ask for these settings."""
+    return tuple(word for option, value in zip(OPTIONS, settings) for word in (option, str(value)))
 
 
 def counted(events, switches, births, deaths, migrations=0):

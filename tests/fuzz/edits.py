@@ -3,7 +3,8 @@ mean, or move a fault to where only the last tests see it; most break something.
 
 import re
 
-from recordings import DRIFT, MOST_PID, MOST_SETTING, OPTIONS, Input
+from lib.words import MOST_PID, MOST_SETTING, OPTIONS
+from recordings import DRIFT, Input
 
 NUMBER = re.compile(rb"\d+")
 TIME = re.compile(rb"(\d+)\.(\d{9}|\d{6})(?=: )")

@@ -3,14 +3,12 @@ known beforehand, and against the program's own verdicts at these settings and o
 
 import re
 
-from recordings import MOST_SETTING, OPTIONS, options_of
+from lib.words import MOST_SETTING, ONE_BELOW, OPTIONS, options_of
 
 LEAST = "--least"
 LINES = [rb"least %s (\d+)\n" % option[2:].encode() for option in OPTIONS]
 # One line for each setting; for the last one, the drift, only of a companion that could tell charges.
 TOLD = re.compile(rb"%s(?:%s)?" % (rb"".join(LINES[:-1]), LINES[-1]))
-# The fault of a recording that gets one less than it needs, setting by setting.
-KINDS = ("NotLeast", "WakeBounds", "ForkBounds", "IdleTooLong", "WrongCharge")
 
 
 def is_asked(number):
@@ -26,7 +24,7 @@ def at_least(answer, told, report, below):
     given = answer(words)
     if given[0] != 0 or given[1].split(b"\n")[0] != b"run" or report not in (None, given[1]):
         yield f"at {' '.join(words)}, the least that it told, the program answers {given!r}"
-    for place, kind in enumerate(KINDS):
+    for place, kind in enumerate(ONE_BELOW):
         if least[place]:
             below[kind] += 1
             words = options_of(least[:place] + [least[place] - 1] + least[place + 1:])

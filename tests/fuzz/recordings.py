@@ -5,20 +5,14 @@ of the run is known, and which settings it needs."""
 
 from typing import NamedTuple
 
-# The weights of nice -20 to 19.
-WEIGHTS = (88761, 71755, 56483, 46273, 36291, 29154, 23254, 18705, 14949, 11916, 9548, 7620, 6100, 4904, 3906, 3121,
-           2501,
-           1991, 1586, 1277, 1024, 820, 655, 526, 423, 335, 272, 215, 172, 137, 110, 87, 70, 56, 45, 36, 29, 23, 18, 15)
-# The weight of a task of the idle policy, whatever its nice value.
-IDLE_WEIGHT = 3
-MOST_PID = 4_194_304
-MOST_SETTING = 10**12
+from lib.made import moved, switched, woken
+from lib.words import IDLE_WEIGHT, MOST_PID, MOST_SETTING, OPTIONS, WEIGHTS, counted, least, options_of, tally
+
 MOST_VIRTUAL = 2**62
 LAST_TIME = 2**32 * 10**9 - 1
 # No floor rises by more than this within a recording.
 MARGIN = 10**18
-DRIFT = "--drift-ns"
-OPTIONS = ("--granularity-ns", "--credit-ns", "--debit-ns", "--slack-ns", DRIFT)
+DRIFT = OPTIONS[-1]
 STANDARD = (1_000_000, 3_000_000, 3_000_000, 100_000, 0)
 
 NAMES = (b"t101", b"bash", b"Web Content", b"kworker/u16:2", b"", b" ", b"a prev_pid=1", b"x pid=7 prio=12",
@@ -39,11 +33,6 @@ class Input(NamedTuple):
     options: tuple
     report: bytes = None
     least: bytes = None
-
-
-def options_of(settings):
-    """The words that ask for these settings."""
-    return tuple(word for option, value in zip(OPTIONS, settings) for word in (option, str(value)))
 
 
 class Task:
@@ -93,7 +82,7 @@ class Machine:
         count = rng.choice((1, 1, 1, 2, 2, 3, 4, rng.randrange(5, 17), 64))
         self.processors = [Processor(number, base + rng.randrange(self.spread), self.start) for number in range(count)]
         self.tasks, self.idles, self.claims, self.lines, self.changed, self.told = {}, [], [], [], None, None
-        self.counts = dict.fromkeys((b"events", b"switches", b"migrations", b"births", b"deaths"), 0)
+        self.counts = dict.fromkeys(("events", "switches", "births", "deaths", "migrations"), 0)
         self.settle(base)
         self.beginning = list(self.companion())
 
@@ -213,9 +202,9 @@ class Machine:
         """An event, behind other lines now and then, with its told charge, its change of a nice value and its claim."""
         rng = self.rng
         while rng.random() < 0.06:
-            self.lines.append(rng.choice((*OTHERS, self.head(cpu) + b"sched_stat_runtime: comm=a pid=1")))
+            self.lines.append(rng.choice((*OTHERS, self.head(cpu) + b"sched_stat_runtime: comm=a pid=1")) + b"\n")
         self.lines.append(self.head(cpu) + text)
-        self.counts[b"events"] += 1
+        self.counts["events"] += 1
         for processor in self.processors:
             if processor.since is not None:
                 self.need("--slack-ns", self.time - processor.since)
@@ -234,10 +223,10 @@ class Machine:
         return b" %15s-%-7d %s[%03d] %s%s: " % (rng.choice(NAMES)[:15], rng.randrange(10**5), rng.choice(GROUPS), cpu,
                                                 rng.choice(FLAGS), self.written(self.time, self.unit).rjust(12))
 
-    def named(self, task, key=b""):
-        """The keys of a task in an event's text."""
+    def named(self, task):
+        """A task in an event's text, by some name."""
         pid, prio = (task.pid, task.prio) if task else (0, self.rng.choice((120, 0, 140)))
-        return b"%scomm=%s %spid=%d %sprio=%d" % (key, self.rng.choice(NAMES), key, pid, key, prio)
+        return pid, prio, self.rng.choice(NAMES)
 
     # Events.  Each answers whether it was possible; nothing is charged before that is clear.
 
@@ -257,15 +246,14 @@ class Machine:
         after = rng.choice(able) if able else None
         if before:
             before.place = place
-            self.counts[b"deaths"] += place is None
+            self.counts["deaths"] += place is None
         if after:
             self.need("--granularity-ns",
                       after.virtual - min(task.virtual for task in waiting + [before] * bool(stays)))
             after.place = b"run"
             after.picks += 1
-        self.counts[b"switches"] += 1
-        text = b"sched_switch: %s prev_state=%s ==> %s" % (
-            self.named(before, b"prev_"), rng.choice(states), self.named(after, b"next_"))
+        self.counts["switches"] += 1
+        text = switched(self.named(before), rng.choice(states), self.named(after))
         self.line(processor.number, text, (b"at", before) if stays else None)
         self.note_idling(processor)
         return True
@@ -278,8 +266,7 @@ class Machine:
 
     def wakes(self, task, event, claim=None):
         success = self.rng.choice((b"", b"", b" success=1"))
-        self.line(self.rng.choice(self.processors).number, b"%s: %s%s target_cpu=%03d" % (
-            event, self.named(task), success, task.cpu), claim)
+        self.line(self.rng.choice(self.processors).number, woken(self.named(task), task.cpu, event, success), claim)
         self.note_idling(self.processors[task.cpu])
 
     def wakeup(self):
@@ -317,7 +304,7 @@ class Machine:
         self.changes(processor)
         task = self.tasks.setdefault(pid, Task(pid, 0, 0, None, 0, False))
         task.nice, task.idle, task.cpu, task.drift = self.nice(), self.idle(), processor.number, 0
-        self.counts[b"births"] += 1
+        self.counts["births"] += 1
         self.placed(task, processor.floor, min(processor.floor + self.debit, MOST_VIRTUAL), b"sched_wakeup_new")
         self.need("--debit-ns", task.virtual - processor.floor)
         self.names_idle(len(self.lines), task)
@@ -335,9 +322,9 @@ class Machine:
         self.changes(origin)
         task.virtual += destination.floor - origin.floor
         task.cpu, task.drift = destination.number, 0
-        self.counts[b"migrations"] += 1
-        self.line(self.rng.choice(self.processors).number, b"sched_migrate_task: %s orig_cpu=%d dest_cpu=%d" % (
-            self.named(task), origin.number, destination.number), (b"at" if task.place == b"wait" else b"pass", task))
+        self.counts["migrations"] += 1
+        self.line(self.rng.choice(self.processors).number, moved(self.named(task), origin.number, destination.number),
+                  (b"at" if task.place == b"wait" else b"pass", task))
         self.note_idling(origin)
         self.note_idling(destination)
         return True
@@ -354,17 +341,13 @@ class Machine:
 
     def report(self):
         """What the report has to say, tasks in the order of the companion and then of their births."""
-        yield b"run\n"
-        for name, count in self.counts.items():
-            yield b"%s %d\n" % (name, count)
+        yield counted(**self.counts)
         for task in self.tasks.values():
-            yield b"task %d ran %d charged %d picks %d\n" % (task.pid, task.ran, task.charged, task.picks)
+            yield tally(task.pid, task.ran, task.charged, task.picks)
 
     def least(self):
         """What has to be told of the least settings: of the drift where the companion could tell charges."""
-        for option, value in self.needs.items():
-            if option != DRIFT or self.version > 2:
-                yield b"least %s %d\n" % (option[2:].encode(), value)
+        return least(*list(self.needs.values())[:5 if self.version > 2 else 4])
 
 
 def recording(rng):
@@ -374,6 +357,5 @@ def recording(rng):
         machine.go_on()
     options = () if machine.settings == STANDARD else options_of(machine.settings)
     companion = machine.beginning + machine.idles + machine.claims
-    return Input(b"".join(line + b"\n" for line in machine.lines), b"".join(line + b"\n" for line in companion),
-                 options,
-                 b"".join(machine.report()), b"".join(machine.least()))
+    return Input(b"".join(machine.lines), b"".join(line + b"\n" for line in companion), options,
+                 b"".join(machine.report()), machine.least())

@@ -12,11 +12,12 @@ the audit comes in.
 import re
 import sys
 from bisect import bisect_right
+from pathlib import Path
 
-WEIGHTS = (88761, 71755, 56483, 46273, 36291, 29154, 23254, 18705, 14949, 11916,
-           9548, 7620, 6100, 4904, 3906, 3121, 2501, 1991, 1586, 1277,
-           1024, 820, 655, 526, 423, 335, 272, 215, 172, 137,
-           110, 87, 70, 56, 45, 36, 29, 23, 18, 15)
+sys.path.insert(0, str(Path(__file__).resolve().parent.parent))
+
+from lib.words import WEIGHTS
+
 SWITCH = re.compile(r".*\[(\d+)\].*: sched_switch: .* prev_pid=(\d+) prev_prio=\d+ prev_state=(\S+) ==> "
                     r".* next_pid=(\d+) next_prio=(\d+)$")
 COMES = re.compile(r".*: sched_(wakeup|wakeup_new): .* pid=(\d+) prio=(\d+) target_cpu=(\d+)$")

@@ -1,0 +1,99 @@
+//! The report and the exit status.
+
+use crate::audit::Verdict;
+use crate::faults::Fault;
+use crate::machine::Machine;
+use std::io::{self, Write};
+
+/// Standard output, written in blocks.
+struct Report {
+    text: Vec<u8>,
+}
+
+impl Report {
+    /// So many bytes are collected before they are written, and as many more may be added at once.
+    const MOST: usize = 1 << 15;
+
+    /// A key and a number in decimal digits, copied in lengths that are known when this is compiled.
+    fn put<const LENGTH: usize>(&mut self, key: &[u8; LENGTH], number: u128) -> io::Result<()> {
+        if self.text.len() > Report::MOST {
+            self.write()?;
+        }
+        self.text.extend_from_slice(key);
+        let Ok(mut number) = u64::try_from(number) else {
+            return write!(self.text, "{number}");
+        };
+        let mut digits = [0; 40];
+        let mut place = 20;
+        while number > 99 {
+            place -= 2;
+            digits[place..place + 2].copy_from_slice(&PAIRS[(number % 100) as usize]);
+            number /= 100;
+        }
+        place -= 2;
+        digits[place..place + 2].copy_from_slice(&PAIRS[number as usize]);
+        place += (number < 10) as usize;
+        self.text.extend_from_slice(&digits[place..place + 20]);
+        self.text.truncate(self.text.len() - place);
+        Ok(())
+    }
+
+    fn write(&mut self) -> io::Result<()> {
+        io::stdout().write_all(&self.text)?;
+        self.text.clear();
+        Ok(())
+    }
+}
+
+/// The two digits of each number below a hundred.
+const PAIRS: [[u8; 2]; 100] = {
+    let mut pairs = [[0; 2]; 100];
+    let mut number = 0;
+    while number < 100 {
+        pairs[number] = [b'0' + number as u8 / 10, b'0' + number as u8 % 10];
+        number += 1;
+    }
+    pairs
+};
+
+/// Writes the report, and answers the exit status.
+pub fn report(verdict: Verdict) -> io::Result<i32> {
+    let mut report = Report { text: Vec::with_capacity(2 * Report::MOST) };
+    let status = match verdict {
+        Verdict::Refused { source, line, cause } => {
+            write!(report.text, "refused {source} line {line} {cause}")?;
+            2
+        }
+        Verdict::Fault(line, Fault { cpu, pid, kind }) => {
+            write!(report.text, "fault line {line} cpu {cpu} pid {pid} {}", kind.words())?;
+            1
+        }
+        Verdict::Run(Machine { counts, tasks, .. }, ..) => {
+            report.put(b"run\nevents ", counts.events as u128)?;
+            report.put(b"\nswitches ", counts.switches as u128)?;
+            report.put(b"\nmigrations ", counts.migrations as u128)?;
+            report.put(b"\nbirths ", counts.births as u128)?;
+            report.put(b"\ndeaths ", counts.deaths as u128)?;
+            for task in &tasks {
+                report.put(b"\ntask ", task.pid as u128)?;
+                report.put(b" ran ", task.ran as u128)?;
+                report.put(b" charged ", task.charged)?;
+                report.put(b" picks ", task.picks as u128)?;
+            }
+            0
+        }
+        Verdict::Least(least, version) => {
+            report.put(b"least granularity-ns ", least.granularity as u128)?;
+            report.put(b"\nleast credit-ns ", least.credit as u128)?;
+            report.put(b"\nleast debit-ns ", least.debit as u128)?;
+            report.put(b"\nleast slack-ns ", least.slack as u128)?;
+            if version >= 3 {
+                report.put(b"\nleast drift-ns ", least.drift as u128)?;
+            }
+            0
+        }
+    };
+    report.text.push(b'\n');
+    report.write()?;
+    Ok(status)
+}

@@ -1,0 +1,70 @@
+"""The words, the limits and the weights of the rules and formats, as the tests know them."""
+
+# The weights of nice -20 to 19, and that of a task of the idle policy, whatever its nice value.
+WEIGHTS = (88761, 71755, 56483, 46273, 36291, 29154, 23254, 18705, 14949, 11916,
+           9548, 7620, 6100, 4904, 3906, 3121, 2501, 1991, 1586, 1277,
+           1024, 820, 655, 526, 423, 335, 272, 215, 172, 137,
+           110, 87, 70, 56, 45, 36, 29, 23, 18, 15)
+IDLE_WEIGHT = 3
+MOST_PID = 4_194_304
+MOST_SETTING = 10**12
+
+# The settings in the order of the options, and the fault of a recording that gets one less than it needs of each.
+SETTINGS = "granularity", "credit", "debit", "slack", "drift"
+ONE_BELOW = "NotLeast", "WakeBounds", "ForkBounds", "IdleTooLong", "WrongCharge"
+
+OPTIONS = tuple(f"--{name}-ns" for name in SETTINGS)
+
+KINDS = {
+    "IdleTooLong": "idle beside a waiting task",
+    "Range": "virtual runtime out of range",
+    "WrongCharge": "charged beyond the drift",
+    "MoveHome": "migration to its own processor",
+    "SelfSwitch": "switch to the same task",
+    "PrevNotRunning": "previous task is not the running one",
+    "Strange": "task does not stand at this processor",
+    "Already": "task stands at this processor already",
+    "MoveRunning": "running task migrated",
+    "WrongPrio": "printed prio is not the task's own",
+    "ClaimMissing": "claim is missing",
+    "ClaimExtra": "claim on an event that needs none",
+    "ClaimPid": "claim names another task",
+    "WrongPutBack": "put back at another value",
+    "WakeBounds": "placed outside the wake bounds",
+    "ForkBounds": "placed outside the fork bounds",
+    "NextNotWaiting": "next task is not waiting here",
+    "IdleBesideWaiting": "switch to idle beside a waiting task",
+    "NotLeast": "next task is beyond the granularity",
+    "TicketUnequal": "migration values do not agree",
+    "BornTwice": "task born twice",
+}
+CAUSES = {
+    "trace": "TooManyLines BadHead NumberRange LostEvents BadFields RealTime PrioRange IdleNamed TimeBack".split(),
+    "companion": "Version Group BadLine Order NumberRange TwiceNamed TwiceRunning LineOrder NoTask Short".split(),
+    "join": "CpuOutside StartLate ClaimNoEvent".split(),
+}
+
+
+def options_of(settings):
+    """The words that ask for these settings."""
+    return tuple(word for option, value in zip(OPTIONS, settings) for word in (option, str(value)))
+
+
+def counted(events, switches, births, deaths, migrations=0):
+    """The head of a run's report."""
+    return b"run\nevents %d\nswitches %d\nmigrations %d\nbirths %d\ndeaths %d\n" % (
+        events, switches, migrations, births, deaths)
+
+
+def tally(pid, ran, charged, picks):
+    return b"task %d ran %d charged %d picks %d\n" % (pid, ran, charged, picks)
+
+
+def fault(line, cpu, pid, kind):
+    return f"fault line {line} cpu {cpu} pid {pid} {kind}: {KINDS[kind]}\n".encode()
+
+
+def least(*figures):
+    """The least settings, in the order of the options; the last of them, the drift, where the companion could tell
+    charges."""
+    return "".join(f"least {name}-ns {figure}\n" for name, figure in zip(SETTINGS, figures)).encode()

@@ -55,7 +55,9 @@ fn command<'a>(alloc: Global) -> Result<Command<'a>, AllocError> {
             Arg::new(alloc, "debug")
                 .long("debug")
                 .value_name("FILE")
-                .help("What sched/debug told when the recording began: the floors at the start"),
+                .help(
+                    "The state that sched/debug printed as the recording began: the floors at the start",
+                ),
         )?;
     with_settings(alloc, named)
 }

@@ -48,9 +48,11 @@ line_counts() {
 }
 
 # Calls rt in a crate's folder below this one, with so much niceness, which proves that crate, and tells that it did.
-# What rt says is kept below `logs`.
+# What rt says is kept below `logs`. Without niceness it is a crate that all else waits for, and takes all processors.
 prove() {
-  (cd "$1/crates/$2" && exec nice -n "$4" rt "$3") >"$logs/$2" 2>&1 </dev/null
+  local jobs=()
+  [ "$4" != 0 ] || [ "$(room_for)" -lt "$(nproc)" ] || jobs=(--jobs "$(nproc)")
+  (cd "$1/crates/$2" && exec nice -n "$4" rt "$3" "${jobs[@]}") >"$logs/$2" 2>&1 </dev/null
   local status=$?
   if grep -q "^crate $2:" "$logs/$2"; then echo "$command: proved $2" >&2; fi
   return $status
@@ -86,10 +88,13 @@ library() {
   touch "$tree/done"
 }
 
-# How many libraries are built at once: a run of rt keeps two processors busy, and takes up to four gigabytes.
+# How many runs of rt there is memory for, each of up to four gigabytes.
+room_for() { awk '/^MemAvailable:/ { print int($2 / 4e6) }' /proc/meminfo; }
+
+# How many libraries are built at once: a run of rt keeps two processors busy.
 most_at_once() {
   local room
-  room=$(awk '/^MemAvailable:/ { print int($2 / 4e6) }' /proc/meminfo)
+  room=$(room_for)
   echo $((room < $(nproc) * 3 / 4 ? room : $(nproc) * 3 / 4))
 }
 

@@ -9,7 +9,7 @@ use crate::event::{Act, Event};
 use crate::faults::Fault;
 use crate::limits::MOST_LINE;
 use crate::machine::Machine;
-use crate::settings::Knobs;
+use crate::settings::{Knobs, Needs};
 use crate::usual::{read_usual_line, Columns, Usual};
 use std::fs::File;
 
@@ -19,8 +19,8 @@ pub enum Verdict {
     /// The machine after the last event, the time of that, or the start where there is none, and the version of the
     /// companion.
     Run(Machine, u64, u32),
-    /// The least settings, and the version of the companion, which says whether the drift is told among them.
-    Least(Knobs, u32),
+    /// The needs of all events, and the version of the companion, which says whether the drift is told among them.
+    Least(Needs, u32),
 }
 
 /// Both texts as they are gone through, and what was found so far.
@@ -107,6 +107,7 @@ impl Audit {
             self.judging = false;
         }
         if self.judging {
+            self.machine.line = line;
             if let Err(fault) = self.machine.step(event, claim) {
                 self.fault = Some((line, fault));
                 self.judging = false;

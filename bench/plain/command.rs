@@ -1,6 +1,6 @@
 //! The command line.
 
-use crate::limits::MOST_SETTING;
+use crate::amounts::amount_of;
 use crate::settings::Knobs;
 
 pub const USAGE: &str = "\
@@ -48,12 +48,15 @@ pub fn request_of(mut words: impl Iterator<Item = String>) -> Option<Request> {
             "--drift-ns" => &mut drift,
             _ => return None,
         };
-        let value = value.parse::<u64>().ok().filter(|value| *value <= MOST_SETTING)?;
+        let value = amount_of(&value)?;
         if setting.replace(value).is_some() {
             return None;
         }
     }
     let [trace, companion] = <[String; 2]>::try_from(files).ok()?;
+    if trace == "-" && companion == "-" {
+        return None;
+    }
     if least && [granularity, credit, debit, slack, drift].iter().any(Option::is_some) {
         return None;
     }

@@ -5,13 +5,17 @@ use crate::event::{Act, Event, Way};
 use crate::faults::{Fault, Kind};
 use crate::limits::{MOST_PID, MOST_VIRTUAL, USUAL_WEIGHT};
 use crate::queue::{Processor, Waiting, NOBODY, NONE};
-use crate::settings::Knobs;
+use crate::settings::{Knobs, Needs, Place as At};
 use crate::task::Task;
 
 pub struct Machine {
     settings: Knobs,
     /// Of each setting the most that an event needed so far; of the slack without those who idle still.
-    needs: Knobs,
+    needs: Needs,
+    /// The line of the event that is judged.
+    pub line: u64,
+    /// The time of the newest event, and the first line that has it.
+    now: (u64, u64),
     pub processors: Vec<Processor>,
     /// In the order of the tallies: the companion's tasks, then births by line.
     pub tasks: Vec<Task>,
@@ -62,7 +66,9 @@ impl Machine {
     pub fn new(settings: Knobs) -> Machine {
         Machine {
             settings,
-            needs: Knobs::NONE,
+            needs: Needs::default(),
+            line: 0,
+            now: (0, 0),
             processors: Vec::new(),
             tasks: Vec::new(),
             slots: vec![0; MOST_PID as usize + 1],
@@ -155,12 +161,29 @@ impl Machine {
     fn end_idling(&mut self, cpu: usize, time: u64) {
         if self.idle >> cpu & 1 != 0 {
             self.idle &= !(1 << cpu);
-            self.needs.slack = self.needs.slack.max(time - self.processors[cpu].since);
+            self.note_slack(cpu, time - self.processors[cpu].since);
         }
     }
 
+    /// A processor has idled for so long up to now: as long as this it had first at the first line of this time.  Where
+    /// another did so too on that line, it is the lower one's.
+    fn note_slack(&mut self, cpu: usize, figure: u64) {
+        let (time, line) = self.now;
+        let need = &mut self.needs.slack;
+        need.raise(figure, At { line, time, cpu: cpu as u32, pid: 0 });
+        if need.figure == figure && need.place.line == line {
+            need.place.cpu = need.place.cpu.min(cpu as u32);
+        }
+    }
+
+    /// Where the event that is judged needs something, at a processor with a task.
+    #[inline(always)]
+    fn at(&self, time: u64, cpu: usize, pid: u32) -> At {
+        At { line: self.line, time, cpu: cpu as u32, pid }
+    }
+
     /// What the events needed, the last of them at this time, behind which nobody idles any longer.
-    pub fn needs_until(mut self, time: u64) -> Knobs {
+    pub fn needs_until(mut self, time: u64) -> Needs {
         for cpu in 0..self.processors.len() {
             self.end_idling(cpu, time);
         }
@@ -187,6 +210,7 @@ impl Machine {
     /// The charge of the running task up to a time, the told one in its place, and the lift of the floor.
     #[inline(always)]
     fn charge(&mut self, cpu: usize, time: u64, told: Option<Claim>) -> Judged {
+        let line = self.line;
         let processor = &mut self.processors[cpu];
         let nanoseconds = time - processor.mark;
         processor.mark = time;
@@ -204,7 +228,8 @@ impl Machine {
                     Some(drift) => (task.v, task.drift) = (told.v, drift),
                     None => return wrong(cpu, told.pid, Kind::WrongCharge),
                 }
-                self.needs.drift = self.needs.drift.max(task.drift.unsigned_abs());
+                let place = At { line, time, cpu: cpu as u32, pid: task.pid };
+                self.needs.drift.raise(task.drift.unsigned_abs(), place);
             }
             // In 64 bits without a sign, since it is up to 2^63.
             task.charged += task.v.wrapping_sub(before) as u64 as u128;
@@ -303,6 +328,9 @@ impl Machine {
     #[inline(always)]
     pub fn step(&mut self, event: Event, claim: Option<Claim>) -> Judged {
         let time = event.time;
+        if time > self.now.0 {
+            self.now = (time, self.line);
+        }
         if time > self.deadline {
             self.judge_idling(time)?;
         }
@@ -371,11 +399,12 @@ impl Machine {
                 return wrong(cpu, next, Kind::NextNotWaiting);
             }
             let least = processor.least().min(put_back);
+            let at = At { line: self.line, time, cpu: cpu as u32, pid: next };
             let task = &mut self.tasks[chosen as usize];
             if task.v > least + self.settings.granularity as i64 {
                 return wrong(cpu, next, Kind::NotLeast);
             }
-            self.needs.granularity = self.needs.granularity.max((task.v - least) as u64);
+            self.needs.granularity.raise((task.v - least) as u64, at);
             task.place = Place::Run;
             task.picks += 1;
             if !stays {
@@ -431,7 +460,8 @@ impl Machine {
         if claim.v < least || claim.v > task.v.max(floor) {
             return wrong(cpu, pid, Kind::WakeBounds);
         }
-        self.needs.credit = self.needs.credit.max((floor - claim.v).max(0) as u64);
+        let at = self.at(time, cpu, pid);
+        self.needs.credit.raise((floor - claim.v).max(0) as u64, at);
         self.enqueue(slot, cpu, claim.v);
         self.note_idling(cpu, time);
         Ok(())
@@ -458,7 +488,8 @@ impl Machine {
         if claim.v < floor || claim.v > floor + self.settings.debit as i64 {
             return wrong(cpu, pid, Kind::ForkBounds);
         }
-        self.needs.debit = self.needs.debit.max((claim.v - floor) as u64);
+        let at = self.at(time, cpu, pid);
+        self.needs.debit.raise((claim.v - floor) as u64, at);
         let mut slot = self.slots[pid as usize].wrapping_sub(1);
         match self.tasks.get_mut(slot as usize) {
             Some(task) if task.place != Place::Gone => return wrong(cpu, pid, Kind::BornTwice),

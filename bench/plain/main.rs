@@ -12,6 +12,7 @@
 //! the shape that most lines have, and left to one that follows the grammar wherever it has another.  A standard output
 //! that is closed isn't told from one that takes everything, by Rust's own way of starting a program.
 
+mod amounts;
 mod audit;
 mod blocks;
 mod bytes;

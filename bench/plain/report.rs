@@ -3,6 +3,7 @@
 use crate::audit::Verdict;
 use crate::faults::Fault;
 use crate::machine::Machine;
+use crate::settings::{Need, Place};
 use std::io::{self, Write};
 
 /// Standard output, written in blocks.
@@ -36,6 +37,17 @@ impl Report {
         self.text.extend_from_slice(&digits[place..place + 20]);
         self.text.truncate(self.text.len() - place);
         Ok(())
+    }
+
+    /// A key, what is needed of a setting, and where, if anything is.
+    fn put_need<const LENGTH: usize>(&mut self, key: &[u8; LENGTH], need: Need) -> io::Result<()> {
+        let Need { figure, place: Place { line, time, cpu, pid } } = need;
+        self.put(key, figure as u128)?;
+        if figure == 0 {
+            return Ok(());
+        }
+        let (seconds, nanoseconds) = (time / 1_000_000_000, time % 1_000_000_000);
+        write!(self.text, " line {line} time {seconds}.{nanoseconds:09} cpu {cpu} pid {pid}")
     }
 
     fn write(&mut self) -> io::Result<()> {
@@ -83,12 +95,12 @@ pub fn report(verdict: Verdict) -> io::Result<i32> {
             0
         }
         Verdict::Least(least, version) => {
-            report.put(b"least granularity-ns ", least.granularity as u128)?;
-            report.put(b"\nleast credit-ns ", least.credit as u128)?;
-            report.put(b"\nleast debit-ns ", least.debit as u128)?;
-            report.put(b"\nleast slack-ns ", least.slack as u128)?;
+            report.put_need(b"least granularity-ns ", least.granularity)?;
+            report.put_need(b"\nleast credit-ns ", least.credit)?;
+            report.put_need(b"\nleast debit-ns ", least.debit)?;
+            report.put_need(b"\nleast slack-ns ", least.slack)?;
             if version >= 3 {
-                report.put(b"\nleast drift-ns ", least.drift as u128)?;
+                report.put_need(b"\nleast drift-ns ", least.drift)?;
             }
             0
         }

@@ -1,4 +1,4 @@
-//! The settings: those of an audit, or what its events need.
+//! The settings of an audit, and what its events need of them.
 
 use crate::limits::MOST_SETTING;
 
@@ -19,5 +19,40 @@ impl Knobs {
         slack: MOST_SETTING,
         drift: MOST_SETTING,
     };
-    pub const NONE: Knobs = Knobs { granularity: 0, credit: 0, debit: 0, slack: 0, drift: 0 };
+}
+
+/// The most that an event needed of a setting, and which one needed it first.
+#[derive(Clone, Copy, Default)]
+pub struct Need {
+    pub figure: u64,
+    pub place: Place,
+}
+
+/// An event, by its line and its time, with a processor and a task.
+#[derive(Clone, Copy, Default)]
+pub struct Place {
+    pub line: u64,
+    pub time: u64,
+    pub cpu: u32,
+    pub pid: u32,
+}
+
+impl Need {
+    /// So much is needed at a place.
+    #[inline(always)]
+    pub fn raise(&mut self, figure: u64, place: Place) {
+        if figure > self.figure {
+            *self = Need { figure, place };
+        }
+    }
+}
+
+/// The needs of each setting.
+#[derive(Clone, Copy, Default)]
+pub struct Needs {
+    pub granularity: Need,
+    pub credit: Need,
+    pub debit: Need,
+    pub slack: Need,
+    pub drift: Need,
 }

@@ -6,7 +6,7 @@ _sched_audit() {
   esac
   if [[ $word == -* ]]; then
     mapfile -t COMPREPLY < <(compgen -W \
-      "--granularity-ns --credit-ns --debit-ns --slack-ns --drift-ns --least --explain -h --help -V --version" \
+      "--granularity-ns --credit-ns --debit-ns --slack-ns --drift-ns --least --waits --explain --summary --states -h --help -V --version" \
       -- "$word")
   else
     compopt -o filenames

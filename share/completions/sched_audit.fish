@@ -5,6 +5,9 @@ complete -c sched_audit -l debit-ns -x -d 'How far above the floor a new task ma
 complete -c sched_audit -l slack-ns -x -d 'How long a processor may idle beside a waiting task [default: 100000]'
 complete -c sched_audit -l drift-ns -x -d "How far a task's told charges may stray in sum from exact ones [default: 0]"
 complete -c sched_audit -l least -d 'Print the least settings at which the recording is a run'
+complete -c sched_audit -l waits -d 'After the report of a run, say how long each task waited'
 complete -c sched_audit -l explain -d 'After a fault or a refusal, say why in lines that begin with #'
+complete -c sched_audit -l summary -d 'Of a run print the counts alone, and no line for each task'
+complete -c sched_audit -l states -r -d 'Write how the processor stands at each event to FILE, a JSON line for each'
 complete -c sched_audit -s h -l help -d 'Print help'
 complete -c sched_audit -s V -l version -d 'Print version'

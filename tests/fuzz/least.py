@@ -3,10 +3,10 @@ known beforehand, and against the program's own verdicts at these settings and o
 
 import re
 
-from lib.words import MOST_SETTING, ONE_BELOW, OPTIONS, options_of
+from lib.words import MOST_SETTING, ONE_BELOW, OPTIONS, PLACE, options_of, without_places
 
 LEAST = "--least"
-LINES = [rb"least %s (\d+)\n" % option[2:].encode() for option in OPTIONS]
+LINES = [rb"least %s (?:0|([1-9]\d*)%s)\n" % (option[2:].encode(), PLACE) for option in OPTIONS]
 # One line for each setting; for the last one, the drift, only of a companion that could tell charges.
 TOLD = re.compile(rb"%s(?:%s)?" % (rb"".join(LINES[:-1]), LINES[-1]))
 
@@ -16,28 +16,35 @@ def is_asked(number):
     return number // 10 % 8 == 0
 
 
+def places_of(told):
+    """Of each least setting that is told the figure, and the line, the processor and the task of its place."""
+    parts = [part.decode() if part else None for part in told.groups()]
+    for figure, line, _, cpu, pid in zip(*[iter(parts)] * 5):
+        yield int(figure or 0), ["line", line, "cpu", cpu, "pid", pid]
+
+
 def at_least(answer, told, report, below):
     """What is wrong with the program's verdicts at the least settings that it told, and one below; the report of a run may
     be known.  `answer` gives the program's answer with options, and `below` counts which settings were above 0."""
-    least = [int(value or 0) for value in told.groups()]
+    least, places = zip(*places_of(told))
     words = options_of(least)
     given = answer(words)
     if given[0] != 0 or given[1].split(b"\n")[0] != b"run" or report not in (None, given[1]):
         yield f"at {' '.join(words)}, the least that it told, the program answers {given!r}"
-    for place, kind in enumerate(ONE_BELOW):
-        if least[place]:
+    for index, (kind, place) in enumerate(zip(ONE_BELOW, places)):
+        if least[index]:
             below[kind] += 1
-            words = options_of(least[:place] + [least[place] - 1] + least[place + 1:])
+            words = options_of((*least[:index], least[index] - 1, *least[index + 1:]))
             given = answer(words)
-            if given[0] != 1 or given[1].split()[7:8] != [f"{kind}:".encode()]:
-                yield f"at {' '.join(words)}, one below the least, the program answers {given!r}"
+            if given[0] != 1 or given[1].decode().split()[1:8] != [*place, f"{kind}:"]:
+                yield f"at {' '.join(words)}, one below the least, needed at {' '.join(place)}, the program answers {given!r}"
 
 
 def wrong_least(answers, answer, given, below):
     """What is wrong with what is told of an input's least settings.  `answers` gives both answers with options, and the
     others are as above."""
     told, other = answers((LEAST,))
-    if told != other or told[0] not in (0, 1, 2) or given.least not in (None, told[1]):
+    if told != other or told[0] not in (0, 1, 2) or given.least not in (None, without_places(told[1])):
         known = "" if given.least is None else f", and the rules {given.least!r}"
         yield f"with {LEAST} the program answers {told!r}, the plain auditor {other!r}{known}"
     elif told[0] == 0:

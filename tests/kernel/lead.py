@@ -3,10 +3,10 @@
 
 For each recording with lines of `sched_stat_runtime`: the greatest distance, over all switches to a task, from the
 task's virtual runtime to the least of those that wait at the processor, in virtual nanoseconds, and the line of that
-switch.  A task that was put back has what was printed of it last.  Any other that waits (woken, born, moved, or there
-from the start) has what is printed of it next, less what its run up to there cost, by 1024 over its weight; one that
-sleeps or is moved before that, or of which nothing more is printed, is left out.  No floor, no companion and no rule of
-the audit comes in.
+switch.  A task that was put back has what was printed of it last since it came there, or what it had.  Any other that
+waits (woken, born, moved, or there from the start) has what is printed of it next, less what its run up to there cost,
+by 1024 over its weight; one that sleeps or is moved before that, or of which nothing more is printed, is left out.  No
+floor, no companion and no rule of the audit comes in.
 """
 
 import re
@@ -73,25 +73,31 @@ def lead_of(lines):
                 if later > number and sort in ("wakeup", "wakeup_new") and one == pid:
                     break
         named.update({pid, more[1]} if what == "switch" else {pid})
+    # Since when each stands where it does: what was printed before is of another place.
+    since = {}
     greatest, where, left_out = 0, 0, 0
     for number, what, cpu, pid, *more in events:
         if what == "switch":
             stays, picked, prio = more
-            runs[cpu] = picked
+            _, had = runs.pop(cpu, (pid, None))
             if stays and pid:
                 there = printed.get(pid, [])
                 place = bisect_right(there, (number, 0)) - 1
-                waits[pid] = cpu, there[place][2] if place >= 0 else None
+                is_printed = place >= 0 and there[place][0] > since.get(pid, 0)
+                waits[pid] = cpu, there[place][2] if is_printed else had
             if picked:
                 value = waits.pop(picked, (cpu, None))[1]
+                runs[cpu] = picked, value
                 others = [v for home, v in waits.values() if home == cpu and v is not None]
                 left_out += value is None
                 if value is not None and others and value - min(others) > greatest:
                     greatest, where = value - min(others), number
         elif what == "move":
+            since[pid] = number
             if pid in waits:
                 waits[pid] = cpu, following(pid, number, more[0])
-        elif pid not in waits and pid not in runs.values():
+        elif pid not in waits and pid not in (who for who, _ in runs.values()):
+            since[pid] = number
             waits[pid] = cpu, following(pid, number, more[0])
     return greatest, where, left_out
 

@@ -61,8 +61,8 @@ def birth(microseconds, pid):
     return head(microseconds) + made.woken(named(pid), 0, b"sched_wakeup_new")
 
 
-def switch(microseconds, before, state, after, cpu=0, prio=120):
-    return head(microseconds, cpu) + made.switched(named(before, prio), state, named(after))
+def switch(microseconds, before, state, after, cpu=0, prio=120, next_prio=120):
+    return head(microseconds, cpu) + made.switched(named(before, prio), state, named(after, next_prio))
 
 
 def moved(microseconds, pid, orig, dest):

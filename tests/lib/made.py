@@ -23,6 +23,11 @@ def moved(task, orig, dest):
     return b"sched_migrate_task: %s orig_cpu=%d dest_cpu=%d\n" % (keys(*task), orig, dest)
 
 
+def printed(pid, runtime, virtual, name):
+    """What a kernel prints of a charge, both amounts in nanoseconds."""
+    return b"sched_stat_runtime: comm=%s pid=%d runtime=%d [ns] vruntime=%d [ns]\n" % (name, pid, runtime, virtual)
+
+
 def beginning(processors=1, version=1, start=100 * 10**6):
     """The head of a companion, where all floors are at 0."""
     return b"cfs-companion %d\ncpus %d\nstart %d.%06d\n" % (version, processors, *divmod(start, 10**6)) + b"".join(

@@ -4,6 +4,8 @@ import os
 import subprocess
 from pathlib import Path
 
+from lib.report import without_hints
+
 SECONDS = 300
 
 
@@ -18,7 +20,7 @@ class Refusing:
 
     def answer(self, words, growth=0, on=False):
         """How a command ends where this growth is refused, and all behind it where that goes on: its status, standard
-        output and standard error; and whether it came to that growth."""
+        output and standard error; and whether it came to that growth. Hints may be left out where memory is scarce."""
         ours, theirs = os.pipe()
         settings = {"LD_PRELOAD": str(self.built), "REFUSE_AT": str(growth), "REFUSE_TOLD": str(theirs)}
         if on:
@@ -30,7 +32,7 @@ class Refusing:
             os.close(theirs)
             came_to_it = os.read(ours, 1) != b""
             os.close(ours)
-        return (done.returncode, done.stdout, done.stderr), came_to_it
+        return (done.returncode, done.stdout, without_hints(done.stderr)), came_to_it
 
     def answers(self, words, on):
         """How a command ends where its first growth is refused, then where its second is, and so on; and last where it

@@ -31,6 +31,11 @@ def without_toolchain():
     return {**os.environ, "PATH": os.pathsep.join(path for path in paths if not (Path(path) / "rt").exists())}
 
 
+def without_hints(errors):
+    """What a command writes to standard error, but for what it says of likely mistakes."""
+    return b"".join(line for line in errors.splitlines(keepends=True) if not line.startswith(b"hint: "))
+
+
 class Report:
     """How many results passed and failed, with a folder for their texts, which goes with it."""
 

@@ -1,5 +1,7 @@
 """The words, the limits and the weights of the rules and formats, as the tests know them."""
 
+import re
+
 # The weights of nice -20 to 19, and that of a task of the idle policy, whatever its nice value.
 WEIGHTS = (88761, 71755, 56483, 46273, 36291, 29154, 23254, 18705, 14949, 11916,
            9548, 7620, 6100, 4904, 3906, 3121, 2501, 1991, 1586, 1277,
@@ -14,6 +16,11 @@ SETTINGS = "granularity", "credit", "debit", "slack", "drift"
 ONE_BELOW = "NotLeast", "WakeBounds", "ForkBounds", "IdleTooLong", "WrongCharge"
 
 OPTIONS = tuple(f"--{name}-ns" for name in SETTINGS)
+
+# What is said of likely mistakes on standard error: of texts in the wrong order, and of a trace without an event.
+COMPANION_FIRST = b"hint: the trace is a companion: the trace is named first\n"
+TRACE_SECOND = b"hint: the companion is a trace: the companion is named second\n"
+NO_EVENT = b"hint: the trace has no event of the scheduler\n"
 
 KINDS = {
     "IdleTooLong": "idle beside a waiting task",
@@ -64,7 +71,22 @@ def fault(line, cpu, pid, kind):
     return f"fault line {line} cpu {cpu} pid {pid} {kind}: {KINDS[kind]}\n".encode()
 
 
+# Where a figure of the least settings is needed first: line, time, processor and task.
+PLACE = rb" line (\d+) time (\d+\.\d{9}) cpu (\d+) pid (\d+)"
+
+
 def least(*figures):
     """The least settings, in the order of the options; the last of them, the drift, where the companion could tell
-    charges."""
-    return "".join(f"least {name}-ns {figure}\n" for name, figure in zip(SETTINGS, figures)).encode()
+    charges.  Each is a number, or one above 0 and its place: the line, the time, the processor and the task."""
+    return "".join(f"least {name}-ns {figure if isinstance(figure, int) else placed(*figure)}\n"
+                   for name, figure in zip(SETTINGS, figures)).encode()
+
+
+def placed(figure, line, time, cpu, pid):
+    """A figure with its place."""
+    return f"{figure} line {line} time {time} cpu {cpu} pid {pid}"
+
+
+def without_places(report):
+    """The least settings alone."""
+    return re.sub(PLACE + rb"\n", rb"\n", report)

@@ -1,2 +1,4 @@
 mod Taking
 mod Written
+mod Besides
+mod NoFaults

@@ -1,20 +1,25 @@
-ghost use Rattle.std.specs.Prelude.{◌≡◌, ◌++◌, ℕ, Bool, IfOk, List, OnOk, Option, string_bytes};
+ghost use Rattle.std.specs.Prelude.{◌≡◌, ◌++◌, ℕ, Bool, IfOk, List, None, OnOk, Option, string_bytes};
+ghost use Rattle.audit_report.specs.Finding.{IsFinding};
 ghost use Rattle.cfs_model.specs.Knobs.{KnobsView};
+ghost use Rattle.cfs_model.specs.Run.{IsRun};
 ghost use Rattle.replay_model.specs.declared.first_fault.FirstFault.{FirstFault};
 ghost use Rattle.sched_record.specs.Record.{RecordView, record_view};
-ghost use Rattle.ticket_book.specs.BookView.{book_view};
-ghost use Rattle.ticket_book.specs.Own.{AreOwn};
+ghost use Rattle.waiting_times.specs.Waits.{first_state, said_events};
 
+use crate::Finding;
 use cfs_model::{Knobs, Memory};
+use pid_table::PidHasher;
 use replay_model::FirstFault;
 use sched_record::Record;
-use std::alloc::AllocError;
-use ticket_book::Book;
+use std::alloc::{AllocError, Global};
 
 /// What is told of a record: a verdict, or the least settings.
 pub trait Judgement: Drop {
     /// Whether it is that of a record, where these settings are asked for.
     ghost is_of: { KnobsView → RecordView → Self → Type 0 };
+
+    /// Whether it is made of the least settings, and not of a verdict.
+    ghost is_least: { Bool };
 
     /// By which settings the processors are then replayed.
     ghost replayed_by: { KnobsView → KnobsView };
@@ -29,10 +34,25 @@ pub trait Judgement: Drop {
     fn replayed_by(knobs: Knobs) -> Knobs
         ensures { result ≡ replayed_by knobs };
 
-    /// That of a record, by a book of its processors' own pages.
-    fn of_book(book: Book, joined: &Record, knobs: Knobs) -> Result<Self, Memory>
-        requires { AreOwn (replayed_by knobs) (record_view joined.now) (book_view book) }
+    /// Whether it is made of the least settings, and not of a verdict.
+    fn is_least() -> bool
+        ensures { result ≡ is_least };
+
+    /// That of a record, by what is found of it. Where tasks are sought by their pids, it is by these keys.
+    fn of_finding(
+        alloc: Global,
+        finding: Finding,
+        joined: &Record,
+        knobs: Knobs,
+        hasher: PidHasher,
+    ) -> Result<Self, Memory>
+        requires { IsFinding is_least knobs (record_view joined.now) finding }
         ensures { IfOk result (is_of knobs (record_view joined.now)) };
+
+    /// A law: where it names no fault, the record's events are a run at some settings.
+    fn runs()
+        ensures { (knobs : KnobsView) (r : RecordView) (judged : Self) → is_of knobs r judged
+            → fault judged ≡ None → (at : KnobsView) × IsRun at r.start (first_state r) (said_events r) };
 
     /// Writes what a report says of it, by whether the companion tells charges.
     fn push(&self, text: &mut String, tells_charges: bool) -> Result<(), AllocError>

@@ -1,14 +1,15 @@
-//! Least settings, as a search over two texts tells them.
+//! Least settings and their places, as a search over two texts tells them.
 ghost use Rattle.std.specs.Prelude.{◌≡◌, ◌++◌, OnOk, string_bytes};
-ghost use Rattle.audit_report.specs.Report.{lines_of_settings, setting_lines};
+ghost use Rattle.audit_report.specs.Report.{lines_of_settings, setting_line, setting_lines};
 
-use crate::Judgement;
 use crate::reporting::push_fault;
+use crate::{Finding, Judgement};
 use cfs_model::{Knobs, Memory, Setting};
+use least_places::{LeastFigures, Place, Places};
+use pid_table::PidHasher;
 use replay_model::FirstFault;
 use sched_record::Record;
-use std::alloc::AllocError;
-use ticket_book::{Book, LeastSettings};
+use std::alloc::{AllocError, Global};
 
 /// What is told where the companion tells no charges: each setting but the drift.
 const WITHOUT_DRIFT: [Setting; 4] = [
@@ -18,12 +19,15 @@ const WITHOUT_DRIFT: [Setting; 4] = [
     Setting::Slack,
 ];
 
-impl Judgement for LeastSettings {
-    ghost use Rattle.cfs_model.specs.Least.{greatest_settings};
+impl Judgement for LeastFigures {
+    ghost use Rattle.std.specs.Prelude.{true};
     ghost use Rattle.audit_report.specs.Report.{least_fault, least_lines};
-    ghost use Rattle.ticket_book.specs.LeastAnswer.{IsLeastAnswer};
+    ghost use Rattle.cfs_model.specs.Least.{greatest_settings};
+    ghost use Rattle.least_places.specs.LeastAnswer.{IsLeastAnswer};
 
     ghost is_of = { λ _. IsLeastAnswer };
+
+    ghost is_least = { true };
 
     ghost replayed_by = { λ _. greatest_settings };
 
@@ -35,45 +39,102 @@ impl Judgement for LeastSettings {
         Knobs::greatest()
     }
 
-    fn of_book(book: Book, joined: &Record, _knobs: Knobs) -> Result<LeastSettings, Memory> {
-        let closed = book.close_least(joined)?;
-        Ok(closed.least)
+    fn is_least() -> bool {
+        true
     }
+
+    fn of_finding(
+        _alloc: Global,
+        finding: Finding,
+        _joined: &Record,
+        _knobs: Knobs,
+        _hasher: PidHasher,
+    ) -> Result<LeastFigures, Memory> {
+        match finding {
+            Finding::Least(figures) => Ok(figures),
+            Finding::Verdict(_) => unreachable!(),
+        }
+    }
+
+    fn runs() {}
 
     fn push(&self, text: &mut String, tells_charges: bool) -> Result<(), AllocError> {
         match self {
-            LeastSettings::Found(knobs) => push_settings(text, *knobs, tells_charges),
-            LeastSettings::Fault(fault) => push_fault(text, fault),
+            LeastFigures::Found { knobs, places } => {
+                push_settings(text, *knobs, places, tells_charges)
+            }
+            LeastFigures::Fault(fault) => push_fault(text, fault),
         }
     }
 
     fn fault(&self) -> Option<FirstFault> {
         match self {
-            LeastSettings::Found(_) => None,
-            LeastSettings::Fault(fault) => Some(*fault),
+            LeastFigures::Found { .. } => None,
+            LeastFigures::Fault(fault) => Some(*fault),
         }
     }
 }
 
 /// Writes each of the settings that are told, by whether the companion tells charges.
-fn push_settings(text: &mut String, knobs: Knobs, tells_charges: bool) -> Result<(), AllocError>
-    ensures { OnOk result (string_bytes text.new ≡ string_bytes text.old ++ setting_lines tells_charges knobs) }
+fn push_settings(
+    text: &mut String,
+    knobs: Knobs,
+    places: &Places,
+    tells_charges: bool,
+) -> Result<(), AllocError>
+    ensures { OnOk result
+        (string_bytes text.new ≡ string_bytes text.old ++ setting_lines tells_charges knobs places.now) }
 {
     if tells_charges {
-        push_each(text, knobs, &Setting::ALL)
+        push_each(text, knobs, places, &Setting::ALL)
     } else {
-        push_each(text, knobs, &WITHOUT_DRIFT)
+        push_each(text, knobs, places, &WITHOUT_DRIFT)
     }
 }
 
 /// Writes each of these settings.
-fn push_each(text: &mut String, knobs: Knobs, settings: &[Setting]) -> Result<(), AllocError>
-    ensures { OnOk result (string_bytes text.new ≡ string_bytes text.old ++ lines_of_settings knobs settings.now) }
+fn push_each(
+    text: &mut String,
+    knobs: Knobs,
+    places: &Places,
+    settings: &[Setting],
+) -> Result<(), AllocError>
+    ensures { OnOk result
+        (string_bytes text.new ≡ string_bytes text.old ++ lines_of_settings knobs places.now settings.now) }
 {
     for setting in settings {
-        let name = setting.name();
-        let value = knobs.get(*setting);
-        writeln!(text, "least {name} {value}")?;
+        push_setting(text, knobs, places, *setting)?;
     }
     Ok(())
+}
+
+/// Writes a setting, and where it is needed first.
+fn push_setting(
+    text: &mut String,
+    knobs: Knobs,
+    places: &Places,
+    setting: Setting,
+) -> Result<(), AllocError>
+    ensures { OnOk result
+        (string_bytes text.new ≡ string_bytes text.old ++ setting_line knobs places.now setting) }
+{
+    let name = setting.name();
+    let value = knobs.get(setting);
+    match places.get(setting) {
+        Some(place) => {
+            let Place {
+                line,
+                time,
+                cpu,
+                pid,
+            } = place;
+            let seconds = time / 1_000_000_000;
+            let nanoseconds = time % 1_000_000_000;
+            writeln!(
+                text,
+                "least {name} {value} line {line} time {seconds}.{nanoseconds:09} cpu {cpu} pid {pid}"
+            )
+        }
+        None => writeln!(text, "least {name} {value}"),
+    }
 }

@@ -1,6 +1,8 @@
 //! What comes out of an audit: a verdict, the least settings or a refusal, with its report and its status.
 #![tactic(auto)]
 
+mod counted;
+mod finding;
 mod judgement;
 mod least_settings;
 mod outcome;
@@ -9,12 +11,17 @@ mod sink;
 mod sink_of;
 mod status;
 mod verdict;
+mod wait_lines;
+mod with_waits;
 mod writing;
 
+pub use counted::Counted;
+pub use finding::Finding;
 pub use judgement::Judgement;
 pub use outcome::Outcome;
 pub use reporting::{least_report, report};
 pub use sink::Sink;
 pub use sink_of::SinkOf;
 pub use status::Status;
+pub use with_waits::WithWaits;
 pub use writing::write_report;

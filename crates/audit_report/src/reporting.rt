@@ -4,9 +4,9 @@ ghost use Rattle.audit_report.specs.Report.{fault_line, least_lines, refusal_lin
 use crate::{Judgement, Outcome};
 use audit_input::{Cause, Source};
 use cfs_model::Memory;
+use least_places::LeastFigures;
 use replay_model::FirstFault;
 use std::alloc::{AllocError, Global};
-use ticket_book::LeastSettings;
 
 /// What is written for an outcome.
 pub fn report(alloc: Global, outcome: &Outcome) -> Result<Vec<u8>, Memory>
@@ -20,7 +20,7 @@ pub fn report(alloc: Global, outcome: &Outcome) -> Result<Vec<u8>, Memory>
 /// those it has a line of the drift.
 pub fn least_report(
     alloc: Global,
-    outcome: &Outcome<LeastSettings>,
+    outcome: &Outcome<LeastFigures>,
     tells_charges: bool,
 ) -> Result<Vec<u8>, Memory>
     ensures { IfOk result (λ text. text.items ≡ report_of (least_lines tells_charges) outcome.now) }

@@ -3,13 +3,14 @@ ghost use Rattle.std.specs.Prelude.{◌≡◌, ◌++◌, OnOk, string_bytes};
 ghost use Rattle.ticket_book.specs.SummaryView.{summary_view};
 ghost use Rattle.audit_report.specs.Report.{count_lines, run_lines, tally_lines};
 
-use crate::Judgement;
 use crate::reporting::push_fault;
+use crate::{Finding, Judgement};
 use cfs_model::{Knobs, Memory};
+use pid_table::PidHasher;
 use replay_model::{FirstFault, Tally};
 use sched_record::Record;
-use std::alloc::AllocError;
-use ticket_book::{Book, Summary, Verdict};
+use std::alloc::{AllocError, Global};
+use ticket_book::{Summary, Verdict};
 
 // Writes lines at the end of a text, each with its line feed.
 macro_rules! lines {
@@ -19,10 +20,13 @@ macro_rules! lines {
 }
 
 impl Judgement for Verdict {
+    ghost use Rattle.std.specs.Prelude.{false};
     ghost use Rattle.audit_report.specs.Report.{verdict_fault, verdict_lines};
     ghost use Rattle.ticket_book.specs.Verdict.{IsVerdict};
 
     ghost is_of = { IsVerdict };
+
+    ghost is_least = { false };
 
     ghost replayed_by = { λ knobs. knobs };
 
@@ -34,10 +38,24 @@ impl Judgement for Verdict {
         knobs
     }
 
-    fn of_book(book: Book, joined: &Record, knobs: Knobs) -> Result<Verdict, Memory> {
-        let closed = book.close_own(joined, knobs)?;
-        Ok(closed.verdict)
+    fn is_least() -> bool {
+        false
     }
+
+    fn of_finding(
+        _alloc: Global,
+        finding: Finding,
+        _joined: &Record,
+        _knobs: Knobs,
+        _hasher: PidHasher,
+    ) -> Result<Verdict, Memory> {
+        match finding {
+            Finding::Verdict(verdict) => Ok(verdict),
+            Finding::Least(_) => unreachable!(),
+        }
+    }
+
+    fn runs() {}
 
     fn push(&self, text: &mut String, _tells_charges: bool) -> Result<(), AllocError> {
         match self {
@@ -63,7 +81,7 @@ fn push_run(text: &mut String, summary: &Summary) -> Result<(), AllocError>
 }
 
 /// Writes that it is a run, and how often each thing happened in it.
-fn push_counts(text: &mut String, summary: &Summary) -> Result<(), AllocError>
+pub(crate) fn push_counts(text: &mut String, summary: &Summary) -> Result<(), AllocError>
     ensures { OnOk result (string_bytes text.new ≡ string_bytes text.old ++ count_lines (summary_view summary.now)) }
 {
     let Summary {

@@ -1,31 +1,26 @@
 -- The command line (this project's format). How words go to arguments and options is clap's: its `matches_of` says, for
 -- a command and the words, which values each argument has.
-use Rattle.std.specs.Prelude.{◌≡◌, ℕ, Bool, IsTrue, List, [], ◌∷◌, None, Some, true, false, codes}
+use Rattle.std.specs.Prelude.{◌≡◌, ℕ, ◌&&◌, Bool, IsTrue, IsFalse, List, [], ◌∷◌, Option, None, Some, true, false}
+use Rattle.std.specs.Prelude.{codes, option_map, unwrap_or}
 use Rattle.std.specs.List.{AllByRecursion}
 use Rattle.std.specs.Option.{option_map_or}
 use Rattle.std.specs.Str.{bytes_eq}
-use Rattle.std.specs.Str.Parse.{digits_value, without_leading_plus}
-use Rattle.cfs_model.specs.Limits.{greatest_setting}
+use Rattle.amount_words.specs.Amount.{amount_of}
 use Rattle.cfs_model.specs.Knobs.{AreInRange, KnobsView, all_settings, settings_by, with_value}
 use Rattle.cfs_model.specs.Options.{name_of_setting, standard_value}
 use Rattle.cfs_model.specs.declared.setting.Setting.{Setting}
 use Rattle.clap.specs.Walk.{Row, Rule, Text, first_of, one_of}
 use Rattle.clap.specs.Simple.{App, matches_of, new_app, new_rule, on_top, with_rule}
 use Rattle.clap.specs.declared.builder.action.ArgAction.TheVariants.{SetTrue}
-use Rattle.clap.specs.declared.builder.value_parser.ValueParser.TheVariants as parsers
 use Rattle.audit_request.specs.declared.request.Request.{Request}
 
 -- a file's name, which has to be there
 abbrev pub name_rule : Text → Rule
 name_rule id = record (new_rule id) { required = true }
 
--- a setting's option, with one number from 0 to the greatest setting
+-- a setting's option, with one word
 abbrev pub setting_rule : Setting → Rule
-setting_rule which = record (new_rule (name_of_setting which)) {
-  long = Some (name_of_setting which);
-  value_names = 1;
-  parser = Some (parsers.Unsigned 0 greatest_setting);
-}
+setting_rule which = record (new_rule (name_of_setting which)) { long = Some (name_of_setting which); value_names = 1 }
 
 -- an option for each of these settings
 abbrev pub with_settings : List Setting → App → App
@@ -45,21 +40,30 @@ beside_none (which ∷ settings) rule = beside_none settings (record rule { is_f
 abbrev pub lone_flag_rule : Text → Rule
 lone_flag_rule id = beside_none all_settings (flag_rule id)
 
--- the names of the two files, the settings, and the two flags; clap adds help and version
+-- an option with a file's name
+abbrev pub file_rule : Text → Rule
+file_rule id = record (new_rule id) { long = Some id; value_names = 1 }
+
+-- the names of the two files, the settings, the flags, and the file of states; clap adds help and version
 abbrev pub audit_app : App
 audit_app =
-    with_rule (with_rule (with_settings all_settings (with_rule (with_rule
+    with_rule (with_rule (with_rule (with_rule (with_rule (with_settings all_settings (with_rule (with_rule
     (on_top (λ s. record s { has_version = true }) (new_app (codes "sched_audit")))
     (name_rule (codes "TRACE"))) (name_rule (codes "COMPANION"))))
-    (lone_flag_rule (codes "least"))) (flag_rule (codes "explain"))
+    (lone_flag_rule (codes "least"))) (flag_rule (codes "waits"))) (flag_rule (codes "explain")))
+    (flag_rule (codes "summary"))) (file_rule (codes "states"))
 
--- a number as it is written, with or without a plus before it
-abbrev pub number_of : Text → ℕ
-number_of text = digits_value 10 (without_leading_plus text)
+-- the amount that a setting's option says, in nanoseconds, or its default where the option isn't given
+abbrev pub amount_for : List Row → Setting → Option ℕ
+amount_for rows which = option_map_or amount_of (one_of (name_of_setting which) rows) (Some (standard_value which))
 
--- a setting: its option's number, or its default where the option isn't given
+-- that amount, where there is one
 abbrev pub setting_of : List Row → Setting → ℕ
-setting_of rows which = option_map_or number_of (one_of (name_of_setting which) rows) (standard_value which)
+setting_of rows which = unwrap_or (amount_for rows which) 0
+
+-- each of these settings has an amount
+abbrev pub HaveAmounts : List Row → List Setting → Type 0
+HaveAmounts rows settings = AllByRecursion (λ which. amount_for rows which ≡ Some (setting_of rows which)) settings
 
 -- the same settings but for these, of which each has the value that a function gives it
 abbrev pub with_values : (Setting → ℕ) → List Setting → KnobsView → KnobsView
@@ -78,16 +82,25 @@ HaveNone rows settings = AllByRecursion (λ which. first_of (name_of_setting whi
 abbrev pub HasNoSetting : List Row → Type 0
 HasNoSetting rows = HaveNone rows all_settings
 
--- the request has the two names, the settings and the flags of these values, and no setting is given beside the flag of
--- the least ones
+-- whether a name is that of standard input
+abbrev pub is_input : Text → Bool
+is_input name = bytes_eq name (codes "-")
+
+-- the request has the names, the settings and the flags of these values, no setting is given beside the flag of the
+-- least ones, and standard input isn't both files
 pub record IsRequestOf (rows : List Row) (request : Request) : Type 0 where
   pub trace : first_of (codes "TRACE") rows ≡ Some request.trace.now
   pub companion : first_of (codes "COMPANION") rows ≡ Some request.companion.now
+  pub amounts : HaveAmounts rows all_settings
   pub settings : request.knobs ≡ settings_by (setting_of rows)
   pub in_range : AreInRange (settings_by (setting_of rows))
   pub least : request.least ≡ is_flagged (codes "least") rows
   pub alone : IsTrue request.least → HasNoSetting rows
+  pub waits : request.waits ≡ is_flagged (codes "waits") rows
   pub explain : request.explain ≡ is_flagged (codes "explain") rows
+  pub summary : request.summary ≡ is_flagged (codes "summary") rows
+  pub states : option_map (λ name. name.now) request.states ≡ first_of (codes "states") rows
+  pub once : IsFalse (is_input request.trace.now && is_input request.companion.now)
 
 -- the request is what these words ask for; the first word is the program's own name
 abbrev pub IsAskedBy : List Text → Request → Type 0

@@ -1,18 +1,20 @@
 //! The command line, as clap reads it.
 
 ghost use Rattle.std.specs.Bool.{OnTrue};
-ghost use Rattle.std.specs.Prelude.{◌≡◌, IfOk, IfSome, None, false, map};
+ghost use Rattle.std.specs.Prelude.{◌≡◌, ◌&&◌, IfOk, IfSome, None, Some, false, map, option_map, unwrap_or};
 ghost use Rattle.clap.specs.Walk.{first_of};
 ghost use Rattle.clap.specs.Words.{app_of, found_of, rows_of, rule_of};
 ghost use Rattle.cfs_model.specs.Knobs.{AreInRange, all_settings, nothing, settings_by};
-ghost use Rattle.audit_request.specs.CommandLine.{HasNoSetting, HaveNone, IsAskedBy, IsRequestOf, audit_app};
-ghost use Rattle.audit_request.specs.CommandLine.{beside_none, flag_rule, is_flagged, lone_flag_rule};
-ghost use Rattle.audit_request.specs.CommandLine.{name_rule, setting_of, setting_rule, with_settings, with_values};
+ghost use Rattle.audit_request.specs.CommandLine.{HasNoSetting, HaveAmounts, HaveNone, IsAskedBy, IsRequestOf};
+ghost use Rattle.audit_request.specs.CommandLine.{amount_for, audit_app, beside_none, file_rule, flag_rule, is_flagged};
+ghost use Rattle.audit_request.specs.CommandLine.{is_input, lone_flag_rule, name_rule, setting_of, setting_rule};
+ghost use Rattle.audit_request.specs.CommandLine.{with_settings, with_values};
 
 use crate::Request;
-use cfs_model::{Amounts, GREATEST_SETTING, Knobs, Setting};
+use amount_words::{Amount, amount_mistake};
+use cfs_model::{Amounts, Knobs, Setting};
 use clap::error::ErrorKind;
-use clap::{Arg, ArgAction, ArgMatches, Command, Error, value_parser};
+use clap::{Arg, ArgAction, ArgMatches, Command, Error};
 use std::alloc::{AllocError, Global};
 use std::convert::AsStr;
 
@@ -24,21 +26,36 @@ pub fn command_line<'a, S: AsStr>(alloc: Global, words: &'a [S]) -> Result<Reque
     let matches = command.try_get_matches_from_mut(words)?;
     match request_of(&matches) {
         Some(request) => Ok(request),
-        // clap has tested all that is tested again there.
-        None => Err(command.error(
-            ErrorKind::ValueValidation,
-            "a value is missing or out of range",
-        )?),
+        None => Err(mistake(alloc, &mut command, &matches)?),
     }
 }
 
-/// The two names, the settings, the two flags, and what clap adds: help and the version.
+/// Why the values are no request.
+fn mistake(
+    alloc: Global,
+    command: &mut Command<'_>,
+    matches: &ArgMatches<'_>,
+) -> Result<Error, AllocError> {
+    match amount_mistake(alloc, matches, &Setting::ALL)? {
+        Some(error) => Ok(error),
+        // clap has tested all else that is tested again there.
+        None => command.error(
+            ErrorKind::ArgumentConflict,
+            "standard input can't be both the trace and the companion",
+        ),
+    }
+}
+
+/// The two names, the settings, the flags, the file of states, and what clap adds: help and the version.
 fn command<'a>(alloc: Global) -> Result<Command<'a>, AllocError>
     ensures { IfOk result (λ command. app_of command ≡ audit_app) }
 {
     let named = Command::new(alloc, "sched_audit")
         .version("0.1.0")
         .about("Judges a recorded CFS schedule: a run, or its first fault")
+        .after_help(
+            "N is in nanoseconds, or has a unit: 3.4ms, 500us, 2s, 3e6. The name - is standard input.",
+        )
         .bin_name("sched_audit")?
         .arg(name(alloc, "TRACE", "The recording: the file `trace` of tracefs"))?
         .arg(name(
@@ -54,8 +71,23 @@ fn command<'a>(alloc: Global) -> Result<Command<'a>, AllocError>
         )?)?
         .arg(flag(
             alloc,
+            "waits",
+            "After the report of a run, say how long each task waited",
+        ))?
+        .arg(flag(
+            alloc,
             "explain",
             "After a fault or a refusal, say why in lines that begin with #",
+        ))?
+        .arg(flag(
+            alloc,
+            "summary",
+            "Of a run print the counts alone, and no line for each task",
+        ))?
+        .arg(file_option(
+            alloc,
+            "states",
+            "Write how the processor stands at each event to FILE, a JSON line for each",
         ))
 }
 
@@ -82,18 +114,14 @@ fn name<'a>(alloc: Global, id: &'a str, help: &'a str) -> Arg<'a>
     Arg::new(alloc, id).required(true).help(help)
 }
 
-/// A setting's option, with a number of nanoseconds.
+/// A setting's option, with a word that says an amount.
 fn option_of(alloc: Global, setting: Setting) -> Arg<'static>
     ensures rule { rule_of result ≡ setting_rule setting }
     ensures local { result.global ≡ false }
 {
     let name = setting.name();
     let help = setting.help();
-    Arg::new(alloc, name)
-        .long(name)
-        .value_name("N")
-        .value_parser(value_parser!(u64).range(0..=GREATEST_SETTING as i64))
-        .help(help)
+    Arg::new(alloc, name).long(name).value_name("N").help(help)
 }
 
 /// An option without a value.
@@ -105,6 +133,14 @@ fn flag<'a>(alloc: Global, id: &'a str, help: &'a str) -> Arg<'a>
         .long(id)
         .action(ArgAction::SetTrue)
         .help(help)
+}
+
+/// An option with a file's name.
+fn file_option<'a>(alloc: Global, id: &'a str, help: &'a str) -> Arg<'a>
+    ensures rule { rule_of result ≡ file_rule id.now }
+    ensures local { result.global ≡ false }
+{
+    Arg::new(alloc, id).long(id).value_name("FILE").help(help)
 }
 
 /// A flag that doesn't go with any of the settings.
@@ -140,13 +176,35 @@ fn request_of<'a>(matches: &ArgMatches<'a>) -> Option<Request<'a>>
     if least && !has_no_setting(matches) {
         return None;
     }
+    let trace = matches.get_str("TRACE")?;
+    let companion = matches.get_str("COMPANION")?;
+    if reads_input_twice(trace, companion) {
+        return None;
+    }
     Some(Request {
-        trace: matches.get_str("TRACE")?,
-        companion: matches.get_str("COMPANION")?,
+        trace,
+        companion,
         knobs: knobs_of(matches)?,
         least,
+        waits: flag_of(matches, "waits")?,
         explain: flag_of(matches, "explain")?,
+        summary: flag_of(matches, "summary")?,
+        states: matches.get_str("states"),
     })
+}
+
+/// Whether both names are that of standard input.
+fn reads_input_twice(trace: &str, companion: &str) -> bool
+    ensures { result ≡ (is_input trace.now && is_input companion.now) }
+{
+    is_input(trace) && is_input(companion)
+}
+
+/// Whether a name is that of standard input.
+fn is_input(name: &str) -> bool
+    ensures { result ≡ is_input name.now }
+{
+    name == "-"
 }
 
 /// Whether none of the settings is given.
@@ -179,14 +237,16 @@ fn is_absent(matches: &ArgMatches<'_>, id: &str) -> bool
 fn knobs_of(matches: &ArgMatches<'_>) -> Option<Knobs>
     ensures same { IfSome result (λ knobs. knobs ≡ settings_by (setting_of (rows_of (found_of matches.now)))) }
     ensures in_range { IfSome result (λ _. AreInRange (settings_by (setting_of (rows_of (found_of matches.now))))) }
+    ensures each { IfSome result (λ _. HaveAmounts (rows_of (found_of matches.now)) all_settings) }
 {
     Knobs::of(amounts_of(matches, &Setting::ALL)?)
 }
 
 /// The values of these settings, and nothing of any other; None where one has no sense.
 fn amounts_of(matches: &ArgMatches<'_>, settings: &[Setting]) -> Option<Amounts>
-    ensures { IfSome result (λ amounts. amounts
+    ensures same { IfSome result (λ amounts. amounts
         ≡ with_values (setting_of (rows_of (found_of matches.now))) settings.now nothing) }
+    ensures each { IfSome result (λ _. HaveAmounts (rows_of (found_of matches.now)) settings.now) }
 {
     let mut amounts = Amounts::none();
     for setting in settings {
@@ -195,13 +255,23 @@ fn amounts_of(matches: &ArgMatches<'_>, settings: &[Setting]) -> Option<Amounts>
     Some(amounts)
 }
 
-/// A setting's number, or its default where its option isn't given; None where it is no number.
+/// The nanoseconds of a setting, or its default where its option isn't given; None where its word says no amount.
 fn number_of(matches: &ArgMatches<'_>, setting: Setting) -> Option<u64>
-    ensures { IfSome result (λ number. number ≡ setting_of (rows_of (found_of matches.now)) setting) }
+    ensures { IfSome result (λ number. amount_for (rows_of (found_of matches.now)) setting ≡ Some number) }
 {
-    match matches.try_get_one::<u64>(setting.name()) {
-        Ok(number) => Some(number.unwrap_or(setting.standard())),
+    match matches.try_get_one::<Amount>(setting.name()) {
+        Ok(amount) => Some(nanoseconds_or(amount, setting.standard())),
         Err(_) => None,
+    }
+}
+
+/// The nanoseconds of an amount, or a default where there is none.
+fn nanoseconds_or(amount: Option<Amount>, default: u64) -> u64
+    ensures { result ≡ unwrap_or (option_map (λ a. a.nanoseconds) amount) default }
+{
+    match amount {
+        Some(amount) => amount.nanoseconds,
+        None => default,
     }
 }
 

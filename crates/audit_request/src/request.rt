@@ -11,6 +11,12 @@ pub struct Request<'a> {
     pub knobs: Knobs,
     /// Whether the least settings are asked for in place of a verdict.
     pub least: bool,
+    /// Whether the report of a run is to be followed by how long each task waited.
+    pub waits: bool,
     /// Whether what is told of a fault or a refusal is to be followed by why.
     pub explain: bool,
+    /// Whether a run's counts are asked for without its tasks.
+    pub summary: bool,
+    /// The name of the file that the states at each event go to, as given; if they are asked for.
+    pub states: Option<&'a str>,
 }

@@ -19,7 +19,10 @@ fn judged(knobs: Knobs) -> Request<'static> {
         companion: "b",
         knobs,
         least: false,
+        waits: false,
         explain: false,
+        summary: false,
+        states: None,
     }
 }
 
@@ -59,6 +62,47 @@ fn each_option_is_its_own_setting(rt: HostRuntime) {
 }
 
 #[test]
+fn amounts_have_units(rt: HostRuntime) {
+    for (option, value) in [
+        ("--slack-ns=3.4ms", 3_400_000),
+        ("--slack-ns=500us", 500_000),
+        ("--slack-ns=0.5us", 500),
+        ("--slack-ns=2s", 2_000_000_000),
+        ("--slack-ns=3e6", 3_000_000),
+        ("--slack-ns=3.4e6", 3_400_000),
+        ("--slack-ns=7ns", 7),
+        ("--slack-ns=+07.000ns", 7),
+        ("--slack-ns=1000s", 1_000_000_000_000),
+    ] {
+        let words = ["sched_audit", "a", "b", option];
+        let given = judged(knobs_with(Setting::Slack, value));
+        wants_about(&rt, option, &asked(rt.alloc(), &words), &Ok(given));
+    }
+}
+
+#[test]
+fn other_amounts_are_refused(rt: HostRuntime) {
+    for option in [
+        "--slack-ns=3.4ns",
+        "--slack-ns=0.5",
+        "--slack-ns=1.0005us",
+        "--slack-ns=1000.000000001s",
+        "--slack-ns=2m",
+        "--slack-ns=2 s",
+        "--slack-ns=.5s",
+        "--slack-ns=1.s",
+        "--slack-ns=1e13",
+        "--slack-ns=3e6us",
+        "--slack-ns=-1s",
+        "--slack-ns=s",
+    ] {
+        let words = ["sched_audit", "a", "b", option];
+        let wanted = Err(ErrorKind::ValueValidation);
+        wants_about(&rt, option, &asked(rt.alloc(), &words), &wanted);
+    }
+}
+
+#[test]
 fn settings_have_defaults(rt: HostRuntime) {
     for words in [
         ["sched_audit", "a", "b"].as_slice(),
@@ -66,6 +110,36 @@ fn settings_have_defaults(rt: HostRuntime) {
     ] {
         let standard = judged(Knobs::standard());
         wants_about(&rt, "", &asked(rt.alloc(), words), &Ok(standard));
+    }
+}
+
+/// What is asked for at the standard settings by these flags, in the order of the help, and with this file of states.
+fn flagged(flags: [bool; 4], states: Option<&'static str>) -> Request<'static> {
+    let [least, waits, explain, summary] = flags;
+    Request {
+        trace: "a",
+        companion: "b",
+        knobs: Knobs::standard(),
+        least,
+        waits,
+        explain,
+        summary,
+        states,
+    }
+}
+
+#[test]
+fn flags_and_the_file_of_states_are_taken(rt: HostRuntime) {
+    for (option, flags, states) in [
+        ("--least", [true, false, false, false], None),
+        ("--waits", [false, true, false, false], None),
+        ("--explain", [false, false, true, false], None),
+        ("--summary", [false, false, false, true], None),
+        ("--states=c", [false, false, false, false], Some("c")),
+    ] {
+        let words = ["sched_audit", "a", option, "b"];
+        let wanted = flagged(flags, states);
+        wants_about(&rt, option, &asked(rt.alloc(), &words), &Ok(wanted));
     }
 }
 
@@ -116,14 +190,24 @@ fn least_settings_go_with_no_setting(rt: HostRuntime) {
 
 #[test]
 fn names_are_taken_as_given(rt: HostRuntime) {
-    for (trace, companion) in [("", " "), ("--help", "-5"), ("b", "a"), ("help", "--")] {
+    for (trace, companion) in [
+        ("", " "),
+        ("--help", "-5"),
+        ("b", "a"),
+        ("help", "--"),
+        ("-", "a"),
+        ("a", "-"),
+    ] {
         let words = ["sched_audit", "--", trace, companion];
         let wanted = Request {
             trace,
             companion,
             knobs: Knobs::standard(),
             least: false,
+            waits: false,
             explain: false,
+            summary: false,
+            states: None,
         };
         wants_about(&rt, trace, &asked(rt.alloc(), &words), &Ok(wanted));
     }
@@ -179,6 +263,10 @@ fn other_words_are_refused(rt: HostRuntime) {
         (
             ["sched_audit", "a", "b", "--least=1"].as_slice(),
             ErrorKind::TooManyValues,
+        ),
+        (
+            ["sched_audit", "-", "-"].as_slice(),
+            ErrorKind::ArgumentConflict,
         ),
         (["sched_audit", "--help"].as_slice(), ErrorKind::DisplayHelp),
         (

@@ -5,7 +5,7 @@ use crate::ends::whole;
 use crate::runs::least_ran;
 use cfs_model::{Kind, Knobs};
 use replay_model::FirstFault;
-use sched_audit::{Cause, LeastSettings, Outcome, Source, Status, least_report};
+use sched_audit::{Cause, LeastFigures, Outcome, Place, Places, Source, Status, least_report};
 use std::alloc::Global;
 use std::test::Fail;
 
@@ -62,12 +62,12 @@ static REPORTS: [(&[u8], Status, &str); 8] = [
     (
         TOLD_LESS,
         Status::Yes,
-        "least granularity-ns 0\nleast credit-ns 0\nleast debit-ns 0\nleast slack-ns 0\nleast drift-ns 1000\n",
+        "least granularity-ns 0\nleast credit-ns 0\nleast debit-ns 0\nleast slack-ns 0\nleast drift-ns 1000 line 1 time 100.004000000 cpu 0 pid 101\n",
     ),
     (
         TOLD_MORE,
         Status::Yes,
-        "least granularity-ns 0\nleast credit-ns 0\nleast debit-ns 0\nleast slack-ns 0\nleast drift-ns 700\n",
+        "least granularity-ns 0\nleast credit-ns 0\nleast debit-ns 0\nleast slack-ns 0\nleast drift-ns 700 line 1 time 100.004000000 cpu 0 pid 101\n",
     ),
     (
         TOLD_OF_ANOTHER,
@@ -90,10 +90,42 @@ fn the_drift_is_told_where_the_companion_is_of_version_3(rt: HostRuntime) {
     }
 }
 
+/// Places of some figures, of times with zeros in front and behind.
+static PLACES: Places = Places {
+    granularity: Some(Place {
+        line: 4_294_967_295,
+        time: 18_446_744_073_709_551_615,
+        cpu: 63,
+        pid: 4_194_304,
+    }),
+    credit: None,
+    debit: Some(Place {
+        line: 1,
+        time: 0,
+        cpu: 0,
+        pid: 7,
+    }),
+    slack: Some(Place {
+        line: 20,
+        time: 12_000_000_340,
+        cpu: 9,
+        pid: 0,
+    }),
+    drift: Some(Place {
+        line: 3,
+        time: 999_999_999,
+        cpu: 1,
+        pid: 1,
+    }),
+};
+
 /// The report of these least settings.
 fn report_of_found(alloc: Global, tells_charges: bool) -> Result<Vec<u8>, Fail> {
     let knobs = Knobs::new(1_000_000_000_000, 1, 20, 300, 4000).ok_or("settings in range")?;
-    let outcome = Outcome::Judged(LeastSettings::Found(knobs));
+    let outcome = Outcome::Judged(LeastFigures::Found {
+        knobs,
+        places: PLACES,
+    });
     Ok(least_report(alloc, &outcome, tells_charges)?)
 }
 
@@ -105,7 +137,7 @@ fn report_of_fault(alloc: Global, tells_charges: bool) -> Result<Vec<u8>, Fail> 
         pid: 103,
         kind: Kind::WrongCharge,
     };
-    let outcome = Outcome::Judged(LeastSettings::Fault(fault));
+    let outcome = Outcome::Judged(LeastFigures::Fault(fault));
     Ok(least_report(alloc, &outcome, tells_charges)?)
 }
 
@@ -124,11 +156,11 @@ fn each_setting_has_its_line(rt: HostRuntime) -> Result<(), Fail> {
     for (tells_charges, report) in [
         (
             false,
-            "least granularity-ns 1000000000000\nleast credit-ns 1\nleast debit-ns 20\nleast slack-ns 300\n",
+            "least granularity-ns 1000000000000 line 4294967295 time 18446744073.709551615 cpu 63 pid 4194304\nleast credit-ns 1\nleast debit-ns 20 line 1 time 0.000000000 cpu 0 pid 7\nleast slack-ns 300 line 20 time 12.000000340 cpu 9 pid 0\n",
         ),
         (
             true,
-            "least granularity-ns 1000000000000\nleast credit-ns 1\nleast debit-ns 20\nleast slack-ns 300\nleast drift-ns 4000\n",
+            "least granularity-ns 1000000000000 line 4294967295 time 18446744073.709551615 cpu 63 pid 4194304\nleast credit-ns 1\nleast debit-ns 20 line 1 time 0.000000000 cpu 0 pid 7\nleast slack-ns 300 line 20 time 12.000000340 cpu 9 pid 0\nleast drift-ns 4000 line 3 time 0.999999999 cpu 1 pid 1\n",
         ),
     ] {
         let text = report_of_found(rt.alloc(), tells_charges)?;

@@ -90,7 +90,8 @@ pub(crate) fn better_draft(
 }
 
 /// Goes through the events by the rules, and answers whether what is made is better than a rival. It gives up at the
-/// first event by which it can't be any more: what is needed never falls.
+/// first event by which it can't be any more: what is needed never falls, and nothing is scored behind an event that
+/// fits no settings.
 fn follow(
     machine: &mut Machine,
     outset: &Outset,

@@ -50,6 +50,7 @@ impl Machine {
             made: Candidate {
                 strategy,
                 granularity: 0,
+                stop: None,
                 claims: Vec::new(alloc),
                 nices: BTreeMap::new(alloc),
                 charges: Vec::new(alloc),
@@ -117,6 +118,9 @@ impl Machine {
             line: event.line,
             is_picked,
         };
+        if !self.fits(event) {
+            self.made.stop_at(moment.line);
+        }
         let act = event.act;
         match act {
             Act::Switch {
@@ -155,13 +159,50 @@ impl Machine {
                 nice,
             } => {
                 self.charge(moment.line, orig, event.time, known)?;
-                self.lift(dest, event.time);
+                self.lift(moment.line, dest, event.time);
                 self.renice(moment.line, orig, pid, nice)?;
                 self.shift(moment, orig, dest, pid, known)?;
                 self.end_line(moment.line, orig);
                 Ok(())
             }
         }
+    }
+
+    /// Whether an event fits where the tasks stand. Else no settings mend it.
+    fn fits(&self, event: &Entry) -> bool {
+        let act = event.act;
+        match act {
+            Act::Switch {
+                cpu,
+                prev,
+                way,
+                next,
+                ..
+            } => self
+                .processors
+                .get(cpu as usize)
+                .is_some_and(|here| here.can_switch(prev, way, next)),
+            Act::Wake { cpu, pid, .. } => self.place_at(cpu, pid).is_some(),
+            Act::Born { pid, .. } => !self.tasks.contains_key(&pid),
+            Act::Shift {
+                orig,
+                dest,
+                pid,
+                ..
+            } => {
+                orig != dest
+                    && matches!(
+                        self.place_at(orig, pid),
+                        Some(Place::Wait) | Some(Place::Rest)
+                    )
+            }
+        }
+    }
+
+    /// How a task stands at the processor, where it stands there.
+    fn place_at(&self, cpu: u32, pid: u32) -> Option<Place> {
+        let task = self.processors.get(cpu as usize)?.queue.task_at(pid)?;
+        Some(task.place)
     }
 
     /// A task, named last on this line, comes to its processor.
@@ -181,9 +222,11 @@ impl Machine {
     }
 
     /// Charges who runs, exactly, and raises the floor.
-    fn lift(&mut self, cpu: u32, time: u64) {
+    fn lift(&mut self, line: u32, cpu: u32, time: u64) {
         if let Some(processor) = self.processors.get_mut(cpu as usize) {
-            let _in_range = processor.queue.lift(time, None, 0).is_ok();
+            if processor.queue.lift(time, None, 0).is_err() {
+                self.made.stop_at(line);
+            }
         }
     }
 
@@ -201,7 +244,7 @@ impl Machine {
                 }
             }
         }
-        self.lift(cpu, time);
+        self.lift(line, cpu, time);
         Ok(())
     }
 
@@ -251,8 +294,11 @@ impl Machine {
         nice: Nice,
         before: Named,
     ) -> Result<(), Memory> {
-        if let Some(line) = self.line_of_change(line, before) {
-            self.made.nices.insert(line, NiceLine { line, pid, nice })?;
+        match self.line_of_change(line, before) {
+            Some(line) => {
+                self.made.nices.insert(line, NiceLine { line, pid, nice })?;
+            }
+            None => self.made.stop_at(line),
         }
         Ok(())
     }
@@ -303,7 +349,7 @@ impl Machine {
     fn pick(&mut self, cpu: u32, next: u32) -> Result<(), Memory> {
         if let Some(processor) = self.processors.get_mut(cpu as usize) {
             if let Some(lead) = processor.pick(next)? {
-                self.made.granularity = self.made.granularity.max(lead);
+                self.made.score(lead);
             }
         }
         Ok(())
@@ -368,6 +414,8 @@ impl Machine {
             (Strategy::Low, _) => low,
             (Strategy::Picked, _) if moment.is_picked => low,
             (Strategy::Level, Some(processor)) if moment.is_picked => processor.level(low, high),
+            // The kernel's credit isn't known, but nobody waits further below the floor than by that.
+            (Strategy::Kernel, Some(processor)) if moment.is_picked => processor.level(own, high),
             _ => high,
         }
     }
@@ -430,7 +478,9 @@ impl Machine {
         let high = above(low, self.wishes.knobs.debit());
         match (self.made.strategy, self.processors.get(cpu as usize)) {
             (Strategy::Picked, _) if moment.is_picked => low,
-            (Strategy::Level, Some(processor)) if moment.is_picked => processor.level(low, high),
+            (Strategy::Level | Strategy::Kernel, Some(processor)) if moment.is_picked => {
+                processor.level(low, high)
+            }
             _ => high,
         }
     }

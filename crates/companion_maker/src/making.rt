@@ -163,11 +163,12 @@ fn found_text(
         guess: Some(Guessed {
             strategy: draft.candidate.strategy,
             granularity: draft.candidate.granularity,
+            stop: draft.candidate.stop,
         }),
     })
 }
 
-/// What the wanted strategy makes; where none of those that guess is named, what needs the least granularity.
+/// What the wanted strategy makes; where none of those that guess is named, the best.
 fn best_of(
     alloc: Global,
     outset: &Outset,

@@ -1,4 +1,4 @@
-use cfs_model::{Claim, Memory, Place, Task, Way};
+use cfs_model::{Claim, IDLE_PID, Memory, Place, Task, Way};
 use pid_table::PidHasher;
 use runqueue::{Runqueue, SchedEntity};
 use std::alloc::Global;
@@ -27,6 +27,28 @@ impl Processor {
             (None, Some(_)) if task.place != Place::Run => self.queue.add(SchedEntity::of(task)),
             _ => Ok(()),
         }
+    }
+
+    /// Whether a switch from one pid, which goes this way, to another fits where the tasks stand.
+    pub(crate) fn can_switch(&self, prev: u32, way: Way, next: u32) -> bool {
+        prev != next
+            && self.runs(prev)
+            && self.can_pick(prev != IDLE_PID && way == Way::Stays, next)
+    }
+
+    /// Whether the task of this pid runs here; of the idle task's, whether none does.
+    fn runs(&self, pid: u32) -> bool {
+        self.queue.runner().map_or(IDLE_PID, |task| task.pid) == pid
+    }
+
+    /// Whether the task of this pid waits here; of the idle task's, whether none does, with who is put back, if one is.
+    fn can_pick(&self, puts_back: bool, next: u32) -> bool {
+        if next == IDLE_PID {
+            return !puts_back && self.queue.least_waiting().is_none();
+        }
+        self.queue
+            .task_at(next)
+            .is_some_and(|task| task.place == Place::Wait)
     }
 
     /// Who runs goes its way, if it is the task of this pid, and is answered as it ran.

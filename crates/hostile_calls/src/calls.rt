@@ -4,7 +4,9 @@ use cfs_model::{Knobs, Memory};
 use companion_file::{read_companion, read_companion_wide};
 use pid_table::PidHasher;
 use queue_replay::{Page, Replay};
-use sched_audit::{Outcome, audit_texts, least_report, least_texts, report};
+use sched_audit::{
+    LeastFigures, Outcome, Place, Places, audit_texts, least_report, least_texts, report,
+};
 use sched_record::{Record, Stream, join, read_trace, read_trace_wide};
 use std::alloc::Global;
 use std::io;
@@ -12,7 +14,7 @@ use std::io::ErrorKind;
 use std::random::RandomSource;
 use std::sync::Wait;
 use std::thread::Threads;
-use ticket_book::{Book, ClosedLeast, whole_page};
+use ticket_book::{Book, ClosedLeast, LeastSettings, whole_page};
 
 /// Makes the call of this name on a recording, and prints a line for each of its answers. False where no call has it.
 pub fn print_call<R: AllocGlobal + Print + RandomSource + Threads + Wait + Sync>(
@@ -103,12 +105,34 @@ fn print_call_on<R: AllocGlobal + Print + RandomSource + Threads + Wait + Sync>(
         "least_report" => {
             let closed = audit_least(rt, record).map_err(out_of_memory)?;
             // With a line of the drift, whatever the companion's version is.
-            let answer = least_report(alloc, &Outcome::Judged(closed.least), true);
+            let answer = least_report(alloc, &Outcome::Judged(figures_of(&closed.least)), true);
             println!(rt; "{answer:?}")?;
         }
         _ => return print_calls_by_processor(rt, call, record),
     }
     Ok(true)
+}
+
+/// Least settings as a report has them, with a place.
+fn figures_of(least: &LeastSettings) -> LeastFigures {
+    match least {
+        LeastSettings::Found(knobs) => LeastFigures::Found {
+            knobs: *knobs,
+            places: Places {
+                granularity: Some(Place {
+                    line: 1,
+                    time: 1,
+                    cpu: 0,
+                    pid: 1,
+                }),
+                credit: None,
+                debit: None,
+                slack: None,
+                drift: None,
+            },
+        },
+        LeastSettings::Fault(fault) => LeastFigures::Fault(*fault),
+    }
 }
 
 /// The least settings of a record, by a crew.

@@ -1,8 +1,9 @@
 //! The command line, as clap reads it.
 
-use cfs_model::{GREATEST_SETTING, Knobs, Setting};
+use amount_words::{Amount, amount_mistake};
+use cfs_model::{Knobs, Setting};
 use clap::error::ErrorKind;
-use clap::{Arg, ArgMatches, Command, Error, value_parser};
+use clap::{Arg, ArgMatches, Command, Error};
 use companion_maker::{Strategy, Wishes};
 use std::alloc::{AllocError, Global};
 use std::convert::AsStr;
@@ -17,6 +18,12 @@ pub(crate) struct Request<'a> {
     pub wishes: Wishes,
 }
 
+impl Request<'_> {
+    fn reads_input_twice(&self) -> bool {
+        self.trace == "-" && self.debug == Some("-")
+    }
+}
+
 /// What these words ask for; the first is the program's own name.
 pub(crate) fn command_line<'a, S: AsStr>(
     alloc: Global,
@@ -25,11 +32,31 @@ pub(crate) fn command_line<'a, S: AsStr>(
     let mut command = command(alloc)?;
     let matches = command.try_get_matches_from_mut(words)?;
     match request_of(&matches) {
-        Some(request) => Ok(request),
-        None => Err(command.error(
+        Some(request) => {
+            if request.reads_input_twice() {
+                return Err(command.error(
+                    ErrorKind::ArgumentConflict,
+                    "standard input can't be both the trace and the file of --debug",
+                )?);
+            }
+            Ok(request)
+        }
+        None => Err(mistake(alloc, &mut command, &matches)?),
+    }
+}
+
+/// Why the values are no request.
+fn mistake(
+    alloc: Global,
+    command: &mut Command<'_>,
+    matches: &ArgMatches<'_>,
+) -> Result<Error, AllocError> {
+    match amount_mistake(alloc, matches, &Wishes::SETTINGS)? {
+        Some(error) => Ok(error),
+        None => command.error(
             ErrorKind::ValueValidation,
             "a strategy is one of kernel, best, low, high, picked and level",
-        )?),
+        ),
     }
 }
 
@@ -37,6 +64,9 @@ fn command<'a>(alloc: Global) -> Result<Command<'a>, AllocError> {
     let named = Command::new(alloc, "make_companion")
         .version("0.1.0")
         .about("Makes a companion for a recorded trace; sched_audit judges it")
+        .after_help(
+            "N is in nanoseconds, or has a unit: 3.4ms, 500us, 2s, 3e6. The name - is standard input.",
+        )
         .bin_name("make_companion")?
         .arg(
             Arg::new(alloc, "TRACE")
@@ -71,15 +101,11 @@ fn with_settings<'a>(alloc: Global, command: Command<'a>) -> Result<Command<'a>,
     Ok(more)
 }
 
-/// A setting's option, with a number of nanoseconds.
+/// A setting's option, with a word that says an amount.
 fn option_of(alloc: Global, setting: Setting) -> Arg<'static> {
     let name = setting.name();
     let help = setting.help();
-    Arg::new(alloc, name)
-        .long(name)
-        .value_name("N")
-        .value_parser(value_parser!(u64).range(0..=GREATEST_SETTING as i64))
-        .help(help)
+    Arg::new(alloc, name).long(name).value_name("N").help(help)
 }
 
 /// The name and the wishes that the values are; None where one has no sense.
@@ -108,10 +134,11 @@ fn knobs_of(matches: &ArgMatches<'_>) -> Option<Knobs> {
     Some(knobs)
 }
 
-/// A setting's number, or its default where the option isn't given; None where it is no number.
+/// The nanoseconds of a setting, or its default where its option isn't given; None where its word says no amount.
 fn number_of(matches: &ArgMatches<'_>, setting: Setting) -> Option<u64> {
-    match matches.try_get_one::<u64>(setting.name()) {
-        Ok(number) => Some(number.unwrap_or(setting.standard())),
+    match matches.try_get_one::<Amount>(setting.name()) {
+        Ok(Some(amount)) => Some(amount.nanoseconds),
+        Ok(None) => Some(setting.standard()),
         Err(_) => None,
     }
 }

@@ -4,6 +4,7 @@
 mod cause_word;
 mod command;
 mod ending;
+mod hints;
 mod making;
 
 use std::process::ExitCode;

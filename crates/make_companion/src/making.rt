@@ -1,9 +1,11 @@
 use crate::cause_word::CauseWord;
 use crate::command::{Request, command_line};
 use crate::ending::Ending;
+use crate::hints::{say_of_companion, say_of_text};
 use clap::Error;
 use clap::error::ErrorKind::OutOfMemory;
 use companion_maker::{NotMade, Wishes, companion_of_text};
+use given_texts::file_of;
 use pid_table::PidHasher;
 use std::alloc::Global;
 use std::io::{ErrorKind, Write};
@@ -41,7 +43,7 @@ fn make<R: Files + Print + Eprint + RandomSource + AllocGlobal>(
     alloc: Global,
     request: &Request<'_>,
 ) -> Ending {
-    let text = match fs::read(rt, request.trace) {
+    let text = match fs::read(rt, file_of(request.trace)) {
         Ok(text) => text,
         Err(error) if error.kind() == ErrorKind::OutOfMemory => return Ending::Memory,
         Err(_) => return Ending::Unread,
@@ -49,7 +51,7 @@ fn make<R: Files + Print + Eprint + RandomSource + AllocGlobal>(
     let Some(name) = request.debug else {
         return write_companion(rt, alloc, text.as_slice(), None, &request.wishes);
     };
-    match fs::read(rt, name) {
+    match fs::read(rt, file_of(name)) {
         Ok(debug) => write_companion(
             rt,
             alloc,
@@ -78,13 +80,17 @@ fn write_companion<R: Print + Eprint + RandomSource + AllocGlobal>(
                 );
             }
             match io::writer(rt).write_all(made.text.as_slice()) {
-                Ok(()) => Ending::Told,
+                Ok(()) => {
+                    say_of_companion(rt, text, made.guess);
+                    Ending::Told
+                }
                 Err(_) => Ending::Unwritten,
             }
         }
         Err(NotMade::Trace { line, cause }) => {
             let word = CauseWord(cause);
             let _ = eprintln!(rt; "make_companion: refused trace line {line} {word}");
+            say_of_text(rt, text);
             Ending::Refused
         }
         Err(NotMade::CpuOutside { line }) => {

@@ -4,7 +4,7 @@ use Rattle.std.proofs.Common.{Option, Some, None, ℤ, pos, ◌+ℤ◌, ◌≤�
 use Rattle.std.proofs.Common.{subst}
 use Rattle.std.specs.Prelude.{⊤}
 use Rattle.std.proofs.lemmas.Bool.{false≢true}
-use Rattle.cfs_model.proofs.Moves.{pair_cases, put-other, put-same, same_or_not}
+use Rattle.cfs_model.proofs.Moves.{pair_cases, put-other, put-same}
 use Rattle.cfs_model.proofs.ToldCharge.{untold_is}
 use Rattle.cfs_model.specs.Claimed.{Claimed}
 use Rattle.cfs_model.specs.Laws.{StartInOrder, StepKeepsOrder}

@@ -1,6 +1,6 @@
 -- Two texts come to one outcome, by cases on what each answer says: the trace has one answer, then the companion, then
 -- their joining, and the record one verdict.
-use Rattle.std.proofs.Common.{◌≡◌, ℕ, Bool, List, Option, Some, Result, Ok, Err, inl, inr, refl, sym, ap, ◌∙◌, subst}
+use Rattle.std.proofs.Common.{◌≡◌, ℕ, Bool, List, Option, Some, Result, Ok, Err, refl, sym, ap, ◌∙◌, subst}
 use Rattle.std.specs.Io.KnownBytes.{Appends}
 use Rattle.cfs_model.specs.Order.{IsStart}
 use Rattle.cfs_model.specs.declared.act.Entry.{Entry}
@@ -15,7 +15,7 @@ use Rattle.sched_audit.specs.Answer.{OutcomeAnswer}
 use Rattle.audit_input.specs.Causes.{trace_cause, companion_cause, join_cause}
 use Rattle.audit_report.specs.Codes.{status_by, status_of}
 use Rattle.audit_input.specs.Known.{Agrees}
-use Rattle.sched_audit.specs.OneOutcome.{AreOneOutcome, Gave, OneRunBy, outcome_view}
+use Rattle.sched_audit.specs.OneOutcome.{AreOneOutcome, OneRunBy, outcome_view}
 use Rattle.audit_report.specs.Report.{report_of}
 use Rattle.sched_audit.specs.Run.{IsOutcomeOf}
 use Rattle.audit_input.specs.Texts.{AreBothRead, IsRecordOf, IsRefused, TellsCharges}

@@ -3,12 +3,12 @@
 use Rattle.std.specs.Prelude.{◌≡◌, ℕ, Bool, List, Option, Some, Ok}
 use Rattle.std.specs.Io.KnownBytes.{Appends}
 use Rattle.cfs_model.specs.Knobs.{KnobsView}
+use Rattle.least_places.specs.LeastAnswer.{IsLeastAnswer}
+use Rattle.least_places.specs.declared.figures.LeastFigures.{LeastFigures}
 use Rattle.replay_model.specs.declared.first_fault.FirstFault.{FirstFault}
 use Rattle.sched_record.specs.Record.{RecordView}
-use Rattle.ticket_book.specs.LeastAnswer.{IsLeastAnswer}
 use Rattle.ticket_book.specs.OneVerdict.{verdict_view}
 use Rattle.ticket_book.specs.Verdict.{IsVerdict}
-use Rattle.ticket_book.specs.declared.least_settings.LeastSettings.{LeastSettings}
 use Rattle.ticket_book.specs.declared.verdict.Verdict.{Verdict}
 use Rattle.sched_audit.specs.Answer.{OutcomeAnswer}
 use Rattle.audit_report.specs.Codes.{status_of}
@@ -24,7 +24,7 @@ outcome_view view (Judged judged) = Judged (view judged)
 outcome_view view (Text source line cause) = Text source line cause
 
 -- least settings are seen as they are
-abbrev pub least_view : LeastSettings → LeastSettings
+abbrev pub least_view : LeastFigures → LeastFigures
 least_view least = least
 
 -- two outcomes tell the same, and so have the same report and the same status
@@ -42,7 +42,7 @@ OneOutcome = (knobs : KnobsView) (trace companion : List ℕ) (one other : Outco
 
 -- so are two of the least settings
 abbrev pub OneLeastOutcome : Type 0
-OneLeastOutcome = (trace companion : List ℕ) (one other : Outcome LeastSettings)
+OneLeastOutcome = (trace companion : List ℕ) (one other : Outcome LeastFigures)
     → OutcomeAnswer IsLeastAnswer trace companion one → OutcomeAnswer IsLeastAnswer trace companion other
     → AreOneOutcome least_view least_lines least_fault one other
 

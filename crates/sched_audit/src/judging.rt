@@ -9,11 +9,14 @@ ghost use Rattle.sched_audit.specs.Run.{IsKept, IsOutcomeOf, Reads, Runs, input_
 ghost use Rattle.audit_input.specs.Texts.{TellsCharges};
 
 use crate::{
-    Fault, Feed, Gate, Hearing, Judgement, Kept, Outcome, Refused, Sink, Status, write_report,
+    Fault, Feed, Finding, Gate, Hearing, Judgement, Kept, Outcome, Refused, Sink, Status,
+    write_report,
 };
-use audit_crew::crew;
+use audit_crew::audit;
 use audit_input::{read_all, read_lines, record_of, tells_charges};
 use cfs_model::{Knobs, Memory};
+use least_places::least_figures;
+use pid_table::PidHasher;
 use sched_record::{Record, Trace, TraceFault, read_trace_wide};
 use std::alloc::Global;
 use std::random::RandomSource;
@@ -146,7 +149,7 @@ fn hearing_of<J: Judgement, R: RandomSource + Threads + Wait + Sync, G: Gate>(
     }
 }
 
-/// Replays a record's processors, each in a thread of its own that passes this gate, and judges it by their pages.
+/// Judges a record: by a verdict or by its least settings, with auditors in threads of their own that pass this gate.
 fn judged<J: Judgement, R: RandomSource + Threads + Wait + Sync, G: Gate>(
     rt: &R,
     alloc: Global,
@@ -156,6 +159,11 @@ fn judged<J: Judgement, R: RandomSource + Threads + Wait + Sync, G: Gate>(
 ) -> Result<J, Memory>
     ensures { IfOk result (J.is_of knobs (record_view joined.now)) }
 {
-    let gathered = crew(rt, alloc, joined, J::replayed_by(knobs), gate)?;
-    J::of_book(gathered.book, joined, knobs)
+    let finding = if J::is_least() {
+        Finding::Least(least_figures(rt, alloc, joined, gate)?)
+    } else {
+        let closed = audit(rt, alloc, joined, knobs, gate)?;
+        Finding::Verdict(closed.verdict)
+    };
+    J::of_finding(alloc, finding, joined, knobs, PidHasher::random(rt))
 }

@@ -4,8 +4,9 @@ ghost use Rattle.sched_audit.specs.OneOutcome.{OneLeastOutcome, OneLeastRun, One
 
 use cfs_model::places;
 use companion_file::one_companion_answer;
+use least_places::one_least_figures;
 use sched_record::{one_record_answer, one_trace_answer};
-use ticket_book::{one_least_answer, one_verdict};
+use ticket_book::one_verdict;
 
 /// A law: two outcomes of the same two texts, by the same settings, tell the same, and so have the same report and the
 /// same status.
@@ -25,7 +26,7 @@ pub fn one_least_outcome()
     one_trace_answer();
     one_companion_answer();
     one_record_answer();
-    one_least_answer();
+    one_least_figures();
 }
 
 /// A law: the bytes that `run` reads fix the bytes that it writes and its status, wherever it answers one; and so they

@@ -5,15 +5,19 @@ mod headline;
 mod hearing;
 mod judging;
 mod laws;
+mod waits;
 
 pub use audit_crew::{Gate, OpenGate};
 pub use audit_input::{Cause, Failed, Fault, Feed, FeedOf, Refused, Source};
 pub use audit_report::{
-    Judgement, Outcome, Sink, SinkOf, Status, least_report, report, write_report,
+    Counted, Finding, Judgement, Outcome, Sink, SinkOf, Status, WithWaits, least_report, report,
+    write_report,
 };
 pub use audit_request::{Request, command_line};
-pub use headline::{audit_texts, least_texts, run, run_least};
+pub use headline::{audit_texts, least_texts, run, run_counted, run_least};
 pub use hearing::{Hearing, Kept};
 pub use judging::judge;
 pub use laws::{laws_of_a_yes, one_least_outcome, one_outcome, one_run};
-pub use ticket_book::{LeastSettings, Summary, Verdict};
+pub use least_places::{LeastFigures, Place, Places};
+pub use ticket_book::{Summary, Verdict};
+pub use waits::{run_counted_waits, run_least_waits, run_waits};

@@ -1,11 +1,14 @@
 use crate::ending::Ending;
-use crate::explaining::answer_explained;
-use cfs_model::Knobs;
+use crate::explaining::answer_kept;
+use crate::failure::Failure;
+use crate::hints::say_hints;
 use clap::Error;
 use clap::error::ErrorKind::OutOfMemory;
+use given_texts::file_of;
 use sched_audit::{
-    Fault, FeedOf, LeastSettings, OpenGate, Request, SinkOf, Status, Verdict, command_line, run,
-    run_least,
+    Counted, Fault, FeedOf, Judgement, LeastFigures, OpenGate, Request, SinkOf, Status, Verdict,
+    WithWaits, command_line, run, run_counted, run_counted_waits, run_least, run_least_waits,
+    run_waits,
 };
 use std::alloc::Global;
 use std::fs::File;
@@ -32,20 +35,33 @@ pub fn obey<R: Env + Files + Print + Eprint + AllocGlobal + RandomSource + Threa
         }
     };
     match command_line(alloc, words.as_slice()) {
-        Ok(request) => ending_of(rt, alloc, &request),
+        Ok(request) => ending_of(rt, alloc, &with_files(request)),
         Err(error) => tell(rt, &error),
     }
 }
 
-/// Answers a request.
-fn ending_of<R: Files + Print + RandomSource + Threads + Wait + Sync>(
+/// The request with the files of its names.
+fn with_files(request: Request<'_>) -> Request<'_> {
+    Request {
+        trace: file_of(request.trace),
+        companion: file_of(request.companion),
+        ..request
+    }
+}
+
+/// Answers a request, and says behind it what is likely a mistake.
+fn ending_of<R: Files + Print + Eprint + RandomSource + Threads + Wait + Sync>(
     rt: &R,
     alloc: Global,
     request: &Request<'_>,
 ) -> Ending {
     match answer(rt, alloc, request) {
-        Ok(status) => Ending::Answered(status),
-        Err(fault) => Ending::Failed(fault),
+        Ok(status) => {
+            say_hints(rt, request, status);
+            Ending::Answered(status)
+        }
+        Err(Failure::Audit(fault)) => Ending::Failed(fault),
+        Err(Failure::States) => Ending::StatesUnwritten,
     }
 }
 
@@ -59,13 +75,31 @@ fn answer<R: Files + Print + RandomSource + Threads + Wait + Sync>(
     rt: &R,
     alloc: Global,
     request: &Request<'_>,
-) -> Result<Status, Fault> {
+) -> Result<Status, Failure> {
     let trace = File::open(rt, request.trace).map_err(|_| Fault::ReadTrace)?;
     let companion = File::open(rt, request.companion).map_err(|_| Fault::ReadCompanion)?;
-    match (request.explain, request.least) {
-        (true, true) => answer_explained::<LeastSettings, R>(rt, alloc, request, trace, companion),
-        (true, false) => answer_explained::<Verdict, R>(rt, alloc, request, trace, companion),
-        (false, least) => answer_alone(rt, alloc, trace, companion, request.knobs, least),
+    if !request.explain && request.states.is_none() {
+        return Ok(answer_alone(rt, alloc, request, trace, companion)?);
+    }
+    match (request.least, request.summary) {
+        (true, _) => answer_kept_as::<LeastFigures, R>(rt, alloc, request, trace, companion),
+        (false, true) => answer_kept_as::<Counted, R>(rt, alloc, request, trace, companion),
+        (false, false) => answer_kept_as::<Verdict, R>(rt, alloc, request, trace, companion),
+    }
+}
+
+/// The same where the record is kept, with the waits of its tasks where they are asked for.
+fn answer_kept_as<J: Judgement, R: Files + Print + RandomSource + Threads + Wait + Sync>(
+    rt: &R,
+    alloc: Global,
+    request: &Request<'_>,
+    trace: R::File,
+    companion: R::File,
+) -> Result<Status, Failure> {
+    if request.waits {
+        answer_kept::<WithWaits<J>, R>(rt, alloc, request, trace, companion)
+    } else {
+        answer_kept::<J, R>(rt, alloc, request, trace, companion)
     }
 }
 
@@ -73,26 +107,23 @@ fn answer<R: Files + Print + RandomSource + Threads + Wait + Sync>(
 fn answer_alone<R: Files + Print + RandomSource + Threads + Wait + Sync>(
     rt: &R,
     alloc: Global,
+    request: &Request<'_>,
     trace: R::File,
     companion: R::File,
-    knobs: Knobs,
-    least: bool,
 ) -> Result<Status, Fault> {
     let mut trace = FeedOf::new(trace);
     let mut companion = FeedOf::new(companion);
     let mut out = SinkOf::new(io::writer(rt));
-    if least {
-        run_least(rt, alloc, &mut trace, &mut companion, &OpenGate, &mut out)
-    } else {
-        run(
-            rt,
-            alloc,
-            &mut trace,
-            &mut companion,
-            knobs,
-            &OpenGate,
-            &mut out,
-        )
+    let (trace, companion, out) = (&mut trace, &mut companion, &mut out);
+    let knobs = request.knobs;
+    let gate = &OpenGate;
+    match (request.least, request.summary, request.waits) {
+        (true, _, true) => run_least_waits(rt, alloc, trace, companion, gate, out),
+        (true, _, false) => run_least(rt, alloc, trace, companion, gate, out),
+        (false, true, true) => run_counted_waits(rt, alloc, trace, companion, knobs, gate, out),
+        (false, true, false) => run_counted(rt, alloc, trace, companion, knobs, gate, out),
+        (false, false, true) => run_waits(rt, alloc, trace, companion, knobs, gate, out),
+        (false, false, false) => run(rt, alloc, trace, companion, knobs, gate, out),
     }
 }
 

@@ -10,6 +10,8 @@ pub enum Ending {
     Answered(Status),
     /// An input or the output failed, or memory ran out.
     Failed(Fault),
+    /// The file of `--states` couldn't be made or written.
+    StatesUnwritten,
     /// Help or the version was printed.
     Told,
     /// The command line makes no sense; the reason was printed.
@@ -24,6 +26,7 @@ impl Ending {
         match self {
             Ending::Answered(status) => status.code(),
             Ending::Failed(fault) => fault.code(),
+            Ending::StatesUnwritten => 3,
             Ending::Told => 0,
             Ending::Misused => 5,
         }

@@ -1,4 +1,6 @@
-//! The report of an audit, and behind it why that is a fault, or which line is refused.
+//! The report of an audit, the states at its events, and behind them why that is a fault, or which line is refused.
+use crate::failure::Failure;
+use crate::states::{file_of, write_states_to};
 use audit_input::{KeepingFeed, line_again, line_of};
 use cfs_model::Knobs;
 use fault_explainer::{explanation, quoted_line};
@@ -21,25 +23,26 @@ use std::thread::Threads;
 /// What is written where the trace can't be read a second time.
 const NOT_EXPLAINED: &[u8] = b"# no explanation: the texts can't be read a second time\n";
 
-/// Judges both inputs, and writes the report and what there is to say of it.
-pub(crate) fn answer_explained<
-    J: Judgement,
-    R: Files + Print + RandomSource + Threads + Wait + Sync,
->(
+/// Judges both inputs, and writes the report, and what of the record is asked for beside it.
+pub(crate) fn answer_kept<J: Judgement, R: Files + Print + RandomSource + Threads + Wait + Sync>(
     rt: &R,
     alloc: Global,
     request: &Request<'_>,
     trace: R::File,
     companion: R::File,
-) -> Result<Status, Fault> {
-    let keeps = !is_regular(&trace);
+) -> Result<Status, Failure> {
+    let keeps = request.explain && !is_regular(&trace);
     let mut trace = KeepingFeed::new(alloc, FeedOf::new(trace), keeps);
     let mut companion = FeedOf::new(companion);
     let knobs = request.knobs;
     let hearing: Hearing<J> = judge(rt, alloc, &mut trace, &mut companion, knobs, &OpenGate)?;
+    let states = file_of(rt, request.states)?;
     let mut out = SinkOf::new(io::writer(rt));
     let status = write_report(alloc, &hearing.outcome, hearing.tells_charges, &mut out)?;
-    if status != Status::Yes {
+    if let Some(file) = states {
+        write_states_to(rt, alloc, knobs, &hearing, file)?;
+    }
+    if request.explain && status != Status::Yes {
         explain(rt, alloc, request, &hearing, &trace)?;
     }
     Ok(status)

@@ -5,5 +5,5 @@ use Rattle.audit_report.proofs.least_settings.push_each.Given as goal
 
 abbrev pub invariant-loop-setting : goal.invariant-loop-setting
 invariant-loop-setting l =
-    string_bytes l.text ++ lines_of_settings l.knobs (drop l.setting-index l.settings)
-    ≡ string_bytes l.fn.text ++ lines_of_settings l.fn.knobs l.fn.settings
+    string_bytes l.text ++ lines_of_settings l.knobs l.places (drop l.setting-index l.settings)
+    ≡ string_bytes l.fn.text ++ lines_of_settings l.fn.knobs l.fn.places l.fn.settings

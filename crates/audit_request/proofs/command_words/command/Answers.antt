@@ -13,11 +13,16 @@ versioned a = on_top (λ s. record s { has_version = true }) a
 pub returns : goal.returns
 returns c =
     let start = ap app_of_fields c.in_ok-bin_name.ensures.0
-    ∙ (ap app_of_fields c.about.ensures ∙ (ap app_of_fields c.version.ensures ∙ ap versioned c.new.ensures.app)) in
+    ∙ (ap app_of_fields c.after_help.ensures ∙ (ap app_of_fields c.about.ensures
+    ∙ (ap app_of_fields c.version.ensures ∙ ap versioned c.new.ensures.app))) in
     let trace = c.in_ok-arg.ensures.shape c.name.ensures.local ∙ ap₂ with_rule start c.name.ensures.rule in
     let companion = c.in_ok-named.ensures.shape c.name-2.ensures.local ∙ ap₂ with_rule trace c.name-2.ensures.rule in
     let settings = c.in_ok-with_settings.ensures ∙ ap (with_settings all_settings) companion in
     let least = c.in_ok-arg-2.ensures.shape c.in_ok-lone_flag.ensures.local
     ∙ ap₂ with_rule settings c.in_ok-lone_flag.ensures.rule in
-    IfOk-weaker c.arg-4.result _ _
-    (λ command added. added.shape c.flag.ensures.local ∙ ap₂ with_rule least c.flag.ensures.rule) c.arg-4.ensures
+    let waits = c.in_ok-arg-3.ensures.shape c.flag.ensures.local ∙ ap₂ with_rule least c.flag.ensures.rule in
+    let explain = c.in_ok-arg-4.ensures.shape c.flag-2.ensures.local ∙ ap₂ with_rule waits c.flag-2.ensures.rule in
+    let summary = c.in_ok-arg-5.ensures.shape c.flag-3.ensures.local ∙ ap₂ with_rule explain c.flag-3.ensures.rule in
+    IfOk-weaker c.arg-7.result _ _
+    (λ command added. added.shape c.file_option.ensures.local ∙ ap₂ with_rule summary c.file_option.ensures.rule)
+    c.arg-7.ensures

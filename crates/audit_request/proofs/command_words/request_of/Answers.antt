@@ -8,11 +8,16 @@ pub returns : goal.returns
 returns c =
     let f = found_of c.args.matches.now in
     record {
-      trace = sym (first_value-rows f (codes "TRACE")) ∙ sym c.in_ok-get_str.ensures;
-      companion = sym (first_value-rows f (codes "COMPANION")) ∙ sym c.in_ok-get_str-2.ensures;
+      trace = sym (first_value-rows f (codes "TRACE")) ∙ sym c.in_ok-trace.ensures;
+      companion = sym (first_value-rows f (codes "COMPANION")) ∙ sym c.in_ok-companion.ensures;
+      amounts = c.in_ok-knobs_of.ensures.each;
       settings = c.in_ok-knobs_of.ensures.same;
       in_range = c.in_ok-knobs_of.ensures.in_range;
       least = c.in_ok-least.ensures;
       alone = search rules;
-      explain = c.in_ok-flag_of.ensures;
+      waits = c.in_ok-flag_of.ensures;
+      explain = c.in_ok-flag_of-2.ensures;
+      summary = c.in_ok-flag_of-3.ensures;
+      states = c.get_str-3.ensures ∙ first_value-rows f (codes "states");
+      once = sym c.reads_input_twice.ensures ∙ c.if-reads_input_twice.false;
     }

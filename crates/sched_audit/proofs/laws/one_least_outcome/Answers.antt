@@ -1,5 +1,5 @@
 use Rattle.std.proofs.Common.{refl}
-use Rattle.ticket_book.specs.LeastAnswer.{IsLeastAnswer}
+use Rattle.least_places.specs.LeastAnswer.{IsLeastAnswer}
 use Rattle.sched_audit.specs.OneOutcome.{least_view}
 use Rattle.audit_report.specs.Report.{least_fault, least_lines}
 use Rattle.sched_audit.proofs.OneOf.{one_by_view, same_outcome}
@@ -9,4 +9,4 @@ pub returns : goal.returns
 returns c trace companion one other p q =
     one_by_view least_view least_lines least_fault least_lines least_fault (λ _ least. refl) (λ least. refl) one other
     (same_outcome trace companion c.one_trace_answer.ensures c.one_companion_answer.ensures c.one_record_answer.ensures
-    IsLeastAnswer least_view (λ r a b start x y. c.one_least_answer.ensures r a b start x y) one other p q)
+    IsLeastAnswer least_view (λ r a b start x y. c.one_least_figures.ensures r a b start x y) one other p q)

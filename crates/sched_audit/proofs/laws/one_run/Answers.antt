@@ -1,4 +1,4 @@
-use Rattle.ticket_book.specs.LeastAnswer.{IsLeastAnswer}
+use Rattle.least_places.specs.LeastAnswer.{IsLeastAnswer}
 use Rattle.ticket_book.specs.OneVerdict.{verdict_view}
 use Rattle.ticket_book.specs.Verdict.{IsVerdict}
 use Rattle.sched_audit.specs.OneOutcome.{least_view}

@@ -1,0 +1,67 @@
+//! A verdict, told by its counts alone.
+ghost use Rattle.std.specs.Prelude.{◌≡◌};
+
+use crate::reporting::push_fault;
+use crate::verdict::push_counts;
+use crate::{Finding, Judgement};
+use cfs_model::{Knobs, Memory};
+use pid_table::PidHasher;
+use replay_model::FirstFault;
+use sched_record::Record;
+use std::alloc::{AllocError, Global};
+use ticket_book::Verdict;
+
+/// A verdict whose report has a run's counts, and no line for each task.
+#[derive(Debug, PartialEq, Eq, Drop)]
+pub struct Counted {
+    pub verdict: Verdict,
+}
+
+impl Judgement for Counted {
+    ghost use Rattle.std.specs.Prelude.{false};
+    ghost use Rattle.audit_report.specs.Report.{IsCounted, counted_fault, counted_lines};
+
+    ghost is_of = { IsCounted };
+
+    ghost is_least = { false };
+
+    ghost replayed_by = { λ knobs. knobs };
+
+    ghost lines = { λ _. counted_lines };
+
+    ghost fault = { counted_fault };
+
+    fn replayed_by(knobs: Knobs) -> Knobs {
+        knobs
+    }
+
+    fn is_least() -> bool {
+        false
+    }
+
+    fn of_finding(
+        _alloc: Global,
+        finding: Finding,
+        _joined: &Record,
+        _knobs: Knobs,
+        _hasher: PidHasher,
+    ) -> Result<Counted, Memory> {
+        match finding {
+            Finding::Verdict(verdict) => Ok(Counted { verdict }),
+            Finding::Least(_) => unreachable!(),
+        }
+    }
+
+    fn runs() {}
+
+    fn push(&self, text: &mut String, _tells_charges: bool) -> Result<(), AllocError> {
+        match &self.verdict {
+            Verdict::Run(summary) => push_counts(text, summary),
+            Verdict::Fault(fault) => push_fault(text, fault),
+        }
+    }
+
+    fn fault(&self) -> Option<FirstFault> {
+        self.verdict.fault()
+    }
+}

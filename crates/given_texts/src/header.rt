@@ -1,0 +1,23 @@
+use bstr::ByteSlice;
+use text_parts::numerals::numeral_at;
+use text_parts::pieces::after_byte;
+
+/// What stands before the two numbers of a trace's header.
+const ENTRIES: &[u8] = b"# entries-in-buffer/entries-written: ";
+
+/// Whether the header of a trace says that more was written than the buffer kept: events are lost.
+pub fn is_overwritten(front: &[u8]) -> bool {
+    match entries(front) {
+        Some((kept, written)) => kept != written,
+        None => false,
+    }
+}
+
+/// How many entries the buffer kept, and how many were written.
+fn entries(front: &[u8]) -> Option<(u64, u64)> {
+    let place = front.find(ENTRIES)?;
+    let text = front.get(place..)?.get(ENTRIES.len()..)?;
+    let (kept, rest) = numeral_at(text)?;
+    let (written, _) = numeral_at(after_byte(rest, b'/')?)?;
+    Some((kept, written))
+}

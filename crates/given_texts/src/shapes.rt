@@ -1,0 +1,90 @@
+use bstr::ByteSlice;
+
+/// What a text that isn't read begins with, or has somewhere, and what to do with it.
+#[derive(Clone, Copy)]
+struct Shape {
+    mark: &'static [u8],
+    hint: &'static str,
+}
+
+/// By what stands in front.
+static FRONTS: [Shape; 7] = [
+    Shape {
+        mark: b"\x1f\x8b",
+        hint: "is compressed: `gzip -dc FILE` writes the text",
+    },
+    Shape {
+        mark: b"\xfd7zXZ\0",
+        hint: "is compressed: `xz -dc FILE` writes the text",
+    },
+    Shape {
+        mark: b"\x28\xb5\x2f\xfd",
+        hint: "is compressed: `zstd -dc FILE` writes the text",
+    },
+    Shape {
+        mark: b"\x17\x08\x44tracing",
+        hint: "is trace-cmd's binary file: `trace-cmd report -N -i FILE | sed -E '/^cpus=/d; s/: (sched_[a-z_]+): +/: \\1: /'` writes the text",
+    },
+    Shape {
+        mark: b"cpus=",
+        hint: "looks like `trace-cmd report`: `trace-cmd report -N | sed -E '/^cpus=/d; s/: (sched_[a-z_]+): +/: \\1: /'` writes the text",
+    },
+    Shape {
+        mark: b"PERFILE2",
+        hint: "is perf's binary file: `perf script -i FILE | sed -E 's/^(.{16}) +([0-9]+) +(\\[[0-9]+\\]) +([0-9.]+): +sched:(sched_[a-z_]+): +/\\1-\\2 \\3 \\4: \\5: /'` writes the text",
+    },
+    Shape {
+        mark: b"cfs-companion ",
+        hint: "is a companion: the trace is named first",
+    },
+];
+
+/// By what stands somewhere near the front.
+static WITHIN: [Shape; 1] = [Shape {
+    mark: b": sched:sched_",
+    hint: "looks like `perf script`: `perf script | sed -E 's/^(.{16}) +([0-9]+) +(\\[[0-9]+\\]) +([0-9.]+): +sched:(sched_[a-z_]+): +/\\1-\\2 \\3 \\4: \\5: /'` writes the text",
+}];
+
+/// What the text of an event of the scheduler begins with.
+static EVENTS: [&[u8]; 4] = [
+    b": sched_switch: ",
+    b": sched_wakeup: ",
+    b": sched_wakeup_new: ",
+    b": sched_migrate_task: ",
+];
+
+/// What to do with what was given as a trace, where it has a known shape; by its front alone.
+pub fn trace_hint(front: &[u8]) -> Option<&'static str> {
+    for shape in &FRONTS {
+        if front.starts_with(shape.mark) {
+            return Some(shape.hint);
+        }
+    }
+    for shape in &WITHIN {
+        if front.find(shape.mark).is_some() {
+            return Some(shape.hint);
+        }
+    }
+    None
+}
+
+/// What to do with what was given as a companion, where it is a trace or has another known shape; by its front alone.
+pub fn companion_hint(front: &[u8]) -> Option<&'static str> {
+    if front.starts_with(b"cfs-companion ") {
+        None
+    } else if has_event(front) || front.starts_with(b"# tracer: ") {
+        Some("is a trace: the companion is named second")
+    } else {
+        trace_hint(front)
+    }
+}
+
+/// Whether a text has an event of the scheduler, by the looks of it.
+pub fn has_event(text: &[u8]) -> bool {
+    for event in &EVENTS {
+        if text.find(*event).is_some() {
+            return true;
+        }
+    }
+    false
+}

@@ -1,0 +1,3 @@
+mod Lessened
+mod NeededFirst
+mod OnePlace

@@ -1,0 +1,3 @@
+pub mod LeastAnswer
+pub mod OneLeastAnswer
+pub mod Place

@@ -1,0 +1,13 @@
+mod Stretches
+mod Longest
+mod AllLongest
+mod Standing
+mod Turning
+mod Steps
+mod Starting
+mod Following
+mod Told
+mod Named
+mod Changed
+mod One
+mod Whole

@@ -1,0 +1,1 @@
+"""What bin/picture makes its pages of."""

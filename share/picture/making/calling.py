@@ -5,10 +5,13 @@ import re
 import subprocess
 import sys
 import tempfile
+from decimal import Decimal
 from pathlib import Path
 
 TOP = Path(__file__).resolve().parent.parent.parent.parent
 SETTINGS = {"granularity": 10**6, "credit": 3 * 10**6, "debit": 3 * 10**6, "slack": 10**5, "drift": 0}
+AMOUNT = re.compile(r"\+?(\d+(?:\.\d+)?)(|ns|us|ms|s|e\d+)")
+UNITS = {"": 0, "ns": 0, "us": 3, "ms": 6, "s": 9}
 NAMES = re.compile(rb"(?:prev_|next_)?comm=(.{0,15}?) (?:prev_|next_)?pid=(\d+) (?:prev_|next_)?prio=")
 
 
@@ -48,5 +51,11 @@ def settings_of(words):
     for word, value in zip(pairs, pairs[1:]):
         name = word.removeprefix("--").removesuffix("-ns")
         if name in settings:
-            settings[name] = int(value)
+            settings[name] = nanoseconds_of(value)
     return settings
+
+
+def nanoseconds_of(word):
+    """The amount that a word says, which the auditor has taken: a decimal number and its unit."""
+    number, unit = AMOUNT.fullmatch(word).groups()
+    return int(Decimal(number).scaleb(UNITS[unit] if unit in UNITS else int(unit.removeprefix("e"))))

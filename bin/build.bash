@@ -1,5 +1,5 @@
-# For bin/sched_audit and bin/make_companion, which source it: whether a program is built, and its building. They say
-# in `top` where the tree is, in `crate` whose program it is, and in `command` by which name they speak.
+# For the commands of this folder, which source it: whether a program is built, and its building. They say in `top`
+# where the tree is, in `crate` whose program it is, and in `command` by which name they speak.
 program=$top/crates/$crate/out/$crate
 
 # Whether the program stands there, and no source is newer.

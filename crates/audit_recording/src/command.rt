@@ -1,0 +1,124 @@
+//! The command line, as clap reads it.
+
+use cfs_model::{GREATEST_SETTING, Knobs, Setting};
+use clap::error::ErrorKind;
+use clap::{Arg, ArgMatches, Command, Error, value_parser};
+use companion_maker::{Strategy, Wishes};
+use std::alloc::{AllocError, Global};
+use std::convert::AsStr;
+
+/// What a command line asks for.
+#[derive(Clone, Copy, Debug)]
+pub(crate) struct Request<'a> {
+    /// The name of the trace's file, as given.
+    pub trace: &'a str,
+    /// The name of a file as `sched/debug` of debugfs, as given.
+    pub debug: Option<&'a str>,
+    /// The name of the folder that stretches are kept in, as given.
+    pub out: Option<&'a str>,
+    pub least_events: u64,
+    pub wishes: Wishes,
+    pub limits: Knobs,
+}
+
+/// What these words ask for; the first is the program's own name.
+pub(crate) fn command_line<'a, S: AsStr>(
+    alloc: Global,
+    words: &'a [S],
+) -> Result<Request<'a>, Error> {
+    let mut command = command(alloc)?;
+    let matches = command.try_get_matches_from_mut(words)?;
+    match request_of(&matches) {
+        Some(request) => Ok(request),
+        None => Err(command.error(ErrorKind::ValueValidation, "a value has no sense")?),
+    }
+}
+
+fn command<'a>(alloc: Global) -> Result<Command<'a>, AllocError> {
+    let named = Command::new(alloc, "audit_recording")
+        .version("0.1.0")
+        .about("Audits a recorded trace in stretches, each by a companion that is made for it")
+        .bin_name("audit_recording")?
+        .arg(
+            Arg::new(alloc, "TRACE")
+                .required(true)
+                .help("The recording: the file `trace` of tracefs"),
+        )?
+        .arg(
+            Arg::new(alloc, "out").long("out").value_name("FOLDER").help(
+                "Writes each stretch and its companion into this folder, which has to be there",
+            ),
+        )?
+        .arg(
+            Arg::new(alloc, "min-events")
+                .long("min-events")
+                .value_name("N")
+                .value_parser(value_parser!(u64))
+                .help("Judges no stretch with fewer events [default: 1]"),
+        )?
+        .arg(
+            Arg::new(alloc, "debug")
+                .long("debug")
+                .value_name("FILE")
+                .help(
+                    "The state that sched/debug printed as the recording began: the floors at the start",
+                ),
+        )?;
+    with_limits(alloc, named)
+}
+
+/// The command with an option for each setting that may be limited.
+fn with_limits<'a>(alloc: Global, command: Command<'a>) -> Result<Command<'a>, AllocError> {
+    let mut more = command;
+    for setting in &Setting::ALL {
+        more = more.arg(limit_of(alloc, *setting))?;
+    }
+    Ok(more)
+}
+
+/// A setting's option, with a number of nanoseconds.
+fn limit_of(alloc: Global, setting: Setting) -> Arg<'static> {
+    let name = setting.name();
+    Arg::new(alloc, name)
+        .long(name)
+        .value_name("N")
+        .value_parser(value_parser!(u64).range(0..=GREATEST_SETTING as i64))
+        .help("Ends with status 1 where a stretch needs more")
+}
+
+/// What the values ask for; None where one has no sense.
+fn request_of<'a>(matches: &ArgMatches<'a>) -> Option<Request<'a>> {
+    Some(Request {
+        trace: matches.get_str("TRACE")?,
+        debug: matches.get_str("debug"),
+        out: matches.get_str("out"),
+        least_events: match matches.try_get_one::<u64>("min-events") {
+            Ok(number) => number.unwrap_or(1),
+            Err(_) => return None,
+        },
+        wishes: Wishes {
+            knobs: knobs_of(matches, &Wishes::SETTINGS, Knobs::standard())?,
+            strategy: Some(Strategy::Kernel),
+        },
+        limits: knobs_of(matches, &Setting::ALL, Knobs::greatest())?,
+    })
+}
+
+/// Settings of which these are as the values say, where they do; None where one has no sense.
+fn knobs_of(matches: &ArgMatches<'_>, settings: &[Setting], others: Knobs) -> Option<Knobs> {
+    let mut knobs = others;
+    for setting in settings {
+        if let Some(number) = number_of(matches, *setting)? {
+            knobs = knobs.with(*setting, number)?;
+        }
+    }
+    Some(knobs)
+}
+
+/// A setting's number, where the option is given; None where it is no number.
+fn number_of(matches: &ArgMatches<'_>, setting: Setting) -> Option<Option<u64>> {
+    match matches.try_get_one::<u64>(setting.name()) {
+        Ok(number) => Some(number),
+        Err(_) => None,
+    }
+}

@@ -1,0 +1,141 @@
+use crate::command::{Request, command_line};
+use crate::ending::Ending;
+use crate::keeping::keep;
+use crate::progress::Progress;
+use clap::Error;
+use clap::error::ErrorKind::OutOfMemory;
+use recording_audit::{Asked, CauseWords, NotAudited, Part, Tally, audit_recording, report};
+use std::alloc::Global;
+use std::io::{ErrorKind, Write};
+use std::random::RandomSource;
+use std::rt::{Env, Files};
+use std::sync::Wait;
+use std::thread::Threads;
+use std::time::Clock;
+use std::{env, fs, io};
+
+/// Does what the command line says; whether standard error is told how far it is.
+pub fn obey<
+    R: Env + Files + Clock + Print + Eprint + RandomSource + AllocGlobal + Threads + Wait + Sync,
+>(rt: &R, alloc: Global, tells: bool) -> Ending {
+    let words = match words_of(rt, alloc) {
+        Ok(words) => words,
+        Err(error) if error.kind() == ErrorKind::OutOfMemory => return Ending::Memory,
+        Err(_) => {
+            let _ = eprintln!(rt; "error: a word of the command line isn't UTF-8");
+            return Ending::Misused;
+        }
+    };
+    match command_line(alloc, words.as_slice()) {
+        Ok(request) => match audit(rt, alloc, &request, tells) {
+            Ok(ending) | Err(ending) => ending,
+        },
+        Err(error) => tell(rt, &error),
+    }
+}
+
+/// The words of the command line; the first is the program's own name.
+fn words_of<R: Env + AllocGlobal>(rt: &R, alloc: Global) -> io::Result<Vec<String>> {
+    Ok(env::args(rt)?.collect(alloc)?)
+}
+
+/// Reads what is asked of, audits it, and writes the report.
+fn audit<R: Files + Clock + Print + Eprint + RandomSource + AllocGlobal + Threads + Wait + Sync>(
+    rt: &R,
+    alloc: Global,
+    request: &Request<'_>,
+    tells: bool,
+) -> Result<Ending, Ending> {
+    let text = read(rt, request.trace, Ending::Unread)?;
+    let debug = match request.debug {
+        Some(name) => Some(read(rt, name, Ending::DebugUnread)?),
+        None => None,
+    };
+    let asked = Asked {
+        wishes: request.wishes,
+        debug: debug.as_ref().map(|debug| debug.as_slice()),
+        least_events: request.least_events,
+        limits: request.limits,
+    };
+    let parts = parts_of(rt, alloc, text.as_slice(), &asked, tells)?;
+    if let Some(folder) = request.out {
+        keep(rt, alloc, folder, parts.as_slice())?;
+    }
+    write_report(rt, alloc, parts.as_slice())
+}
+
+/// The bytes of a file of this name.
+fn read<R: Files + AllocGlobal>(rt: &R, name: &str, unread: Ending) -> Result<Vec<u8>, Ending> {
+    match fs::read(rt, name) {
+        Ok(text) => Ok(text),
+        Err(error) if error.kind() == ErrorKind::OutOfMemory => Err(Ending::Memory),
+        Err(_) => Err(unread),
+    }
+}
+
+/// The parts of a recording. Where it is refused, that is printed.
+fn parts_of<'a, R: Clock + Print + Eprint + RandomSource + Threads + Wait + Sync>(
+    rt: &R,
+    alloc: Global,
+    text: &'a [u8],
+    asked: &Asked<'_>,
+    tells: bool,
+) -> Result<Vec<Part<'a>>, Ending> {
+    let mut progress = Progress::new(rt, text.len() as u64, tells);
+    let parts = audit_recording(rt, alloc, text, asked, &mut progress);
+    progress.end();
+    match parts {
+        Ok(parts) => Ok(parts),
+        Err(NotAudited::Refused { line, cause }) => Err(refuse(rt, line, CauseWords(cause))),
+        Err(NotAudited::Memory) => Err(Ending::Memory),
+    }
+}
+
+/// Prints that the recording is refused.
+fn refuse<R: Print>(rt: &R, line: u64, words: CauseWords) -> Ending {
+    match println!(rt; "refused trace line {line} {words}") {
+        Ok(()) => Ending::Refused,
+        Err(_) => Ending::Unwritten,
+    }
+}
+
+/// Writes a line for each stretch and cut, and says how the program ends by them.
+fn write_report<R: Print>(rt: &R, alloc: Global, parts: &[Part<'_>]) -> Result<Ending, Ending> {
+    let Ok(text) = report(alloc, parts) else {
+        return Err(Ending::Memory);
+    };
+    match io::writer(rt).write_all(text.as_bytes()) {
+        Ok(()) => Ok(ending_of(parts)),
+        Err(_) => Err(Ending::Unwritten),
+    }
+}
+
+/// How the program ends by these parts.
+fn ending_of(parts: &[Part<'_>]) -> Ending {
+    let mut tally = Tally::new();
+    for part in parts {
+        tally.add(&part.told);
+    }
+    if tally.is_over {
+        Ending::Over
+    } else if tally.stretches == 0 {
+        Ending::Refused
+    } else {
+        Ending::Told
+    }
+}
+
+/// Prints clap's text: help and the version to standard output, a mistake to standard error.
+fn tell<R: Print + Eprint>(rt: &R, error: &Error) -> Ending {
+    if error.kind() == OutOfMemory {
+        return Ending::Memory;
+    }
+    let printed = error.print(rt);
+    if error.use_stderr() {
+        Ending::Misused
+    } else if printed.is_ok() {
+        Ending::Told
+    } else {
+        Ending::Unwritten
+    }
+}

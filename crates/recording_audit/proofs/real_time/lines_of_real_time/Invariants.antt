@@ -1,0 +1,6 @@
+-- What is left gets shorter.
+use Rattle.std.proofs.Common.{length}
+use Rattle.recording_audit.proofs.real_time.lines_of_real_time.Given as goal
+
+abbrev pub decreases-loop-rest : goal.decreases-loop-rest
+decreases-loop-rest l = length l.rest

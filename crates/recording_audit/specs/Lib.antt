@@ -1,0 +1,4 @@
+pub mod Parts
+pub mod Splits
+pub mod Pieces
+pub mod Recording

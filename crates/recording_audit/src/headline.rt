@@ -1,0 +1,102 @@
+//! The theorem: a recording's parts.
+ghost use Rattle.std.specs.Prelude.{ℕ, IfOk, List};
+ghost use Rattle.recording_audit.specs.Parts.{IsTold};
+ghost use Rattle.recording_audit.specs.Recording.{ArePartsOf};
+
+use crate::asked::Asked;
+use crate::cut_cause::CutCause;
+use crate::not_audited::NotAudited;
+use crate::part::{Cut, Part, Told};
+use crate::piece::{Piece, next_piece};
+use crate::scanning::last_start;
+use crate::splitting::line_count;
+use crate::watch::Watch;
+use std::alloc::Global;
+use std::random::RandomSource;
+use std::sync::Wait;
+use std::thread::Threads;
+
+/// How many bytes are tried first.
+const REACH: usize = 1 << 24;
+
+/// The fewest bytes that are tried first behind a fault.
+const LEAST_REACH: usize = 1 << 17;
+
+/// Cuts a recording into parts, and judges each stretch by a companion that is made for it.
+#[tactic(auto, using(crate::proofs::Grown::grown))]
+pub fn audit_recording<'a, R: RandomSource + Threads + Wait + Sync, W: Watch>(
+    rt: &R,
+    alloc: Global,
+    text: &'a [u8],
+    asked: &Asked<'_>,
+    watch: &mut W,
+) -> Result<Vec<Part<'a>>, NotAudited>
+    ensures { IfOk result (λ parts. ArePartsOf text.now parts.items) }
+{
+    let mut parts = Vec::new(alloc);
+    let mut rest = text;
+    let mut number = 1u64;
+    let mut known = first_cause(text);
+    let mut reach = REACH;
+    let mut begins = true;
+    while !rest.is_empty() {
+        let now = asked.at(begins);
+        let piece = match next_piece(rt, alloc, rest, reach, known, &now) {
+            Ok(piece) => piece,
+            Err(why) => return Err(why.at(number)),
+        };
+        let Piece {
+            text: front,
+            rest: behind,
+            told,
+            next,
+        } = piece;
+        let lines = line_count(front);
+        let told = long_enough(told, asked.least_events);
+        begins = begins && matches!(told, Told::Quiet);
+        watch.pass(front.len() as u64);
+        let part = Part {
+            first: number,
+            last: number + lines - 1,
+            text: front,
+            told,
+        };
+        if parts.push(part).is_err() {
+            return Err(NotAudited::Memory);
+        }
+        reach = reach_behind(front, next);
+        known = next;
+        number += lines;
+        rest = behind;
+    }
+    Ok(parts)
+}
+
+/// Why the beginning of a text stands in no stretch, where it does in none.
+fn first_cause(text: &[u8]) -> Option<CutCause> {
+    match last_start(text) {
+        0 => None,
+        _ => Some(CutCause::BufferStarted),
+    }
+}
+
+/// How many bytes are tried behind these: where a fault ended them, not many more.
+fn reach_behind(text: &[u8], next: Option<CutCause>) -> usize {
+    match next {
+        Some(CutCause::Fault(_)) => text.len().saturating_mul(4).max(LEAST_REACH),
+        _ => REACH,
+    }
+}
+
+/// What is told of a part, where a stretch has to have so many events.
+fn long_enough(told: Told, least: u64) -> Told
+    ensures { (text : List ℕ) → IsTold text told → IsTold text result }
+{
+    match told {
+        Told::Stretch(stretch) if stretch.events < least => Told::Cut(Cut {
+            cause: CutCause::Short,
+            events: stretch.events,
+        }),
+        told => told,
+    }
+}

@@ -1,0 +1,150 @@
+ghost use Rattle.std.specs.Prelude.{IfOk, Ok};
+ghost use Rattle.sched_record.specs.Seen.{trace_view};
+ghost use Rattle.sched_record.specs.Trace.{TraceAnswer};
+ghost use Rattle.recording_audit.specs.Parts.{IsJudgement, IsOver, IsSpanOf};
+
+use crate::asked::Asked;
+use crate::cut_cause::CutCause;
+use crate::part::Stretch;
+use crate::span::Span;
+use audit_input::tells_charges;
+use cfs_model::{Knobs, Memory, Setting};
+use companion_maker::{NotMade, companion_of_text};
+use pid_table::PidHasher;
+use replay_model::FirstFault;
+use sched_audit::{LeastFigures, OpenGate, Refused, Verdict, audit_texts, least_texts};
+use sched_record::{Trace, TraceFault, read_trace};
+use std::alloc::Global;
+use std::random::RandomSource;
+use std::sync::Wait;
+use std::thread::Threads;
+
+/// What a text came to.
+#[derive(Debug, Drop)]
+pub(crate) enum Judged {
+    /// It is a run at some settings.
+    Run(Stretch),
+    /// It has no event.
+    Quiet,
+    /// It can be none up to this line and with it.
+    Bad { line: u64, why: CutCause },
+}
+
+/// Makes a companion for a text, and judges it.
+pub(crate) fn judge<R: RandomSource + Threads + Wait + Sync>(
+    rt: &R,
+    alloc: Global,
+    text: &[u8],
+    asked: &Asked<'_>,
+) -> Result<Judged, Memory>
+    ensures { IfOk result (IsJudgement text.now) }
+{
+    match read_trace(alloc, text) {
+        Ok(trace) => judge_trace(rt, alloc, text, trace, asked),
+        Err(TraceFault::Text { line, cause }) => Ok(Judged::Bad {
+            line,
+            why: CutCause::Refused(cause),
+        }),
+        Err(TraceFault::Memory) => Err(Memory),
+    }
+}
+
+/// The same of a text with this trace.
+fn judge_trace<R: RandomSource + Threads + Wait + Sync>(
+    rt: &R,
+    alloc: Global,
+    text: &[u8],
+    trace: Trace,
+    asked: &Asked<'_>,
+) -> Result<Judged, Memory>
+    requires { TraceAnswer text.now (Ok (trace_view trace)) }
+    ensures { IfOk result (IsJudgement text.now) }
+{
+    let span = Span::of(trace.events());
+    drop(trace);
+    if span.events == 0 {
+        return Ok(Judged::Quiet);
+    }
+    let hasher = PidHasher::random(rt);
+    match companion_of_text(alloc, text, asked.debug, &asked.wishes, hasher) {
+        Ok(made) => judge_made(rt, alloc, text, made.text, span, asked),
+        Err(NotMade::Trace { line, cause }) => Ok(Judged::Bad {
+            line,
+            why: CutCause::Refused(cause),
+        }),
+        Err(NotMade::CpuOutside { line }) => Ok(Judged::Bad {
+            line,
+            why: CutCause::CpuOutside,
+        }),
+        Err(NotMade::Memory) => Err(Memory),
+    }
+}
+
+/// Judges a text by the companion that was made for it.
+fn judge_made<R: RandomSource + Threads + Wait + Sync>(
+    rt: &R,
+    alloc: Global,
+    text: &[u8],
+    companion: Vec<u8>,
+    span: Span,
+    asked: &Asked<'_>,
+) -> Result<Judged, Memory>
+    requires { IsSpanOf text.now span }
+    ensures { IfOk result (IsJudgement text.now) }
+{
+    let tells_charges = tells_charges(companion.as_slice());
+    let answer = least_texts(rt, alloc, text, companion.as_slice(), &OpenGate);
+    match &answer {
+        Ok(LeastFigures::Found { knobs: least, .. }) => {
+            let over = fault_over(rt, alloc, text, companion.as_slice(), *least, asked.limits)?;
+            Ok(Judged::Run(Stretch {
+                companion,
+                events: span.events,
+                begins: span.begins,
+                ends: span.ends,
+                least: *least,
+                tells_charges,
+                over,
+            }))
+        }
+        Ok(LeastFigures::Fault(fault)) => Ok(Judged::Bad {
+            line: u64::from(fault.line),
+            why: CutCause::Fault(*fault),
+        }),
+        // The companion was read back, and joins: this doesn't come.
+        Err(Refused::Text { line, .. }) => Ok(Judged::Bad {
+            line: *line,
+            why: CutCause::Unsettled,
+        }),
+        Err(Refused::Memory) => Err(Memory),
+    }
+}
+
+/// What is wrong first at the limits, where these settings, the least, are above them.
+fn fault_over<R: RandomSource + Threads + Wait + Sync>(
+    rt: &R,
+    alloc: Global,
+    text: &[u8],
+    companion: &[u8],
+    least: Knobs,
+    limits: Knobs,
+) -> Result<Option<FirstFault>, Memory>
+    ensures { IfOk result (IsOver text.now companion.now least limits) }
+{
+    if are_within(least, limits) {
+        return Ok(None);
+    }
+    match audit_texts(rt, alloc, text, companion, limits, &OpenGate) {
+        Ok(Verdict::Fault(fault)) => Ok(Some(fault)),
+        Err(Refused::Memory) => Err(Memory),
+        // The least settings are the least, and the texts are those that were judged: this doesn't come.
+        Ok(Verdict::Run(_)) | Err(Refused::Text { .. }) => Ok(None),
+    }
+}
+
+/// Whether no setting is above the limits.
+fn are_within(settings: Knobs, limits: Knobs) -> bool {
+    Setting::ALL
+        .iter()
+        .all(|setting| settings.get(*setting) <= limits.get(*setting))
+}

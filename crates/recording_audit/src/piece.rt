@@ -1,0 +1,176 @@
+//! The next part of a recording.
+ghost use Rattle.std.specs.Prelude.{◌<◌, IfOk, length};
+ghost use Rattle.recording_audit.specs.Pieces.{IsPieceOf};
+
+use crate::asked::Asked;
+use crate::cut_cause::CutCause;
+use crate::judging::{Judged, judge};
+use crate::not_audited::NotAudited;
+use crate::part::{Cut, Told};
+use crate::real_time::lines_of_real_time;
+use crate::scanning::{comment_lines, event_count, last_start};
+use crate::splitting::{split_lines, split_near};
+use cfs_model::Memory;
+use std::alloc::Global;
+use std::random::RandomSource;
+use std::sync::Wait;
+use std::thread::Threads;
+
+/// How many bytes are tried next, as a multiple of those that were a run.
+const GROWTH: usize = 8;
+
+/// How often more is tried at most: by then it is all.
+const MOST_TRIES: usize = 24;
+
+/// How often a stretch is made shorter at most, before a fault.
+const MOST_CUTS: usize = 16;
+
+/// The front of a text, what is told of it, and what follows.
+#[derive(Drop)]
+pub(crate) struct Piece<'a> {
+    pub text: &'a [u8],
+    pub rest: &'a [u8],
+    pub told: Told,
+    /// Why the first line of what follows stands in no stretch, where that is known.
+    pub next: Option<CutCause>,
+}
+
+/// The next part of a text of which so many bytes are tried first; why its first line stands in no stretch, where that
+/// is known.
+pub(crate) fn next_piece<'a, R: RandomSource + Threads + Wait + Sync>(
+    rt: &R,
+    alloc: Global,
+    text: &'a [u8],
+    reach: usize,
+    known: Option<CutCause>,
+    asked: &Asked<'_>,
+) -> Result<Piece<'a>, NotAudited>
+    requires { 0 < length text.now }
+    ensures { IfOk result (λ piece. IsPieceOf text.now piece) }
+{
+    if let Some(cause) = known {
+        return cut_piece(alloc, text, cause);
+    }
+    match comment_lines(text) {
+        0 => longest_piece(rt, alloc, text, reach, asked),
+        // They stand in no stretch, but before one.
+        comments => piece_before(rt, alloc, text, comments.saturating_add(1), None, asked),
+    }
+}
+
+/// The longest front of a text that is a run, or the lines that can stand in none.
+fn longest_piece<'a, R: RandomSource + Threads + Wait + Sync>(
+    rt: &R,
+    alloc: Global,
+    text: &'a [u8],
+    reach: usize,
+    asked: &Asked<'_>,
+) -> Result<Piece<'a>, NotAudited>
+    requires { 0 < length text.now }
+    ensures { IfOk result (λ piece. IsPieceOf text.now piece) }
+{
+    let mut size = reach;
+    for _ in 0..MOST_TRIES {
+        let (front, rest) = split_near(text, size);
+        match judge(rt, alloc, front, asked)? {
+            Judged::Bad { line, why } => {
+                return piece_before(rt, alloc, text, line, Some(why), asked);
+            }
+            Judged::Run(stretch) if rest.is_empty() => {
+                return Ok(Piece {
+                    text: front,
+                    rest,
+                    told: Told::Stretch(stretch),
+                    next: None,
+                });
+            }
+            Judged::Quiet if rest.is_empty() => {
+                return Ok(Piece {
+                    text: front,
+                    rest,
+                    told: Told::Quiet,
+                    next: None,
+                });
+            }
+            Judged::Run(_) | Judged::Quiet => size = size.saturating_mul(GROWTH),
+        }
+    }
+    cut_piece(alloc, text, CutCause::Unsettled)
+}
+
+/// The longest front of a text that ends before this line, and is a run; why the line can stand in no stretch, where it
+/// can't.
+fn piece_before<'a, R: RandomSource + Threads + Wait + Sync>(
+    rt: &R,
+    alloc: Global,
+    text: &'a [u8],
+    line: u64,
+    why: Option<CutCause>,
+    asked: &Asked<'_>,
+) -> Result<Piece<'a>, NotAudited>
+    requires { 0 < length text.now }
+    ensures { IfOk result (λ piece. IsPieceOf text.now piece) }
+{
+    let mut last = line;
+    let mut cause = why;
+    for _ in 0..MOST_CUTS {
+        if last <= 1 {
+            return cut_piece(alloc, text, cause.unwrap_or(CutCause::Unsettled));
+        }
+        let (front, rest) = split_lines(text, last - 1);
+        match judge(rt, alloc, front, asked)? {
+            Judged::Run(stretch) => {
+                return Ok(Piece {
+                    text: front,
+                    rest,
+                    told: Told::Stretch(stretch),
+                    next: cause,
+                });
+            }
+            Judged::Quiet => {
+                return Ok(Piece {
+                    text: front,
+                    rest,
+                    told: Told::Quiet,
+                    next: cause,
+                });
+            }
+            Judged::Bad { line, why } => {
+                last = line;
+                cause = Some(why);
+            }
+        }
+    }
+    cut_piece(alloc, text, CutCause::Unsettled)
+}
+
+/// The lines at the front of a text that stand in no stretch, for this cause.
+fn cut_piece<'a>(alloc: Global, text: &'a [u8], cause: CutCause) -> Result<Piece<'a>, NotAudited>
+    requires { 0 < length text.now }
+    ensures { IfOk result (λ piece. IsPieceOf text.now piece) }
+{
+    if !cause.is_passed() {
+        return Err(NotAudited::Refused { line: 1, cause });
+    }
+    let (front, rest) = split_lines(text, cut_lines(alloc, text, cause)?);
+    Ok(Piece {
+        text: front,
+        rest,
+        told: Told::Cut(Cut {
+            cause,
+            events: event_count(front),
+        }),
+        next: None,
+    })
+}
+
+/// How many lines a cut has.
+fn cut_lines(alloc: Global, text: &[u8], cause: CutCause) -> Result<u64, Memory> {
+    if cause.is_real_time() {
+        lines_of_real_time(alloc, text)
+    } else if cause == CutCause::BufferStarted {
+        Ok(last_start(text))
+    } else {
+        Ok(1)
+    }
+}

@@ -19,8 +19,8 @@ use std::thread::Threads;
 /// How many bytes are tried first.
 const REACH: usize = 1 << 24;
 
-/// The fewest bytes that are tried first behind a fault.
-const LEAST_REACH: usize = 1 << 17;
+/// How many are tried first behind a fault, since the next may be near.
+const REACH_BEHIND_FAULT: usize = 1 << 14;
 
 /// Cuts a recording into parts, and judges each stretch by a companion that is made for it.
 #[tactic(auto, using(crate::proofs::Grown::grown))]
@@ -55,6 +55,7 @@ pub fn audit_recording<'a, R: RandomSource + Threads + Wait + Sync, W: Watch>(
         let told = long_enough(told, asked.least_events);
         begins = begins && matches!(told, Told::Quiet);
         watch.pass(front.len() as u64);
+        reach = reach_behind(&told);
         let part = Part {
             first: number,
             last: number + lines - 1,
@@ -64,7 +65,6 @@ pub fn audit_recording<'a, R: RandomSource + Threads + Wait + Sync, W: Watch>(
         if parts.push(part).is_err() {
             return Err(NotAudited::Memory);
         }
-        reach = reach_behind(front, next);
         known = next;
         number += lines;
         rest = behind;
@@ -80,10 +80,15 @@ fn first_cause(text: &[u8]) -> Option<CutCause> {
     }
 }
 
-/// How many bytes are tried behind these: where a fault ended them, not many more.
-fn reach_behind(text: &[u8], next: Option<CutCause>) -> usize {
-    match next {
-        Some(CutCause::Fault(_)) => text.len().saturating_mul(4).max(LEAST_REACH),
+/// How many bytes are tried behind a part.
+fn reach_behind(told: &Told) -> usize {
+    match told {
+        Told::Cut(
+            Cut {
+                cause: CutCause::Fault(_),
+                ..
+            },
+        ) => REACH_BEHIND_FAULT,
         _ => REACH,
     }
 }

@@ -1,5 +1,6 @@
 use crate::bounds::push_bound;
 use crate::event::Event;
+use crate::mend::push_mend;
 use crate::scene::Scene;
 use cfs_model::{Knobs, Memory};
 use pid_table::PidHasher;
@@ -8,7 +9,7 @@ use sched_record::Record;
 use std::alloc::Global;
 
 /// How the first fault of a record under these settings comes about: how things were before its event, what comes first
-/// at it, and the bound that failed. Each line begins with `# `. Pids are hashed by these keys.
+/// at it, the bound that failed, and which setting would do. Each line begins with `# `. Pids are hashed by these keys.
 pub fn explanation(
     alloc: Global,
     record: &Record,
@@ -22,6 +23,7 @@ pub fn explanation(
         scene.set(&mut text)?;
         scene.go_on_to_pick()?;
         push_bound(&mut text, &scene)?;
+        push_mend(&mut text, &scene)?;
     }
     Ok(text)
 }

@@ -8,6 +8,7 @@ mod claim_bounds;
 mod companion_lines;
 mod event;
 mod explaining;
+mod mend;
 mod pick_bounds;
 mod place_bounds;
 mod processor;

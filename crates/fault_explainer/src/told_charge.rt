@@ -28,13 +28,18 @@ impl ToldCharge {
         }
     }
 
+    /// Whether it takes virtual runtime away.
+    pub(crate) fn takes_away(&self) -> bool {
+        self.to < self.exact.task.v
+    }
+
     /// How far it leads above the exact charge, in virtual nanoseconds; below 0 where it leads below that.
     fn stray(&self) -> i128 {
         i128::from(self.to).saturating_sub(self.exact.to())
     }
 
     /// The task's drift after it, in virtual nanoseconds.
-    fn drift_after(&self) -> i128 {
+    pub(crate) fn drift_after(&self) -> i128 {
         i128::from(self.exact.task.drift).saturating_add(self.stray())
     }
 }

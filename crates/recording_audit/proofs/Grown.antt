@@ -36,8 +36,9 @@ grown_none limits text = record {
 
 -- one more
 pub grown_more : (limits : KnobsView) (text : List ℕ) (parts : List Part) (part : Part) (rest after : List ℕ)
-    (number lines : ℕ) → IsGrown limits text parts rest number → AreSplit rest part.text.now after → IsTold limits part.text.now part.told
-    → part.first ≡ number → part.last + 1 ≡ number + lines → lines ≡ length (lines_of part.text.now)
+    (number lines : ℕ) → IsGrown limits text parts rest number → AreSplit rest part.text.now after
+    → IsTold limits part.text.now part.told → part.first ≡ number → part.last + 1 ≡ number + lines
+    → lines ≡ length (lines_of part.text.now)
     → lines ≤ length part.text.now → IsGrown limits text (parts ++ part ∷ []) after (number + lines)
 grown_more limits text parts part rest after number lines so_far split is first last count few =
     let bytes_left = ap length split.bytes ∙ length-append part.text.now after in

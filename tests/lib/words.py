@@ -21,6 +21,7 @@ OPTIONS = tuple(f"--{name}-ns" for name in SETTINGS)
 COMPANION_FIRST = b"hint: the trace is a companion: the trace is named first\n"
 TRACE_SECOND = b"hint: the companion is a trace: the companion is named second\n"
 NO_EVENT = b"hint: the trace has no event of the scheduler\n"
+OVERWRITTEN = b"hint: the trace misses events: its two numbers of entries differ, so the buffer was overwritten\n"
 
 KINDS = {
     "IdleTooLong": "idle beside a waiting task",

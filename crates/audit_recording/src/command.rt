@@ -1,6 +1,7 @@
 //! The command line, as clap reads it.
 
-use cfs_model::{GREATEST_SETTING, Knobs, Setting};
+use amount_words::{Amount, amount_mistake};
+use cfs_model::{Knobs, Setting};
 use clap::error::ErrorKind;
 use clap::{Arg, ArgMatches, Command, Error, value_parser};
 use companion_maker::{Strategy, Wishes};
@@ -21,6 +22,12 @@ pub(crate) struct Request<'a> {
     pub limits: Knobs,
 }
 
+impl Request<'_> {
+    fn reads_input_twice(&self) -> bool {
+        self.trace == "-" && self.debug == Some("-")
+    }
+}
+
 /// What these words ask for; the first is the program's own name.
 pub(crate) fn command_line<'a, S: AsStr>(
     alloc: Global,
@@ -29,8 +36,28 @@ pub(crate) fn command_line<'a, S: AsStr>(
     let mut command = command(alloc)?;
     let matches = command.try_get_matches_from_mut(words)?;
     match request_of(&matches) {
-        Some(request) => Ok(request),
-        None => Err(command.error(ErrorKind::ValueValidation, "a value has no sense")?),
+        Some(request) => {
+            if request.reads_input_twice() {
+                return Err(command.error(
+                    ErrorKind::ArgumentConflict,
+                    "standard input can't be both the trace and the file of --debug",
+                )?);
+            }
+            Ok(request)
+        }
+        None => Err(mistake(alloc, &mut command, &matches)?),
+    }
+}
+
+/// Why the values are no request.
+fn mistake(
+    alloc: Global,
+    command: &mut Command<'_>,
+    matches: &ArgMatches<'_>,
+) -> Result<Error, AllocError> {
+    match amount_mistake(alloc, matches, &Setting::ALL)? {
+        Some(error) => Ok(error),
+        None => command.error(ErrorKind::ValueValidation, "a value is out of range"),
     }
 }
 
@@ -38,6 +65,9 @@ fn command<'a>(alloc: Global) -> Result<Command<'a>, AllocError> {
     let named = Command::new(alloc, "audit_recording")
         .version("0.1.0")
         .about("Audits a recorded trace in stretches, each by a companion that is made for it")
+        .after_help(
+            "N of a setting is in nanoseconds, or has a unit: 3.4ms, 500us, 2s, 3e6. The name - is standard input.",
+        )
         .bin_name("audit_recording")?
         .arg(
             Arg::new(alloc, "TRACE")
@@ -76,13 +106,12 @@ fn with_limits<'a>(alloc: Global, command: Command<'a>) -> Result<Command<'a>, A
     Ok(more)
 }
 
-/// A setting's option, with a number of nanoseconds.
+/// A setting's option, with a word that says an amount.
 fn limit_of(alloc: Global, setting: Setting) -> Arg<'static> {
     let name = setting.name();
     Arg::new(alloc, name)
         .long(name)
         .value_name("N")
-        .value_parser(value_parser!(u64).range(0..=GREATEST_SETTING as i64))
         .help("Ends with status 1 where a stretch needs more")
 }
 
@@ -115,10 +144,11 @@ fn knobs_of(matches: &ArgMatches<'_>, settings: &[Setting], others: Knobs) -> Op
     Some(knobs)
 }
 
-/// A setting's number, where the option is given; None where it is no number.
+/// The nanoseconds of a setting, where its option is given; None where its word says no amount.
 fn number_of(matches: &ArgMatches<'_>, setting: Setting) -> Option<Option<u64>> {
-    match matches.try_get_one::<u64>(setting.name()) {
-        Ok(number) => Some(number),
+    match matches.try_get_one::<Amount>(setting.name()) {
+        Ok(Some(amount)) => Some(Some(amount.nanoseconds)),
+        Ok(None) => Some(None),
         Err(_) => None,
     }
 }

@@ -3,6 +3,7 @@
 
 mod command;
 mod ending;
+mod hints;
 mod keeping;
 mod obeying;
 mod progress;

@@ -1,9 +1,11 @@
 use crate::command::{Request, command_line};
 use crate::ending::Ending;
+use crate::hints::{say_of_audited, say_of_refused};
 use crate::keeping::keep;
 use crate::progress::Progress;
 use clap::Error;
 use clap::error::ErrorKind::OutOfMemory;
+use given_texts::file_of;
 use recording_audit::{Asked, CauseWords, NotAudited, Part, Tally, audit_recording, report};
 use std::alloc::Global;
 use std::io::{ErrorKind, Write};
@@ -61,12 +63,14 @@ fn audit<R: Files + Clock + Print + Eprint + RandomSource + AllocGlobal + Thread
     if let Some(folder) = request.out {
         keep(rt, alloc, folder, parts.as_slice())?;
     }
-    write_report(rt, alloc, parts.as_slice())
+    let ending = write_report(rt, alloc, parts.as_slice())?;
+    say_of_audited(rt, text.as_slice());
+    Ok(ending)
 }
 
-/// The bytes of a file of this name.
+/// The bytes of the file that a name of the command line is.
 fn read<R: Files + AllocGlobal>(rt: &R, name: &str, unread: Ending) -> Result<Vec<u8>, Ending> {
-    match fs::read(rt, name) {
+    match fs::read(rt, file_of(name)) {
         Ok(text) => Ok(text),
         Err(error) if error.kind() == ErrorKind::OutOfMemory => Err(Ending::Memory),
         Err(_) => Err(unread),
@@ -86,15 +90,20 @@ fn parts_of<'a, R: Clock + Print + Eprint + RandomSource + Threads + Wait + Sync
     progress.end();
     match parts {
         Ok(parts) => Ok(parts),
-        Err(NotAudited::Refused { line, cause }) => Err(refuse(rt, line, CauseWords(cause))),
+        Err(NotAudited::Refused { line, cause }) => {
+            Err(refuse(rt, text, line, CauseWords(cause)))
+        }
         Err(NotAudited::Memory) => Err(Ending::Memory),
     }
 }
 
 /// Prints that the recording is refused.
-fn refuse<R: Print>(rt: &R, line: u64, words: CauseWords) -> Ending {
+fn refuse<R: Print + Eprint>(rt: &R, text: &[u8], line: u64, words: CauseWords) -> Ending {
     match println!(rt; "refused trace line {line} {words}") {
-        Ok(()) => Ending::Refused,
+        Ok(()) => {
+            say_of_refused(rt, text);
+            Ending::Refused
+        }
         Err(_) => Ending::Unwritten,
     }
 }

@@ -3,6 +3,7 @@ use Rattle.std.proofs.Common.{◌≡◌, ℕ, ◌+◌, ◌<◌, ◌≤◌, List,
 use Rattle.std.proofs.Common.{flat_map, length-append}
 use Rattle.std.proofs.lemmas.List.{append-nil, nil_from_length}
 use Rattle.std.proofs.lemmas.List.Elements.{All-append, All-more, All-nil}
+use Rattle.cfs_model.specs.Knobs.{KnobsView}
 use Rattle.text_parts.specs.Lines.{lines_of}
 use Rattle.text_parts.proofs.TextLines.{lines_of_nil}
 use Rattle.recording_audit.specs.declared.part.Part.{Part}
@@ -12,33 +13,34 @@ use Rattle.recording_audit.specs.Splits.{AreSplit}
 use Rattle.recording_audit.proofs.Numbers.{more, numbered_more}
 
 -- the parts and then the rest are the text, and the next line has this number
-pub record IsGrown (text : List ℕ) (parts : List Part) (rest : List ℕ) (number : ℕ) : Type 0 where
+pub record IsGrown (limits : KnobsView) (text : List ℕ) (parts : List Part) (rest : List ℕ) (number : ℕ) : Type 0 where
   pub bytes : text ≡ flat_map (λ part. part.text.now) parts ++ rest
   pub lines : lines_of text ≡ flat_map (λ part. lines_of part.text.now) parts ++ lines_of rest
   pub numbered : AreNumbered 1 parts number
   pub counted : number + length (lines_of rest) ≡ length (lines_of text) + 1
-  pub told : All (λ part. IsTold part.text.now part.told) parts
+  pub told : All (λ part. IsTold limits part.text.now part.told) parts
   pub within : number + length rest ≤ length text + 1
   pub some : 0 < number
 
 -- no part yet
-pub grown_none : (text : List ℕ) → IsGrown text [] text 1
-grown_none text = record {
+pub grown_none : (limits : KnobsView) (text : List ℕ) → IsGrown limits text [] text 1
+grown_none limits text = record {
   bytes = refl;
   lines = refl;
   numbered = refl;
   counted = omega arith;
-  told = All-nil (λ part. IsTold part.text.now part.told);
+  told = All-nil (λ part. IsTold limits part.text.now part.told);
   within = omega arith;
   some = omega arith;
 }
 
 -- one more
-pub grown_more : (text : List ℕ) (parts : List Part) (part : Part) (rest after : List ℕ) (number lines : ℕ)
-    → IsGrown text parts rest number → AreSplit rest part.text.now after → IsTold part.text.now part.told
-    → part.first ≡ number → part.last + 1 ≡ number + lines → lines ≡ length (lines_of part.text.now)
-    → lines ≤ length part.text.now → IsGrown text (parts ++ part ∷ []) after (number + lines)
-grown_more text parts part rest after number lines so_far split is first last count few =
+pub grown_more : (limits : KnobsView) (text : List ℕ) (parts : List Part) (part : Part) (rest after : List ℕ)
+    (number lines : ℕ) → IsGrown limits text parts rest number → AreSplit rest part.text.now after
+    → IsTold limits part.text.now part.told → part.first ≡ number → part.last + 1 ≡ number + lines
+    → lines ≡ length (lines_of part.text.now)
+    → lines ≤ length part.text.now → IsGrown limits text (parts ++ part ∷ []) after (number + lines)
+grown_more limits text parts part rest after number lines so_far split is first last count few =
     let bytes_left = ap length split.bytes ∙ length-append part.text.now after in
     let lines_left = ap length split.lines ∙ length-append (lines_of part.text.now) (lines_of after) in
     let counted = so_far.counted in
@@ -51,17 +53,17 @@ grown_more text parts part rest after number lines so_far split is first last co
       numbered = subst (AreNumbered 1 (parts ++ part ∷ [])) last
           (numbered_more parts part 1 number so_far.numbered first (last ∙ ap (λ n. number + n) count));
       counted = omega (arith, counted, lines_left, count);
-      told = All-append (λ one. IsTold one.text.now one.told) parts (part ∷ []) so_far.told
-          (All-more (λ one. IsTold one.text.now one.told) (part ∷ []) 0 part (omega arith)
-          (All-nil (λ one. IsTold one.text.now one.told)) is);
+      told = All-append (λ one. IsTold limits one.text.now one.told) parts (part ∷ []) so_far.told
+          (All-more (λ one. IsTold limits one.text.now one.told) (part ∷ []) 0 part (omega arith)
+          (All-nil (λ one. IsTold limits one.text.now one.told)) is);
       within = omega (arith, within, bytes_left, few);
       some = omega (arith, some);
     }
 
 -- all of them
-pub grown_whole : (text : List ℕ) (parts : List Part) (rest : List ℕ) (number : ℕ) → IsGrown text parts rest number
-    → length rest ≡ 0 → ArePartsOf text parts
-grown_whole text parts rest number so_far none =
+pub grown_whole : (limits : KnobsView) (text : List ℕ) (parts : List Part) (rest : List ℕ) (number : ℕ)
+    → IsGrown limits text parts rest number → length rest ≡ 0 → ArePartsOf limits text parts
+grown_whole limits text parts rest number so_far none =
     let nothing = nil_from_length rest none in
     let no_line : length (lines_of rest) ≡ 0 = ap (λ r. length (lines_of r)) nothing ∙ ap length lines_of_nil in
     let counted = so_far.counted in

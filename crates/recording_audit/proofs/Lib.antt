@@ -1,3 +1,4 @@
 pub mod Splits
 pub mod Numbers
 pub mod Grown
+pub mod Within

@@ -1,12 +1,16 @@
 -- The parts of a recording: stretches that were judged, cuts, and lines without an event (this project's profile).
 use Rattle.std.specs.Prelude.{◌≡◌, ℕ, ⊤, List, [], length, Option, None, Some, Ok}
 use Rattle.cfs_model.specs.Knobs.{KnobsView}
+use Rattle.cfs_model.specs.Run.{IsRun}
+use Rattle.cfs_model.specs.Start.{start_machine}
 use Rattle.cfs_model.specs.declared.act.Entry.{Entry}
+use Rattle.sched_record.specs.Record.{RecordView}
 use Rattle.sched_record.specs.Trace.{TraceAnswer}
 use Rattle.replay_model.specs.declared.first_fault.FirstFault.{FirstFault}
+use Rattle.ticket_book.specs.SaidEvents.{events_of}
 use Rattle.ticket_book.specs.Verdict.{IsVerdict}
 use Rattle.ticket_book.specs.declared.verdict.Verdict.TheVariants as verdicts
-use Rattle.audit_input.specs.Texts.{TellsCharges}
+use Rattle.audit_input.specs.Texts.{IsRecordOf, TellsCharges}
 use Rattle.sched_audit.specs.Answer.{IsAnswer}
 use Rattle.least_places.specs.LeastAnswer.{IsLeastAnswer}
 use Rattle.least_places.specs.declared.figures.LeastFigures.TheVariants as leasts
@@ -18,19 +22,31 @@ use Rattle.recording_audit.specs.declared.span.Span.{Span}
 use Rattle.recording_audit.specs.declared.judging.Judged.{Judged}
 use Rattle.recording_audit.specs.declared.judging.Judged.TheVariants as judgements
 
--- what is wrong first at the limits, where one is told: it is the verdict's fault there
-abbrev pub IsOver : List ℕ → List ℕ → KnobsView → KnobsView → Option FirstFault → Type 0
-IsOver text companion least limits None = ⊤
-IsOver text companion least limits (Some fault) = IsAnswer (IsVerdict limits) text companion (Ok (verdicts.Fault fault))
+-- these are the least settings at which a text is a run by its companion
+abbrev pub IsLeastOf : List ℕ → List ℕ → KnobsView → Places → Type 0
+IsLeastOf text companion least places = IsAnswer IsLeastAnswer text companion (Ok (leasts.Found least places))
 
--- of a stretch with this text: the number of its events, and the least settings at which it is a run by its companion
-pub record IsStretch (text : List ℕ) (stretch : Stretch) : Type 0 where
+-- a text is a run by its companion at the limits
+abbrev pub IsWithin : List ℕ → List ℕ → KnobsView → Type 0
+IsWithin text companion limits =
+    (r : RecordView) × IsRecordOf text companion r
+    × IsRun limits r.start (start_machine r.start r.floors r.tasks) (events_of r)
+
+-- what is wrong first at the limits: the verdict's fault there, or none, and the text is a run there
+abbrev pub IsOver : List ℕ → List ℕ → KnobsView → Option FirstFault → Type 0
+IsOver text companion limits None = IsWithin text companion limits
+IsOver text companion limits (Some fault) = IsAnswer (IsVerdict limits) text companion (Ok (verdicts.Fault fault))
+
+-- of a stretch with this text: the number of its events, the least settings at which it is a run by its companion, and
+-- what is wrong with it at the limits
+pub record IsStretch (limits : KnobsView) (text : List ℕ) (stretch : Stretch) : Type 0 where
   pub events : List Entry
   pub means : TraceAnswer text (Ok events)
   pub counted : stretch.events ≡ length events
   pub places : Places
-  pub least : IsAnswer IsLeastAnswer text stretch.companion.items (Ok (leasts.Found stretch.least places))
+  pub least : IsLeastOf text stretch.companion.items stretch.least places
   pub tells : TellsCharges stretch.companion.items stretch.tells_charges
+  pub over : IsOver text stretch.companion.items limits stretch.over
 
 -- the events of a text are so many
 pub record IsSpanOf (text : List ℕ) (span : Span) : Type 0 where
@@ -38,14 +54,14 @@ pub record IsSpanOf (text : List ℕ) (span : Span) : Type 0 where
   pub means : TraceAnswer text (Ok events)
   pub counted : span.events ≡ length events
 
--- what is told of a part with this text
-abbrev pub IsTold : List ℕ → Told → Type 0
-IsTold text (told.Stretch stretch) = IsStretch text stretch
-IsTold text (told.Cut cut) = ⊤
-IsTold text told.Quiet = TraceAnswer text (Ok [])
+-- what is told of a part with this text, by these limits
+abbrev pub IsTold : KnobsView → List ℕ → Told → Type 0
+IsTold limits text (told.Stretch stretch) = IsStretch limits text stretch
+IsTold limits text (told.Cut cut) = ⊤
+IsTold limits text told.Quiet = TraceAnswer text (Ok [])
 
 -- what a text came to
-abbrev pub IsJudgement : List ℕ → Judged → Type 0
-IsJudgement text (judgements.Run stretch) = IsStretch text stretch
-IsJudgement text judgements.Quiet = TraceAnswer text (Ok [])
-IsJudgement text (judgements.Bad line why) = ⊤
+abbrev pub IsJudgement : KnobsView → List ℕ → Judged → Type 0
+IsJudgement limits text (judgements.Run stretch) = IsStretch limits text stretch
+IsJudgement limits text judgements.Quiet = TraceAnswer text (Ok [])
+IsJudgement limits text (judgements.Bad line why) = ⊤

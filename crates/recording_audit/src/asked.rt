@@ -1,3 +1,5 @@
+ghost use Rattle.std.specs.Prelude.{◌≡◌};
+
 use cfs_model::Knobs;
 use companion_maker::Wishes;
 
@@ -16,7 +18,9 @@ pub struct Asked<'a> {
 
 impl<'a> Asked<'a> {
     /// The same of a text that begins where the recording does, or of one that stands further behind.
-    pub(crate) fn at(&self, begins: bool) -> Asked<'a> {
+    pub(crate) fn at(&self, begins: bool) -> Asked<'a>
+        ensures { result.limits ≡ self.now.limits }
+    {
         Asked {
             wishes: self.wishes,
             debug: self.debug.filter(|_debug| begins),

@@ -1,5 +1,6 @@
 //! The theorem: a recording's parts.
 ghost use Rattle.std.specs.Prelude.{ℕ, IfOk, List};
+ghost use Rattle.cfs_model.specs.Knobs.{KnobsView};
 ghost use Rattle.recording_audit.specs.Parts.{IsTold};
 ghost use Rattle.recording_audit.specs.Recording.{ArePartsOf};
 
@@ -31,7 +32,7 @@ pub fn audit_recording<'a, R: RandomSource + Threads + Wait + Sync, W: Watch>(
     asked: &Asked<'_>,
     watch: &mut W,
 ) -> Result<Vec<Part<'a>>, NotAudited>
-    ensures { IfOk result (λ parts. ArePartsOf text.now parts.items) }
+    ensures { IfOk result (λ parts. ArePartsOf asked.now.limits text.now parts.items) }
 {
     let mut parts = Vec::new(alloc);
     let mut rest = text;
@@ -95,7 +96,7 @@ fn reach_behind(told: &Told) -> usize {
 
 /// What is told of a part, where a stretch has to have so many events.
 fn long_enough(told: Told, least: u64) -> Told
-    ensures { (text : List ℕ) → IsTold text told → IsTold text result }
+    ensures { (limits : KnobsView) (text : List ℕ) → IsTold limits text told → IsTold limits text result }
 {
     match told {
         Told::Stretch(stretch) if stretch.events < least => Told::Cut(Cut {

@@ -1,18 +1,18 @@
 ghost use Rattle.std.specs.Prelude.{IfOk, Ok};
 ghost use Rattle.sched_record.specs.Seen.{trace_view};
 ghost use Rattle.sched_record.specs.Trace.{TraceAnswer};
-ghost use Rattle.recording_audit.specs.Parts.{IsJudgement, IsOver, IsSpanOf};
+ghost use Rattle.recording_audit.specs.Parts.{IsJudgement, IsSpanOf};
 
 use crate::asked::Asked;
 use crate::cut_cause::CutCause;
+use crate::limits::fault_over;
 use crate::part::Stretch;
 use crate::span::Span;
 use audit_input::tells_charges;
-use cfs_model::{Knobs, Memory, Setting};
+use cfs_model::Memory;
 use companion_maker::{NotMade, companion_of_text};
 use pid_table::PidHasher;
-use replay_model::FirstFault;
-use sched_audit::{LeastFigures, OpenGate, Refused, Verdict, audit_texts, least_texts};
+use sched_audit::{LeastFigures, OpenGate, Refused, least_texts};
 use sched_record::{Trace, TraceFault, read_trace};
 use std::alloc::Global;
 use std::random::RandomSource;
@@ -37,7 +37,7 @@ pub(crate) fn judge<R: RandomSource + Threads + Wait + Sync>(
     text: &[u8],
     asked: &Asked<'_>,
 ) -> Result<Judged, Memory>
-    ensures { IfOk result (IsJudgement text.now) }
+    ensures { IfOk result (IsJudgement asked.now.limits text.now) }
 {
     match read_trace(alloc, text) {
         Ok(trace) => judge_trace(rt, alloc, text, trace, asked),
@@ -58,7 +58,7 @@ fn judge_trace<R: RandomSource + Threads + Wait + Sync>(
     asked: &Asked<'_>,
 ) -> Result<Judged, Memory>
     requires { TraceAnswer text.now (Ok (trace_view trace)) }
-    ensures { IfOk result (IsJudgement text.now) }
+    ensures { IfOk result (IsJudgement asked.now.limits text.now) }
 {
     let span = Span::of(trace.events());
     drop(trace);
@@ -90,7 +90,7 @@ fn judge_made<R: RandomSource + Threads + Wait + Sync>(
     asked: &Asked<'_>,
 ) -> Result<Judged, Memory>
     requires { IsSpanOf text.now span }
-    ensures { IfOk result (IsJudgement text.now) }
+    ensures { IfOk result (IsJudgement asked.now.limits text.now) }
 {
     let tells_charges = tells_charges(companion.as_slice());
     let answer = least_texts(rt, alloc, text, companion.as_slice(), &OpenGate);
@@ -118,33 +118,4 @@ fn judge_made<R: RandomSource + Threads + Wait + Sync>(
         }),
         Err(Refused::Memory) => Err(Memory),
     }
-}
-
-/// What is wrong first at the limits, where these settings, the least, are above them.
-fn fault_over<R: RandomSource + Threads + Wait + Sync>(
-    rt: &R,
-    alloc: Global,
-    text: &[u8],
-    companion: &[u8],
-    least: Knobs,
-    limits: Knobs,
-) -> Result<Option<FirstFault>, Memory>
-    ensures { IfOk result (IsOver text.now companion.now least limits) }
-{
-    if are_within(least, limits) {
-        return Ok(None);
-    }
-    match audit_texts(rt, alloc, text, companion, limits, &OpenGate) {
-        Ok(Verdict::Fault(fault)) => Ok(Some(fault)),
-        Err(Refused::Memory) => Err(Memory),
-        // The least settings are the least, and the texts are those that were judged: this doesn't come.
-        Ok(Verdict::Run(_)) | Err(Refused::Text { .. }) => Ok(None),
-    }
-}
-
-/// Whether no setting is above the limits.
-fn are_within(settings: Knobs, limits: Knobs) -> bool {
-    Setting::ALL
-        .iter()
-        .all(|setting| settings.get(*setting) <= limits.get(*setting))
 }

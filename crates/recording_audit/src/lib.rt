@@ -6,6 +6,7 @@ mod cause_words;
 mod cut_cause;
 mod headline;
 mod judging;
+mod limits;
 mod not_audited;
 mod part;
 mod piece;

@@ -1,5 +1,6 @@
 //! The next part of a recording.
 ghost use Rattle.std.specs.Prelude.{◌<◌, IfOk, length};
+ghost use Rattle.cfs_model.specs.Knobs.{KnobsView};
 ghost use Rattle.recording_audit.specs.Pieces.{IsPieceOf};
 
 use crate::asked::Asked;
@@ -46,7 +47,7 @@ pub(crate) fn next_piece<'a, R: RandomSource + Threads + Wait + Sync>(
     asked: &Asked<'_>,
 ) -> Result<Piece<'a>, NotAudited>
     requires { 0 < length text.now }
-    ensures { IfOk result (λ piece. IsPieceOf text.now piece) }
+    ensures { IfOk result (λ piece. IsPieceOf asked.now.limits text.now piece) }
 {
     if let Some(cause) = known {
         return cut_piece(alloc, text, cause);
@@ -67,7 +68,7 @@ fn longest_piece<'a, R: RandomSource + Threads + Wait + Sync>(
     asked: &Asked<'_>,
 ) -> Result<Piece<'a>, NotAudited>
     requires { 0 < length text.now }
-    ensures { IfOk result (λ piece. IsPieceOf text.now piece) }
+    ensures { IfOk result (λ piece. IsPieceOf asked.now.limits text.now piece) }
 {
     let mut size = reach;
     for _ in 0..MOST_TRIES {
@@ -109,7 +110,7 @@ fn piece_before<'a, R: RandomSource + Threads + Wait + Sync>(
     asked: &Asked<'_>,
 ) -> Result<Piece<'a>, NotAudited>
     requires { 0 < length text.now }
-    ensures { IfOk result (λ piece. IsPieceOf text.now piece) }
+    ensures { IfOk result (λ piece. IsPieceOf asked.now.limits text.now piece) }
 {
     let mut last = line;
     let mut cause = why;
@@ -147,7 +148,7 @@ fn piece_before<'a, R: RandomSource + Threads + Wait + Sync>(
 /// The lines at the front of a text that stand in no stretch, for this cause.
 fn cut_piece<'a>(alloc: Global, text: &'a [u8], cause: CutCause) -> Result<Piece<'a>, NotAudited>
     requires { 0 < length text.now }
-    ensures { IfOk result (λ piece. IsPieceOf text.now piece) }
+    ensures { IfOk result (λ piece. (limits : KnobsView) → IsPieceOf limits text.now piece) }
 {
     if !cause.is_passed() {
         return Err(NotAudited::Refused { line: 1, cause });

@@ -9,8 +9,8 @@ loop-rest-preserved g c =
     let was = c.loop-rest.invariant in
     let some = was.some in
     let taken : is_ok c.push.result ≡ true = c.is_err.ensures.negation ∙ ap not c.if-is_err.false in
-    let told = c.long_enough-told.ensures c.in-Ok.piece.text.now c.in-Ok.ensures.1 in
+    let told = c.long_enough-told.ensures c.args.asked.now.limits c.in-Ok.piece.text.now c.in-Ok.ensures.1 in
     rw (c.push.ensures.items, taken)
-    (grown_more c.args.text.now c.loop-rest.parts.items _ c.loop-rest.rest.now c.in-Ok.piece.rest.now c.loop-rest.number
-    c.line_count-lines.result was c.in-Ok.ensures.0 told refl (omega (arith, some)) c.line_count-lines.ensures.count
-    c.line_count-lines.ensures.within)
+    (grown_more c.args.asked.now.limits c.args.text.now c.loop-rest.parts.items _ c.loop-rest.rest.now
+    c.in-Ok.piece.rest.now c.loop-rest.number c.line_count-lines.result was c.in-Ok.ensures.0 told refl
+    (omega (arith, some)) c.line_count-lines.ensures.count c.line_count-lines.ensures.within)

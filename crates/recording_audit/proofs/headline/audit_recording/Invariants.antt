@@ -4,7 +4,7 @@ use Rattle.recording_audit.proofs.Grown.{IsGrown}
 use Rattle.recording_audit.proofs.headline.audit_recording.Given as goal
 
 abbrev pub invariant-loop-rest : goal.invariant-loop-rest
-invariant-loop-rest g l = IsGrown l.text l.parts.items l.rest l.number
+invariant-loop-rest g l = IsGrown l.asked.limits l.text l.parts.items l.rest l.number
 
 abbrev pub decreases-loop-rest : goal.decreases-loop-rest
 decreases-loop-rest g l = length l.rest

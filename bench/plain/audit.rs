@@ -11,22 +11,26 @@ use crate::limits::MOST_LINE;
 use crate::machine::Machine;
 use crate::settings::{Knobs, Needs};
 use crate::usual::{read_usual_line, Columns, Usual};
+use crate::waits::Waits;
 use std::fs::File;
 
 pub enum Verdict {
     Refused { source: &'static str, line: u64, cause: &'static str },
     Fault(u64, Fault),
-    /// The machine after the last event, the time of that, or the start where there is none, and the version of the
-    /// companion.
-    Run(Machine, u64, u32),
-    /// The needs of all events, and the version of the companion, which says whether the drift is told among them.
-    Least(Needs, u32),
+    /// The machine after the last event, the time of that, or the start where there is none, the version of the
+    /// companion, and how long tasks waited, where that was asked for.
+    Run { machine: Machine, last_time: u64, version: u32, waits: Option<Waits> },
+    /// The needs of all events, the version of the companion, which says whether the drift is told among them, and how
+    /// long tasks waited.
+    Least { needs: Needs, version: u32, waits: Option<Waits> },
 }
 
 /// Both texts as they are gone through, and what was found so far.
 pub struct Audit {
     companion: Companion,
     machine: Machine,
+    /// How long tasks waited up to now, where that is asked for.
+    waits: Option<Waits>,
     /// The claim or change that comes next, or `NO_CLAIM`.
     claim: Claim,
     /// The `idle` lines of births that are still to come, the last first.
@@ -45,7 +49,7 @@ pub struct Audit {
 
 impl Audit {
     /// Reads the companion up to its first claim, change or told charge.
-    pub fn new(companion: File, settings: Knobs) -> Audit {
+    pub fn new(companion: File, settings: Knobs, asks_waits: bool) -> Audit {
         let mut companion = Companion::new(companion);
         let mut machine = Machine::new(settings);
         let (mut start, mut idles, mut claim) = (0, Vec::new(), NO_CLAIM);
@@ -68,12 +72,14 @@ impl Audit {
             }
         }
         machine.begin(start);
+        let waits = asks_waits.then(|| Waits::new(&machine, start));
         idles.reverse();
         let (judging, cpus) = (companion.stop.is_none(), machine.processors.len() as u32);
         let next_idle = idles.last().map_or(NEVER, |idle| idle.line);
         Audit {
             companion,
             machine,
+            waits,
             claim,
             idles,
             next_idle,
@@ -111,6 +117,8 @@ impl Audit {
             if let Err(fault) = self.machine.step(event, claim) {
                 self.fault = Some((line, fault));
                 self.judging = false;
+            } else if let Some(waits) = &mut self.waits {
+                waits.note(&self.machine, event.act, line, event.time);
             }
         }
     }
@@ -251,8 +259,12 @@ impl Audit {
             Audit { late: Some(line), .. } => join(line, "StartLate"),
             Audit { stray: Some(line), .. } => join(line, "ClaimNoEvent"),
             Audit { fault: Some((line, fault)), .. } => Ok(Verdict::Fault(line, fault)),
-            Audit { machine, start, companion, .. } => {
-                Ok(Verdict::Run(machine, last_time.max(start), companion.version))
+            Audit { machine, mut waits, start, companion, .. } => {
+                let last_time = last_time.max(start);
+                if let Some(waits) = &mut waits {
+                    waits.end(last_time);
+                }
+                Ok(Verdict::Run { machine, last_time, version: companion.version, waits })
             }
         }
     }

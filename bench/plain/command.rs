@@ -4,8 +4,8 @@ use crate::amounts::amount_of;
 use crate::settings::Knobs;
 
 pub const USAGE: &str = "\
-Usage: plain [--granularity-ns N] [--credit-ns N] [--debit-ns N] [--slack-ns N] [--drift-ns N] TRACE COMPANION
-       plain --least TRACE COMPANION
+Usage: plain [--granularity-ns N] [--credit-ns N] [--debit-ns N] [--slack-ns N] [--drift-ns N] [--waits] TRACE COMPANION
+       plain --least [--waits] TRACE COMPANION
 ";
 
 pub struct Request {
@@ -14,12 +14,14 @@ pub struct Request {
     pub settings: Knobs,
     /// Whether the least settings are told in place of a run.
     pub least: bool,
+    /// Whether waits are told behind a run or the least settings.
+    pub waits: bool,
 }
 
 /// What the words ask for; None where they make no sense.
 pub fn request_of(mut words: impl Iterator<Item = String>) -> Option<Request> {
     let (mut granularity, mut credit, mut debit, mut slack, mut drift) = (None, None, None, None, None);
-    let (mut files, mut only_files, mut least) = (Vec::new(), false, false);
+    let (mut files, mut only_files, mut least, mut waits) = (Vec::new(), false, false, false);
     while let Some(word) = words.next() {
         if only_files || !word.starts_with('-') || word == "-" {
             files.push(word);
@@ -29,11 +31,16 @@ pub fn request_of(mut words: impl Iterator<Item = String>) -> Option<Request> {
             only_files = true;
             continue;
         }
-        if word == "--least" {
-            if least {
+        let flag = match word.as_str() {
+            "--least" => Some(&mut least),
+            "--waits" => Some(&mut waits),
+            _ => None,
+        };
+        if let Some(flag) = flag {
+            if *flag {
                 return None;
             }
-            least = true;
+            *flag = true;
             continue;
         }
         let (name, value) = match word.split_once('=') {
@@ -67,5 +74,5 @@ pub fn request_of(mut words: impl Iterator<Item = String>) -> Option<Request> {
         slack: slack.unwrap_or(100_000),
         drift: drift.unwrap_or(0),
     };
-    Some(Request { trace, companion, settings: if least { Knobs::GREATEST } else { settings }, least })
+    Some(Request { trace, companion, settings: if least { Knobs::GREATEST } else { settings }, least, waits })
 }

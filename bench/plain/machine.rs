@@ -133,6 +133,11 @@ impl Machine {
         }
     }
 
+    /// The place among the tasks of one that was ever named.
+    pub fn slot_of(&self, pid: u32) -> Option<usize> {
+        (self.slots[pid as usize] as usize).checked_sub(1)
+    }
+
     /// The place of a task that stands at a processor, or `NONE`.
     #[inline(always)]
     fn here(&self, pid: u32, cpu: usize) -> u32 {

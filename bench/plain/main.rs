@@ -7,10 +7,11 @@
 //!
 //!     rustc -O -C codegen-units=1 --edition 2021 -o plain bench/plain/main.rs && ./plain TRACE COMPANION [OPTIONS]
 //!
-//! The options are those of sched_audit without `--help` and `--version`.  For `--least` the events are judged at the
-//! greatest settings, and of each setting the most that an event needed is kept.  A line is first tried by a reader for
-//! the shape that most lines have, and left to one that follows the grammar wherever it has another.  A standard output
-//! that is closed isn't told from one that takes everything, by Rust's own way of starting a program.
+//! The options are the settings, `--least` and `--waits`, as sched_audit has them.  For `--least` the events are judged
+//! at the greatest settings, and of each setting the most that an event needed is kept.  For `--waits` the places of
+//! the tasks that an event names are compared behind each event.  A line is first tried by a reader for the shape that
+//! most lines have, and left to one that follows the grammar wherever it has another.  A standard output that is closed
+//! isn't told from one that takes everything, by Rust's own way of starting a program.
 
 mod amounts;
 mod audit;
@@ -30,6 +31,7 @@ mod report;
 mod settings;
 mod task;
 mod usual;
+mod waits;
 
 use crate::audit::{Audit, Verdict};
 use crate::command::{request_of, USAGE};
@@ -47,10 +49,11 @@ fn main() {
     };
     let trace = File::open(request.trace).unwrap_or_else(|_| Failure::ReadTrace.end());
     let companion = File::open(request.companion).unwrap_or_else(|_| Failure::ReadCompanion.end());
-    let verdict = Audit::new(companion, request.settings).judge(trace).unwrap_or_else(|failure| failure.end());
+    let audit = Audit::new(companion, request.settings, request.waits);
+    let verdict = audit.judge(trace).unwrap_or_else(|failure| failure.end());
     let verdict = match verdict {
-        Verdict::Run(machine, last_time, version) if request.least => {
-            Verdict::Least(machine.needs_until(last_time), version)
+        Verdict::Run { machine, last_time, version, waits } if request.least => {
+            Verdict::Least { needs: machine.needs_until(last_time), version, waits }
         }
         verdict => verdict,
     };

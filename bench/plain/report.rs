@@ -4,6 +4,7 @@ use crate::audit::Verdict;
 use crate::faults::Fault;
 use crate::machine::Machine;
 use crate::settings::{Need, Place};
+use crate::waits::{Moment, Wait, Waits};
 use std::io::{self, Write};
 
 /// Standard output, written in blocks.
@@ -50,6 +51,43 @@ impl Report {
         write!(self.text, " line {line} time {seconds}.{nanoseconds:09} cpu {cpu} pid {pid}")
     }
 
+    /// How long tasks waited, where that was asked for.
+    fn put_waits(&mut self, waits: Option<Waits>) -> io::Result<()> {
+        let Some(waits) = waits else { return Ok(()) };
+        match waits.longest() {
+            Some((pid, wait)) => {
+                write!(self.text, "\nlongest wait pid {pid} waited ")?;
+                self.put_wait(wait)?;
+            }
+            None => self.text.extend_from_slice(b"\nlongest wait none"),
+        }
+        for task in &waits.tasks {
+            self.put(b"\nwaits ", task.pid as u128)?;
+            self.put(b" times ", task.times as u128)?;
+            self.put(b" total ", task.total as u128)?;
+            if let Some(longest) = task.longest {
+                self.text.extend_from_slice(b" longest ");
+                self.put_wait(longest)?;
+            }
+        }
+        Ok(())
+    }
+
+    /// A wait's length, and where it began and ended.
+    fn put_wait(&mut self, wait: Wait) -> io::Result<()> {
+        write!(self.text, "{} from ", wait.length())?;
+        self.put_moment(wait.begun, "start")?;
+        self.text.extend_from_slice(b" to ");
+        self.put_moment(wait.ended, "end")
+    }
+
+    fn put_moment(&mut self, moment: Moment, outside: &str) -> io::Result<()> {
+        match moment.line {
+            Some(line) => write!(self.text, "line {line}"),
+            None => write!(self.text, "{outside}"),
+        }
+    }
+
     fn write(&mut self) -> io::Result<()> {
         io::stdout().write_all(&self.text)?;
         self.text.clear();
@@ -80,7 +118,7 @@ pub fn report(verdict: Verdict) -> io::Result<i32> {
             write!(report.text, "fault line {line} cpu {cpu} pid {pid} {}", kind.words())?;
             1
         }
-        Verdict::Run(Machine { counts, tasks, .. }, ..) => {
+        Verdict::Run { machine: Machine { counts, tasks, .. }, waits, .. } => {
             report.put(b"run\nevents ", counts.events as u128)?;
             report.put(b"\nswitches ", counts.switches as u128)?;
             report.put(b"\nmigrations ", counts.migrations as u128)?;
@@ -92,9 +130,10 @@ pub fn report(verdict: Verdict) -> io::Result<i32> {
                 report.put(b" charged ", task.charged)?;
                 report.put(b" picks ", task.picks as u128)?;
             }
+            report.put_waits(waits)?;
             0
         }
-        Verdict::Least(least, version) => {
+        Verdict::Least { needs: least, version, waits } => {
             report.put_need(b"least granularity-ns ", least.granularity)?;
             report.put_need(b"\nleast credit-ns ", least.credit)?;
             report.put_need(b"\nleast debit-ns ", least.debit)?;
@@ -102,6 +141,7 @@ pub fn report(verdict: Verdict) -> io::Result<i32> {
             if version >= 3 {
                 report.put_need(b"\nleast drift-ns ", least.drift)?;
             }
+            report.put_waits(waits)?;
             0
         }
     };

@@ -1,5 +1,5 @@
 -- What is wrong with a text at limits, and when nothing is.
-use Rattle.std.proofs.Common.{◌≡◌, ℕ, ◌≤◌, List, None, absurd}
+use Rattle.std.proofs.Common.{◌≡◌, ℕ, ◌≤◌, List, None}
 use Rattle.std.specs.List.{AllByRecursion}
 use Rattle.cfs_model.specs.Knobs.{KnobsView, all_settings, value_at}
 use Rattle.cfs_model.specs.Laws.{RunFromLeast}

@@ -1,3 +1,4 @@
+use Rattle.std.proofs.Common.{rules}
 use Rattle.recording_audit.proofs.Within.{over_refused, over_within}
 use Rattle.recording_audit.proofs.limits.fault_over.Goals as goal
 
@@ -12,4 +13,4 @@ pub returns : goal.returns
 returns g c =
     over_refused c.one_least_outcome.ensures c.args.text.now c.args.companion.now c.args.least c.args.limits
     c.requires.0 c.requires.1 c.in-Err-Text.field-0-0 c.in-Err-Text.field-0-1 c.in-Err-Text.field-0-2
-    c.in-Err-Text.ensures.answer
+    (search rules)

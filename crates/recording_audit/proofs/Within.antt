@@ -1,11 +1,10 @@
 -- What is wrong with a text at limits, and when nothing is.
-use Rattle.std.proofs.Common.{◌≡◌, ℕ, ◌≤◌, List, None, absurd}
+use Rattle.std.proofs.Common.{◌≡◌, ℕ, ◌≤◌, List, None}
 use Rattle.std.specs.List.{AllByRecursion}
 use Rattle.cfs_model.specs.Knobs.{KnobsView, all_settings, value_at}
 use Rattle.cfs_model.specs.Laws.{RunFromLeast}
 use Rattle.cfs_model.specs.Least.{AtMost}
 use Rattle.cfs_model.specs.Start.{start_machine}
-use Rattle.cfs_model.specs.declared.setting.Setting.{Setting}
 use Rattle.cfs_model.specs.declared.setting.Setting.TheVariants.{Granularity, Credit, Debit, Slack, Drift}
 use Rattle.audit_input.specs.Texts.{IsRefused}
 use Rattle.audit_input.specs.declared.cause.Cause.{Cause}

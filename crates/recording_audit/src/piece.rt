@@ -148,7 +148,7 @@ fn piece_before<'a, R: RandomSource + Threads + Wait + Sync>(
 /// The lines at the front of a text that stand in no stretch, for this cause.
 fn cut_piece<'a>(alloc: Global, text: &'a [u8], cause: CutCause) -> Result<Piece<'a>, NotAudited>
     requires { 0 < length text.now }
-    ensures { IfOk result (λ piece. (limits : KnobsView) → IsPieceOf limits text.now piece) }
+    ensures { (limits : KnobsView) → IfOk result (λ piece. IsPieceOf limits text.now piece) }
 {
     if !cause.is_passed() {
         return Err(NotAudited::Refused { line: 1, cause });

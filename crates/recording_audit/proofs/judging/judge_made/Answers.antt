@@ -10,4 +10,5 @@ returns-in-Ok-Found g c = record {
   places = c.in-Ok-Found.field-0-1;
   least = search rules;
   tells = search rules;
+  over = search rules;
 }

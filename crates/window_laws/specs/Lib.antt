@@ -1,0 +1,9 @@
+pub mod Kept
+pub mod AnyLists
+pub mod SoFar
+pub mod InWindow
+pub mod Beginnings
+pub mod Windows
+pub mod WindowEnds
+pub mod ClaimedParts
+pub mod NeedsOfParts

@@ -25,7 +25,7 @@ same_lists page l m c d b e x y h i j k =
     ∙ ap (λ z. with_lists page m d e z) k
 
 -- what a step notes
-noted_behind : (earlier page : PageView) (part found : Part) (step : Step)
+pub noted_behind : (earlier page : PageView) (part found : Part) (step : Step)
     → page_behind earlier (noted page part found step) ≡ noted (page_behind earlier page) part found step
 noted_behind earlier page part found step =
     same_lists (noted page part found step)
@@ -40,7 +40,7 @@ noted_behind earlier page part found step =
     (sym (append_assoc earlier.births page.births (births_of step.line step.deed)))
     (sym (append_assoc earlier.deaths page.deaths (deaths_of step.line step.deed)))
 
-pub passes_behind : (knobs : KnobsView) (cpu : ℕ) (earlier : PageView) (before : ReplayStateView) (step : Step)
+passes_behind : (knobs : KnobsView) (cpu : ℕ) (earlier : PageView) (before : ReplayStateView) (step : Step)
     (after : ReplayStateView) → PassesStep knobs cpu before step after
     → PassesStep knobs cpu (state_behind earlier before) step (state_behind earlier after)
 passes_behind knobs cpu earlier before step after p = record {

@@ -346,6 +346,7 @@ module _ (knobs : KnobsView) (start : ℕ) (floors : List ℤ) (tasks : List Tas
   -- behind a window against which nothing is said each replay passes
   passes : SayNothing whole_page cpus tasks (before ++ window) → (cpu : ℕ) → cpu < cpus
       → PassesCut knobs start floors tasks (before ++ window) cpu (whole_end cpu)
+  unfolding suffice
   passes w cpu k =
       let done = silent_done knobs start floors tasks (before ++ window) cpus whole_page r suffice w cpu k in
       let all : length (steps_at cpu (before ++ window)) ≤ all_made cpu k = done.1 in
@@ -409,8 +410,13 @@ module _ (knobs : KnobsView) (start : ℕ) (floors : List ℤ) (tasks : List Tas
 
   cause_of : (event : Claimed) (cause : FaultCause) (roll : ℕ → Bool) → edge_line < event.entry.line → Within event
       → IsCauseOf pages cpus roll event cause → IsCauseOf whole_page cpus roll event cause
-  cause_of event cause roll past within (inl c) = inl (record
-  { within = c.within; idles = c.idles; lowest = c.lowest; pid = c.pid; kind = c.kind })
+  cause_of event cause roll past within (inl c) = inl (record {
+    within = c.within;
+    idles = c.idles;
+    lowest = c.lowest;
+    pid = c.pid;
+    kind = c.kind;
+  })
   cause_of event cause roll past within (inr c) =
       inr (c.0, act_cause event cause roll event.entry.act past within c.1)
 

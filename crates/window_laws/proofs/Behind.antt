@@ -1,12 +1,12 @@
 -- A replay goes the same way whatever lists stand before its page's: no test looks at them, and a step adds to their
 -- ends.
-use Rattle.std.proofs.Common.{◌≡◌, ℕ, Option, Some, None, inl, inr, List, [], ◌∷◌, ◌++◌, append_assoc, refl, sym, ap, ◌∙◌, subst}
+use Rattle.std.proofs.Common.{◌≡◌, ℕ, Option, Some, None, inl, inr, List, [], ◌∷◌, ◌++◌, append_assoc, sym, ap, ◌∙◌, subst}
 use Rattle.std.proofs.lemmas.List.{append-nil}
 use Rattle.cfs_model.specs.Knobs.{KnobsView}
 use Rattle.replay_model.specs.Part.{Part}
 use Rattle.replay_model.specs.Noted.{PageView, births_of, deaths_of, left_by, came_by, noted}
 use Rattle.replay_model.specs.Page.{ReplayStateView, PassesStep, FailsStep, IsReplayStep, IsReplay}
-use Rattle.window_laws.specs.Kept.{emptied, kept_of, page_behind, state_behind}
+use Rattle.window_laws.specs.Kept.{kept_of, page_behind, state_behind}
 use Rattle.window_laws.specs.AnyLists.{ReplayBehind, ReplayFromKept}
 use Rattle.replay_model.specs.declared.page.LifeEvent.{LifeEvent}
 use Rattle.replay_model.specs.declared.page.StepFault.{StepFault}

@@ -1,14 +1,13 @@
 -- The events of two parts, each with what the companion says on its line: what is said on a line of one part isn't
 -- among what is said in the other, and the policies before an event of the second are those through the first, and on.
-use Rattle.std.proofs.Common.{◌≡◌, ℕ, ◌<◌, ◌≤◌, nat_eq, nat_lt, Bool, true, false, cond, Option, Some, None, List, []}
-use Rattle.std.proofs.Common.{◌∷◌, ◌++◌, map, find, refl, sym, ap, ◌∙◌, arith}
+use Rattle.std.proofs.Common.{◌≡◌, ℕ, ◌<◌, ◌≤◌, nat_eq, nat_lt, cond, Option, Some, None, List, []}
+use Rattle.std.proofs.Common.{◌∷◌, ◌++◌, map, find, refl, ap, ◌∙◌, arith}
 use Rattle.std.proofs.lemmas.Bool.{ne_eqb, lt-ltb, le-ltb}
 use Rattle.std.proofs.lemmas.List.{map-append}
 use Rattle.std.specs.List.{AllByRecursion}
 use Rattle.cfs_model.specs.Claimed.{Claimed, claim_at, nice_at, charge_at, policies_after, policies_before, policy_told}
-use Rattle.cfs_model.specs.Claimed.{policy_in, with_claim, claimed}
+use Rattle.cfs_model.specs.Claimed.{policy_in, with_claim}
 use Rattle.window_laws.specs.ClaimedParts.{policies_through, PartView, claimed_part, both_parts, HasLines, ClaimedInParts}
-use Rattle.window_laws.proofs.Appended.{all_map}
 use Rattle.cfs_model.specs.declared.act.Act.{Act}
 use Rattle.cfs_model.specs.declared.act.Act.TheVariants.{Switch, Wake, Born, Shift}
 use Rattle.cfs_model.specs.declared.act.Entry.{Entry}

@@ -1,14 +1,14 @@
 -- What holds behind the last window: the pages of the replays so far are by all steps and have no fault, so that they
 -- suffice and say nothing; and what is kept of them has their tallies.
-use Rattle.std.proofs.Common.{◌≡◌, ℕ, zero, suc, ◌+◌, ◌<◌, ◌≤◌, nat_lt, nat_le, Bool, true, false, cond, Option, Some, None}
-use Rattle.std.proofs.Common.{ℤ, inl, inr, List, [], ◌∷◌, ◌++◌, length, take, refl, sym, ap, ◌∙◌, subst, arith}
+use Rattle.std.proofs.Common.{◌≡◌, ℕ, zero, suc, ◌+◌, ◌<◌, nat_lt, Bool, true, false, cond, Option, Some, None}
+use Rattle.std.proofs.Common.{ℤ, inl, inr, List, [], ◌∷◌, ◌++◌, length, refl, sym, ap, ◌∙◌, subst, arith}
 use Rattle.std.proofs.lemmas.Bool.{le-leb, ltb-true}
 use Rattle.std.proofs.Math.Seq.{take-length}
 use Rattle.cfs_model.specs.Knobs.{KnobsView}
 use Rattle.cfs_model.specs.Start.{start_machine}
 use Rattle.cfs_model.specs.Claimed.{Claimed}
 use Rattle.replay_model.specs.QueueTests.{IsIdleTooLong}
-use Rattle.replay_model.specs.Cut.{StreamView, steps_at, cut, last_time_of}
+use Rattle.replay_model.specs.Cut.{StreamView, steps_at, cut}
 use Rattle.replay_model.specs.Noted.{PageView}
 use Rattle.replay_model.specs.Page.{ReplayStateView, IsReplay, end_page}
 use Rattle.replay_model.specs.Summary.{IsSummary}
@@ -22,7 +22,6 @@ use Rattle.replay_laws.proofs.composing.CutReplays.{late_fault}
 use Rattle.window_laws.specs.WindowEnds.{SoFarIsRun, SoFarTellsSummary}
 use Rattle.cfs_model.specs.declared.task.Task.{Task}
 use Rattle.replay_model.specs.declared.page.StepFault.{StepFault}
-use Rattle.replay_model.specs.declared.page.Tally.{Tally}
 
 pub so_far_is_run : SoFarIsRun
 so_far_is_run knobs start floors tasks events cpus kept alive r s =

@@ -1,5 +1,5 @@
 -- Steps in two parts need the larger of what each needs.
-use Rattle.std.proofs.Common.{◌≡◌, ℕ, List, [], ◌∷◌, ◌++◌, refl, sym, ap, ◌∙◌, subst}
+use Rattle.std.proofs.Common.{◌≡◌, ℕ, List, [], ◌∷◌, ◌++◌, sym, ap, ◌∙◌, subst}
 use Rattle.std.proofs.Math.Nat.{zero-max}
 use Rattle.cfs_model.specs.Knobs.{KnobsView, value_at}
 use Rattle.cfs_model.specs.Least.{larger}

@@ -28,7 +28,8 @@ pub fn beginnings()
 /// with it are a run so far; and the first thing that they say against one is what is wrong with it, and it is the
 /// first event up to which the events are no run, whatever comes behind it.
 ///
-/// Carried by InPrefix, WholePages, NotDue, LineTickets, Appended, Behind; then the law `closing` of `replay_laws`.
+/// Carried by InPrefix, NotDue, LineTickets, Appended, Behind (*passes*, *fault*), then the law `closing` of
+/// `replay_laws`; and by Stays (*stays*).
 pub fn windows()
     ensures passes { WindowPasses }
     ensures fault { WindowTellsFault }

@@ -1,5 +1,6 @@
 -- Lists of events in two parts: their steps, times, lines, births and roll.
-use Rattle.std.proofs.Common.{◌≡◌, ℕ, ◌<◌, ◌≤◌, Bool, true, false, cond, List, [], ◌∷◌, ◌++◌, map, filter, take, zero, suc}
+use Rattle.std.proofs.Common.{◌≡◌, ℕ, ◌<◌, ◌≤◌, Bool, true, false, cond, List, [], ◌∷◌, ◌++◌, map, filter, take, zero}
+use Rattle.std.proofs.Common.{suc}
 use Rattle.std.proofs.Common.{refl, ap, arith}
 use Rattle.std.specs.List.{AllByRecursion}
 use Rattle.cfs_model.specs.Claimed.{Claimed}

@@ -1,6 +1,7 @@
 -- A replay goes the same way whatever lists stand before its page's: no test looks at them, and a step adds to their
 -- ends.
-use Rattle.std.proofs.Common.{◌≡◌, ℕ, Option, Some, None, inl, inr, List, [], ◌∷◌, ◌++◌, append_assoc, sym, ap, ◌∙◌, subst}
+use Rattle.std.proofs.Common.{◌≡◌, ℕ, Option, Some, None, inl, inr, List, [], ◌∷◌, ◌++◌, append_assoc, sym, ap, ◌∙◌}
+use Rattle.std.proofs.Common.{subst}
 use Rattle.std.proofs.lemmas.List.{append-nil}
 use Rattle.cfs_model.specs.Knobs.{KnobsView}
 use Rattle.replay_model.specs.Part.{Part}
@@ -29,8 +30,10 @@ pub noted_behind : (earlier page : PageView) (part found : Part) (step : Step)
     → page_behind earlier (noted page part found step) ≡ noted (page_behind earlier page) part found step
 noted_behind earlier page part found step =
     same_lists (noted page part found step)
-    (earlier.left ++ (page.left ++ left_by found step step.deed)) ((earlier.left ++ page.left) ++ left_by found step step.deed)
-    (earlier.came ++ (page.came ++ came_by found step step.deed)) ((earlier.came ++ page.came) ++ came_by found step step.deed)
+    (earlier.left ++ (page.left ++ left_by found step step.deed))
+    ((earlier.left ++ page.left) ++ left_by found step step.deed)
+    (earlier.came ++ (page.came ++ came_by found step step.deed))
+    ((earlier.came ++ page.came) ++ came_by found step step.deed)
     (earlier.births ++ (page.births ++ births_of step.line step.deed))
     ((earlier.births ++ page.births) ++ births_of step.line step.deed)
     (earlier.deaths ++ (page.deaths ++ deaths_of step.line step.deed))

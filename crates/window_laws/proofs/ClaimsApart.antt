@@ -7,7 +7,8 @@ use Rattle.std.proofs.lemmas.List.{map-append}
 use Rattle.std.specs.List.{AllByRecursion}
 use Rattle.cfs_model.specs.Claimed.{Claimed, claim_at, nice_at, charge_at, policies_after, policies_before, policy_told}
 use Rattle.cfs_model.specs.Claimed.{policy_in, with_claim}
-use Rattle.window_laws.specs.ClaimedParts.{policies_through, PartView, claimed_part, both_parts, HasLines, ClaimedInParts}
+use Rattle.window_laws.specs.ClaimedParts.{policies_through, PartView, claimed_part, both_parts, HasLines}
+use Rattle.window_laws.specs.ClaimedParts.{ClaimedInParts}
 use Rattle.cfs_model.specs.declared.act.Act.{Act}
 use Rattle.cfs_model.specs.declared.act.Act.TheVariants.{Switch, Wake, Born, Shift}
 use Rattle.cfs_model.specs.declared.act.Entry.{Entry}
@@ -138,7 +139,8 @@ module _ (idles : List IdleLine) (policies : ℕ → Policy) (first second : Par
       (policies_before idles through second.entries) entry.line entry.act
       (before_second idles policies first.entries second.entries entry.line edge low.entries k))
 
-  pub in_both : claimed_part idles policies both ≡ claimed_part idles policies first ++ claimed_part idles through second
+  pub in_both : claimed_part idles policies both
+      ≡ claimed_part idles policies first ++ claimed_part idles through second
   in_both =
       map-append of_both first.entries second.entries
       ∙ ap (λ xs. xs ++ map of_both second.entries)

@@ -1,7 +1,8 @@
 -- A window's pages, with the lists of the replays so far before their own, are pages of the events with it: they
 -- suffice among each other, and say of the window's events what the window's pages say. So the law `closing` of
 -- `replay_laws` serves.
-use Rattle.std.proofs.Common.{◌≡◌, ℕ, ◌+◌, ◌<◌, ◌≤◌, nat_lt, nat_le, Bool, true, false, cond, Option, Some, None, ℤ, inl}
+use Rattle.std.proofs.Common.{◌≡◌, ℕ, ◌+◌, ◌<◌, ◌≤◌, nat_lt, nat_le, Bool, true, false, cond, Option, Some, None, ℤ}
+use Rattle.std.proofs.Common.{inl}
 use Rattle.std.proofs.Common.{inr, List, [], ◌∷◌, ◌++◌, length, take, append_assoc, refl, sym, ap, ◌∙◌, subst, arith}
 use Rattle.std.proofs.lemmas.Bool.{cases_lt, le-leb, leb-true, leb-false, lt-leb, lt-ltb}
 use Rattle.std.proofs.lemmas.List.{take_all, append-nil, length-append}
@@ -22,7 +23,8 @@ use Rattle.replay_model.specs.Roll.{BirthsAreNew, named, roll_of}
 use Rattle.replay_model.specs.Tickets.{ticket_at, TicketsAgree}
 use Rattle.replay_laws.specs.CutReplay.{PassesCut}
 use Rattle.replay_laws.specs.Sufficing.{HasFaultBy, SufficesAmong}
-use Rattle.replay_laws.specs.Telling.{IdlesBefore, FailsHere, ComesAfter, IsPageCause, IsActCauseOf, IsCauseOf, SayNothing}
+use Rattle.replay_laws.specs.Telling.{IdlesBefore, FailsHere, ComesAfter, IsPageCause, IsActCauseOf, IsCauseOf}
+use Rattle.replay_laws.specs.Telling.{SayNothing}
 use Rattle.replay_model.proofs.Options.{no_some, some_no, same_some}
 use Rattle.replay_model.proofs.Replayed.{IsReplay-append}
 use Rattle.replay_model.proofs.TicketLines.{left_of, came_of, left_tickets, came_tickets, more_tickets, ticket_kept}
@@ -202,11 +204,13 @@ module _ (knobs : KnobsView) (start : ℕ) (floors : List ℤ) (tasks : List Tas
     }
 
     -- the events before the window are up to its edge, and the window's are behind it
-    so_far : AllByRecursion (λ (event : Claimed). (event.entry.line ≤ edge_line) × (event.entry.time ≤ edge_time)) before
+    so_far : AllByRecursion (λ (event : Claimed). (event.entry.line ≤ edge_line) × (event.entry.time ≤ edge_time))
+        before
     so_far = up_to no_line start before (lines_before no_line before window r.lines_rise)
         (times_before start before window r.times_rise)
 
-    behind : AllByRecursion (λ (event : Claimed). (edge_line < event.entry.line) × (edge_time ≤ event.entry.time)) window
+    behind : AllByRecursion (λ (event : Claimed). (edge_line < event.entry.line) × (edge_time ≤ event.entry.time))
+        window
     behind = above edge_line edge_time edge_line edge_time window (omega arith) (omega arith)
         (lines_behind no_line before window r.lines_rise) (times_behind start before window r.times_rise)
 

@@ -1,5 +1,6 @@
 //! The laws of windows: what is said of a record whose events come in stretches, each replayed from what was kept of
-//! those before it. Each is the contract of a function that does nothing, and names the files of `proofs` that carry it.
+//! those before it. Each law is the contract of a function that does nothing. It names the files of `proofs` that carry
+//! it, the topmost first.
 #![tactic(auto)]
 
 ghost use Rattle.window_laws.specs.AnyLists.{ReplayBehind, ReplayFromKept};

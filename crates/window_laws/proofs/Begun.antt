@@ -1,10 +1,10 @@
 -- Before the first step no replay has a fault, and none is late at the start's time.
-use Rattle.std.proofs.Common.{◌≡◌, ℕ, ◌+◌, ◌<◌, Option, Some, None, ℤ, List, [], refl, sym, ap, ◌∙◌, subst, arith}
+use Rattle.std.proofs.Common.{◌≡◌, ℕ, ◌+◌, ◌<◌, Option, Some, None, ℤ, List, [], refl, sym, ap, ◌∙◌, arith}
 use Rattle.cfs_model.specs.Knobs.{KnobsView}
 use Rattle.replay_model.specs.Cut.{cut}
 use Rattle.replay_model.specs.QueueTests.{IsIdleTooLong}
 use Rattle.replay_model.specs.Noted.{PageView}
-use Rattle.replay_model.specs.Page.{ReplayStateView, IsStartOf, start_page}
+use Rattle.replay_model.specs.Page.{ReplayStateView, IsStartOf}
 use Rattle.replay_laws.specs.CutReplay.{PassesCut}
 use Rattle.replay_laws.proofs.following.FollowLaws.{starts_at}
 use Rattle.window_laws.specs.Kept.{kept_of}

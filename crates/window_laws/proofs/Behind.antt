@@ -1,12 +1,13 @@
 -- A replay goes the same way whatever lists stand before its page's: no test looks at them, and a step adds to their
 -- ends.
-use Rattle.std.proofs.Common.{◌≡◌, ℕ, Option, Some, None, inl, inr, List, [], ◌∷◌, ◌++◌, append_assoc, refl, sym, ap, ◌∙◌, subst}
+use Rattle.std.proofs.Common.{◌≡◌, ℕ, Option, Some, None, inl, inr, List, [], ◌∷◌, ◌++◌, append_assoc, sym, ap, ◌∙◌}
+use Rattle.std.proofs.Common.{subst}
 use Rattle.std.proofs.lemmas.List.{append-nil}
 use Rattle.cfs_model.specs.Knobs.{KnobsView}
 use Rattle.replay_model.specs.Part.{Part}
 use Rattle.replay_model.specs.Noted.{PageView, births_of, deaths_of, left_by, came_by, noted}
 use Rattle.replay_model.specs.Page.{ReplayStateView, PassesStep, FailsStep, IsReplayStep, IsReplay}
-use Rattle.window_laws.specs.Kept.{emptied, kept_of, page_behind, state_behind}
+use Rattle.window_laws.specs.Kept.{kept_of, page_behind, state_behind}
 use Rattle.window_laws.specs.AnyLists.{ReplayBehind, ReplayFromKept}
 use Rattle.replay_model.specs.declared.page.LifeEvent.{LifeEvent}
 use Rattle.replay_model.specs.declared.page.StepFault.{StepFault}
@@ -25,12 +26,14 @@ same_lists page l m c d b e x y h i j k =
     ∙ ap (λ z. with_lists page m d e z) k
 
 -- what a step notes
-noted_behind : (earlier page : PageView) (part found : Part) (step : Step)
+pub noted_behind : (earlier page : PageView) (part found : Part) (step : Step)
     → page_behind earlier (noted page part found step) ≡ noted (page_behind earlier page) part found step
 noted_behind earlier page part found step =
     same_lists (noted page part found step)
-    (earlier.left ++ (page.left ++ left_by found step step.deed)) ((earlier.left ++ page.left) ++ left_by found step step.deed)
-    (earlier.came ++ (page.came ++ came_by found step step.deed)) ((earlier.came ++ page.came) ++ came_by found step step.deed)
+    (earlier.left ++ (page.left ++ left_by found step step.deed))
+    ((earlier.left ++ page.left) ++ left_by found step step.deed)
+    (earlier.came ++ (page.came ++ came_by found step step.deed))
+    ((earlier.came ++ page.came) ++ came_by found step step.deed)
     (earlier.births ++ (page.births ++ births_of step.line step.deed))
     ((earlier.births ++ page.births) ++ births_of step.line step.deed)
     (earlier.deaths ++ (page.deaths ++ deaths_of step.line step.deed))
@@ -40,7 +43,7 @@ noted_behind earlier page part found step =
     (sym (append_assoc earlier.births page.births (births_of step.line step.deed)))
     (sym (append_assoc earlier.deaths page.deaths (deaths_of step.line step.deed)))
 
-pub passes_behind : (knobs : KnobsView) (cpu : ℕ) (earlier : PageView) (before : ReplayStateView) (step : Step)
+passes_behind : (knobs : KnobsView) (cpu : ℕ) (earlier : PageView) (before : ReplayStateView) (step : Step)
     (after : ReplayStateView) → PassesStep knobs cpu before step after
     → PassesStep knobs cpu (state_behind earlier before) step (state_behind earlier after)
 passes_behind knobs cpu earlier before step after p = record {

@@ -1,2 +1,10 @@
 pub mod Behind
 pub mod Begun
+pub mod Appended
+pub mod NotDue
+pub mod LineTickets
+pub mod NeedsAppended
+pub mod InPrefix
+pub mod Stays
+pub mod ClaimsApart
+pub mod Ended

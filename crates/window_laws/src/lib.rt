@@ -1,5 +1,6 @@
 //! The laws of windows: what is said of a record whose events come in stretches, each replayed from what was kept of
-//! those before it. Each is the contract of a function that does nothing, and names the files of `proofs` that carry it.
+//! those before it. Each law is the contract of a function that does nothing. It names the files of `proofs` that carry
+//! it, the topmost first.
 #![tactic(auto)]
 
 ghost use Rattle.window_laws.specs.AnyLists.{ReplayBehind, ReplayFromKept};
@@ -28,7 +29,8 @@ pub fn beginnings()
 /// with it are a run so far; and the first thing that they say against one is what is wrong with it, and it is the
 /// first event up to which the events are no run, whatever comes behind it.
 ///
-/// Carried by InPrefix, WholePages, NotDue, LineTickets, Appended, Behind; then the law `closing` of `replay_laws`.
+/// Carried by InPrefix, NotDue, LineTickets, Appended, Behind (*passes*, *fault*), then the law `closing` of
+/// `replay_laws`; and by Stays (*stays*).
 pub fn windows()
     ensures passes { WindowPasses }
     ensures fault { WindowTellsFault }

@@ -175,7 +175,7 @@ impl Machine {
     fn note_slack(&mut self, cpu: usize, figure: u64) {
         let (time, line) = self.now;
         let need = &mut self.needs.slack;
-        need.raise(figure, At { line, time, cpu: cpu as u32, pid: 0 });
+        need.raise(figure, At { line, time, cpu: cpu as u32, pid: 0, over: None });
         if need.figure == figure && need.place.line == line {
             need.place.cpu = need.place.cpu.min(cpu as u32);
         }
@@ -184,7 +184,7 @@ impl Machine {
     /// Where the event that is judged needs something, at a processor with a task.
     #[inline(always)]
     fn at(&self, time: u64, cpu: usize, pid: u32) -> At {
-        At { line: self.line, time, cpu: cpu as u32, pid }
+        At { line: self.line, time, cpu: cpu as u32, pid, over: None }
     }
 
     /// What the events needed, the last of them at this time, behind which nobody idles any longer.
@@ -233,7 +233,7 @@ impl Machine {
                     Some(drift) => (task.v, task.drift) = (told.v, drift),
                     None => return wrong(cpu, told.pid, Kind::WrongCharge),
                 }
-                let place = At { line, time, cpu: cpu as u32, pid: task.pid };
+                let place = At { line, time, cpu: cpu as u32, pid: task.pid, over: None };
                 self.needs.drift.raise(task.drift.unsigned_abs(), place);
             }
             // In 64 bits without a sign, since it is up to 2^63.
@@ -304,6 +304,14 @@ impl Machine {
     fn is_alive(tasks: &[Task], entry: &Waiting) -> bool {
         let task = &tasks[entry.slot as usize];
         task.stamp == entry.stamp && task.place == Place::Wait
+    }
+
+    /// The least pid of those who wait at a processor with this virtual runtime, and of one who is put back with it.
+    #[cold]
+    fn first_waiting(&self, cpu: usize, v: i64, put_back: Option<u32>) -> Option<u32> {
+        let heap = self.processors[cpu].heap.iter();
+        let waiting = heap.filter(|entry| entry.v == v && Machine::is_alive(&self.tasks, entry));
+        waiting.map(|entry| self.tasks[entry.slot as usize].pid).chain(put_back).min()
     }
 
     /// Takes dead entries off the top of a heap.
@@ -404,12 +412,18 @@ impl Machine {
                 return wrong(cpu, next, Kind::NextNotWaiting);
             }
             let least = processor.least().min(put_back);
-            let at = At { line: self.line, time, cpu: cpu as u32, pid: next };
-            let task = &mut self.tasks[chosen as usize];
-            if task.v > least + self.settings.granularity as i64 {
+            let v = self.tasks[chosen as usize].v;
+            if v > least + self.settings.granularity as i64 {
                 return wrong(cpu, next, Kind::NotLeast);
             }
-            self.needs.granularity.raise((task.v - least) as u64, at);
+            let figure = (v - least) as u64;
+            if figure > self.needs.granularity.figure {
+                let over = self.first_waiting(cpu, least, (put_back == least).then_some(prev));
+                let at = At { over, ..self.at(time, cpu, next) };
+                self.needs.granularity.raise(figure, at);
+            }
+            let processor = &mut self.processors[cpu];
+            let task = &mut self.tasks[chosen as usize];
             task.place = Place::Run;
             task.picks += 1;
             if !stays {

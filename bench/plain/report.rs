@@ -42,13 +42,17 @@ impl Report {
 
     /// A key, what is needed of a setting, and where, if anything is.
     fn put_need<const LENGTH: usize>(&mut self, key: &[u8; LENGTH], need: Need) -> io::Result<()> {
-        let Need { figure, place: Place { line, time, cpu, pid } } = need;
+        let Need { figure, place: Place { line, time, cpu, pid, over } } = need;
         self.put(key, figure as u128)?;
         if figure == 0 {
             return Ok(());
         }
         let (seconds, nanoseconds) = (time / 1_000_000_000, time % 1_000_000_000);
-        write!(self.text, " line {line} time {seconds}.{nanoseconds:09} cpu {cpu} pid {pid}")
+        write!(self.text, " line {line} time {seconds}.{nanoseconds:09} cpu {cpu} pid {pid}")?;
+        match over {
+            Some(over) => write!(self.text, " over {over}"),
+            None => Ok(()),
+        }
     }
 
     /// How long tasks waited, where that was asked for.

@@ -28,13 +28,14 @@ pub struct Need {
     pub place: Place,
 }
 
-/// An event, by its line and its time, with a processor and a task.
+/// An event, by its line and its time, with a processor and a task; at a pick with the least of those who waited too.
 #[derive(Clone, Copy, Default)]
 pub struct Place {
     pub line: u64,
     pub time: u64,
     pub cpu: u32,
     pub pid: u32,
+    pub over: Option<u32>,
 }
 
 impl Need {

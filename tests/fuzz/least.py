@@ -3,10 +3,12 @@ known beforehand, and against the program's own verdicts at these settings and o
 
 import re
 
-from lib.words import MOST_SETTING, ONE_BELOW, OPTIONS, PLACE, options_of, without_places
+from lib.words import MOST_SETTING, ONE_BELOW, OPTIONS, OVER, PLACE, options_of, without_places
 
 LEAST = "--least"
-LINES = [rb"least %s (?:0|([1-9]\d*)%s)\n" % (option[2:].encode(), PLACE) for option in OPTIONS]
+# Only that of the granularity, the first, names who was passed over; each other has an empty group there.
+LINES = [rb"least %s (?:0|([1-9]\d*)%s)\n" % (option[2:].encode(), PLACE + (rb"()" if number else OVER))
+         for number, option in enumerate(OPTIONS)]
 # One line for each setting; for the last one, the drift, only of a companion that could tell charges.
 TOLD = re.compile(rb"%s(?:%s)?" % (rb"".join(LINES[:-1]), LINES[-1]))
 
@@ -19,7 +21,7 @@ def is_asked(number):
 def places_of(told):
     """Of each least setting that is told the figure, and the line, the processor and the task of its place."""
     parts = [part.decode() if part else None for part in told.groups()]
-    for figure, line, _, cpu, pid in zip(*[iter(parts)] * 5):
+    for figure, line, _, cpu, pid, _ in zip(*[iter(parts)] * 6):
         yield int(figure or 0), ["line", line, "cpu", cpu, "pid", pid]
 
 

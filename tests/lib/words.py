@@ -72,22 +72,25 @@ def fault(line, cpu, pid, kind):
     return f"fault line {line} cpu {cpu} pid {pid} {kind}: {KINDS[kind]}\n".encode()
 
 
-# Where a figure of the least settings is needed first: line, time, processor and task.
+# Where a figure of the least settings is needed first: line, time, processor and task; and of the granularity the task
+# that was the least of those who waited.
 PLACE = rb" line (\d+) time (\d+\.\d{9}) cpu (\d+) pid (\d+)"
+OVER = rb" over (\d+)"
 
 
 def least(*figures):
     """The least settings, in the order of the options; the last of them, the drift, where the companion could tell
-    charges.  Each is a number, or one above 0 and its place: the line, the time, the processor and the task."""
+    charges.  Each is a number, or one above 0 and its place: the line, the time, the processor and the task, and of the
+    granularity the least of those who waited too."""
     return "".join(f"least {name}-ns {figure if isinstance(figure, int) else placed(*figure)}\n"
                    for name, figure in zip(SETTINGS, figures)).encode()
 
 
-def placed(figure, line, time, cpu, pid):
+def placed(figure, line, time, cpu, pid, over=None):
     """A figure with its place."""
-    return f"{figure} line {line} time {time} cpu {cpu} pid {pid}"
+    return f"{figure} line {line} time {time} cpu {cpu} pid {pid}" + ("" if over is None else f" over {over}")
 
 
 def without_places(report):
     """The least settings alone."""
-    return re.sub(PLACE + rb"\n", rb"\n", report)
+    return re.sub(PLACE + rb"(?:%s)?\n" % OVER, rb"\n", report)

@@ -78,13 +78,18 @@ refusal_line source line cause =
 abbrev pub nine_digits : ℕ → List ℕ
 nine_digits number = padded_integral (format_spec 32 0 4 9 (2 ^ 64 - 1)) false [] (decimal number)
 
+-- whom a picked task was above, if that is told
+abbrev pub over_words : Option ℕ → List ℕ
+over_words None = []
+over_words (Some over) = codes " over " ++ decimal over
+
 -- where a figure is needed first, if it has a place; the time is in seconds, with nine digits behind the point
 abbrev pub place_words : Option Place → List ℕ
 place_words None = []
 place_words (Some place) =
     codes " line " ++ (decimal place.line ++ (codes " time " ++ (decimal (place.time / 1000000000) ++ (codes "."
     ++ (nine_digits (place.time % 1000000000) ++ (codes " cpu " ++ (decimal place.cpu ++ (codes " pid "
-    ++ decimal place.pid))))))))
+    ++ (decimal place.pid ++ over_words place.over)))))))))
 
 -- a setting, in nanoseconds, by the name of its option, and where it is needed first
 abbrev pub setting_line : KnobsView → Places → Setting → List ℕ

@@ -1,6 +1,6 @@
 //! Least settings and their places, as a search over two texts tells them.
-ghost use Rattle.std.specs.Prelude.{◌≡◌, ◌++◌, OnOk, string_bytes};
-ghost use Rattle.audit_report.specs.Report.{lines_of_settings, setting_line, setting_lines};
+ghost use Rattle.std.specs.Prelude.{◌≡◌, ◌++◌, OnOk, Some, string_bytes};
+ghost use Rattle.audit_report.specs.Report.{lines_of_settings, place_words, setting_line, setting_lines};
 
 use crate::reporting::push_fault;
 use crate::{Finding, Judgement};
@@ -120,21 +120,32 @@ fn push_setting(
 {
     let name = setting.name();
     let value = knobs.get(setting);
-    match places.get(setting) {
-        Some(place) => {
-            let Place {
-                line,
-                time,
-                cpu,
-                pid,
-            } = place;
-            let seconds = time / 1_000_000_000;
-            let nanoseconds = time % 1_000_000_000;
-            writeln!(
-                text,
-                "least {name} {value} line {line} time {seconds}.{nanoseconds:09} cpu {cpu} pid {pid}"
-            )
-        }
-        None => writeln!(text, "least {name} {value}"),
+    write!(text, "least {name} {value}")?;
+    if let Some(place) = places.get(setting) {
+        push_place(text, place)?;
+    }
+    writeln!(text)
+}
+
+/// Writes where a figure is needed first, and whom a picked task was above there.
+fn push_place(text: &mut String, place: Place) -> Result<(), AllocError>
+    ensures { OnOk result (string_bytes text.new ≡ string_bytes text.old ++ place_words (Some place)) }
+{
+    let Place {
+        line,
+        time,
+        cpu,
+        pid,
+        over,
+    } = place;
+    let seconds = time / 1_000_000_000;
+    let nanoseconds = time % 1_000_000_000;
+    write!(
+        text,
+        " line {line} time {seconds}.{nanoseconds:09} cpu {cpu} pid {pid}"
+    )?;
+    match over {
+        Some(over) => write!(text, " over {over}"),
+        None => Ok(()),
     }
 }

@@ -97,6 +97,7 @@ static PLACES: Places = Places {
         time: 18_446_744_073_709_551_615,
         cpu: 63,
         pid: 4_194_304,
+        over: Some(4_194_303),
     }),
     credit: None,
     debit: Some(Place {
@@ -104,18 +105,21 @@ static PLACES: Places = Places {
         time: 0,
         cpu: 0,
         pid: 7,
+        over: None,
     }),
     slack: Some(Place {
         line: 20,
         time: 12_000_000_340,
         cpu: 9,
         pid: 0,
+        over: None,
     }),
     drift: Some(Place {
         line: 3,
         time: 999_999_999,
         cpu: 1,
         pid: 1,
+        over: None,
     }),
 };
 
@@ -156,11 +160,11 @@ fn each_setting_has_its_line(rt: HostRuntime) -> Result<(), Fail> {
     for (tells_charges, report) in [
         (
             false,
-            "least granularity-ns 1000000000000 line 4294967295 time 18446744073.709551615 cpu 63 pid 4194304\nleast credit-ns 1\nleast debit-ns 20 line 1 time 0.000000000 cpu 0 pid 7\nleast slack-ns 300 line 20 time 12.000000340 cpu 9 pid 0\n",
+            "least granularity-ns 1000000000000 line 4294967295 time 18446744073.709551615 cpu 63 pid 4194304 over 4194303\nleast credit-ns 1\nleast debit-ns 20 line 1 time 0.000000000 cpu 0 pid 7\nleast slack-ns 300 line 20 time 12.000000340 cpu 9 pid 0\n",
         ),
         (
             true,
-            "least granularity-ns 1000000000000 line 4294967295 time 18446744073.709551615 cpu 63 pid 4194304\nleast credit-ns 1\nleast debit-ns 20 line 1 time 0.000000000 cpu 0 pid 7\nleast slack-ns 300 line 20 time 12.000000340 cpu 9 pid 0\nleast drift-ns 4000 line 3 time 0.999999999 cpu 1 pid 1\n",
+            "least granularity-ns 1000000000000 line 4294967295 time 18446744073.709551615 cpu 63 pid 4194304 over 4194303\nleast credit-ns 1\nleast debit-ns 20 line 1 time 0.000000000 cpu 0 pid 7\nleast slack-ns 300 line 20 time 12.000000340 cpu 9 pid 0\nleast drift-ns 4000 line 3 time 0.999999999 cpu 1 pid 1\n",
         ),
     ] {
         let text = report_of_found(rt.alloc(), tells_charges)?;

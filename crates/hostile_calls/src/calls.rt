@@ -124,6 +124,7 @@ fn figures_of(least: &LeastSettings) -> LeastFigures {
                     time: 1,
                     cpu: 0,
                     pid: 1,
+                    over: Some(2),
                 }),
                 credit: None,
                 debit: None,

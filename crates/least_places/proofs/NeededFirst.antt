@@ -1,6 +1,6 @@
 -- The fault by a nanosecond less of a setting is at the place of its figure: the events before its line are a run with
 -- less, and where those up to it were one with less, they were one at the lesser of that and of the least.
-use Rattle.std.proofs.Common.{◌≡◌, ℕ, ◌<◌, inl, inr, [], ◌∷◌, ◌++◌, sym, ◌∙◌, subst, append_assoc, arith}
+use Rattle.std.proofs.Common.{◌≡◌, ℕ, ◌<◌, Option, inl, inr, [], ◌∷◌, ◌++◌, sym, ◌∙◌, subst, append_assoc, arith}
 use Rattle.std.proofs.lemmas.Bool.{cases_lt}
 use Rattle.cfs_model.specs.Knobs.{KnobsView, value_at}
 use Rattle.cfs_model.specs.Laws.{LesserKeepsRun, MoreKeepsRun, RunPrefix}
@@ -9,6 +9,7 @@ use Rattle.cfs_model.specs.Run.{IsFirstBad, IsRun}
 use Rattle.cfs_model.specs.Start.{start_machine}
 use Rattle.cfs_model.specs.declared.setting.Setting.{Setting}
 use Rattle.least_places.proofs.Lessened.{is_less, lesser_at_most}
+use Rattle.least_places.specs.Left.{IsOver}
 use Rattle.least_places.specs.Place.{IsNeededFirst, IsPlace, one_less, time_on_line}
 use Rattle.replay_model.specs.declared.first_fault.FirstFault.{FirstFault}
 use Rattle.sched_record.specs.Record.{RecordView}
@@ -46,14 +47,15 @@ module _ (more : MoreKeepsRun) (both : LesserKeepsRun) (prefix : RunPrefix) (r :
         ];
       }
 
-  pub place_is : (fault : FirstFault) (time : ℕ) → IsFaulty (one_less knobs which) r fault
-      → time ≡ time_on_line r.events fault.line
-      → IsPlace r knobs which (record { line = fault.line; time = time; cpu = fault.cpu; pid = fault.pid })
-  place_is fault time faulty told = record {
+  pub place_is : (fault : FirstFault) (time : ℕ) (over : Option ℕ) → IsFaulty (one_less knobs which) r fault
+      → time ≡ time_on_line r.events fault.line → IsOver r knobs which fault.line over
+      → IsPlace r knobs which (record { line = fault.line; time = time; cpu = fault.cpu; pid = fault.pid; over = over })
+  place_is fault time over faulty told left = record {
     needed = needed_at fault.line faulty.line;
     time = told;
     kind = fault.kind;
     fault = faulty.cause;
+    over = left;
   }
 
 -- by a nanosecond less than the least it is no run

@@ -1,3 +1,5 @@
 pub mod LeastAnswer
+pub mod Left
 pub mod OneLeastAnswer
 pub mod Place
+pub mod Walks

@@ -9,6 +9,7 @@ use Rattle.cfs_model.specs.declared.act.Entry.{Entry}
 use Rattle.cfs_model.specs.declared.kind.Kind.{Kind}
 use Rattle.cfs_model.specs.declared.setting.Setting.{Setting}
 use Rattle.cfs_model.specs.declared.setting.Setting.TheVariants.{Granularity, Credit, Debit, Slack, Drift}
+use Rattle.least_places.specs.Left.{IsOver}
 use Rattle.least_places.specs.declared.place.Place.{Place}
 use Rattle.least_places.specs.declared.places.Places.{Places}
 use Rattle.replay_model.specs.Cause.{IsFirstFault}
@@ -37,14 +38,15 @@ abbrev pub time_on_line : List Entry → ℕ → ℕ
 time_on_line [] line = 0
 time_on_line (entry ∷ entries) line = if entry.line == line then entry.time else time_on_line entries line
 
--- the place of a setting's figure among least settings: where it is needed first, and when; and the processor and the
--- task with which something is wrong there by a nanosecond less of it
+-- the place of a setting's figure among least settings: where it is needed first, and when; the processor and the task
+-- with which something is wrong there by a nanosecond less of it; and whom a picked task was above
 pub record IsPlace (r : RecordView) (knobs : KnobsView) (which : Setting) (place : Place) : Type 0 where
   pub needed : IsNeededFirst r which (value_at knobs which) place.line
   pub time : place.time ≡ time_on_line r.events place.line
   pub kind : Kind
   pub fault : IsFirstFault (one_less knobs which) r.start (start_machine r.start r.floors r.tasks) (events_of r)
       place.line (record { cpu = place.cpu; pid = place.pid; kind = kind })
+  pub over : IsOver r knobs which place.line place.over
 
 -- a figure of 0 has no place, and each other has one
 abbrev pub IsPlaced : RecordView → KnobsView → Setting → Option Place → Type 0

@@ -88,5 +88,6 @@ fn place_of<R: RandomSource + Threads + Wait + Sync>(
         return Ok(None);
     }
     let closed = audit(rt, alloc, joined, lessened(knobs, setting), &OpenGate)?;
-    Ok(Some(place_by(joined, knobs, setting, &closed.verdict)))
+    let place = place_by(rt, alloc, joined, knobs, setting, &closed.verdict)?;
+    Ok(Some(place))
 }

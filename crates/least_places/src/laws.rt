@@ -11,6 +11,7 @@ pub fn one_least_figures()
 {
     one_least_answer();
     first_faults();
+    prefixes();
 }
 
 /// A law: the least settings of the events before a figure's place have less of its setting, and those of the events up

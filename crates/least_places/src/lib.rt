@@ -4,6 +4,7 @@
 mod figures;
 mod finding;
 mod laws;
+mod leaving;
 mod place;
 mod places;
 mod placing;

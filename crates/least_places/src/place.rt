@@ -8,4 +8,6 @@ pub struct Place {
     pub cpu: u32,
     /// The task that is picked, woken, born or charged there, 0 where the processor idles.
     pub pid: u32,
+    /// At a pick the least of those whom it left waiting there, of equal ones the one of the least pid.
+    pub over: Option<u32>,
 }

@@ -1,6 +1,7 @@
 //! The place of a figure, by the verdict at a nanosecond less.
-ghost use Rattle.std.specs.Prelude.{◌≡◌, ◌<◌};
+ghost use Rattle.std.specs.Prelude.{◌≡◌, ◌<◌, IfOk};
 ghost use Rattle.cfs_model.specs.Knobs.{value_at};
+ghost use Rattle.least_places.specs.Left.{IsOver};
 ghost use Rattle.least_places.specs.Place.{IsPlace, one_less, time_on_line};
 ghost use Rattle.sched_record.specs.Record.{record_view};
 ghost use Rattle.ticket_book.specs.LeastAnswer as settings;
@@ -8,9 +9,12 @@ ghost use Rattle.ticket_book.specs.Verdict.{IsFaulty, IsVerdict};
 ghost use Rattle.ticket_book.specs.declared.least_settings.LeastSettings.TheVariants as leasts;
 
 use crate::Place;
-use cfs_model::{Entry, Knobs, Setting, least_settings, prefixes};
+use crate::leaving::over;
+use cfs_model::{Entry, Knobs, Memory, Setting, least_settings, prefixes};
 use replay_model::FirstFault;
 use sched_record::Record;
+use std::alloc::Global;
+use std::random::RandomSource;
 use ticket_book::Verdict;
 
 /// These settings, but for a nanosecond less of one.
@@ -24,24 +28,41 @@ pub(crate) fn lessened(knobs: Knobs, setting: Setting) -> Knobs
 }
 
 /// The place of a figure above 0, by the verdict on the record at a nanosecond less.
-pub(crate) fn place_by(joined: &Record, knobs: Knobs, setting: Setting, verdict: &Verdict) -> Place
+pub(crate) fn place_by<R: RandomSource>(
+    rt: &R,
+    alloc: Global,
+    joined: &Record,
+    knobs: Knobs,
+    setting: Setting,
+    verdict: &Verdict,
+) -> Result<Place, Memory>
     requires least { settings.IsLeastAnswer (record_view joined.now) (leasts.Found knobs) }
     requires some { 0 < value_at knobs setting }
     requires verdict { IsVerdict (one_less knobs setting) (record_view joined.now) verdict.now }
-    ensures { IsPlace (record_view joined.now) knobs setting result }
+    ensures { IfOk result (IsPlace (record_view joined.now) knobs setting) }
 {
     match verdict {
-        Verdict::Fault(fault) => place_at_fault(joined, knobs, setting, fault),
+        Verdict::Fault(fault) => {
+            let over = over(rt, alloc, joined, knobs, setting, fault.line)?;
+            Ok(place_at_fault(joined, knobs, setting, fault, over))
+        }
         // With less than the least it is no run.
         Verdict::Run(_) => unreachable!(),
     }
 }
 
-/// The place of a figure above 0, by the fault at a nanosecond less.
-fn place_at_fault(joined: &Record, knobs: Knobs, setting: Setting, fault: &FirstFault) -> Place
+/// The place of a figure above 0, by the fault at a nanosecond less and by whom a picked task was above there.
+fn place_at_fault(
+    joined: &Record,
+    knobs: Knobs,
+    setting: Setting,
+    fault: &FirstFault,
+    over: Option<u32>,
+) -> Place
     requires least { settings.IsLeastAnswer (record_view joined.now) (leasts.Found knobs) }
     requires some { 0 < value_at knobs setting }
     requires fault { IsFaulty (one_less knobs setting) (record_view joined.now) fault.now }
+    requires over { IsOver (record_view joined.now) knobs setting fault.now.line over }
     ensures { IsPlace (record_view joined.now) knobs setting result }
 {
     prefixes();
@@ -53,6 +74,7 @@ fn place_at_fault(joined: &Record, knobs: Knobs, setting: Setting, fault: &First
         time,
         cpu,
         pid,
+        over,
     }
 }
 

@@ -9,5 +9,5 @@ returns c =
     let fault = c.args.fault.now in
     place_is c.least_settings.ensures.more c.least_settings.ensures.lesser c.prefixes.ensures
     (record_view c.args.joined.now) c.args.knobs c.args.setting c.requires.least c.requires.some fault
-    c.time_on-time.result c.requires.fault
-    (c.time_on-time.ensures ∙ ap (λ events. time_on_line events fault.line) c.events.ensures)
+    c.time_on-time.result c.args.over c.requires.fault
+    (c.time_on-time.ensures ∙ ap (λ events. time_on_line events fault.line) c.events.ensures) c.requires.over

@@ -1,13 +1,9 @@
 //! Whom a pick leaves waiting, by a replay of its processor up to there.
-ghost use Rattle.std.specs.Prelude.{◌≡◌, ℕ, ◌<◌, IfOk, List, ◌∷◌, ◌++◌, []};
-ghost use Rattle.cfs_model.specs.Claimed.{Claimed};
-ghost use Rattle.cfs_model.specs.Run.{IsRun, last_of};
-ghost use Rattle.cfs_model.specs.Start.{start_machine};
+ghost use Rattle.std.specs.Prelude.{◌≡◌, ◌<◌, IfOk};
 ghost use Rattle.least_places.specs.Left.{IsLeftBehind, IsLeftOnLine, IsOver};
 ghost use Rattle.least_places.specs.Walks.{steps_to, switched_by, switched_on_line};
 ghost use Rattle.sched_record.specs.Record.{record_view};
 ghost use Rattle.ticket_book.specs.LeastAnswer as settings;
-ghost use Rattle.ticket_book.specs.SaidEvents.{events_of};
 ghost use Rattle.ticket_book.specs.declared.least_settings.LeastSettings.TheVariants as leasts;
 
 use cfs_model::{Act, Entry, Knobs, Memory, Setting, places, prefixes};

@@ -146,7 +146,11 @@ abbrev pub least_fault : LeastFigures → Option FirstFault
 least_fault (leasts.Found knobs places) = None
 least_fault (leasts.Fault fault) = Some fault
 
--- what is written for an outcome
+-- what is written for an outcome, by what is written for a refusal and for what was judged
+abbrev pub report_by : {J : Type 0} → (Source → ℕ → Cause → List ℕ) → (J → List ℕ) → Outcome J → List ℕ
+report_by refusal lines (Judged judged) = lines judged
+report_by refusal lines (Text source line cause) = refusal source line cause
+
+-- the same, with the line of a refusal
 abbrev pub report_of : {J : Type 0} → (J → List ℕ) → Outcome J → List ℕ
-report_of lines (Judged judged) = lines judged
-report_of lines (Text source line cause) = refusal_line source line cause
+report_of lines = report_by refusal_line lines

@@ -1,9 +1,10 @@
 //! A verdict, told by its counts alone.
 ghost use Rattle.std.specs.Prelude.{◌≡◌};
 
-use crate::reporting::push_fault;
+use crate::reporting::{push_fault, push_refusal};
 use crate::verdict::push_counts;
 use crate::{Finding, Judgement};
+use audit_input::{Cause, Source};
 use cfs_model::{Knobs, Memory};
 use pid_table::PidHasher;
 use replay_model::FirstFault;
@@ -19,7 +20,7 @@ pub struct Counted {
 
 impl Judgement for Counted {
     ghost use Rattle.std.specs.Prelude.{false};
-    ghost use Rattle.audit_report.specs.Report.{IsCounted, counted_fault, counted_lines};
+    ghost use Rattle.audit_report.specs.Report.{IsCounted, counted_fault, counted_lines, refusal_line};
 
     ghost is_of = { IsCounted };
 
@@ -28,6 +29,8 @@ impl Judgement for Counted {
     ghost replayed_by = { λ knobs. knobs };
 
     ghost lines = { λ _. counted_lines };
+
+    ghost refusal = { refusal_line };
 
     ghost fault = { counted_fault };
 
@@ -59,6 +62,15 @@ impl Judgement for Counted {
             Verdict::Run(summary) => push_counts(text, summary),
             Verdict::Fault(fault) => push_fault(text, fault),
         }
+    }
+
+    fn push_refusal(
+        text: &mut String,
+        source: Source,
+        line: u64,
+        cause: Cause,
+    ) -> Result<(), AllocError> {
+        push_refusal(text, source, line, cause)
     }
 
     fn fault(&self) -> Option<FirstFault> {

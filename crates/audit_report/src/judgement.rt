@@ -1,4 +1,6 @@
 ghost use Rattle.std.specs.Prelude.{◌≡◌, ◌++◌, ℕ, Bool, IfOk, List, None, OnOk, Option, string_bytes};
+ghost use Rattle.audit_input.specs.declared.cause.Cause.{Cause};
+ghost use Rattle.audit_input.specs.declared.source.Source.{Source};
 ghost use Rattle.audit_report.specs.Finding.{IsFinding};
 ghost use Rattle.cfs_model.specs.Knobs.{KnobsView};
 ghost use Rattle.cfs_model.specs.Run.{IsRun};
@@ -7,6 +9,7 @@ ghost use Rattle.sched_record.specs.Record.{RecordView, record_view};
 ghost use Rattle.waiting_times.specs.Waits.{first_state, said_events};
 
 use crate::Finding;
+use audit_input::{Cause, Source};
 use cfs_model::{Knobs, Memory};
 use pid_table::PidHasher;
 use replay_model::FirstFault;
@@ -26,6 +29,9 @@ pub trait Judgement: Drop {
 
     /// What a report says of it, by whether the companion tells charges.
     ghost lines: { Bool → Self → List ℕ };
+
+    /// What a report says in its place where a text is refused: which text, at which line and why.
+    ghost refusal: { Source → ℕ → Cause → List ℕ };
 
     /// The fault that it names, if it does.
     ghost fault: { Self → Option FirstFault };
@@ -57,6 +63,15 @@ pub trait Judgement: Drop {
     /// Writes what a report says of it, by whether the companion tells charges.
     fn push(&self, text: &mut String, tells_charges: bool) -> Result<(), AllocError>
         ensures { OnOk result (string_bytes text.new ≡ string_bytes text.old ++ lines tells_charges self.now) };
+
+    /// Writes what a report says in its place where a text is refused.
+    fn push_refusal(
+        text: &mut String,
+        source: Source,
+        line: u64,
+        cause: Cause,
+    ) -> Result<(), AllocError>
+        ensures { OnOk result (string_bytes text.new ≡ string_bytes text.old ++ refusal source line cause) };
 
     /// The fault that it names, if it does.
     fn fault(&self) -> Option<FirstFault>

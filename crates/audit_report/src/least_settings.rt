@@ -2,8 +2,9 @@
 ghost use Rattle.std.specs.Prelude.{◌≡◌, ◌++◌, OnOk, Some, string_bytes};
 ghost use Rattle.audit_report.specs.Report.{lines_of_settings, place_words, setting_line, setting_lines};
 
-use crate::reporting::push_fault;
+use crate::reporting::{push_fault, push_refusal};
 use crate::{Finding, Judgement};
+use audit_input::{Cause, Source};
 use cfs_model::{Knobs, Memory, Setting};
 use least_places::{LeastFigures, Place, Places};
 use pid_table::PidHasher;
@@ -21,7 +22,7 @@ const WITHOUT_DRIFT: [Setting; 4] = [
 
 impl Judgement for LeastFigures {
     ghost use Rattle.std.specs.Prelude.{true};
-    ghost use Rattle.audit_report.specs.Report.{least_fault, least_lines};
+    ghost use Rattle.audit_report.specs.Report.{least_fault, least_lines, refusal_line};
     ghost use Rattle.cfs_model.specs.Least.{greatest_settings};
     ghost use Rattle.least_places.specs.LeastAnswer.{IsLeastAnswer};
 
@@ -32,6 +33,8 @@ impl Judgement for LeastFigures {
     ghost replayed_by = { λ _. greatest_settings };
 
     ghost lines = { least_lines };
+
+    ghost refusal = { refusal_line };
 
     ghost fault = { least_fault };
 
@@ -65,6 +68,15 @@ impl Judgement for LeastFigures {
             }
             LeastFigures::Fault(fault) => push_fault(text, fault),
         }
+    }
+
+    fn push_refusal(
+        text: &mut String,
+        source: Source,
+        line: u64,
+        cause: Cause,
+    ) -> Result<(), AllocError> {
+        push_refusal(text, source, line, cause)
     }
 
     fn fault(&self) -> Option<FirstFault> {

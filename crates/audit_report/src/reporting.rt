@@ -1,5 +1,6 @@
 ghost use Rattle.std.specs.Prelude.{◌≡◌, ◌++◌, IfOk, OnOk, string_bytes};
-ghost use Rattle.audit_report.specs.Report.{fault_line, least_lines, refusal_line, report_of, verdict_lines};
+ghost use Rattle.audit_report.specs.Report.{fault_line, least_lines, refusal_line, report_by, report_of};
+ghost use Rattle.audit_report.specs.Report.{verdict_lines};
 
 use crate::{Judgement, Outcome};
 use audit_input::{Cause, Source};
@@ -34,7 +35,7 @@ pub(crate) fn report_on<J: Judgement>(
     outcome: &Outcome<J>,
     tells_charges: bool,
 ) -> Result<Vec<u8>, Memory>
-    ensures { IfOk result (λ text. text.items ≡ report_of (J.lines tells_charges) outcome.now) }
+    ensures { IfOk result (λ text. text.items ≡ report_by J.refusal (J.lines tells_charges) outcome.now) }
 {
     let text = text_of(alloc, outcome, tells_charges)?;
     Ok(text.into_bytes())
@@ -45,7 +46,7 @@ fn text_of<J: Judgement>(
     outcome: &Outcome<J>,
     tells_charges: bool,
 ) -> Result<String, AllocError>
-    ensures { IfOk result (λ text. string_bytes text ≡ report_of (J.lines tells_charges) outcome.now) }
+    ensures { IfOk result (λ text. string_bytes text ≡ report_by J.refusal (J.lines tells_charges) outcome.now) }
 {
     let mut text = String::new(alloc);
     match outcome {
@@ -54,7 +55,7 @@ fn text_of<J: Judgement>(
             source,
             line,
             cause,
-        } => push_refusal(&mut text, *source, *line, *cause)?,
+        } => J::push_refusal(&mut text, *source, *line, *cause)?,
     }
     Ok(text)
 }
@@ -77,7 +78,7 @@ pub(crate) fn push_fault(text: &mut String, fault: &FirstFault) -> Result<(), Al
 }
 
 /// Writes which text is refused, where and why.
-fn push_refusal(
+pub(crate) fn push_refusal(
     text: &mut String,
     source: Source,
     line: u64,

@@ -3,8 +3,9 @@ ghost use Rattle.std.specs.Prelude.{◌≡◌, ◌++◌, OnOk, string_bytes};
 ghost use Rattle.ticket_book.specs.SummaryView.{summary_view};
 ghost use Rattle.audit_report.specs.Report.{count_lines, run_lines, tally_lines};
 
-use crate::reporting::push_fault;
+use crate::reporting::{push_fault, push_refusal};
 use crate::{Finding, Judgement};
+use audit_input::{Cause, Source};
 use cfs_model::{Knobs, Memory};
 use pid_table::PidHasher;
 use replay_model::{FirstFault, Tally};
@@ -21,7 +22,7 @@ macro_rules! lines {
 
 impl Judgement for Verdict {
     ghost use Rattle.std.specs.Prelude.{false};
-    ghost use Rattle.audit_report.specs.Report.{verdict_fault, verdict_lines};
+    ghost use Rattle.audit_report.specs.Report.{refusal_line, verdict_fault, verdict_lines};
     ghost use Rattle.ticket_book.specs.Verdict.{IsVerdict};
 
     ghost is_of = { IsVerdict };
@@ -31,6 +32,8 @@ impl Judgement for Verdict {
     ghost replayed_by = { λ knobs. knobs };
 
     ghost lines = { λ _. verdict_lines };
+
+    ghost refusal = { refusal_line };
 
     ghost fault = { verdict_fault };
 
@@ -62,6 +65,15 @@ impl Judgement for Verdict {
             Verdict::Run(summary) => push_run(text, summary),
             Verdict::Fault(fault) => push_fault(text, fault),
         }
+    }
+
+    fn push_refusal(
+        text: &mut String,
+        source: Source,
+        line: u64,
+        cause: Cause,
+    ) -> Result<(), AllocError> {
+        push_refusal(text, source, line, cause)
     }
 
     fn fault(&self) -> Option<FirstFault> {

@@ -7,6 +7,7 @@ ghost use Rattle.waiting_times.specs.Waits.{AreWaits, first_state, said_events};
 
 use crate::wait_lines::push_waits;
 use crate::{Finding, Judgement};
+use audit_input::{Cause, Source};
 use cfs_model::{Knobs, Memory};
 use pid_table::PidHasher;
 use plain_list::PlainList;
@@ -35,6 +36,8 @@ impl<J: Judgement> Judgement for WithWaits<J> {
     ghost replayed_by = { J.replayed_by };
 
     ghost lines = { λ tells_charges told. J.lines tells_charges told.judged ++ told_waits_lines told.waits };
+
+    ghost refusal = { J.refusal };
 
     ghost fault = { λ told. J.fault told.judged };
 
@@ -69,6 +72,15 @@ impl<J: Judgement> Judgement for WithWaits<J> {
             Some(waits) => push_waits(text, waits.as_slice()),
             None => Ok(()),
         }
+    }
+
+    fn push_refusal(
+        text: &mut String,
+        source: Source,
+        line: u64,
+        cause: Cause,
+    ) -> Result<(), AllocError> {
+        J::push_refusal(text, source, line, cause)
     }
 
     fn fault(&self) -> Option<FirstFault> {

@@ -2,7 +2,7 @@ ghost use Rattle.std.specs.Prelude.{◌≡◌, ◌⊎◌, false, true, OnOk, OnE
 ghost use Rattle.std.specs.Io.KnownBytes.{Appends, Keeps};
 ghost use Rattle.audit_report.specs.Codes.{status_of};
 ghost use Rattle.audit_report.specs.Taken.{AppendsFront};
-ghost use Rattle.audit_report.specs.Report.{report_of};
+ghost use Rattle.audit_report.specs.Report.{report_by};
 
 use crate::reporting::report_on;
 use crate::{Judgement, Outcome, Sink, Status};
@@ -20,13 +20,13 @@ pub fn write_report<J: Judgement, S: Sink>(
     requires { S.has_failed out.old ≡ false }
     ensures status { IfOk result (λ status. status ≡ status_of J.fault outcome.now) }
     ensures whole { OnOk result
-        (Appends (S.taken out.old) (S.taken out.new) (report_of (J.lines tells_charges) outcome.now)) }
+        (Appends (S.taken out.old) (S.taken out.new) (report_by J.refusal (J.lines tells_charges) outcome.now)) }
     ensures written { OnOk result (S.has_failed out.new ≡ false) }
     // The output's fault comes only where a write failed or took no byte, and a front of the report was written.
     ensures fault { IfErr result (λ fault. (fault ≡ Fault.Write) ⊎ (fault ≡ Fault.Memory)) }
     ensures write { IsErrOf result Fault.Write → S.has_failed out.new ≡ true }
     ensures front { IsErrOf result Fault.Write
-        → AppendsFront (S.taken out.old) (S.taken out.new) (report_of (J.lines tells_charges) outcome.now) }
+        → AppendsFront (S.taken out.old) (S.taken out.new) (report_by J.refusal (J.lines tells_charges) outcome.now) }
     // Where memory is wanted nothing was written.
     ensures unwritten { IsErrOf result Fault.Memory
         → Keeps (S.taken out.old) (S.taken out.new) × (S.has_failed out.new ≡ false) }

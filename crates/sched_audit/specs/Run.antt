@@ -4,8 +4,10 @@ use Rattle.std.specs.Prelude.{OnOk, IsErrOf}
 use Rattle.std.specs.Io.KnownBytes.{Appends, IsAtEnd, Keeps}
 use Rattle.replay_model.specs.declared.first_fault.FirstFault.{FirstFault}
 use Rattle.sched_record.specs.Record.{RecordView, record_view}
+use Rattle.audit_input.specs.declared.cause.Cause.{Cause}
 use Rattle.audit_input.specs.declared.fault.Fault.{Fault}
 use Rattle.audit_input.specs.declared.fault.Fault.TheVariants.{ReadTrace, ReadCompanion, Write, Memory}
+use Rattle.audit_input.specs.declared.source.Source.{Source}
 use Rattle.audit_report.specs.declared.status.Status.{Status}
 use Rattle.sched_audit.specs.declared.hearing.Kept.{Kept}
 use Rattle.sched_audit.specs.declared.hearing.Kept.TheVariants.{Record, Companion}
@@ -14,7 +16,7 @@ use Rattle.audit_report.specs.declared.outcome.Outcome.TheVariants.{Judged, Text
 use Rattle.sched_audit.specs.Answer.{OutcomeAnswer}
 use Rattle.audit_report.specs.Codes.{status_of}
 use Rattle.audit_input.specs.Known.{Agrees, IsCutShort, most_reads}
-use Rattle.audit_report.specs.Report.{report_of}
+use Rattle.audit_report.specs.Report.{refusal_line, report_by}
 use Rattle.audit_report.specs.Taken.{AppendsFront}
 use Rattle.audit_input.specs.Texts.{TellsCharges}
 
@@ -77,15 +79,16 @@ pub record Reads {A : Type 0} (trace companion : Input) (result : Result A Fault
   pub order : IsErrOf result ReadTrace → companion.calls ≡ 0
 
 -- what a run over two inputs writes to an output, and what it answers, by what it judges of their record and by the
--- lines that tell that, where the companion tells charges and where it doesn't
-pub record Runs {J : Type 0} (is_of : RecordView → J → Type 0) (lines : Bool → J → List ℕ)
-    (fault_of : J → Option FirstFault) (trace companion : Input) (out : Output) (result : Result Status Fault) : Type 0
+-- texts that tell a refusal and that, where the companion tells charges and where it doesn't
+pub record RunsBy {J : Type 0} (refusal : Source → ℕ → Cause → List ℕ) (is_of : RecordView → J → Type 0)
+    (lines : Bool → J → List ℕ) (fault_of : J → Option FirstFault) (trace companion : Input) (out : Output)
+    (result : Result Status Fault) : Type 0
   where
     -- where a status is answered, the report of the two inputs' outcome was written and nothing else, and the status is
     -- that outcome's
     pub answered : IfOk result (λ status. (outcome : Outcome J) × (tells_charges : Bool)
         × IsOutcomeOf is_of trace.gave companion.gave outcome tells_charges
-        × Appends out.before out.taken (report_of (lines tells_charges) outcome)
+        × Appends out.before out.taken (report_by refusal (lines tells_charges) outcome)
         × (status ≡ status_of fault_of outcome))
     pub reads : Reads trace companion result
     -- and no write failed
@@ -94,6 +97,11 @@ pub record Runs {J : Type 0} (is_of : RecordView → J → Type 0) (lines : Bool
     pub write : IsErrOf result Write → out.has_failed ≡ true
     pub front : IsErrOf result Write → (outcome : Outcome J) × (tells_charges : Bool)
         × IsOutcomeOf is_of trace.gave companion.gave outcome tells_charges
-        × AppendsFront out.before out.taken (report_of (lines tells_charges) outcome)
+        × AppendsFront out.before out.taken (report_by refusal (lines tells_charges) outcome)
     -- at any other fault nothing was written, and no write failed
     pub unwritten : IfErr result (λ fault. fault ≢ Write → Keeps out.before out.taken × (out.has_failed ≡ false))
+
+-- the same where a refusal is told by its line
+abbrev pub Runs : {J : Type 0} → (RecordView → J → Type 0) → (Bool → J → List ℕ) → (J → Option FirstFault) → Input
+    → Input → Output → Result Status Fault → Type 0
+Runs = RunsBy refusal_line

@@ -1,7 +1,7 @@
 -- The command line (this project's format). How words go to arguments and options is clap's: its `matches_of` says, for
 -- a command and the words, which values each argument has.
 use Rattle.std.specs.Prelude.{◌≡◌, ℕ, ◌&&◌, Bool, IsTrue, IsFalse, List, [], ◌∷◌, Option, None, Some, true, false}
-use Rattle.std.specs.Prelude.{codes, option_map, unwrap_or}
+use Rattle.std.specs.Prelude.{codes, if◌then◌else◌, option_map, unwrap_or}
 use Rattle.std.specs.List.{AllByRecursion}
 use Rattle.std.specs.Option.{option_map_or}
 use Rattle.std.specs.Str.{bytes_eq}
@@ -12,6 +12,8 @@ use Rattle.cfs_model.specs.declared.setting.Setting.{Setting}
 use Rattle.clap.specs.Walk.{Row, Rule, Text, first_of, one_of}
 use Rattle.clap.specs.Simple.{App, matches_of, new_app, new_rule, on_top, with_rule}
 use Rattle.clap.specs.declared.builder.action.ArgAction.TheVariants.{SetTrue}
+use Rattle.audit_request.specs.declared.color.Color.{Color}
+use Rattle.audit_request.specs.declared.color.Color.TheVariants.{Auto, Always, Never}
 use Rattle.audit_request.specs.declared.request.Request.{Request}
 
 -- a file's name, which has to be there
@@ -40,18 +42,24 @@ beside_none (which ∷ settings) rule = beside_none settings (record rule { is_f
 abbrev pub lone_flag_rule : Text → Rule
 lone_flag_rule id = beside_none all_settings (flag_rule id)
 
--- an option with a file's name
-abbrev pub file_rule : Text → Rule
-file_rule id = record (new_rule id) { long = Some id; value_names = 1 }
+-- an option with one word
+abbrev pub word_rule : Text → Rule
+word_rule id = record (new_rule id) { long = Some id; value_names = 1 }
 
--- the names of the two files, the settings, the flags, and the file of states; clap adds help and version
+-- a flag that doesn't go with another
+abbrev pub parted_flag_rule : Text → Rule
+parted_flag_rule id = record (flag_rule id) { is_free = false }
+
+-- the names of the two files, the settings, the flags, the file of states and the colour; clap adds help and version
 abbrev pub audit_app : App
 audit_app =
-    with_rule (with_rule (with_rule (with_rule (with_rule (with_settings all_settings (with_rule (with_rule
+    with_rule (with_rule (with_rule (with_rule (with_rule (with_rule (with_rule (with_settings all_settings
+    (with_rule (with_rule
     (on_top (λ s. record s { has_version = true }) (new_app (codes "sched_audit")))
     (name_rule (codes "TRACE"))) (name_rule (codes "COMPANION"))))
     (lone_flag_rule (codes "least"))) (flag_rule (codes "waits"))) (flag_rule (codes "explain")))
-    (flag_rule (codes "summary"))) (file_rule (codes "states"))
+    (flag_rule (codes "summary"))) (word_rule (codes "states"))) (parted_flag_rule (codes "json")))
+    (word_rule (codes "color"))
 
 -- the amount that a setting's option says, in nanoseconds, or its default where the option isn't given
 abbrev pub amount_for : List Row → Setting → Option ℕ
@@ -74,6 +82,16 @@ with_values value (which ∷ more) settings = with_values value more (with_value
 abbrev pub is_flagged : Text → List Row → Bool
 is_flagged id rows = option_map_or (λ text. bytes_eq text (codes "true")) (one_of id rows) false
 
+-- when the explanation has colour, by a word
+abbrev pub color_of : Text → Option Color
+color_of word =
+    if bytes_eq word (codes "auto") then Some Auto else if bytes_eq word (codes "always") then Some Always
+    else if bytes_eq word (codes "never") then Some Never else None
+
+-- by its option, or on a terminal where the option isn't given
+abbrev pub color_for : List Row → Option Color
+color_for rows = option_map_or color_of (first_of (codes "color") rows) (Some Auto)
+
 -- none of these settings is given
 abbrev pub HaveNone : List Row → List Setting → Type 0
 HaveNone rows settings = AllByRecursion (λ which. first_of (name_of_setting which) rows ≡ None) settings
@@ -86,8 +104,8 @@ HasNoSetting rows = HaveNone rows all_settings
 abbrev pub is_input : Text → Bool
 is_input name = bytes_eq name (codes "-")
 
--- the request has the names, the settings and the flags of these values, no setting is given beside the flag of the
--- least ones, and standard input isn't both files
+-- the request has the names, the settings, the flags and the colour of these values, no setting is given beside the
+-- flag of the least ones and no explanation beside JSON, and standard input isn't both files
 pub record IsRequestOf (rows : List Row) (request : Request) : Type 0 where
   pub trace : first_of (codes "TRACE") rows ≡ Some request.trace.now
   pub companion : first_of (codes "COMPANION") rows ≡ Some request.companion.now
@@ -100,6 +118,9 @@ pub record IsRequestOf (rows : List Row) (request : Request) : Type 0 where
   pub explain : request.explain ≡ is_flagged (codes "explain") rows
   pub summary : request.summary ≡ is_flagged (codes "summary") rows
   pub states : option_map (λ name. name.now) request.states ≡ first_of (codes "states") rows
+  pub json : request.json ≡ is_flagged (codes "json") rows
+  pub parted : IsFalse (request.json && request.explain)
+  pub color : color_for rows ≡ Some request.color
   pub once : IsFalse (is_input request.trace.now && is_input request.companion.now)
 
 -- the request is what these words ask for; the first word is the program's own name

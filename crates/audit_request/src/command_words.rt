@@ -1,16 +1,18 @@
 //! The command line, as clap reads it.
 
 ghost use Rattle.std.specs.Bool.{OnTrue};
-ghost use Rattle.std.specs.Prelude.{◌≡◌, ◌&&◌, IfOk, IfSome, None, Some, false, map, option_map, unwrap_or};
+ghost use Rattle.std.specs.Prelude.{◌≡◌, ◌&&◌, IfOk, IfSome, None, Some, codes, false, map, option_map};
+ghost use Rattle.std.specs.Prelude.{unwrap_or};
 ghost use Rattle.clap.specs.Walk.{first_of};
 ghost use Rattle.clap.specs.Words.{app_of, found_of, rows_of, rule_of};
 ghost use Rattle.cfs_model.specs.Knobs.{AreInRange, all_settings, nothing, settings_by};
 ghost use Rattle.audit_request.specs.CommandLine.{HasNoSetting, HaveAmounts, HaveNone, IsAskedBy, IsRequestOf};
-ghost use Rattle.audit_request.specs.CommandLine.{amount_for, audit_app, beside_none, file_rule, flag_rule, is_flagged};
-ghost use Rattle.audit_request.specs.CommandLine.{is_input, lone_flag_rule, name_rule, setting_of, setting_rule};
-ghost use Rattle.audit_request.specs.CommandLine.{with_settings, with_values};
+ghost use Rattle.audit_request.specs.CommandLine.{amount_for, audit_app, beside_none, color_for, flag_rule};
+ghost use Rattle.audit_request.specs.CommandLine.{is_flagged, is_input, lone_flag_rule, name_rule};
+ghost use Rattle.audit_request.specs.CommandLine.{parted_flag_rule, setting_of, setting_rule, with_settings};
+ghost use Rattle.audit_request.specs.CommandLine.{with_values, word_rule};
 
-use crate::Request;
+use crate::{Color, Request};
 use amount_words::{Amount, amount_mistake};
 use cfs_model::{Amounts, Knobs, Setting};
 use clap::error::ErrorKind;
@@ -38,6 +40,10 @@ fn mistake(
 ) -> Result<Error, AllocError> {
     match amount_mistake(alloc, matches, &Setting::ALL)? {
         Some(error) => Ok(error),
+        None if color_for(matches).is_none() => command.error(
+            ErrorKind::InvalidValue,
+            "the value of '--color <WHEN>' is auto, always or never",
+        ),
         // clap has tested all else that is tested again there.
         None => command.error(
             ErrorKind::ArgumentConflict,
@@ -46,7 +52,7 @@ fn mistake(
     }
 }
 
-/// The two names, the settings, the flags, the file of states, and what clap adds: help and the version.
+/// The two names, the settings, the flags, the file of states, the colour, and what clap adds: help and the version.
 fn command<'a>(alloc: Global) -> Result<Command<'a>, AllocError>
     ensures { IfOk result (λ command. app_of command ≡ audit_app) }
 {
@@ -84,10 +90,18 @@ fn command<'a>(alloc: Global) -> Result<Command<'a>, AllocError>
             "summary",
             "Of a run print the counts alone, and no line for each task",
         ))?
-        .arg(file_option(
+        .arg(word_option(
             alloc,
             "states",
+            "FILE",
             "Write how the processor stands at each event to FILE, a JSON line for each",
+        ))?
+        .arg(json_flag(alloc)?)?
+        .arg(word_option(
+            alloc,
+            "color",
+            "WHEN",
+            "Colour the explanation: auto (on a terminal), always or never",
         ))
 }
 
@@ -135,12 +149,31 @@ fn flag<'a>(alloc: Global, id: &'a str, help: &'a str) -> Arg<'a>
         .help(help)
 }
 
-/// An option with a file's name.
-fn file_option<'a>(alloc: Global, id: &'a str, help: &'a str) -> Arg<'a>
-    ensures rule { rule_of result ≡ file_rule id.now }
+/// The flag for JSON, which doesn't go with an explanation.
+fn json_flag(alloc: Global) -> Result<Arg<'static>, AllocError>
+    ensures rule { IfOk result (λ flag. rule_of flag ≡ parted_flag_rule (codes "json")) }
+    ensures local { IfOk result (λ flag. flag.global ≡ false) }
+{
+    let flag = flag(alloc, "json", "Print the report as one JSON object");
+    let parted = beside(flag, "explain")?;
+    Ok(parted)
+}
+
+/// An option that doesn't go with the one of this name either.
+fn beside(option: Arg<'static>, other: &'static str) -> Result<Arg<'static>, AllocError>
+    ensures rule { IfOk result (λ parted. rule_of parted ≡ record (rule_of option.entry) { is_free = false }) }
+    ensures local { IfOk result (λ parted. parted.global ≡ option.entry.global) }
+{
+    let parted = option.conflicts_with(other)?;
+    Ok(parted)
+}
+
+/// An option with one word.
+fn word_option<'a>(alloc: Global, id: &'a str, value: &'a str, help: &'a str) -> Arg<'a>
+    ensures rule { rule_of result ≡ word_rule id.now }
     ensures local { result.global ≡ false }
 {
-    Arg::new(alloc, id).long(id).value_name("FILE").help(help)
+    Arg::new(alloc, id).long(id).value_name(value).help(help)
 }
 
 /// A flag that doesn't go with any of the settings.
@@ -162,7 +195,7 @@ fn beside_none(flag: Arg<'static>, settings: &[Setting]) -> Result<Arg<'static>,
 {
     let mut lone = flag;
     for setting in settings {
-        lone = lone.conflicts_with(setting.name())?;
+        lone = beside(lone, setting.name())?;
     }
     Ok(lone)
 }
@@ -181,16 +214,33 @@ fn request_of<'a>(matches: &ArgMatches<'a>) -> Option<Request<'a>>
     if reads_input_twice(trace, companion) {
         return None;
     }
+    let explain = flag_of(matches, "explain")?;
+    let json = flag_of(matches, "json")?;
+    if json && explain {
+        return None;
+    }
     Some(Request {
         trace,
         companion,
         knobs: knobs_of(matches)?,
         least,
         waits: flag_of(matches, "waits")?,
-        explain: flag_of(matches, "explain")?,
+        explain,
         summary: flag_of(matches, "summary")?,
         states: matches.get_str("states"),
+        json,
+        color: color_for(matches)?,
     })
+}
+
+/// When the explanation has colour; None where the option's word says none of the three.
+fn color_for(matches: &ArgMatches<'_>) -> Option<Color>
+    ensures { result ≡ color_for (rows_of (found_of matches.now)) }
+{
+    match matches.get_str("color") {
+        Some(word) => Color::of_word(word),
+        None => Some(Color::Auto),
+    }
 }
 
 /// Whether both names are that of standard input.

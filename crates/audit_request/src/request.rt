@@ -1,3 +1,4 @@
+use crate::Color;
 use cfs_model::Knobs;
 
 /// What a command line asks for.
@@ -17,6 +18,10 @@ pub struct Request<'a> {
     pub explain: bool,
     /// Whether a run's counts are asked for without its tasks.
     pub summary: bool,
+    /// Whether the report is asked for as JSON; then no explanation is.
+    pub json: bool,
+    /// When the explanation has colour.
+    pub color: Color,
     /// The name of the file that the states at each event go to, as given; if they are asked for.
     pub states: Option<&'a str>,
 }

@@ -3,7 +3,7 @@
 use crate::answers::wants_about;
 use cfs_model::{Knobs, Setting};
 use clap::error::ErrorKind;
-use sched_audit::{Request, command_line};
+use sched_audit::{Color, Request, command_line};
 use std::alloc::Global;
 
 /// The standard settings with this value of one.
@@ -23,6 +23,8 @@ fn judged(knobs: Knobs) -> Request<'static> {
         explain: false,
         summary: false,
         states: None,
+        json: false,
+        color: Color::Auto,
     }
 }
 
@@ -114,8 +116,8 @@ fn settings_have_defaults(rt: HostRuntime) {
 }
 
 /// What is asked for at the standard settings by these flags, in the order of the help, and with this file of states.
-fn flagged(flags: [bool; 4], states: Option<&'static str>) -> Request<'static> {
-    let [least, waits, explain, summary] = flags;
+fn flagged(flags: [bool; 5], states: Option<&'static str>) -> Request<'static> {
+    let [least, waits, explain, summary, json] = flags;
     Request {
         trace: "a",
         companion: "b",
@@ -125,20 +127,39 @@ fn flagged(flags: [bool; 4], states: Option<&'static str>) -> Request<'static> {
         explain,
         summary,
         states,
+        json,
+        color: Color::Auto,
     }
 }
 
 #[test]
 fn flags_and_the_file_of_states_are_taken(rt: HostRuntime) {
     for (option, flags, states) in [
-        ("--least", [true, false, false, false], None),
-        ("--waits", [false, true, false, false], None),
-        ("--explain", [false, false, true, false], None),
-        ("--summary", [false, false, false, true], None),
-        ("--states=c", [false, false, false, false], Some("c")),
+        ("--least", [true, false, false, false, false], None),
+        ("--waits", [false, true, false, false, false], None),
+        ("--explain", [false, false, true, false, false], None),
+        ("--summary", [false, false, false, true, false], None),
+        ("--states=c", [false, false, false, false, false], Some("c")),
+        ("--json", [false, false, false, false, true], None),
     ] {
         let words = ["sched_audit", "a", option, "b"];
         let wanted = flagged(flags, states);
+        wants_about(&rt, option, &asked(rt.alloc(), &words), &Ok(wanted));
+    }
+}
+
+#[test]
+fn colours_are_taken(rt: HostRuntime) {
+    for (option, color) in [
+        ("--color=auto", Color::Auto),
+        ("--color=always", Color::Always),
+        ("--color=never", Color::Never),
+    ] {
+        let words = ["sched_audit", "a", option, "b"];
+        let wanted = Request {
+            color,
+            ..judged(Knobs::standard())
+        };
         wants_about(&rt, option, &asked(rt.alloc(), &words), &Ok(wanted));
     }
 }
@@ -208,6 +229,8 @@ fn names_are_taken_as_given(rt: HostRuntime) {
             explain: false,
             summary: false,
             states: None,
+            json: false,
+            color: Color::Auto,
         };
         wants_about(&rt, trace, &asked(rt.alloc(), &words), &Ok(wanted));
     }
@@ -263,6 +286,14 @@ fn other_words_are_refused(rt: HostRuntime) {
         (
             ["sched_audit", "a", "b", "--least=1"].as_slice(),
             ErrorKind::TooManyValues,
+        ),
+        (
+            ["sched_audit", "a", "b", "--json", "--explain"].as_slice(),
+            ErrorKind::ArgumentConflict,
+        ),
+        (
+            ["sched_audit", "a", "b", "--color=red"].as_slice(),
+            ErrorKind::InvalidValue,
         ),
         (
             ["sched_audit", "-", "-"].as_slice(),

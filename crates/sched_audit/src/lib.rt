@@ -3,6 +3,7 @@
 
 mod headline;
 mod hearing;
+mod json;
 mod judging;
 mod laws;
 mod waits;
@@ -13,11 +14,13 @@ pub use audit_report::{
     Counted, Finding, Judgement, Outcome, Sink, SinkOf, Status, WithWaits, least_report, report,
     write_report,
 };
-pub use audit_request::{Request, command_line};
+pub use audit_request::{Color, Request, command_line};
 pub use headline::{audit_texts, least_texts, run, run_counted, run_least};
 pub use hearing::{Hearing, Kept};
+pub use json::run_json;
 pub use judging::judge;
 pub use laws::{laws_of_a_yes, one_least_outcome, one_outcome, one_run};
 pub use least_places::{LeastFigures, Place, Places};
+pub use report_json::{AsJson, Told};
 pub use ticket_book::{Summary, Verdict};
 pub use waits::{run_counted_waits, run_least_waits, run_waits};

@@ -2,11 +2,14 @@ use crate::ending::Ending;
 use crate::explaining::answer_kept;
 use crate::failure::Failure;
 use crate::hints::say_hints;
+use crate::json_report::answer_json;
+use crate::progress::{Size, WatchedFeed};
+use crate::terminals::Terminals;
 use clap::Error;
 use clap::error::ErrorKind::OutOfMemory;
 use given_texts::file_of;
 use sched_audit::{
-    Counted, Fault, FeedOf, Judgement, LeastFigures, OpenGate, Request, SinkOf, Status, Verdict,
+    AsJson, Counted, Fault, FeedOf, LeastFigures, OpenGate, Request, SinkOf, Status, Told, Verdict,
     WithWaits, command_line, run, run_counted, run_counted_waits, run_least, run_least_waits,
     run_waits,
 };
@@ -23,6 +26,7 @@ use std::{env, io};
 pub fn obey<R: Env + Files + Print + Eprint + AllocGlobal + RandomSource + Threads + Wait + Sync>(
     rt: &R,
     alloc: Global,
+    terminals: Terminals,
 ) -> Ending {
     let words = match words_of(rt, alloc) {
         Ok(words) => words,
@@ -35,7 +39,14 @@ pub fn obey<R: Env + Files + Print + Eprint + AllocGlobal + RandomSource + Threa
         }
     };
     match command_line(alloc, words.as_slice()) {
-        Ok(request) => ending_of(rt, alloc, &with_files(request)),
+        Ok(request) => {
+            let color = terminals.resolve(rt, request.color);
+            let request = Request {
+                color,
+                ..with_files(request)
+            };
+            ending_of(rt, alloc, &request, terminals)
+        }
         Err(error) => tell(rt, &error),
     }
 }
@@ -54,8 +65,9 @@ fn ending_of<R: Files + Print + Eprint + RandomSource + Threads + Wait + Sync>(
     rt: &R,
     alloc: Global,
     request: &Request<'_>,
+    terminals: Terminals,
 ) -> Ending {
-    match answer(rt, alloc, request) {
+    match answer(rt, alloc, request, terminals) {
         Ok(status) => {
             say_hints(rt, request, status);
             Ending::Answered(status)
@@ -71,47 +83,70 @@ fn words_of<R: Env + AllocGlobal>(rt: &R, alloc: Global) -> io::Result<Vec<Strin
 }
 
 /// Opens the trace, then the companion, and writes what is asked of them to standard output.
-fn answer<R: Files + Print + RandomSource + Threads + Wait + Sync>(
+fn answer<R: Files + Print + Eprint + RandomSource + Threads + Wait + Sync>(
     rt: &R,
     alloc: Global,
     request: &Request<'_>,
+    terminals: Terminals,
 ) -> Result<Status, Failure> {
     let trace = File::open(rt, request.trace).map_err(|_| Fault::ReadTrace)?;
     let companion = File::open(rt, request.companion).map_err(|_| Fault::ReadCompanion)?;
+    let size = Size::of(&trace, terminals.errors);
     if !request.explain && request.states.is_none() {
-        return Ok(answer_alone(rt, alloc, request, trace, companion)?);
+        return Ok(answer_alone(rt, alloc, request, trace, companion, size)?);
     }
     match (request.least, request.summary) {
-        (true, _) => answer_kept_as::<LeastFigures, R>(rt, alloc, request, trace, companion),
-        (false, true) => answer_kept_as::<Counted, R>(rt, alloc, request, trace, companion),
-        (false, false) => answer_kept_as::<Verdict, R>(rt, alloc, request, trace, companion),
+        (true, _) => answer_kept_as::<LeastFigures, R>(rt, alloc, request, trace, companion, size),
+        (false, true) => answer_kept_as::<Counted, R>(rt, alloc, request, trace, companion, size),
+        (false, false) => answer_kept_as::<Verdict, R>(rt, alloc, request, trace, companion, size),
     }
 }
 
 /// The same where the record is kept, with the waits of its tasks where they are asked for.
-fn answer_kept_as<J: Judgement, R: Files + Print + RandomSource + Threads + Wait + Sync>(
+fn answer_kept_as<J: Told, R: Files + Print + Eprint + RandomSource + Threads + Wait + Sync>(
     rt: &R,
     alloc: Global,
     request: &Request<'_>,
     trace: R::File,
     companion: R::File,
+    size: Size,
 ) -> Result<Status, Failure> {
     if request.waits {
-        answer_kept::<WithWaits<J>, R>(rt, alloc, request, trace, companion)
+        answer_kept_in::<WithWaits<J>, R>(rt, alloc, request, trace, companion, size)
     } else {
-        answer_kept::<J, R>(rt, alloc, request, trace, companion)
+        answer_kept_in::<J, R>(rt, alloc, request, trace, companion, size)
+    }
+}
+
+/// The same in lines, or as JSON where that is asked for.
+fn answer_kept_in<J: Told, R: Files + Print + Eprint + RandomSource + Threads + Wait + Sync>(
+    rt: &R,
+    alloc: Global,
+    request: &Request<'_>,
+    trace: R::File,
+    companion: R::File,
+    size: Size,
+) -> Result<Status, Failure> {
+    if request.json {
+        answer_kept::<AsJson<J>, R>(rt, alloc, request, trace, companion, size)
+    } else {
+        answer_kept::<J, R>(rt, alloc, request, trace, companion, size)
     }
 }
 
 /// Writes the report, and nothing behind it.
-fn answer_alone<R: Files + Print + RandomSource + Threads + Wait + Sync>(
+fn answer_alone<R: Files + Print + Eprint + RandomSource + Threads + Wait + Sync>(
     rt: &R,
     alloc: Global,
     request: &Request<'_>,
     trace: R::File,
     companion: R::File,
+    size: Size,
 ) -> Result<Status, Fault> {
-    let mut trace = FeedOf::new(trace);
+    if request.json {
+        return answer_json(rt, alloc, request, trace, companion, size);
+    }
+    let mut trace = WatchedFeed::new(rt, FeedOf::new(trace), size);
     let mut companion = FeedOf::new(companion);
     let mut out = SinkOf::new(io::writer(rt));
     let (trace, companion, out) = (&mut trace, &mut companion, &mut out);

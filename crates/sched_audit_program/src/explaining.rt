@@ -1,5 +1,6 @@
 //! The report of an audit, the states at its events, and behind them why that is a fault, or which line is refused.
 use crate::failure::Failure;
+use crate::progress::{Size, WatchedFeed};
 use crate::states::{file_of, write_states_to};
 use audit_input::{KeepingFeed, line_again, line_of};
 use cfs_model::Knobs;
@@ -7,8 +8,8 @@ use fault_explainer::{explanation, quoted_line};
 use pid_table::PidHasher;
 use replay_model::FirstFault;
 use sched_audit::{
-    Fault, Feed, FeedOf, Hearing, Judgement, Kept, OpenGate, Outcome, Request, SinkOf, Source,
-    Status, judge, write_report,
+    Color, Fault, Feed, FeedOf, Hearing, Judgement, Kept, OpenGate, Outcome, Request, SinkOf,
+    Source, Status, judge, write_report,
 };
 use sched_record::Record;
 use std::alloc::Global;
@@ -20,19 +21,28 @@ use std::rt::Files;
 use std::sync::Wait;
 use std::thread::Threads;
 
+/// Begins a colour on a terminal, and ends it.
+const COLOR: &[u8] = b"\x1b[36m";
+
+const PLAIN: &[u8] = b"\x1b[0m";
+
 /// What is written where the trace can't be read a second time.
 const NOT_EXPLAINED: &[u8] = b"# no explanation: the texts can't be read a second time\n";
 
 /// Judges both inputs, and writes the report, and what of the record is asked for beside it.
-pub(crate) fn answer_kept<J: Judgement, R: Files + Print + RandomSource + Threads + Wait + Sync>(
+pub(crate) fn answer_kept<
+    J: Judgement,
+    R: Files + Print + Eprint + RandomSource + Threads + Wait + Sync,
+>(
     rt: &R,
     alloc: Global,
     request: &Request<'_>,
     trace: R::File,
     companion: R::File,
+    size: Size,
 ) -> Result<Status, Failure> {
     let keeps = request.explain && !is_regular(&trace);
-    let mut trace = KeepingFeed::new(alloc, FeedOf::new(trace), keeps);
+    let mut trace = KeepingFeed::new(alloc, WatchedFeed::new(rt, FeedOf::new(trace), size), keeps);
     let mut companion = FeedOf::new(companion);
     let knobs = request.knobs;
     let hearing: Hearing<J> = judge(rt, alloc, &mut trace, &mut companion, knobs, &OpenGate)?;
@@ -69,7 +79,22 @@ fn explain<J: Judgement, R: Files + Print + RandomSource, F: Feed>(
         Some(told) => told.as_slice(),
         None => NOT_EXPLAINED,
     };
+    if request.color == Color::Always {
+        return write_colored(rt, told);
+    }
     io::writer(rt).write_all(told).map_err(|_| Fault::Write)
+}
+
+/// Writes lines, each in colour.
+fn write_colored<R: Print>(rt: &R, lines: &[u8]) -> Result<(), Fault> {
+    let mut out = io::writer(rt);
+    for line in lines.split_inclusive(|byte| *byte == b'\n') {
+        let words = line.strip_suffix(b"\n").unwrap_or(line);
+        for part in [COLOR, words, PLAIN, b"\n"] {
+            out.write_all(part).map_err(|_| Fault::Write)?;
+        }
+    }
+    Ok(())
 }
 
 /// What there is to say of a fault or a refusal. None where the trace can't be read a second time.

@@ -6,13 +6,22 @@ mod ending;
 mod explaining;
 mod failure;
 mod hints;
+mod json_report;
+mod progress;
 mod states;
+mod terminals;
 
 use ending::Ending;
+use std::io::IsTerminal;
 use std::process::ExitCode;
+use terminals::Terminals;
 
 fn main(rt: HostRuntime) -> ExitCode {
-    let ending = command::obey(&rt, rt.alloc());
+    let terminals = Terminals {
+        output: rt.stdout().is_terminal(),
+        errors: rt.stderr().is_terminal(),
+    };
+    let ending = command::obey(&rt, rt.alloc(), terminals);
     match ending {
         Ending::Failed(fault) => {
             let _ = eprintln!(rt; "sched_audit: {fault}");

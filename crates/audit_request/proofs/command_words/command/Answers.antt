@@ -23,6 +23,10 @@ returns c =
     let waits = c.in_ok-arg-3.ensures.shape c.flag.ensures.local ∙ ap₂ with_rule least c.flag.ensures.rule in
     let explain = c.in_ok-arg-4.ensures.shape c.flag-2.ensures.local ∙ ap₂ with_rule waits c.flag-2.ensures.rule in
     let summary = c.in_ok-arg-5.ensures.shape c.flag-3.ensures.local ∙ ap₂ with_rule explain c.flag-3.ensures.rule in
-    IfOk-weaker c.arg-7.result _ _
-    (λ command added. added.shape c.file_option.ensures.local ∙ ap₂ with_rule summary c.file_option.ensures.rule)
-    c.arg-7.ensures
+    let states = c.in_ok-arg-6.ensures.shape c.word_option.ensures.local
+    ∙ ap₂ with_rule summary c.word_option.ensures.rule in
+    let json = c.in_ok-arg-7.ensures.shape c.in_ok-json_flag.ensures.local
+    ∙ ap₂ with_rule states c.in_ok-json_flag.ensures.rule in
+    IfOk-weaker c.arg-9.result _ _
+    (λ command added. added.shape c.word_option-2.ensures.local ∙ ap₂ with_rule json c.word_option-2.ensures.rule)
+    c.arg-9.ensures

@@ -1,5 +1,5 @@
 -- The text that is read is the one that the parse gives the option; what is answered of its amount is that amount.
-use Rattle.std.proofs.Common.{ℕ, List, ◌≡◌, ◌∙◌, Option, None, Some, Result, Ok, ap, ap₂, refl, sym, option_map}
+use Rattle.std.proofs.Common.{ℕ, List, ◌≡◌, ◌∙◌, Option, None, Some, Ok, ap, ap₂, refl, sym, option_map}
 use Rattle.std.specs.Prelude.{unwrap_or}
 use Rattle.std.specs.Option.{option_map_or}
 use Rattle.amount_words.specs.Amount.{Answers, amount_of}

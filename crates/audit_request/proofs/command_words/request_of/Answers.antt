@@ -16,8 +16,11 @@ returns c =
       least = c.in_ok-least.ensures;
       alone = search rules;
       waits = c.in_ok-flag_of.ensures;
-      explain = c.in_ok-flag_of-2.ensures;
-      summary = c.in_ok-flag_of-3.ensures;
+      explain = c.in_ok-explain.ensures;
+      summary = c.in_ok-flag_of-2.ensures;
       states = c.get_str-3.ensures ∙ first_value-rows f (codes "states");
+      json = c.in_ok-json.ensures;
+      parted = search rules;
+      color = search rules;
       once = sym c.reads_input_twice.ensures ∙ c.if-reads_input_twice.false;
     }

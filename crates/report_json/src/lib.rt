@@ -1,0 +1,13 @@
+//! What comes out of an audit as one JSON object, for scripts.
+#![tactic(auto)]
+
+mod as_json;
+mod element;
+mod faults;
+mod least_settings;
+mod runs;
+mod told;
+mod waits;
+
+pub use as_json::AsJson;
+pub use told::Told;

@@ -2,11 +2,12 @@
 _sched_audit() {
   local word=${COMP_WORDS[COMP_CWORD]} before=${COMP_WORDS[COMP_CWORD - 1]}
   case $before in
+    --color) mapfile -t COMPREPLY < <(compgen -W "auto always never" -- "$word"); return ;;
     --granularity-ns | --credit-ns | --debit-ns | --slack-ns | --drift-ns) return ;;
   esac
   if [[ $word == -* ]]; then
     mapfile -t COMPREPLY < <(compgen -W \
-      "--granularity-ns --credit-ns --debit-ns --slack-ns --drift-ns --least --waits --explain --summary --states -h --help -V --version" \
+      "--granularity-ns --credit-ns --debit-ns --slack-ns --drift-ns --least --waits --explain --summary --states --json --color -h --help -V --version" \
       -- "$word")
   else
     compopt -o filenames

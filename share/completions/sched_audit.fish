@@ -9,5 +9,8 @@ complete -c sched_audit -l waits -d 'After the report of a run, say how long eac
 complete -c sched_audit -l explain -d 'After a fault or a refusal, say why in lines that begin with #'
 complete -c sched_audit -l summary -d 'Of a run print the counts alone, and no line for each task'
 complete -c sched_audit -l states -r -d 'Write how the processor stands at each event to FILE, a JSON line for each'
+complete -c sched_audit -l json -d 'Print the report as one JSON object'
+complete -c sched_audit -l color -x -a 'auto always never' \
+  -d 'Colour the explanation: auto (on a terminal), always or never'
 complete -c sched_audit -s h -l help -d 'Print help'
 complete -c sched_audit -s V -l version -d 'Print version'

@@ -1,5 +1,7 @@
 """Whether a value is of a JSON schema, of those words of schemas that the tree's own use."""
 
+import re
+
 
 def refusals(schema, value, whole):
     """What is wrong with a value; nothing where it is of the schema, which is a part of the whole one."""
@@ -21,15 +23,21 @@ def of_integer(schema, value, _whole):
     return [] if type(value) is int and least <= value <= most else [f"{value!r} isn't an integer in range"]
 
 
-def of_string(_schema, value, _whole):
-    return [] if type(value) is str else [f"{value!r} is no string"]
+def of_string(schema, value, _whole):
+    if type(value) is not str:
+        return [f"{value!r} is no string"]
+    return [] if re.search(schema.get("pattern", ""), value) else [f"{value!r} isn't of {schema['pattern']}"]
 
 
 def of_array(schema, value, whole):
+    if type(value) is not list:
+        return [f"{value!r} is no array"]
     return [wrong for one in value for wrong in refusals(schema["items"], one, whole)]
 
 
 def of_object(schema, value, whole):
+    if type(value) is not dict:
+        return [f"{value!r} is no object"]
     known = schema["properties"]
     return [*(f"{key} is missing" for key in schema.get("required", []) if key not in value),
             *(f"{key} isn't known" for key in value if key not in known),

@@ -7,6 +7,7 @@ mod explaining;
 mod failure;
 mod hints;
 mod states;
+mod trace_again;
 
 use ending::Ending;
 use std::process::ExitCode;

@@ -1,3 +1,5 @@
+use crate::duration::Nanoseconds;
+use crate::names::{Named, Names};
 use crate::task_words::weight_words;
 use cfs_model::weight_of;
 use runqueue::{Runqueue, SchedEntity};
@@ -12,12 +14,27 @@ pub(crate) struct Charge {
     ran: u64,
 }
 
+/// A charge in words.
+#[derive(Clone, Copy)]
+pub(crate) struct NamedCharge<'a> {
+    charge: Charge,
+    named: Named<'a>,
+}
+
 impl Charge {
     /// That of who runs, up to a time in nanoseconds.
     pub(crate) fn at(queue: &Runqueue, time: u64) -> Option<Charge> {
         let task = queue.runner()?;
         let ran = time.saturating_sub(queue.mark());
         Some(Charge { task, ran })
+    }
+
+    /// In words, with its task's name.
+    pub(crate) fn told_of(self, names: &Names) -> NamedCharge<'_> {
+        NamedCharge {
+            charge: self,
+            named: names.named(self.task.pid),
+        }
     }
 
     /// In virtual nanoseconds, however many they are.
@@ -33,16 +50,17 @@ impl Charge {
     }
 }
 
-impl fmt::Display for Charge {
+impl fmt::Display for NamedCharge<'_> {
     fn fmt<W: fmt::Write>(&self, f: &mut fmt::Formatter<W>) -> fmt::Result {
-        let SchedEntity { pid, v, .. } = self.task;
-        let ran = self.ran;
-        let weight_words = weight_words(&self.task);
-        let cost = self.cost();
-        let to = self.to();
+        let NamedCharge { charge, named } = self;
+        let from = charge.task.v;
+        let ran = Nanoseconds(charge.ran);
+        let weight_words = weight_words(&charge.task);
+        let cost = charge.cost();
+        let to = charge.to();
         write!(
             f,
-            "pid {pid} ran {ran} at {weight_words}, which costs {cost}: from {v} to {to}"
+            "{named} ran {ran} at {weight_words}, which costs {cost}: from {from} to {to}"
         )
     }
 }

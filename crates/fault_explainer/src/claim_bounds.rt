@@ -1,6 +1,7 @@
 //! What a claim has to say, beside what it says.
 
 use crate::companion_lines::word_of;
+use crate::names::Named;
 use crate::processor::Processor;
 use crate::scene::Scene;
 use crate::task_words::{verb, weight_words};
@@ -47,7 +48,7 @@ fn fork_bounds(scene: &Scene) -> Bounds {
 
 /// A claim that isn't there, or is of the wrong sort.
 pub(crate) fn push_claim_missing(text: &mut String, scene: &Scene) -> Result<(), AllocError> {
-    push_need(text, scene.event.act.subject(), scene.event.act)?;
+    push_need(text, scene.subject(), scene.event.act)?;
     match scene.event.ends() {
         Some(_) => push_moved(text, scene),
         None => push_by_the_rules(text, scene),
@@ -55,14 +56,14 @@ pub(crate) fn push_claim_missing(text: &mut String, scene: &Scene) -> Result<(),
 }
 
 /// What an event does that needs a claim.
-fn push_need(text: &mut String, pid: u32, act: Act) -> Result<(), AllocError> {
+fn push_need(text: &mut String, named: Named<'_>, act: Act) -> Result<(), AllocError> {
     let does = match act {
         Act::Switch { .. } => "is put back",
         Act::Wake { .. } => "wakes from rest",
         Act::Born { .. } => "is born",
         Act::Shift { .. } => "is moved",
     };
-    writeln!(text, "# pid {pid} {does}, which needs a claim of its own")
+    writeln!(text, "# {named} {does}, which needs a claim of its own")
 }
 
 /// What a task is claimed at by the rules that is put back, woken or born.
@@ -153,33 +154,33 @@ pub(crate) fn push_claim_extra(text: &mut String, scene: &Scene) -> Result<(), A
             prev,
             way: Way::Sleeps,
             ..
-        } => push_goes(text, prev, "goes to sleep"),
+        } => push_goes(text, scene.named(prev), "goes to sleep"),
         Act::Switch {
             prev,
             way: Way::Ends,
             ..
-        } => push_goes(text, prev, "ends"),
-        _ => push_stays(
-            text,
-            scene.event.act.subject(),
-            scene.task(scene.event.act.subject()),
-        ),
+        } => push_goes(text, scene.named(prev), "ends"),
+        _ => push_stays(text, scene.subject(), scene.task(scene.event.act.subject())),
     }
 }
 
 /// A previous task that needs no claim for how it goes.
-fn push_goes(text: &mut String, pid: u32, goes: &str) -> Result<(), AllocError> {
-    writeln!(text, "# the event needs no claim: pid {pid} {goes}")
+fn push_goes(text: &mut String, named: Named<'_>, goes: &str) -> Result<(), AllocError> {
+    writeln!(text, "# the event needs no claim: {named} {goes}")
 }
 
 /// A task that needs no claim for where it is.
-fn push_stays(text: &mut String, pid: u32, task: Option<SchedEntity>) -> Result<(), AllocError> {
+fn push_stays(
+    text: &mut String,
+    named: Named<'_>,
+    task: Option<SchedEntity>,
+) -> Result<(), AllocError> {
     match task {
         Some(task) => {
             let verb = verb(&task);
             writeln!(
                 text,
-                "# the event needs no claim: pid {pid} {verb} there already"
+                "# the event needs no claim: {named} {verb} there already"
             )
         }
         None => writeln!(text, "# the event needs no claim"),
@@ -188,29 +189,34 @@ fn push_stays(text: &mut String, pid: u32, task: Option<SchedEntity>) -> Result<
 
 /// A claim of another task.
 pub(crate) fn push_claim_pid(text: &mut String, scene: &Scene) -> Result<(), AllocError> {
-    let claimed = scene.fault.pid;
-    let pid = scene.event.act.subject();
+    let claimed = scene.named(scene.fault.pid);
+    let named = scene.subject();
     writeln!(
         text,
-        "# the claim is of pid {claimed}; the event needs one of pid {pid}"
+        "# the claim is of {claimed}; the event needs one of {named}"
     )
 }
 
 /// A previous task that is put back at another virtual runtime than its own.
 pub(crate) fn push_wrong_put_back(text: &mut String, scene: &Scene) -> Result<(), AllocError> {
     match (scene.task(scene.fault.pid), scene.event.claim) {
-        (Some(task), Some(claim)) => push_apart(text, claim.pid, claim.v, task.v),
+        (Some(task), Some(claim)) => { push_apart(text, scene.named(claim.pid), claim.v, task.v) },
         _ => Ok(()),
     }
 }
 
 /// How far what is claimed is from a task's own virtual runtime.
-fn push_apart(text: &mut String, pid: u32, claimed: i64, own: i64) -> Result<(), AllocError> {
+fn push_apart(
+    text: &mut String,
+    named: Named<'_>,
+    claimed: i64,
+    own: i64,
+) -> Result<(), AllocError> {
     let apart = own.abs_diff(claimed);
     let side = if claimed > own { "above" } else { "below" };
     writeln!(
         text,
-        "# pid {pid} is claimed at {claimed}, which is {apart} {side} {own}, where it is after the charge"
+        "# {named} is claimed at {claimed}, which is {apart} {side} {own}, where it is after the charge"
     )
 }
 
@@ -249,19 +255,36 @@ fn push_fork_rule(text: &mut String, floor: i64, debit: u64) -> Result<(), Alloc
 fn push_outside(text: &mut String, scene: &Scene, bounds: Bounds) -> Result<(), AllocError> {
     match scene.event.claim {
         Some(claim) if i128::from(claim.v) < bounds.least => {
-            push_beyond(text, claim, "below the least", bounds.least)
+            push_beyond(
+                text,
+                scene.named(claim.pid),
+                claim.v,
+                "below the least",
+                bounds.least,
+            )
         }
-        Some(claim) => push_beyond(text, claim, "above the greatest", bounds.greatest),
+        Some(claim) => push_beyond(
+            text,
+            scene.named(claim.pid),
+            claim.v,
+            "above the greatest",
+            bounds.greatest,
+        ),
         None => Ok(()),
     }
 }
 
-fn push_beyond(text: &mut String, claim: Claim, side: &str, bound: i128) -> Result<(), AllocError> {
-    let Claim { pid, v, .. } = claim;
+fn push_beyond(
+    text: &mut String,
+    named: Named<'_>,
+    v: i64,
+    side: &str,
+    bound: i128,
+) -> Result<(), AllocError> {
     let apart = i128::from(v).abs_diff(bound);
     writeln!(
         text,
-        "# pid {pid} is claimed at {v}, which is {apart} {side}, {bound}"
+        "# {named} is claimed at {v}, which is {apart} {side}, {bound}"
     )
 }
 

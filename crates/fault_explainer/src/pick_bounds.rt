@@ -1,6 +1,8 @@
 //! Who is picked, how long nobody is, and where running leads.
 
 use crate::charge::Charge;
+use crate::duration::Nanoseconds;
+use crate::names::Named;
 use crate::scene::Scene;
 use cfs_model::GREATEST_RUNTIME;
 use runqueue::WaitingTask;
@@ -18,7 +20,9 @@ pub(crate) fn push_idle_too_long(text: &mut String, scene: &Scene) -> Result<(),
 }
 
 fn push_idled(text: &mut String, cpu: u32, since: u64, time: u64) -> Result<(), AllocError> {
-    let idled = time.saturating_sub(since);
+    let idled = Nanoseconds(time.saturating_sub(since));
+    let since = Nanoseconds(since);
+    let time = Nanoseconds(time);
     writeln!(
         text,
         "# nobody has run at cpu {cpu} beside a waiting task since {since}, which is {idled} before this line at {time}"
@@ -26,24 +30,28 @@ fn push_idled(text: &mut String, cpu: u32, since: u64, time: u64) -> Result<(), 
 }
 
 fn push_slack(text: &mut String, slack: u64) -> Result<(), AllocError> {
+    let slack = Nanoseconds(slack);
     writeln!(text, "# the slack allows {slack}")
 }
 
 /// Where the charge leads.
 pub(crate) fn push_range(text: &mut String, scene: &Scene) -> Result<(), AllocError> {
     match Charge::at(&scene.at_fault().queue, scene.event.time) {
-        Some(charge) => push_beyond_range(text, charge),
+        Some(charge) => push_beyond_range(text, charge, scene.named(charge.task.pid)),
         None => Ok(()),
     }
 }
 
-fn push_beyond_range(text: &mut String, charge: Charge) -> Result<(), AllocError> {
-    let pid = charge.task.pid;
+fn push_beyond_range(
+    text: &mut String,
+    charge: Charge,
+    named: Named<'_>,
+) -> Result<(), AllocError> {
     let to = charge.to();
     let cost = charge.cost();
     writeln!(
         text,
-        "# pid {pid} would be at {to}, charged {cost}; neither may be above {GREATEST_RUNTIME}"
+        "# {named} would be at {to}, charged {cost}; neither may be above {GREATEST_RUNTIME}"
     )
 }
 
@@ -51,21 +59,23 @@ fn push_beyond_range(text: &mut String, charge: Charge) -> Result<(), AllocError
 pub(crate) fn push_idle_beside_waiting(text: &mut String, scene: &Scene) -> Result<(), AllocError> {
     let waiting = scene.here.queue.waiting();
     match waiting.first() {
-        Some(least) => push_passed_over(text, scene.here.cpu, *least, waiting.len()),
+        Some(least) => push_passed_over(text, scene, *least, waiting.len()),
         None => Ok(()),
     }
 }
 
 fn push_passed_over(
     text: &mut String,
-    cpu: u32,
+    scene: &Scene,
     least: WaitingTask,
     count: usize,
 ) -> Result<(), AllocError> {
+    let cpu = scene.here.cpu;
     let WaitingTask { v, pid } = least;
+    let named = scene.named(pid);
     writeln!(
         text,
-        "# cpu {cpu} goes idle while pid {pid} waits at {v}; tasks that wait: {count}, allowed: 0"
+        "# cpu {cpu} goes idle while {named} waits at {v}; tasks that wait: {count}, allowed: 0"
     )
 }
 
@@ -78,7 +88,7 @@ pub(crate) fn push_not_least(text: &mut String, scene: &Scene) -> Result<(), All
                 v: task.v,
                 pid: next,
             };
-            push_above(text, next, *least, scene.knobs.granularity())
+            push_above(text, scene, next, *least)
         }
         _ => Ok(()),
     }
@@ -86,16 +96,18 @@ pub(crate) fn push_not_least(text: &mut String, scene: &Scene) -> Result<(), All
 
 fn push_above(
     text: &mut String,
+    scene: &Scene,
     next: WaitingTask,
     least: WaitingTask,
-    granularity: u64,
 ) -> Result<(), AllocError> {
-    let WaitingTask { v, pid } = next;
-    let other = least.pid;
+    let v = next.v;
     let low = least.v;
     let apart = v.abs_diff(low);
+    let granularity = scene.knobs.granularity();
+    let next = scene.named(next.pid);
+    let least = scene.named(least.pid);
     writeln!(
         text,
-        "# pid {pid} at {v} is above the least that waits, pid {other} at {low}, by {apart}; the granularity allows {granularity}"
+        "# {next} at {v} is above the least that waits, {least} at {low}, by {apart}; the granularity allows {granularity}"
     )
 }

@@ -1,5 +1,6 @@
 //! Who stands where, and which prio is printed.
 
+use crate::names::Named;
 use crate::scene::{Scene, lies_in_place};
 use crate::task_words::{verb, weight_words};
 use cfs_model::{Act, IDLE_PID, Kind, Nice, NiceLine};
@@ -30,26 +31,22 @@ pub(crate) fn push_self_switch(text: &mut String, scene: &Scene) -> Result<(), A
 
 /// The printed previous task, and who runs.
 pub(crate) fn push_prev_not_running(text: &mut String, scene: &Scene) -> Result<(), AllocError> {
-    push_runner(
-        text,
-        scene.here.cpu,
-        scene.fault.pid,
-        scene.here.queue.runner(),
-    )?;
+    push_runner(text, scene, scene.here.queue.runner())?;
     push_stood(text, scene)
 }
 
 fn push_runner(
     text: &mut String,
-    cpu: u32,
-    prev: u32,
+    scene: &Scene,
     runner: Option<SchedEntity>,
 ) -> Result<(), AllocError> {
+    let cpu = scene.here.cpu;
+    let prev = scene.fault.pid;
     match runner {
-        Some(SchedEntity { pid, .. }) => writeln!(
-            text,
-            "# prev_pid is {prev}, but at cpu {cpu} pid {pid} runs"
-        ),
+        Some(SchedEntity { pid, .. }) => {
+            let named = scene.named(pid);
+            writeln!(text, "# prev_pid is {prev}, but at cpu {cpu} {named} runs")
+        }
         None => writeln!(
             text,
             "# prev_pid is {prev}, but at cpu {cpu} nobody runs, for which pid {IDLE_PID} stands"
@@ -59,42 +56,44 @@ fn push_runner(
 
 /// A task that doesn't stand where the event wants it.
 pub(crate) fn push_strange(text: &mut String, scene: &Scene) -> Result<(), AllocError> {
-    push_absent(text, scene.here.cpu, scene.fault.pid, scene.event.nice)?;
+    push_absent(text, scene, scene.fault.pid, scene.event.nice)?;
     push_stood(text, scene)
 }
 
 fn push_absent(
     text: &mut String,
-    cpu: u32,
+    scene: &Scene,
     pid: u32,
     change: Option<NiceLine>,
 ) -> Result<(), AllocError> {
+    let cpu = scene.here.cpu;
+    let named = scene.named(pid);
     match change {
         Some(change) if change.pid == pid => writeln!(
             text,
-            "# the companion changes the nice value of pid {pid}, which doesn't stand at cpu {cpu}"
+            "# the companion changes the nice value of {named}, which doesn't stand at cpu {cpu}"
         ),
-        _ => writeln!(text, "# pid {pid} doesn't stand at cpu {cpu}"),
+        _ => writeln!(text, "# {named} doesn't stand at cpu {cpu}"),
     }
 }
 
 /// A task that comes where it lives, or is born while it lives.
 pub(crate) fn push_lives(text: &mut String, scene: &Scene) -> Result<(), AllocError> {
-    push_life(text, scene.fault)?;
+    push_life(text, scene.fault, scene.named(scene.fault.pid))?;
     push_stood(text, scene)
 }
 
-fn push_life(text: &mut String, fault: FirstFault) -> Result<(), AllocError> {
-    let FirstFault { cpu, pid, kind, .. } = fault;
+fn push_life(text: &mut String, fault: FirstFault, named: Named<'_>) -> Result<(), AllocError> {
+    let FirstFault { cpu, kind, .. } = fault;
     if kind == Kind::BornTwice {
         writeln!(
             text,
-            "# pid {pid} is born at cpu {cpu} while it lives elsewhere"
+            "# {named} is born at cpu {cpu} while it lives elsewhere"
         )
     } else {
         writeln!(
             text,
-            "# pid {pid} comes to cpu {cpu}, where it stands already"
+            "# {named} comes to cpu {cpu}, where it stands already"
         )
     }
 }
@@ -102,10 +101,10 @@ fn push_life(text: &mut String, fault: FirstFault) -> Result<(), AllocError> {
 /// A task that is moved while it runs.
 pub(crate) fn push_running(text: &mut String, scene: &Scene) -> Result<(), AllocError> {
     let cpu = scene.here.cpu;
-    let pid = scene.fault.pid;
+    let named = scene.named(scene.fault.pid);
     writeln!(
         text,
-        "# pid {pid} runs at cpu {cpu}; only a task that waits or rests can be moved"
+        "# {named} runs at cpu {cpu}; only a task that waits or rests can be moved"
     )
 }
 
@@ -126,18 +125,26 @@ fn push_unpicked(text: &mut String, cpu: u32, pid: u32) -> Result<(), AllocError
 pub(crate) fn push_wrong_prio(text: &mut String, scene: &Scene) -> Result<(), AllocError> {
     let pid = scene.fault.pid;
     match scene.task(pid) {
-        Some(task) => push_prios(text, pid, task.nice, printed_nice(scene.event.act, pid)),
+        Some(task) => {
+            let printed = printed_nice(scene.event.act, pid);
+            push_prios(text, scene.named(pid), task.nice, printed)
+        }
         None => Ok(()),
     }
 }
 
-fn push_prios(text: &mut String, pid: u32, nice: Nice, printed: Nice) -> Result<(), AllocError> {
+fn push_prios(
+    text: &mut String,
+    named: Named<'_>,
+    nice: Nice,
+    printed: Nice,
+) -> Result<(), AllocError> {
     let nice = nice.get();
     let own = PRIO_OF_NICE_0 + nice;
     let other = PRIO_OF_NICE_0 + printed.get();
     writeln!(
         text,
-        "# the line prints prio {other} of pid {pid}; by its nice value {nice} it is {own}"
+        "# the line prints prio {other} of {named}; by its nice value {nice} it is {own}"
     )
 }
 
@@ -158,12 +165,12 @@ fn printed_nice(act: Act, task: u32) -> Nice {
 
 /// Where the fault's task stood before, where the fault lies in that.
 pub(crate) fn push_stood(text: &mut String, scene: &Scene) -> Result<(), AllocError> {
-    let pid = scene.fault.pid;
+    let named = scene.named(scene.fault.pid);
     match scene.stood {
-        Some((cpu, task)) => push_stood_at(text, cpu, pid, task),
+        Some((cpu, task)) => push_stood_at(text, cpu, named, task),
         None if lies_in_place(scene.fault) => writeln!(
             text,
-            "# before this line pid {pid} stands nowhere: it wasn't there yet, or it has ended"
+            "# before this line {named} stands nowhere: it wasn't there yet, or it has ended"
         ),
         None => Ok(()),
     }
@@ -172,7 +179,7 @@ pub(crate) fn push_stood(text: &mut String, scene: &Scene) -> Result<(), AllocEr
 fn push_stood_at(
     text: &mut String,
     cpu: u32,
-    pid: u32,
+    named: Named<'_>,
     task: SchedEntity,
 ) -> Result<(), AllocError> {
     let weight_words = weight_words(&task);
@@ -180,6 +187,6 @@ fn push_stood_at(
     let SchedEntity { v, .. } = task;
     writeln!(
         text,
-        "# before this line pid {pid} {verb} at cpu {cpu}, at {v}, {weight_words}"
+        "# before this line {named} {verb} at cpu {cpu}, at {v}, {weight_words}"
     )
 }

@@ -1,3 +1,4 @@
+use crate::origin::Origin;
 use cfs_model::{Knobs, Memory};
 use pid_table::PidHasher;
 use queue_replay::Replay;
@@ -12,6 +13,8 @@ pub(crate) struct Processor {
     pub queue: Runqueue,
     /// Since when nothing has run there while somebody waited, in nanoseconds; if that is so.
     pub since: Option<u64>,
+    /// How who runs and those who wait came there, where that was asked for.
+    pub origins: Vec<Origin>,
 }
 
 impl Processor {
@@ -29,12 +32,13 @@ impl Processor {
                 cpu,
                 queue: Runqueue::empty(alloc, hasher, 0, record.start()),
                 since: None,
+                origins: Vec::new(alloc),
             });
         }
         let stream = record.deal(cpu)?;
         let above = stream.steps().partition_point(|step| step.line < line);
         match Replay::with_hasher(alloc, stream, knobs, hasher) {
-            Ok(replay) => Processor::after(replay, cpu, above),
+            Ok(replay) => Processor::after(alloc, replay, cpu, above),
             Err((_, memory)) => Err(memory),
         }
     }
@@ -46,13 +50,14 @@ impl Processor {
     }
 
     /// As it is after so many steps of its replay.
-    fn after(replay: Replay, cpu: u32, steps: usize) -> Result<Processor, Memory> {
+    fn after(alloc: Global, replay: Replay, cpu: u32, steps: usize) -> Result<Processor, Memory> {
         let mut replay = replay;
         replay.go_on(steps as u64)?;
         Ok(Processor {
             cpu,
             since: replay.idled_since(),
             queue: replay.into_runqueue(),
+            origins: Vec::new(alloc),
         })
     }
 }

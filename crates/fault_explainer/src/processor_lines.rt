@@ -1,26 +1,42 @@
 //! What is told of a processor.
 
 use crate::charge::Charge;
+use crate::duration::Nanoseconds;
+use crate::names::Names;
+use crate::origin::{Origin, Since};
 use crate::processor::Processor;
 use crate::task_words::weight_words;
 use runqueue::{Runqueue, SchedEntity};
 use std::alloc::AllocError;
 
 /// The most waiting tasks of a processor that are told.
-const MOST_WAITING: usize = 20;
+pub(crate) const MOST_WAITING: usize = 20;
+
+/// Who stands at a processor, in words: with names, and with how long the tasks have run or waited up to a time in
+/// nanoseconds.
+#[derive(Clone, Copy)]
+pub(crate) struct Telling<'a> {
+    pub names: &'a Names,
+    pub origins: &'a [Origin],
+    pub time: u64,
+}
 
 /// How it stands before the event.
-pub(crate) fn push_processor(text: &mut String, processor: &Processor) -> Result<(), AllocError> {
+pub(crate) fn push_processor(
+    text: &mut String,
+    processor: &Processor,
+    telling: Telling<'_>,
+) -> Result<(), AllocError> {
     let queue = &processor.queue;
     push_marks(text, processor.cpu, queue)?;
-    push_runner(text, queue.runner())?;
-    push_waiting(text, queue)?;
+    push_runner(text, queue.runner(), telling)?;
+    push_waiting(text, queue, telling)?;
     push_others(text, queue.waiting().len())
 }
 
 fn push_marks(text: &mut String, cpu: u32, queue: &Runqueue) -> Result<(), AllocError> {
     let floor = queue.floor();
-    let mark = queue.mark();
+    let mark = Nanoseconds(queue.mark());
     writeln!(
         text,
         "# cpu {cpu} before this line: floor {floor}, mark {mark}"
@@ -28,27 +44,49 @@ fn push_marks(text: &mut String, cpu: u32, queue: &Runqueue) -> Result<(), Alloc
 }
 
 /// Who runs.
-fn push_runner(text: &mut String, runner: Option<SchedEntity>) -> Result<(), AllocError> {
+fn push_runner(
+    text: &mut String,
+    runner: Option<SchedEntity>,
+    telling: Telling<'_>,
+) -> Result<(), AllocError> {
     match runner {
-        Some(task) => push_task(text, task, "runs"),
+        Some(task) => push_task(text, task, "runs", telling),
         None => writeln!(text, "#   nobody runs"),
     }
 }
 
 /// Those who wait, the least first.
-fn push_waiting(text: &mut String, queue: &Runqueue) -> Result<(), AllocError> {
+fn push_waiting(
+    text: &mut String,
+    queue: &Runqueue,
+    telling: Telling<'_>,
+) -> Result<(), AllocError> {
     for waiting in queue.waiting().iter().take(MOST_WAITING) {
         if let Some(task) = queue.task_at(waiting.pid) {
-            push_task(text, task, "waits")?;
+            push_task(text, task, "waits", telling)?;
         }
     }
     Ok(())
 }
 
-fn push_task(text: &mut String, task: SchedEntity, verb: &str) -> Result<(), AllocError> {
+fn push_task(
+    text: &mut String,
+    task: SchedEntity,
+    verb: &str,
+    telling: Telling<'_>,
+) -> Result<(), AllocError> {
     let SchedEntity { pid, v, .. } = task;
+    let named = telling.names.named(pid);
     let weight_words = weight_words(&task);
-    writeln!(text, "#   pid {pid} {verb} at {v}, {weight_words}")
+    write!(text, "#   {named} {verb} at {v}, {weight_words}")?;
+    match telling.origins.iter().find(|origin| origin.pid == pid) {
+        Some(origin) => push_since(text, origin.until(telling.time)),
+        None => writeln!(text, ""),
+    }
+}
+
+fn push_since(text: &mut String, since: Since) -> Result<(), AllocError> {
+    writeln!(text, ", {since}")
 }
 
 /// That nobody waits, or how many more than are told.
@@ -68,10 +106,14 @@ pub(crate) fn push_charge(
     text: &mut String,
     processor: &Processor,
     time: u64,
+    names: &Names,
 ) -> Result<(), AllocError> {
     let cpu = processor.cpu;
     match Charge::at(&processor.queue, time) {
-        Some(charge) => writeln!(text, "# charge at cpu {cpu}: {charge}"),
+        Some(charge) => {
+            let charge = charge.told_of(names);
+            writeln!(text, "# charge at cpu {cpu}: {charge}")
+        }
         None => writeln!(
             text,
             "# charge at cpu {cpu}: nobody runs, so nobody is charged"

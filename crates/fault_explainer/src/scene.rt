@@ -3,9 +3,13 @@ ghost use Rattle.cfs_model.specs.Limits.{greatest_setting};
 
 use crate::companion_lines::push_companion_lines;
 use crate::event::Event;
+use crate::gap::{Gap, gap_before};
+use crate::history::origins;
+use crate::names::{Named, Names};
 use crate::processor::Processor;
-use crate::processor_lines::{push_charge, push_floor, push_processor};
+use crate::processor_lines::{Telling, push_charge, push_floor, push_processor};
 use crate::told_charge::{ToldCharge, push_told_charge};
+use crate::trace_text::TraceText;
 use cfs_model::{Act, ChargeLine, IDLE_PID, Kind, Knobs, Memory};
 use pid_table::PidHasher;
 use replay_model::FirstFault;
@@ -26,6 +30,9 @@ pub(crate) struct Scene {
     /// Where the fault's task stood before the event, if it stood anywhere: the processor, and how. Told where the
     /// fault lies in that.
     pub stood: Option<(u32, SchedEntity)>,
+    pub names: Names,
+    /// A switch that is missing in the trace before the event, as the heads of its lines show.
+    pub gap: Option<Gap>,
 }
 
 impl Scene {
@@ -54,6 +61,8 @@ impl Scene {
             here,
             there,
             stood: None,
+            names: Names::new(alloc),
+            gap: None,
         };
         if lies_in_place(fault) {
             scene.stood = scene.stood_before(alloc, record, hasher)?;
@@ -97,6 +106,41 @@ impl Scene {
         self.here.cpu == cpu || self.there.as_ref().is_some_and(|there| there.cpu == cpu)
     }
 
+    /// How those who are shown came to where they run or wait, and what the trace's lines say of them.
+    pub(crate) fn recall<T: TraceText>(
+        &mut self,
+        alloc: Global,
+        record: &Record,
+        hasher: PidHasher,
+        trace: &mut T,
+    ) -> Result<(), Memory> {
+        let line = self.fault.line;
+        self.names.read_line(trace, line)?;
+        recall_at(alloc, record, self.knobs, line, &mut self.here, hasher)?;
+        self.names
+            .read_lines_of(trace, self.here.origins.as_slice())?;
+        if let Some(there) = &mut self.there {
+            recall_at(alloc, record, self.knobs, line, there, hasher)?;
+            self.names.read_lines_of(trace, there.origins.as_slice())?;
+        }
+        if hides_switch(self.fault.kind) {
+            let runner = self.here.queue.runner().map_or(IDLE_PID, |task| task.pid);
+            let (cpu, names) = (self.here.cpu, &mut self.names);
+            self.gap = gap_before(alloc, record, cpu, line, runner, names, trace)?;
+        }
+        Ok(())
+    }
+
+    /// A task in words.
+    pub(crate) fn named(&self, pid: u32) -> Named<'_> {
+        self.names.named(pid)
+    }
+
+    /// The event's task in words; of a switch the previous one.
+    pub(crate) fn subject(&self) -> Named<'_> {
+        self.named(self.event.act.subject())
+    }
+
     /// The task as it stands at the fault's processor, or at a migration's origin.
     pub(crate) fn task(&self, pid: u32) -> Option<SchedEntity> {
         self.here.queue.task_at(pid)
@@ -128,13 +172,22 @@ impl Scene {
     fn push_before(&self, text: &mut String) -> Result<(), AllocError> {
         writeln!(
             text,
-            "# times are in ns; virtual runtimes, floors and charges in virtual ns"
+            "# times are in ns, and in s in brackets; virtual runtimes, floors and charges in virtual ns"
         )?;
-        push_processor(text, &self.here)?;
+        self.push_processor(text, &self.here)?;
         match &self.there {
-            Some(there) => push_processor(text, there),
+            Some(there) => self.push_processor(text, there),
             None => Ok(()),
         }
+    }
+
+    fn push_processor(&self, text: &mut String, processor: &Processor) -> Result<(), AllocError> {
+        let telling = Telling {
+            names: &self.names,
+            origins: processor.origins.as_slice(),
+            time: self.event.time,
+        };
+        push_processor(text, processor, telling)
     }
 
     /// Whether the fault comes behind the charge. One that lies in the charge lifts no floor.
@@ -151,9 +204,9 @@ impl Scene {
         } = self.event;
         let drift = self.knobs.drift();
         let lifts = self.is_charged();
-        charge(text, &mut self.here, time, told, drift, lifts)?;
+        charge(text, &mut self.here, time, told, drift, lifts, &self.names)?;
         match &mut self.there {
-            Some(there) => charge(text, there, time, None, drift, lifts),
+            Some(there) => charge(text, there, time, None, drift, lifts, &self.names),
             None => Ok(()),
         }
     }
@@ -175,6 +228,27 @@ impl Scene {
             _ => Ok(()),
         }
     }
+}
+
+/// How those came who are shown of a processor.
+fn recall_at(
+    alloc: Global,
+    record: &Record,
+    knobs: Knobs,
+    line: u32,
+    processor: &mut Processor,
+    hasher: PidHasher,
+) -> Result<(), Memory> {
+    processor.origins = origins(alloc, record, knobs, processor, line, hasher)?;
+    Ok(())
+}
+
+/// Whether a fault may come of a switch that isn't in the trace: its event wants another task where one runs.
+fn hides_switch(kind: Kind) -> bool {
+    matches!(
+        kind,
+        Kind::PrevNotRunning | Kind::Strange | Kind::MoveRunning | Kind::NextNotWaiting
+    )
 }
 
 /// Whether a fault lies in where its task stood.
@@ -199,13 +273,14 @@ fn charge(
     told: Option<ChargeLine>,
     drift: u64,
     lifts: bool,
+    names: &Names,
 ) -> Result<(), AllocError>
     requires { drift ≤ greatest_setting }
 {
-    push_charge(text, processor, time)?;
+    push_charge(text, processor, time, names)?;
     let told_charge = ToldCharge::at(&processor.queue, time, told);
     if lifts && processor.queue.lift(time, told, drift).is_ok() {
-        push_told_charge(text, processor.cpu, told_charge)?;
+        push_told_charge(text, processor.cpu, told_charge, names)?;
         push_floor(text, processor.cpu, processor.queue.floor())
     } else {
         Ok(())

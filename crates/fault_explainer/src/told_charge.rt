@@ -1,12 +1,12 @@
 //! What the companion tells of a charge, beside the exact one.
 
 use crate::charge::Charge;
+use crate::names::{Named, Names};
 use crate::place_bounds::push_stood;
 use crate::scene::Scene;
 use cfs_model::ChargeLine;
 use runqueue::{Runqueue, SchedEntity};
 use std::alloc::AllocError;
-use std::fmt;
 
 /// A charge of who runs, as the companion tells it.
 #[derive(Clone, Copy)]
@@ -44,28 +44,32 @@ impl ToldCharge {
     }
 }
 
-impl fmt::Display for ToldCharge {
-    fn fmt<W: fmt::Write>(&self, f: &mut fmt::Formatter<W>) -> fmt::Result {
-        let SchedEntity { pid, v, drift, .. } = self.exact.task;
-        let to = self.to;
-        let after = self.drift_after();
-        write!(
-            f,
-            "pid {pid} from {v} to {to}, so its drift goes from {drift} to {after}"
-        )
-    }
-}
-
 /// The told charge that a processor took, if one was told.
 pub(crate) fn push_told_charge(
     text: &mut String,
     cpu: u32,
     told: Option<ToldCharge>,
+    names: &Names,
 ) -> Result<(), AllocError> {
     match told {
-        Some(told) => writeln!(text, "# told charge at cpu {cpu}: {told}"),
+        Some(told) => push_taken(text, cpu, told, names.named(told.exact.task.pid)),
         None => Ok(()),
     }
+}
+
+fn push_taken(
+    text: &mut String,
+    cpu: u32,
+    told: ToldCharge,
+    named: Named<'_>,
+) -> Result<(), AllocError> {
+    let SchedEntity { v, drift, .. } = told.exact.task;
+    let to = told.to;
+    let after = told.drift_after();
+    writeln!(
+        text,
+        "# told charge at cpu {cpu}: {named} from {v} to {to}, so its drift goes from {drift} to {after}"
+    )
 }
 
 /// What is wrong with a told charge: whose it is, that it takes virtual runtime away, or how far its task drifts.
@@ -73,11 +77,11 @@ pub(crate) fn push_wrong_charge(text: &mut String, scene: &Scene) -> Result<(), 
     let queue = &scene.here.queue;
     match ToldCharge::at(queue, scene.event.time, scene.event.charge) {
         Some(told) => {
-            push_told_at(text, &told)?;
+            push_told_at(text, &told, scene.named(told.exact.task.pid))?;
             push_drift(text, &told, scene.knobs.drift())
         }
         None => {
-            push_not_its(text, scene.here.cpu, scene.fault.pid, queue.runner())?;
+            push_not_its(text, scene, queue.runner())?;
             push_stood(text, scene)
         }
     }
@@ -85,31 +89,35 @@ pub(crate) fn push_wrong_charge(text: &mut String, scene: &Scene) -> Result<(), 
 
 fn push_not_its(
     text: &mut String,
-    cpu: u32,
-    told: u32,
+    scene: &Scene,
     runner: Option<SchedEntity>,
 ) -> Result<(), AllocError> {
+    let cpu = scene.here.cpu;
+    let told = scene.named(scene.fault.pid);
     match runner {
-        Some(SchedEntity { pid, .. }) => writeln!(
-            text,
-            "# the told charge is of pid {told}, but at cpu {cpu} pid {pid} runs"
-        ),
+        Some(SchedEntity { pid, .. }) => {
+            let named = scene.named(pid);
+            writeln!(
+                text,
+                "# the told charge is of {told}, but at cpu {cpu} {named} runs"
+            )
+        }
         None => writeln!(
             text,
-            "# the told charge is of pid {told}, but at cpu {cpu} nobody runs"
+            "# the told charge is of {told}, but at cpu {cpu} nobody runs"
         ),
     }
 }
 
 /// Where the told charge leads, beside where the task was, or where it is by the exact charge.
-fn push_told_at(text: &mut String, told: &ToldCharge) -> Result<(), AllocError> {
-    let SchedEntity { pid, v, .. } = told.exact.task;
+fn push_told_at(text: &mut String, told: &ToldCharge, named: Named<'_>) -> Result<(), AllocError> {
+    let SchedEntity { v, .. } = told.exact.task;
     let to = told.to;
     if to < v {
         let apart = v.abs_diff(to);
         return writeln!(
             text,
-            "# pid {pid} is told at {to}, which is {apart} below {v}, where it was before the charge: no charge takes virtual runtime away"
+            "# {named} is told at {to}, which is {apart} below {v}, where it was before the charge: no charge takes virtual runtime away"
         );
     }
     let exact = told.exact.to();
@@ -118,7 +126,7 @@ fn push_told_at(text: &mut String, told: &ToldCharge) -> Result<(), AllocError> 
     let side = if stray < 0 { "below" } else { "above" };
     writeln!(
         text,
-        "# pid {pid} is told at {to}, which is {apart} {side} {exact}, where it is by the exact charge"
+        "# {named} is told at {to}, which is {apart} {side} {exact}, where it is by the exact charge"
     )
 }
 

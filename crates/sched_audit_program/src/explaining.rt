@@ -1,10 +1,12 @@
-//! The report of an audit, the states at its events, and behind them why that is a fault, or which line is refused.
+//! The report of an audit, the states at its events, and behind them why that is a fault, or which line is refused and
+//! why.
 use crate::failure::Failure;
 use crate::progress::{Size, WatchedFeed};
 use crate::states::{file_of, write_states_to};
-use audit_input::{KeepingFeed, line_again, line_of};
+use crate::trace_again::TraceAgain;
+use audit_input::{Cause, KeepingFeed, line_of};
 use cfs_model::Knobs;
-use fault_explainer::{explanation, quoted_line};
+use fault_explainer::{explanation, quoted_line, refusal_words};
 use pid_table::PidHasher;
 use replay_model::FirstFault;
 use sched_audit::{
@@ -76,7 +78,7 @@ fn explain<J: Judgement, R: Files + Print + RandomSource, F: Feed>(
 ) -> Result<(), Fault> {
     let told = told_of(rt, alloc, request, hearing, trace)?;
     let told = match &told {
-        Some(told) => told.as_slice(),
+        Some(told) => told.as_bytes(),
         None => NOT_EXPLAINED,
     };
     if request.color == Color::Always {
@@ -104,60 +106,98 @@ fn told_of<J: Judgement, R: Files + RandomSource, F: Feed>(
     request: &Request<'_>,
     hearing: &Hearing<J>,
     trace: &KeepingFeed<F>,
-) -> Result<Option<Vec<u8>>, Fault> {
+) -> Result<Option<String>, Fault> {
+    let mut again = TraceAgain {
+        rt,
+        alloc,
+        name: request.trace,
+        trace,
+    };
     match (&hearing.outcome, &hearing.kept) {
         (Outcome::Judged(judged), Kept::Record(record)) => match judged.fault() {
             Some(fault) => {
-                let quote = quoted_trace(rt, alloc, request.trace, trace, u64::from(fault.line))?;
+                let line = u64::from(fault.line);
+                let quote = quoted(alloc, line, again.line_at(line))?;
                 let knobs = J::replayed_by(request.knobs);
-                with_explanation(alloc, quote, record, knobs, &fault, PidHasher::random(rt))
+                let hasher = PidHasher::random(rt);
+                with_explanation(alloc, quote, record, knobs, &fault, hasher, &mut again)
             }
             None => Ok(None),
         },
+        (Outcome::Judged(_), Kept::Companion(_)) => Ok(None),
         (
             Outcome::Text {
-                source: Source::Companion,
+                source,
                 line,
-                ..
+                cause,
             },
-            Kept::Companion(text),
-        ) => quoted(alloc, *line, line_of(alloc, text.as_slice(), *line)),
-        (Outcome::Text { line, .. }, _) => quoted_trace(rt, alloc, request.trace, trace, *line),
-        (Outcome::Judged(_), Kept::Companion(_)) => Ok(None),
+            kept,
+        ) => {
+            let refused = Refusal {
+                source: *source,
+                cause: *cause,
+                line: *line,
+            };
+            match (*source, kept) {
+                (Source::Companion, Kept::Companion(text)) => {
+                    refused.told(alloc, line_of(alloc, text.as_slice(), *line))
+                }
+                _ => refused.told(alloc, again.line_at(*line)),
+            }
+        }
+    }
+}
+
+/// A refused line, and why.
+#[derive(Clone, Copy)]
+struct Refusal {
+    source: Source,
+    cause: Cause,
+    line: u64,
+}
+
+impl Refusal {
+    /// The line as it is shown, and why it is refused, where the text could be read a second time.
+    fn told(
+        self,
+        alloc: Global,
+        line: io::Result<Option<Vec<u8>>>,
+    ) -> Result<Option<String>, Fault> {
+        let Some(line) = reread(line)? else {
+            return Ok(None);
+        };
+        let line = line.as_ref().map(|line| line.as_slice());
+        let mut told = quoted_line(alloc, self.line, line)?;
+        let words = refusal_words(alloc, self.source, self.cause, line)?;
+        push_words(&mut told, words.as_str())?;
+        Ok(Some(told))
     }
 }
 
 /// A fault's line, if it can be quoted, and how the fault comes about.
-fn with_explanation(
+fn with_explanation<R: Files, F: Feed>(
     alloc: Global,
-    quote: Option<Vec<u8>>,
+    quote: Option<String>,
     record: &Record,
     knobs: Knobs,
     fault: &FirstFault,
     hasher: PidHasher,
-) -> Result<Option<Vec<u8>>, Fault> {
+    again: &mut TraceAgain<'_, R, F>,
+) -> Result<Option<String>, Fault> {
     match quote {
         Some(quote) => {
             let mut told = quote;
-            let text = explanation(alloc, record, knobs, fault, hasher)?;
-            match told.extend_from_slice(text.as_bytes()) {
-                Ok(()) => Ok(Some(told)),
-                Err(_) => Err(Fault::Memory),
-            }
+            let text = explanation(alloc, record, knobs, fault, hasher, again)?;
+            push_words(&mut told, text.as_str())?;
+            Ok(Some(told))
         }
         None => Ok(None),
     }
 }
 
-/// The trace's line of this number, as it is shown.
-fn quoted_trace<R: Files, F: Feed>(
-    rt: &R,
-    alloc: Global,
-    name: &str,
-    trace: &KeepingFeed<F>,
-    number: u64,
-) -> Result<Option<Vec<u8>>, Fault> {
-    quoted(alloc, number, line_again(rt, alloc, name, trace, number))
+/// Says more behind what is told.
+fn push_words(told: &mut String, words: &str) -> Result<(), Fault> {
+    told.push_str(words).map_err(|_| Fault::Memory)
 }
 
 /// A line of this number, as it is shown, where the text could be read a second time. Want of memory is told.
@@ -165,12 +205,20 @@ fn quoted(
     alloc: Global,
     number: u64,
     line: io::Result<Option<Vec<u8>>>,
-) -> Result<Option<Vec<u8>>, Fault> {
-    match line {
-        Ok(line) => {
+) -> Result<Option<String>, Fault> {
+    match reread(line)? {
+        Some(line) => {
             let line = line.as_ref().map(|line| line.as_slice());
             Ok(Some(quoted_line(alloc, number, line)?))
         }
+        None => Ok(None),
+    }
+}
+
+/// What was read a second time; none where that failed. Want of memory is told.
+fn reread(line: io::Result<Option<Vec<u8>>>) -> Result<Option<Option<Vec<u8>>>, Fault> {
+    match line {
+        Ok(line) => Ok(Some(line)),
         Err(error) if error.kind() == ErrorKind::OutOfMemory => Err(Fault::Memory),
         Err(_) => Ok(None),
     }

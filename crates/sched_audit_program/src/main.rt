@@ -10,6 +10,7 @@ mod json_report;
 mod progress;
 mod states;
 mod terminals;
+mod trace_again;
 
 use ending::Ending;
 use std::io::IsTerminal;

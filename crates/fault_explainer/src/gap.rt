@@ -1,0 +1,132 @@
+//! A switch that is missing in a trace, as the heads of its lines show.
+
+use crate::head::Head;
+use crate::names::Names;
+use crate::origin::last_switch;
+use crate::scene::Scene;
+use crate::trace_text::TraceText;
+use cfs_model::{Entry, Memory, NO_LINE};
+use sched_record::Record;
+use std::alloc::{AllocError, Global};
+
+/// So many events before a fault are looked at.
+const MOST_HEADS: usize = 100;
+
+/// A line whose head names another task than the one that should run at its processor.
+#[derive(Clone, Copy)]
+pub(crate) struct Gap {
+    line: u32,
+    pid: u32,
+    /// Who should run there.
+    runner: u32,
+    /// The last line before it that fits; `NO_LINE` where none does.
+    behind: u32,
+}
+
+/// The first such line behind the last switch at a processor and before a line, among those that are looked at.
+pub(crate) fn gap_before<T: TraceText>(
+    alloc: Global,
+    record: &Record,
+    cpu: u32,
+    line: u32,
+    runner: u32,
+    names: &mut Names,
+    trace: &mut T,
+) -> Result<Option<Gap>, Memory> {
+    let switch = line_of_switch(record, cpu, line);
+    let lines = lines_between(alloc, record, switch, line)?;
+    // Where events may be left out, the switch is no line right behind which another is missing.
+    let mut behind = if lines.len() < MOST_HEADS {
+        switch
+    } else {
+        NO_LINE
+    };
+    for line in lines.iter().copied() {
+        match head_at(trace, names, cpu, line)? {
+            Some(pid) if pid != runner => {
+                return Ok(Some(Gap {
+                    line,
+                    pid,
+                    runner,
+                    behind,
+                }));
+            }
+            Some(_) => behind = line,
+            None => {}
+        }
+    }
+    Ok(None)
+}
+
+/// The line of the last switch at a processor before another line; `NO_LINE` where there is none.
+fn line_of_switch(record: &Record, cpu: u32, line: u32) -> u32 {
+    match last_switch(record, cpu, line) {
+        Some(Entry { line, .. }) => line,
+        None => NO_LINE,
+    }
+}
+
+/// The lines of the last events behind one line and before another, as many as are looked at.
+fn lines_between(
+    alloc: Global,
+    record: &Record,
+    first: u32,
+    last: u32,
+) -> Result<Vec<u32>, AllocError> {
+    let between = events_between(record, first, last);
+    let skipped = between.len().saturating_sub(MOST_HEADS);
+    let mut lines = Vec::new(alloc);
+    for event in between.iter().skip(skipped) {
+        lines.push(event.line)?;
+    }
+    Ok(lines)
+}
+
+/// The events behind one line and before another.
+fn events_between(record: &Record, first: u32, last: u32) -> &[Entry] {
+    let events = record.events();
+    let above = events.partition_point(|event| event.line < last);
+    let before = events.get(..above).unwrap_or(&[]);
+    let behind = before.partition_point(|event| event.line <= first);
+    before.get(behind..).unwrap_or(&[])
+}
+
+/// The pid in the head of a line, where that is of this processor and can be read again. Its names are learnt.
+fn head_at<T: TraceText>(
+    trace: &mut T,
+    names: &mut Names,
+    cpu: u32,
+    number: u32,
+) -> Result<Option<u32>, Memory> {
+    let Some(line) = trace.line(number)? else {
+        return Ok(None);
+    };
+    names.learn_line(line.as_slice())?;
+    let head = Head::of(line.as_slice()).filter(|head| head.cpu == cpu);
+    Ok(head.map(|head| head.pid))
+}
+
+/// Says that a switch is missing, where the heads of the lines before the fault show it.
+pub(crate) fn push_gap(text: &mut String, scene: &Scene) -> Result<(), AllocError> {
+    match scene.gap {
+        Some(gap) => push_missing(text, scene, gap),
+        None => Ok(()),
+    }
+}
+
+fn push_missing(text: &mut String, scene: &Scene, gap: Gap) -> Result<(), AllocError> {
+    let Gap { line, behind, .. } = gap;
+    let pid = scene.named(gap.pid);
+    let runner = scene.named(gap.runner);
+    if behind == NO_LINE {
+        writeln!(
+            text,
+            "# the head of line {line} names {pid}, where {runner} should run: a switch is missing before it"
+        )
+    } else {
+        writeln!(
+            text,
+            "# the head of line {line} names {pid}, where {runner} should run: a switch is missing behind line {behind}"
+        )
+    }
+}

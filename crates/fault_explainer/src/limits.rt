@@ -1,0 +1,191 @@
+//! The numbers of a companion's line, and their limits.
+
+use crate::escaped::Escaped;
+use crate::odd_byte::column_behind;
+use bstr::ByteSlice;
+use cfs_model::{GREATEST_LINE, GREATEST_PID, GREATEST_RUNTIME, GREATEST_SECONDS, MOST_PROCESSORS};
+use std::alloc::AllocError;
+use text_parts::numerals::number_at;
+
+/// From where to where a number may be.
+#[derive(Clone, Copy)]
+struct Limits {
+    name: &'static str,
+    least: i64,
+    most: i64,
+}
+
+/// A line that begins with a word, and the limits of the words behind it.
+#[derive(Clone, Copy)]
+struct Shape {
+    word: &'static [u8],
+    limits: &'static [Limits],
+}
+
+/// A number out of its limits, and how many bytes stand before it.
+#[derive(Clone, Copy)]
+struct Outside<'a> {
+    before: usize,
+    word: &'a [u8],
+    limits: Limits,
+}
+
+const CPUS: Limits = Limits {
+    name: "cpus",
+    least: 1,
+    most: MOST_PROCESSORS as i64,
+};
+
+const SECONDS: Limits = Limits {
+    name: "the seconds",
+    least: 0,
+    most: GREATEST_SECONDS as i64,
+};
+
+const CPU: Limits = Limits {
+    name: "CPU",
+    least: 0,
+    most: MOST_PROCESSORS as i64 - 1,
+};
+
+const PID: Limits = Limits {
+    name: "PID",
+    least: 1,
+    most: GREATEST_PID as i64,
+};
+
+const NICE: Limits = Limits {
+    name: "NICE",
+    least: -20,
+    most: 19,
+};
+
+const LINE: Limits = Limits {
+    name: "LINE",
+    least: 1,
+    most: GREATEST_LINE as i64,
+};
+
+/// Of an idle line, where 0 is the start.
+const LINE_OR_START: Limits = Limits { least: 0, ..LINE };
+
+const VALUE: Limits = Limits {
+    name: "V",
+    least: -GREATEST_RUNTIME,
+    most: GREATEST_RUNTIME,
+};
+
+/// No number.
+const PLACE: Limits = Limits {
+    name: "the place",
+    ..VALUE
+};
+
+/// The lines that have numbers.
+static SHAPES: [Shape; 9] = [
+    Shape {
+        word: b"cpus ",
+        limits: &[CPUS],
+    },
+    Shape {
+        word: b"start ",
+        limits: &[SECONDS],
+    },
+    Shape {
+        word: b"floor ",
+        limits: &[CPU, VALUE],
+    },
+    Shape {
+        word: b"task ",
+        limits: &[PID, NICE, CPU, PLACE, VALUE],
+    },
+    Shape {
+        word: b"idle ",
+        limits: &[LINE_OR_START, PID],
+    },
+    Shape {
+        word: b"at ",
+        limits: &[LINE, PID, VALUE],
+    },
+    Shape {
+        word: b"pass ",
+        limits: &[LINE, PID, VALUE],
+    },
+    Shape {
+        word: b"nice ",
+        limits: &[LINE, PID, NICE],
+    },
+    Shape {
+        word: b"charge ",
+        limits: &[LINE, PID, VALUE],
+    },
+];
+
+/// Says which number is the first out of its limits. Where none is by itself, it is a processor's beside their count.
+pub(crate) fn push_outside_limits(text: &mut String, line: &[u8]) -> Result<(), AllocError> {
+    match SHAPES
+        .iter()
+        .find(|shape| line.starts_with(shape.word))
+        .and_then(|shape| first_outside(line, shape))
+    {
+        Some(outside) => push_outside(text, outside),
+        None => writeln!(text, "# its CPU is to be below cpus"),
+    }
+}
+
+fn push_outside(text: &mut String, outside: Outside<'_>) -> Result<(), AllocError> {
+    let column = column_behind(outside.before);
+    let word = Escaped(outside.word);
+    let Limits { name, least, most } = outside.limits;
+    writeln!(
+        text,
+        "# column {column}: {name} is {word}, and may be {least} to {most}"
+    )
+}
+
+/// The first number of a line that is out of its limits by itself.
+fn first_outside<'a>(line: &'a [u8], shape: &Shape) -> Option<Outside<'a>> {
+    let mut before = shape.word.len();
+    for limits in shape.limits.iter().copied() {
+        let word = word_at(line.get(before..)?);
+        if is_outside(word, limits) {
+            return Some(Outside {
+                before,
+                word,
+                limits,
+            });
+        }
+        before = before.saturating_add(word.len()).saturating_add(1);
+    }
+    None
+}
+
+/// The bytes up to the first space.
+fn word_at(text: &[u8]) -> &[u8] {
+    match text.find_byte(b' ') {
+        Some(length) => text.get(..length).unwrap_or(text),
+        None => text,
+    }
+}
+
+/// Whether a word is a number, and that is out of its limits.
+fn is_outside(word: &[u8], limits: Limits) -> bool {
+    match number_of(word) {
+        Some(number) => number < i128::from(limits.least) || number > i128::from(limits.most),
+        None => false,
+    }
+}
+
+/// The number that a word begins with, with its sign.
+fn number_of(word: &[u8]) -> Option<i128> {
+    let (minus, digits) = match word {
+        [b'-', digits @ ..] => (true, digits),
+        digits => (false, digits),
+    };
+    let number = number_at(digits);
+    if number.digits == 0 {
+        return None;
+    }
+    let value = i128::from(number.value);
+    Some(if minus { -value } else { value })
+}

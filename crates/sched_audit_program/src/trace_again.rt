@@ -1,0 +1,33 @@
+use audit_input::{Feed, KeepingFeed, line_again};
+use cfs_model::Memory;
+use fault_explainer::TraceText;
+use std::alloc::Global;
+use std::io;
+use std::io::ErrorKind;
+use std::rt::Files;
+
+/// A trace that went by, of which lines are read again.
+#[derive(Drop)]
+pub(crate) struct TraceAgain<'a, R, F> {
+    pub rt: &'a R,
+    pub alloc: Global,
+    pub name: &'a str,
+    pub trace: &'a KeepingFeed<F>,
+}
+
+impl<R: Files, F: Feed> TraceAgain<'_, R, F> {
+    /// The line of this number, from 1, without its line feed, if the trace has it.
+    pub(crate) fn line_at(&self, number: u64) -> io::Result<Option<Vec<u8>>> {
+        line_again(self.rt, self.alloc, self.name, self.trace, number)
+    }
+}
+
+impl<R: Files, F: Feed> TraceText for TraceAgain<'_, R, F> {
+    fn line(&mut self, number: u32) -> Result<Option<Vec<u8>>, Memory> {
+        match self.line_at(u64::from(number)) {
+            Ok(line) => Ok(line),
+            Err(error) if error.kind() == ErrorKind::OutOfMemory => Err(Memory),
+            Err(_) => Ok(None),
+        }
+    }
+}

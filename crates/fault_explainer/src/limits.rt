@@ -9,17 +9,17 @@ use text_parts::numerals::number_at;
 
 /// From where to where a number may be.
 #[derive(Clone, Copy)]
-struct Limits {
-    name: &'static str,
-    least: i64,
-    most: i64,
+pub(crate) struct Limits {
+    pub name: &'static str,
+    pub least: i64,
+    pub most: i64,
 }
 
 /// A line that begins with a word, and the limits of the words behind it.
 #[derive(Clone, Copy)]
-struct Shape {
-    word: &'static [u8],
-    limits: &'static [Limits],
+pub(crate) struct Shape {
+    pub word: &'static [u8],
+    pub limits: &'static [Limits],
 }
 
 /// A number out of its limits, and how many bytes stand before it.
@@ -84,53 +84,55 @@ const PLACE: Limits = Limits {
 /// The lines that have numbers.
 static SHAPES: [Shape; 9] = [
     Shape {
-        word: b"cpus ",
+        word: b"cpus",
         limits: &[CPUS],
     },
     Shape {
-        word: b"start ",
+        word: b"start",
         limits: &[SECONDS],
     },
     Shape {
-        word: b"floor ",
+        word: b"floor",
         limits: &[CPU, VALUE],
     },
     Shape {
-        word: b"task ",
+        word: b"task",
         limits: &[PID, NICE, CPU, PLACE, VALUE],
     },
     Shape {
-        word: b"idle ",
+        word: b"idle",
         limits: &[LINE_OR_START, PID],
     },
     Shape {
-        word: b"at ",
+        word: b"at",
         limits: &[LINE, PID, VALUE],
     },
     Shape {
-        word: b"pass ",
+        word: b"pass",
         limits: &[LINE, PID, VALUE],
     },
     Shape {
-        word: b"nice ",
+        word: b"nice",
         limits: &[LINE, PID, NICE],
     },
     Shape {
-        word: b"charge ",
+        word: b"charge",
         limits: &[LINE, PID, VALUE],
     },
 ];
 
 /// Says which number is the first out of its limits. Where none is by itself, it is a processor's beside their count.
 pub(crate) fn push_outside_limits(text: &mut String, line: &[u8]) -> Result<(), AllocError> {
-    match SHAPES
-        .iter()
-        .find(|shape| line.starts_with(shape.word))
-        .and_then(|shape| first_outside(line, shape))
-    {
+    match shape_of(line).and_then(|shape| first_outside(line, shape)) {
         Some(outside) => push_outside(text, outside),
         None => writeln!(text, "# its CPU is to be below cpus"),
     }
+}
+
+/// The shape of the lines that begin with a line's first word.
+pub(crate) fn shape_of(line: &[u8]) -> Option<&'static Shape> {
+    let word = word_at(line);
+    SHAPES.iter().find(|shape| shape.word == word)
 }
 
 fn push_outside(text: &mut String, outside: Outside<'_>) -> Result<(), AllocError> {
@@ -145,7 +147,7 @@ fn push_outside(text: &mut String, outside: Outside<'_>) -> Result<(), AllocErro
 
 /// The first number of a line that is out of its limits by itself.
 fn first_outside<'a>(line: &'a [u8], shape: &Shape) -> Option<Outside<'a>> {
-    let mut before = shape.word.len();
+    let mut before = shape.word.len().saturating_add(1);
     for limits in shape.limits.iter().copied() {
         let word = word_at(line.get(before..)?);
         if is_outside(word, limits) {
@@ -161,7 +163,7 @@ fn first_outside<'a>(line: &'a [u8], shape: &Shape) -> Option<Outside<'a>> {
 }
 
 /// The bytes up to the first space.
-fn word_at(text: &[u8]) -> &[u8] {
+pub(crate) fn word_at(text: &[u8]) -> &[u8] {
     match text.find_byte(b' ') {
         Some(length) => text.get(..length).unwrap_or(text),
         None => text,

@@ -1,3 +1,4 @@
+use crate::answer::{Answer, FrontOf};
 use crate::ending::Ending;
 use crate::explaining::answer_kept;
 use crate::failure::Failure;
@@ -6,9 +7,8 @@ use clap::Error;
 use clap::error::ErrorKind::OutOfMemory;
 use given_texts::file_of;
 use sched_audit::{
-    Counted, Fault, FeedOf, Judgement, LeastFigures, OpenGate, Request, SinkOf, Status, Verdict,
-    WithWaits, command_line, run, run_counted, run_counted_waits, run_least, run_least_waits,
-    run_waits,
+    Counted, Fault, FeedOf, Judgement, LeastFigures, OpenGate, Request, SinkOf, Verdict, WithWaits,
+    command_line, run, run_counted, run_counted_waits, run_least, run_least_waits, run_waits,
 };
 use std::alloc::Global;
 use std::fs::File;
@@ -56,9 +56,9 @@ fn ending_of<R: Files + Print + Eprint + RandomSource + Threads + Wait + Sync>(
     request: &Request<'_>,
 ) -> Ending {
     match answer(rt, alloc, request) {
-        Ok(status) => {
-            say_hints(rt, request, status);
-            Ending::Answered(status)
+        Ok(answer) => {
+            say_hints(rt, request, &answer);
+            Ending::Answered(answer.status)
         }
         Err(Failure::Audit(fault)) => Ending::Failed(fault),
         Err(Failure::States) => Ending::StatesUnwritten,
@@ -75,7 +75,7 @@ fn answer<R: Files + Print + RandomSource + Threads + Wait + Sync>(
     rt: &R,
     alloc: Global,
     request: &Request<'_>,
-) -> Result<Status, Failure> {
+) -> Result<Answer, Failure> {
     let trace = File::open(rt, request.trace).map_err(|_| Fault::ReadTrace)?;
     let companion = File::open(rt, request.companion).map_err(|_| Fault::ReadCompanion)?;
     if !request.explain && request.states.is_none() {
@@ -95,7 +95,7 @@ fn answer_kept_as<J: Judgement, R: Files + Print + RandomSource + Threads + Wait
     request: &Request<'_>,
     trace: R::File,
     companion: R::File,
-) -> Result<Status, Failure> {
+) -> Result<Answer, Failure> {
     if request.waits {
         answer_kept::<WithWaits<J>, R>(rt, alloc, request, trace, companion)
     } else {
@@ -110,21 +110,22 @@ fn answer_alone<R: Files + Print + RandomSource + Threads + Wait + Sync>(
     request: &Request<'_>,
     trace: R::File,
     companion: R::File,
-) -> Result<Status, Fault> {
+) -> Result<Answer, Fault> {
     let mut trace = FeedOf::new(trace);
     let mut companion = FeedOf::new(companion);
-    let mut out = SinkOf::new(io::writer(rt));
-    let (trace, companion, out) = (&mut trace, &mut companion, &mut out);
+    let mut end = FrontOf::new(SinkOf::new(io::writer(rt)));
+    let (trace, companion, out) = (&mut trace, &mut companion, &mut end);
     let knobs = request.knobs;
     let gate = &OpenGate;
-    match (request.least, request.summary, request.waits) {
+    let status = match (request.least, request.summary, request.waits) {
         (true, _, true) => run_least_waits(rt, alloc, trace, companion, gate, out),
         (true, _, false) => run_least(rt, alloc, trace, companion, gate, out),
         (false, true, true) => run_counted_waits(rt, alloc, trace, companion, knobs, gate, out),
         (false, true, false) => run_counted(rt, alloc, trace, companion, knobs, gate, out),
         (false, false, true) => run_waits(rt, alloc, trace, companion, knobs, gate, out),
         (false, false, false) => run(rt, alloc, trace, companion, knobs, gate, out),
-    }
+    }?;
+    Ok(end.answer(status))
 }
 
 /// Prints clap's text: help and the version to standard output, a mistake to standard error.

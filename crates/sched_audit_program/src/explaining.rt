@@ -1,4 +1,5 @@
 //! The report of an audit, the states at its events, and behind them why that is a fault, or which line is refused.
+use crate::answer::{Answer, FrontOf};
 use crate::failure::Failure;
 use crate::states::{file_of, write_states_to};
 use audit_input::{KeepingFeed, line_again, line_of};
@@ -30,14 +31,14 @@ pub(crate) fn answer_kept<J: Judgement, R: Files + Print + RandomSource + Thread
     request: &Request<'_>,
     trace: R::File,
     companion: R::File,
-) -> Result<Status, Failure> {
+) -> Result<Answer, Failure> {
     let keeps = request.explain && !is_regular(&trace);
     let mut trace = KeepingFeed::new(alloc, FeedOf::new(trace), keeps);
     let mut companion = FeedOf::new(companion);
     let knobs = request.knobs;
     let hearing: Hearing<J> = judge(rt, alloc, &mut trace, &mut companion, knobs, &OpenGate)?;
     let states = file_of(rt, request.states)?;
-    let mut out = SinkOf::new(io::writer(rt));
+    let mut out = FrontOf::new(SinkOf::new(io::writer(rt)));
     let status = write_report(alloc, &hearing.outcome, hearing.tells_charges, &mut out)?;
     if let Some(file) = states {
         write_states_to(rt, alloc, knobs, &hearing, file)?;
@@ -45,7 +46,7 @@ pub(crate) fn answer_kept<J: Judgement, R: Files + Print + RandomSource + Thread
     if request.explain && status != Status::Yes {
         explain(rt, alloc, request, &hearing, &trace)?;
     }
-    Ok(status)
+    Ok(out.answer(status))
 }
 
 /// Whether a file is one that can be read a second time.

@@ -132,7 +132,7 @@ ROWS = (
      b"floor 0 4611686018427387904\ntask 101 0 0 rest 4611686018427386904\nat 1 101 4611686018427386904\n"
      b"charge 4 101 4611686018427387904\n"),
 )
-# 103 is born at 55, and 102 woken later at 51: the floor is 55, and what the kernel told at most 51 and the credit.
+# 103 is born at 55, and 102 woken later at 51: the floor is at most 51 and the credit, also where the kernel told more.
 FIRST_PLACED = (birth(0, 103), switch(0, 0, b"R", 103), printed(1000, 103, 1_000_000, 56_000_000), wakeup(1000, 102),
                 switch(1000, 103, b"R+", 102), printed(2000, 102, 1_000_000, 52_000_000), switch(2000, 102, b"S", 103))
 FIRST_PLACED_TOLD = (b"floor 0 %d\ntask 102 0 0 rest 51000000\nat 1 103 55000000\ncharge 4 103 56000000\n"

@@ -18,18 +18,13 @@ impl Floors {
         }
     }
 
-    /// At the start: what the kernel told, unless a placement bounds it lower. Where it told none, or nobody is placed,
-    /// the least virtual runtime of those who run or wait; where nobody does, what the first placement tells. A later
-    /// wakeup lowers neither: that would hide how low it is.
+    /// At the start: what the kernel told, as far as the placements bound it. Where it told none, or nobody is placed,
+    /// the least virtual runtime of those who run or wait; where nobody does, what the first placement says, or a lower
+    /// wakeup. One that lies below who runs or waits lowers nothing: it would hide how low it is.
     pub(crate) fn of(outset: &Outset, events: &[Entry], wishes: &Wishes, known: &Known) -> Floors {
         let mut found = Floors::unknown();
         if known.prints().is_empty() {
             return found;
-        }
-        for task in outset.tasks.as_slice() {
-            if task.place != Place::Rest {
-                found.lower(task.cpu, known.at_start(task, outset.start));
-            }
         }
         let mut bounds = Floors::unknown();
         for (index, event) in events.iter().enumerate() {
@@ -37,10 +32,29 @@ impl Floors {
             if let Some((cpu, bound)) = bound_of(event.act, placed, wishes) {
                 found.begin(cpu, bound);
                 bounds.lower(cpu, Some(bound));
+                if matches!(event.act, Act::Wake { .. }) {
+                    found.lower(cpu, Some(bound));
+                }
             }
         }
+        found.take_standing(outset, known);
         found.take_told(known.floors(), &bounds);
         found
+    }
+
+    /// Takes the least virtual runtime of those who run or wait at the start, where anybody does whose own is known.
+    fn take_standing(&mut self, outset: &Outset, known: &Known) {
+        let mut standing = Floors::unknown();
+        for task in outset.tasks.as_slice() {
+            if task.place != Place::Rest {
+                standing.lower(task.cpu, known.at_start(task, outset.start));
+            }
+        }
+        for cpu in 0..MOST_PROCESSORS as u32 {
+            if let Some(floor) = standing.at(cpu) {
+                self.set(cpu, floor);
+            }
+        }
     }
 
     /// Takes the floors that were told, as far as each is bounded: since they were told when some events were over,

@@ -1,7 +1,7 @@
 //! What a look at a companion's line shows that has none of the shapes.
 
 use crate::escaped::Escaped;
-use crate::limits::{Limits, Shape, shape_of, word_at};
+use crate::limits::{Field, Shape, shape_of, word_at};
 use crate::odd_byte::column_behind;
 use bstr::ByteSlice;
 use std::alloc::AllocError;
@@ -21,7 +21,7 @@ pub(crate) fn push_bad_line(text: &mut String, line: &[u8]) -> Result<(), AllocE
 /// How many bytes stand before a space that has no word before it.
 fn second_space(line: &[u8]) -> Option<usize> {
     let before = line.find(b"  ")?;
-    Some(column_behind(before))
+    Some(before.saturating_add(1))
 }
 
 fn push_second_space(text: &mut String, column: usize) -> Result<(), AllocError> {
@@ -39,7 +39,7 @@ fn push_unknown(text: &mut String, word: &[u8]) -> Result<(), AllocError> {
 /// Says how many words are wanted, or else which is of another sort.
 fn push_unlike(text: &mut String, line: &[u8], shape: &Shape) -> Result<(), AllocError> {
     let given = line.iter().filter(|byte| **byte == b' ').count();
-    let wanted = shape.limits.len();
+    let wanted = shape.fields.len();
     if given != wanted {
         return push_count(text, shape.word, wanted, given);
     }
@@ -62,9 +62,9 @@ fn push_count(
 /// Says which word is the first that is of another sort.
 fn push_odd_word(text: &mut String, line: &[u8], shape: &Shape) -> Result<(), AllocError> {
     let mut before = shape.word.len().saturating_add(1);
-    for limits in shape.limits.iter().copied() {
+    for field in shape.fields.iter().copied() {
         let word = word_at(line.get(before..).unwrap_or(&[]));
-        if let Some(sort) = missed_sort(word, limits) {
+        if let Some(sort) = missed_sort(word, field) {
             return push_sort(text, column_behind(before), word, sort);
         }
         before = before.saturating_add(word.len()).saturating_add(1);
@@ -77,21 +77,18 @@ fn push_sort(text: &mut String, column: usize, word: &[u8], sort: &str) -> Resul
     writeln!(text, "# column {column}: `{word}` has to be {sort}")
 }
 
-/// What a word has to be, where it isn't that. Of a time only the seconds are looked at.
-fn missed_sort(word: &[u8], limits: Limits) -> Option<&'static str> {
-    if limits.name == "the place" {
-        return not_if(is_place(word), "run, wait or rest");
+/// What a word has to be, where it isn't that. Of a time only the first byte is looked at.
+fn missed_sort(word: &[u8], field: Field) -> Option<&'static str> {
+    match field {
+        Field::Place => not_if(is_place(word), "run, wait or rest"),
+        Field::Time => not_if(begins_with_digit(word), "a time"),
+        Field::Number(limits) if limits.least < 0 => not_if(is_integer(word), "a whole number"),
+        Field::Number(_) => not_if(are_digits(word), "digits"),
     }
-    if limits.name == "the seconds" {
-        return not_if(
-            word.first().is_some_and(|byte| is_digit_byte(*byte)),
-            "a time",
-        );
-    }
-    if limits.least < 0 {
-        return not_if(is_integer(word), "a whole number");
-    }
-    not_if(are_digits(word), "digits")
+}
+
+fn begins_with_digit(word: &[u8]) -> bool {
+    word.first().is_some_and(|byte| is_digit_byte(*byte))
 }
 
 /// What a word has to be, unless it is.

@@ -15,11 +15,31 @@ pub(crate) struct Limits {
     pub most: i64,
 }
 
-/// A line that begins with a word, and the limits of the words behind it.
+/// What a word of a companion's line is.
+#[derive(Clone, Copy)]
+pub(crate) enum Field {
+    /// Of a time the seconds have limits.
+    Time,
+    Place,
+    Number(Limits),
+}
+
+impl Field {
+    /// The limits of the number that the word begins with.
+    fn limits(self) -> Option<Limits> {
+        match self {
+            Field::Time => Some(SECONDS),
+            Field::Place => None,
+            Field::Number(limits) => Some(limits),
+        }
+    }
+}
+
+/// A line that begins with a word, and what stands behind that.
 #[derive(Clone, Copy)]
 pub(crate) struct Shape {
     pub word: &'static [u8],
-    pub limits: &'static [Limits],
+    pub fields: &'static [Field],
 }
 
 /// A number out of its limits, and how many bytes stand before it.
@@ -30,94 +50,92 @@ struct Outside<'a> {
     limits: Limits,
 }
 
-const CPUS: Limits = Limits {
-    name: "cpus",
-    least: 1,
-    most: MOST_PROCESSORS as i64,
-};
-
 const SECONDS: Limits = Limits {
     name: "the seconds",
     least: 0,
     most: GREATEST_SECONDS as i64,
 };
 
-const CPU: Limits = Limits {
+const CPUS: Field = Field::Number(Limits {
+    name: "cpus",
+    least: 1,
+    most: MOST_PROCESSORS as i64,
+});
+
+const CPU: Field = Field::Number(Limits {
     name: "CPU",
     least: 0,
     most: MOST_PROCESSORS as i64 - 1,
-};
+});
 
-const PID: Limits = Limits {
+const PID: Field = Field::Number(Limits {
     name: "PID",
     least: 1,
     most: GREATEST_PID as i64,
-};
+});
 
-const NICE: Limits = Limits {
+const NICE: Field = Field::Number(Limits {
     name: "NICE",
     least: -20,
     most: 19,
-};
+});
 
-const LINE: Limits = Limits {
+const LINE: Field = Field::Number(Limits {
     name: "LINE",
     least: 1,
     most: GREATEST_LINE as i64,
-};
+});
 
 /// Of an idle line, where 0 is the start.
-const LINE_OR_START: Limits = Limits { least: 0, ..LINE };
+const LINE_OR_START: Field = Field::Number(Limits {
+    name: "LINE",
+    least: 0,
+    most: GREATEST_LINE as i64,
+});
 
-const VALUE: Limits = Limits {
+const VALUE: Field = Field::Number(Limits {
     name: "V",
     least: -GREATEST_RUNTIME,
     most: GREATEST_RUNTIME,
-};
-
-/// No number.
-const PLACE: Limits = Limits {
-    name: "the place",
-    ..VALUE
-};
+});
 
 /// The lines that have numbers.
 static SHAPES: [Shape; 9] = [
     Shape {
         word: b"cpus",
-        limits: &[CPUS],
+        fields: &[CPUS],
     },
     Shape {
         word: b"start",
-        limits: &[SECONDS],
+        fields: &[Field::Time],
     },
     Shape {
         word: b"floor",
-        limits: &[CPU, VALUE],
+        fields: &[CPU, VALUE],
     },
     Shape {
         word: b"task",
-        limits: &[PID, NICE, CPU, PLACE, VALUE],
+        fields: &[PID, NICE, CPU, Field::Place, VALUE],
     },
     Shape {
         word: b"idle",
-        limits: &[LINE_OR_START, PID],
+        fields: &[LINE_OR_START, PID],
     },
     Shape {
         word: b"at",
-        limits: &[LINE, PID, VALUE],
+        fields: &[LINE, PID, VALUE],
     },
     Shape {
         word: b"pass",
-        limits: &[LINE, PID, VALUE],
+        fields: &[LINE, PID, VALUE],
     },
     Shape {
         word: b"nice",
-        limits: &[LINE, PID, NICE],
+        fields: &[LINE, PID, NICE],
     },
     Shape {
         word: b"charge",
-        limits: &[LINE, PID, VALUE],
+        fields: &[LINE, PID, VALUE],
     },
 ];
 
@@ -148,9 +166,9 @@ fn push_outside(text: &mut String, outside: Outside<'_>) -> Result<(), AllocErro
 /// The first number of a line that is out of its limits by itself.
 fn first_outside<'a>(line: &'a [u8], shape: &Shape) -> Option<Outside<'a>> {
     let mut before = shape.word.len().saturating_add(1);
-    for limits in shape.limits.iter().copied() {
+    for field in shape.fields.iter().copied() {
         let word = word_at(line.get(before..)?);
-        if is_outside(word, limits) {
+        if let Some(limits) = field.limits().filter(|limits| is_outside(word, *limits)) {
             return Some(Outside {
                 before,
                 word,

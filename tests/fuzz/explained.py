@@ -1,6 +1,10 @@
 """What `--explain` adds to the program's answer: nothing but lines for people behind the report."""
 
+import re
+
 EXPLAIN = "--explain"
+# A line for people: all of it is printable.
+TOLD = re.compile(rb"# [ -~]*")
 
 
 def is_explained(number):
@@ -16,11 +20,12 @@ def without_usage(error):
 
 def wrong_explained(plain, explained):
     """What is wrong with an answer that is explained, beside the one that isn't: the report stays first, and the status
-    and standard error are its own; behind a fault or a refusal stand lines that begin with `# `, and else nothing."""
+    and standard error are its own; behind a fault or a refusal stand lines of printable bytes that begin with `# `, and
+    else nothing."""
     report, rest = explained[1][:len(plain[1])], explained[1][len(plain[1]):]
     lines = rest.split(b"\n")
     if plain[0] in (1, 2):
-        is_told = len(lines) > 1 and lines.pop() == b"" and all(line.startswith(b"# ") for line in lines)
+        is_told = len(lines) > 1 and lines.pop() == b"" and all(map(TOLD.fullmatch, lines))
     else:
         is_told = rest == b""
     told = explained[0], report, without_usage(explained[2])

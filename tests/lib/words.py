@@ -17,10 +17,13 @@ ONE_BELOW = "NotLeast", "WakeBounds", "ForkBounds", "IdleTooLong", "WrongCharge"
 
 OPTIONS = tuple(f"--{name}-ns" for name in SETTINGS)
 
-# What is said of likely mistakes on standard error: of texts in the wrong order, and of a trace without an event.
+# What is said of likely mistakes on standard error: of texts in the wrong order, of a trace without an event, and of a
+# granularity that no CFS needs.
 COMPANION_FIRST = b"hint: the trace is a companion: the trace is named first\n"
 TRACE_SECOND = b"hint: the companion is a trace: the companion is named second\n"
 NO_EVENT = b"hint: the trace has no event of the scheduler\n"
+FAR = b"hint: a pick was %d ns above the least: the kernel is likely one of EEVDF\n"
+NONE_SERVES = b"hint: no granularity below 100 ms mends this fault: the kernel is likely one of EEVDF\n"
 OVERWRITTEN = b"hint: the trace misses events: its two numbers of entries differ, so the buffer was overwritten\n"
 
 KINDS = {

@@ -56,10 +56,10 @@ ROWS = (
      b"charge 3 102 51000000\nat 3 101 52500000\ncharge 4 102 51000000\nat 4 102 51000000\ncharge 6 101 53500000\n"),
     # It is woken at 49.5, below the 50 that it was taken to have at the start, so it had 49.5 all along.
     ("a task that sleeps before it is printed", 0, short_turns(1), short_turns_told(1, 49_500_000)),
-    # Each time that the events are gone through again tells one placement more, from the last to the first.
+    # What a print tells of one placement tells those before it too, up to the start.
     ("a task that sleeps three times before it is printed", 0, short_turns(3), short_turns_told(3, 49_500_000)),
-    # The fourth time tells the first wakeup. That it had less at the start isn't told any more, so it has 50.
-    ("a task that sleeps four times before it is printed", 0, short_turns(4), short_turns_told(4, 50_000_000)),
+    # One print tells 64 placements; the next time that the events are gone through, the last of these tells the others.
+    ("a task that sleeps seventy times before it is printed", 0, short_turns(70), short_turns_told(70, 49_500_000)),
     # 103 is printed 0.1 below the floor, which no new task is: it has 50.
     ("a new task that is printed below the floor", 0,
      (birth(0, 103), printed(1000, 101, 1_000_000, 51_000_000), switch(1000, 101, b"R+", 103),
@@ -132,7 +132,7 @@ ROWS = (
      b"floor 0 4611686018427387904\ntask 101 0 0 rest 4611686018427386904\nat 1 101 4611686018427386904\n"
      b"charge 4 101 4611686018427387904\n"),
 )
-# 103 is born at 55, and 102 woken later at 51: the floor is 55, and what the kernel told at most 51 and the credit.
+# 103 is born at 55, and 102 woken later at 51: the floor is at most 51 and the credit, also where the kernel told more.
 FIRST_PLACED = (birth(0, 103), switch(0, 0, b"R", 103), printed(1000, 103, 1_000_000, 56_000_000), wakeup(1000, 102),
                 switch(1000, 103, b"R+", 102), printed(2000, 102, 1_000_000, 52_000_000), switch(2000, 102, b"S", 103))
 FIRST_PLACED_TOLD = (b"floor 0 %d\ntask 102 0 0 rest 51000000\nat 1 103 55000000\ncharge 4 103 56000000\n"

@@ -64,7 +64,7 @@ fn audit<R: Files + Clock + Print + Eprint + RandomSource + AllocGlobal + Thread
         keep(rt, alloc, folder, parts.as_slice())?;
     }
     let ending = write_report(rt, alloc, parts.as_slice())?;
-    say_of_audited(rt, text.as_slice());
+    say_of_audited(rt, text.as_slice(), parts.as_slice());
     Ok(ending)
 }
 

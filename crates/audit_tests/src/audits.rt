@@ -65,7 +65,7 @@ fn refusals_are_told_in_words(rt: HostRuntime) -> Result<(), Fail> {
 }
 
 /// A summary with the greatest numbers.
-fn busy(alloc: Global) -> Result<Summary, AllocError> {
+pub fn busy(alloc: Global) -> Result<Summary, AllocError> {
     let mut tallies = Vec::new(alloc);
     tallies.push(Tally {
         pid: 4_194_304,

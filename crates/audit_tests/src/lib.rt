@@ -13,6 +13,8 @@ mod ends;
 #[cfg(test)]
 mod least_settings;
 #[cfg(test)]
+mod objects;
+#[cfg(test)]
 mod refusals;
 #[cfg(test)]
 mod runs;

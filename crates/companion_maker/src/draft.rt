@@ -1,6 +1,7 @@
 use crate::candidate::Candidate;
 use crate::known::Known;
 use crate::machine::Machine;
+use crate::news::News;
 use crate::outset::Outset;
 use crate::start::Start;
 use crate::strategy::Strategy;
@@ -26,14 +27,11 @@ pub(crate) fn draft_of(
     wishes: &Wishes,
     strategy: Strategy,
 ) -> Result<Draft, Memory> {
-    let known = Known::nothing(alloc);
+    let known = Known::nothing(alloc, outset.hasher);
     let start = Start::of(alloc, outset, events, wishes, &known)?;
     let mut machine = Machine::new(alloc, outset, &start, wishes, strategy, &known)?;
     follow(&mut machine, outset, events, &known, None)?;
-    Ok(Draft {
-        start,
-        candidate: machine.into_candidate(),
-    })
+    Ok(drafted(start, machine))
 }
 
 /// What the kernel's own values make of the events. Where no print tells a placement, what is found later tells what it
@@ -46,25 +44,45 @@ pub(crate) fn kernel_draft(
     known: Known,
 ) -> Result<Draft, Memory> {
     let mut known = known;
-    for _ in 0..MOST_RETURNS {
-        let start = Start::of(alloc, outset, events, wishes, &known)?;
-        let mut machine = Machine::new(alloc, outset, &start, wishes, Strategy::Kernel, &known)?;
-        follow(&mut machine, outset, events, &known, None)?;
-        if !machine.asks() {
-            return Ok(Draft {
-                start,
-                candidate: machine.into_candidate(),
-            });
+    for returns in 0..MOST_RETURNS {
+        let (start, machine) = gone_through(alloc, outset, events, wishes, &known)?;
+        if !is_worth_it(machine.tell_asked(&mut known)?, returns) {
+            return Ok(drafted(start, machine));
         }
-        machine.tell_asked(&mut known)?;
     }
-    let start = Start::of(alloc, outset, events, wishes, &known)?;
-    let mut machine = Machine::new(alloc, outset, &start, wishes, Strategy::Kernel, &known)?;
-    follow(&mut machine, outset, events, &known, None)?;
-    Ok(Draft {
+    let (start, machine) = gone_through(alloc, outset, events, wishes, &known)?;
+    Ok(drafted(start, machine))
+}
+
+/// Whether to go through the events again, after so many returns. What events place elsewhere seldom asks for more than
+/// it did at first.
+fn is_worth_it(news: News, returns: usize) -> bool {
+    match news {
+        News::None => false,
+        News::OfEvents => returns == 0,
+        News::OfStart => true,
+    }
+}
+
+/// The events gone through by what is known of the kernel's own values.
+fn gone_through(
+    alloc: Global,
+    outset: &Outset,
+    events: &[Entry],
+    wishes: &Wishes,
+    known: &Known,
+) -> Result<(Start, Machine), Memory> {
+    let start = Start::of(alloc, outset, events, wishes, known)?;
+    let mut machine = Machine::new(alloc, outset, &start, wishes, Strategy::Kernel, known)?;
+    follow(&mut machine, outset, events, known, None)?;
+    Ok((start, machine))
+}
+
+fn drafted(start: Start, machine: Machine) -> Draft {
+    Draft {
         start,
         candidate: machine.into_candidate(),
-    })
+    }
 }
 
 /// The same as `draft_of`, where it is better than another.
@@ -76,14 +94,11 @@ pub(crate) fn better_draft(
     strategy: Strategy,
     other: &Draft,
 ) -> Result<Option<Draft>, Memory> {
-    let known = Known::nothing(alloc);
+    let known = Known::nothing(alloc, outset.hasher);
     let start = Start::of(alloc, outset, events, wishes, &known)?;
     let mut machine = Machine::new(alloc, outset, &start, wishes, strategy, &known)?;
     if follow(&mut machine, outset, events, &known, Some(&other.candidate))? {
-        Ok(Some(Draft {
-            start,
-            candidate: machine.into_candidate(),
-        }))
+        Ok(Some(drafted(start, machine)))
     } else {
         Ok(None)
     }
@@ -99,11 +114,11 @@ fn follow(
     known: &Known,
     rival: Option<&Candidate>,
 ) -> Result<bool, Memory> {
-    for (place, event) in events.iter().enumerate() {
+    for (index, event) in events.iter().enumerate() {
         if !is_better(machine, rival) {
             return Ok(false);
         }
-        machine.pass(event, outset.forecast.is_picked(place), known)?;
+        machine.pass(event, index, outset.forecast.is_picked(index), known)?;
     }
     Ok(is_better(machine, rival))
 }

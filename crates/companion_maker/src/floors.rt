@@ -1,6 +1,5 @@
 use crate::known::Known;
 use crate::outset::Outset;
-use crate::task_line::TaskLine;
 use crate::values::above;
 use crate::wishes::Wishes;
 use cfs_model::{Act, Entry, MOST_PROCESSORS, Place};
@@ -19,27 +18,43 @@ impl Floors {
         }
     }
 
-    /// At the start: what the kernel told, unless a placement bounds it lower. Where it told none, or nobody is placed,
-    /// the least virtual runtime of those who run or wait; where nobody does, what the first placement tells.
+    /// At the start: what the kernel told, as far as the placements bound it. Where it told none, or nobody is placed,
+    /// the least virtual runtime of those who run or wait; where nobody does, what the first placement says, or a lower
+    /// wakeup. One that lies below who runs or waits lowers nothing: it would hide how low it is.
     pub(crate) fn of(outset: &Outset, events: &[Entry], wishes: &Wishes, known: &Known) -> Floors {
         let mut found = Floors::unknown();
         if known.prints().is_empty() {
             return found;
         }
-        for task in outset.tasks.as_slice() {
-            if task.place != Place::Rest {
-                found.lower(task.cpu, known.at_start(task, outset.start));
-            }
-        }
         let mut bounds = Floors::unknown();
-        for event in events {
-            if let Some((cpu, bound)) = bound_of(event, wishes, known) {
+        for (index, event) in events.iter().enumerate() {
+            let placed = known.placement(index).value();
+            if let Some((cpu, bound)) = bound_of(event.act, placed, wishes) {
                 found.begin(cpu, bound);
                 bounds.lower(cpu, Some(bound));
+                if matches!(event.act, Act::Wake { .. }) {
+                    found.lower(cpu, Some(bound));
+                }
             }
         }
+        found.take_standing(outset, known);
         found.take_told(known.floors(), &bounds);
         found
+    }
+
+    /// Takes the least virtual runtime of those who run or wait at the start, where anybody does whose own is known.
+    fn take_standing(&mut self, outset: &Outset, known: &Known) {
+        let mut standing = Floors::unknown();
+        for task in outset.tasks.as_slice() {
+            if task.place != Place::Rest {
+                standing.lower(task.cpu, known.at_start(task, outset.start));
+            }
+        }
+        for cpu in 0..MOST_PROCESSORS as u32 {
+            if let Some(floor) = standing.at(cpu) {
+                self.set(cpu, floor);
+            }
+        }
     }
 
     /// Takes the floors that were told, as far as each is bounded: since they were told when some events were over,
@@ -80,15 +95,11 @@ impl Floors {
 
 /// The processor at which an event places a task, and what its floor is at most by that, now and at the start: a task
 /// that is woken lies at most the credit below it, and a new one not below.
-fn bound_of(event: &Entry, wishes: &Wishes, known: &Known) -> Option<(u32, i64)> {
-    let line = event.line;
-    let act = event.act;
+fn bound_of(act: Act, placed: Option<i64>, wishes: &Wishes) -> Option<(u32, i64)> {
+    let v = placed?;
     match act {
-        Act::Wake { cpu, pid, nice } => {
-            let v = known.placed(TaskLine { pid, line }, nice)?;
-            Some((cpu, above(v, wishes.knobs.credit())))
-        }
-        Act::Born { cpu, pid, nice } => Some((cpu, known.placed(TaskLine { pid, line }, nice)?)),
+        Act::Wake { cpu, .. } => Some((cpu, above(v, wishes.knobs.credit()))),
+        Act::Born { cpu, .. } => Some((cpu, v)),
         Act::Switch { .. } | Act::Shift { .. } => None,
     }
 }

@@ -1,7 +1,11 @@
 use crate::floors::Floors;
+use crate::next_prints::NextPrints;
+use crate::placements::{Placement, placements_of};
+use crate::placing::Placing;
+use crate::print::Print;
 use crate::prints::Prints;
-use crate::task_line::TaskLine;
-use cfs_model::{Memory, Nice, Place, Task};
+use cfs_model::{Entry, Memory, Place, Task};
+use pid_table::PidHasher;
 use std::alloc::Global;
 use std::collections::BTreeMap;
 
@@ -9,29 +13,53 @@ use std::collections::BTreeMap;
 #[derive(Drop)]
 pub(crate) struct Known {
     prints: Prints,
+    /// The first print of each task.
+    first: NextPrints,
+    /// By event; none where nothing is known.
+    placements: Vec<Placement>,
+    /// Of tasks that no print tells at the start, what they have to be there by what was found later.
+    asked: BTreeMap<u32, i64>,
     /// The floors at the start that the kernel told beside the trace.
     floors: Floors,
-    /// Of those whose placement no print tells, what it has to be by what was found later.
-    asked: BTreeMap<TaskLine, i64>,
 }
 
 impl Known {
     /// What the prints and these floors tell.
-    pub(crate) fn of(alloc: Global, prints: Prints, floors: Floors) -> Known {
-        Known {
+    pub(crate) fn of(
+        alloc: Global,
+        prints: Prints,
+        events: &[Entry],
+        floors: Floors,
+        hasher: PidHasher,
+    ) -> Result<Known, Memory> {
+        let (placements, first) = placements_of(alloc, prints.as_slice(), events, hasher)?;
+        Ok(Known {
             prints,
-            floors,
+            first,
+            placements,
             asked: BTreeMap::new(alloc),
-        }
+            floors,
+        })
     }
 
     /// Nothing is.
-    pub(crate) fn nothing(alloc: Global) -> Known {
-        Known::of(alloc, Prints::none(alloc), Floors::unknown())
+    pub(crate) fn nothing(alloc: Global, hasher: PidHasher) -> Known {
+        Known {
+            prints: Prints::none(alloc),
+            first: NextPrints::new(alloc, hasher),
+            placements: Vec::new(alloc),
+            asked: BTreeMap::new(alloc),
+            floors: Floors::unknown(),
+        }
     }
 
     pub(crate) fn prints(&self) -> &Prints {
         &self.prints
+    }
+
+    /// Whether something is printed of the task.
+    pub(crate) fn names(&self, pid: u32) -> bool {
+        self.first.names(pid)
     }
 
     /// The floors at the start that the kernel told beside the trace.
@@ -39,42 +67,48 @@ impl Known {
         &self.floors
     }
 
-    /// A placement has to be another.
-    pub(crate) fn ask(&mut self, at: TaskLine, v: i64) -> Result<(), Memory> {
-        self.asked.insert(at, v)?;
-        Ok(())
+    /// A placement that no print tells has to be another. Whether that is news.
+    pub(crate) fn ask(&mut self, at: Placing, v: i64) -> Result<bool, Memory> {
+        match at {
+            Placing::AtStart(pid) => Ok(self.asked.insert(pid, v)? != Some(v)),
+            Placing::ByEvent(index) => Ok(self.ask_event(index, v)),
+        }
     }
 
-    /// The virtual runtime of a task that is placed on a line.
-    pub(crate) fn placed(&self, at: TaskLine, nice: Nice) -> Option<i64> {
-        match self.asked.get(&at) {
-            Some(v) => Some(*v),
-            None => self.prints.placed(at, nice),
+    /// The same of the one by the event at an index.
+    fn ask_event(&mut self, index: usize, v: i64) -> bool {
+        match self.placements.get_mut(index) {
+            Some(placement) => {
+                let before = *placement;
+                *placement = Placement::Asked(v);
+                before != Placement::Asked(v)
+            }
+            None => false,
         }
+    }
+
+    /// The virtual runtime at which the event at an index places its task.
+    pub(crate) fn placement(&self, index: usize) -> Placement {
+        self.placements
+            .get(index)
+            .copied()
+            .unwrap_or(Placement::Unknown)
     }
 
     /// The virtual runtime of a task at the start, which is given in nanoseconds.
     pub(crate) fn at_start(&self, task: &Task, start: u64) -> Option<i64> {
-        let at = TaskLine {
-            pid: task.pid,
-            line: 0,
-        };
-        match self.asked.get(&at) {
+        match self.asked.get(&task.pid) {
             Some(v) => Some(*v),
             None => self.printed_at_start(task, start),
         }
     }
 
-    /// Whether a print tells the virtual runtime of a task at the start.
-    pub(crate) fn is_told_at_start(&self, task: &Task, start: u64) -> bool {
-        self.printed_at_start(task, start).is_some()
-    }
-
-    fn printed_at_start(&self, task: &Task, start: u64) -> Option<i64> {
-        let pid = task.pid;
+    /// The same, where a print tells it.
+    pub(crate) fn printed_at_start(&self, task: &Task, start: u64) -> Option<i64> {
+        let print: Print = self.first.of(task.pid)?;
         match task.place {
-            Place::Run => self.prints.running_at_start(pid, task.nice, start),
-            Place::Wait | Place::Rest => self.prints.placed(TaskLine { pid, line: 0 }, task.nice),
+            Place::Run => print.from_start(start, task.nice),
+            Place::Wait | Place::Rest => print.before(task.nice),
         }
     }
 }

@@ -1,11 +1,14 @@
 use crate::candidate::Candidate;
 use crate::known::Known;
-use crate::named::{Named, Unsettled};
+use crate::named::{Heard, Named, Unsettled};
+use crate::news::News;
 use crate::outset::Outset;
+use crate::placements::Placement;
+use crate::placing::Placing;
 use crate::processor::Processor;
 use crate::start::Start;
 use crate::strategy::Strategy;
-use crate::task_line::TaskLine;
+use crate::tasks::Tasks;
 use crate::values::{above, below, moved};
 use crate::wishes::Wishes;
 use cfs_model::{
@@ -15,23 +18,31 @@ use cfs_model::{
 use std::alloc::Global;
 use std::collections::BTreeMap;
 
+/// How many placements one print tells at most, each by the next.
+const MOST_TOLD: usize = 64;
+
 /// The machine that the events lead, as far as they can: what breaks a rule changes nothing.
 #[derive(Drop)]
 pub(crate) struct Machine {
     processors: Vec<Processor>,
-    /// Every task by its pid.
-    tasks: BTreeMap<u32, Named>,
+    tasks: Tasks,
     wishes: Wishes,
     made: Candidate,
-    /// What unsettled placements have to be, by what was found later.
-    asked: BTreeMap<TaskLine, i64>,
+    /// The placements that no print tells.
+    unsettled: Vec<Unsettled>,
+    /// What they have to be, by what was found later.
+    asked: BTreeMap<Placing, i64>,
+    /// How many prints have been heard.
+    heard: usize,
 }
 
-/// An event's line, and whether its task is the next to be picked.
+/// An event's line and index, whether its task is the next to be picked, and what is known of its placement.
 #[derive(Clone, Copy)]
 struct Moment {
     line: u32,
+    index: usize,
     is_picked: bool,
+    placement: Placement,
 }
 
 impl Machine {
@@ -45,7 +56,7 @@ impl Machine {
     ) -> Result<Machine, Memory> {
         let mut machine = Machine {
             processors: Vec::new(alloc),
-            tasks: BTreeMap::new(alloc),
+            tasks: Tasks::new(alloc, outset.hasher),
             wishes: *wishes,
             made: Candidate {
                 strategy,
@@ -55,7 +66,9 @@ impl Machine {
                 nices: BTreeMap::new(alloc),
                 charges: Vec::new(alloc),
             },
+            unsettled: Vec::new(alloc),
             asked: BTreeMap::new(alloc),
+            heard: 0,
         };
         machine.set_up(alloc, outset, start, known)?;
         Ok(machine)
@@ -78,8 +91,8 @@ impl Machine {
             ))?;
         }
         for task in start.tasks.as_slice() {
-            let unsettled = unsettled_at_start(task, outset.start, known);
-            self.enter(*task, 0, unsettled)?;
+            let unsettled = self.unsettled_at_start(task, outset.start, known)?;
+            self.enter(*task, 0, unsettled, known)?;
         }
         Ok(())
     }
@@ -94,30 +107,33 @@ impl Machine {
         self.made
     }
 
-    /// Whether placements turned out to be others.
-    pub(crate) fn asks(&self) -> bool {
-        !self.asked.is_empty()
-    }
-
-    /// Tells which, and what they have to be.
-    pub(crate) fn tell_asked(&self, known: &mut Known) -> Result<(), Memory> {
+    /// Tells which placements turned out to be others, and what they have to be.
+    pub(crate) fn tell_asked(&self, known: &mut Known) -> Result<News, Memory> {
+        let mut news = News::None;
         for (at, v) in self.asked.iter() {
-            known.ask(*at, *v)?;
+            if known.ask(*at, *v)? {
+                news = news.max(News::of(*at));
+            }
         }
-        Ok(())
+        Ok(news)
     }
 
-    /// Passes one more event. The flag tells whether the task that it wakes or bears is the next to be picked.
+    /// Passes one more event, which stands at this index. The flag tells whether the task that it wakes or bears is the
+    /// next to be picked.
     pub(crate) fn pass(
         &mut self,
         event: &Entry,
+        index: usize,
         is_picked: bool,
         known: &Known,
     ) -> Result<(), Memory> {
         let moment = Moment {
             line: event.line,
+            index,
             is_picked,
+            placement: known.placement(index),
         };
+        self.hear(event.line, known);
         if !self.fits(event) {
             self.made.stop_at(moment.line);
         }
@@ -131,7 +147,7 @@ impl Machine {
                 next,
                 next_nice,
             } => {
-                self.charge(moment.line, cpu, event.time, known)?;
+                self.charge(moment.line, cpu, event.time)?;
                 self.renice(moment.line, cpu, prev, prev_nice)?;
                 self.renice(moment.line, cpu, next, next_nice)?;
                 self.leave(moment, cpu, prev, way)?;
@@ -140,14 +156,14 @@ impl Machine {
                 Ok(())
             }
             Act::Wake { cpu, pid, nice } => {
-                self.charge(moment.line, cpu, event.time, known)?;
+                self.charge(moment.line, cpu, event.time)?;
                 self.renice(moment.line, cpu, pid, nice)?;
-                self.wake(moment, cpu, pid, nice, known)?;
+                self.wake(moment, cpu, pid)?;
                 self.end_line(moment.line, cpu);
                 Ok(())
             }
             Act::Born { cpu, pid, nice } => {
-                self.charge(moment.line, cpu, event.time, known)?;
+                self.charge(moment.line, cpu, event.time)?;
                 self.bear(moment, cpu, pid, nice, known)?;
                 self.end_line(moment.line, cpu);
                 Ok(())
@@ -158,13 +174,30 @@ impl Machine {
                 pid,
                 nice,
             } => {
-                self.charge(moment.line, orig, event.time, known)?;
+                self.charge(moment.line, orig, event.time)?;
                 self.lift(moment.line, dest, event.time);
                 self.renice(moment.line, orig, pid, nice)?;
                 self.shift(moment, orig, dest, pid, known)?;
                 self.end_line(moment.line, orig);
                 Ok(())
             }
+        }
+    }
+
+    /// Hears what was printed before a line.
+    fn hear(&mut self, line: u32, known: &Known) {
+        let later = known.prints().as_slice().get(self.heard..).unwrap_or(&[]);
+        for print in later {
+            if print.line >= line {
+                break;
+            }
+            if let Some(named) = self.tasks.get_mut(print.pid) {
+                named.heard = Some(Heard {
+                    line: print.line,
+                    v: print.v,
+                });
+            }
+            self.heard = self.heard.saturating_add(1);
         }
     }
 
@@ -183,7 +216,7 @@ impl Machine {
                 .get(cpu as usize)
                 .is_some_and(|here| here.can_switch(prev, way, next)),
             Act::Wake { cpu, pid, .. } => self.place_at(cpu, pid).is_some(),
-            Act::Born { pid, .. } => !self.tasks.contains_key(&pid),
+            Act::Born { pid, .. } => self.tasks.get(pid).is_none(),
             Act::Shift {
                 orig,
                 dest,
@@ -206,15 +239,24 @@ impl Machine {
     }
 
     /// A task, named last on this line, comes to its processor.
-    fn enter(&mut self, task: Task, line: u32, unsettled: Option<Unsettled>) -> Result<(), Memory> {
+    fn enter(
+        &mut self,
+        task: Task,
+        line: u32,
+        unsettled: Option<usize>,
+        known: &Known,
+    ) -> Result<(), Memory> {
         let cpu = task.cpu;
         let named = Named {
             cpu,
             line,
             since: line,
+            nice: task.nice,
             unsettled,
+            is_printed: known.names(task.pid),
+            heard: None,
         };
-        self.tasks.insert(task.pid, named)?;
+        self.tasks.set(task.pid, named)?;
         match self.processors.get_mut(cpu as usize) {
             Some(processor) => processor.enter(task),
             None => Ok(()),
@@ -231,8 +273,8 @@ impl Machine {
     }
 
     /// The same at the processor where an event happens: as it was printed, where the kernel printed what it charged.
-    fn charge(&mut self, line: u32, cpu: u32, time: u64, known: &Known) -> Result<(), Memory> {
-        if let Some(told) = self.told(line, cpu, known) {
+    fn charge(&mut self, line: u32, cpu: u32, time: u64) -> Result<(), Memory> {
+        if let Some(told) = self.told(line, cpu) {
             if let Some(processor) = self.processors.get_mut(cpu as usize) {
                 if processor
                     .queue
@@ -250,14 +292,14 @@ impl Machine {
 
     /// What who runs has come to before a line, where anything is printed of it: what was printed last since it came,
     /// or what it has. Its placement is settled by that.
-    fn told(&mut self, line: u32, cpu: u32, known: &Known) -> Option<ChargeLine> {
+    fn told(&mut self, line: u32, cpu: u32) -> Option<ChargeLine> {
         let task = self.processors.get(cpu as usize)?.queue.runner()?;
         let pid = task.pid;
-        if !known.prints().names(pid) {
+        let named = self.tasks.get_mut(pid)?;
+        if !named.is_printed {
             return None;
         }
-        let named = self.tasks.get_mut(&pid)?;
-        let v = match known.prints().last(TaskLine { pid, line }, named.since) {
+        let v = match named.printed() {
             Some(printed) => {
                 named.unsettled = None;
                 printed.max(task.v)
@@ -270,11 +312,12 @@ impl Machine {
     /// Where the event prints another nice value than the task's, it has changed: on this line, or on an earlier one of
     /// the processor that doesn't name it.
     fn renice(&mut self, line: u32, cpu: u32, pid: u32, nice: Nice) -> Result<(), Memory> {
-        let Some(named) = self.tasks.get_mut(&pid) else {
+        let Some(before) = self.tasks.name(pid, line, nice) else {
             return Ok(());
         };
-        let before = *named;
-        named.line = line;
+        if before.nice == nice {
+            return Ok(());
+        }
         let Some(processor) = self.processors.get_mut(before.cpu as usize) else {
             return Ok(());
         };
@@ -339,7 +382,7 @@ impl Machine {
             Way::Stays => self.claim(moment.line, prev, task.v, ClaimSort::At)?,
             Way::Sleeps => (),
             Way::Ends => {
-                self.tasks.remove(&prev);
+                self.tasks.remove(prev);
             }
         }
         Ok(())
@@ -356,23 +399,12 @@ impl Machine {
     }
 
     /// A task that rests at the processor waits there.
-    fn wake(
-        &mut self,
-        moment: Moment,
-        cpu: u32,
-        pid: u32,
-        nice: Nice,
-        known: &Known,
-    ) -> Result<(), Memory> {
+    fn wake(&mut self, moment: Moment, cpu: u32, pid: u32) -> Result<(), Memory> {
         let Some(own) = self.resting(cpu, pid) else {
             return Ok(());
         };
         let high = own.max(self.floor(cpu));
-        let at = TaskLine {
-            pid,
-            line: moment.line,
-        };
-        let v = match known.placed(at, nice) {
+        let v = match moment.placement.value() {
             Some(placed) => {
                 if placed < own || placed > high {
                     self.ask(pid, placed, own)?;
@@ -381,7 +413,7 @@ impl Machine {
             }
             None => self.wake_place(moment, cpu, own),
         };
-        self.place_anew(at, v, known, nice);
+        self.place_anew(moment, pid, v, own)?;
         let claim = Claim {
             line: moment.line,
             pid,
@@ -420,24 +452,89 @@ impl Machine {
         }
     }
 
-    /// A task is placed on a line, and has this virtual runtime then.
-    fn place_anew(&mut self, at: TaskLine, v: i64, known: &Known, nice: Nice) {
-        if let Some(named) = self.tasks.get_mut(&at.pid) {
-            named.since = at.line;
-            named.unsettled = unsettled_at(at, v, known, nice);
+    /// A task that had a virtual runtime of its own is placed, and has this one then.
+    fn place_anew(&mut self, moment: Moment, pid: u32, v: i64, own: i64) -> Result<(), Memory> {
+        let Some(named) = self.tasks.get(pid) else {
+            return Ok(());
+        };
+        let unsettled = if named.is_printed {
+            let at = Placing::ByEvent(moment.index);
+            let before = named.unsettled;
+            self.unsettle(moment.placement, Unsettled { at, v, own, before })?
+        } else {
+            None
+        };
+        if let Some(named) = self.tasks.get_mut(pid) {
+            named.since = moment.line;
+            named.unsettled = unsettled;
+        }
+        Ok(())
+    }
+
+    /// Notes a placement, unless a print tells it.
+    fn unsettle(
+        &mut self,
+        placement: Placement,
+        unsettled: Unsettled,
+    ) -> Result<Option<usize>, Memory> {
+        match placement {
+            Placement::Printed(_) => Ok(None),
+            Placement::Unknown | Placement::Asked(_) => {
+                let index = self.unsettled.len();
+                self.unsettled.push(unsettled)?;
+                Ok(Some(index))
+            }
         }
     }
 
+    /// The same of a task at the start, which is given in nanoseconds.
+    fn unsettled_at_start(
+        &mut self,
+        task: &Task,
+        start: u64,
+        known: &Known,
+    ) -> Result<Option<usize>, Memory> {
+        if !known.names(task.pid) {
+            return Ok(None);
+        }
+        let printed = known.printed_at_start(task, start);
+        let unsettled = Unsettled {
+            at: Placing::AtStart(task.pid),
+            v: task.v,
+            own: task.v,
+            before: None,
+        };
+        self.unsettle(Placement::of(printed), unsettled)
+    }
+
     /// Where a task has turned out to have another virtual runtime than it has here, its last placement has to be
-    /// another by as much, if no print has told it.
+    /// another by as much, if no print has told it. Where that is less than the task had before, the placement before
+    /// that has to be another too, and so on.
     fn ask(&mut self, pid: u32, wanted: i64, found: i64) -> Result<(), Memory> {
-        if let Some(named) = self.tasks.get(&pid) {
-            if let Some(unsettled) = named.unsettled {
-                let v = moved(unsettled.v, found, wanted);
-                self.asked.insert(unsettled.at, v)?;
+        let Some(named) = self.tasks.get(pid) else {
+            return Ok(());
+        };
+        let mut last = named.unsettled;
+        let mut wanted = wanted;
+        let mut found = found;
+        for _ in 0..MOST_TOLD {
+            let Some(unsettled) = self.unsettled_at(last) else {
+                break;
+            };
+            let v = moved(unsettled.v, found, wanted);
+            self.asked.insert(unsettled.at, v)?;
+            if v >= unsettled.own {
+                break;
             }
+            wanted = v;
+            found = unsettled.own;
+            last = unsettled.before;
         }
         Ok(())
+    }
+
+    fn unsettled_at(&self, index: Option<usize>) -> Option<Unsettled> {
+        self.unsettled.get(index?).copied()
     }
 
     /// A new task waits at the processor.
@@ -449,14 +546,10 @@ impl Machine {
         nice: Nice,
         known: &Known,
     ) -> Result<(), Memory> {
-        if self.tasks.contains_key(&pid) {
+        if self.tasks.get(pid).is_some() {
             return Ok(());
         }
-        let at = TaskLine {
-            pid,
-            line: moment.line,
-        };
-        let v = match known.placed(at, nice) {
+        let v = match moment.placement.value() {
             Some(placed) => placed.max(self.floor(cpu)),
             None => self.birth_place(moment, cpu),
         };
@@ -468,8 +561,29 @@ impl Machine {
             place: Place::Wait,
             v,
         };
-        self.enter(task, moment.line, unsettled_at(at, v, known, nice))?;
+        let unsettled = self.unsettled_at_birth(moment, pid, v, known)?;
+        self.enter(task, moment.line, unsettled, known)?;
         self.claim(moment.line, pid, v, ClaimSort::At)
+    }
+
+    /// Notes where a new task is placed, unless a print tells it. It had nothing before.
+    fn unsettled_at_birth(
+        &mut self,
+        moment: Moment,
+        pid: u32,
+        v: i64,
+        known: &Known,
+    ) -> Result<Option<usize>, Memory> {
+        if !known.names(pid) {
+            return Ok(None);
+        }
+        let unsettled = Unsettled {
+            at: Placing::ByEvent(moment.index),
+            v,
+            own: v,
+            before: None,
+        };
+        self.unsettle(moment.placement, unsettled)
     }
 
     /// Where a new task is placed at the processor.
@@ -508,7 +622,7 @@ impl Machine {
             Place::Run | Place::Wait => ClaimSort::At,
         };
         let v = moved(task.v, self.floor(orig), self.floor(dest));
-        let unsettled = self.settle_moved(moment.line, task.place, pid, task.nice, v, known)?;
+        let unsettled = self.settle_moved(moment, task.place, pid, v)?;
         let come = Task {
             pid,
             nice: task.nice,
@@ -517,7 +631,7 @@ impl Machine {
             place: task.place,
             v,
         };
-        self.enter(come, moment.line, unsettled)?;
+        self.enter(come, moment.line, unsettled, known)?;
         self.claim(moment.line, pid, v, sort)
     }
 
@@ -525,21 +639,19 @@ impl Machine {
     /// next print may tell what it has there, and so what its placement was.
     fn settle_moved(
         &mut self,
-        line: u32,
+        moment: Moment,
         place: Place,
         pid: u32,
-        nice: Nice,
         v: i64,
-        known: &Known,
-    ) -> Result<Option<Unsettled>, Memory> {
-        let unsettled = match self.tasks.get(&pid) {
+    ) -> Result<Option<usize>, Memory> {
+        let unsettled = match self.tasks.get(pid) {
             Some(named) => named.unsettled,
             None => None,
         };
         if place != Place::Wait {
             return Ok(unsettled);
         }
-        match known.prints().placed(TaskLine { pid, line }, nice) {
+        match moment.placement.printed() {
             Some(wanted) => {
                 if wanted != v {
                     self.ask(pid, wanted, v)?;
@@ -560,24 +672,4 @@ impl Machine {
             .get(cpu as usize)
             .map_or(0, |processor| processor.queue.floor())
     }
-}
-
-/// What is unsettled of a task that is placed on a line, and has this virtual runtime then.
-fn unsettled_at(at: TaskLine, v: i64, known: &Known, nice: Nice) -> Option<Unsettled> {
-    if known.prints().placed(at, nice).is_some() {
-        None
-    } else {
-        Some(Unsettled { at, v })
-    }
-}
-
-/// What is unsettled of a task at the start, which is given in nanoseconds.
-fn unsettled_at_start(task: &Task, start: u64, known: &Known) -> Option<Unsettled> {
-    let pid = task.pid;
-    let v = task.v;
-    if known.is_told_at_start(task, start) {
-        return None;
-    }
-    let at = TaskLine { pid, line: 0 };
-    Some(Unsettled { at, v })
 }

@@ -55,7 +55,7 @@ pub fn companion_of_text(
 {
     one_trace_answer();
     let trace = read_trace(alloc, text)?;
-    let known = wanted_values(alloc, text, debug, trace.events(), wishes)?;
+    let known = wanted_values(alloc, text, debug, trace.events(), wishes, hasher)?;
     companion_of_trace(alloc, trace, known, wishes, hasher)
 }
 
@@ -73,7 +73,8 @@ pub fn make_companion(
     // Else it is said why: the first event that touches a processor which no companion has.
     ensures outside { IfErr result (IsNotMadeFor (trace_view trace)) }
 {
-    companion_of_trace(alloc, trace, Known::nothing(alloc), wishes, hasher)
+    let known = Known::nothing(alloc, hasher);
+    companion_of_trace(alloc, trace, known, wishes, hasher)
 }
 
 /// A companion for a trace of which this is known. What was found is read back and joined with the trace; where that
@@ -116,15 +117,17 @@ fn wanted_values(
     debug: Option<&[u8]>,
     events: &[Entry],
     wishes: &Wishes,
+    hasher: PidHasher,
 ) -> Result<Known, Memory> {
     if wishes.strategy != Some(Strategy::Kernel) {
-        return Ok(Known::nothing(alloc));
+        return Ok(Known::nothing(alloc, hasher));
     }
     let floors = match debug {
         Some(told) => told_floors(told),
         None => Floors::unknown(),
     };
-    Ok(Known::of(alloc, Prints::of(alloc, text, events)?, floors))
+    let prints = Prints::of(alloc, text)?;
+    Known::of(alloc, prints, events, floors, hasher)
 }
 
 /// Whether the text is a companion that goes together with the trace.
@@ -149,7 +152,7 @@ fn found_text(
     let outset = Outset {
         cpus: processors_of(events),
         start: events.first().map_or(0, |event| event.time),
-        tasks: tasks_at_start(alloc, events)?,
+        tasks: tasks_at_start(alloc, events, hasher)?,
         forecast: Forecast::of(alloc, events)?,
         hasher,
     };

@@ -1,4 +1,5 @@
-use crate::task_line::TaskLine;
+use crate::placing::Placing;
+use cfs_model::Nice;
 
 /// Where a task stands, and which lines named and placed it last.
 #[derive(Clone, Copy, Debug)]
@@ -8,14 +9,39 @@ pub(crate) struct Named {
     pub line: u32,
     /// The line on which it was woken, was born or came here; 0 where it has been here from the start.
     pub since: u32,
-    /// Its last placement, where no print has told it yet.
-    pub unsettled: Option<Unsettled>,
+    pub nice: Nice,
+    /// Its last placement among those that no print tells, where none has told it yet.
+    pub unsettled: Option<usize>,
+    /// Whether anything is printed of it, at any line.
+    pub is_printed: bool,
+    /// What was printed of it last.
+    pub heard: Option<Heard>,
+}
+
+impl Named {
+    /// What was printed of it last since it came here.
+    pub(crate) fn printed(&self) -> Option<i64> {
+        let heard = self.heard?;
+        (heard.line > self.since).then_some(heard.v)
+    }
 }
 
 /// A placement that no print tells.
 #[derive(Clone, Copy, Debug)]
 pub(crate) struct Unsettled {
-    pub at: TaskLine,
+    pub at: Placing,
     /// The virtual runtime that it was given.
+    pub v: i64,
+    /// The least that it could be given: what the task had before.
+    pub own: i64,
+    /// The placement before, among those that no print tells, where none has told it since.
+    pub before: Option<usize>,
+}
+
+/// What was printed of a task on a line.
+#[derive(Clone, Copy, Debug)]
+pub(crate) struct Heard {
+    pub line: u32,
+    /// In virtual nanoseconds.
     pub v: i64,
 }

@@ -3,6 +3,7 @@
 use cfs_model::{
     Act, Entry, GREATEST_PID, IDLE_PID, MOST_PROCESSORS, Memory, Nice, Place, Policy, Task,
 };
+use pid_table::{PidHasher, PidTable};
 use std::alloc::Global;
 use std::collections::BTreeMap;
 
@@ -50,23 +51,27 @@ enum Runner {
 
 #[derive(Drop)]
 struct Opening {
-    tasks: BTreeMap<u32, FirstSight>,
+    tasks: PidTable<FirstSight>,
     /// By processor.
     runners: [Runner; MOST_PROCESSORS],
 }
 
 /// The tasks of the start state, by rising pid: where each stood is told by the first events that name it. Among them a
 /// stand-in for each who must have run all along, unnamed, at a processor to which tasks come and which never switches.
-pub(crate) fn tasks_at_start(alloc: Global, events: &[Entry]) -> Result<Vec<Task>, Memory> {
+pub(crate) fn tasks_at_start(
+    alloc: Global,
+    events: &[Entry],
+    hasher: PidHasher,
+) -> Result<Vec<Task>, Memory> {
     let mut opening = Opening {
-        tasks: BTreeMap::new(alloc),
+        tasks: PidTable::new(alloc, hasher),
         runners: [Runner::Unsought; MOST_PROCESSORS],
     };
     for event in events {
         opening.pass(event.act)?;
     }
     let mut stood = BTreeMap::new(alloc);
-    for (pid, sight) in opening.tasks.iter() {
+    for (pid, sight) in opening.tasks.pids().iter().zip(opening.tasks.rows()) {
         if let Some(place) = place_of(sight.guess) {
             stood.insert(*pid, task_at_start(*pid, sight.nice, sight.cpu, place))?;
         }
@@ -162,19 +167,21 @@ impl Opening {
         if pid == IDLE_PID {
             return Ok(());
         }
-        let first = match self.tasks.get(&pid).copied() {
-            Some(first) => FirstSight {
-                guess: self.possible(guess_after(first.guess, sight), first.guess, first.cpu),
-                cpu: first.cpu,
-                nice: first.nice,
-            },
-            None => FirstSight {
-                guess: self.possible(first_guess(sight), Guess::Unborn, cpu),
-                cpu,
-                nice,
-            },
-        };
-        self.tasks.insert(pid, first)?;
+        match self.tasks.index_of(pid) {
+            Some(row) => {
+                let first = self.tasks.rows()[row];
+                let guess = guess_after(first.guess, sight);
+                if guess != first.guess {
+                    let guess = self.possible(guess, first.guess, first.cpu);
+                    *self.tasks.row_mut(row) = FirstSight { guess, ..first };
+                }
+            }
+            None => {
+                let guess = self.possible(first_guess(sight), Guess::Unborn, cpu);
+                self.tasks.make_room()?;
+                self.tasks.add(pid, FirstSight { guess, cpu, nice });
+            }
+        }
         Ok(())
     }
 
@@ -211,7 +218,10 @@ impl Opening {
 
     /// The lowest pid above this one that no event names.
     fn free_pid(&self, last: u32) -> Option<u32> {
-        (last.saturating_add(1)..=GREATEST_PID as u32).find(|pid| !self.tasks.contains_key(pid))
+        (last.saturating_add(1)..=GREATEST_PID as u32).find(|pid| self
+            .tasks
+            .index_of(*pid)
+            .is_none())
     }
 
     /// Whether tasks came to the processor, and no switch has told who ran there.

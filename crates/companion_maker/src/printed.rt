@@ -28,10 +28,15 @@ pub(crate) struct PrintedAmounts {
     pub v: i64,
 }
 
+/// What stands between the head of a line of that event and its text.
+pub(crate) const LABEL: &[u8] = b": sched_stat_runtime: ";
+
 /// The charge that a line of a trace prints, if it is a line of that event. Another line of a trace that can be read
-/// has none: the label has to stand right behind the head, and the text has to have each field.
-pub(crate) fn printed_charge(line: &[u8]) -> Option<Printed> {
-    let (head, text) = line.split_once_str(b": sched_stat_runtime: ")?;
+/// has none: the first label on it, which is given with its index, has to stand right behind the head, and the text has
+/// to have each field.
+pub(crate) fn printed_charge(line: &[u8], label: usize) -> Option<Printed> {
+    let head = line.get(..label)?;
+    let text = line.get(label.saturating_add(LABEL.len())..)?;
     // Where a head ends before the label, the label is a part of another event's text.
     if read_line(head).is_ok() {
         return None;
@@ -44,8 +49,8 @@ pub(crate) fn printed_charge(line: &[u8]) -> Option<Printed> {
 
 /// The time that a head ends in.
 fn time_of(head: &[u8]) -> Option<u64> {
-    let (_, word) = head.rsplit_once_str(b" ")?;
-    let time = read_time(word)?;
+    let blank = head.rfind_byte(b' ')?;
+    let time = read_time(head.get(blank.saturating_add(1)..)?)?;
     Some(
         time.seconds
             .saturating_mul(NANOSECONDS_PER_SECOND)

@@ -65,14 +65,21 @@ impl Processor {
     /// A task that waits is picked; whoever runs still is lost. How far it was above the least who waits, in virtual
     /// nanoseconds.
     pub(crate) fn pick(&mut self, next: u32) -> Result<Option<u64>, Memory> {
-        let lead = match (self.queue.switch_task(next), self.queue.least_waiting()) {
-            (Some(task), Some(least)) if task.place == Place::Wait => task.v.abs_diff(least),
-            _ => return Ok(None),
+        let (Some(task), Some(least)) = (self.queue.switch_task(next), self.queue.least_waiting())
+        else {
+            return Ok(None);
         };
-        self.queue.put_prev(Way::Ends)?;
-        let picked = self.queue.switch_task(next);
-        self.queue.set_next(next, picked);
-        Ok(Some(lead))
+        if task.place != Place::Wait {
+            return Ok(None);
+        }
+        if self.queue.runner().is_some() {
+            self.queue.put_prev(Way::Ends)?;
+            let picked = self.queue.switch_task(next);
+            self.queue.set_next(next, picked);
+        } else {
+            self.queue.set_next(next, Some(task));
+        }
+        Ok(Some(task.v.abs_diff(least)))
     }
 
     /// A task that rests waits where it is claimed.

@@ -1,10 +1,11 @@
 //! What a look at the text of an event shows that has no reading: a field that isn't there, or a name that is too long.
 
-use crate::escaped::Escaped;
+use crate::escaped::{Escaped, is_printable};
 use crate::odd_byte::column_behind;
 use bstr::ByteSlice;
 use ftrace_line::{Line, Which, read_line};
 use std::alloc::AllocError;
+use text_parts::numerals::is_digit_byte;
 
 /// The most bytes that a name has.
 const NAME_MAX: usize = 15;
@@ -43,8 +44,82 @@ pub(crate) fn push_bad_field(text: &mut String, line: &[u8]) -> Result<(), Alloc
     let keys = keys_of(sched.which);
     match keys.iter().find(|key| sched.rest.find(**key).is_none()) {
         Some(key) => push_missing_key(text, *key),
-        None => push_long_names(text, line, sched.rest, keys),
+        None => {
+            push_long_names(text, line, sched.rest, keys)?;
+            push_odd_number(text, line, keys)
+        }
     }
+}
+
+/// Says behind which key no number stands, or that more stands behind the last one. Where a key stands more than once
+/// nothing is said.
+fn push_odd_number(text: &mut String, line: &[u8], keys: &[&[u8]]) -> Result<(), AllocError> {
+    if !keys.iter().all(|key| stands_once(line, *key)) {
+        return Ok(());
+    }
+    for key in keys.iter().copied() {
+        if !key.ends_with(b"comm=") && !key.ends_with(b"state=") && !has_number(line, key) {
+            return push_no_number(text, line, key);
+        }
+    }
+    match keys.last() {
+        Some(key) => push_behind(text, line, *key),
+        None => Ok(()),
+    }
+}
+
+/// Whether a key stands on a line just once.
+fn stands_once(line: &[u8], key: &[u8]) -> bool {
+    line.find(key) == line.rfind(key)
+}
+
+/// Whether a number stands behind a key.
+fn has_number(line: &[u8], key: &[u8]) -> bool {
+    match behind(line, key) {
+        Some([b'-', digit, ..]) => key.ends_with(b"prio=") && is_digit_byte(*digit),
+        Some([digit, ..]) => is_digit_byte(*digit),
+        _ => false,
+    }
+}
+
+/// What stands behind a key.
+fn behind<'a>(line: &'a [u8], key: &[u8]) -> Option<&'a [u8]> {
+    let place = line.find(key)?;
+    line.get(place..)?.get(key.len()..)
+}
+
+fn push_no_number(text: &mut String, line: &[u8], key: &[u8]) -> Result<(), AllocError> {
+    let before = line.find(key).unwrap_or(0).saturating_add(key.len());
+    let column = column_behind(before);
+    let key = Escaped(key);
+    writeln!(text, "# column {column}: no number behind `{key}`")
+}
+
+/// Says that more stands behind the number of the last key.
+fn push_behind(text: &mut String, line: &[u8], key: &[u8]) -> Result<(), AllocError> {
+    let Some(rest) = behind(line, key) else {
+        return Ok(());
+    };
+    let number = rest.iter().take_while(|byte| is_part(**byte)).count();
+    match rest.get(number..) {
+        Some([byte, ..]) if is_printable(*byte) => {
+            let left = rest.len().saturating_sub(number);
+            push_left(text, column_behind(line.len().saturating_sub(left)), left)
+        }
+        _ => Ok(()),
+    }
+}
+
+/// A byte of a number.
+fn is_part(byte: u8) -> bool {
+    byte == b'-' || is_digit_byte(byte)
+}
+
+fn push_left(text: &mut String, column: usize, left: usize) -> Result<(), AllocError> {
+    writeln!(
+        text,
+        "# column {column}: the event ends before it; bytes left: {left}"
+    )
 }
 
 fn push_missing_key(text: &mut String, key: &[u8]) -> Result<(), AllocError> {

@@ -4,6 +4,7 @@
 
 mod bad_field;
 mod bad_head;
+mod bad_line;
 mod bounds;
 mod charge;
 mod claim_bounds;
@@ -11,6 +12,7 @@ mod companion_lines;
 mod duration;
 mod escaped;
 mod event;
+mod event_look;
 mod explaining;
 mod gap;
 mod head;

@@ -9,17 +9,37 @@ use text_parts::numerals::number_at;
 
 /// From where to where a number may be.
 #[derive(Clone, Copy)]
-struct Limits {
-    name: &'static str,
-    least: i64,
-    most: i64,
+pub(crate) struct Limits {
+    pub name: &'static str,
+    pub least: i64,
+    pub most: i64,
 }
 
-/// A line that begins with a word, and the limits of the words behind it.
+/// What a word of a companion's line is.
 #[derive(Clone, Copy)]
-struct Shape {
-    word: &'static [u8],
-    limits: &'static [Limits],
+pub(crate) enum Field {
+    /// Of a time the seconds have limits.
+    Time,
+    Place,
+    Number(Limits),
+}
+
+impl Field {
+    /// The limits of the number that the word begins with.
+    fn limits(self) -> Option<Limits> {
+        match self {
+            Field::Time => Some(SECONDS),
+            Field::Place => None,
+            Field::Number(limits) => Some(limits),
+        }
+    }
+}
+
+/// A line that begins with a word, and what stands behind that.
+#[derive(Clone, Copy)]
+pub(crate) struct Shape {
+    pub word: &'static [u8],
+    pub fields: &'static [Field],
 }
 
 /// A number out of its limits, and how many bytes stand before it.
@@ -30,107 +50,107 @@ struct Outside<'a> {
     limits: Limits,
 }
 
-const CPUS: Limits = Limits {
-    name: "cpus",
-    least: 1,
-    most: MOST_PROCESSORS as i64,
-};
-
 const SECONDS: Limits = Limits {
     name: "the seconds",
     least: 0,
     most: GREATEST_SECONDS as i64,
 };
 
-const CPU: Limits = Limits {
+const CPUS: Field = Field::Number(Limits {
+    name: "cpus",
+    least: 1,
+    most: MOST_PROCESSORS as i64,
+});
+
+const CPU: Field = Field::Number(Limits {
     name: "CPU",
     least: 0,
     most: MOST_PROCESSORS as i64 - 1,
-};
+});
 
-const PID: Limits = Limits {
+const PID: Field = Field::Number(Limits {
     name: "PID",
     least: 1,
     most: GREATEST_PID as i64,
-};
+});
 
-const NICE: Limits = Limits {
+const NICE: Field = Field::Number(Limits {
     name: "NICE",
     least: -20,
     most: 19,
-};
+});
 
-const LINE: Limits = Limits {
+const LINE: Field = Field::Number(Limits {
     name: "LINE",
     least: 1,
     most: GREATEST_LINE as i64,
-};
+});
 
 /// Of an idle line, where 0 is the start.
-const LINE_OR_START: Limits = Limits { least: 0, ..LINE };
+const LINE_OR_START: Field = Field::Number(Limits {
+    name: "LINE",
+    least: 0,
+    most: GREATEST_LINE as i64,
+});
 
-const VALUE: Limits = Limits {
+const VALUE: Field = Field::Number(Limits {
     name: "V",
     least: -GREATEST_RUNTIME,
     most: GREATEST_RUNTIME,
-};
-
-/// No number.
-const PLACE: Limits = Limits {
-    name: "the place",
-    ..VALUE
-};
+});
 
 /// The lines that have numbers.
 static SHAPES: [Shape; 9] = [
     Shape {
-        word: b"cpus ",
-        limits: &[CPUS],
+        word: b"cpus",
+        fields: &[CPUS],
     },
     Shape {
-        word: b"start ",
-        limits: &[SECONDS],
+        word: b"start",
+        fields: &[Field::Time],
     },
     Shape {
-        word: b"floor ",
-        limits: &[CPU, VALUE],
+        word: b"floor",
+        fields: &[CPU, VALUE],
     },
     Shape {
-        word: b"task ",
-        limits: &[PID, NICE, CPU, PLACE, VALUE],
+        word: b"task",
+        fields: &[PID, NICE, CPU, Field::Place, VALUE],
     },
     Shape {
-        word: b"idle ",
-        limits: &[LINE_OR_START, PID],
+        word: b"idle",
+        fields: &[LINE_OR_START, PID],
     },
     Shape {
-        word: b"at ",
-        limits: &[LINE, PID, VALUE],
+        word: b"at",
+        fields: &[LINE, PID, VALUE],
     },
     Shape {
-        word: b"pass ",
-        limits: &[LINE, PID, VALUE],
+        word: b"pass",
+        fields: &[LINE, PID, VALUE],
     },
     Shape {
-        word: b"nice ",
-        limits: &[LINE, PID, NICE],
+        word: b"nice",
+        fields: &[LINE, PID, NICE],
     },
     Shape {
-        word: b"charge ",
-        limits: &[LINE, PID, VALUE],
+        word: b"charge",
+        fields: &[LINE, PID, VALUE],
     },
 ];
 
 /// Says which number is the first out of its limits. Where none is by itself, it is a processor's beside their count.
 pub(crate) fn push_outside_limits(text: &mut String, line: &[u8]) -> Result<(), AllocError> {
-    match SHAPES
-        .iter()
-        .find(|shape| line.starts_with(shape.word))
-        .and_then(|shape| first_outside(line, shape))
-    {
+    match shape_of(line).and_then(|shape| first_outside(line, shape)) {
         Some(outside) => push_outside(text, outside),
         None => writeln!(text, "# its CPU is to be below cpus"),
     }
+}
+
+/// The shape of the lines that begin with a line's first word.
+pub(crate) fn shape_of(line: &[u8]) -> Option<&'static Shape> {
+    let word = word_at(line);
+    SHAPES.iter().find(|shape| shape.word == word)
 }
 
 fn push_outside(text: &mut String, outside: Outside<'_>) -> Result<(), AllocError> {
@@ -145,10 +165,10 @@ fn push_outside(text: &mut String, outside: Outside<'_>) -> Result<(), AllocErro
 
 /// The first number of a line that is out of its limits by itself.
 fn first_outside<'a>(line: &'a [u8], shape: &Shape) -> Option<Outside<'a>> {
-    let mut before = shape.word.len();
-    for limits in shape.limits.iter().copied() {
+    let mut before = shape.word.len().saturating_add(1);
+    for field in shape.fields.iter().copied() {
         let word = word_at(line.get(before..)?);
-        if is_outside(word, limits) {
+        if let Some(limits) = field.limits().filter(|limits| is_outside(word, *limits)) {
             return Some(Outside {
                 before,
                 word,
@@ -161,7 +181,7 @@ fn first_outside<'a>(line: &'a [u8], shape: &Shape) -> Option<Outside<'a>> {
 }
 
 /// The bytes up to the first space.
-fn word_at(text: &[u8]) -> &[u8] {
+pub(crate) fn word_at(text: &[u8]) -> &[u8] {
     match text.find_byte(b' ') {
         Some(length) => text.get(..length).unwrap_or(text),
         None => text,

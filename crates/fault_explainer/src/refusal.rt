@@ -1,5 +1,7 @@
 use crate::bad_field::push_bad_field;
 use crate::bad_head::push_bad_head;
+use crate::bad_line::push_bad_line;
+use crate::event_look::{push_event_cpu, push_event_time, push_line_sort};
 use crate::limits::push_outside_limits;
 use crate::number_field::{push_above_limit, push_prio_above, push_prio_below};
 use crate::odd_byte::push_odd_byte;
@@ -42,7 +44,14 @@ fn push_look(
             push_odd_byte(text, line)?;
             push_bad_field(text, line)
         }
-        Cause::Version | Cause::BadLine => push_odd_byte(text, line),
+        Cause::Version => push_odd_byte(text, line),
+        Cause::BadLine => {
+            push_odd_byte(text, line)?;
+            push_bad_line(text, line)
+        }
+        Cause::TimeBack | Cause::StartLate => push_event_time(text, line),
+        Cause::CpuOutside => push_event_cpu(text, line),
+        Cause::ClaimNoEvent => push_line_sort(text, line),
         Cause::NumberRange if source == Source::Companion => push_outside_limits(text, line),
         Cause::NumberRange => push_above_limit(text, line),
         Cause::RealTime => push_prio_below(text, line),

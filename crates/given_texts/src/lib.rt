@@ -1,10 +1,13 @@
-//! What a user gives in place of a trace or a companion: the name of standard input, and texts of another shape.
+//! What a user gives in place of a trace or a companion: the name of standard input, texts of another shape, and
+//! recordings of another scheduler.
 #![tactic(auto)]
 
 mod header;
+mod kernel_hint;
 mod name;
 mod shapes;
 
 pub use header::is_overwritten;
+pub use kernel_hint::KernelHint;
 pub use name::file_of;
 pub use shapes::{companion_hint, has_event, trace_hint};

@@ -7,8 +7,11 @@ struct Shape {
     hint: &'static str,
 }
 
+/// What a companion begins with.
+const COMPANION: &[u8] = b"cfs-companion ";
+
 /// By what stands in front.
-static FRONTS: [Shape; 7] = [
+static FRONTS: [Shape; 6] = [
     Shape {
         mark: b"\x1f\x8b",
         hint: "is compressed: `gzip -dc FILE` writes the text",
@@ -33,10 +36,6 @@ static FRONTS: [Shape; 7] = [
         mark: b"PERFILE2",
         hint: "is perf's binary file: `perf script -i FILE | sed -E 's/^(.{16}) +([0-9]+) +(\\[[0-9]+\\]) +([0-9.]+): +sched:(sched_[a-z_]+): +/\\1-\\2 \\3 \\4: \\5: /'` writes the text",
     },
-    Shape {
-        mark: b"cfs-companion ",
-        hint: "is a companion: the trace is named first",
-    },
 ];
 
 /// By what stands somewhere near the front.
@@ -53,8 +52,18 @@ static EVENTS: [&[u8]; 4] = [
     b": sched_migrate_task: ",
 ];
 
-/// What to do with what was given as a trace, where it has a known shape; by its front alone.
-pub fn trace_hint(front: &[u8]) -> Option<&'static str> {
+/// What to do with what was given as a trace, where it has a known shape; by its front alone. Where it is a companion,
+/// the program that reads it says what.
+pub fn trace_hint(front: &[u8], of_companion: &'static str) -> Option<&'static str> {
+    if front.starts_with(COMPANION) {
+        Some(of_companion)
+    } else {
+        shape_hint(front)
+    }
+}
+
+/// What to do with a text that is neither of a trace's shape nor of a companion's, where its shape is known.
+fn shape_hint(front: &[u8]) -> Option<&'static str> {
     for shape in &FRONTS {
         if front.starts_with(shape.mark) {
             return Some(shape.hint);
@@ -70,12 +79,12 @@ pub fn trace_hint(front: &[u8]) -> Option<&'static str> {
 
 /// What to do with what was given as a companion, where it is a trace or has another known shape; by its front alone.
 pub fn companion_hint(front: &[u8]) -> Option<&'static str> {
-    if front.starts_with(b"cfs-companion ") {
+    if front.starts_with(COMPANION) {
         None
     } else if has_event(front) || front.starts_with(b"# tracer: ") {
         Some("is a trace: the companion is named second")
     } else {
-        trace_hint(front)
+        shape_hint(front)
     }
 }
 

@@ -1,13 +1,13 @@
 //! What is likely a mistake, and what to do next: said on standard error.
 use companion_maker::{Guessed, Strategy};
-use given_texts::{has_event, is_overwritten, trace_hint};
+use given_texts::{KernelHint, has_event, is_overwritten, trace_hint};
 
-/// A granularity that no CFS needs, in virtual nanoseconds.
-const FAR: u64 = 100_000_000;
+/// What is said of a companion that is given as the trace.
+const OF_COMPANION: &str = "is a companion: a companion is made of a trace";
 
 /// Says what is likely a mistake in a trace that is refused.
 pub(crate) fn say_of_text<R: Eprint>(rt: &R, text: &[u8]) {
-    if let Some(hint) = trace_hint(text) {
+    if let Some(hint) = trace_hint(text, OF_COMPANION) {
         let _ = eprintln!(rt; "hint: the trace {hint}");
     }
     say_of_loss(rt, text);
@@ -38,12 +38,16 @@ fn say_of_guess<R: Eprint>(rt: &R, guess: Guessed) {
             "hint: line {line} fits no settings: an event is missing before it, or it isn't of CFS; the lines before it may be a run"
         );
     }
-    if granularity >= FAR && guess.strategy == Strategy::Kernel {
-        let _ = eprintln!(rt;
-            "hint: a pick was {granularity} ns above the least: the kernel is likely one of EEVDF"
-        );
+    if guess.strategy == Strategy::Kernel {
+        say_of_kernel(rt, granularity);
     }
     let _ = eprintln!(rt;
         "hint: `sched_audit --least TRACE COMPANION` has the settings that it needs, of which the granularity is {granularity} ns"
     );
+}
+
+fn say_of_kernel<R: Eprint>(rt: &R, granularity: u64) {
+    if let Some(hint) = KernelHint::of_granularity(granularity) {
+        let _ = eprintln!(rt; "hint: {hint}");
+    }
 }

@@ -1,4 +1,6 @@
 pub mod Parts
+pub mod Causes
 pub mod Splits
 pub mod Pieces
 pub mod Recording
+pub mod Report

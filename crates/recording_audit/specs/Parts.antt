@@ -1,5 +1,5 @@
 -- The parts of a recording: stretches that were judged, cuts, and lines without an event (this project's profile).
-use Rattle.std.specs.Prelude.{◌≡◌, ℕ, ⊤, List, [], length, Option, None, Some, Ok}
+use Rattle.std.specs.Prelude.{◌≡◌, ℕ, ⊤, List, [], ◌∷◌, ◌++◌, length, Option, None, Some, Ok}
 use Rattle.cfs_model.specs.Knobs.{KnobsView}
 use Rattle.cfs_model.specs.Run.{IsRun}
 use Rattle.cfs_model.specs.Start.{start_machine}
@@ -15,6 +15,8 @@ use Rattle.sched_audit.specs.Answer.{IsAnswer}
 use Rattle.least_places.specs.LeastAnswer.{IsLeastAnswer}
 use Rattle.least_places.specs.declared.figures.LeastFigures.TheVariants as leasts
 use Rattle.least_places.specs.declared.places.Places.{Places}
+use Rattle.recording_audit.specs.declared.cut_cause.CutCause.{CutCause}
+use Rattle.recording_audit.specs.declared.cut_cause.CutCause.TheVariants as causes
 use Rattle.recording_audit.specs.declared.part.Stretch.{Stretch}
 use Rattle.recording_audit.specs.declared.part.Told.{Told}
 use Rattle.recording_audit.specs.declared.part.Told.TheVariants as told
@@ -25,6 +27,10 @@ use Rattle.recording_audit.specs.declared.judging.Judged.TheVariants as judgemen
 -- these are the least settings at which a text is a run by its companion
 abbrev pub IsLeastOf : List ℕ → List ℕ → KnobsView → Places → Type 0
 IsLeastOf text companion least places = IsAnswer IsLeastAnswer text companion (Ok (leasts.Found least places))
+
+-- this is wrong first in a text at all settings, by its companion
+abbrev pub IsFaultOf : List ℕ → List ℕ → FirstFault → Type 0
+IsFaultOf text companion fault = IsAnswer IsLeastAnswer text companion (Ok (leasts.Fault fault))
 
 -- a text is a run by its companion at the limits
 abbrev pub IsWithin : List ℕ → List ℕ → KnobsView → Type 0
@@ -37,22 +43,35 @@ abbrev pub IsOver : List ℕ → List ℕ → KnobsView → Option FirstFault �
 IsOver text companion limits None = IsWithin text companion limits
 IsOver text companion limits (Some fault) = IsAnswer (IsVerdict limits) text companion (Ok (verdicts.Fault fault))
 
--- of a stretch with this text: the number of its events, the least settings at which it is a run by its companion, and
--- what is wrong with it at the limits
+-- the times of the first of these events, and of the last
+pub record AreTimesOf (events : List Entry) (begins ends : ℕ) : Type 0 where
+  pub first : Entry
+  pub after : List Entry
+  pub head : events ≡ first ∷ after
+  pub begin : begins ≡ first.time
+  pub before : List Entry
+  pub last : Entry
+  pub back : events ≡ before ++ last ∷ []
+  pub end : ends ≡ last.time
+
+-- of a stretch with this text: the number of its events, when these were, the least settings at which it is a run by
+-- its companion, and what is wrong with it at the limits
 pub record IsStretch (limits : KnobsView) (text : List ℕ) (stretch : Stretch) : Type 0 where
   pub events : List Entry
   pub means : TraceAnswer text (Ok events)
   pub counted : stretch.events ≡ length events
+  pub times : AreTimesOf events stretch.begins stretch.ends
   pub places : Places
   pub least : IsLeastOf text stretch.companion.items stretch.least places
   pub tells : TellsCharges stretch.companion.items stretch.tells_charges
   pub over : IsOver text stretch.companion.items limits stretch.over
 
--- the events of a text are so many
+-- the events of a text are so many, and were then
 pub record IsSpanOf (text : List ℕ) (span : Span) : Type 0 where
   pub events : List Entry
   pub means : TraceAnswer text (Ok events)
   pub counted : span.events ≡ length events
+  pub times : AreTimesOf events span.begins span.ends
 
 -- what is told of a part with this text, by these limits
 abbrev pub IsTold : KnobsView → List ℕ → Told → Type 0
@@ -60,8 +79,17 @@ IsTold limits text (told.Stretch stretch) = IsStretch limits text stretch
 IsTold limits text (told.Cut cut) = ⊤
 IsTold limits text told.Quiet = TraceAnswer text (Ok [])
 
--- what a text came to
+-- what is known of a line at which a text was found to be no run: of a fault, by which companion it is one
+abbrev pub IsBadFor : List ℕ → ℕ → CutCause → Type 0
+IsBadFor text line (causes.Refused cause) = ⊤
+IsBadFor text line causes.BufferStarted = ⊤
+IsBadFor text line (causes.Fault fault) = (companion : List ℕ) × IsFaultOf text companion fault × (fault.line ≡ line)
+IsBadFor text line causes.CpuOutside = ⊤
+IsBadFor text line causes.Short = ⊥
+IsBadFor text line causes.Unsettled = ⊤
+
+-- what a text came to; where an event fits no settings, the fault is that by a companion
 abbrev pub IsJudgement : KnobsView → List ℕ → Judged → Type 0
 IsJudgement limits text (judgements.Run stretch) = IsStretch limits text stretch
 IsJudgement limits text judgements.Quiet = TraceAnswer text (Ok [])
-IsJudgement limits text (judgements.Bad line why) = ⊤
+IsJudgement limits text (judgements.Bad line why) = IsBadFor text line why

@@ -1,6 +1,7 @@
 //! The theorem: a recording's parts.
 ghost use Rattle.std.specs.Prelude.{ℕ, IfOk, List};
 ghost use Rattle.cfs_model.specs.Knobs.{KnobsView};
+ghost use Rattle.recording_audit.specs.Causes.{IsCaused, IsKnown};
 ghost use Rattle.recording_audit.specs.Parts.{IsTold};
 ghost use Rattle.recording_audit.specs.Recording.{ArePartsOf};
 
@@ -74,7 +75,9 @@ pub fn audit_recording<'a, R: RandomSource + Threads + Wait + Sync, W: Watch>(
 }
 
 /// Why the beginning of a text stands in no stretch, where it does in none.
-fn first_cause(text: &[u8]) -> Option<CutCause> {
+fn first_cause(text: &[u8]) -> Option<CutCause>
+    ensures { (all : List ℕ) (line : ℕ) → IsKnown all line result }
+{
     match last_start(text) {
         0 => None,
         _ => Some(CutCause::BufferStarted),
@@ -96,7 +99,9 @@ fn reach_behind(told: &Told) -> usize {
 
 /// What is told of a part, where a stretch has to have so many events.
 fn long_enough(told: Told, least: u64) -> Told
-    ensures { (limits : KnobsView) (text : List ℕ) → IsTold limits text told → IsTold limits text result }
+    ensures told { (limits : KnobsView) (text : List ℕ) → IsTold limits text told → IsTold limits text result }
+    ensures caused { (limits : KnobsView) (before text : List ℕ) → IsTold limits text told
+        → IsCaused limits before text told → IsCaused limits before text result }
 {
     match told {
         Told::Stretch(stretch) if stretch.events < least => Told::Cut(Cut {

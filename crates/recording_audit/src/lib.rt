@@ -13,6 +13,7 @@ mod piece;
 mod real_time;
 mod reporting;
 mod scanning;
+mod showing;
 mod span;
 mod splitting;
 mod tally;

@@ -1,7 +1,9 @@
 //! The next part of a recording.
-ghost use Rattle.std.specs.Prelude.{◌<◌, IfOk, length};
+ghost use Rattle.std.specs.Prelude.{◌≡◌, ◌+◌, ◌<◌, ◌++◌, ◌⊎◌, ℕ, [], IfOk, List, Some, length};
 ghost use Rattle.cfs_model.specs.Knobs.{KnobsView};
-ghost use Rattle.recording_audit.specs.Pieces.{IsPieceOf};
+ghost use Rattle.text_parts.specs.Lines.{lines_of};
+ghost use Rattle.recording_audit.specs.Causes.{IsKnown};
+ghost use Rattle.recording_audit.specs.Pieces.{IsCausedPiece, IsPieceOf};
 
 use crate::asked::Asked;
 use crate::cut_cause::CutCause;
@@ -10,6 +12,7 @@ use crate::not_audited::NotAudited;
 use crate::part::{Cut, Told};
 use crate::real_time::lines_of_real_time;
 use crate::scanning::{comment_lines, event_count, last_start};
+use crate::showing::{cause_behind, cause_of_first, shown_cause};
 use crate::splitting::{split_lines, split_near};
 use cfs_model::Memory;
 use std::alloc::Global;
@@ -47,7 +50,9 @@ pub(crate) fn next_piece<'a, R: RandomSource + Threads + Wait + Sync>(
     asked: &Asked<'_>,
 ) -> Result<Piece<'a>, NotAudited>
     requires { 0 < length text.now }
-    ensures { IfOk result (λ piece. IsPieceOf asked.now.limits text.now piece) }
+    ensures piece { IfOk result (IsPieceOf asked.now.limits text.now) }
+    ensures caused { (before : List ℕ) → IsKnown (before ++ text.now) (length (lines_of before) + 1) known
+        → IfOk result (IsCausedPiece asked.now.limits before) }
 {
     if let Some(cause) = known {
         return cut_piece(alloc, text, cause);
@@ -68,7 +73,8 @@ fn longest_piece<'a, R: RandomSource + Threads + Wait + Sync>(
     asked: &Asked<'_>,
 ) -> Result<Piece<'a>, NotAudited>
     requires { 0 < length text.now }
-    ensures { IfOk result (λ piece. IsPieceOf asked.now.limits text.now piece) }
+    ensures piece { IfOk result (IsPieceOf asked.now.limits text.now) }
+    ensures caused { (before : List ℕ) → IfOk result (IsCausedPiece asked.now.limits before) }
 {
     let mut size = reach;
     for _ in 0..MOST_TRIES {
@@ -109,14 +115,16 @@ fn piece_before<'a, R: RandomSource + Threads + Wait + Sync>(
     why: Option<CutCause>,
     asked: &Asked<'_>,
 ) -> Result<Piece<'a>, NotAudited>
-    requires { 0 < length text.now }
-    ensures { IfOk result (λ piece. IsPieceOf asked.now.limits text.now piece) }
+    requires some { 0 < length text.now }
+    requires known { IsKnown text.now line why }
+    ensures piece { IfOk result (IsPieceOf asked.now.limits text.now) }
+    ensures caused { (before : List ℕ) → IfOk result (IsCausedPiece asked.now.limits before) }
 {
     let mut last = line;
     let mut cause = why;
     for _ in 0..MOST_CUTS {
         if last <= 1 {
-            return cut_piece(alloc, text, cause.unwrap_or(CutCause::Unsettled));
+            return cut_piece(alloc, text, cause_of_first(cause, last));
         }
         let (front, rest) = split_lines(text, last - 1);
         match judge(rt, alloc, front, asked)? {
@@ -125,7 +133,7 @@ fn piece_before<'a, R: RandomSource + Threads + Wait + Sync>(
                     text: front,
                     rest,
                     told: Told::Stretch(stretch),
-                    next: cause,
+                    next: cause_behind(front, cause, last),
                 });
             }
             Judged::Quiet => {
@@ -133,7 +141,7 @@ fn piece_before<'a, R: RandomSource + Threads + Wait + Sync>(
                     text: front,
                     rest,
                     told: Told::Quiet,
-                    next: cause,
+                    next: cause_behind(front, cause, last),
                 });
             }
             Judged::Bad { line, why } => {
@@ -148,7 +156,10 @@ fn piece_before<'a, R: RandomSource + Threads + Wait + Sync>(
 /// The lines at the front of a text that stand in no stretch, for this cause.
 fn cut_piece<'a>(alloc: Global, text: &'a [u8], cause: CutCause) -> Result<Piece<'a>, NotAudited>
     requires { 0 < length text.now }
-    ensures { (limits : KnobsView) → IfOk result (λ piece. IsPieceOf limits text.now piece) }
+    ensures piece { (limits : KnobsView) → IfOk result (IsPieceOf limits text.now) }
+    ensures caused { (limits : KnobsView) (before begin : List ℕ) → (begin ≡ before) ⊎ (begin ≡ [])
+        → IsKnown (begin ++ text.now) (length (lines_of begin) + 1) (Some cause)
+        → IfOk result (IsCausedPiece limits before) }
 {
     if !cause.is_passed() {
         return Err(NotAudited::Refused { line: 1, cause });
@@ -158,7 +169,7 @@ fn cut_piece<'a>(alloc: Global, text: &'a [u8], cause: CutCause) -> Result<Piece
         text: front,
         rest,
         told: Told::Cut(Cut {
-            cause,
+            cause: shown_cause(front, cause),
             events: event_count(front),
         }),
         next: None,

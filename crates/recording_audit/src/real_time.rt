@@ -1,4 +1,7 @@
 //! How far a real-time or deadline task takes a processor's time.
+ghost use Rattle.std.specs.Prelude.{IsTrue};
+ghost use Rattle.sched_event.specs.declared.fault.EventFault.TheVariants as events;
+ghost use Rattle.sched_record.specs.Said.{RefusesEvent};
 
 use bstr::ByteSlice;
 use cfs_model::Memory;
@@ -37,9 +40,11 @@ pub(crate) fn lines_of_real_time(alloc: Global, text: &[u8]) -> Result<u64, Memo
 }
 
 /// Whether a line names such a task.
-fn is_real_time(line: &[u8]) -> bool {
+pub(crate) fn is_real_time(line: &[u8]) -> bool
+    ensures { IsTrue result → RefusesEvent line.now events.RealTime }
+{
     match read_line(line) {
-        Ok(Line::Sched(sched)) => read_event(sched) == Err(EventFault::RealTime),
+        Ok(Line::Sched(sched)) => matches!(read_event(sched), Err(EventFault::RealTime)),
         _ => false,
     }
 }

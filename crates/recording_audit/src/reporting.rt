@@ -1,7 +1,12 @@
 //! What is printed of a recording's parts.
+ghost use Rattle.std.specs.Prelude.{◌≡◌, ◌++◌, IfOk, OnOk, Some, string_bytes};
+ghost use Rattle.audit_report.specs.Report.{told_settings};
+ghost use Rattle.recording_audit.specs.Report.{cut_line, over_line, part_lines, report_lines, stretch_line};
+ghost use Rattle.recording_audit.specs.Report.{stretch_words, words_of_settings};
 
 use crate::cause_words::CauseWords;
-use crate::part::{Cut, Part, Stretch, Told};
+use crate::cut_cause::CutCause;
+use crate::part::{Part, Stretch, Told};
 use crate::tally::Tally;
 use crate::times::Seconds;
 use cfs_model::{Knobs, Setting};
@@ -17,7 +22,9 @@ const WITHOUT_DRIFT: [Setting; 4] = [
 ];
 
 /// A line for each stretch and each cut, and then one of how many events were judged.
-pub fn report(alloc: Global, parts: &[Part<'_>]) -> Result<String, AllocError> {
+pub fn report(alloc: Global, parts: &[Part<'_>]) -> Result<String, AllocError>
+    ensures { IfOk result (λ text. string_bytes text ≡ report_lines parts.now) }
+{
     let mut text = String::new(alloc);
     let mut tally = Tally::new();
     for part in parts {
@@ -29,37 +36,61 @@ pub fn report(alloc: Global, parts: &[Part<'_>]) -> Result<String, AllocError> {
 }
 
 /// What is told of a part; this many stretches have gone by then, the part counted.
-fn push_part(text: &mut String, part: &Part<'_>, stretches: u64) -> Result<(), AllocError> {
+fn push_part(text: &mut String, part: &Part<'_>, stretches: u64) -> Result<(), AllocError>
+    ensures { OnOk result (string_bytes text.new ≡ string_bytes text.old ++ part_lines stretches part.now) }
+{
+    let Part { first, last, .. } = *part;
     match &part.told {
-        Told::Stretch(stretch) => push_stretch(text, part, stretch, stretches),
-        Told::Cut(cut) => push_cut(text, part, cut),
+        Told::Stretch(stretch) => {
+            push_stretch(text, stretches, first, last, stretch)?;
+            push_over(text, first, stretch.over)
+        }
+        Told::Cut(cut) => push_cut(text, first, last, cut.cause),
         Told::Quiet => Ok(()),
     }
 }
 
+/// Writes where a stretch is, and its least settings.
 fn push_stretch(
     text: &mut String,
-    part: &Part<'_>,
-    stretch: &Stretch,
     number: u64,
-) -> Result<(), AllocError> {
-    let Part { first, last, .. } = *part;
+    first: u64,
+    last: u64,
+    stretch: &Stretch,
+) -> Result<(), AllocError>
+    ensures { OnOk result
+        (string_bytes text.new ≡ string_bytes text.old ++ stretch_line number first last stretch.now) }
+{
+    push_where(text, number, first, last, stretch)?;
+    push_settings(text, stretch.least, stretch.tells_charges)?;
+    writeln!(text, "")?;
+    Ok(())
+}
+
+/// Writes a stretch's lines, its times and how many events it has.
+fn push_where(
+    text: &mut String,
+    number: u64,
+    first: u64,
+    last: u64,
+    stretch: &Stretch,
+) -> Result<(), AllocError>
+    ensures { OnOk result
+        (string_bytes text.new ≡ string_bytes text.old ++ stretch_words number first last stretch.now) }
+{
     let events = stretch.events;
     let (begins, ends) = (Seconds(stretch.begins), Seconds(stretch.ends));
     write!(
         text,
         "stretch {number} lines {first}-{last} times {begins}-{ends} events {events}: run"
-    )?;
-    push_settings(text, stretch.least, stretch.tells_charges)?;
-    writeln!(text, "")?;
-    match &stretch.over {
-        Some(fault) => push_over(text, first, fault),
-        None => Ok(()),
-    }
+    )
 }
 
 /// Writes each of the settings that are told, by whether the companion tells charges.
-fn push_settings(text: &mut String, knobs: Knobs, tells_charges: bool) -> Result<(), AllocError> {
+fn push_settings(text: &mut String, knobs: Knobs, tells_charges: bool) -> Result<(), AllocError>
+    ensures { OnOk result
+        (string_bytes text.new ≡ string_bytes text.old ++ words_of_settings knobs (told_settings tells_charges)) }
+{
     if tells_charges {
         push_each(text, knobs, &Setting::ALL)
     } else {
@@ -68,7 +99,9 @@ fn push_settings(text: &mut String, knobs: Knobs, tells_charges: bool) -> Result
 }
 
 /// Writes each of these settings.
-fn push_each(text: &mut String, knobs: Knobs, settings: &[Setting]) -> Result<(), AllocError> {
+fn push_each(text: &mut String, knobs: Knobs, settings: &[Setting]) -> Result<(), AllocError>
+    ensures { OnOk result (string_bytes text.new ≡ string_bytes text.old ++ words_of_settings knobs settings.now) }
+{
     for setting in settings {
         let name = setting.name();
         let value = knobs.get(*setting);
@@ -77,14 +110,25 @@ fn push_each(text: &mut String, knobs: Knobs, settings: &[Setting]) -> Result<()
     Ok(())
 }
 
-/// Writes what is wrong at the limits in a stretch whose first line has this number.
-fn push_over(text: &mut String, first: u64, fault: &FirstFault) -> Result<(), AllocError> {
+/// Writes what is wrong at the limits in a stretch whose first line has this number, if something is.
+fn push_over(text: &mut String, first: u64, over: Option<FirstFault>) -> Result<(), AllocError>
+    ensures { OnOk result (string_bytes text.new ≡ string_bytes text.old ++ over_line first over) }
+{
+    match over {
+        Some(fault) => push_fault(text, first, fault),
+        None => Ok(()),
+    }
+}
+
+fn push_fault(text: &mut String, first: u64, fault: FirstFault) -> Result<(), AllocError>
+    ensures { OnOk result (string_bytes text.new ≡ string_bytes text.old ++ over_line first (Some fault)) }
+{
     let FirstFault {
         line,
         cpu,
         pid,
         kind,
-    } = *fault;
+    } = fault;
     let line = first.saturating_add(u64::from(line)).saturating_sub(1);
     let (name, words) = kind.words();
     writeln!(
@@ -93,9 +137,11 @@ fn push_over(text: &mut String, first: u64, fault: &FirstFault) -> Result<(), Al
     )
 }
 
-fn push_cut(text: &mut String, part: &Part<'_>, cut: &Cut) -> Result<(), AllocError> {
-    let Part { first, last, .. } = *part;
-    let words = CauseWords(cut.cause);
+/// Writes which lines a cut has, and why.
+fn push_cut(text: &mut String, first: u64, last: u64, cause: CutCause) -> Result<(), AllocError>
+    ensures { OnOk result (string_bytes text.new ≡ string_bytes text.old ++ cut_line first last cause) }
+{
+    let words = CauseWords(cause);
     if first == last {
         writeln!(text, "cut line {first} {words}")
     } else {

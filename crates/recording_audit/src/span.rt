@@ -1,4 +1,5 @@
-ghost use Rattle.std.specs.Prelude.{◌≡◌, length};
+ghost use Rattle.std.specs.Prelude.{◌≡◌, ◌<◌, length};
+ghost use Rattle.recording_audit.specs.Parts.{AreTimesOf};
 
 use cfs_model::Entry;
 
@@ -14,12 +15,21 @@ pub(crate) struct Span {
 
 impl Span {
     pub(crate) fn of(events: &[Entry]) -> Span
-        ensures { result.events ≡ length events.now }
+        ensures counted { result.events ≡ length events.now }
+        ensures times { 0 < length events.now → AreTimesOf events.now result.begins result.ends }
     {
+        let count = events.len();
+        if count == 0 {
+            return Span {
+                events: 0,
+                begins: 0,
+                ends: 0,
+            };
+        }
         Span {
-            events: events.len() as u64,
-            begins: events.first().map_or(0, |event| event.time),
-            ends: events.last().map_or(0, |event| event.time),
+            events: count as u64,
+            begins: events[0].time,
+            ends: events[count - 1].time,
         }
     }
 }

@@ -1,3 +1,6 @@
+ghost use Rattle.std.specs.Prelude.{◌≡◌};
+ghost use Rattle.recording_audit.specs.Report.{counted, no_count, word_for};
+
 use crate::part::Told;
 use std::fmt;
 
@@ -15,7 +18,10 @@ pub struct Tally {
 }
 
 impl Tally {
-    pub fn new() -> Tally {
+    /// Nothing is counted.
+    pub fn new() -> Tally
+        ensures { result ≡ no_count }
+    {
         Tally {
             stretches: 0,
             cuts: 0,
@@ -26,7 +32,9 @@ impl Tally {
     }
 
     /// One more part.
-    pub fn add(&mut self, told: &Told) {
+    pub fn add(&mut self, told: &Told)
+        ensures { self.new ≡ counted self.old told.now }
+    {
         match told {
             Told::Stretch(stretch) => {
                 self.stretches = self.stretches.saturating_add(1);
@@ -44,6 +52,11 @@ impl Tally {
 }
 
 impl fmt::Display for Tally {
+    ghost use Rattle.std.specs.Prelude.{Some};
+    ghost use Rattle.recording_audit.specs.Report.{tally_words};
+
+    ghost output = { λ tally. Some (tally_words tally) };
+
     fn fmt<W: fmt::Write>(&self, f: &mut fmt::Formatter<W>) -> fmt::Result {
         let Tally {
             stretches,
@@ -52,15 +65,18 @@ impl fmt::Display for Tally {
             events,
             ..
         } = *self;
-        let stretch = if stretches == 1 {
-            "stretch"
-        } else {
-            "stretches"
-        };
-        let cut = if cuts == 1 { "cut" } else { "cuts" };
+        let stretch = word_for(stretches, "stretch", "stretches");
+        let cut = word_for(cuts, "cut", "cuts");
         write!(
             f,
             "judged {judged} of {events} events in {stretches} {stretch}, {cuts} {cut}"
         )
     }
+}
+
+/// The one word for one, and the other for none and for several.
+fn word_for(count: u64, one: &'static str, several: &'static str) -> &'static str
+    ensures { result.now ≡ word_for count one.now several.now }
+{
+    if count == 1 { one } else { several }
 }

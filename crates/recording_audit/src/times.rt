@@ -10,6 +10,11 @@ const PER_MICROSECOND: u64 = 1000;
 pub(crate) struct Seconds(pub u64);
 
 impl fmt::Display for Seconds {
+    ghost use Rattle.std.specs.Prelude.{Some};
+    ghost use Rattle.recording_audit.specs.Report.{seconds_words};
+
+    ghost output = { λ seconds. Some (seconds_words seconds.0) };
+
     fn fmt<W: fmt::Write>(&self, f: &mut fmt::Formatter<W>) -> fmt::Result {
         let Seconds(time) = *self;
         let whole = time / NANOSECONDS_PER_SECOND;

@@ -1,3 +1,4 @@
+use crate::answer::{Answer, FrontOf};
 use crate::ending::Ending;
 use crate::explaining::answer_kept;
 use crate::failure::Failure;
@@ -9,7 +10,7 @@ use clap::Error;
 use clap::error::ErrorKind::OutOfMemory;
 use given_texts::file_of;
 use sched_audit::{
-    AsJson, Counted, Fault, FeedOf, LeastFigures, OpenGate, Request, SinkOf, Status, Told, Verdict,
+    AsJson, Counted, Fault, FeedOf, LeastFigures, OpenGate, Request, SinkOf, Told, Verdict,
     WithWaits, command_line, run, run_counted, run_counted_waits, run_least, run_least_waits,
     run_waits,
 };
@@ -68,9 +69,9 @@ fn ending_of<R: Files + Print + Eprint + RandomSource + Threads + Wait + Sync>(
     terminals: Terminals,
 ) -> Ending {
     match answer(rt, alloc, request, terminals) {
-        Ok(status) => {
-            say_hints(rt, request, status);
-            Ending::Answered(status)
+        Ok(answer) => {
+            say_hints(rt, request, &answer);
+            Ending::Answered(answer.status)
         }
         Err(Failure::Audit(fault)) => Ending::Failed(fault),
         Err(Failure::States) => Ending::StatesUnwritten,
@@ -88,7 +89,7 @@ fn answer<R: Files + Print + Eprint + RandomSource + Threads + Wait + Sync>(
     alloc: Global,
     request: &Request<'_>,
     terminals: Terminals,
-) -> Result<Status, Failure> {
+) -> Result<Answer, Failure> {
     let trace = File::open(rt, request.trace).map_err(|_| Fault::ReadTrace)?;
     let companion = File::open(rt, request.companion).map_err(|_| Fault::ReadCompanion)?;
     let size = Size::of(&trace, terminals.errors);
@@ -110,7 +111,7 @@ fn answer_kept_as<J: Told, R: Files + Print + Eprint + RandomSource + Threads + 
     trace: R::File,
     companion: R::File,
     size: Size,
-) -> Result<Status, Failure> {
+) -> Result<Answer, Failure> {
     if request.waits {
         answer_kept_in::<WithWaits<J>, R>(rt, alloc, request, trace, companion, size)
     } else {
@@ -126,7 +127,7 @@ fn answer_kept_in<J: Told, R: Files + Print + Eprint + RandomSource + Threads + 
     trace: R::File,
     companion: R::File,
     size: Size,
-) -> Result<Status, Failure> {
+) -> Result<Answer, Failure> {
     if request.json {
         answer_kept::<AsJson<J>, R>(rt, alloc, request, trace, companion, size)
     } else {
@@ -142,24 +143,25 @@ fn answer_alone<R: Files + Print + Eprint + RandomSource + Threads + Wait + Sync
     trace: R::File,
     companion: R::File,
     size: Size,
-) -> Result<Status, Fault> {
+) -> Result<Answer, Fault> {
     if request.json {
         return answer_json(rt, alloc, request, trace, companion, size);
     }
     let mut trace = WatchedFeed::new(rt, FeedOf::new(trace), size);
     let mut companion = FeedOf::new(companion);
-    let mut out = SinkOf::new(io::writer(rt));
-    let (trace, companion, out) = (&mut trace, &mut companion, &mut out);
+    let mut end = FrontOf::new(SinkOf::new(io::writer(rt)));
+    let (trace, companion, out) = (&mut trace, &mut companion, &mut end);
     let knobs = request.knobs;
     let gate = &OpenGate;
-    match (request.least, request.summary, request.waits) {
+    let status = match (request.least, request.summary, request.waits) {
         (true, _, true) => run_least_waits(rt, alloc, trace, companion, gate, out),
         (true, _, false) => run_least(rt, alloc, trace, companion, gate, out),
         (false, true, true) => run_counted_waits(rt, alloc, trace, companion, knobs, gate, out),
         (false, true, false) => run_counted(rt, alloc, trace, companion, knobs, gate, out),
         (false, false, true) => run_waits(rt, alloc, trace, companion, knobs, gate, out),
         (false, false, false) => run(rt, alloc, trace, companion, knobs, gate, out),
-    }
+    }?;
+    Ok(end.answer(status))
 }
 
 /// Prints clap's text: help and the version to standard output, a mistake to standard error.

@@ -1,5 +1,6 @@
 //! The report of an audit, the states at its events, and behind them why that is a fault, or which line is refused and
 //! why.
+use crate::answer::{Answer, FrontOf};
 use crate::failure::Failure;
 use crate::progress::{Size, WatchedFeed};
 use crate::states::{file_of, write_states_to};
@@ -42,14 +43,14 @@ pub(crate) fn answer_kept<
     trace: R::File,
     companion: R::File,
     size: Size,
-) -> Result<Status, Failure> {
+) -> Result<Answer, Failure> {
     let keeps = request.explain && !is_regular(&trace);
     let mut trace = KeepingFeed::new(alloc, WatchedFeed::new(rt, FeedOf::new(trace), size), keeps);
     let mut companion = FeedOf::new(companion);
     let knobs = request.knobs;
     let hearing: Hearing<J> = judge(rt, alloc, &mut trace, &mut companion, knobs, &OpenGate)?;
     let states = file_of(rt, request.states)?;
-    let mut out = SinkOf::new(io::writer(rt));
+    let mut out = FrontOf::new(SinkOf::new(io::writer(rt)));
     let status = write_report(alloc, &hearing.outcome, hearing.tells_charges, &mut out)?;
     if let Some(file) = states {
         write_states_to(rt, alloc, knobs, &hearing, file)?;
@@ -57,7 +58,7 @@ pub(crate) fn answer_kept<
     if request.explain && status != Status::Yes {
         explain(rt, alloc, request, &hearing, &trace)?;
     }
-    Ok(status)
+    Ok(out.answer(status))
 }
 
 /// Whether a file is one that can be read a second time.

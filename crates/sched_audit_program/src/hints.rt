@@ -1,5 +1,7 @@
 //! What is likely a mistake, by the looks of the texts: said on standard error behind an answer.
-use given_texts::{companion_hint, has_event, is_overwritten, trace_hint};
+use crate::answer::Answer;
+use cfs_model::{Knobs, Setting};
+use given_texts::{KernelHint, companion_hint, has_event, is_overwritten, trace_hint};
 use sched_audit::{Request, Status};
 use std::fs::{File, OpenFile};
 use std::io::Read;
@@ -8,8 +10,28 @@ use std::rt::Files;
 /// So many bytes of a text are looked at.
 const FRONT: usize = 4096;
 
+/// What is said of a companion that is given as the trace.
+const OF_COMPANION: &str = "is a companion: the trace is named first";
+
 /// Says what is likely a mistake in texts that were answered so. Of a text that isn't a regular file nothing is said.
-pub(crate) fn say_hints<R: Files + Eprint>(rt: &R, request: &Request<'_>, status: Status) {
+pub(crate) fn say_hints<R: Files + Eprint>(rt: &R, request: &Request<'_>, answer: &Answer) {
+    say_of_texts(rt, request, answer.status);
+    if let Some(hint) = KernelHint::of_report(answer.front.as_slice(), granularity_of(request)) {
+        let _ = eprintln!(rt; "hint: {hint}");
+    }
+}
+
+/// The granularity that a request's texts are judged at.
+fn granularity_of(request: &Request<'_>) -> u64 {
+    let knobs = if request.least {
+        Knobs::greatest()
+    } else {
+        request.knobs
+    };
+    knobs.get(Setting::Granularity)
+}
+
+fn say_of_texts<R: Files + Eprint>(rt: &R, request: &Request<'_>, status: Status) {
     let mut room = [0u8; FRONT];
     if let Some(trace) = front_of(rt, request.trace, &mut room) {
         say_of_trace(rt, trace, status);
@@ -23,7 +45,7 @@ pub(crate) fn say_hints<R: Files + Eprint>(rt: &R, request: &Request<'_>, status
 
 fn say_of_trace<R: Eprint>(rt: &R, front: &[u8], status: Status) {
     if status == Status::Refused {
-        say(rt, "trace", trace_hint(front));
+        say(rt, "trace", trace_hint(front, OF_COMPANION));
     }
     if status != Status::Yes && is_overwritten(front) {
         say(

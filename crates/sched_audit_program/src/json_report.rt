@@ -1,8 +1,9 @@
 //! The report as JSON, with nothing beside it.
+use crate::answer::{Answer, FrontOf};
 use crate::progress::{Size, WatchedFeed};
 use sched_audit::{
-    Counted, Fault, FeedOf, LeastFigures, OpenGate, Request, SinkOf, Status, Told, Verdict,
-    WithWaits, run_json,
+    Counted, Fault, FeedOf, LeastFigures, OpenGate, Request, SinkOf, Told, Verdict, WithWaits,
+    run_json,
 };
 use std::alloc::Global;
 use std::io;
@@ -19,7 +20,7 @@ pub(crate) fn answer_json<R: Files + Print + Eprint + RandomSource + Threads + W
     trace: R::File,
     companion: R::File,
     size: Size,
-) -> Result<Status, Fault> {
+) -> Result<Answer, Fault> {
     match (request.least, request.summary) {
         (true, _) => answer_as::<LeastFigures, R>(rt, alloc, request, trace, companion, size),
         (false, true) => answer_as::<Counted, R>(rt, alloc, request, trace, companion, size),
@@ -35,16 +36,17 @@ fn answer_as<J: Told, R: Files + Print + Eprint + RandomSource + Threads + Wait 
     trace: R::File,
     companion: R::File,
     size: Size,
-) -> Result<Status, Fault> {
+) -> Result<Answer, Fault> {
     let mut trace = WatchedFeed::new(rt, FeedOf::new(trace), size);
     let mut companion = FeedOf::new(companion);
-    let mut out = SinkOf::new(io::writer(rt));
-    let (trace, companion, out) = (&mut trace, &mut companion, &mut out);
+    let mut end = FrontOf::new(SinkOf::new(io::writer(rt)));
+    let (trace, companion, out) = (&mut trace, &mut companion, &mut end);
     let knobs = request.knobs;
     let gate = &OpenGate;
-    if request.waits {
-        run_json::<WithWaits<J>, R, _, _, _, _>(rt, alloc, trace, companion, knobs, gate, out)
+    let status = if request.waits {
+        run_json::<WithWaits<J>, R, _, _, _, _>(rt, alloc, trace, companion, knobs, gate, out)?
     } else {
-        run_json::<J, R, _, _, _, _>(rt, alloc, trace, companion, knobs, gate, out)
-    }
+        run_json::<J, R, _, _, _, _>(rt, alloc, trace, companion, knobs, gate, out)?
+    };
+    Ok(end.answer(status))
 }

@@ -1,6 +1,7 @@
 //! `sched_audit TRACE COMPANION`, with options: judges a recorded schedule and prints the report.
 #![tactic(auto)]
 
+mod answer;
 mod command;
 mod ending;
 mod explaining;

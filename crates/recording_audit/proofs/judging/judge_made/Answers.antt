@@ -7,6 +7,7 @@ returns-in-Ok-Found g c = record {
   events = c.requires.events;
   means = c.requires.means;
   counted = c.requires.counted;
+  times = c.requires.times;
   places = c.in-Ok-Found.field-0-1;
   least = search rules;
   tells = search rules;

@@ -126,10 +126,17 @@ are_there() {
   for name; do [ -e "$beside/$name/done" ] || return 1; done
 }
 
+# Ends where the toolchain isn't there.
+need_toolchain() {
+  command -v rt >/dev/null && return
+  echo "$command: it isn't built yet, and rt, the command of the Rattle toolchain, isn't on the path; see README.md" >&2
+  exit 70
+}
+
 # Proves and builds the program, of which this is said. Each library below it is built by itself: where one is missing
 # below a crate rt goes over all sources first, which takes it a minute at the program's.
 build() {
-  command -v rt >/dev/null || { echo "$command: the toolchain's command rt isn't on the path" >&2; exit 70; }
+  need_toolchain
   echo "$command: proving and building $1" >&2
   local logs beside
   logs=$(mktemp -d) || exit 70

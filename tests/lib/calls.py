@@ -18,8 +18,8 @@ NO_COMPANION = 3, b"", b"sched_audit: cannot read the companion\n"
 NO_REPORT = 3, b"", b"sched_audit: cannot write the report\n"
 NO_MEMORY = 4, b"", b"sched_audit: out of memory\n"
 NOT_TEXT = 5, b"", b"error: a word of the command line isn't UTF-8\n"
-# What a command says that has to build its program and can't.
-NOT_BUILT = 70, b"", b"sched_audit: the toolchain's command rt isn't on the path\n"
+# Behind the name of a command that has to build its program, and can't without a toolchain.
+NO_TOOLCHAIN = b": it isn't built yet, and rt, the command of the Rattle toolchain, isn't on the path; see README.md\n"
 
 # One processor from 100 s on: task 101 runs, and 102 waits.
 BEGINNING, SECOND_BEGINNING, THIRD_BEGINNING = (made.beginning(version=version) for version in (1, 2, 3))
@@ -28,6 +28,10 @@ COMPANION = BEGINNING + b"task 101 0 0 run 0\ntask 102 0 0 wait 0\n"
 
 def answers(status, report):
     return status, report, b""
+
+
+def not_built(command="sched_audit"):
+    return 70, b"", command.encode() + NO_TOOLCHAIN
 
 
 def clap_error(about, usage):

@@ -7,10 +7,8 @@ import subprocess
 from pathlib import Path
 
 from lib import made
-from lib.report import Report
+from lib.report import SECONDS, Report, answer_of
 from lib.words import counted, tally
-
-SECONDS = 120
 
 # What the program says on standard error, and how it ends then.
 NO_TRACE = 3, b"", b"sched_audit: cannot read the trace\n"
@@ -99,6 +97,10 @@ class Calls(Report):
         for part in parts:
             part(self)
         self.end()
+
+    def called(self, *words):
+        """How one call of the program ends."""
+        return answer_of(self.program, *words, cwd=self.room)
 
     def file(self, name, *pieces):
         """A file of these pieces, each of which may also be some that come one after another."""

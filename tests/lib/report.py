@@ -7,6 +7,8 @@ import tempfile
 from pathlib import Path
 
 TOP = Path(__file__).resolve().parent.parent.parent
+# How long one call may take.
+SECONDS = 120
 
 
 def words_of(doc, least, most=None):
@@ -29,6 +31,12 @@ def without_toolchain():
     """The environment without the toolchain's command rt on its path."""
     paths = os.environ["PATH"].split(os.pathsep)
     return {**os.environ, "PATH": os.pathsep.join(path for path in paths if not (Path(path) / "rt").exists())}
+
+
+def answer_of(program, *words, seconds=SECONDS, **settings):
+    """How a call ends: its status, and what it wrote to standard output and to standard error."""
+    done = subprocess.run([program, *words], stdin=subprocess.DEVNULL, capture_output=True, timeout=seconds, **settings)
+    return done.returncode, done.stdout, done.stderr
 
 
 def without_hints(errors):

@@ -52,14 +52,19 @@ line_counts() {
 prove() {
   local jobs=()
   [ "$4" != 0 ] || [ "$(room_for)" -lt "$(nproc)" ] || jobs=(--jobs "$(nproc)")
-  (cd "$1/crates/$2" && exec nice -n "$4" rt "$3" "${jobs[@]}") >"$logs/$2" 2>&1 </dev/null
+  # With an exit, so that what bash says of a run that is killed goes into the log too.
+  (cd "$1/crates/$2" && nice -n "$4" rt "$3" "${jobs[@]}"; exit $?) >"$logs/$2" 2>&1 </dev/null
   local status=$?
   if grep -q "^crate $2:" "$logs/$2"; then echo "$command: proved $2" >&2; fi
   return $status
 }
 
+# Says of a crate whose run of rt ended with this status where its log is.
 tell_failure() {
   tail -n 40 "$logs/$1" >&2
+  if [ "$2" -gt 128 ]; then
+    echo "$command: rt was killed by signal $(($2 - 128)), maybe for want of memory; call again to go on" >&2
+  fi
   echo "$command: not built; the whole log is $logs/$1" >&2
   return 1
 }
@@ -84,7 +89,7 @@ library() {
   status=$?
   rm -rf "$top/crates/$1/out"
   [ ! -d "$tree/crates/$1/out" ] || mv "$tree/crates/$1/out" "$top/crates/$1" || status=1
-  [ $status = 0 ] || tell_failure "$1" || return 1
+  [ $status = 0 ] || tell_failure "$1" $status || return 1
   touch "$tree/done"
 }
 
@@ -151,7 +156,8 @@ build() {
   rm -r "$beside"
   # Without words the program ends at once, by a status of its own.
   prove "$top" "$crate" run 0
-  { [ -x "$program" ] && grep -q '^logic=proved' "$logs/$crate"; } || { tell_failure "$crate"; exit 70; }
+  local status=$?
+  { [ -x "$program" ] && grep -q '^logic=proved' "$logs/$crate"; } || { tell_failure "$crate" $status; exit 70; }
   touch "$program"
   exec 9<&-
   rm -r "$logs"

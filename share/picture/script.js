@@ -6,7 +6,8 @@ const canvas = byId("canvas"), pen = canvas.getContext("2d");
 // Times are in nanoseconds from the picture's begin on; what is on the screen is from view.begin to view.end.
 const view = { begin: 0, end: Math.max(1, data.span) };
 const LEFT = 76, RUN = 20, ROW = 9, GAP = 10, CHART = 96, LEAST_SPAN = 20;
-const MOST_CHUNKS = 5, MOST_BUCKETS = 4096, MOST_TASKS = 300;
+// So many stretches are drawn as they are, and so many points of a measure; and so many buckets of a few lanes.
+const MOST_NEAR = 80000, MOST_BUCKETS = 4096, FEW_LANES = 8, MOST_TASKS = 300;
 // A column's name begins with its kind.
 const KINDS = { B: Uint8Array, H: Uint16Array, I: Uint32Array, i: Int32Array, q: BigInt64Array };
 const COLUMNS = ["begins", "lengths", "before", "tasks", "first", "last", "rows", "charges", "from", "to", "times",
@@ -17,23 +18,32 @@ const CHARTS = [
   { title: "idling beside a waiting task", parts: [["idled", "slack", 1]] },
   { title: "drift of told charges", parts: [["drift", "drift", 1]], joined: true },
 ];
-let found = new Set(), chosen = null, drawn = [], waiting = 0, asked = false;
+let found = new Set(), chosen = null, drawn = [], waiting = 0, asked = false, near = true, first = null;
 
 // ---- numbers, as they were packed
 
+// The name of a column that is drawn first says where in their text it stands.
 async function unpacked(name) {
+  if (!name.includes("@")) return new KINDS[name[0]](await inflated(name));
+  first ||= inflated("first");
+  const [from, count] = name.slice(2).split("+").map(Number);
+  return new KINDS[name[0]](await first, from, count);
+}
+
+async function inflated(name) {
   const letters = atob(byId(name).textContent), bytes = new Uint8Array(letters.length);
   for (let index = 0; index < letters.length; index += 1) bytes[index] = letters.charCodeAt(index);
   const stream = new Blob([bytes]).stream().pipeThrough(new DecompressionStream("deflate"));
-  return new KINDS[name[0]](await new Response(stream).arrayBuffer());
+  return new Response(stream).arrayBuffer();
 }
 
-// The columns of a chunk, where they are there; else they are on their way, and then all is drawn again.
+// The columns of a chunk, where they are there; else they are on their way. When all are that were asked for, all is
+// drawn again.
 function columns(chunk) {
   if (!chunk.open && !chunk.asked) {
     chunk.asked = true;
     waiting += 1;
-    opened(chunk).then(() => { waiting -= 1; redraw(); });
+    opened(chunk).then(() => { waiting -= 1; if (!waiting) redraw(); });
   }
   return chunk.open;
 }
@@ -62,6 +72,11 @@ function sums(steps) {
 
 const inView = (chunks) => chunks.filter((chunk) => chunk.end >= view.begin && chunk.begin <= view.end);
 
+// About how many of these chunks' rows are in view.
+const countInView = (chunks) => inView(chunks).reduce((sum, chunk) => sum + chunk.count * Math.min(1,
+  (Math.min(chunk.end, view.end) - Math.max(chunk.begin, view.begin)) / Math.max(1, chunk.end - chunk.begin)), 0);
+const countOf = (kinds) => data.lanes.reduce((sum, lane) => sum + countInView(kinds(lane).flat()), 0);
+
 // ---- words
 
 const grouped = (number) => number.toString().replace(/\B(?=(\d{3})+$)/g, " ");
@@ -83,14 +98,20 @@ function clock(ns) {
 const called = (task) => (data.tasks[task].name + " " + data.tasks[task].pid).trim();
 const lineOf = (line, other) => (line ? "line " + line : other);
 
+const colours = new Map();
+
 function colour(task, light) {
   if (found.size && !found.has(task)) return light ? "#eceff2" : "#d3d8de";
-  return `hsl(${Math.round(task * 137.508) % 360} ${light ? "55% 82%" : "60% 62%"})`;
+  const key = light ? -1 - task : task;
+  if (!colours.has(key)) colours.set(key, `hsl(${Math.round(task * 137.508) % 360} ${light ? "55% 82%" : "60% 62%"})`);
+  return colours.get(key);
 }
 
 // ---- where things are
 
-const width = () => canvas.clientWidth - LEFT;
+// Measured once a drawing: each look at the canvas may have the page laid out again.
+let measured = canvas.clientWidth - LEFT;
+const width = () => measured;
 const xOf = (time) => LEFT + (time - view.begin) / (view.end - view.begin) * width();
 const timeOf = (x) => view.begin + (x - LEFT) / width() * (view.end - view.begin);
 const rowHeight = () => (data.lanes.length > 8 ? 4 : ROW);
@@ -122,6 +143,7 @@ function redraw() {
 
 function draw() {
   const spots = places(), ratio = window.devicePixelRatio || 1;
+  measured = canvas.clientWidth - LEFT;
   canvas.style.height = spots.height + "px";
   const wide = Math.round(canvas.clientWidth * ratio), high = Math.round(spots.height * ratio);
   if (canvas.width !== wide || canvas.height !== high) [canvas.width, canvas.height] = [wide, high];
@@ -130,11 +152,18 @@ function draw() {
   pen.font = "11px system-ui, sans-serif";
   pen.textBaseline = "middle";
   drawn = [];
+  near = data.few || countOf((lane) => [lane.runs, lane.waits]) <= MOST_NEAR;
   inside(() => drawGrid(spots.height));
   for (const place of spots.lanes) drawLane(place);
   for (const place of spots.below) place.chart.parts ? drawChart(place) : drawRuntimes(place);
   drawFault(spots.height);
   byId("range").textContent = `${clock(view.begin)} to ${clock(view.end)}, ${span(view.end - view.begin)}`;
+  if (!waiting) markReady();
+}
+
+// Notes once when all that the page shows first is drawn.
+function markReady() {
+  if (!performance.getEntriesByName("ready").length) performance.mark("ready");
 }
 
 function inside(work) {
@@ -168,13 +197,9 @@ function drawLane(place) {
   inside(() => {
     pen.fillStyle = "#f6f8fa";
     pen.fillRect(LEFT, place.top, width(), RUN);
-    if (isNear(place.lane)) drawNear(place); else drawFar(place);
+    if (near) drawNear(place); else drawFar(place);
   });
 }
-
-// Whether what is in view is few enough to be drawn whole.
-const isNear = (lane) => lane.few
-  || inView(lane.runs).length + inView(lane.waits).length <= MOST_CHUNKS;
 
 function drawNear(place) {
   const { lane } = place;
@@ -227,23 +252,24 @@ function label(text, x, y, wide, high) {
 // are drawn as they are.
 function drawFar(place) {
   const { lane } = place, shown = (view.end - view.begin) / data.span;
-  const level = [...lane.levels].reverse().find((one) => one.buckets * shown <= MOST_BUCKETS) || lane.levels[0];
+  const most = MOST_BUCKETS * FEW_LANES / Math.max(FEW_LANES, data.lanes.length);
+  const level = [...lane.levels].reverse().find((one) => one.buckets * shown <= most) || lane.levels[0];
   const open = columns(level);
   if (!open) return;
   const wide = data.span / level.buckets;
   const first = Math.max(0, Math.floor(view.begin / wide)), last = Math.min(level.buckets, view.end / wide + 1);
   const high = place.bottom - place.rows;
-  const most = Math.max(1, lane.rows, ...open.waiting.subarray(first, last));
+  const waits = Math.max(1, lane.rows, ...open.waiting.subarray(first, last));
   for (let bucket = first; bucket < last; bucket += 1) {
     const x = xOf(bucket * wide), size = xOf((bucket + 1) * wide) - x + 0.4;
-    const share = open.busy[bucket] / 255 * RUN, waits = open.waiting[bucket] / most * high;
+    const share = open.busy[bucket] / 255 * RUN, below = open.waiting[bucket] / waits * high;
     if (share) {
       pen.fillStyle = colour(open.tasks[bucket], false);
       pen.fillRect(x, place.top + RUN - share, size, share);
       drawn.push({ x, y: place.top, wide: size, high: RUN, kind: "bucket", lane, open, index: bucket, level });
     }
     pen.fillStyle = "#dfe5ec";
-    pen.fillRect(x, place.bottom - waits, size, waits);
+    pen.fillRect(x, place.bottom - below, size, below);
   }
   drawWaits(place, lane.longest);
 }
@@ -262,10 +288,12 @@ function drawFault(height) {
   });
 }
 
+// Whether the points of a measure in view are few enough to be drawn as they are.
+const areNear = (name) => data.few || countOf((lane) => [lane.points[name]]) <= MOST_NEAR;
+
 // The points of a measure that are in view: all, or from afar the greatest of each bucket.
-function pointsOf(lane, name) {
-  const near = inView(lane.points[name]);
-  const chunks = near.length <= MOST_CHUNKS || lane.few ? near : inView(lane.peaks[name]);
+function pointsOf(lane, name, all) {
+  const chunks = inView(all ? lane.points[name] : lane.peaks[name]);
   return chunks.map((chunk) => [chunk, columns(chunk)]).filter(([, open]) => open);
 }
 
@@ -273,8 +301,9 @@ function drawChart(place) {
   const { chart } = place, parts = [];
   let top = 0, bottom = 0;
   for (const [name, setting, sign] of chart.parts) {
+    const all = areNear(name);
     for (const lane of data.lanes) {
-      for (const [chunk, open] of pointsOf(lane, name)) {
+      for (const [chunk, open] of pointsOf(lane, name, all)) {
         parts.push({ name, sign, lane, chunk, open });
         for (let index = 0; index < chunk.count; index += 1) {
           if (open.times[index] < view.begin || open.times[index] > view.end) continue;
@@ -358,8 +387,7 @@ function stroke([x, y], [toX, toY], style) {
 function drawRuntimes(place) {
   const parts = [];
   let least = 0, most = 1;
-  for (const lane of data.lanes) {
-    if (!isNear(lane)) continue;
+  for (const lane of near ? data.lanes : []) {
     for (const chunk of inView(lane.runs)) {
       const open = columns(chunk);
       if (!open) continue;

@@ -17,6 +17,12 @@ const at = (kind, x, y, more) => {
 const seen = () => [Math.round(view.begin), Math.round(view.end)];
 const rows = () => [...document.querySelectorAll("#tasks tbody tr")].map((row) => row.cells[0].textContent);
 
+// How much of the data was unpacked: of what is drawn as it is, and of what stands for it from afar.
+function unpackedOf(kinds) {
+  const chunks = data.lanes.flatMap((lane) => kinds(lane).flat());
+  return [chunks.filter((chunk) => chunk.open).length, chunks.length];
+}
+
 // The colour of the canvas at a place.
 function colourAt(x, y) {
   const ratio = window.devicePixelRatio || 1;
@@ -31,6 +37,9 @@ async function probed() {
   told.why = byId("why").textContent;
   told.whole = seen();
   told.drawn = drawn().length;
+  told.near = unpackedOf((lane) => [lane.runs, lane.waits, ...Object.values(lane.points)]);
+  told.far = unpackedOf((lane) => [lane.levels, lane.longest, ...Object.values(lane.peaks)]);
+  told.marked = performance.getEntriesByName("ready").length;
   told.rows = rows();
   if (data.fault) {
     const x = xOf(data.fault.time);
@@ -56,6 +65,10 @@ async function probed() {
   told.again = seen();
   press("f");
   told.toFault = seen();
+  press("0");
+  for (let times = 0; times < 12; times += 1) press("+");
+  await settled();
+  told.nearest = [...new Set(drawn().map((one) => one.kind))].sort();
   press("0");
   const field = byId("search");
   field.value = PROBE_SEARCH;

@@ -6,11 +6,18 @@ import zlib
 from array import array
 
 CHUNK = 1 << 14
-# So many buckets has each level, and so many of the longest waits a lane.
-LEVELS = 2048, 16384
+# From afar a lane is drawn in so many buckets, of all lanes together, but between so many and so many of each; and in
+# so many times as many from not quite so far.
+BUCKETS, LEAST_BUCKETS, MOST_BUCKETS = 32768, 512, 2048
+FINER = 8
+# So many of the longest waits of a lane are drawn from afar as they are.
 LONGEST = 40
-# What has no more stretches than this is drawn whole.
+# A page with no more stretches than this is drawn whole.
 FEW = 30_000
+# So many points of a measure are drawn from afar, of all lanes together, but at least so many of each.
+PEAKS, LEAST_PEAKS, MOST_PEAKS = 8192, 128, 2048
+# The text that has all columns which the page draws first.
+FIRST = "first"
 SUBLANES = 12
 
 
@@ -19,17 +26,40 @@ class Columns:
 
     def __init__(self):
         self.texts = []
+        self.first = bytearray()
 
     def put(self, values):
-        """The name of the text that has these numbers, the least byte first, compressed. It begins with the kind of the
-        array that they are."""
-        kind = kind_for(values)
-        numbers = array(kind, values)
-        if sys.byteorder == "big":
-            numbers.byteswap()
+        """The name of the text that has these numbers, compressed. It begins with the kind of the array that they
+        are."""
+        kind, numbers = numbers_of(values)
         name = f"{kind}{len(self.texts)}"
-        self.texts.append((name, base64.b64encode(zlib.compress(numbers.tobytes(), 3)).decode()))
+        self.texts.append((name, text_of(numbers)))
         return name
+
+    def put_first(self, values):
+        """The same for a column that the page draws first. These are many and short, and stand in one text: the name
+        says from which byte on, and how many numbers."""
+        kind, numbers = numbers_of(values)
+        self.first.extend(bytes(-len(self.first) % 8))
+        name = f"{kind}@{len(self.first)}+{len(values)}"
+        self.first.extend(numbers)
+        return name
+
+    def all_texts(self):
+        return [*self.texts, (FIRST, text_of(bytes(self.first)))]
+
+
+def numbers_of(values):
+    """The kind of the array that numbers are, and its bytes, the least of each first."""
+    kind = kind_for(values)
+    numbers = array(kind, values)
+    if sys.byteorder == "big":
+        numbers.byteswap()
+    return kind, numbers.tobytes()
+
+
+def text_of(numbers):
+    return base64.b64encode(zlib.compress(numbers, 3)).decode()
 
 
 def kind_for(values):
@@ -147,21 +177,32 @@ def greatest(points, start, end, buckets):
     return [best[bucket] for bucket in sorted(best)]
 
 
-def packed_lane(put, lane, start, end, task_of):
-    """A lane as the page has it."""
-    few = len(lane.runs) + len(lane.waits) <= FEW
+def are_few(lanes):
+    """Whether lanes have so few stretches that they are drawn whole."""
+    return sum(len(lane.runs) + len(lane.waits) for lane in lanes) <= FEW
+
+
+def sizes_from_afar(lanes):
+    """How many buckets each of these lanes has from afar, and how many for the points of a measure."""
+    return (min(MOST_BUCKETS, max(LEAST_BUCKETS, BUCKETS // len(lanes))),
+            min(MOST_PEAKS, max(LEAST_PEAKS, PEAKS // len(lanes))))
+
+
+def packed_lane(columns, lane, start, end, task_of, sizes):
+    """A lane as the page has it: whole, and, where there are sizes for that, from afar."""
+    put, first = columns.put, columns.put_first
     rows = rows_of(lane.waits)
     longest = sorted(range(len(rows)), key=lambda one: lane.waits[one].begin - lane.waits[one].end)[:LONGEST]
     longest.sort()
     return {
         "cpu": lane.cpu,
         "rows": max(rows, default=-1) + 1,
-        "few": few,
         "runs": packed(put, lane.runs, start, task_of),
         "waits": packed(put, lane.waits, start, task_of, rows),
-        "longest": packed(put, [lane.waits[one] for one in longest], start, task_of, [rows[one] for one in longest]),
-        "levels": [] if few else [level(put, lane, start, end, buckets, task_of) for buckets in LEVELS],
+        "longest": packed(first, [lane.waits[one] for one in longest], start, task_of, [rows[one] for one in longest]),
+        "levels": [level(first, lane, start, end, sizes[0], task_of),
+                   level(put, lane, start, end, sizes[0] * FINER, task_of)] if sizes else [],
         "points": {name: packed_points(put, points, start, task_of) for name, points in lane.points.items()},
-        "peaks": {} if few else {name: packed_points(put, greatest(points, start, end, LEVELS[0]), start, task_of)
-                                 for name, points in lane.points.items()},
+        "peaks": {name: packed_points(first, greatest(points, start, end, sizes[1]), start, task_of)
+                  for name, points in lane.points.items()} if sizes else {},
     }

@@ -4,7 +4,7 @@ import json
 from collections import defaultdict
 from pathlib import Path
 
-from making.packing import Columns, packed_lane
+from making.packing import Columns, are_few, packed_lane, sizes_from_afar
 
 PLACE = Path(__file__).resolve().parent.parent
 
@@ -38,6 +38,8 @@ def data_of(audit, lanes, fault, start, end):
     columns = Columns()
     tasks = tasks_of(lanes, audit.names)
     task_of = {task["pid"]: index for index, task in enumerate(tasks)}
+    few = are_few(lanes)
+    sizes = None if few else sizes_from_afar(lanes)
     data = {
         "report": audit.report,
         "settings": audit.settings,
@@ -45,9 +47,10 @@ def data_of(audit, lanes, fault, start, end):
         "span": end - start,
         "fault": fault and {**fault, "time": fault["time"] - start},
         "tasks": tasks,
-        "lanes": [packed_lane(columns.put, lane, start, end, task_of) for lane in lanes],
+        "few": few,
+        "lanes": [packed_lane(columns, lane, start, end, task_of, sizes) for lane in lanes],
     }
-    return data, columns.texts
+    return data, columns.all_texts()
 
 
 def page_of(data, texts):

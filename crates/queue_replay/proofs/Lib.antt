@@ -10,3 +10,4 @@ pub mod Noting
 pub mod Faults
 pub mod Renices
 pub mod Replays
+pub mod Windows

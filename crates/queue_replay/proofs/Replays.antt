@@ -23,7 +23,7 @@ use Rattle.runqueue.specs.Queue.{runqueue_view}
 use Rattle.queue_replay.proofs.Needed.{needing_more}
 
 -- a replay by one step more
-replay_more : (knobs : KnobsView) (cpu : ℕ) (start : ReplayStateView) (steps : List Step) (made : ℕ)
+pub replay_more : (knobs : KnobsView) (cpu : ℕ) (start : ReplayStateView) (steps : List Step) (made : ℕ)
     (between : ReplayStateView) (step : Step) (after : ReplayStateView)
     → made < length steps → step ≡ get_or steps made step → IsReplay knobs cpu start (take made steps) between
     → between.page.fault ≡ None
@@ -38,7 +38,7 @@ replay_more knobs cpu start steps made between step after within is r none s =
     subst (λ l. IsReplay knobs cpu start l after) (sym e) more
 
 -- a step that fails leaves a fault
-left_fault : (knobs : KnobsView) (cpu : ℕ) (before : ReplayStateView) (step : Step) (after : ReplayStateView)
+pub left_fault : (knobs : KnobsView) (cpu : ℕ) (before : ReplayStateView) (step : Step) (after : ReplayStateView)
     → FailsStep knobs cpu before step after
     → after.page.fault ≡ None → ⊥
 left_fault knobs cpu before step after f none = go _ (sym (ap (λ (x : ReplayStateView). x.page.fault) f.result) ∙ none)

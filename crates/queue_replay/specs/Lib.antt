@@ -9,3 +9,4 @@ pub mod ReplayState
 pub mod Made
 pub mod Replay
 pub mod Found
+pub mod Windowed

@@ -55,6 +55,21 @@ impl PageDraft {
         }
     }
 
+    /// Empties the lists of tickets, births and deaths; what they took they keep.
+    pub fn forget(&mut self)
+        ensures { page_draft_view self.new ≡ record (page_draft_view self.old) {
+          left = [];
+          came = [];
+          births = [];
+          deaths = [];
+        } }
+    {
+        self.left.clear();
+        self.came.clear();
+        self.births.clear();
+        self.deaths.clear();
+    }
+
     /// Makes the growths that a deed can need.
     pub fn make_room(&mut self, deed: Deed) -> Result<(), Memory>
         ensures room { OnOk result (HasDraftRoom deed self.new) }

@@ -1,4 +1,6 @@
-ghost use Rattle.std.specs.Prelude.{◌≡◌, ◌+◌, ◌<◌, ◌≤◌, true, false, None, IsSome, ◌⊎◌, length, OnOk, OnErr, IfOk};
+ghost use Rattle.std.specs.Prelude.{◌≡◌, ◌+◌, ◌^◌, ◌<◌, ◌≤◌, true, false, None, IsSome, ◌⊎◌, length, OnOk, OnErr, IfOk};
+ghost use Rattle.replay_model.specs.Cut.{StreamView};
+ghost use Rattle.queue_replay.specs.Windowed.{GoesThrough, StopsWithin, windowed_by};
 ghost use Rattle.cfs_model.specs.Least.{larger};
 ghost use Rattle.replay_model.specs.Needs.{idle_need, only_slack};
 ghost use Rattle.replay_model.specs.Page.{IsStartOf, end_page};
@@ -15,7 +17,7 @@ use crate::tally_book::TallyBook;
 use cfs_model::{Amounts, IDLE_PID, Kind, Knobs, Memory, NO_LINE};
 use pid_table::PidHasher;
 use processor_stream::Stream;
-use replay_model::StepFault;
+use replay_model::{Step, StepFault};
 use runqueue::Runqueue;
 use std::alloc::Global;
 
@@ -89,14 +91,56 @@ fn end_test(stream: &Stream, knobs: Knobs, state: &mut ReplayState)
     }
     let idled = idled_time(state.since, stream.last_time());
     raise_slack(&mut state.needs, idled);
-    if let Some(deadline) = idle_deadline(state.since, stream.last_time(), knobs.slack()) {
+    end_window(state, stream.last_time(), stream.last_line(), knobs);
+}
+
+/// A processor that idles beside a waiting task at this time may have idled for too long; the fault is on this line.
+pub(crate) fn end_window(state: &mut ReplayState, last_time: u64, last_line: u32, knobs: Knobs)
+    ensures made { state.new.made ≡ state.old.made }
+    ensures needs { state.new.needs ≡ state.old.needs }
+    ensures part { runqueue_view state.new.queue ≡ runqueue_view state.old.queue }
+    ensures since { state.new.since ≡ state.old.since }
+    ensures page { (stream : StreamView) → stream.last_time ≡ last_time → stream.last_line ≡ last_line
+        → page_draft_view state.new.draft ≡ end_page knobs.slack stream state.old.since state.old.draft.fault
+        (page_draft_view state.old.draft) }
+    ensures going { (state.old.draft.fault ≡ None → IsGoing state.old) → state.new.draft.fault ≡ None
+        → IsGoing state.new }
+{
+    if state.draft.fault.is_some() {
+        return;
+    }
+    if let Some(deadline) = idle_deadline(state.since, last_time, knobs.slack()) {
         state.draft.fault = Some(StepFault {
-            line: stream.last_line(),
+            line: last_line,
             kind: Kind::IdleTooLong,
             pid: IDLE_PID,
             deadline: Some(deadline),
         });
     }
+}
+
+/// Makes these steps, up to the first that fails.
+pub(crate) fn go_through(
+    state: &mut ReplayState,
+    cpu: u32,
+    steps: &[Step],
+    knobs: Knobs,
+) -> Result<(), Memory>
+    requires few { state.old.made + length steps.now < 2 ^ 64 }
+    requires going { state.old.draft.fault ≡ None → IsGoing state.old }
+    ensures going { state.new.draft.fault ≡ None → IsGoing state.new }
+    ensures through { OnOk result (GoesThrough (windowed_by cpu knobs state.old) steps.now
+        (windowed_by cpu knobs state.new)) }
+    ensures memory { OnErr result (StopsWithin (windowed_by cpu knobs state.old) steps.now
+        (windowed_by cpu knobs state.new)) }
+{
+    for step in steps {
+        if state.draft.fault.is_some() {
+            return Ok(());
+        }
+        state.step(cpu, step, knobs)?;
+    }
+    Ok(())
 }
 
 /// The state before the first step; on a stream without steps, after the end test.
@@ -117,7 +161,11 @@ pub(crate) fn start(
 }
 
 /// The state before the first step.
-fn before_steps(alloc: Global, stream: &Stream, hasher: PidHasher) -> Result<ReplayState, Memory>
+pub(crate) fn before_steps(
+    alloc: Global,
+    stream: &Stream,
+    hasher: PidHasher,
+) -> Result<ReplayState, Memory>
     ensures made { IfOk result (λ state. state.made ≡ 0) }
     ensures start { IfOk result (λ state. IsStartOf (stream_view stream.now) (replay_state_view state)) }
     ensures going { IfOk result IsGoing }

@@ -22,3 +22,4 @@ pub mod Walk
 pub mod Births
 pub mod SpanEnds
 pub mod PolicyTold
+pub mod Windows

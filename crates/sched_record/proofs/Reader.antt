@@ -29,14 +29,14 @@ pub as_told : (number : ℕ) (line : List ℕ) {told say : Option Entry} → tol
 as_told number line same says = subst (λ (s : Option Entry). LineSays number line (Ok s)) same says
 
 -- what holds where there is one, changed there
-where_some : {X : Type 0} (A C : Type 0) (B D : X → Type 0) (o : Option X) → is_some o ≡ true
+pub where_some : {X : Type 0} (A C : Type 0) (B D : X → Type 0) (o : Option X) → is_some o ≡ true
     → ((x : X) → B x → D x) → MatchOption o A B → MatchOption o C D
 where_some A C B D None some changed holds = absurd (false≢true some)
 where_some A C B D (Some x) some changed holds = changed x holds
 
 -- the first bad line is the first bad one of more lines too
-still_first : (lines more : List (List ℕ)) (number : ℕ) (cause : TraceCause) → IsFirstBadTraceLine lines number cause
-    → IsFirstBadTraceLine (lines ++ more) number cause
+pub still_first : (lines more : List (List ℕ)) (number : ℕ) (cause : TraceCause)
+    → IsFirstBadTraceLine lines number cause → IsFirstBadTraceLine (lines ++ more) number cause
 still_first lines more number cause b = record {
   front = b.front;
   line = b.line;

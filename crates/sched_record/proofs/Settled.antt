@@ -18,7 +18,7 @@ use Rattle.sched_record.specs.Trace.{IsBadAfter, IsFirstBadTraceLine}
 use Rattle.sched_record.proofs.Following.{Says}
 
 -- what the one line says, the other says too
-abbrev SaysToo : List ℕ → List ℕ → Type 0
+abbrev pub SaysToo : List ℕ → List ℕ → Type 0
 SaysToo front line = (number : ℕ) (say : Result (Option Entry) TraceCause) → LineSays number front say
     → LineSays number line say
 
@@ -27,7 +27,7 @@ nothing_too : (front more : List ℕ) → IsSettled front → LineAnswer front (
 nothing_too front more settled (inl is) = inl (settled.same (Ok comment) more is)
 nothing_too front more settled (inr is) = inr (settled.same (Ok other) more is)
 
-settled_too : (front more : List ℕ) → IsSettled front → SaysToo front (front ++ more)
+pub settled_too : (front more : List ℕ) → IsSettled front → SaysToo front (front ++ more)
 settled_too front more settled number (Ok (Some entry)) says = (
   says.0,
   record {
@@ -67,7 +67,7 @@ each_too n (first ∷ lines) front line [] too each = absurd each
 each_too n (first ∷ lines) front line (say ∷ said) too each =
     (each.0, each_too (n + 1) lines front line said too each.1)
 
-read_too : (lines : List (List ℕ)) (front line : List ℕ) (count last : ℕ) (events : List Entry) → SaysToo front line
+pub read_too : (lines : List (List ℕ)) (front line : List ℕ) (count last : ℕ) (events : List Entry) → SaysToo front line
     → AreRead (lines ++ front ∷ []) count last events → AreRead (lines ++ line ∷ []) count last events
 read_too lines front line count last events too read = record {
   good = record {
@@ -113,7 +113,7 @@ last_or_before (l ∷ lines) (f ∷ front) x y line rest e =
     further first (inl (same, is)) = inl (cc, is)
     further first (inr (more, parts)) = inr (more, cc)
 
-first_bad_too : (lines : List (List ℕ)) (front line : List ℕ) (number : ℕ) (cause : TraceCause) → SaysToo front line
+pub first_bad_too : (lines : List (List ℕ)) (front line : List ℕ) (number : ℕ) (cause : TraceCause) → SaysToo front line
     → IsFirstBadTraceLine (lines ++ front ∷ []) number cause → IsFirstBadTraceLine (lines ++ line ∷ []) number cause
 first_bad_too lines front line number cause too b =
     by_index (last_or_before lines b.front front line b.line b.rest b.parts)
@@ -142,7 +142,7 @@ first_bad_too lines front line number cause too b =
       bad = b.bad;
     }
 
-both_ways : {X A C : Type 0} (B D : X → Type 0) (o : Option X) → (A → C) → ((x : X) → B x → D x) → MatchOption o A B
+pub both_ways : {X A C : Type 0} (B D : X → Type 0) (o : Option X) → (A → C) → ((x : X) → B x → D x) → MatchOption o A B
     → MatchOption o C D
 both_ways B D None none some holds = none holds
 both_ways B D (Some x) none some holds = some x holds

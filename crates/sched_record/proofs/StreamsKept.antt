@@ -10,7 +10,7 @@ use Rattle.std.proofs.lemmas.List.Elements.{All-map, All-filter, All-weaker, fil
 use Rattle.std.proofs.lemmas.Option.{slice_get-get_or}
 use Rattle.cfs_model.specs.Charge.{IsInRange}
 use Rattle.cfs_model.specs.Claimed.{charge_at, claim_at, claimed, nice_at, with_claim}
-use Rattle.replay_model.specs.Cut.{last_line_after, last_time_of, steps_at, tasks_at, touches}
+use Rattle.replay_model.specs.Cut.{cut, last_line_after, last_time_of, steps_at, tasks_at, touches}
 use Rattle.replay_model.specs.StepAt.{charge_for, claim_for, deed_at, nice_for, step_at}
 use Rattle.cfs_model.specs.declared.act.Act.{Act}
 use Rattle.cfs_model.specs.declared.act.Act.TheVariants as act
@@ -24,7 +24,9 @@ use Rattle.replay_model.specs.declared.step.Step.{Step}
 use Rattle.cfs_model.specs.declared.task.Place.TheVariants.{Run}
 use Rattle.cfs_model.specs.declared.task.Task.{Task}
 use Rattle.cfs_model.specs.Order.{RunApart}
+use Rattle.companion_file.specs.Companion.{CompanionView}
 use Rattle.companion_file.specs.Order.{IsClaimInLimits, IsNiceLineInLimits, IsTaskInLimits, IsChargeLineInLimits}
+use Rattle.companion_file.specs.Order.{IsCompanionInOrder}
 use Rattle.sched_record.specs.RecordView.{RecordView, policy_of}
 use Rattle.sched_record.specs.Kept.{IsRecordInOrder, IsNamed, tasks_of}
 use Rattle.processor_stream.specs.StreamKept.{IsStream, OwnsCharge, OwnsClaim, OwnsNice, tasks_of_deed}
@@ -236,6 +238,59 @@ stream_of_record r cpu order below =
           (λ k d h. owned_charge cpu r.claims r.nices r.charges (policy_of r) (get_or r.events k d)
           limits.charges_in_limits);
     }
+
+-- what a start state keeps, its cut for a processor keeps
+pub stream_of_start : (c : CompanionView) (cpu : ℕ) → IsCompanionInOrder c → cpu < c.cpus
+    → IsStream (cut c.start c.floors c.tasks [] cpu)
+stream_of_start c cpu limits below =
+    let has_floor : cpu < length c.floors = let each = limits.floor_for_each_cpu in omega (arith, each, below) in
+    record {
+      here = tasks_here cpu c.tasks;
+      runtimes = All-filter (λ task. eqb task.cpu cpu) (λ task. IsInRange task.v) c.tasks
+          (All-weaker (IsTaskInLimits c.cpus) (λ task. IsInRange task.v) (λ task ok. ok.v) c.tasks
+          limits.tasks_in_limits);
+      pids_rise = pairs_filter (λ t u. t.pid < u.pid) (λ (task : Task). eqb task.cpu cpu) c.tasks limits.pids_rise;
+      one_runs = one_runs cpu c.tasks limits.one_runs_a_cpu;
+      floor = limits.floors_in_limits cpu (pos 0) has_floor;
+      lines_rise = λ i j d lt h. absurd (omega arith);
+      lines_within = λ k d h. absurd (omega arith);
+      never_falls = λ i j d lt h. absurd (omega arith);
+      times_within = λ k d h. absurd (omega arith);
+      no_idle = λ k d h. absurd (omega arith);
+      claims = λ k d h. absurd (omega arith);
+      nices = λ k d h. absurd (omega arith);
+      charges = λ k d h. absurd (omega arith);
+    }
+
+-- that cut, part by part
+pub start_cut_is : (of : CompanionView) (cpu : ℕ) (tasks all_tasks : List Task) (floor : ℤ) (floors : List ℤ)
+    (start last_time : ℕ) (none steps : List Step)
+    → all_tasks ≡ of.tasks → tasks ≡ tasks_at cpu all_tasks → floors ≡ of.floors
+    → floor ≡ slice_index_or floors cpu (pos 0) → start ≡ of.start → last_time ≡ of.start → none ≡ [] → steps ≡ none
+    → record {
+      cpu = cpu;
+      tasks = tasks;
+      floor = floor;
+      start = start;
+      steps = steps;
+      last_time = last_time;
+      last_line = 0;
+    } ≡ cut of.start of.floors of.tasks [] cpu
+start_cut_is of cpu tasks all_tasks floor floors start last_time none steps a b c d e h i j =
+    parts (b ∙ ap (tasks_at cpu) a) (d ∙ ap (λ fs. slice_index_or fs cpu (pos 0)) c) e h (j ∙ i)
+  where
+    parts : tasks ≡ tasks_at cpu of.tasks → floor ≡ slice_index_or of.floors cpu (pos 0) → start ≡ of.start
+        → last_time ≡ of.start → steps ≡ []
+        → record {
+          cpu = cpu;
+          tasks = tasks;
+          floor = floor;
+          start = start;
+          steps = steps;
+          last_time = last_time;
+          last_line = 0;
+        } ≡ cut of.start of.floors of.tasks [] cpu
+    parts t l s p u = cc
 
 -- the reader's words for the last event
 pub same_last_time : (start : ℕ) (claims : List Claim) (nices : List NiceLine) (charges : List ChargeLine)

@@ -12,3 +12,4 @@ pub mod Trace
 pub mod Seen
 pub mod ReadLines
 pub mod Reader
+pub mod Window

@@ -1,6 +1,8 @@
-ghost use Rattle.std.specs.Prelude.{◌≡◌, ◌==◌, ℕ, ◌<◌, ◌≤◌, length, pos, IfOk, slice_index_or};
+ghost use Rattle.std.specs.Prelude.{◌≡◌, ◌==◌, ℕ, ◌<◌, ◌≤◌, [], length, pos, IfOk, slice_index_or};
 ghost use Rattle.cfs_model.specs.Claimed.{charge_at, claim_at, nice_at};
-ghost use Rattle.replay_model.specs.Cut.{tasks_at};
+ghost use Rattle.companion_file.specs.Seen.{companion_view};
+ghost use Rattle.replay_model.specs.Cut.{cut, tasks_at};
+ghost use Rattle.processor_stream.specs.Stream.{stream_view};
 ghost use Rattle.replay_model.specs.StepAt.{charge_for, claim_for, deed_at as deed_here, nice_for};
 ghost use Rattle.replay_model.specs.StepAt.{step_at as step_here};
 
@@ -8,7 +10,7 @@ use crate::on_line::{index_from, index_near, item_on};
 use crate::policies::{has_span, policy_if_idle, span_before};
 use crate::record::Record;
 use cfs_model::{Act, ChargeLine, Claim, Entry, Memory, NO_LINE, NiceLine, Policy, Task};
-use companion_file::Tasks;
+use companion_file::{Companion, Tasks};
 use processor_stream::{Steps, Stream};
 use replay_model::{Deed, Step};
 use std::alloc::Global;
@@ -22,7 +24,7 @@ impl Record {
     ghost use Rattle.sched_record.specs.Beside.{IsChargeIndex, IsClaimIndex, IsNiceIndex};
     ghost use Rattle.sched_record.specs.RecordView.{policy_of};
     ghost use Rattle.sched_record.specs.Record.{record_view};
-    ghost use Rattle.sched_record.specs.Stream.{cut_of, stream_view};
+    ghost use Rattle.sched_record.specs.Stream.{cut_of};
 
     /// What one processor sees of the record: its tasks and floor, and the steps of the events that touch it.
     pub fn deal(&self, cpu: u32) -> Result<Stream, Memory>
@@ -168,6 +170,25 @@ impl Record {
         }
         Ok(Steps::from_vec(steps))
     }
+}
+
+/// What one processor sees of a start state alone: its tasks and floor, and no steps.
+pub fn deal_start(alloc: Global, companion: &Companion, cpu: u32) -> Result<Stream, Memory>
+    requires { cpu < (companion_view companion.now).cpus }
+    ensures { let start = companion_view companion.now in
+        IfOk result (λ stream. stream_view stream ≡ cut start.start start.floors start.tasks [] cpu) }
+{
+    let tasks = tasks_of(alloc, companion.tasks(), cpu)?;
+    let steps = Steps::from_vec(Vec::new(alloc));
+    Ok(Stream::new(
+        cpu,
+        tasks,
+        floor_of(companion.floors(), cpu),
+        companion.start(),
+        steps,
+        companion.start(),
+        NO_LINE,
+    ))
 }
 
 /// A processor's floor.

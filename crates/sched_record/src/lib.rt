@@ -16,9 +16,12 @@ mod reading_wide;
 mod record;
 mod trace;
 mod trace_reader;
+mod window;
+mod windowing;
 
 pub use cause::{TraceCause, TraceFault};
-pub use dealing::step_at;
+pub use dealing::{deal_start, step_at};
+pub use entry::next_entry;
 pub use joining::{JoinCause, JoinFault, join, outside_line};
 pub use laws::{one_record_answer, one_trace_answer};
 pub use lists::Events;
@@ -28,3 +31,4 @@ pub use reading_wide::read_trace_wide;
 pub use record::Record;
 pub use trace::Trace;
 pub use trace_reader::TraceReader;
+pub use window::{Saying, Window};

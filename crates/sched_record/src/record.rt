@@ -1,7 +1,7 @@
 ghost use Rattle.std.specs.Prelude.{◌≡◌, All};
 ghost use Rattle.companion_file.specs.Seen.{companion_view};
 ghost use Rattle.sched_record.specs.Join.{joined_record};
-ghost use Rattle.sched_record.specs.Kept.{IsRecordInOrder};
+ghost use Rattle.sched_record.specs.Kept.{IsRecordInOrder, companion_part};
 ghost use Rattle.sched_record.specs.Policies.{EndsAtBirth};
 
 use crate::ending::end_spans;
@@ -119,6 +119,13 @@ impl Record {
         ensures { result ≡ record_last_line (record_view self.now) }
     {
         self.events().last().map_or(NO_LINE, |event| event.line)
+    }
+
+    /// The companion of the trace.
+    pub fn companion(&self) -> &Companion
+        ensures { companion_view result.now ≡ companion_part (record_view self.now) }
+    {
+        &self.companion
     }
 
     pub(crate) fn trace(&self) -> &Trace

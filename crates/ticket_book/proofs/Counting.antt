@@ -1,19 +1,16 @@
 -- Events that are counted by what they do.
-use Rattle.std.proofs.Common.{◌≡◌, ℕ, ◌+◌, ◌<◌, ◌≤◌, Bool, cond, List, [], ◌∷◌, length, take, get_or, refl, sym, ap}
+use Rattle.std.proofs.Common.{◌≡◌, ℕ, ◌+◌, ◌<◌, ◌≤◌, Bool, cond, List, [], ◌∷◌, length, map, take, get_or, refl, sym}
+use Rattle.std.proofs.Common.{ap}
 use Rattle.std.proofs.Common.{◌∙◌, arith}
 use Rattle.std.specs.List.{count_by}
 use Rattle.std.proofs.lemmas.List.{length-take-le}
 use Rattle.std.proofs.lemmas.List.Sums.{count_by-le-length, sum_by-cons, sum_by_more}
-use Rattle.cfs_model.specs.Claimed.{Claimed, claimed, with_claim}
+use Rattle.cfs_model.specs.Claimed.{Claimed}
 use Rattle.cfs_model.specs.declared.act.Act.{Act}
 use Rattle.cfs_model.specs.declared.act.Entry.{Entry}
-use Rattle.cfs_model.specs.declared.claim.Claim.{Claim}
-use Rattle.cfs_model.specs.declared.charge_line.ChargeLine.{ChargeLine}
-use Rattle.cfs_model.specs.declared.nice_line.NiceLine.{NiceLine}
 use Rattle.replay_model.specs.Summary.{how_many, is_birth, is_death, is_migration, is_switch}
 use Rattle.ticket_book.specs.EventCounts.{AreCountsBelow, counts_of, with_event}
 use Rattle.ticket_book.specs.declared.event_counts.EventCounts.{EventCounts}
-use Rattle.cfs_model.specs.declared.policy.Policy.{Policy}
 
 same_counts : (a b : EventCounts) → a.switches ≡ b.switches → a.migrations ≡ b.migrations → a.births ≡ b.births
     → a.deaths ≡ b.deaths
@@ -52,13 +49,10 @@ counts_below events i bound within most = record {
         omega (arith, few, n, within, most)
 
 -- the counts among events with what is said on their lines
-pub count_claimed : (does : Act → Bool) (claims : List Claim) (nices : List NiceLine) (charges : List ChargeLine)
-    (policy : Entry
-    → Policy) (events : List Entry)
-    → count_by (λ (e : Entry). does e.act) events ≡ how_many does (claimed claims nices charges policy events)
-count_claimed does claims nices charges policy [] = refl
-count_claimed does claims nices charges policy (event ∷ events) =
-    sum_by-cons (λ (e : Entry). cond (does e.act) 1 0) event events
-    ∙ ap (λ n. cond (does event.act) 1 0 + n) (count_claimed does claims nices charges policy events)
-    ∙ sym (sum_by-cons (λ (e : Claimed). cond (does e.entry.act) 1 0)
-    (with_claim claims nices charges policy event) (claimed claims nices charges policy events))
+pub count_said : (does : Act → Bool) (said : List Claimed)
+    → count_by (λ (e : Entry). does e.act) (map (λ event. event.entry) said) ≡ how_many does said
+count_said does [] = refl
+count_said does (event ∷ said) =
+    sum_by-cons (λ (e : Entry). cond (does e.act) 1 0) event.entry (map (λ (s : Claimed). s.entry) said)
+    ∙ ap (λ n. cond (does event.entry.act) 1 0 + n) (count_said does said)
+    ∙ sym (sum_by-cons (λ (s : Claimed). cond (does s.entry.act) 1 0) event said)

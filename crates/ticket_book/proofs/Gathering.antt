@@ -22,7 +22,7 @@ use Rattle.ticket_book.specs.Book.{page_at}
 use Rattle.ticket_book.specs.Own.{IsToldOwn}
 use Rattle.ticket_book.specs.Relying.{IsEnough, IsLeastFaultLine, IsReliable}
 use Rattle.ticket_book.specs.Remade.{AreRemadeBelow, HasFaultAt, IsLeastFault, ReachesEnough, Suffices, SufficesFor}
-use Rattle.ticket_book.specs.Told.{view_at}
+use Rattle.ticket_book.specs.Told.{pages_of, view_at}
 use Rattle.ticket_book.specs.Whole.{AreSufficient, IsWholePageOf, SufficesBeside}
 
 module _ (knobs : KnobsView) (r : RecordView) (slots : List (Option ReplayView)) where
@@ -218,7 +218,7 @@ module _ (knobs : KnobsView) (r : RecordView) (slots left after : List (Option R
 
 -- the page at a slot of a list
 view_is : (pages : List ReplayView) (cpu : ℕ) (page : ReplayView) → slice_get pages cpu ≡ Some page
-    → view_at pages cpu ≡ page.page
+    → view_at (pages_of pages) cpu ≡ page.page
 view_is [] cpu page e = absurd cc
 view_is (p ∷ pages) zero page e = ap (λ (q : ReplayView). q.page) (same_Some p page e)
 view_is (p ∷ pages) (suc cpu) page e = view_is pages cpu page e
@@ -233,7 +233,7 @@ all_gathered knobs r slots left pages remade g = record {
 }
   where
     faulted : (line least : ℕ) → IsLeastFault knobs r slots least → least ≤ line
-        → HasFaultBy (view_at pages) (length pages) line
+        → HasFaultBy (view_at (pages_of pages)) (length pages) line
     faulted line least first past =
         let f = first.there in
         let there = g.kept first.cpu f.page first.within f.stands

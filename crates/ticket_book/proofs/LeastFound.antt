@@ -18,7 +18,7 @@ use Rattle.sched_record.specs.Stream.{cut_of}
 use Rattle.ticket_book.specs.LeastAnswer.{IsLeastAnswer}
 use Rattle.ticket_book.specs.NeedsOfPages.{HaveNeeds, needs_at}
 use Rattle.ticket_book.specs.SaidEvents.{events_of}
-use Rattle.ticket_book.specs.Told.{Tell, view_at}
+use Rattle.ticket_book.specs.Told.{Tell, pages_of, view_at}
 use Rattle.ticket_book.specs.Whole.{AreSufficient}
 use Rattle.cfs_model.proofs.BadAtAll.{at_most_greatest}
 use Rattle.ticket_book.proofs.LargestNeeds.{needs_there}
@@ -30,33 +30,37 @@ module _ (r : RecordView) (pages : List ReplayView) (sufficient : AreSufficient 
     (o : IsRecordInOrder r) where
   -- what they say first is what is wrong, and no settings in range help
   pub bad_of : PagesTellFault → FaultIsFirstBad → GreatestTellBadAtAll → (fault : FirstFault)
-      → Tell (view_at pages) (length pages) r.tasks (events_of r) (Some fault) → IsLeastAnswer r (Fault fault)
+      → Tell (view_at (pages_of pages)) (length pages) r.tasks (events_of r) (Some fault) → IsLeastAnswer r (Fault
+      fault)
   bad_of faults first_bad at_all fault tell =
       let first = fault_is_verdict greatest_settings r pages sufficient faults first_bad o fault tell in
       (at_all r.start (start_machine r.start r.floors r.tasks) (events_of r) fault.line first.line, first)
 
-  module _ (nothing : SayNothing (view_at pages) (length pages) r.tasks (events_of r)) (have : HaveNeeds pages)
+  module _ (nothing : SayNothing (view_at (pages_of pages)) (length pages) r.tasks (events_of r)) (have : HaveNeeds
+      pages)
       (done : SilentPagesAreDone) where
     -- each page suffices
     abbrev suffice : (cpu : ℕ) → cpu < length pages
-        → SufficesAmong greatest_settings r.start r.floors r.tasks (events_of r) (length pages) (view_at pages) cpu
+        → SufficesAmong greatest_settings r.start r.floors r.tasks (events_of r) (length pages) (view_at (pages_of
+        pages)) cpu
     suffice cpu h =
         let p = page_there pages cpu h in
         suffices_among greatest_settings r pages cpu p.0 (sufficient.each cpu p.0 p.1) p.2
 
     -- where they say nothing, each has the needs of its processor's whole replay
     needing : (cpu : ℕ) → cpu < length pages
-        → IsPageNeeding (cut_of r cpu) greatest_settings (view_at pages cpu) (needs_at pages cpu)
+        → IsPageNeeding (cut_of r cpu) greatest_settings (view_at (pages_of pages) cpu) (needs_at pages cpu)
     needing cpu h =
         let p = page_there pages cpu h in
         let page = p.0 in
         let own = sufficient.each cpu page p.1 in
-        let whole = done greatest_settings r.start r.floors r.tasks (events_of r) (length pages) (view_at pages)
+        let whole = done greatest_settings r.start r.floors r.tasks (events_of r) (length pages) (view_at (pages_of
+        pages))
         (in_record greatest_settings r pages sufficient o) suffice nothing cpu h in
         let fault : page.page.fault ≡ None = ap (λ (v : PageView). v.fault) (sym p.2) ∙ whole.0 in
         let all : length page.stream.steps ≤ page.made =
         subst (λ (s : StreamView). length s.steps ≤ page.made) (sym own.stream) whole.1 in
-        subst (λ n. IsPageNeeding (cut_of r cpu) greatest_settings (view_at pages cpu) n)
+        subst (λ n. IsPageNeeding (cut_of r cpu) greatest_settings (view_at (pages_of pages) cpu) n)
         (sym (needs_there pages cpu page p.1))
         (subst (λ v. IsPageNeeding (cut_of r cpu) greatest_settings v page.needs) (sym p.2)
         (subst (λ s. IsPageNeeding s greatest_settings page.page page.needs) own.stream
@@ -67,13 +71,14 @@ module _ (r : RecordView) (pages : List ReplayView) (sufficient : AreSufficient 
       pub least_of : AreLeast r.start (start_machine r.start r.floors r.tasks) (events_of r)
           (largest (needs_at pages) (length pages))
       least_of =
-          tells greatest_settings r.start r.floors r.tasks (events_of r) (length pages) (view_at pages) (needs_at pages)
+          tells greatest_settings r.start r.floors r.tasks (events_of r) (length pages) (view_at (pages_of pages))
+          (needs_at pages)
           (in_record greatest_settings r pages sufficient o) needing nothing.tickets nothing.births
 
       -- which are at most the greatest, at which the events are a run
       pub in_range : PagesTellRun → AreInRange (largest (needs_at pages) (length pages))
       in_range runs =
           let most = least_of.least greatest_settings
-          (runs greatest_settings r.start r.floors r.tasks (events_of r) (length pages) (view_at pages)
+          (runs greatest_settings r.start r.floors r.tasks (events_of r) (length pages) (view_at (pages_of pages))
           (in_record greatest_settings r pages sufficient o) suffice nothing) in
           at_most_greatest (largest (needs_at pages) (length pages)) most

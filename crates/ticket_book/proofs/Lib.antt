@@ -3,7 +3,7 @@ pub mod CoreKept
 mod Cursors
 mod Deadlines
 mod EventsFollowed
-mod Extent
+pub mod Extent
 pub mod FewBelow
 mod StreamsFollowed
 mod Framed
@@ -24,9 +24,9 @@ mod Saying
 mod WalkKept
 mod Summed
 mod Tasks
-mod TicketOrder
+pub mod TicketOrder
 mod TicketsPassed
-mod Verdicts
-mod Views
+pub mod Verdicts
+pub mod Views
 mod Walked
 mod WholeLeft

@@ -8,17 +8,13 @@ use Rattle.std.proofs.lemmas.List.{append-nil, flat_map_more, map-append, take_m
 use Rattle.std.proofs.lemmas.List.Elements.{filter-append}
 use Rattle.std.proofs.lemmas.List.Sums.{fold-append}
 use Rattle.cfs_model.proofs.Moves.{same_or_not}
-use Rattle.cfs_model.specs.Claimed.{claimed}
+use Rattle.cfs_model.specs.Claimed.{Claimed}
 use Rattle.cfs_model.specs.declared.act.Entry.{Entry}
-use Rattle.cfs_model.specs.declared.claim.Claim.{Claim}
-use Rattle.cfs_model.specs.declared.charge_line.ChargeLine.{ChargeLine}
-use Rattle.cfs_model.specs.declared.nice_line.NiceLine.{NiceLine}
 use Rattle.cfs_model.specs.declared.task.Task.{Task}
 use Rattle.replay_model.specs.Noted.{new_tally, with_tally}
 use Rattle.replay_model.specs.Summary.{born_by, born_in, each_once, tasks_of_run}
 use Rattle.replay_model.specs.declared.page.Tally.{Tally}
 use Rattle.ticket_book.specs.Naming.{births_in, with_named}
-use Rattle.cfs_model.specs.declared.policy.Policy.{Policy}
 
 -- some tasks, and then others
 pub both_named : (xs ys : List ℕ) (sums now after : List Tally) → now ≡ with_named xs sums → after ≡ with_named ys now
@@ -45,12 +41,9 @@ births_more events i event within is =
     ∙ ap births_in (ap (λ e. take i events ++ e ∷ []) is ∙ sym (take_more events i event within))
 
 -- the births among events with what is said on their lines
-pub births_claimed : (claims : List Claim) (nices : List NiceLine) (charges : List ChargeLine) (policy : Entry
-    → Policy) (events : List Entry)
-    → births_in events ≡ born_in (claimed claims nices charges policy events)
-births_claimed claims nices charges policy [] = refl
-births_claimed claims nices charges policy (event ∷ events) = ap (λ pids. born_by event.act
-    ++ pids) (births_claimed claims nices charges policy events)
+births_said : (said : List Claimed) → births_in (map (λ event. event.entry) said) ≡ born_in said
+births_said [] = refl
+births_said (event ∷ said) = ap (λ pids. born_by event.entry.act ++ pids) (births_said said)
 
 -- whether a pid is among some
 abbrev pub names_pid : List ℕ → ℕ → Bool
@@ -137,14 +130,12 @@ named_once xs (y ∷ ys) =
     ∙ ap (λ pids. map new_tally (each_once pids)) (append_assoc xs (y ∷ []) ys)
 
 -- the tasks that the start names, and then those that are born
-pub all_named : (tasks : List Task) (claims : List Claim) (nices : List NiceLine) (charges : List ChargeLine) (policy
-    : Entry
-    → Policy) (events : List Entry)
-    (none named all : List Tally) → none ≡ [] → named ≡ with_named (map (λ task. task.pid) tasks) none
-    → all ≡ with_named (births_in events) named
-    → all ≡ map new_tally (tasks_of_run tasks (claimed claims nices charges policy events))
-all_named tasks claims nices charges policy events none named all empty first second =
+pub all_named : (tasks : List Task) (said : List Claimed) (events : List Entry) (rows : List Tally)
+    → map (λ event. event.entry) said ≡ events
+    → rows ≡ with_named (births_in events) (with_named (map (λ task. task.pid) tasks) [])
+    → rows ≡ map new_tally (tasks_of_run tasks said)
+all_named tasks said events rows are named =
     let pids : List ℕ = map (λ (task : Task). task.pid) tasks in
-    both_named pids (births_in events) none named all first second
-    ∙ ap (with_named (pids ++ births_in events)) empty ∙ named_once [] (pids ++ births_in events)
-    ∙ ap (λ born. map new_tally (each_once (pids ++ born))) (births_claimed claims nices charges policy events)
+    both_named pids (births_in events) [] (with_named pids []) rows refl named
+    ∙ named_once [] (pids ++ births_in events)
+    ∙ ap (λ born. map new_tally (each_once (pids ++ born))) (ap births_in (sym are) ∙ births_said said)

@@ -7,7 +7,6 @@ use Rattle.std.proofs.lemmas.List.Elements.{All-map, All-weaker}
 use Rattle.replay_model.specs.Noted.{PageView, new_tally}
 use Rattle.tally_laws.specs.Totals.{tallies_below, total_of}
 use Rattle.replay_model.specs.declared.page.Tally.{Tally}
-use Rattle.queue_replay.specs.Replay.{ReplayView}
 use Rattle.ticket_book.specs.Tallying.{FitsTally, with_tallies}
 use Rattle.ticket_book.specs.Told.{view_at}
 use Rattle.ticket_book.proofs.Adding.{add_more, more_fit, same_tally}
@@ -31,30 +30,32 @@ below_front pages few (suc many) h = elim (cases_lt few (suc many)) [
       ([], append-nil (tallies_below pages few) ∙ ap (tallies_below pages) all)
 ]
 
-module _ (pages : List ReplayView) (i : ℕ) (page : ReplayView) (within : i < length pages)
+module _ {P : Type 0} (page_of : P → PageView) (pages : List P) (i : ℕ) (page : P) (within : i < length pages)
     (is : page ≡ get_or pages i page)
-    (tallies : List Tally) (are : tallies ≡ page.page.tallies) (old sums : List Tally)
-    (before : sums ≡ map (with_tallies (tallies_below (view_at pages) i)) old) where
+    (tallies : List Tally) (are : tallies ≡ (page_of page).tallies) (old sums : List Tally)
+    (before : sums ≡ map (with_tallies (tallies_below (view_at (map page_of pages)) i)) old) where
   -- one page more
-  more_below : tallies_below (view_at pages) i ++ tallies ≡ tallies_below (view_at pages) (i + 1)
+  more_below : tallies_below (view_at (map page_of pages)) i ++ tallies ≡ tallies_below (view_at (map page_of pages))
+      (i + 1)
   more_below =
       let next : suc i ≡ i + 1 = omega arith in
-      ap (λ l. tallies_below (view_at pages) i ++ l) (are
-      ∙ ap (λ view. view.tallies) (sym (view_here pages i page within is)))
-      ∙ ap (tallies_below (view_at pages)) next
+      ap (λ l. tallies_below (view_at (map page_of pages)) i ++ l) (are
+      ∙ ap (λ view. view.tallies) (sym (view_here page_of pages i page within is)))
+      ∙ ap (tallies_below (view_at (map page_of pages))) next
 
-  pub page_fits : All (λ sum. FitsTally (with_tallies (tallies_below (view_at pages) (length pages)) sum)) old
+  pub page_fits : All (λ sum. FitsTally (with_tallies (tallies_below (view_at (map page_of pages)) (length pages))
+      sum)) old
       → All (λ sum. FitsTally (with_tallies tallies sum)) sums
   page_fits fits =
-      let front = below_front (view_at pages) (i + 1) (length pages) (omega arith) in
-      more_fit (tallies_below (view_at pages) i) tallies front.0 old sums before
+      let front = below_front (view_at (map page_of pages)) (i + 1) (length pages) (omega arith) in
+      more_fit (tallies_below (view_at (map page_of pages)) i) tallies front.0 old sums before
       (subst (λ l. All (λ sum. FitsTally (with_tallies l sum)) old)
       (sym (ap (λ l. l ++ front.0) more_below ∙ front.1)) fits)
 
   pub page_added : (now : List Tally) → now ≡ map (with_tallies tallies) sums
-      → now ≡ map (with_tallies (tallies_below (view_at pages) (i + 1))) old
+      → now ≡ map (with_tallies (tallies_below (view_at (map page_of pages)) (i + 1))) old
   page_added now added =
-      add_more (tallies_below (view_at pages) i) tallies old sums now before added
+      add_more (tallies_below (view_at (map page_of pages)) i) tallies old sums now before added
       ∙ ap (λ l. map (with_tallies l) old) more_below
 
 -- what some tallies say of a task that has done nothing yet

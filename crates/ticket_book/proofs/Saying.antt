@@ -17,7 +17,6 @@ use Rattle.replay_model.specs.Roll.{BirthIsNew}
 use Rattle.replay_model.specs.Tickets.{TicketsAgree, ticket_at}
 use Rattle.replay_model.specs.Noted.{PageView}
 use Rattle.replay_model.specs.declared.page.StepFault.{StepFault}
-use Rattle.queue_replay.specs.Replay.{ReplayView}
 use Rattle.ticket_book.specs.Idling.{IsFirstLate, NoneLate, is_past}
 use Rattle.ticket_book.specs.Told.{Allow, AllowAct, cause_view, view_at}
 use Rattle.ticket_book.specs.Walk.{AllowShift, IsShiftCause, born_twice_on, failed_on}
@@ -145,12 +144,13 @@ no_idling event time None on late = λ h. h
 no_idling event time (Some fault) on late = λ h.
     true≢false (sym (ap (is_past time) h.1 ∙ lt-ltb h.0 time (subst (λ n. h.0 < n) on h.2)) ∙ late)
 
-module _ (pages : List ReplayView) (alive : ℕ → Bool) (event : Claimed) (time : ℕ) (on : event.entry.time ≡ time) where
+module _ (pages : List PageView) (cpus : ℕ) (count : length pages ≡ cpus) (alive : ℕ → Bool) (event : Claimed)
+    (time : ℕ) (on : event.entry.time ≡ time) where
   -- the lowest processor that is late
   pub idling_said : (cpu : ℕ) → IsFirstLate pages time cpu
-      → IsCauseOf (view_at pages) (length pages) alive event (record { cpu = cpu; pid = 0; kind = IdleTooLong })
+      → IsCauseOf (view_at pages) cpus alive event (record { cpu = cpu; pid = 0; kind = IdleTooLong })
   idling_said cpu first = inl (record {
-    within = first.within;
+    within = subst (λ n. cpu < n) count first.within;
     idles = says_idle event time (view_at pages cpu).fault on first.late;
     lowest = λ other lt. no_idling event time (view_at pages other).fault on (first.lowest other lt);
     pid = refl;
@@ -158,11 +158,11 @@ module _ (pages : List ReplayView) (alive : ℕ → Bool) (event : Claimed) (tim
   })
 
   -- where none is late, the answer on what the event does
-  pub act_said : NoneLate pages time (length pages) → (o : Option FirstFault)
+  pub act_said : NoneLate pages time cpus → (o : Option FirstFault)
       → MatchOption o (AllowAct (view_at pages) alive event)
       (λ found. IsActCauseOf (view_at pages) alive event event.entry.act (cause_view found))
-      → MatchOption o (Allow (view_at pages) (length pages) alive event)
-      (λ found. IsCauseOf (view_at pages) (length pages) alive event (cause_view found))
+      → MatchOption o (Allow (view_at pages) cpus alive event)
+      (λ found. IsCauseOf (view_at pages) cpus alive event (cause_view found))
   act_said none None h = record {
     no_idling = λ cpu lt. no_idling event time (view_at pages cpu).fault on (none cpu lt);
     act = h;

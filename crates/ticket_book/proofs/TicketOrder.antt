@@ -18,7 +18,7 @@ use Rattle.replay_model.specs.declared.page.Ticket.{Ticket}
 use Rattle.replay_model.specs.declared.step.Step.{Step}
 use Rattle.queue_replay.specs.Replay.{ReplayView}
 use Rattle.sched_record.proofs.Pairs.{pairs_head, pairs_tail}
-use Rattle.ticket_book.specs.Told.{view_at}
+use Rattle.ticket_book.specs.Told.{pages_of, view_at}
 use Rattle.ticket_book.specs.Walk.{TicketsRise}
 
 -- the page of its stream by the steps made, and the lines of the stream's steps rise
@@ -170,6 +170,38 @@ module _ (tickets : PageView → List Ticket) (by : Part → Step → List Ticke
       (λ view none. subst (λ ts. LinesNeverFall ts × AllByRecursion (λ (t : Ticket). t.line ≤ 0) ts) (sym none)
       (tt, tt)) start own.is_page)
 
+  -- so do those of a replay from where there were none, whatever fault its page then has
+  pub rise_from_none : (knobs : KnobsView) (cpu : ℕ) (before : ReplayStateView) (steps : List Step)
+      (end : ReplayStateView) (page : PageView) → tickets before.page ≡ [] → AllPairs (λ a b. a.line < b.line) steps
+      → IsReplay knobs cpu before steps end → tickets page ≡ tickets end.page
+      → AllPairs (λ t u. t.line ≤ u.line) (tickets page)
+  rise_from_none knobs cpu before steps end page none rise replay same =
+      pairs_from (tickets page)
+      (subst LinesNeverFall (sym same)
+      (rise_by_steps knobs cpu 0 before steps end (steps_from 0 steps (λ k d lt. omega arith) rise) replay
+      (subst (λ ts. LinesNeverFall ts × AllByRecursion (λ (t : Ticket). t.line ≤ 0) ts) (sym none) (tt, tt))))
+
+-- of the tickets that left and of those that came, behind the end test
+pub left_rise : (knobs : KnobsView) (cpu : ℕ) (before : ReplayStateView) (steps : List Step) (end : ReplayStateView)
+    (slack : ℕ) (stream : StreamView) (page : PageView) → before.page.left ≡ []
+    → AllPairs (λ a b. a.line < b.line) steps → IsReplay knobs cpu before steps end
+    → page ≡ end_page slack stream end.since end.page.fault end.page
+    → AllPairs (λ t u. t.line ≤ u.line) page.left
+left_rise knobs cpu before steps end slack stream page none rise replay is =
+    rise_from_none (λ view. view.left) left_of left_tickets (λ view o. refl) knobs cpu before steps end page none rise
+    replay (ap (λ (view : PageView). view.left) is
+    ∙ end_kept (λ view. view.left) left_of left_tickets (λ view o. refl) slack stream end.since end.page.fault end.page)
+
+pub came_rise : (knobs : KnobsView) (cpu : ℕ) (before : ReplayStateView) (steps : List Step) (end : ReplayStateView)
+    (slack : ℕ) (stream : StreamView) (page : PageView) → before.page.came ≡ []
+    → AllPairs (λ a b. a.line < b.line) steps → IsReplay knobs cpu before steps end
+    → page ≡ end_page slack stream end.since end.page.fault end.page
+    → AllPairs (λ t u. t.line ≤ u.line) page.came
+came_rise knobs cpu before steps end slack stream page none rise replay is =
+    rise_from_none (λ view. view.came) came_of came_tickets (λ view o. refl) knobs cpu before steps end page none rise
+    replay (ap (λ (view : PageView). view.came) is
+    ∙ end_kept (λ view. view.came) came_of came_tickets (λ view o. refl) slack stream end.since end.page.fault end.page)
+
 -- each of the pages is the page of its stream
 abbrev pub ArePagesInOrder : List ReplayView → Type 0
 ArePagesInOrder pages = (cpu : ℕ) (page : ReplayView) → slice_get pages cpu ≡ Some page → IsPageInOrder page
@@ -179,7 +211,7 @@ others page pages own cpu p is = own (suc cpu) p is
 
 -- those that left, and those that came
 all_left : (pages : List ReplayView) → ArePagesInOrder pages → (cpu : ℕ)
-    → AllPairs (λ t u. t.line ≤ u.line) (view_at pages cpu).left
+    → AllPairs (λ t u. t.line ≤ u.line) (view_at (pages_of pages) cpu).left
 all_left [] own cpu = λ i j d lt within. absurd (omega arith)
 all_left (page ∷ pages) own zero =
     rise_of (λ view. view.left) left_of left_tickets (λ view o. refl) page (own 0 page refl)
@@ -187,12 +219,12 @@ all_left (page ∷ pages) own zero =
 all_left (page ∷ pages) own (suc cpu) = all_left pages (others page pages own) cpu
 
 all_came : (pages : List ReplayView) → ArePagesInOrder pages → (cpu : ℕ)
-    → AllPairs (λ t u. t.line ≤ u.line) (view_at pages cpu).came
+    → AllPairs (λ t u. t.line ≤ u.line) (view_at (pages_of pages) cpu).came
 all_came [] own cpu = λ i j d lt within. absurd (omega arith)
 all_came (page ∷ pages) own zero =
     rise_of (λ view. view.came) came_of came_tickets (λ view o. refl) page (own 0 page refl)
     (λ s start. ap (λ view. view.came) start.page)
 all_came (page ∷ pages) own (suc cpu) = all_came pages (others page pages own) cpu
 
-pub own_tickets_rise : (pages : List ReplayView) → ArePagesInOrder pages → TicketsRise pages
+pub own_tickets_rise : (pages : List ReplayView) → ArePagesInOrder pages → TicketsRise (pages_of pages)
 own_tickets_rise pages own = record { left = all_left pages own; came = all_came pages own }

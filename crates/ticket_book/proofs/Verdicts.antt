@@ -31,7 +31,7 @@ use Rattle.sched_record.specs.Stream.{cut_of}
 use Rattle.ticket_book.specs.SaidEvents.{events_of}
 use Rattle.ticket_book.specs.SummaryView.{summary_view}
 use Rattle.ticket_book.specs.Tallying.{FitsTally}
-use Rattle.ticket_book.specs.Told.{Tell, cause_view, view_at}
+use Rattle.ticket_book.specs.Told.{Tell, cause_view, pages_of, view_at}
 use Rattle.ticket_book.specs.Verdict.{IsFaulty, IsScheduled, IsVerdict}
 use Rattle.ticket_book.specs.Walk.{TicketsRise}
 use Rattle.ticket_book.specs.Whole.{AreSufficient, SufficesBeside}
@@ -54,29 +54,29 @@ record_in_order r o =
 
 -- the page at an index
 pub page_there : (pages : List ReplayView) (cpu : ℕ) → cpu < length pages
-    → (page : ReplayView) × (slice_get pages cpu ≡ Some page) × (view_at pages cpu ≡ page.page)
+    → (page : ReplayView) × (slice_get pages cpu ≡ Some page) × (view_at (pages_of pages) cpu ≡ page.page)
 page_there [] cpu h = absurd (omega arith)
 page_there (page ∷ pages) zero h = (page, refl, refl)
 page_there (page ∷ pages) (suc cpu) h = page_there pages cpu (omega arith)
 
 -- a page that suffices, as the laws of the closing take it
 abbrev pub suffices_among : (knobs : KnobsView) (r : RecordView) (pages : List ReplayView) (cpu : ℕ) (page : ReplayView)
-    → SufficesBeside knobs r pages cpu page → view_at pages cpu ≡ page.page
-    → SufficesAmong knobs r.start r.floors r.tasks (events_of r) (length pages) (view_at pages) cpu
+    → SufficesBeside knobs r pages cpu page → view_at (pages_of pages) cpu ≡ page.page
+    → SufficesAmong knobs r.start r.floors r.tasks (events_of r) (length pages) (view_at (pages_of pages)) cpu
 suffices_among knobs r pages cpu page s is = record {
   made = page.made;
   is_page = subst (λ v. IsPageOf (cut_of r cpu) knobs page.made v) (sym is)
       (subst (λ t. IsPageOf t knobs page.made page.page) s.stream
       (subst (λ k. IsPageOf page.stream k page.made page.page) s.knobs_are s.is_page));
   enough = subst (λ (v : PageView). IsSome v.fault ⊎ (length (cut_of r cpu).steps ≤ page.made)
-      ⊎ HasFaultBy (view_at pages) (length pages) v.line) (sym is) s.enough;
+      ⊎ HasFaultBy (view_at (pages_of pages)) (length pages) v.line) (sym is) s.enough;
 }
 
 module _ (knobs : KnobsView) (r : RecordView) (pages : List ReplayView) (sufficient : AreSufficient knobs r pages) where
   -- each processor's page suffices
   abbrev pub AreTold : Type 0
   AreTold = (cpu : ℕ) → cpu < length pages
-      → SufficesAmong knobs r.start r.floors r.tasks (events_of r) (length pages) (view_at pages) cpu
+      → SufficesAmong knobs r.start r.floors r.tasks (events_of r) (length pages) (view_at (pages_of pages)) cpu
 
   pub all_suffice : AreTold
   all_suffice cpu h =
@@ -87,14 +87,14 @@ module _ (knobs : KnobsView) (r : RecordView) (pages : List ReplayView) (suffici
 
   -- what they say first is what is wrong
   pub fault_is_verdict : PagesTellFault → FaultIsFirstBad → IsRecordInOrder r → (fault : FirstFault)
-      → Tell (view_at pages) (length pages) r.tasks (events_of r) (Some fault) → IsFaulty knobs r fault
+      → Tell (view_at (pages_of pages)) (length pages) r.tasks (events_of r) (Some fault) → IsFaulty knobs r fault
   fault_is_verdict faults first_bad o fault tell =
       let first =
       subst (λ n. IsFirstFault knobs r.start (start_machine r.start r.floors r.tasks) (events_of r) n
       (cause_view fault))
       tell.line_is
       (faults knobs r.start r.floors r.tasks (events_of r) tell.before tell.rest tell.event (length pages)
-      (view_at pages)
+      (view_at (pages_of pages))
       (cause_view fault) (in_record o) all_suffice tell.whole tell.nothing tell.why) in
       record {
         line = first_bad knobs r.start r.floors r.tasks (events_of r) fault.line (cause_view fault) first;
@@ -102,23 +102,24 @@ module _ (knobs : KnobsView) (r : RecordView) (pages : List ReplayView) (suffici
       }
 
   module _ (o : IsRecordInOrder r)
-      (nothing : SayNothing (view_at pages) (length pages) r.tasks (events_of r)) where
+      (nothing : SayNothing (view_at (pages_of pages)) (length pages) r.tasks (events_of r)) where
     -- where they say nothing, the summary by them is the run's
     pub run_of : PagesTellSummary → (summary : Summary)
-        → summary_view summary ≡ summary_by (tallies_below (view_at pages) (length pages)) r.tasks (events_of r)
+        → summary_view summary ≡ summary_by (tallies_below (view_at (pages_of pages)) (length pages)) r.tasks
+        (events_of r)
         → IsVerdict knobs r (Run summary)
     run_of tells summary is =
         subst (IsScheduled knobs r) (sym is)
-        (tells knobs r.start r.floors r.tasks (events_of r) (length pages) (view_at pages)
+        (tells knobs r.start r.floors r.tasks (events_of r) (length pages) (view_at (pages_of pages))
         (in_record o) all_suffice nothing)
 
     -- and no sum of their tallies is too great
     pub sums_fit : PagesAddUp → TalliesBounded → (last_time last_line : ℕ) → last_time ≡ record_last_time r
         → last_time < 2 ^ 64
         → last_line ≡ record_last_line r → last_line < 2 ^ 32 → knobs.drift ≤ greatest_setting → (pids : List ℕ)
-        → All (λ pid. FitsTally (total_of (tallies_below (view_at pages) (length pages)) pid)) pids
+        → All (λ pid. FitsTally (total_of (tallies_below (view_at (pages_of pages)) (length pages)) pid)) pids
     sums_fit add_up bounded last_time last_line time_is time line_is line drift pids k d h =
-        let added = add_up knobs r.start r.floors r.tasks (events_of r) (length pages) (view_at pages)
+        let added = add_up knobs r.start r.floors r.tasks (events_of r) (length pages) (view_at (pages_of pages))
         (in_record o) all_suffice nothing in
         let pid = get_or pids k d in
         subst FitsTally (sym (added.1 pid))
@@ -133,7 +134,7 @@ module _ (knobs : KnobsView) (r : RecordView) (pages : List ReplayView) (suffici
         omega (arith, below, time_is))) added.0))
 
   -- the tickets on each page are in the order of their lines
-  pub tickets_rise : IsRecordInOrder r → TicketsRise pages
+  pub tickets_rise : IsRecordInOrder r → TicketsRise (pages_of pages)
   tickets_rise o =
       own_tickets_rise pages
       (λ cpu page is. record {

@@ -6,14 +6,13 @@ use Rattle.std.proofs.Math.ListN.{length-set}
 use Rattle.cfs_model.proofs.Moves.{same_or_not}
 use Rattle.replay_model.specs.Noted.{PageView}
 use Rattle.replay_model.specs.declared.page.Ticket.{Ticket}
-use Rattle.queue_replay.specs.Replay.{ReplayView}
 use Rattle.ticket_book.specs.TicketIndices.{AreBelow, PassesTo}
 use Rattle.ticket_book.specs.Told.{view_at}
 use Rattle.ticket_book.specs.Walk.{AreBehind, StandsAt}
 use Rattle.ticket_book.specs.declared.walk.Walk.{Walk}
 
 -- one index moved
-pub one_moved : (tickets : PageView → List Ticket) (pages : List ReplayView) (line cpu : ℕ) (before after : List ℕ)
+pub one_moved : (tickets : PageView → List Ticket) (pages : List PageView) (line cpu : ℕ) (before after : List ℕ)
     → AreBehind tickets pages line before → cpu < length pages
     → PassesTo cpu line (tickets (view_at pages cpu)) before after → AreBehind tickets pages line after
 one_moved tickets pages line cpu before after behind within passes =
@@ -33,14 +32,14 @@ one_moved tickets pages line cpu before after behind within passes =
     }
 
 -- before a line is before each later one
-behind_later : (tickets : PageView → List Ticket) (pages : List ReplayView) (line later : ℕ) (indices : List ℕ)
+behind_later : (tickets : PageView → List Ticket) (pages : List PageView) (line later : ℕ) (indices : List ℕ)
     → line ≤ later → AreBehind tickets pages line indices → AreBehind tickets pages later indices
 behind_later tickets pages line later indices le behind = record {
   count = behind.count;
   below = λ cpu h k d lt. let low = behind.below cpu h k d lt in omega arith;
 }
 
-pub stands_later : (pages : List ReplayView) (line later : ℕ) (walk : Walk) → line ≤ later → StandsAt pages line walk
+pub stands_later : (pages : List PageView) (line later : ℕ) (walk : Walk) → line ≤ later → StandsAt pages line walk
     → StandsAt pages later walk
 stands_later pages line later walk le stands = record {
   deadline = stands.deadline;

@@ -1,5 +1,5 @@
 -- How many of some events do what (this project's profile).
-use Rattle.std.specs.Prelude.{ℕ, ◌+◌, ◌<◌, if◌then◌else◌, Bool, List, count_by}
+use Rattle.std.specs.Prelude.{ℕ, ◌+◌, ◌^◌, ◌<◌, if◌then◌else◌, Bool, List, count_by}
 use Rattle.cfs_model.specs.declared.act.Entry.{Entry}
 use Rattle.replay_model.specs.Summary.{is_birth, is_death, is_migration, is_switch}
 use Rattle.ticket_book.specs.declared.event_counts.EventCounts.{EventCounts}
@@ -32,3 +32,19 @@ pub record AreCountsBelow (bound : ℕ) (counts : EventCounts) : Type 0 where
   pub migrations : counts.migrations < bound
   pub births : counts.births < bound
   pub deaths : counts.deaths < bound
+
+-- the counts of some events and of more
+abbrev pub plus_counts : EventCounts → EventCounts → EventCounts
+plus_counts counts more = record {
+  switches = counts.switches + more.switches;
+  migrations = counts.migrations + more.migrations;
+  births = counts.births + more.births;
+  deaths = counts.deaths + more.deaths;
+}
+
+-- no sum is too great
+pub record Fit (counts more : EventCounts) : Type 0 where
+  pub switches : counts.switches + more.switches < 2 ^ 64
+  pub migrations : counts.migrations + more.migrations < 2 ^ 64
+  pub births : counts.births + more.births < 2 ^ 64
+  pub deaths : counts.deaths + more.deaths < 2 ^ 64

@@ -2,7 +2,6 @@
 use Rattle.std.specs.Prelude.{◌≡◌, ℕ, ◌<◌, ◌≤◌, true, List, length, nat_lt, Bool, false, Option, Some, None}
 use Rattle.std.specs.Prelude.{option_and_then, ⊤}
 use Rattle.replay_model.specs.Noted.{PageView}
-use Rattle.queue_replay.specs.Replay.{ReplayView}
 use Rattle.ticket_book.specs.Told.{view_at}
 
 -- until when the processor could idle, where its page's fault is that it idled for longer
@@ -21,15 +20,15 @@ IsFrom None (Some deadline) = ⊥
 IsFrom (Some first) (Some deadline) = first ≤ deadline
 
 -- of the first so many processors none has an earlier deadline
-abbrev pub NoneFirst : List ReplayView → Option ℕ → ℕ → Type 0
+abbrev pub NoneFirst : List PageView → Option ℕ → ℕ → Type 0
 NoneFirst pages first count = (cpu : ℕ) → cpu < count → IsFrom first (deadline_on (view_at pages cpu))
 
 -- of the first so many processors none has its deadline before this time
-abbrev pub NoneLate : List ReplayView → ℕ → ℕ → Type 0
+abbrev pub NoneLate : List PageView → ℕ → ℕ → Type 0
 NoneLate pages time count = (cpu : ℕ) → cpu < count → is_past time (deadline_on (view_at pages cpu)) ≡ false
 
 -- this is the lowest processor that has
-pub record IsFirstLate (pages : List ReplayView) (time cpu : ℕ) : Type 0 where
+pub record IsFirstLate (pages : List PageView) (time cpu : ℕ) : Type 0 where
   pub within : cpu < length pages
   pub late : is_past time (deadline_on (view_at pages cpu)) ≡ true
   pub lowest : NoneLate pages time cpu

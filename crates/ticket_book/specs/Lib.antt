@@ -23,3 +23,5 @@ pub mod Told
 pub mod Verdict
 pub mod Walk
 pub mod Whole
+pub mod RunSums
+pub mod WindowBook

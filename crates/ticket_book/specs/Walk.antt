@@ -9,7 +9,6 @@ use Rattle.replay_model.specs.Tickets.{ticket_at}
 use Rattle.replay_model.specs.Noted.{PageView}
 use Rattle.replay_model.specs.declared.page.StepFault.{StepFault}
 use Rattle.replay_model.specs.declared.page.Ticket.{Ticket}
-use Rattle.queue_replay.specs.Replay.{ReplayView}
 use Rattle.ticket_book.specs.Idling.{NoneFirst}
 use Rattle.ticket_book.specs.TicketIndices.{AreBelow}
 use Rattle.ticket_book.specs.Told.{view_at}
@@ -17,19 +16,19 @@ use Rattle.replay_model.specs.declared.first_fault.FirstFault.{FirstFault}
 use Rattle.ticket_book.specs.declared.walk.Walk.{Walk}
 
 -- the lines of the tickets on each page never fall
-pub record TicketsRise (pages : List ReplayView) : Type 0 where
+pub record TicketsRise (pages : List PageView) : Type 0 where
   pub left : (cpu : ℕ) → AllPairs (λ t u. t.line ≤ u.line) (view_at pages cpu).left
   pub came : (cpu : ℕ) → AllPairs (λ t u. t.line ≤ u.line) (view_at pages cpu).came
 
 -- an index in each processor's tickets: those before it are of lines below this one
-pub record AreBehind (tickets : PageView → List Ticket) (pages : List ReplayView) (line : ℕ)
+pub record AreBehind (tickets : PageView → List Ticket) (pages : List PageView) (line : ℕ)
     (indices : List ℕ) : Type 0 where
   pub count : length indices ≡ length pages
   pub below : (cpu : ℕ) → cpu < length pages
       → AreBelow line (take (slice_index indices cpu) (tickets (view_at pages cpu)))
 
 -- the walk stands before an event on this line
-pub record StandsAt (pages : List ReplayView) (line : ℕ) (walk : Walk) : Type 0 where
+pub record StandsAt (pages : List PageView) (line : ℕ) (walk : Walk) : Type 0 where
   pub deadline : NoneFirst pages walk.deadline (length pages)
   pub left : AreBehind (λ page. page.left) pages line walk.left
   pub came : AreBehind (λ page. page.came) pages line walk.came

@@ -6,7 +6,7 @@ use Rattle.replay_model.specs.Page.{IsPageOf}
 use Rattle.queue_replay.specs.Replay.{ReplayView}
 use Rattle.sched_record.specs.Record.{RecordView}
 use Rattle.sched_record.specs.Stream.{cut_of}
-use Rattle.ticket_book.specs.Told.{view_at}
+use Rattle.ticket_book.specs.Told.{pages_of, view_at}
 
 -- the page is of the record's stream for a processor, with these settings
 pub record IsOwnPageOf (knobs : KnobsView) (r : RecordView) (cpu : ℕ) (page : ReplayView) : Type 0 where
@@ -29,7 +29,7 @@ pub record SufficesBeside (knobs : KnobsView) (r : RecordView) (pages : List Rep
   pub knobs_are : page.knobs ≡ knobs
   pub is_page : IsPageOf page.stream page.knobs page.made page.page
   pub enough : IsSome page.page.fault ⊎ (length (cut_of r cpu).steps ≤ page.made)
-      ⊎ HasFaultBy (view_at pages) (length pages) page.page.line
+      ⊎ HasFaultBy (view_at (pages_of pages)) (length pages) page.page.line
 
 -- one page for each processor of the record, in the order of their numbers, and each suffices beside the others
 pub record AreSufficient (knobs : KnobsView) (r : RecordView) (pages : List ReplayView) : Type 0 where

@@ -1,17 +1,22 @@
-ghost use Rattle.std.specs.Prelude.{◌≡◌, IfOk, length};
+ghost use Rattle.std.specs.Prelude.{◌≡◌, ℕ, ◌^◌, ◌<◌, All, AllPairs, List, None, Ok, IfOk, length, map};
+ghost use Rattle.cfs_model.specs.Claimed.{Claimed};
+ghost use Rattle.cfs_model.specs.Touch.{touched};
+ghost use Rattle.replay_model.specs.Roll.{roll_of};
+ghost use Rattle.ticket_book.specs.Alive.{alive_view};
 ghost use Rattle.sched_record.specs.Record.{record_view};
 ghost use Rattle.ticket_book.specs.SaidEvents.{events_of};
-ghost use Rattle.ticket_book.specs.Told.{Tell, view_at};
+ghost use Rattle.ticket_book.specs.Told.{Tell, TellFrom, pages_of, view_at};
 ghost use Rattle.ticket_book.specs.Verdict.{IsVerdict};
 ghost use Rattle.ticket_book.specs.Walk.{TicketsRise};
 ghost use Rattle.ticket_book.specs.Whole.{AreSufficient};
 
 use crate::Verdict;
+use crate::alive::Alive;
 use crate::summing::summary_by;
 use crate::walk::Walk;
-use cfs_model::{Knobs, Memory};
+use cfs_model::{Entry, Knobs, Memory};
 use pid_table::PidHasher;
-use queue_replay::Page;
+use queue_replay::{Page, Paged};
 use replay_laws::{closing, first_faults};
 use replay_model::FirstFault;
 use sched_record::Record;
@@ -53,16 +58,37 @@ pub(crate) fn told_by(
     joined: &Record,
 ) -> Result<Option<FirstFault>, Memory>
     requires count { length pages.now ≡ (record_view joined.now).cpus }
-    requires rise { TicketsRise pages.now }
-    ensures { IfOk result (Tell (view_at pages.now) (length pages.now) (record_view joined.now).tasks
+    requires rise { TicketsRise (pages_of pages.now) }
+    ensures { IfOk result (Tell (view_at (pages_of pages.now)) (length pages.now) (record_view joined.now).tasks
         (events_of (record_view joined.now))) }
 {
-    let mut walk = Walk::new(alloc, pages, joined.tasks())?;
-    for event in joined.events() {
-        if let Some(fault) = walk.fault(pages, event) {
+    let mut alive = Alive::new(alloc, joined.tasks())?;
+    told_from(alloc, pages, &mut alive, joined.events())
+}
+
+/// What the pages of all processors tell of some events, before which these pids are alive: the first thing that they
+/// say against one, or nothing. The events are walked once; where nothing is said, who is alive then goes past them.
+pub(crate) fn told_from<P: Paged>(
+    alloc: Global,
+    pages: &[P],
+    alive: &mut Alive,
+    events: &[Entry],
+) -> Result<Option<FirstFault>, Memory>
+    requires few { length pages.now < 2 ^ 32 }
+    requires inside { All (λ event. All (λ cpu. cpu < length pages.now) (touched event.act)) events.now }
+    requires in_order { AllPairs (λ a b. a.line < b.line) events.now }
+    requires rise { TicketsRise (map P.page pages.now) }
+    ensures told { (said : List Claimed) → map (λ event. event.entry) said ≡ events.now
+        → IfOk result (TellFrom (view_at (map P.page pages.now)) (length pages.now) (alive_view alive.old) said) }
+    ensures alive { (said : List Claimed) → map (λ event. event.entry) said ≡ events.now → result ≡ Ok None
+        → (pid : ℕ) → alive_view alive.new pid ≡ roll_of (alive_view alive.old) said pid }
+{
+    let mut walk = Walk::new(alloc, pages)?;
+    for event in events {
+        if let Some(fault) = walk.fault(pages, alive, event) {
             return Ok(Some(fault));
         }
-        walk.pass(event.act)?;
+        alive.pass(event.act)?;
     }
     Ok(None)
 }

@@ -1,6 +1,6 @@
 ghost use Rattle.std.specs.Prelude.{◌≡◌, ◌-◌, ◌^◌};
 ghost use Rattle.replay_model.specs.Summary.{is_birth, is_death, is_migration, is_switch};
-ghost use Rattle.ticket_book.specs.EventCounts.{AreCountsBelow, with_event};
+ghost use Rattle.ticket_book.specs.EventCounts.{AreCountsBelow, Fit, plus_counts, with_event};
 
 use cfs_model::{Act, Entry};
 
@@ -32,6 +32,19 @@ impl EventCounts {
             migrations: self.migrations + u64::from(is_migration(event.act)),
             births: self.births + u64::from(is_birth(event.act)),
             deaths: self.deaths + u64::from(is_death(event.act)),
+        }
+    }
+
+    /// With those of more events.
+    pub fn plus(self, more: EventCounts) -> EventCounts
+        requires { Fit self more }
+        ensures { result ≡ plus_counts self more }
+    {
+        EventCounts {
+            switches: self.switches + more.switches,
+            migrations: self.migrations + more.migrations,
+            births: self.births + more.births,
+            deaths: self.deaths + more.deaths,
         }
     }
 }

@@ -1,19 +1,19 @@
-ghost use Rattle.std.specs.Prelude.{◌≡◌, IfNone, IfSome, length};
+ghost use Rattle.std.specs.Prelude.{◌≡◌, IfNone, IfSome, length, map};
 ghost use Rattle.ticket_book.specs.Idling.{IsFirstLate, NoneFirst, NoneLate, deadline_on, is_past};
 
 use crate::lesser::lesser;
-use queue_replay::Page;
+use queue_replay::Paged;
 
 /// Until when the page's processor could idle, where its fault is that it idled for longer.
-fn deadline_on(page: &Page) -> Option<u64>
-    ensures { result ≡ deadline_on page.now.page }
+fn deadline_on<P: Paged>(page: &P) -> Option<u64>
+    ensures { result ≡ deadline_on (P.page page.now) }
 {
     page.fault().and_then(|fault| fault.deadline)
 }
 
 /// The first deadline on the pages.
-pub(crate) fn first_deadline(pages: &[Page]) -> Option<u64>
-    ensures { NoneFirst pages.now result (length pages.now) }
+pub(crate) fn first_deadline<P: Paged>(pages: &[P]) -> Option<u64>
+    ensures { NoneFirst (map P.page pages.now) result (length pages.now) }
 {
     let mut first = None;
     for page in pages {
@@ -23,10 +23,10 @@ pub(crate) fn first_deadline(pages: &[Page]) -> Option<u64>
 }
 
 /// The lowest processor whose deadline is before a time, where the first of all is known.
-pub(crate) fn late(pages: &[Page], first: Option<u64>, time: u64) -> Option<usize>
-    requires { NoneFirst pages.now first (length pages.now) }
-    ensures none { IfNone result (NoneLate pages.now time (length pages.now)) }
-    ensures found { IfSome result (λ cpu. IsFirstLate pages.now time cpu) }
+pub(crate) fn late<P: Paged>(pages: &[P], first: Option<u64>, time: u64) -> Option<usize>
+    requires { NoneFirst (map P.page pages.now) first (length pages.now) }
+    ensures none { IfNone result (NoneLate (map P.page pages.now) time (length pages.now)) }
+    ensures found { IfSome result (λ cpu. IsFirstLate (map P.page pages.now) time cpu) }
 {
     match first {
         Some(deadline) if deadline < time => first_late(pages, time),
@@ -35,9 +35,9 @@ pub(crate) fn late(pages: &[Page], first: Option<u64>, time: u64) -> Option<usiz
 }
 
 /// The lowest processor whose deadline is before a time.
-fn first_late(pages: &[Page], time: u64) -> Option<usize>
-    ensures none { IfNone result (NoneLate pages.now time (length pages.now)) }
-    ensures found { IfSome result (λ cpu. IsFirstLate pages.now time cpu) }
+fn first_late<P: Paged>(pages: &[P], time: u64) -> Option<usize>
+    ensures none { IfNone result (NoneLate (map P.page pages.now) time (length pages.now)) }
+    ensures found { IfSome result (λ cpu. IsFirstLate (map P.page pages.now) time cpu) }
 {
     for (cpu, page) in pages.iter().enumerate() {
         if is_late(page, time) {
@@ -48,8 +48,8 @@ fn first_late(pages: &[Page], time: u64) -> Option<usize>
 }
 
 /// Whether the page's deadline is before a time.
-fn is_late(page: &Page, time: u64) -> bool
-    ensures { result ≡ is_past time (deadline_on page.now.page) }
+fn is_late<P: Paged>(page: &P, time: u64) -> bool
+    ensures { result ≡ is_past time (deadline_on (P.page page.now)) }
 {
     deadline_on(page).is_some_and(|deadline| deadline < time)
 }

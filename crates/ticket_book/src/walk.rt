@@ -1,10 +1,9 @@
-ghost use Rattle.std.specs.Prelude.{◌≡◌, ◌≢◌, ◌<◌, ◌^◌, ℕ, All, IfOk, IfSome, MatchOption, OnOk, length};
+ghost use Rattle.std.specs.Prelude.{◌≡◌, ◌≢◌, ◌<◌, ◌^◌, ℕ, All, IfOk, IfSome, MatchOption, length, map};
 ghost use Rattle.std.specs.Bool.{OnFalse, OnTrue};
 ghost use Rattle.std.specs.Option.{option_or};
 ghost use Rattle.cfs_model.specs.Claimed.{Claimed};
 ghost use Rattle.cfs_model.specs.Touch.{touched};
 ghost use Rattle.replay_laws.specs.Telling.{IsActCauseOf, IsCauseOf};
-ghost use Rattle.replay_model.specs.Roll.{named, roll_after};
 ghost use Rattle.replay_model.specs.Tickets.{ticket_at};
 ghost use Rattle.ticket_book.specs.Alive.{alive_view};
 ghost use Rattle.ticket_book.specs.Told.{Allow, AllowAct, cause_view, view_at};
@@ -13,8 +12,8 @@ ghost use Rattle.ticket_book.specs.Walk.{AllowShift, IsShiftCause, StandsAt, Tic
 use crate::alive::Alive;
 use crate::idling::{first_deadline, late};
 use crate::ticket_indices::TicketIndices;
-use cfs_model::{Act, Entry, Kind, Memory, Task};
-use queue_replay::Page;
+use cfs_model::{Act, Entry, Kind, Memory};
+use queue_replay::Paged;
 use replay_model::{FirstFault, StepFault, Ticket};
 use std::alloc::Global;
 
@@ -26,37 +25,37 @@ pub(crate) struct Walk {
     /// How far the walk has come in the tickets of the tasks that left, and of those that came.
     left: TicketIndices,
     came: TicketIndices,
-    /// Who is alive before the next event.
-    alive: Alive,
 }
 
 impl Walk {
     /// The walk before the first event.
-    pub(crate) fn new(alloc: Global, pages: &[Page], tasks: &[Task]) -> Result<Walk, Memory>
-        ensures stands { IfOk result (λ walk. (line : ℕ) → StandsAt pages.now line walk) }
-        ensures alive { IfOk result (λ walk. (pid : ℕ) → alive_view walk.alive pid ≡ named tasks.now pid) }
+    pub(crate) fn new<P: Paged>(alloc: Global, pages: &[P]) -> Result<Walk, Memory>
+        ensures { IfOk result (λ walk. (line : ℕ) → StandsAt (map P.page pages.now) line walk) }
     {
         Ok(Walk {
             deadline: first_deadline(pages),
             left: TicketIndices::new(alloc, pages.len())?,
             came: TicketIndices::new(alloc, pages.len())?,
-            alive: Alive::new(alloc, tasks)?,
         })
     }
 
     /// The first thing that the pages say against the next event.
-    pub(crate) fn fault(&mut self, pages: &[Page], event: &Entry) -> Option<FirstFault>
+    pub(crate) fn fault<P: Paged>(
+        &mut self,
+        pages: &[P],
+        alive: &Alive,
+        event: &Entry,
+    ) -> Option<FirstFault>
         requires few { length pages.now < 2 ^ 32 }
         requires inside { All (λ cpu. cpu < length pages.now) (touched event.now.act) }
-        requires rise { TicketsRise pages.now }
-        requires stands { StandsAt pages.now event.now.line self.old }
+        requires rise { TicketsRise (map P.page pages.now) }
+        requires stands { StandsAt (map P.page pages.now) event.now.line self.old }
         ensures said { (said : Claimed) → said.entry ≡ event.now → MatchOption result
-            (Allow (view_at pages.now) (length pages.now) (alive_view self.old.alive) said)
-            (λ fault. IsCauseOf (view_at pages.now) (length pages.now) (alive_view self.old.alive) said
+            (Allow (view_at (map P.page pages.now)) (length pages.now) (alive_view alive.now) said)
+            (λ fault. IsCauseOf (view_at (map P.page pages.now)) (length pages.now) (alive_view alive.now) said
             (cause_view fault)) }
         ensures line { IfSome result (λ fault. fault.line ≡ event.now.line) }
-        ensures stands { StandsAt pages.now event.now.line self.new }
-        ensures alive { self.new.alive ≡ self.old.alive }
+        ensures stands { StandsAt (map P.page pages.now) event.now.line self.new }
     {
         if let Some(cpu) = late(pages, self.deadline, event.time) {
             return Some(FirstFault {
@@ -66,25 +65,31 @@ impl Walk {
                 kind: Kind::IdleTooLong,
             });
         }
-        self.act_fault(pages, event.line, event.act)
+        self.act_fault(pages, alive, event.line, event.act)
     }
 
     /// The first thing that they say against what it does.
-    fn act_fault(&mut self, pages: &[Page], line: u32, act: Act) -> Option<FirstFault>
+    fn act_fault<P: Paged>(
+        &mut self,
+        pages: &[P],
+        alive: &Alive,
+        line: u32,
+        act: Act,
+    ) -> Option<FirstFault>
         requires inside { All (λ cpu. cpu < length pages.now) (touched act) }
-        requires rise { TicketsRise pages.now }
-        requires stands { StandsAt pages.now line self.old }
+        requires rise { TicketsRise (map P.page pages.now) }
+        requires stands { StandsAt (map P.page pages.now) line self.old }
         ensures said { (said : Claimed) → said.entry.line ≡ line → said.entry.act ≡ act → MatchOption result
-            (AllowAct (view_at pages.now) (alive_view self.old.alive) said)
-            (λ fault. IsActCauseOf (view_at pages.now) (alive_view self.old.alive) said act (cause_view fault)) }
+            (AllowAct (view_at (map P.page pages.now)) (alive_view alive.now) said)
+            (λ fault. IsActCauseOf (view_at (map P.page pages.now)) (alive_view alive.now) said act
+            (cause_view fault)) }
         ensures line { IfSome result (λ fault. fault.line ≡ line) }
-        ensures stands { StandsAt pages.now line self.new }
-        ensures alive { self.new.alive ≡ self.old.alive }
+        ensures stands { StandsAt (map P.page pages.now) line self.new }
     {
         match act {
             Act::Switch { cpu, .. } => failed_at(pages, cpu, line),
             Act::Wake { cpu, .. } => failed_at(pages, cpu, line),
-            Act::Born { cpu, pid, .. } => self.birth_fault(pages, cpu, pid, line),
+            Act::Born { cpu, pid, .. } => birth_fault(pages, alive, cpu, pid, line),
             Act::Shift {
                 orig,
                 dest,
@@ -94,32 +99,10 @@ impl Walk {
         }
     }
 
-    /// The first thing that they say against a birth.
-    fn birth_fault(&self, pages: &[Page], cpu: u32, pid: u32, line: u32) -> Option<FirstFault>
-        requires { cpu < length pages.now }
-        ensures fault { result ≡ option_or (failed_on cpu line (view_at pages.now cpu).fault)
-            (born_twice_on cpu pid line (alive_view self.now.alive pid)) }
-        ensures line { IfSome result (λ fault. fault.line ≡ line) }
-    {
-        if let Some(fault) = failed_at(pages, cpu, line) {
-            return Some(fault);
-        }
-        if self.alive.has(pid) {
-            Some(FirstFault {
-                line,
-                cpu,
-                pid,
-                kind: Kind::BornTwice,
-            })
-        } else {
-            None
-        }
-    }
-
     /// The first thing that they say against a migration.
-    fn shift_fault(
+    fn shift_fault<P: Paged>(
         &mut self,
-        pages: &[Page],
+        pages: &[P],
         orig: u32,
         dest: u32,
         pid: u32,
@@ -127,14 +110,13 @@ impl Walk {
     ) -> Option<FirstFault>
         requires orig { orig < length pages.now }
         requires dest { dest < length pages.now }
-        requires rise { TicketsRise pages.now }
-        requires stands { StandsAt pages.now line self.old }
+        requires rise { TicketsRise (map P.page pages.now) }
+        requires stands { StandsAt (map P.page pages.now) line self.old }
         ensures said { (event : Claimed) → event.entry.line ≡ line → MatchOption result
-            (AllowShift (view_at pages.now) orig dest event)
-            (λ fault. IsShiftCause (view_at pages.now) orig dest pid event (cause_view fault)) }
+            (AllowShift (view_at (map P.page pages.now)) orig dest event)
+            (λ fault. IsShiftCause (view_at (map P.page pages.now)) orig dest pid event (cause_view fault)) }
         ensures line { IfSome result (λ fault. fault.line ≡ line) }
-        ensures stands { StandsAt pages.now line self.new }
-        ensures alive { self.new.alive ≡ self.old.alive }
+        ensures stands { StandsAt (map P.page pages.now) line self.new }
     {
         if let Some(fault) = failed_at(pages, orig, line) {
             return Some(fault);
@@ -155,17 +137,16 @@ impl Walk {
     }
 
     /// Whether the tickets of a migration differ: the one on its origin's page and the one on its destination's.
-    fn tickets_differ(&mut self, pages: &[Page], orig: u32, dest: u32, line: u32) -> bool
+    fn tickets_differ<P: Paged>(&mut self, pages: &[P], orig: u32, dest: u32, line: u32) -> bool
         requires orig { orig < length pages.now }
         requires dest { dest < length pages.now }
-        requires rise { TicketsRise pages.now }
-        requires stands { StandsAt pages.now line self.old }
-        ensures differ { OnTrue result (ticket_at line (view_at pages.now orig).left ≢ ticket_at line
-            (view_at pages.now dest).came) }
-        ensures same { OnFalse result (ticket_at line (view_at pages.now orig).left ≡ ticket_at line
-            (view_at pages.now dest).came) }
-        ensures stands { StandsAt pages.now line self.new }
-        ensures alive { self.new.alive ≡ self.old.alive }
+        requires rise { TicketsRise (map P.page pages.now) }
+        requires stands { StandsAt (map P.page pages.now) line self.old }
+        ensures differ { OnTrue result (ticket_at line (view_at (map P.page pages.now) orig).left ≢ ticket_at line
+            (view_at (map P.page pages.now) dest).came) }
+        ensures same { OnFalse result (ticket_at line (view_at (map P.page pages.now) orig).left ≡ ticket_at line
+            (view_at (map P.page pages.now) dest).came) }
+        ensures stands { StandsAt (map P.page pages.now) line self.new }
     {
         let left = pages[orig as usize].left();
         let came = pages[dest as usize].came();
@@ -173,23 +154,40 @@ impl Walk {
         let comes = self.came.ticket(dest as usize, came, line);
         differ(leaves, comes)
     }
+}
 
-    /// Goes past an event.
-    pub(crate) fn pass(&mut self, act: Act) -> Result<(), Memory>
-        ensures alive { OnOk result ((pid : ℕ)
-            → alive_view self.new.alive pid ≡ roll_after (alive_view self.old.alive) act pid) }
-        ensures deadline { self.new.deadline ≡ self.old.deadline }
-        ensures left { self.new.left ≡ self.old.left }
-        ensures came { self.new.came ≡ self.old.came }
-    {
-        self.alive.pass(act)
+/// The first thing that they say against a birth.
+fn birth_fault<P: Paged>(
+    pages: &[P],
+    alive: &Alive,
+    cpu: u32,
+    pid: u32,
+    line: u32,
+) -> Option<FirstFault>
+    requires { cpu < length pages.now }
+    ensures fault { result ≡ option_or (failed_on cpu line (view_at (map P.page pages.now) cpu).fault)
+        (born_twice_on cpu pid line (alive_view alive.now pid)) }
+    ensures line { IfSome result (λ fault. fault.line ≡ line) }
+{
+    if let Some(fault) = failed_at(pages, cpu, line) {
+        return Some(fault);
+    }
+    if alive.has(pid) {
+        Some(FirstFault {
+            line,
+            cpu,
+            pid,
+            kind: Kind::BornTwice,
+        })
+    } else {
+        None
     }
 }
 
 /// The fault on a processor's page, where it is of a test that failed at this line.
-fn failed_at(pages: &[Page], cpu: u32, line: u32) -> Option<FirstFault>
+fn failed_at<P: Paged>(pages: &[P], cpu: u32, line: u32) -> Option<FirstFault>
     requires { cpu < length pages.now }
-    ensures fault { result ≡ failed_on cpu line (view_at pages.now cpu).fault }
+    ensures fault { result ≡ failed_on cpu line (view_at (map P.page pages.now) cpu).fault }
     ensures line { IfSome result (λ fault. fault.line ≡ line) }
 {
     failed_by(pages[cpu as usize].fault(), cpu, line)

@@ -15,6 +15,7 @@ use std::sync::Wait;
 use std::test::Fail;
 use std::thread::Threads;
 use ticket_book::{Closed, ClosedLeast, LeastSettings, Verdict};
+use window_audit::audit_in_windows;
 
 /// The line, processor, pid and kind of a fault, where there is one.
 pub(crate) type MaybeFault = Option<(u32, u32, u32, Kind)>;
@@ -107,6 +108,33 @@ pub(crate) fn wants_alone<R: Abort>(
 ) -> Result<(), Fail> {
     let told = told_alone(alloc, recording)?;
     wants_about(rt, recording.name, &told, &(0, recording.fault));
+    Ok(())
+}
+
+/// What windows of at most so many events come to on a recording.
+fn told_in_windows<R: Threads + Sync>(
+    rt: &R,
+    alloc: Global,
+    recording: &Recording,
+    size: usize,
+) -> Result<MaybeFault, Fail> {
+    let record = record_of(alloc, recording)?;
+    let knobs = Knobs::standard();
+    let verdict = audit_in_windows(rt, alloc, &record, knobs, PidHasher::fixed(), size.max(1))?;
+    Ok(fault_of(verdict))
+}
+
+/// Ends the test where windows of one of these sizes come to something else on a recording than to its fault.
+pub(crate) fn wants_in_windows<R: Abort + Threads + Sync>(
+    rt: &R,
+    alloc: Global,
+    recording: &Recording,
+    sizes: &[usize],
+) -> Result<(), Fail> {
+    for size in sizes {
+        let told = told_in_windows(rt, alloc, recording, *size)?;
+        wants_about(rt, recording.name, &told, &recording.fault);
+    }
     Ok(())
 }
 

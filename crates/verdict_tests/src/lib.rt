@@ -31,3 +31,5 @@ mod stops;
 mod told_charges;
 #[cfg(test)]
 mod verdicts;
+#[cfg(test)]
+mod windows;

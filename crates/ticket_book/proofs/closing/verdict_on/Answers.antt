@@ -3,7 +3,7 @@ use Rattle.cfs_model.specs.Limits.{greatest_setting}
 use Rattle.replay_model.specs.Summary.{tasks_of_run}
 use Rattle.sched_record.specs.Record.{record_view}
 use Rattle.ticket_book.specs.SaidEvents.{events_of}
-use Rattle.ticket_book.specs.Told.{Tell, view_at}
+use Rattle.ticket_book.specs.Told.{Tell, pages_of, view_at}
 use Rattle.ticket_book.proofs.Verdicts.{fault_is_verdict, run_of, sums_fit, tickets_rise}
 use Rattle.ticket_book.proofs.closing.verdict_on.Goals as goal
 
@@ -18,14 +18,14 @@ returns-in-Some c =
     fault_is_verdict c.args.knobs r pages c.requires c.closing.ensures.fault c.first_faults.ensures.first_bad
     c.args.joined.now.in_order
     c.in-Some.fault
-    (subst (Tell (view_at pages) (length pages) r.tasks (events_of r)) c.in-Some.is c.in_ok-fault.ensures)
+    (subst (Tell (view_at (pages_of pages)) (length pages) r.tasks (events_of r)) c.in-Some.is c.in_ok-fault.ensures)
 
 pub summary_by-requires : goal.summary_by-requires
 summary_by-requires c =
     let r = record_view c.args.joined.now in
     let pages = c.args.pages.now in
     let order = c.args.joined.now.in_order in
-    let nothing = subst (Tell (view_at pages) (length pages) r.tasks (events_of r)) c.in-None.is
+    let nothing = subst (Tell (view_at (pages_of pages)) (length pages) r.tasks (events_of r)) c.in-None.is
     c.in_ok-fault.ensures in
     sums_fit c.args.knobs r pages c.requires order
     nothing c.tallying.ensures.totals c.tallying.ensures.bounded c.last_time.result c.last_line.result
@@ -39,7 +39,7 @@ returns-in_ok-summary_by-in-None c =
     let r = record_view c.args.joined.now in
     let pages = c.args.pages.now in
     let order = c.args.joined.now.in_order in
-    let nothing = subst (Tell (view_at pages) (length pages) r.tasks (events_of r)) c.in-None.is
+    let nothing = subst (Tell (view_at (pages_of pages)) (length pages) r.tasks (events_of r)) c.in-None.is
     c.in_ok-fault.ensures in
     run_of c.args.knobs r pages c.requires order
     nothing c.tallying.ensures.summary c.in_ok-summary_by-in-None.field-0 c.in_ok-summary_by-in-None.ensures

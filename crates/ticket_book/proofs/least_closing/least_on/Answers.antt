@@ -5,7 +5,7 @@ use Rattle.cfs_model.specs.Start.{start_machine}
 use Rattle.replay_laws.specs.Telling.{SayNothing}
 use Rattle.sched_record.specs.Record.{record_view}
 use Rattle.ticket_book.specs.SaidEvents.{events_of}
-use Rattle.ticket_book.specs.Told.{Tell, view_at}
+use Rattle.ticket_book.specs.Told.{Tell, pages_of, view_at}
 use Rattle.ticket_book.proofs.LeastFound.{bad_of, in_range, least_of}
 use Rattle.ticket_book.proofs.Verdicts.{tickets_rise}
 use Rattle.ticket_book.proofs.least_closing.least_on.Goals as goal
@@ -22,15 +22,15 @@ returns-in-Some c =
     let pages = c.args.pages.now in
     bad_of r pages c.requires c.args.joined.now.in_order c.closing.ensures.fault c.first_faults.ensures.first_bad
     c.least_settings.ensures.bad_at_all c.in-Some.fault
-    (subst (Tell (view_at pages) (length pages) r.tasks (events_of r)) c.in-Some.is c.in_ok-fault.ensures)
+    (subst (Tell (view_at (pages_of pages)) (length pages) r.tasks (events_of r)) c.in-Some.is c.in_ok-fault.ensures)
 
 -- the pages say nothing against any event
 nothing : (c : After-largest_needs) → let r = record_view c.args.joined.now in let pages = c.args.pages.now in
-    SayNothing (view_at pages) (length pages) r.tasks (events_of r)
+    SayNothing (view_at (pages_of pages)) (length pages) r.tasks (events_of r)
 nothing c =
     let r = record_view c.args.joined.now in
     let pages = c.args.pages.now in
-    subst (Tell (view_at pages) (length pages) r.tasks (events_of r)) c.in-None.is c.in_ok-fault.ensures
+    subst (Tell (view_at (pages_of pages)) (length pages) r.tasks (events_of r)) c.in-None.is c.in_ok-fault.ensures
 
 pub knobs_of-requires : goal.knobs_of-requires
 knobs_of-requires c =

@@ -1,0 +1,26 @@
+-- A window of a record, as contracts see it: a stretch of its events, each with what the companion says on its line
+-- (this project's profile).
+use Rattle.std.specs.Prelude.{List, [], ◌∷◌}
+use Rattle.cfs_model.specs.Claimed.{Claimed}
+use Rattle.cfs_model.specs.declared.act.Entry.{Entry}
+use Rattle.sched_record.specs.declared.window.Saying.{Saying}
+use Rattle.sched_record.specs.declared.window.Window.{Window}
+
+-- an event with what is said on its line
+abbrev pub said_of : Entry → Saying → Claimed
+said_of event saying = record {
+  entry = event;
+  claim = saying.claim;
+  nice = saying.nice;
+  charge = saying.charge;
+  policy = saying.policy;
+}
+
+-- events, each with what is said on its line
+abbrev pub said_beside : List Entry → List Saying → List Claimed
+said_beside [] sayings = []
+said_beside (event ∷ events) [] = []
+said_beside (event ∷ events) (saying ∷ sayings) = said_of event saying ∷ said_beside events sayings
+
+abbrev pub window_view : Window → List Claimed
+window_view window = said_beside window.events.items window.sayings.items

@@ -1,0 +1,4 @@
+pub mod Lists
+pub mod Passing
+pub mod Ending
+pub mod WholeRecord

@@ -1,0 +1,11 @@
+//! The audit of a record that comes in windows: each processor's replay goes on window after window, and between two
+//! only where it stands is kept.
+#![tactic(auto)]
+
+mod audit;
+mod member;
+mod members;
+mod whole;
+
+pub use audit::WindowAudit;
+pub use whole::audit_in_windows;

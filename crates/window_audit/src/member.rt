@@ -1,0 +1,94 @@
+ghost use Rattle.std.specs.Prelude.{◌≡◌, ◌+◌, ◌^◌, ◌<◌, [], false, length, IfOk, OnOk};
+ghost use Rattle.replay_model.specs.Cut.{steps_at};
+ghost use Rattle.replay_model.specs.Noted.{PageView};
+ghost use Rattle.queue_replay.specs.Windowed.{windowed_view};
+ghost use Rattle.sched_record.specs.Window.{window_view};
+ghost use Rattle.window_audit.specs.Member.{IsThroughWindow, replay_of};
+
+use cfs_model::Memory;
+use queue_replay::{Paged, WindowedReplay};
+use replay_model::{Step, StepFault, Tally, Ticket};
+use sched_record::Window;
+use std::alloc::Global;
+
+/// One processor of an audit in windows.
+#[derive(Drop)]
+pub(crate) struct Member {
+    pub replay: WindowedReplay,
+    /// The steps of the window at hand; the room for them is used again.
+    pub steps: Vec<Step>,
+    /// Whether a growth was refused in it.
+    pub wants_memory: bool,
+}
+
+impl Member {
+    /// One before the first window.
+    pub(crate) fn new(alloc: Global, replay: WindowedReplay) -> Member
+        ensures { replay_of result ≡ windowed_view replay }
+    {
+        Member {
+            replay,
+            steps: Vec::new(alloc),
+            wants_memory: false,
+        }
+    }
+
+    /// Deals the window's steps, replays them, and makes the end test at the time and line of its last event.
+    pub(crate) fn go_through(&mut self, window: &Window, last_time: u64, last_line: u32)
+        requires { (replay_of self.old).made + length (steps_at (replay_of self.old).cpu (window_view window.now))
+            < 2 ^ 64 }
+        ensures { self.new.wants_memory ≡ false → IsThroughWindow (replay_of self.old)
+            (steps_at (replay_of self.old).cpu (window_view window.now)) last_time last_line (replay_of self.new) }
+    {
+        let answer = self.try_through(window, last_time, last_line);
+        self.wants_memory = answer.is_err();
+    }
+
+    fn try_through(&mut self, window: &Window, last_time: u64, last_line: u32) -> Result<(), Memory>
+        requires { (replay_of self.old).made + length (steps_at (replay_of self.old).cpu (window_view window.now))
+            < 2 ^ 64 }
+        ensures { OnOk result (IsThroughWindow (replay_of self.old)
+            (steps_at (replay_of self.old).cpu (window_view window.now)) last_time last_line (replay_of self.new)) }
+    {
+        window.deal(self.replay.cpu(), &mut self.steps)?;
+        self.replay.go_through(&self.steps)?;
+        self.replay.end_window(last_time, last_line);
+        Ok(())
+    }
+
+    /// Empties the lists of its page.
+    pub(crate) fn forget(&mut self)
+        ensures { replay_of self.new ≡ record (replay_of self.old) {
+          state = record ((replay_of self.old).state) {
+            page = record ((replay_of self.old).state.page) {
+              left = [];
+              came = [];
+              births = [];
+              deaths = [];
+            };
+          };
+        } }
+    {
+        self.replay.forget();
+    }
+}
+
+impl Paged for Member {
+    ghost page = { λ member. (replay_of member).state.page };
+
+    fn fault(&self) -> Option<StepFault> {
+        self.replay.fault()
+    }
+
+    fn left(&self) -> &[Ticket] {
+        self.replay.left()
+    }
+
+    fn came(&self) -> &[Ticket] {
+        self.replay.came()
+    }
+
+    fn tallies(&self) -> &[Tally] {
+        self.replay.tallies()
+    }
+}

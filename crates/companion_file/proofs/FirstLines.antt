@@ -13,7 +13,7 @@ first_is_content line version (inl p) = ap is_comment p.0
 first_is_content line version (inr (inl p)) = ap is_comment p.0
 first_is_content line version (inr (inr p)) = ap is_comment p.0
 
-first_no_comment : (line : List ℕ) (version : ℕ) → IsFirstLine line version → ¬ IsComment line
+pub first_no_comment : (line : List ℕ) (version : ℕ) → IsFirstLine line version → ¬ IsComment line
 first_no_comment line version first comment = let content = first_is_content line version first in absurd cc
 
 past_by : (comment : List ℕ) (lines comments : List (List ℕ)) (line : List ℕ) (rest : List (List ℕ)) (version : ℕ)
@@ -61,12 +61,12 @@ named_by line lines (c ∷ comments) first rest version content parts are names 
     absurd (content (subst (λ (l : List ℕ). IsComment l) same (All-head (λ (l : List ℕ). IsComment l) c comments are)))
 
 -- a line that is no comment names the version itself
-first_names : (line : List ℕ) (lines : List (List ℕ)) (version : ℕ) → ¬ IsComment line
+pub first_names : (line : List ℕ) (lines : List (List ℕ)) (version : ℕ) → ¬ IsComment line
     → AreOfVersion (line ∷ lines) version → IsFirstLine line version
 first_names line lines version content a =
     named_by line lines a.comments a.line a.rest version content a.parts a.are_comments a.is_first
 
-named_first : (line : List ℕ) (lines : List (List ℕ)) (version : ℕ) → IsFirstLine line version
+pub named_first : (line : List ℕ) (lines : List (List ℕ)) (version : ℕ) → IsFirstLine line version
     → AreOfVersion (line ∷ lines) version
 named_first line lines version names = record {
   comments = [];

@@ -15,7 +15,7 @@ pub adds_tested : (old : Said) (x : Shape) (r : Result Unit Refusal) (new : Said
     → Adds old x r new → AddsTested old x r new
 adds_tested old x (Ok u) new none adds = (none, adds)
 adds_tested old x (Err (refusals.Bad cause)) new none adds = absurd adds
-adds_tested old x (Err refusals.Memory) new none adds = tt
+adds_tested old x (Err refusals.Memory) new none adds = adds
 
 pub is_there : (tasks : List Task) (pid index : ℕ) → IsTaskIndex tasks pid index → is_task tasks pid ≡ true
 is_there [] pid index at = let within = at.within in absurd (omega (arith, within))

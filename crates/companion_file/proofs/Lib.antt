@@ -6,7 +6,9 @@ pub mod Finishing
 pub mod FirstLines
 pub mod GoodLines
 pub mod GrowingOrder
+pub mod GoingOn
 pub mod HeadLength
+pub mod Holding
 pub mod Idling
 pub mod KeptOrder
 pub mod KnownLines
@@ -19,8 +21,10 @@ pub mod Policies
 pub mod Reaching
 pub mod ReadFields
 pub mod ReadShapes
+pub mod Reader
 pub mod Rising
 pub mod Sorting
 pub mod Starts
 pub mod Summing
 pub mod Taking
+pub mod UsualClaims

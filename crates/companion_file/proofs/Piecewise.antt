@@ -96,11 +96,11 @@ grows_nothing said = record {
   idles = λ e. e;
 }
 
-no_push : {A : Type 0} (xs : List A) (x : A) → ¬ (xs ++ x ∷ [] ≡ [])
+pub no_push : {A : Type 0} (xs : List A) (x : A) → ¬ (xs ++ x ∷ [] ≡ [])
 no_push [] x e = absurd cc
 no_push (y ∷ ys) x e = absurd cc
 
-map_nil : {A B : Type 0} (f : A → B) (xs : List A) → map f xs ≡ [] → xs ≡ []
+pub map_nil : {A B : Type 0} (f : A → B) (xs : List A) → map f xs ≡ [] → xs ≡ []
 map_nil f [] e = refl
 map_nil f (x ∷ xs) e = absurd cc
 
@@ -232,7 +232,7 @@ past_up : (o : Option ChargeLine) (a b : ℕ) → a < b → option_map_or (λ la
 past_up None a b less ok = refl
 past_up (Some k) a b less ok = grind (arith, nat_tests)
 
-both_true : (a b : Bool) → a ≡ true → b ≡ true → (a && b) ≡ true
+pub both_true : (a b : Bool) → a ≡ true → b ≡ true → (a && b) ≡ true
 both_true a b e f = rw (e, f) refl
 
 claim_up : (said : Said) (a b : ℕ) → a < b → may_claim_at said a ≡ true → may_claim_at said b ≡ true
@@ -279,7 +279,7 @@ all_charges said (charge ∷ charges) rises first =
 
 -- ---- the last of two lists
 
-last_of_second : {A : Type 0} (o : Option A) (xs : List A) (y : A) (ys : List A)
+pub last_of_second : {A : Type 0} (o : Option A) (xs : List A) (y : A) (ys : List A)
     → last_or o (xs ++ y ∷ ys) ≡ last_or (Some y) ys
 last_of_second o [] y ys = refl
 last_of_second o (x ∷ xs) y ys = last_of_second (Some x) xs y ys
@@ -336,14 +336,14 @@ record IsBehindHead (said piece : Said) : Type 0 where
   floors : piece.floors ≡ said.floors
 
 -- a good line, in the words of its tests
-record IsGoodLine (version : Option ℕ) (said : Said) (line : List ℕ) (x : Shape) : Type 0 where
-  format : ℕ
-  format_is : version ≡ Some format
-  plain : ¬ IsControlGroup line
-  spelled : IsSpelled format line x
-  passed : fault_of said x ≡ None
+pub record IsGoodLine (version : Option ℕ) (said : Said) (line : List ℕ) (x : Shape) : Type 0 where
+  pub format : ℕ
+  pub format_is : version ≡ Some format
+  pub plain : ¬ IsControlGroup line
+  pub spelled : IsSpelled format line x
+  pub passed : fault_of said x ≡ None
 
-good_line : (v : ℕ) (said : Said) (line : List ℕ) (x : Shape) → IsJudgedLater v said line (Ok x)
+pub good_line : (v : ℕ) (said : Said) (line : List ℕ) (x : Shape) → IsJudgedLater v said line (Ok x)
     → IsGoodLine (Some v) said line x
 good_line v said line x (inl p) = let wrong = p.1 in absurd cc
 good_line v said line x (inr (inl p)) = let wrong = p.2 in absurd cc
@@ -376,7 +376,7 @@ record IsSaidBehind (said piece : Said) (x : Shape) : Type 0 where
   behind : IsBehindHead said (with_line piece x)
   same : with_piece said (with_line piece x) ≡ with_line (with_piece said piece) x
 
-no_cpus : (cpus : Option ℕ) (n : ℕ) → option_map_or (λ k. eqb n k) cpus false ≡ true → ¬ (is_none cpus ≡ true)
+pub no_cpus : (cpus : Option ℕ) (n : ℕ) → option_map_or (λ k. eqb n k) cpus false ≡ true → ¬ (is_none cpus ≡ true)
 no_cpus None n all none = absurd cc
 no_cpus (Some k) n all none = absurd cc
 
@@ -384,7 +384,7 @@ some_and_none : {A : Type 0} (o : Option A) → is_some o ≡ true → ¬ (is_no
 some_and_none None some none = absurd cc
 some_and_none (Some k) some none = absurd cc
 
-not_true : (b : Bool) → b ≡ true → ¬ (not b ≡ true)
+pub not_true : (b : Bool) → b ≡ true → ¬ (not b ≡ true)
 not_true true e f = absurd cc
 not_true false e f = absurd cc
 

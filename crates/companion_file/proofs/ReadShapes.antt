@@ -31,7 +31,7 @@ use Rattle.cfs_model.specs.declared.policy.Policy.TheVariants.{Normal}
 
 -- ---- what is spelled is read
 
-claim_tried : (version : ℕ) (sort : ClaimSort) (rest : List ℕ)
+pub claim_tried : (version : ℕ) (sort : ClaimSort) (rest : List ℕ)
     → shape_at version (spaced_from (sort_word sort) rest) ≡ claim_shape_at sort rest
 unfolding shape_at after_text
 claim_tried version At rest = refl
@@ -140,7 +140,7 @@ IsShapeFound version line y = (x : Shape) × IsSpelled version line x × (y ≡ 
 same_floor_line : (c d : ℕ) (v w : ℤ) → c ≡ d → v ≡ w → floor_line c v ≡ floor_line d w
 same_floor_line c d v w e f = rw (e, f) refl
 
-same_claim : (l m p q : ℕ) (v w : ℤ) (sort : ClaimSort) → l ≡ m → p ≡ q → v ≡ w
+pub same_claim : (l m p q : ℕ) (v w : ℤ) (sort : ClaimSort) → l ≡ m → p ≡ q → v ≡ w
     → claim_line (record { line = l; pid = p; v = v; sort = sort }) ≡ claim_line
     (record { line = m; pid = q; v = w; sort = sort })
 same_claim l m p q v w sort e f g = rw (e, f, g) refl

@@ -49,9 +49,12 @@ first_taken old line (Ok u) new content begun taken =
         taken.2,
       ),
     )
-first_taken old line (Err (refusals.Bad cause)) new content begun taken =
-    (content, judged_at old line (Err cause) None begun (inr (taken.0, ap (λ (c : CompanionCause). Err c) taken.1)))
-first_taken old line (Err refusals.Memory) new content begun taken = tt
+first_taken old line (Err (refusals.Bad cause)) new content begun taken = (
+  content,
+  judged_at old line (Err cause) None begun (inr (taken.0, ap (λ (c : CompanionCause). Err c) taken.1)),
+  taken.2,
+)
+first_taken old line (Err refusals.Memory) new content begun taken = taken
 
 pub later_taken : (version : ℕ) (old : Said) (line : List ℕ) (y : Shape) (r : Result Unit Refusal) (new : Said)
     → ¬ IsComment line → old.version ≡ Some version → ¬ IsControlGroup line → unwrap_or old.cpus 0 ≤ most_processors
@@ -74,7 +77,10 @@ later_taken version old line y (Ok u) new content begun plain few e follows =
 later_taken version old line y (Err (refusals.Bad cause)) new content begun plain few e follows =
     let found = shape_taken version line y e in
     let fault : fault_of old found.0 ≡ Some cause = sym (fault_clip old found.0 few) ∙ ap (fault_of old) (sym found.2)
-    ∙ follows in
-    let failed : Err cause ≡ tested old found.0 = rw fault refl in
-    (content, judged_at old line (Err cause) (Some version) begun (inr (inr (plain, (found.0, found.1, failed)))))
-later_taken version old line y (Err refusals.Memory) new content begun plain few e follows = tt
+    ∙ follows.0 in
+    let failed : Err cause ≡ tested old found.0 = rw fault refl in (
+      content,
+      judged_at old line (Err cause) (Some version) begun (inr (inr (plain, (found.0, found.1, failed)))),
+      follows.1,
+    )
+later_taken version old line y (Err refusals.Memory) new content begun plain few e follows = follows

@@ -44,32 +44,33 @@ with_line said (idle_line idle) = record said {
 }
 with_line said (charge_line charge) = record said { charges = said.charges ++ charge ∷ [] }
 
--- the line with this shape was added, if memory sufficed
+-- the line with this shape was added, if memory sufficed; else all is as it was
 abbrev pub Adds : Said → Shape → Result Unit Refusal → Said → Type 0
 Adds old x (Ok _) new = new ≡ with_line old x
 Adds old x (Err (refusals.Bad cause)) new = ⊥
-Adds old x (Err refusals.Memory) new = Unit {0}
+Adds old x (Err refusals.Memory) new = new ≡ old
 
--- the line with this shape was added, or it fails a test
+-- the line with this shape was added, or it fails a test; where it wasn't added all is as it was
 abbrev pub AddsTested : Said → Shape → Result Unit Refusal → Said → Type 0
 AddsTested old x (Ok _) new = (fault_of old x ≡ None) × (new ≡ with_line old x)
-AddsTested old x (Err (refusals.Bad cause)) new = fault_of old x ≡ Some cause
-AddsTested old x (Err refusals.Memory) new = Unit {0}
+AddsTested old x (Err (refusals.Bad cause)) new = (fault_of old x ≡ Some cause) × (new ≡ old)
+AddsTested old x (Err refusals.Memory) new = new ≡ old
 
--- the first line was taken, or it is bad
+-- the first line was taken, or it is bad, and then all is as it was
 abbrev pub TakesFirst : Said → List ℕ → Result Unit Refusal → Said → Type 0
 TakesFirst old line (Ok _) new = (version : ℕ) × IsFirstLine line version
     × (new ≡ record old { version = Some version })
-TakesFirst old line (Err (refusals.Bad cause)) new = ((version : ℕ) → ¬ IsFirstLine line version) × (cause ≡ Version)
-TakesFirst old line (Err refusals.Memory) new = Unit {0}
+TakesFirst old line (Err (refusals.Bad cause)) new =
+    ((version : ℕ) → ¬ IsFirstLine line version) × (cause ≡ Version) × (new ≡ old)
+TakesFirst old line (Err refusals.Memory) new = new ≡ old
 
--- the line was a comment, or it was taken, or it is bad
+-- the line was a comment, or it was taken, or it is bad; where it wasn't taken all is as it was
 abbrev pub Takes : Said → List ℕ → Result Unit Refusal → Said → Type 0
 Takes old line (Ok _) new =
     (IsComment line × (new ≡ old))
     ⊎ ((¬ IsComment line) × ((x : Shape) × IsJudged old line (Ok x) × (new ≡ with_line old x)))
-Takes old line (Err (refusals.Bad cause)) new = (¬ IsComment line) × IsJudged old line (Err cause)
-Takes old line (Err refusals.Memory) new = Unit {0}
+Takes old line (Err (refusals.Bad cause)) new = (¬ IsComment line) × IsJudged old line (Err cause) × (new ≡ old)
+Takes old line (Err refusals.Memory) new = new ≡ old
 
 -- the task of this pid stands at this index
 pub record IsTaskIndex (tasks : List Task) (pid index : ℕ) : Type 0 where

@@ -5,9 +5,11 @@ pub mod Earlier
 pub mod ShapeReading
 pub mod Piecewise
 pub mod Order
+pub mod Reader
 pub mod Shape
 pub mod Spans
 pub mod Spelling
 pub mod Statement
 pub mod Tests
 pub mod Versions
+pub mod Usual

@@ -11,6 +11,7 @@ ghost use Rattle.companion_file.specs.Spans.{AreSpansOf};
 ghost use Rattle.companion_file.specs.Draft.{Adds, KeepsOrder, IsCompleted};
 ghost use Rattle.companion_file.specs.Seen.{companion_view};
 
+mod holding;
 mod piecewise;
 mod policies;
 mod rising;
@@ -88,7 +89,7 @@ impl Draft {
         }
     }
 
-    fn has_all_floors(&self) -> bool
+    pub(crate) fn has_all_floors(&self) -> bool
         ensures { result ≡ has_all_floors self.now }
     {
         self.cpus

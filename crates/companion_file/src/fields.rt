@@ -31,9 +31,10 @@ pub(crate) fn number_whole(text: &[u8]) -> Option<u64>
     rest.is_empty().then_some(number)
 }
 
+/// An integer, and what follows it.
 #[inline(always)]
 #[tactic(auto, unfolding(crate::specs::ShapeReading::integer_at))]
-fn integer(text: &[u8]) -> Option<(i64, &[u8])>
+pub(crate) fn integer(text: &[u8]) -> Option<(i64, &[u8])>
     ensures { Gives (λ x. (x.0, x.1.now)) result (integer_at text.now) }
 {
     match after_front(text, b"-") {

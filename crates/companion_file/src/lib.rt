@@ -2,7 +2,9 @@
 //! nice values, who is of the idle policy, and the charges that are told.
 #![tactic(auto)]
 
+mod bad_line;
 mod companion;
+mod companion_reader;
 mod draft;
 mod fault;
 mod fields;
@@ -16,9 +18,11 @@ mod reading_wide;
 mod shapes;
 mod spans;
 mod statement;
+mod usual_claim;
 mod version;
 
 pub use companion::Companion;
+pub use companion_reader::CompanionReader;
 pub use fault::{CompanionCause, CompanionFault};
 pub use idle_span::IdleSpan;
 pub use laws::{one_companion_answer, same_in_both_versions, same_without_charges};

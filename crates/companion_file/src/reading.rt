@@ -8,7 +8,6 @@ use crate::companion::Companion;
 use crate::draft::Draft;
 use crate::fault::{CompanionCause, CompanionFault};
 use std::alloc::Global;
-use text_parts::lines::next_line;
 
 /// Reads the text of a companion: what it says, or its first bad line.
 pub fn read_companion(alloc: Global, text: &[u8]) -> Result<Companion, CompanionFault>
@@ -34,10 +33,10 @@ fn companion_of(alloc: Global, text: &[u8]) -> Result<Companion, CompanionFault>
     let mut rest = text;
     let mut number = 0;
     while !rest.is_empty() {
-        let (line, after) = next_line(rest);
+        let (taken, after) = draft.take_next(rest);
         number += 1;
         rest = after;
-        if let Err(refusal) = draft.take(line) {
+        if let Err(refusal) = taken {
             return Err(refusal.at(number));
         }
     }

@@ -8,7 +8,6 @@ use crate::draft::Draft;
 use crate::fault::{CompanionCause, Refusal};
 use cfs_model::{ChargeLine, Claim, NiceLine};
 use std::alloc::AllocError;
-use text_parts::lines::next_line;
 
 impl Draft {
     /// Takes the lines of a text.
@@ -18,15 +17,15 @@ impl Draft {
     {
         let mut rest = text;
         while !rest.is_empty() {
-            let (line, after) = next_line(rest);
-            self.take(line)?;
+            let (taken, after) = self.take_next(rest);
+            taken?;
             rest = after;
         }
         Ok(())
     }
 
     /// What the lines up to the floors have said.
-    fn head(&self) -> Result<Draft, AllocError>
+    pub(super) fn head(&self) -> Result<Draft, AllocError>
         ensures { IfOk result (λ head. head ≡ head_of self.now) }
     {
         let alloc = *self.floors.allocator();

@@ -14,13 +14,13 @@ impl Draft {
         self.tasks.last().copied()
     }
 
-    fn last_claim(&self) -> Option<Claim>
+    pub(super) fn last_claim(&self) -> Option<Claim>
         ensures { result ≡ last_claim self.now }
     {
         self.claims.last().copied()
     }
 
-    fn last_nice(&self) -> Option<NiceLine>
+    pub(super) fn last_nice(&self) -> Option<NiceLine>
         ensures { result ≡ last_nice self.now }
     {
         self.nices.last().copied()
@@ -32,7 +32,7 @@ impl Draft {
         self.idles.last().copied()
     }
 
-    fn last_charge(&self) -> Option<ChargeLine>
+    pub(super) fn last_charge(&self) -> Option<ChargeLine>
         ensures { result ≡ last_charge self.now }
     {
         self.charges.last().copied()

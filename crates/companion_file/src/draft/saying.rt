@@ -1,5 +1,7 @@
-ghost use Rattle.std.specs.Prelude.{◌≡◌};
+ghost use Rattle.std.specs.Prelude.{◌≡◌, ◌<◌, ◌∷◌, length};
+ghost use Rattle.std.specs.List.{before_first};
 ghost use Rattle.cfs_model.specs.declared.policy.Policy.TheVariants.{Normal};
+ghost use Rattle.text_parts.specs.Lines.{is_line_feed, lines_of};
 ghost use Rattle.companion_file.specs.Shape.{cpus_line, start_line, floor_line, task_line, claim_line, nice_line};
 ghost use Rattle.companion_file.specs.Shape.{charge_line};
 ghost use Rattle.companion_file.specs.Draft.{AddsTested, KeepsOrder, TakesFirst, Takes};
@@ -11,8 +13,9 @@ use crate::known_lines::{is_group, version_of};
 use crate::limits::{change_within, charge_within, claim_within, is_value};
 use crate::shapes::statement_of;
 use crate::statement::Statement;
+use crate::usual_claim::usual_claim;
 use cfs_model::{ClaimSort, GREATEST_SECONDS, MOST_PROCESSORS, NANOSECONDS_PER_SECOND, Place};
-use text_parts::lines::is_comment;
+use text_parts::lines::{is_comment, next_line};
 use text_parts::time::Time;
 
 impl Draft {
@@ -175,6 +178,25 @@ impl Draft {
         };
         self.version = Some(version);
         Ok(())
+    }
+
+    /// Takes the first line of a text, and answers with what follows that line, too.
+    #[inline(always)]
+    pub(crate) fn take_next<'a>(&mut self, text: &'a [u8]) -> (Result<(), Refusal>, &'a [u8])
+        requires order { KeepsOrder self.old }
+        requires some { 0 < length text.now }
+        ensures taken { Takes self.old (before_first is_line_feed text.now) result.0 self.new }
+        ensures lines { lines_of text.now ≡ before_first is_line_feed text.now ∷ lines_of result.1.now }
+        ensures shorter { length result.1.now < length text.now }
+    {
+        if self.version.is_some()
+            && let Some(claim) = usual_claim(text)
+        {
+            let said = self.say_claim(claim.line, claim.pid, claim.v, ClaimSort::At);
+            return (said, claim.rest);
+        }
+        let (line, rest) = next_line(text);
+        (self.take(line), rest)
     }
 
     /// Takes the next line, without its line feed.

@@ -8,16 +8,20 @@ use Rattle.companion_file.proofs.Idling.{adds_tested, is_there, none_known, birt
 use Rattle.companion_file.proofs.draft.Draft.say_idle.Goals as goal
 
 pub returns-in_default : goal.returns-in_default
-returns-in_default c =
-    fault_limits c.args.self.now (idle_line (record { line = c.args.line; pid = c.args.pid }))
-    (sym c.is_at_start.ensures ∙ c.if-not-is_at_start.false)
-    (c.in_default.ensures 0)
+returns-in_default c = (
+  fault_limits c.args.self.now (idle_line (record { line = c.args.line; pid = c.args.pid }))
+      (sym c.is_at_start.ensures ∙ c.if-not-is_at_start.false)
+      (c.in_default.ensures 0),
+  refl,
+)
 
 pub returns-then-not-may_be_idle : goal.returns-then-not-may_be_idle
-returns-then-not-may_be_idle c =
-    fault_above c.args.self.now (idle_line (record { line = c.args.line; pid = c.args.pid }))
-    (sym c.is_at_start.ensures ∙ c.if-not-is_at_start.false) (c.in-Some.ensures.1 0) refl refl refl
-    (rw c.in-Some.ensures.0 at (sym c.may_be_idle.ensures ∙ c.if-not-may_be_idle.true))
+returns-then-not-may_be_idle c = (
+  fault_above c.args.self.now (idle_line (record { line = c.args.line; pid = c.args.pid }))
+      (sym c.is_at_start.ensures ∙ c.if-not-is_at_start.false) (c.in-Some.ensures.1 0) refl refl refl
+      (rw c.in-Some.ensures.0 at (sym c.may_be_idle.ensures ∙ c.if-not-may_be_idle.true)),
+  refl,
+)
 
 pub returns-then-idle-ne-NO_LINE : goal.returns-then-idle-ne-NO_LINE
 returns-then-idle-ne-NO_LINE c =
@@ -32,11 +36,14 @@ returns-then-idle-ne-NO_LINE c =
 
 pub returns-in_default-index_of : goal.returns-in_default-index_of
 returns-in_default-index_of c =
-    fault_known c.args.self.now (idle_line (record { line = c.args.line; pid = c.args.pid }))
-    (sym c.is_at_start.ensures ∙ c.if-not-is_at_start.false) (c.in-Some.ensures.1 0) refl refl refl
-    (rw c.in-Some.ensures.0 at (sym c.may_be_idle.ensures ∙ c.if-not-may_be_idle.false))
-    (none_known c.args.line _ (eq-eqb c.args.line no_line (sym (ap (λ (idle : IdleLine). idle.line) c.in-Some.ensures.0)
-    ∙ c.if-idle-ne-NO_LINE.false)) (rw c.in-Some.ensures.0 at c.in_default-index_of.ensures))
+    let start = eq-eqb c.args.line no_line (sym (ap (λ (idle : IdleLine). idle.line) c.in-Some.ensures.0)
+    ∙ c.if-idle-ne-NO_LINE.false) in (
+      fault_known c.args.self.now (idle_line (record { line = c.args.line; pid = c.args.pid }))
+          (sym c.is_at_start.ensures ∙ c.if-not-is_at_start.false) (c.in-Some.ensures.1 0) refl refl refl
+          (rw c.in-Some.ensures.0 at (sym c.may_be_idle.ensures ∙ c.if-not-may_be_idle.false))
+          (none_known c.args.line _ start (rw c.in-Some.ensures.0 at c.in_default-index_of.ensures)),
+      refl,
+    )
 
 pub returns : goal.returns
 returns c =

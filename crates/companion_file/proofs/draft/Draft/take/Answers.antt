@@ -22,6 +22,7 @@ returns-in_default-statement_of c = (
         no_shape c.in-Some.version c.args.line.now c.in_default-statement_of.ensures,
         refl,
       ))),
+  refl,
 )
 
 pub returns : goal.returns

@@ -1,0 +1,5 @@
+pub mod Held
+pub mod Blocks
+pub mod OfTrace
+pub mod OfEntries
+pub mod OfCompanion

@@ -1,0 +1,6 @@
+pub mod Between
+pub mod Joining
+pub mod Lesser
+pub mod News
+pub mod Passing
+pub mod Policies

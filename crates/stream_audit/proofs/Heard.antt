@@ -1,0 +1,278 @@
+-- What a trace and a companion come to that were heard to their ends.
+use Rattle.std.proofs.Common.{◌≡◌, ℕ, ◌<◌, ◌≤◌, ◌^◌, Bool, true, false, not, List, [], ◌++◌, Option, Some, None}
+use Rattle.std.proofs.Common.{Result, Ok, Err, MatchOption, refl, sym, ap, subst, arith, append-nil}
+use Rattle.std.proofs.Common.{◌∙◌}
+use Rattle.std.specs.Prelude.{IsNone, is_none}
+use Rattle.std.specs.Io.KnownBytes.{IsAtEnd}
+use Rattle.audit_input.specs.Known.{Agrees}
+use Rattle.audit_input.specs.Refusals.{companion_refusal, join_refusal, trace_refusal}
+use Rattle.audit_input.specs.Texts.{TellsCharges}
+use Rattle.cfs_model.specs.Knobs.{KnobsView}
+use Rattle.cfs_model.specs.declared.act.Entry.{Entry}
+use Rattle.companion_file.specs.Earlier.{Said}
+use Rattle.companion_file.specs.declared.fault.CompanionFault.{CompanionFault}
+use Rattle.companion_file.specs.declared.fault.CompanionFault.TheVariants as companion_faults
+use Rattle.entry_reader.specs.Reader.{EndsSo, HasReadOut, IsReadOut, entries_of}
+use Rattle.entry_reader.specs.declared.bad_line.BadLine.{BadLine}
+use Rattle.entry_reader.specs.declared.reader.EntryReader.{EntryReader}
+use Rattle.input_blocks.specs.Blocks.{IsAmid, IsThen}
+use Rattle.input_blocks.specs.OfCompanion.{ReadsCompanion}
+use Rattle.input_blocks.specs.OfEntries.{ReadsEntries}
+use Rattle.input_blocks.specs.declared.line_blocks.LineBlocks.{LineBlocks}
+use Rattle.sched_record.specs.Join.{joined_record}
+use Rattle.sched_record.specs.ReadLines.{AreKept}
+use Rattle.sched_record.specs.Trace.{AreEventsOf, IsFirstBadTraceLine, TraceAnswer}
+use Rattle.sched_record.specs.declared.cause.TraceCause.{TraceCause}
+use Rattle.sched_record.specs.declared.cause.TraceFault.{TraceFault}
+use Rattle.sched_record.specs.declared.cause.TraceFault.TheVariants as trace_faults
+use Rattle.sched_record.specs.declared.joining.JoinFault.{JoinFault}
+use Rattle.ticket_book.specs.declared.verdict.Verdict.{Verdict}
+use Rattle.text_parts.specs.Lines.{lines_of}
+use Rattle.stream_audit.specs.Course.{AreAllEvents, AreEventsNext, CourseGoesOn, IsAmidAudit, IsClosingOf, IsCourseOf}
+use Rattle.stream_audit.specs.Course.{IsNotBegun, IsWholeCourse}
+use Rattle.stream_audit.specs.Hearing.{AreBothDone, IsHeard, IsHearingOf, IsOutcome, IsRefusalOf}
+use Rattle.stream_audit.specs.declared.course.Closing.TheVariants as closings
+use Rattle.stream_audit.specs.declared.course.Course.{Course}
+use Rattle.stream_audit.specs.declared.ending.Ending.TheVariants as endings
+use Rattle.stream_audit.specs.declared.hearing.Hearing.{Hearing}
+use Rattle.stream_audit.specs.declared.hearing.StreamOutcome.TheVariants as outcomes
+
+-- ---- the trace's events
+
+-- a trace has one answer
+abbrev pub OneTrace : Type 0
+OneTrace = (text : List ℕ) (a b : Result (List Entry) (ℕ × TraceCause)) → TraceAnswer text a → TraceAnswer text b
+    → a ≡ b
+
+ok_or_err : (events : List Entry) (fault : ℕ × TraceCause)
+    → ◌≡◌ {A = Result (List Entry) (ℕ × TraceCause)} (Ok events) (Err fault) → ⊥
+ok_or_err events fault e = cc
+
+-- of one whose events are told no line is bad
+none_bad : OneTrace → (bytes : List ℕ) (events given : List Entry) (reader : EntryReader) (bad : Option BadLine)
+    → AreEventsOf (lines_of bytes) events
+    → MatchOption bad (IsReadOut reader (lines_of bytes) given)
+    (λ b. IsFirstBadTraceLine (lines_of bytes) b.line b.cause)
+    → IsNone bad
+none_bad one bytes events given reader None are read = refl
+none_bad one bytes events given reader (Some b) are read =
+    absurd (ok_or_err events (b.line, b.cause) (one bytes (Ok events) (Err (b.line, b.cause)) are read))
+
+none_of : {X : Type 0} (o : Option X) → is_none o ≡ true → IsNone o
+none_of None none = refl
+none_of (Some x) none = absurd cc
+
+-- and the reader's events are those
+where_none : {X A : Type 0} (B : X → Type 0) (o : Option X) → IsNone o → MatchOption o A B → A
+where_none B None none holds = holds
+where_none B (Some x) none holds = absurd cc
+
+pub read_out : (reader : EntryReader) (lines : List (List ℕ)) (events : List Entry) → IsNone reader.bad
+    → HasReadOut reader lines events → IsReadOut reader lines events
+read_out reader lines events none read =
+    where_none (λ bad. IsFirstBadTraceLine lines bad.line bad.cause) reader.bad none read
+
+pub events_next : (reader : EntryReader) (lines : List (List ℕ)) (events : List Entry) → IsReadOut reader lines events
+    → AreEventsNext events (entries_of reader)
+events_next reader lines events is = record {
+  in_order = is.kept.in_order;
+  few = λ k d h. (let line = is.kept.lines k d h in let few = reader.few in omega (arith, line, few));
+}
+
+pub all_events : (reader : EntryReader) (lines : List (List ℕ)) (events : List Entry) → entries_of reader ≡ []
+    → IsReadOut reader lines events → AreAllEvents events
+all_events reader lines events none is =
+    let kept = subst (λ (es : List Entry). AreKept es reader.count reader.last)
+    (ap (λ es. events ++ es) none ∙ append-nil events) is.kept in
+    record {
+      in_order = kept.in_order;
+      few = λ k d h. (let line = kept.lines k d h in let few = reader.few in omega (arith, line, few));
+      last = reader.last;
+      times = kept.times;
+      last_fits = reader.last_fits;
+    }
+
+module _ (one : OneTrace) (trace : EntryReader) (course : Course) (bytes text : List ℕ)
+    (both : AreBothDone trace course bytes text)
+    (ends : EndsSo (Ok tt) (lines_of bytes) (both.events ++ entries_of trace)) where
+  good : IsNone trace.bad
+  good = none_bad one bytes (both.events ++ entries_of trace) both.events trace trace.bad ends both.has_read
+
+  pub whole_course : IsWholeCourse course.knobs course text both.events
+  whole_course = both.joined good
+
+  pub trace_told : TraceAnswer bytes (Ok both.events)
+  trace_told = subst (AreEventsOf (lines_of bytes))
+      (ap (λ es. both.events ++ es) (both.taken good) ∙ append-nil both.events) ends
+
+-- ---- what is refused
+
+pub trace_refused : (bytes text : List ℕ) (events : List Entry) (fault : TraceFault)
+    → EndsSo (Err fault) (lines_of bytes) events → IsRefusalOf bytes text (trace_refusal fault)
+trace_refused bytes text events (trace_faults.Text line cause) first = (cause, first, refl)
+trace_refused bytes text events trace_faults.Memory none = absurd none
+
+pub companion_refused : (knobs : KnobsView) (bytes text : List ℕ) (events : List Entry) (fault : CompanionFault)
+    → TraceAnswer bytes (Ok events) → IsClosingOf knobs text events (closings.Refused fault)
+    → IsRefusalOf bytes text (companion_refusal fault)
+companion_refused knobs bytes text events (companion_faults.Text line cause) are first =
+    (events, cause, are, first, refl)
+companion_refused knobs bytes text events companion_faults.Memory are none = absurd none
+
+pub join_refused : (knobs : KnobsView) (bytes text : List ℕ) (events : List Entry) (fault : JoinFault)
+    → TraceAnswer bytes (Ok events) → IsClosingOf knobs text events (closings.Joined (endings.Apart fault))
+    → IsRefusalOf bytes text (join_refusal fault)
+join_refused knobs bytes text events fault are closing = record {
+  events = events;
+  start = closing.0;
+  are_read = record { trace_means = are; companion_means = closing.1 };
+  why = (fault.cause, closing.2, refl);
+}
+
+pub judged : (knobs : KnobsView) (bytes text : List ℕ) (events : List Entry) (verdict : Verdict)
+    → TraceAnswer bytes (Ok events) → IsClosingOf knobs text events (closings.Joined (endings.Judged verdict))
+    → IsOutcome knobs bytes text (outcomes.Judged verdict)
+judged knobs bytes text events verdict are closing = (
+  joined_record events closing.0,
+  record {
+    events = events;
+    start = closing.0;
+    are_read = record { trace_means = are; companion_means = closing.1 };
+    joined = closing.2.0;
+  },
+  closing.2.1,
+)
+
+-- ---- more is read of the trace
+
+-- an input that goes on is amid its lines
+pub amid : {R : Type 0} (reads : R → R → List (List ℕ) → Type 0) (gave left : Option (List ℕ)) (blocks : LineBlocks)
+    (done : List ℕ) (goes_on : Bool) → goes_on ≡ true → IsThen reads gave left blocks done goes_on
+    → IsAmid reads gave left blocks done
+amid reads gave left blocks done true on stands = stands
+amid reads gave left blocks done false on stands = absurd cc
+
+pub heard_on : (knobs : KnobsView) (gave left : Option (List ℕ)) (bytes more : List ℕ) (old new : EntryReader)
+    (course : Course) → lines_of (bytes ++ more) ≡ lines_of bytes ++ lines_of more
+    → ReadsEntries old new (lines_of more) → IsHeard knobs gave left bytes old course
+    → IsHeard knobs gave left (bytes ++ more) new course
+heard_on knobs gave left bytes more old new course lines read heard = record {
+  events = heard.events;
+  has_read = subst (λ (ls : List (List ℕ)). HasReadOut new ls heard.events) (sym lines)
+      (read (lines_of bytes) heard.events heard.has_read);
+  said = heard.said;
+  so_far = heard.so_far;
+}
+
+-- ---- the events that were read are taken out
+
+pub good_by : (reader : EntryReader) (told : Bool) → told ≡ is_none reader.bad → told ≡ true → IsNone reader.bad
+good_by reader told is good = none_of reader.bad (sym is ∙ good)
+
+pub bad_by : (reader : EntryReader) (told : Bool) → told ≡ is_none reader.bad → told ≡ false → IsNone reader.bad → ⊥
+bad_by reader told is off none =
+    let bad = sym is ∙ off in
+    let not_bad = ap not none in
+    cc
+
+pub course_there : (knobs : KnobsView) (gave left : Option (List ℕ)) (bytes : List ℕ) (reader : EntryReader)
+    (course : Course) (heard : IsHeard knobs gave left bytes reader course)
+    → IsCourseOf course.knobs gave left course heard.said heard.events
+course_there knobs gave left bytes reader course heard =
+    subst (λ (k : KnobsView). IsCourseOf k gave left course heard.said heard.events) (sym heard.so_far.settings)
+    heard.so_far
+
+pub gone_through : (knobs own : KnobsView) (gave left : Option (List ℕ)) (bytes : List ℕ) (reader : EntryReader)
+    (course : Course) (before events held : List Entry) → own ≡ knobs → events ≡ held
+    → CourseGoesOn own gave left course (before ++ events) → HasReadOut reader (lines_of bytes) (before ++ held)
+    → IsHeard knobs gave left bytes reader course
+gone_through knobs own gave left bytes reader course before events held same are went read = record {
+  events = before ++ held;
+  has_read = read;
+  said = went.0;
+  so_far = subst (λ (k : KnobsView). IsCourseOf k gave left course went.0 (before ++ held)) same
+      (subst (λ (es : List Entry). IsCourseOf own gave left course went.0 (before ++ es)) are went.1);
+}
+
+-- the rest of the companion is read
+pub rest_heard : (knobs : KnobsView) (gave left rest : Option (List ℕ)) (bytes : List ℕ) (reader : EntryReader)
+    (old new : Course) → IsHeard knobs gave left bytes reader old
+    → ((said : Said) (events : List Entry) → IsCourseOf old.knobs gave left old said events
+    → CourseGoesOn old.knobs gave rest new events)
+    → IsHeard knobs gave rest bytes reader new
+rest_heard knobs gave left rest bytes reader old new heard goes =
+    let went = goes heard.said heard.events (course_there knobs gave left bytes reader old heard) in
+    record {
+      events = heard.events;
+      has_read = heard.has_read;
+      said = went.0;
+      so_far = subst (λ (k : KnobsView). IsCourseOf k gave rest new went.0 heard.events) heard.so_far.settings went.1;
+    }
+
+-- ---- both inputs were read to their ends
+
+pub read_to_end : (has_ended goes_on : Bool) → has_ended ≡ not goes_on → goes_on ≡ false → has_ended ≡ true
+read_to_end has_ended goes_on ended off = ended ∙ ap not off
+
+-- where an input doesn't go on, all that came of it was passed on
+pub all_that_came : {R : Type 0} (reads : R → R → List (List ℕ) → Type 0) (gave left : Option (List ℕ))
+    (blocks : LineBlocks) (done : List ℕ) (goes_on : Bool) → goes_on ≡ false
+    → IsThen reads gave left blocks done goes_on → Agrees gave done
+all_that_came reads gave left blocks done false ended stands = stands
+all_that_came reads gave left blocks done true ended stands = absurd cc
+
+module _ (knobs : KnobsView) (gave left : Option (List ℕ)) (trace : EntryReader) (course : Course) (bytes : List ℕ)
+    (heard : IsHeard knobs gave left bytes trace course) (ended : course.companion.goes_on ≡ false) where
+  -- the companion is this
+  abbrev pub text_of : List ℕ
+  text_of = heard.so_far.stands.done
+
+  pub text_whole : Agrees gave text_of
+  text_whole = all_that_came ReadsCompanion gave left course.companion.blocks heard.so_far.stands.done
+      course.companion.goes_on ended heard.so_far.stands.stands
+
+  whole_of : entries_of trace ≡ [] → IsReadOut trace (lines_of bytes) heard.events
+      → IsWholeCourse course.knobs course text_of heard.events
+  whole_of none is =
+      let so_far = heard.so_far in
+      record {
+        gave = gave;
+        left = left;
+        said = heard.said;
+        so_far = record {
+          settings = refl;
+          edge = so_far.edge;
+          passed = so_far.passed;
+          stands = so_far.stands;
+          audited = subst (λ (k : KnobsView). IsNone course.companion.reader.bad
+              → MatchOption course.audit (IsNotBegun course heard.said heard.events)
+              (λ audit. IsAmidAudit k course heard.said heard.events audit)) (sym so_far.settings) so_far.audited;
+        };
+        is_text = refl;
+        ended = ended;
+        all = all_events trace (lines_of bytes) heard.events none is;
+      }
+
+  pub none_left : IsAtEnd left
+  none_left = heard.so_far.stands.at_end ended
+
+  pub both_done : (IsNone trace.bad → entries_of trace ≡ []) → AreBothDone trace course bytes text_of
+  both_done taken = record {
+    events = heard.events;
+    has_read = heard.has_read;
+    taken = taken;
+    done = (ended, (heard.said, heard.so_far.edge, heard.so_far.stands.read, heard.so_far.stands.few));
+    joined = λ good. whole_of (taken good) (read_out trace (lines_of bytes) heard.events good heard.has_read);
+  }
+
+  pub hearing_is : (whole : Option (List ℕ)) (hearing : Hearing) → Agrees whole bytes
+      → IsOutcome course.knobs bytes text_of hearing.outcome × TellsCharges text_of hearing.tells_charges
+      → IsHearingOf knobs whole gave hearing
+  hearing_is whole hearing agrees is = record {
+    trace_bytes = bytes;
+    companion_bytes = text_of;
+    trace_whole = agrees;
+    companion_whole = text_whole;
+    answer = subst (λ (k : KnobsView). IsOutcome k bytes text_of hearing.outcome) heard.so_far.settings is.0;
+    tells = is.1;
+  }

@@ -1,0 +1,9 @@
+mod Companion
+mod EventLines
+mod SayingMore
+mod Going
+mod Closed
+pub mod Joined
+mod KnownSoFar
+mod Heard
+mod BothRead

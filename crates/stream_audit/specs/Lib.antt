@@ -1,0 +1,5 @@
+pub mod Progress
+pub mod Joined
+pub mod Companion
+pub mod Course
+pub mod Hearing

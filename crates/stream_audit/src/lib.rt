@@ -1,0 +1,19 @@
+//! The audit of a recording of any length: both texts come a block at a time, and no more of them is kept than what
+//! the next events ask for.
+#![tactic(auto)]
+
+mod companion_input;
+mod course;
+mod ending;
+mod hearing;
+mod joined_audit;
+mod judging;
+mod progress;
+mod sizes;
+
+pub use ending::Ending;
+pub use hearing::{Hearing, StreamOutcome};
+pub use joined_audit::JoinedAudit;
+pub use judging::judge_stream;
+pub use progress::Progress;
+pub use sizes::Sizes;

@@ -1,0 +1,67 @@
+ghost use Rattle.std.specs.Prelude.{◌≢◌, ◌++◌, List, [], IfOk, OnOk};
+ghost use Rattle.cfs_model.specs.Claimed.{Claimed};
+ghost use Rattle.cfs_model.specs.Knobs.{KnobsView};
+ghost use Rattle.sched_record.specs.Record.{RecordView};
+ghost use Rattle.sched_record.specs.Window.{window_view};
+ghost use Rattle.ticket_book.specs.Verdict.{IsVerdict};
+ghost use Rattle.window_audit.specs.Audit.{Beginning};
+ghost use Rattle.stream_audit.specs.Progress.{IsEnd, IsKnownOf, IsNext};
+
+use cfs_model::Memory;
+use replay_laws::first_faults;
+use replay_model::FirstFault;
+use sched_record::Window;
+use std::alloc::Global;
+use std::thread::Threads;
+use ticket_book::Verdict;
+use window_audit::WindowAudit;
+use window_laws::windows;
+
+/// What is known of a record's events so far.
+#[derive(Drop)]
+pub enum Progress {
+    /// They are a run, with which the audit goes on.
+    Running(WindowAudit),
+    /// They are none: their first fault.
+    Told(FirstFault),
+}
+
+impl Progress {
+    /// Takes the events of a window into account, which has at least one.
+    pub fn judge<R: Threads + Sync>(
+        &mut self,
+        rt: &R,
+        alloc: Global,
+        window: &Window,
+    ) -> Result<(), Memory>
+        requires some { window_view window.now ≢ [] }
+        requires next { (of : Beginning) × (so_far : List Claimed)
+            × IsNext of so_far (window_view window.now) self.old }
+        ensures { (of : Beginning) (so_far : List Claimed) → IsNext of so_far (window_view window.now) self.old
+            → OnOk result (IsKnownOf of (so_far ++ window_view window.now) self.new) }
+    {
+        windows();
+        match self {
+            Progress::Running(audit) => match audit.go_through(rt, alloc, window)? {
+                Some(fault) => {
+                    *self = Progress::Told(fault);
+                    Ok(())
+                }
+                None => Ok(()),
+            },
+            Progress::Told(_) => Ok(()),
+        }
+    }
+
+    /// The verdict on the record whose events these are.
+    pub fn finish(self, alloc: Global) -> Result<Verdict, Memory>
+        requires { (knobs : KnobsView) × (r : RecordView) × IsEnd knobs r self }
+        ensures { (knobs : KnobsView) (r : RecordView) → IsEnd knobs r self → IfOk result (IsVerdict knobs r) }
+    {
+        first_faults();
+        match self {
+            Progress::Running(audit) => Ok(Verdict::Run(audit.finish(alloc)?)),
+            Progress::Told(fault) => Ok(Verdict::Fault(fault)),
+        }
+    }
+}

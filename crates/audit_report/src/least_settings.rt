@@ -1,6 +1,6 @@
 //! Least settings and their places, as a search over two texts tells them.
 ghost use Rattle.std.specs.Prelude.{◌≡◌, ◌++◌, OnOk, Some, string_bytes};
-ghost use Rattle.audit_report.specs.Report.{lines_of_settings, place_words, setting_line, setting_lines};
+ghost use Rattle.audit_report.specs.Report.{lines_of_settings, place_words, setting_line, setting_lines, told_settings};
 
 use crate::reporting::{push_fault, push_refusal};
 use crate::{Finding, Judgement};
@@ -13,12 +13,23 @@ use sched_record::Record;
 use std::alloc::{AllocError, Global};
 
 /// What is told where the companion tells no charges: each setting but the drift.
-const WITHOUT_DRIFT: [Setting; 4] = [
+static WITHOUT_DRIFT: [Setting; 4] = [
     Setting::Granularity,
     Setting::Credit,
     Setting::Debit,
     Setting::Slack,
 ];
+
+/// The settings that a report has, by whether the companion tells charges.
+pub fn told_settings(tells_charges: bool) -> &'static [Setting]
+    ensures { result.now ≡ told_settings tells_charges }
+{
+    if tells_charges {
+        &Setting::ALL
+    } else {
+        &WITHOUT_DRIFT
+    }
+}
 
 impl Judgement for LeastFigures {
     ghost use Rattle.std.specs.Prelude.{true};
@@ -97,11 +108,7 @@ fn push_settings(
     ensures { OnOk result
         (string_bytes text.new ≡ string_bytes text.old ++ setting_lines tells_charges knobs places.now) }
 {
-    if tells_charges {
-        push_each(text, knobs, places, &Setting::ALL)
-    } else {
-        push_each(text, knobs, places, &WITHOUT_DRIFT)
-    }
+    push_each(text, knobs, places, told_settings(tells_charges))
 }
 
 /// Writes each of these settings.

@@ -18,6 +18,7 @@ mod writing;
 pub use counted::Counted;
 pub use finding::Finding;
 pub use judgement::Judgement;
+pub use least_settings::told_settings;
 pub use outcome::Outcome;
 pub use reporting::{least_report, report};
 pub use sink::Sink;

@@ -5,6 +5,7 @@
 mod bad_field;
 mod bad_head;
 mod bad_line;
+mod bound;
 mod bounds;
 mod charge;
 mod claim_bounds;
@@ -17,10 +18,12 @@ mod explaining;
 mod gap;
 mod head;
 mod history;
+mod json_string;
 mod limits;
 mod mend;
 mod names;
 mod number_field;
+mod object_end;
 mod odd_byte;
 mod origin;
 mod pick_bounds;
@@ -35,6 +38,7 @@ mod told_charge;
 mod trace_text;
 
 pub use explaining::explanation;
+pub use object_end::fault_members;
 pub use quoting::quoted_line;
 pub use refusal::refusal_words;
 pub use trace_text::TraceText;

@@ -60,7 +60,7 @@ impl Names {
     }
 
     /// Its name, where that is known.
-    fn name_of(&self, pid: u32) -> Option<&[u8]> {
+    pub(crate) fn name_of(&self, pid: u32) -> Option<&[u8]> {
         let known = self.names.iter().find(|known| known.pid == pid)?;
         Some(known.name.as_slice())
     }

@@ -54,7 +54,7 @@ impl Scene {
             Some(cpu) => Some(Processor::before(alloc, record, knobs, cpu, fault.line, hasher)?),
             None => None,
         };
-        let mut scene = Scene {
+        Ok(Scene {
             fault,
             event,
             knobs,
@@ -63,11 +63,7 @@ impl Scene {
             stood: None,
             names: Names::new(alloc),
             gap: None,
-        };
-        if lies_in_place(fault) {
-            scene.stood = scene.stood_before(alloc, record, hasher)?;
-        }
-        Ok(scene)
+        })
     }
 
     /// Where the fault's task stood, at whatever processor, and how. Those that are shown are asked first, and none is
@@ -115,6 +111,9 @@ impl Scene {
         trace: &mut T,
     ) -> Result<(), Memory> {
         let line = self.fault.line;
+        if lies_in_place(self.fault) {
+            self.stood = self.stood_before(alloc, record, hasher)?;
+        }
         self.names.read_line(trace, line)?;
         recall_at(alloc, record, self.knobs, line, &mut self.here, hasher)?;
         self.names
@@ -154,10 +153,15 @@ impl Scene {
         }
     }
 
-    /// Tells how things were before the event, and what comes first at it: the charge, the floor, the change of a nice
-    /// value, with what the companion says.
+    /// Tells how things were before the event, and what comes first at it.
     pub(crate) fn set(&mut self, text: &mut String) -> Result<(), AllocError> {
         self.push_before(text)?;
+        self.go_on_to_event(text)
+    }
+
+    /// What comes first at the event, which is told: the charge, the floor, the change of a nice value, with what the
+    /// companion says.
+    pub(crate) fn go_on_to_event(&mut self, text: &mut String) -> Result<(), AllocError> {
         if self.fault.kind == Kind::IdleTooLong {
             return Ok(());
         }

@@ -162,10 +162,10 @@ abbrev pub fault_time : RecordView → Option FirstFault → ℕ
 fault_time r None = 0
 fault_time r (Some fault) = time_on_line r.events fault.line
 
--- the report: of a fault, or by the members that are told where none is named
-abbrev pub told_object : Option FirstFault → ℕ → List ℕ → List ℕ
-told_object None time members = line_of (object members)
-told_object (Some fault) time members = line_of (object (fault_members fault time))
+-- the report: of a fault, with further members behind its own; or by the members that are told where none is named
+abbrev pub told_object : Option FirstFault → ℕ → List ℕ → List ℕ → List ℕ
+told_object None time further members = line_of (object members)
+told_object (Some fault) time further members = line_of (object (fault_members fault time ++ further))
 
 -- which text is refused
 abbrev pub source_members : Source → List ℕ

@@ -19,13 +19,15 @@ pub struct AsJson<J> {
     pub judged: J,
     /// When the event on the fault's line happened, in nanoseconds; 0 where there is no fault.
     pub time: u64,
+    /// What a fault's object says last: further members, each behind a comma, of which no clause speaks.
+    pub further: String,
 }
 
 impl<J: Told> Judgement for AsJson<J> {
     ghost use Rattle.report_json.specs.Objects.{refusal_object};
-    ghost use Rattle.report_json.specs.Timed.{is_timed, object_by, timed_fault};
+    ghost use Rattle.report_json.specs.Timed.{is_timed_alone, object_by, timed_fault};
 
-    ghost is_of = { λ knobs. is_timed J.fault (J.is_of knobs) };
+    ghost is_of = { λ knobs. is_timed_alone J.fault (J.is_of knobs) };
 
     ghost is_least = { J.is_least };
 
@@ -54,7 +56,11 @@ impl<J: Told> Judgement for AsJson<J> {
     ) -> Result<AsJson<J>, Memory> {
         let judged = J::of_finding(alloc, finding, joined, knobs, hasher)?;
         let time = time_of(judged.fault(), joined);
-        Ok(AsJson { judged, time })
+        Ok(AsJson {
+            judged,
+            time,
+            further: String::new(alloc),
+        })
     }
 
     fn runs() {
@@ -63,7 +69,7 @@ impl<J: Told> Judgement for AsJson<J> {
 
     fn push(&self, text: &mut String, tells_charges: bool) -> Result<(), AllocError> {
         match self.judged.fault() {
-            Some(fault) => push_fault(text, fault, self.time),
+            Some(fault) => push_fault(text, fault, self.time, self.further.as_str()),
             None => push_judged(text, &self.judged, tells_charges),
         }
     }

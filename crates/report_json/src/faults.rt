@@ -13,14 +13,19 @@ use replay_model::FirstFault;
 use sched_record::Record;
 use std::alloc::AllocError;
 
-/// Writes a fault.
-pub(crate) fn push_fault(text: &mut String, fault: FirstFault, time: u64) -> Result<(), AllocError>
-    ensures { OnOk result
-        (string_bytes text.new ≡ string_bytes text.old ++ line_of (object (fault_members fault time))) }
+/// Writes a fault, and further members behind its own.
+pub(crate) fn push_fault(
+    text: &mut String,
+    fault: FirstFault,
+    time: u64,
+    further: &str,
+) -> Result<(), AllocError>
+    ensures { OnOk result (string_bytes text.new
+        ≡ string_bytes text.old ++ line_of (object (fault_members fault time ++ further.now))) }
 {
     write!(text, "{{")?;
     push_fault_members(text, fault, time)?;
-    writeln!(text, "}}")
+    writeln!(text, "{further}}}")
 }
 
 fn push_fault_members(text: &mut String, fault: FirstFault, time: u64) -> Result<(), AllocError>

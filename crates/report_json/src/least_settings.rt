@@ -4,17 +4,10 @@ ghost use Rattle.audit_report.specs.Report.{told_settings};
 ghost use Rattle.report_json.specs.Objects.{members_of_settings, over_member, place_members, setting_member};
 
 use crate::Told;
+use audit_report::told_settings;
 use cfs_model::{Knobs, Setting};
 use least_places::{LeastFigures, Place, Places};
 use std::alloc::AllocError;
-
-/// What is told where the companion tells no charges: each setting but the drift.
-const WITHOUT_DRIFT: [Setting; 4] = [
-    Setting::Granularity,
-    Setting::Credit,
-    Setting::Debit,
-    Setting::Slack,
-];
 
 impl Told for LeastFigures {
     ghost use Rattle.report_json.specs.Objects.{least_members};
@@ -42,11 +35,7 @@ fn push_told(
     ensures { OnOk result (string_bytes text.new
         ≡ string_bytes text.old ++ members_of_settings knobs places.now (told_settings tells_charges)) }
 {
-    if tells_charges {
-        push_each(text, knobs, places, &Setting::ALL)
-    } else {
-        push_each(text, knobs, places, &WITHOUT_DRIFT)
-    }
+    push_each(text, knobs, places, told_settings(tells_charges))
 }
 
 /// Writes each of these settings.

@@ -16,8 +16,8 @@ answered_as I W S (Err f) o b i w p = tt
 abbrev heard_of : {A : Type 0} → A → Result A Fault
 heard_of read = Ok read
 
--- the inputs are read as they were heard, whatever the write ends with
-pub reads_on : {A : Type 0} (trace companion : Input) (read : A) (r : Result Status Fault)
+-- the inputs are read as they were heard, whatever comes behind that ends with, unless it reads
+pub reads_on : {A B : Type 0} (trace companion : Input) (read : A) (r : Result B Fault)
     → Reads trace companion (heard_of read) → IfErr r (λ f. (f ≡ Write) ⊎ (f ≡ Memory)) → Reads trace companion r
 reads_on trace companion read (Ok s) k h = record {
   ended = k.ended;

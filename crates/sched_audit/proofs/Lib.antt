@@ -1,5 +1,7 @@
+mod InBlocks
 mod Lawful
 mod OneOf
 mod Outcomes
+mod SaidBehind
 mod Starts
 pub mod Ended

@@ -1,5 +1,6 @@
 pub mod Answer
 pub mod Codes
+pub mod Json
 pub mod Run
 pub mod Waits
 pub mod OneOutcome

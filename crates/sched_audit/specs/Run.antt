@@ -19,6 +19,7 @@ use Rattle.audit_input.specs.Known.{Agrees, IsCutShort, most_reads}
 use Rattle.audit_report.specs.Report.{refusal_line, report_by}
 use Rattle.audit_report.specs.Taken.{AppendsFront}
 use Rattle.audit_input.specs.Texts.{TellsCharges}
+use Rattle.stream_audit.specs.Hearing.{ReadsBoth, Input as Ended, input_of as ended}
 
 -- the outcome is that of the bytes that the two inputs still gave, and so is it whether the companion tells charges
 pub record IsOutcomeOf {J : Type 0} (is_of : RecordView → J → Type 0) (trace companion : Option (List ℕ))
@@ -51,6 +52,10 @@ abbrev pub input_of : Option (List ℕ) → Option (List ℕ) → ℕ → Bool �
 input_of gave left calls has_failed has_ended =
     record { gave = gave; left = left; calls = calls; has_failed = has_failed; has_ended = has_ended }
 
+-- the same, but what it gave isn't asked
+abbrev pub ended_of : Input → Ended
+ended_of input = ended input.left input.calls input.has_failed input.has_ended
+
 -- of an output: the bytes that it had taken before and those that it has taken, where they are known, and whether a
 -- write failed or took no byte of some
 pub record Output : Type 0 where
@@ -78,11 +83,23 @@ pub record Reads {A : Type 0} (trace companion : Input) (result : Result A Fault
   pub bounded : (trace.calls ≤ most_reads) × (companion.calls ≤ most_reads)
   pub order : IsErrOf result ReadTrace → companion.calls ≡ 0
 
--- what a run over two inputs writes to an output, and what it answers, by what it judges of their record and by the
--- texts that tell a refusal and that, where the companion tells charges and where it doesn't
-pub record RunsBy {J : Type 0} (refusal : Source → ℕ → Cause → List ℕ) (is_of : RecordView → J → Type 0)
-    (lines : Bool → J → List ℕ) (fault_of : J → Option FirstFault) (trace companion : Input) (out : Output)
-    (result : Result Status Fault) : Type 0
+-- how two inputs are read: a relation of these and of what is answered
+abbrev pub Reading : Type 1
+Reading = Input → Input → Result Status Fault → Type 0
+
+-- the trace is read first, and then the companion
+abbrev pub one_by_one : Reading
+one_by_one trace companion result = Reads trace companion result
+
+-- both are read at once, a block at a time
+abbrev pub both_at_once : Reading
+both_at_once trace companion result = ReadsBoth (ended_of trace) (ended_of companion) result
+
+-- what a run over two inputs writes to an output, and what it answers, by how it reads them, by what it judges of their
+-- record and by the texts that tell a refusal and that, where the companion tells charges and where it doesn't
+pub record RunsBy {J : Type 0} (reading : Reading) (refusal : Source → ℕ → Cause → List ℕ)
+    (is_of : RecordView → J → Type 0) (lines : Bool → J → List ℕ) (fault_of : J → Option FirstFault)
+    (trace companion : Input) (out : Output) (result : Result Status Fault) : Type 0
   where
     -- where a status is answered, the report of the two inputs' outcome was written and nothing else, and the status is
     -- that outcome's
@@ -90,7 +107,7 @@ pub record RunsBy {J : Type 0} (refusal : Source → ℕ → Cause → List ℕ)
         × IsOutcomeOf is_of trace.gave companion.gave outcome tells_charges
         × Appends out.before out.taken (report_by refusal (lines tells_charges) outcome)
         × (status ≡ status_of fault_of outcome))
-    pub reads : Reads trace companion result
+    pub reads : reading trace companion result
     -- and no write failed
     pub written : OnOk result (out.has_failed ≡ false)
     -- a write fault comes only where a write failed or took no byte, and a front of the report was written
@@ -104,4 +121,9 @@ pub record RunsBy {J : Type 0} (refusal : Source → ℕ → Cause → List ℕ)
 -- the same where a refusal is told by its line
 abbrev pub Runs : {J : Type 0} → (RecordView → J → Type 0) → (Bool → J → List ℕ) → (J → Option FirstFault) → Input
     → Input → Output → Result Status Fault → Type 0
-Runs = RunsBy refusal_line
+Runs = RunsBy one_by_one refusal_line
+
+-- the same where both inputs are read at once
+abbrev pub RunsInBlocks : {J : Type 0} → (RecordView → J → Type 0) → (Bool → J → List ℕ) → (J → Option FirstFault)
+    → Input → Input → Output → Result Status Fault → Type 0
+RunsInBlocks = RunsBy both_at_once refusal_line

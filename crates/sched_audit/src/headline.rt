@@ -2,14 +2,13 @@
 
 ghost use Rattle.std.specs.Prelude.{◌≡◌, false};
 ghost use Rattle.sched_audit.specs.Answer.{IsAnswer};
-ghost use Rattle.audit_report.specs.Report.{IsCounted, counted_fault, counted_lines, least_fault, least_lines};
-ghost use Rattle.audit_report.specs.Report.{verdict_fault, verdict_lines};
+ghost use Rattle.audit_report.specs.Report.{least_fault, least_lines, verdict_fault, verdict_lines};
 ghost use Rattle.least_places.specs.LeastAnswer.{IsLeastAnswer};
 ghost use Rattle.sched_audit.specs.Run.{Runs, input_of, output_of};
 ghost use Rattle.ticket_book.specs.Verdict.{IsVerdict};
 
 use crate::judging::{run_judged, texts_judged};
-use crate::{Counted, Fault, Feed, Gate, LeastFigures, Refused, Sink, Status, Verdict};
+use crate::{Fault, Feed, Gate, LeastFigures, Refused, Sink, Status, Verdict};
 use cfs_model::Knobs;
 use std::alloc::Global;
 use std::random::RandomSource;
@@ -54,28 +53,6 @@ pub fn run<R: RandomSource + Threads + Wait + Sync, T: Feed, C: Feed, G: Gate, S
         (output_of (S.taken out.old) (S.taken out.new) (S.has_failed out.new)) result }
 {
     run_judged::<Verdict, _, _, _, _, _>(rt, alloc, trace, companion, knobs, gate, out)
-}
-
-/// The same, but the report has a run's counts alone, and no line for each task.
-pub fn run_counted<R: RandomSource + Threads + Wait + Sync, T: Feed, C: Feed, G: Gate, S: Sink>(
-    rt: &R,
-    alloc: Global,
-    trace: &mut T,
-    companion: &mut C,
-    knobs: Knobs,
-    gate: &G,
-    out: &mut S,
-) -> Result<Status, Fault>
-    requires trace { T.calls trace.old ≡ 0 }
-    requires companion { C.calls companion.old ≡ 0 }
-    requires out { S.has_failed out.old ≡ false }
-    ensures { Runs (IsCounted knobs) (λ _. counted_lines) counted_fault
-        (input_of (T.left trace.old) (T.left trace.new) (T.calls trace.new) (T.has_failed trace.new)
-        (T.has_ended trace.new)) (input_of (C.left companion.old) (C.left companion.new) (C.calls companion.new)
-        (C.has_failed companion.new) (C.has_ended companion.new))
-        (output_of (S.taken out.old) (S.taken out.new) (S.has_failed out.new)) result }
-{
-    run_judged::<Counted, _, _, _, _, _>(rt, alloc, trace, companion, knobs, gate, out)
 }
 
 /// The least settings at which a trace is a run by its companion, each with where it is needed first, or the first line

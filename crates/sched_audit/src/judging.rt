@@ -5,7 +5,7 @@ ghost use Rattle.sched_record.specs.Seen.{Tells};
 ghost use Rattle.sched_record.specs.Trace.{TraceAnswer};
 ghost use Rattle.sched_audit.specs.Answer.{IsAnswer, OutcomeAnswer};
 ghost use Rattle.audit_input.specs.Known.{Agrees};
-ghost use Rattle.sched_audit.specs.Run.{IsKept, IsOutcomeOf, Reads, RunsBy, input_of, output_of};
+ghost use Rattle.sched_audit.specs.Run.{IsKept, IsOutcomeOf, Reads, RunsBy, input_of, one_by_one, output_of};
 ghost use Rattle.audit_input.specs.Texts.{TellsCharges};
 
 use crate::{
@@ -59,7 +59,7 @@ pub(crate) fn run_judged<
     requires trace { T.calls trace.old ≡ 0 }
     requires companion { C.calls companion.old ≡ 0 }
     requires out { S.has_failed out.old ≡ false }
-    ensures { RunsBy J.refusal (J.is_of knobs) J.lines J.fault
+    ensures { RunsBy one_by_one J.refusal (J.is_of knobs) J.lines J.fault
         (input_of (T.left trace.old) (T.left trace.new) (T.calls trace.new) (T.has_failed trace.new)
         (T.has_ended trace.new)) (input_of (C.left companion.old) (C.left companion.new) (C.calls companion.new)
         (C.has_failed companion.new) (C.has_ended companion.new))

@@ -7,6 +7,8 @@ mod answers;
 #[cfg(test)]
 mod audits;
 #[cfg(test)]
+mod blocks;
+#[cfg(test)]
 mod command_lines;
 #[cfg(test)]
 mod ends;

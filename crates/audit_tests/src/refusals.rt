@@ -1,8 +1,11 @@
-//! Refused traces, by both calls: `audit_texts`, which has the whole text, and `run`, which reads it as it comes.
+//! Refused traces, by both calls: `audit_texts`, which has the whole text, and `run`, which reads it as it comes; and
+//! the words for a refusal that no recording of these tests comes to.
 
+use crate::answers::wants_about;
 use crate::ends::{ample, whole};
 use crate::runs::wants_run;
 use cfs_model::Knobs;
+use fault_explainer::refusal_words;
 use sched_audit::{Cause, OpenGate, Refused, Source, Status, audit_texts};
 use std::alloc::Global;
 use std::process::Abort;
@@ -99,5 +102,18 @@ fn a_time_that_goes_back_before_a_bad_line_is_named(rt: HostRuntime) -> Result<(
         let report = "refused trace line 3000 TimeBack\n";
         wants_refusal(&rt, rt.alloc(), &lines, 3000, Cause::TimeBack, report)?;
     }
+    Ok(())
+}
+
+/// What is said of a trace of too many lines, whose last one isn't shown.
+fn words_for_too_many_lines(alloc: Global) -> Result<String, Fail> {
+    Ok(refusal_words(alloc, Source::Trace, Cause::TooManyLines, None)?)
+}
+
+#[test]
+fn too_many_lines_have_their_words(rt: HostRuntime) -> Result<(), Fail> {
+    let words = words_for_too_many_lines(rt.alloc())?;
+    let wanted = "# a trace has at most 4294967295 lines\n# cut the recording\n";
+    wants_about(&rt, "too many lines", &words.as_str(), &wanted);
     Ok(())
 }

@@ -3,7 +3,9 @@
 
 use crate::ends::{Narrow, Pieces, Room, ample};
 use cfs_model::Knobs;
-use sched_audit::{Fault, FeedOf, OpenGate, SinkOf, Status, run, run_least};
+use sched_audit::{
+    Fault, FeedOf, OpenGate, SinkOf, Sizes, Status, Told, run, run_in_blocks, run_json, run_least,
+};
 use std::alloc::Global;
 use std::process::Abort;
 use std::random::RandomSource;
@@ -35,6 +37,28 @@ pub fn ran<R: RandomSource + Threads + Wait + Sync>(
     (status, out.taken, [trace.calls, companion.calls, out.calls])
 }
 
+/// What is answered and written of two inputs that are read at once, in blocks and windows of these sizes.
+pub fn ran_in_blocks<R: RandomSource + Threads + Sync>(
+    rt: &R,
+    alloc: Global,
+    trace: Pieces<'_>,
+    companion: Pieces<'_>,
+    (block, window): (u32, usize),
+) -> (Result<Status, Fault>, Vec<u8>) {
+    let (mut trace, mut companion) = (trace, companion);
+    let mut out = Narrow::new(alloc, ample());
+    let status = run_in_blocks(
+        rt,
+        alloc,
+        &mut FeedOf::new(&mut trace),
+        &mut FeedOf::new(&mut companion),
+        Knobs::standard(),
+        Sizes::new(block.max(1), window.max(1)),
+        &mut SinkOf::new(&mut out),
+    );
+    (status, out.taken)
+}
+
 /// Ends the test where the run of two texts answers or writes something else, and says how often each end was called.
 pub fn wants_run<R: Abort + RandomSource + Threads + Wait + Sync>(
     rt: &R,
@@ -63,6 +87,27 @@ pub fn least_ran<R: RandomSource + Threads + Wait + Sync>(
         alloc,
         &mut FeedOf::new(&mut trace),
         &mut FeedOf::new(&mut companion),
+        &OpenGate,
+        &mut SinkOf::new(&mut out),
+    );
+    (status, out.taken)
+}
+
+/// What is answered and written of two texts as JSON, by the standard settings.
+pub fn object_ran<J: Told, R: RandomSource + Threads + Wait + Sync>(
+    rt: &R,
+    alloc: Global,
+    trace: Pieces<'_>,
+    companion: Pieces<'_>,
+) -> (Result<Status, Fault>, Vec<u8>) {
+    let (mut trace, mut companion) = (trace, companion);
+    let mut out = Narrow::new(alloc, ample());
+    let status = run_json::<J, R, _, _, _, _>(
+        rt,
+        alloc,
+        &mut FeedOf::new(&mut trace),
+        &mut FeedOf::new(&mut companion),
+        Knobs::standard(),
         &OpenGate,
         &mut SinkOf::new(&mut out),
     );

@@ -40,7 +40,7 @@ static FRONTS: [Shape; 6] = [
 
 /// By what stands somewhere near the front.
 static WITHIN: [Shape; 1] = [Shape {
-    mark: b": sched:sched_",
+    mark: b" sched:sched_",
     hint: "looks like `perf script`: `perf script | sed -E 's/^(.{16}) +([0-9]+) +(\\[[0-9]+\\]) +([0-9.]+): +sched:(sched_[a-z_]+): +/\\1-\\2 \\3 \\4: \\5: /'` writes the text",
 }];
 

@@ -8,10 +8,12 @@ mod naming;
 mod processor;
 mod readings;
 mod stages;
+mod streamed;
 
 use crate::naming::naming_of;
 use crate::readings::found_by;
 use crate::stages::{Round, Stages, round_of};
+use crate::streamed::streamed;
 use sched_record::read_trace;
 use std::process::ExitCode;
 use std::random::RandomSource;
@@ -20,6 +22,7 @@ use std::sync::Wait;
 use std::thread::Threads;
 use std::time::Instant;
 use std::{env, fs, io};
+use stream_audit::{Sizes, StreamOutcome};
 
 /// The exit status of a bad command line.
 const BAD_WORDS: u8 = 5;
@@ -89,6 +92,36 @@ fn time_naming<R: AllocGlobal + Clock + Files + Print + RandomSource>(
     Ok(ExitCode::SUCCESS)
 }
 
+/// Times an audit of two files a block at a time, so many times.
+fn time_streamed<R: AllocGlobal + Clock + Files + Print + RandomSource + Threads + Wait + Sync>(
+    rt: &R,
+    trace: &str,
+    companion: &str,
+    sizes: Sizes,
+    rounds: u32,
+) -> io::Result<ExitCode> {
+    for _ in 0..rounds {
+        let (took, heard) = streamed(rt, rt.alloc(), trace, companion, sizes)?;
+        match heard {
+            Ok(hearing) => match hearing.outcome {
+                StreamOutcome::Judged(verdict) => match verdict {
+                    ticket_book::Verdict::Run(summary) => println!(rt;
+                        "{took} run {}",
+                        summary.events
+                    )?,
+                    ticket_book::Verdict::Fault(fault) => println!(rt;
+                        "{took} fault {}",
+                        fault.line
+                    )?,
+                },
+                StreamOutcome::Text { line, .. } => println!(rt; "{took} refused {line}")?,
+            },
+            Err(fault) => println!(rt; "{took} {fault}")?,
+        }
+    }
+    Ok(ExitCode::SUCCESS)
+}
+
 fn print_stages<R: Print>(rt: &R, times: Stages) -> io::Result<()> {
     print!(rt; "{} {} {} ", times.dealing, times.replaying, times.closing)
 }
@@ -105,6 +138,18 @@ fn main(rt: HostRuntime) -> io::Result<ExitCode> {
         [_, what, file, _] => time_reading(&rt, what.as_str(), file.as_str(), rounds),
         [_, what, trace, companion, _] if what.as_str() == "stages" => {
             time_stages(&rt, trace.as_str(), companion.as_str(), rounds)
+        }
+        [_, what, trace, companion, block, window, _] if what.as_str() == "streamed" => {
+            let (Ok(block), Ok(window)) = (block.parse::<u32>(), window.parse::<usize>()) else {
+                return Ok(ExitCode::from(BAD_WORDS));
+            };
+            time_streamed(
+                &rt,
+                trace.as_str(),
+                companion.as_str(),
+                Sizes::new(block.max(1), window.max(1)),
+                rounds,
+            )
         }
         _ => Ok(ExitCode::from(BAD_WORDS)),
     }

@@ -1,18 +1,18 @@
 use crate::answer::{Answer, FrontOf};
 use crate::ending::Ending;
-use crate::explaining::answer_kept;
+use crate::explaining::{answer_kept, answer_kept_json};
 use crate::failure::Failure;
 use crate::hints::say_hints;
 use crate::json_report::answer_json;
-use crate::progress::{Size, WatchedFeed};
+use crate::progress::{Lengths, WatchedFeed};
 use crate::terminals::Terminals;
 use clap::Error;
 use clap::error::ErrorKind::OutOfMemory;
 use given_texts::file_of;
 use sched_audit::{
-    AsJson, Counted, Fault, FeedOf, LeastFigures, OpenGate, Request, SinkOf, Told, Verdict,
-    WithWaits, command_line, run, run_counted, run_counted_waits, run_least, run_least_waits,
-    run_waits,
+    Counted, Fault, FeedOf, LeastFigures, OpenGate, Request, SinkOf, Sizes, Told, Verdict,
+    WithWaits, command_line, run_counted_in_blocks, run_counted_waits, run_in_blocks, run_least,
+    run_least_waits, run_waits,
 };
 use std::alloc::Global;
 use std::fs::File;
@@ -22,6 +22,12 @@ use std::rt::{Env, Files};
 use std::sync::Wait;
 use std::thread::Threads;
 use std::{env, io};
+
+/// How many bytes a read of an input asks for, where both are read at once.
+const BLOCK: u32 = 1 << 20;
+
+/// How many events are audited at once there, at most.
+const WINDOW: usize = 1 << 16;
 
 /// Does what the command line says.
 pub fn obey<R: Env + Files + Print + Eprint + AllocGlobal + RandomSource + Threads + Wait + Sync>(
@@ -92,14 +98,20 @@ fn answer<R: Files + Print + Eprint + RandomSource + Threads + Wait + Sync>(
 ) -> Result<Answer, Failure> {
     let trace = File::open(rt, request.trace).map_err(|_| Fault::ReadTrace)?;
     let companion = File::open(rt, request.companion).map_err(|_| Fault::ReadCompanion)?;
-    let size = Size::of(&trace, terminals.errors);
+    let lengths = Lengths::of(&trace, &companion, terminals.errors);
     if !request.explain && request.states.is_none() {
-        return Ok(answer_alone(rt, alloc, request, trace, companion, size)?);
+        return Ok(answer_alone(rt, alloc, request, trace, companion, lengths)?);
     }
     match (request.least, request.summary) {
-        (true, _) => answer_kept_as::<LeastFigures, R>(rt, alloc, request, trace, companion, size),
-        (false, true) => answer_kept_as::<Counted, R>(rt, alloc, request, trace, companion, size),
-        (false, false) => answer_kept_as::<Verdict, R>(rt, alloc, request, trace, companion, size),
+        (true, _) => answer_kept_as::<LeastFigures, R>(
+            rt, alloc, request, trace, companion, lengths,
+        ),
+        (false, true) => answer_kept_as::<Counted, R>(
+            rt, alloc, request, trace, companion, lengths,
+        ),
+        (false, false) => answer_kept_as::<Verdict, R>(
+            rt, alloc, request, trace, companion, lengths,
+        ),
     }
 }
 
@@ -110,12 +122,12 @@ fn answer_kept_as<J: Told, R: Files + Print + Eprint + RandomSource + Threads + 
     request: &Request<'_>,
     trace: R::File,
     companion: R::File,
-    size: Size,
+    lengths: Lengths,
 ) -> Result<Answer, Failure> {
     if request.waits {
-        answer_kept_in::<WithWaits<J>, R>(rt, alloc, request, trace, companion, size)
+        answer_kept_in::<WithWaits<J>, R>(rt, alloc, request, trace, companion, lengths)
     } else {
-        answer_kept_in::<J, R>(rt, alloc, request, trace, companion, size)
+        answer_kept_in::<J, R>(rt, alloc, request, trace, companion, lengths)
     }
 }
 
@@ -126,13 +138,18 @@ fn answer_kept_in<J: Told, R: Files + Print + Eprint + RandomSource + Threads + 
     request: &Request<'_>,
     trace: R::File,
     companion: R::File,
-    size: Size,
+    lengths: Lengths,
 ) -> Result<Answer, Failure> {
     if request.json {
-        answer_kept::<AsJson<J>, R>(rt, alloc, request, trace, companion, size)
+        answer_kept_json::<J, R>(rt, alloc, request, trace, companion, lengths)
     } else {
-        answer_kept::<J, R>(rt, alloc, request, trace, companion, size)
+        answer_kept::<J, R>(rt, alloc, request, trace, companion, lengths)
     }
+}
+
+/// How much of a recording is looked at at once.
+fn sizes() -> Sizes {
+    Sizes::new(BLOCK, WINDOW)
 }
 
 /// Writes the report, and nothing behind it.
@@ -142,13 +159,13 @@ fn answer_alone<R: Files + Print + Eprint + RandomSource + Threads + Wait + Sync
     request: &Request<'_>,
     trace: R::File,
     companion: R::File,
-    size: Size,
+    lengths: Lengths,
 ) -> Result<Answer, Fault> {
     if request.json {
-        return answer_json(rt, alloc, request, trace, companion, size);
+        return answer_json(rt, alloc, request, trace, companion, lengths);
     }
-    let mut trace = WatchedFeed::new(rt, FeedOf::new(trace), size);
-    let mut companion = FeedOf::new(companion);
+    let mut trace = WatchedFeed::new(rt, FeedOf::new(trace), lengths.trace);
+    let mut companion = WatchedFeed::new(rt, FeedOf::new(companion), lengths.companion);
     let mut end = FrontOf::new(SinkOf::new(io::writer(rt)));
     let (trace, companion, out) = (&mut trace, &mut companion, &mut end);
     let knobs = request.knobs;
@@ -157,9 +174,11 @@ fn answer_alone<R: Files + Print + Eprint + RandomSource + Threads + Wait + Sync
         (true, _, true) => run_least_waits(rt, alloc, trace, companion, gate, out),
         (true, _, false) => run_least(rt, alloc, trace, companion, gate, out),
         (false, true, true) => run_counted_waits(rt, alloc, trace, companion, knobs, gate, out),
-        (false, true, false) => run_counted(rt, alloc, trace, companion, knobs, gate, out),
+        (false, true, false) => {
+            run_counted_in_blocks(rt, alloc, trace, companion, knobs, sizes(), out)
+        }
         (false, false, true) => run_waits(rt, alloc, trace, companion, knobs, gate, out),
-        (false, false, false) => run(rt, alloc, trace, companion, knobs, gate, out),
+        (false, false, false) => run_in_blocks(rt, alloc, trace, companion, knobs, sizes(), out),
     }?;
     Ok(end.answer(status))
 }

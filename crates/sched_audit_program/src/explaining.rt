@@ -2,21 +2,21 @@
 //! why.
 use crate::answer::{Answer, FrontOf};
 use crate::failure::Failure;
-use crate::progress::{Size, WatchedFeed};
+use crate::fault_members::FaultMembers;
+use crate::progress::{Lengths, WatchedFeed};
 use crate::states::{file_of, write_states_to};
-use crate::trace_again::TraceAgain;
+use crate::trace_again::{TraceAgain, is_regular};
 use audit_input::{Cause, KeepingFeed, line_of};
 use cfs_model::Knobs;
 use fault_explainer::{explanation, quoted_line, refusal_words};
 use pid_table::PidHasher;
 use replay_model::FirstFault;
 use sched_audit::{
-    Color, Fault, Feed, FeedOf, Hearing, Judgement, Kept, OpenGate, Outcome, Request, SinkOf,
-    Source, Status, judge, write_report,
+    AsJson, Color, Fault, Feed, FeedOf, Hearing, Judgement, Kept, OpenGate, Outcome, Request,
+    SinkOf, Source, Status, Told, judge, judge_json, write_report,
 };
 use sched_record::Record;
 use std::alloc::Global;
-use std::fs::OpenFile;
 use std::io;
 use std::io::{ErrorKind, Write};
 use std::random::RandomSource;
@@ -42,31 +42,71 @@ pub(crate) fn answer_kept<
     request: &Request<'_>,
     trace: R::File,
     companion: R::File,
-    size: Size,
+    lengths: Lengths,
 ) -> Result<Answer, Failure> {
     let keeps = request.explain && !is_regular(&trace);
-    let mut trace = KeepingFeed::new(alloc, WatchedFeed::new(rt, FeedOf::new(trace), size), keeps);
-    let mut companion = FeedOf::new(companion);
+    let mut trace = KeepingFeed::new(
+        alloc,
+        WatchedFeed::new(rt, FeedOf::new(trace), lengths.trace),
+        keeps,
+    );
+    let mut companion = WatchedFeed::new(rt, FeedOf::new(companion), lengths.companion);
     let knobs = request.knobs;
     let hearing: Hearing<J> = judge(rt, alloc, &mut trace, &mut companion, knobs, &OpenGate)?;
+    let answer = write_kept(rt, alloc, request, &hearing)?;
+    if request.explain && answer.status != Status::Yes {
+        explain(rt, alloc, request, &hearing, &trace)?;
+    }
+    Ok(answer)
+}
+
+/// Judges both inputs, and writes the report as one JSON object, and the states that are asked for beside it.
+pub(crate) fn answer_kept_json<
+    J: Told,
+    R: Files + Print + Eprint + RandomSource + Threads + Wait + Sync,
+>(
+    rt: &R,
+    alloc: Global,
+    request: &Request<'_>,
+    trace: R::File,
+    companion: R::File,
+    lengths: Lengths,
+) -> Result<Answer, Failure> {
+    let keeps = !is_regular(&trace);
+    let mut trace = KeepingFeed::new(
+        alloc,
+        WatchedFeed::new(rt, FeedOf::new(trace), lengths.trace),
+        keeps,
+    );
+    let mut companion = WatchedFeed::new(rt, FeedOf::new(companion), lengths.companion);
+    let mut further = FaultMembers::new(rt, alloc, request.trace);
+    let (trace, companion, gate) = (&mut trace, &mut companion, &OpenGate);
+    let hearing: Hearing<AsJson<J>> = judge_json(
+        rt,
+        alloc,
+        trace,
+        companion,
+        request.knobs,
+        gate,
+        &mut further,
+    )?;
+    write_kept(rt, alloc, request, &hearing)
+}
+
+/// Makes the file of the states that are asked for, writes the report, and then the states.
+fn write_kept<J: Judgement, R: Files + Print + RandomSource>(
+    rt: &R,
+    alloc: Global,
+    request: &Request<'_>,
+    hearing: &Hearing<J>,
+) -> Result<Answer, Failure> {
     let states = file_of(rt, request.states)?;
     let mut out = FrontOf::new(SinkOf::new(io::writer(rt)));
     let status = write_report(alloc, &hearing.outcome, hearing.tells_charges, &mut out)?;
     if let Some(file) = states {
-        write_states_to(rt, alloc, knobs, &hearing, file)?;
-    }
-    if request.explain && status != Status::Yes {
-        explain(rt, alloc, request, &hearing, &trace)?;
+        write_states_to(rt, alloc, request.knobs, hearing, file)?;
     }
     Ok(out.answer(status))
-}
-
-/// Whether a file is one that can be read a second time.
-fn is_regular<F: OpenFile>(file: &F) -> bool {
-    match file.metadata() {
-        Ok(about) => about.is_file(),
-        Err(_) => false,
-    }
 }
 
 /// Writes what there is to say of a fault or a refusal.

@@ -1,9 +1,12 @@
 //! The report as JSON, with nothing beside it.
 use crate::answer::{Answer, FrontOf};
-use crate::progress::{Size, WatchedFeed};
+use crate::fault_members::FaultMembers;
+use crate::progress::{Lengths, WatchedFeed};
+use crate::trace_again::is_regular;
+use audit_input::KeepingFeed;
 use sched_audit::{
     Counted, Fault, FeedOf, LeastFigures, OpenGate, Request, SinkOf, Told, Verdict, WithWaits,
-    run_json,
+    run_json_further,
 };
 use std::alloc::Global;
 use std::io;
@@ -19,12 +22,12 @@ pub(crate) fn answer_json<R: Files + Print + Eprint + RandomSource + Threads + W
     request: &Request<'_>,
     trace: R::File,
     companion: R::File,
-    size: Size,
+    lengths: Lengths,
 ) -> Result<Answer, Fault> {
     match (request.least, request.summary) {
-        (true, _) => answer_as::<LeastFigures, R>(rt, alloc, request, trace, companion, size),
-        (false, true) => answer_as::<Counted, R>(rt, alloc, request, trace, companion, size),
-        (false, false) => answer_as::<Verdict, R>(rt, alloc, request, trace, companion, size),
+        (true, _) => answer_as::<LeastFigures, R>(rt, alloc, request, trace, companion, lengths),
+        (false, true) => answer_as::<Counted, R>(rt, alloc, request, trace, companion, lengths),
+        (false, false) => answer_as::<Verdict, R>(rt, alloc, request, trace, companion, lengths),
     }
 }
 
@@ -35,18 +38,37 @@ fn answer_as<J: Told, R: Files + Print + Eprint + RandomSource + Threads + Wait 
     request: &Request<'_>,
     trace: R::File,
     companion: R::File,
-    size: Size,
+    lengths: Lengths,
 ) -> Result<Answer, Fault> {
-    let mut trace = WatchedFeed::new(rt, FeedOf::new(trace), size);
-    let mut companion = FeedOf::new(companion);
+    if request.waits {
+        answer_in::<WithWaits<J>, R>(rt, alloc, request, trace, companion, lengths)
+    } else {
+        answer_in::<J, R>(rt, alloc, request, trace, companion, lengths)
+    }
+}
+
+/// The same, of what is told. A trace that can't be read a second time is kept.
+fn answer_in<J: Told, R: Files + Print + Eprint + RandomSource + Threads + Wait + Sync>(
+    rt: &R,
+    alloc: Global,
+    request: &Request<'_>,
+    trace: R::File,
+    companion: R::File,
+    lengths: Lengths,
+) -> Result<Answer, Fault> {
+    let keeps = !is_regular(&trace);
+    let mut trace = KeepingFeed::new(
+        alloc,
+        WatchedFeed::new(rt, FeedOf::new(trace), lengths.trace),
+        keeps,
+    );
+    let mut companion = WatchedFeed::new(rt, FeedOf::new(companion), lengths.companion);
+    let mut further = FaultMembers::new(rt, alloc, request.trace);
     let mut end = FrontOf::new(SinkOf::new(io::writer(rt)));
     let (trace, companion, out) = (&mut trace, &mut companion, &mut end);
-    let knobs = request.knobs;
-    let gate = &OpenGate;
-    let status = if request.waits {
-        run_json::<WithWaits<J>, R, _, _, _, _>(rt, alloc, trace, companion, knobs, gate, out)?
-    } else {
-        run_json::<J, R, _, _, _, _>(rt, alloc, trace, companion, knobs, gate, out)?
-    };
+    let (knobs, gate, further) = (request.knobs, &OpenGate, &mut further);
+    let status = run_json_further::<J, R, _, _, _, _, _>(
+        rt, alloc, trace, companion, knobs, gate, further, out,
+    )?;
     Ok(end.answer(status))
 }

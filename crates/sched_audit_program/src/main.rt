@@ -6,6 +6,7 @@ mod command;
 mod ending;
 mod explaining;
 mod failure;
+mod fault_members;
 mod hints;
 mod json_report;
 mod progress;

@@ -7,20 +7,39 @@ use std::fs::OpenFile;
 /// A text of so many bytes is read without a word.
 const QUIET: u64 = 100_000_000;
 
-/// How long a text is whose progress is told; 0 where none is.
+/// Which text it is whose progress is told, and how long that is; 0 where none is told.
 #[derive(Clone, Copy, Debug, PartialEq, Eq)]
 pub(crate) struct Size {
+    name: &'static str,
     bytes: u64,
+}
+
+/// Those of both texts.
+#[derive(Clone, Copy, Debug, PartialEq, Eq)]
+pub(crate) struct Lengths {
+    pub trace: Size,
+    pub companion: Size,
+}
+
+impl Lengths {
+    /// Of their files.
+    pub(crate) fn of<F: OpenFile>(trace: &F, companion: &F, is_seen: bool) -> Lengths {
+        Lengths {
+            trace: Size::of("trace", trace, is_seen),
+            companion: Size::of("companion", companion, is_seen),
+        }
+    }
 }
 
 impl Size {
     /// Of a file: its progress is told where that is seen, and the file is regular and long.
-    pub(crate) fn of<F: OpenFile>(file: &F, is_seen: bool) -> Size {
+    fn of<F: OpenFile>(name: &'static str, file: &F, is_seen: bool) -> Size {
         match file.metadata() {
             Ok(about) if is_seen && about.is_file() && about.len() > QUIET => Size {
+                name,
                 bytes: about.len(),
             },
-            _ => Size { bytes: 0 },
+            _ => Size { name, bytes: 0 },
         }
     }
 
@@ -66,9 +85,10 @@ impl<'a, R: Eprint, F: Feed> WatchedFeed<'a, R, F> {
             return;
         };
         if count == 0 {
-            let _ = eprint!(self.rt; "\r                        \r");
+            let _ = eprint!(self.rt; "\r                                 \r");
         } else if percent > self.told {
-            let _ = eprint!(self.rt; "\rsched_audit: {percent} % read");
+            let name = self.size.name;
+            let _ = eprint!(self.rt; "\rsched_audit: {name} {percent} % read    ");
             self.told = percent;
         }
     }

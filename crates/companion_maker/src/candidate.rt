@@ -1,14 +1,14 @@
+use crate::made::Guessed;
 use crate::strategy::Strategy;
-use cfs_model::{ChargeLine, Claim, NiceLine};
+use cfs_model::{Amounts, ChargeLine, Claim, NiceLine, Setting};
 use std::collections::BTreeMap;
 
 /// What a companion says of the events, as one strategy makes it.
 #[derive(Drop)]
 pub(crate) struct Candidate {
     pub strategy: Strategy,
-    /// The greatest distance of a picked task from the least waiting one, in virtual nanoseconds, before an event that
-    /// fits no settings.
-    pub granularity: u64,
+    /// What is needed of each setting before an event that fits none.
+    pub needs: Amounts,
     /// The first line whose event fits no settings, if there is one. What comes behind it isn't scored.
     pub stop: Option<u32>,
     pub claims: Vec<Claim>,
@@ -22,8 +22,8 @@ impl Candidate {
     /// Whether it is right for more lines than another, or needs less granularity up to the same one; of two that need
     /// the same, the one is better whose strategy is listed first.
     pub(crate) fn is_better_than(&self, other: &Candidate) -> bool {
-        let (reach, needed) = (self.reach(), self.granularity);
-        let (other_reach, other_needed) = (other.reach(), other.granularity);
+        let (reach, needed) = (self.reach(), self.granularity());
+        let (other_reach, other_needed) = (other.reach(), other.granularity());
         if reach != other_reach {
             return reach > other_reach;
         }
@@ -37,11 +37,25 @@ impl Candidate {
         }
     }
 
-    /// A pick is so far above the least who waits, in virtual nanoseconds.
-    pub(crate) fn score(&mut self, lead: u64) {
-        if self.stop.is_none() {
-            self.granularity = self.granularity.max(lead);
+    /// How it was made.
+    pub(crate) fn guessed(&self) -> Guessed {
+        Guessed {
+            strategy: self.strategy,
+            needs: self.needs,
+            stop: self.stop,
         }
+    }
+
+    /// So much is needed of a setting.
+    pub(crate) fn need(&mut self, setting: Setting, amount: u64) {
+        if self.stop.is_none() {
+            self.needs.raise(setting, amount);
+        }
+    }
+
+    /// The greatest distance of a picked task from the least waiting one, in virtual nanoseconds.
+    pub(crate) fn granularity(&self) -> u64 {
+        self.needs.get(Setting::Granularity)
     }
 
     /// The line before which all events fit some settings.

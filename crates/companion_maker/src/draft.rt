@@ -120,6 +120,7 @@ fn follow(
         }
         machine.pass(event, index, outset.forecast.is_picked(index), known)?;
     }
+    machine.end();
     Ok(is_better(machine, rival))
 }
 

@@ -9,11 +9,11 @@ use crate::processor::Processor;
 use crate::start::Start;
 use crate::strategy::Strategy;
 use crate::tasks::Tasks;
-use crate::values::{above, below, moved};
+use crate::values::{above, below, excess, moved};
 use crate::wishes::Wishes;
 use cfs_model::{
-    Act, ChargeLine, Claim, ClaimSort, Entry, GREATEST_SETTING, Memory, Nice, NiceLine, Place,
-    Policy, Task, Way,
+    Act, Amounts, ChargeLine, Claim, ClaimSort, Entry, GREATEST_SETTING, Memory, Nice, NiceLine,
+    Place, Policy, Setting, Task, Way,
 };
 use std::alloc::Global;
 use std::collections::BTreeMap;
@@ -34,6 +34,8 @@ pub(crate) struct Machine {
     asked: BTreeMap<Placing, i64>,
     /// How many prints have been heard.
     heard: usize,
+    /// Of the last event, in nanoseconds.
+    time: u64,
 }
 
 /// An event's line and index, whether its task is the next to be picked, and what is known of its placement.
@@ -60,7 +62,7 @@ impl Machine {
             wishes: *wishes,
             made: Candidate {
                 strategy,
-                granularity: 0,
+                needs: Amounts::none(),
                 stop: None,
                 claims: Vec::new(alloc),
                 nices: BTreeMap::new(alloc),
@@ -69,6 +71,7 @@ impl Machine {
             unsettled: Vec::new(alloc),
             asked: BTreeMap::new(alloc),
             heard: 0,
+            time: outset.start,
         };
         machine.set_up(alloc, outset, start, known)?;
         Ok(machine)
@@ -94,6 +97,9 @@ impl Machine {
             let unsettled = self.unsettled_at_start(task, outset.start, known)?;
             self.enter(*task, 0, unsettled, known)?;
         }
+        for cpu in 0..outset.cpus {
+            self.note_idling(cpu);
+        }
         Ok(())
     }
 
@@ -118,6 +124,13 @@ impl Machine {
         Ok(news)
     }
 
+    /// No event follows.
+    pub(crate) fn end(&mut self) {
+        for processor in self.processors.as_slice() {
+            self.made.need(Setting::Slack, processor.idled(self.time));
+        }
+    }
+
     /// Passes one more event, which stands at this index. The flag tells whether the task that it wakes or bears is the
     /// next to be picked.
     pub(crate) fn pass(
@@ -133,10 +146,22 @@ impl Machine {
             is_picked,
             placement: known.placement(index),
         };
+        let (home, dest) = event.act.ends();
+        self.time = event.time;
         self.hear(event.line, known);
         if !self.fits(event) {
-            self.made.stop_at(moment.line);
+            self.stop_at(moment.line);
         }
+        self.need_slack(home);
+        self.need_slack(dest);
+        self.act(event, moment, known)?;
+        self.note_idling(home);
+        self.note_idling(dest);
+        Ok(())
+    }
+
+    /// What the event does.
+    fn act(&mut self, event: &Entry, moment: Moment, known: &Known) -> Result<(), Memory> {
         let act = event.act;
         match act {
             Act::Switch {
@@ -181,6 +206,29 @@ impl Machine {
                 self.end_line(moment.line, orig);
                 Ok(())
             }
+        }
+    }
+
+    /// The event on this line fits no settings. What was needed up to there stays.
+    fn stop_at(&mut self, line: u32) {
+        if self.made.stop.is_none() {
+            self.end();
+            self.made.stop_at(line);
+        }
+    }
+
+    /// The processor is touched: the slack has to be as long as it idled beside a waiting task.
+    fn need_slack(&mut self, cpu: u32) {
+        if let Some(processor) = self.processors.get(cpu as usize) {
+            self.made.need(Setting::Slack, processor.idled(self.time));
+        }
+    }
+
+    /// What happens at the processor is over.
+    fn note_idling(&mut self, cpu: u32) {
+        let time = self.time;
+        if let Some(processor) = self.processors.get_mut(cpu as usize) {
+            processor.note_idling(time);
         }
     }
 
@@ -265,10 +313,11 @@ impl Machine {
 
     /// Charges who runs, exactly, and raises the floor.
     fn lift(&mut self, line: u32, cpu: u32, time: u64) {
-        if let Some(processor) = self.processors.get_mut(cpu as usize) {
-            if processor.queue.lift(time, None, 0).is_err() {
-                self.made.stop_at(line);
-            }
+        let Some(processor) = self.processors.get_mut(cpu as usize) else {
+            return;
+        };
+        if processor.queue.lift(time, None, 0).is_err() {
+            self.stop_at(line);
         }
     }
 
@@ -281,6 +330,7 @@ impl Machine {
                     .lift(time, Some(told), GREATEST_SETTING)
                     .is_ok()
                 {
+                    self.made.need(Setting::Drift, processor.drift());
                     self.made.charges.push(told)?;
                     return Ok(());
                 }
@@ -341,7 +391,7 @@ impl Machine {
             Some(line) => {
                 self.made.nices.insert(line, NiceLine { line, pid, nice })?;
             }
-            None => self.made.stop_at(line),
+            None => self.stop_at(line),
         }
         Ok(())
     }
@@ -392,7 +442,7 @@ impl Machine {
     fn pick(&mut self, cpu: u32, next: u32) -> Result<(), Memory> {
         if let Some(processor) = self.processors.get_mut(cpu as usize) {
             if let Some(lead) = processor.pick(next)? {
-                self.made.score(lead);
+                self.made.need(Setting::Granularity, lead);
             }
         }
         Ok(())
@@ -413,6 +463,8 @@ impl Machine {
             }
             None => self.wake_place(moment, cpu, own),
         };
+        let credit = excess(self.floor(cpu), v);
+        self.made.need(Setting::Credit, credit);
         self.place_anew(moment, pid, v, own)?;
         let claim = Claim {
             line: moment.line,
@@ -553,6 +605,8 @@ impl Machine {
             Some(placed) => placed.max(self.floor(cpu)),
             None => self.birth_place(moment, cpu),
         };
+        let debit = excess(v, self.floor(cpu));
+        self.made.need(Setting::Debit, debit);
         let task = Task {
             pid,
             nice,

@@ -1,4 +1,5 @@
 use crate::strategy::Strategy;
+use cfs_model::Amounts;
 
 /// A companion that was made.
 #[derive(Debug, Drop)]
@@ -11,9 +12,8 @@ pub struct Made {
 #[derive(Clone, Copy, Debug, PartialEq, Eq)]
 pub struct Guessed {
     pub strategy: Strategy,
-    /// The greatest distance of a picked task from the least waiting one, in virtual nanoseconds, before an event that
-    /// fits no settings.
-    pub granularity: u64,
+    /// What the audit needs of each setting, in nanoseconds: for a run, or up to the event that fits none.
+    pub needs: Amounts,
     /// The first line of the trace whose event fits no settings, if there is one.
     pub stop: Option<u32>,
 }

@@ -12,7 +12,7 @@ use crate::draft::{Draft, better_draft, draft_of, kernel_draft};
 use crate::floors::Floors;
 use crate::forecast::Forecast;
 use crate::known::Known;
-use crate::made::{Guessed, Made};
+use crate::made::Made;
 use crate::not_made::NotMade;
 use crate::opening::tasks_at_start;
 use crate::outset::Outset;
@@ -161,14 +161,9 @@ fn found_text(
     } else {
         kernel_draft(alloc, &outset, events, wishes, known)?
     };
-    Ok(Made {
-        text: text_of(alloc, &outset, &draft)?,
-        guess: Some(Guessed {
-            strategy: draft.candidate.strategy,
-            granularity: draft.candidate.granularity,
-            stop: draft.candidate.stop,
-        }),
-    })
+    let text = text_of(alloc, &outset, &draft)?;
+    let guess = Some(draft.candidate.guessed());
+    Ok(Made { text, guess })
 }
 
 /// What the wanted strategy makes; where none of those that guess is named, the best.

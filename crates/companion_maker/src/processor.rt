@@ -9,6 +9,8 @@ pub(crate) struct Processor {
     pub queue: Runqueue,
     /// The last line of an event here that changes no nice value; 0 where there is none.
     pub free_line: u32,
+    /// Since when nothing has run here while somebody waited, in nanoseconds; if that is so.
+    since: Option<u64>,
 }
 
 impl Processor {
@@ -17,6 +19,37 @@ impl Processor {
         Processor {
             queue: Runqueue::empty(alloc, hasher, floor, start),
             free_line: 0,
+            since: None,
+        }
+    }
+
+    /// What happens here at this time is over.
+    pub(crate) fn note_idling(&mut self, time: u64) {
+        self.since = if self.idles() {
+            Some(self.since.unwrap_or(time))
+        } else {
+            None
+        };
+    }
+
+    /// Nothing runs here, and somebody waits.
+    fn idles(&self) -> bool {
+        self.queue.runner().is_none() && self.queue.least_waiting().is_some()
+    }
+
+    /// For how long nothing has run here at this time while somebody waited, in nanoseconds.
+    pub(crate) fn idled(&self, time: u64) -> u64 {
+        match self.since {
+            Some(since) => time.saturating_sub(since),
+            None => 0,
+        }
+    }
+
+    /// How far the told charges of who runs are from exact ones in sum, in virtual nanoseconds.
+    pub(crate) fn drift(&self) -> u64 {
+        match self.queue.runner() {
+            Some(task) => task.drift.unsigned_abs(),
+            None => 0,
         }
     }
 

@@ -10,6 +10,11 @@ pub(crate) fn moved(v: i64, from: i64, to: i64) -> i64 {
     within_range(v.saturating_sub(from).saturating_add(to))
 }
 
+/// How far a virtual runtime is above another, in virtual nanoseconds; 0 where it isn't.
+pub(crate) fn excess(v: i64, from: i64) -> u64 {
+    if v > from { v.abs_diff(from) } else { 0 }
+}
+
 /// A setting above a floor.
 pub(crate) fn above(floor: i64, setting: u64) -> i64 {
     within_range(floor.saturating_add(setting.min(GREATEST_RUNTIME as u64) as i64))

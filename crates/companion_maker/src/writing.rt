@@ -42,7 +42,7 @@ pub(crate) fn text_of(
 fn push_head(text: &mut String, outset: &Outset, draft: &Draft) -> Result<(), AllocError> {
     let candidate = &draft.candidate;
     let strategy = candidate.strategy.name();
-    let granularity = candidate.granularity;
+    let granularity = candidate.granularity();
     let cpus = outset.cpus;
     let (version, values) = match candidate.strategy {
         Strategy::Kernel => (3, "kernel"),

@@ -1,17 +1,22 @@
-use sched_record::TraceCause;
+use sched_record::{JoinCause, TraceCause};
 use std::fmt;
 
-/// Why a line of a trace is bad, in the auditor's word for it.
+/// Why no companion is made for a trace, in the auditor's word for it.
 #[derive(Clone, Copy)]
-pub(crate) struct CauseWord(pub TraceCause);
+pub(crate) enum CauseWord {
+    /// A line of the trace is bad.
+    Trace(TraceCause),
+    /// No companion joins with the trace.
+    Join(JoinCause),
+}
 
 impl fmt::Display for CauseWord {
     fn fmt<W: fmt::Write>(&self, f: &mut fmt::Formatter<W>) -> fmt::Result {
-        let CauseWord(cause) = *self;
-        match cause {
-            TraceCause::Line(fault) => write!(f, "{fault:?}"),
-            TraceCause::Event(fault) => write!(f, "{fault:?}"),
-            other => write!(f, "{other:?}"),
+        match *self {
+            CauseWord::Trace(TraceCause::Line(fault)) => write!(f, "{fault:?}"),
+            CauseWord::Trace(TraceCause::Event(fault)) => write!(f, "{fault:?}"),
+            CauseWord::Trace(other) => write!(f, "{other:?}"),
+            CauseWord::Join(cause) => write!(f, "{cause:?}"),
         }
     }
 }

@@ -1,4 +1,6 @@
 //! What is likely a mistake, and what to do next: said on standard error.
+use crate::audit_command::AuditCommand;
+use cfs_model::{Amounts, GREATEST_SETTING, Knobs, Setting};
 use companion_maker::{Guessed, Strategy};
 use given_texts::{KernelHint, has_event, is_overwritten, trace_hint};
 
@@ -32,18 +34,37 @@ fn say_of_loss<R: Eprint>(rt: &R, text: &[u8]) {
 }
 
 fn say_of_guess<R: Eprint>(rt: &R, guess: Guessed) {
-    let granularity = guess.granularity;
-    if let Some(line) = guess.stop {
+    let needs = guess.needs;
+    let granularity = needs.get(Setting::Granularity);
+    say_of_stop(rt, guess.stop);
+    if guess.strategy == Strategy::Kernel {
+        say_of_kernel(rt, granularity);
+    }
+    say_of_needs(rt, needs);
+}
+
+/// Says that the event on a line fits no settings.
+fn say_of_stop<R: Eprint>(rt: &R, stop: Option<u32>) {
+    if let Some(line) = stop {
         let _ = eprintln!(rt;
             "hint: line {line} fits no settings: an event is missing before it, or it isn't of CFS; the lines before it may be a run"
         );
     }
-    if guess.strategy == Strategy::Kernel {
-        say_of_kernel(rt, granularity);
+}
+
+/// Says by which command to audit at these settings.
+fn say_of_needs<R: Eprint>(rt: &R, needs: Amounts) {
+    match Knobs::of(needs) {
+        Some(knobs) => {
+            let command = AuditCommand(knobs);
+            let _ = eprintln!(rt; "hint: run {command}");
+        }
+        None => {
+            let _ = eprintln!(rt;
+                "hint: a setting would have to be greater than the greatest, {GREATEST_SETTING} ns"
+            );
+        }
     }
-    let _ = eprintln!(rt;
-        "hint: `sched_audit --least TRACE COMPANION` has the settings that it needs, of which the granularity is {granularity} ns"
-    );
 }
 
 fn say_of_kernel<R: Eprint>(rt: &R, granularity: u64) {

@@ -1,6 +1,7 @@
 //! `make_companion TRACE`, with options: writes a companion for a recorded trace to standard output.
 #![tactic(auto)]
 
+mod audit_command;
 mod cause_word;
 mod command;
 mod ending;

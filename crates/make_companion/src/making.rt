@@ -7,6 +7,7 @@ use clap::error::ErrorKind::OutOfMemory;
 use companion_maker::{NotMade, Wishes, companion_of_text};
 use given_texts::file_of;
 use pid_table::PidHasher;
+use sched_record::JoinCause;
 use std::alloc::Global;
 use std::io::{ErrorKind, Write};
 use std::random::RandomSource;
@@ -87,20 +88,19 @@ fn write_companion<R: Print + Eprint + RandomSource + AllocGlobal>(
                 Err(_) => Ending::Unwritten,
             }
         }
-        Err(NotMade::Trace { line, cause }) => {
-            let word = CauseWord(cause);
-            let _ = eprintln!(rt; "make_companion: refused trace line {line} {word}");
-            say_of_text(rt, text);
-            Ending::Refused
-        }
+        Err(NotMade::Trace { line, cause }) => refuse(rt, text, line, CauseWord::Trace(cause)),
         Err(NotMade::CpuOutside { line }) => {
-            let _ = eprintln!(rt;
-                "make_companion: refused trace line {line}: a processor above 63"
-            );
-            Ending::Refused
+            refuse(rt, text, line, CauseWord::Join(JoinCause::CpuOutside))
         }
         Err(NotMade::Memory) => Ending::Memory,
     }
+}
+
+/// Says on standard error that the trace is refused.
+fn refuse<R: Eprint>(rt: &R, text: &[u8], line: u64, word: CauseWord) -> Ending {
+    let _ = eprintln!(rt; "make_companion: refused trace line {line} {word}");
+    say_of_text(rt, text);
+    Ending::Refused
 }
 
 /// Prints clap's text: help and the version to standard output, a mistake to standard error.

@@ -8,12 +8,8 @@ use Rattle.recording_audit.specs.declared.cut_cause.CutCause.TheVariants as caus
 use Rattle.recording_audit.specs.declared.part.Part.{Part}
 use Rattle.recording_audit.specs.Causes.{AreCaused, HaveEvents, IsCaused, IsCounted, IsKnown}
 use Rattle.recording_audit.specs.Parts.{IsBadFor}
+use Rattle.recording_audit.specs.Recording.{last_text}
 use Rattle.recording_audit.specs.Splits.{AreSplit}
-
--- the text of the last of these parts, which stand behind a part with this text
-abbrev pub last_text : List ℕ → List Part → List ℕ
-last_text before [] = before
-last_text before (part ∷ parts) = last_text part.text.now parts
 
 -- of one more part
 pub last_more : (before : List ℕ) (parts : List Part) (part : Part)
@@ -42,7 +38,12 @@ counted_any text events causes.Unsettled have = have
 -- what is known of a line in the front of a text is known of it in the text
 pub known_of_bad : (text front rest : List ℕ) (line : ℕ) (why : CutCause) → AreSplit text front rest
     → IsBadFor front line why → IsKnown text line (Some why)
-known_of_bad text front rest line (causes.Refused cause) split bad = tt
+known_of_bad text front rest line (causes.Refused cause) split bad = record {
+  tried = front;
+  more = rest;
+  front = split.bytes;
+  found = bad;
+}
 known_of_bad text front rest line causes.BufferStarted split bad = tt
 known_of_bad text front rest line (causes.Fault fault) split bad = record {
   tried = front;
@@ -52,7 +53,12 @@ known_of_bad text front rest line (causes.Fault fault) split bad = record {
   found = bad.1;
   placed = bad.2;
 }
-known_of_bad text front rest line causes.CpuOutside split bad = tt
+known_of_bad text front rest line causes.CpuOutside split bad = record {
+  tried = front;
+  more = rest;
+  front = split.bytes;
+  found = bad;
+}
 known_of_bad text front rest line causes.Short split bad = bad
 known_of_bad text front rest line causes.Unsettled split bad = tt
 

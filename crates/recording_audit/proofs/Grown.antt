@@ -8,15 +8,18 @@ use Rattle.text_parts.specs.Lines.{lines_of}
 use Rattle.text_parts.proofs.TextLines.{lines_of_nil}
 use Rattle.recording_audit.specs.declared.part.Part.{Part}
 use Rattle.recording_audit.specs.declared.cut_cause.CutCause.{CutCause}
+use Rattle.recording_audit.specs.declared.not_audited.NotAudited.{NotAudited}
+use Rattle.recording_audit.specs.declared.not_audited.NotAudited.TheVariants as nots
 use Rattle.recording_audit.specs.Causes.{AreCaused, IsCaused, IsKnown}
-use Rattle.recording_audit.specs.Parts.{IsTold}
-use Rattle.recording_audit.specs.Recording.{AreNumbered, ArePartsOf}
+use Rattle.recording_audit.specs.Parts.{IsLongEnough, IsTold}
+use Rattle.recording_audit.specs.Recording.{AreNumbered, ArePartsOf, IsNotAudited, last_text}
+use Rattle.recording_audit.specs.Pieces.{IsNoPiece, numbered_at}
 use Rattle.recording_audit.specs.Splits.{AreSplit}
-use Rattle.recording_audit.proofs.Causing.{caused_more, last_more, last_text}
+use Rattle.recording_audit.proofs.Causing.{caused_more, last_more}
 use Rattle.recording_audit.proofs.Numbers.{more, numbered_more}
 
 -- the parts and then the rest are the text, and the next line has this number; this is known of it
-pub record IsGrown (limits : KnobsView) (text : List ℕ) (parts : List Part) (rest : List ℕ) (number : ℕ)
+pub record IsGrown (limits : KnobsView) (least : ℕ) (text : List ℕ) (parts : List Part) (rest : List ℕ) (number : ℕ)
     (known : Option CutCause) : Type 0 where
   pub bytes : text ≡ flat_map (λ part. part.text.now) parts ++ rest
   pub lines : lines_of text ≡ flat_map (λ part. lines_of part.text.now) parts ++ lines_of rest
@@ -25,13 +28,14 @@ pub record IsGrown (limits : KnobsView) (text : List ℕ) (parts : List Part) (r
   pub caused : AreCaused limits [] parts
   pub next : IsKnown (last_text [] parts ++ rest) (length (lines_of (last_text [] parts)) + 1) known
   pub told : All (λ part. IsTold limits part.text.now part.told) parts
+  pub long : All (λ part. IsLongEnough least part.told) parts
   pub within : number + length rest ≤ length text + 1
   pub some : 0 < number
 
 -- no part yet
-pub grown_none : (limits : KnobsView) (text : List ℕ) (known : Option CutCause)
-    → ((all : List ℕ) (line : ℕ) → IsKnown all line known) → IsGrown limits text [] text 1 known
-grown_none limits text known is = record {
+pub grown_none : (limits : KnobsView) (least : ℕ) (text : List ℕ) (known : Option CutCause)
+    → ((all : List ℕ) (line : ℕ) → IsKnown all line known) → IsGrown limits least text [] text 1 known
+grown_none limits least text known is = record {
   bytes = refl;
   lines = refl;
   numbered = refl;
@@ -39,20 +43,22 @@ grown_none limits text known is = record {
   caused = tt;
   next = is text (length (lines_of []) + 1);
   told = All-nil (λ part. IsTold limits part.text.now part.told);
+  long = All-nil (λ part. IsLongEnough least part.told);
   within = omega arith;
   some = omega arith;
 }
 
 -- one more
-pub grown_more : (limits : KnobsView) (text : List ℕ) (parts : List Part) (part : Part) (rest after : List ℕ)
-    (number lines : ℕ) (known next : Option CutCause) → IsGrown limits text parts rest number known
+pub grown_more : (limits : KnobsView) (least : ℕ) (text : List ℕ) (parts : List Part) (part : Part)
+    (rest after : List ℕ) (number lines : ℕ) (known next : Option CutCause)
+    → IsGrown limits least text parts rest number known
     → AreSplit rest part.text.now after → IsCaused limits (last_text [] parts) part.text.now part.told
     → IsKnown (part.text.now ++ after) (length (lines_of part.text.now) + 1) next
-    → IsTold limits part.text.now part.told → part.first ≡ number → part.last + 1 ≡ number + lines
-    → lines ≡ length (lines_of part.text.now)
-    → lines ≤ length part.text.now → IsGrown limits text (parts ++ part ∷ []) after (number + lines) next
-grown_more limits text parts part rest after number lines known next so_far split caused behind is first last count
-    few =
+    → IsTold limits part.text.now part.told → IsLongEnough least part.told → part.first ≡ number
+    → part.last + 1 ≡ number + lines → lines ≡ length (lines_of part.text.now)
+    → lines ≤ length part.text.now → IsGrown limits least text (parts ++ part ∷ []) after (number + lines) next
+grown_more limits least text parts part rest after number lines known next so_far split caused behind is long first
+    last count few =
     let bytes_left = ap length split.bytes ∙ length-append part.text.now after in
     let lines_left = ap length split.lines ∙ length-append (lines_of part.text.now) (lines_of after) in
     let counted = so_far.counted in
@@ -70,15 +76,18 @@ grown_more limits text parts part rest after number lines known next so_far spli
       told = All-append (λ one. IsTold limits one.text.now one.told) parts (part ∷ []) so_far.told
           (All-more (λ one. IsTold limits one.text.now one.told) (part ∷ []) 0 part (omega arith)
           (All-nil (λ one. IsTold limits one.text.now one.told)) is);
+      long = All-append (λ one. IsLongEnough least one.told) parts (part ∷ []) so_far.long
+          (All-more (λ one. IsLongEnough least one.told) (part ∷ []) 0 part (omega arith)
+          (All-nil (λ one. IsLongEnough least one.told)) long);
       within = omega (arith, within, bytes_left, few);
       some = omega (arith, some);
     }
 
 -- all of them
-pub grown_whole : (limits : KnobsView) (text : List ℕ) (parts : List Part) (rest : List ℕ) (number : ℕ)
-    (known : Option CutCause) → IsGrown limits text parts rest number known → length rest ≡ 0
-    → ArePartsOf limits text parts
-grown_whole limits text parts rest number known so_far none =
+pub grown_whole : (limits : KnobsView) (least : ℕ) (text : List ℕ) (parts : List Part) (rest : List ℕ) (number : ℕ)
+    (known : Option CutCause) → IsGrown limits least text parts rest number known → length rest ≡ 0
+    → ArePartsOf limits least text parts
+grown_whole limits least text parts rest number known so_far none =
     let nothing = nil_from_length rest none in
     let no_line : length (lines_of rest) ≡ 0 = ap (λ r. length (lines_of r)) nothing ∙ ap length lines_of_nil in
     let counted = so_far.counted in
@@ -92,6 +101,24 @@ grown_whole limits text parts rest number known so_far none =
       numbered = subst (AreNumbered 1 parts) next so_far.numbered;
       caused = so_far.caused;
       told = so_far.told;
+      long = so_far.long;
     }
 
-pub ruleset grown = (grown_none, grown_more, grown_whole)
+-- not all of them: the first line of what is left can't be read on from, and is told by its number
+pub grown_refused : (limits : KnobsView) (least : ℕ) (text : List ℕ) (parts : List Part) (rest : List ℕ) (number : ℕ)
+    (known : Option CutCause) (why told : NotAudited) → IsGrown limits least text parts rest number known
+    → 0 < length rest → IsNoPiece (last_text [] parts) rest why → told ≡ numbered_at number why
+    → IsNotAudited text told
+grown_refused limits least text parts rest number known (nots.Refused line cause) told so_far some why is =
+    rw is (record {
+      parts = parts;
+      rest = rest;
+      bytes = so_far.bytes;
+      lines = so_far.lines;
+      numbered = so_far.numbered;
+      some = some;
+      refused = why;
+    })
+grown_refused limits least text parts rest number known nots.Memory told so_far some why is = rw is tt
+
+pub ruleset grown = (grown_none, grown_more, grown_whole, grown_refused)

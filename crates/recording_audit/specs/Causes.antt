@@ -1,16 +1,17 @@
 -- Why lines stand in no stretch: what a cut's cause says of its lines (this project's profile).
 use Rattle.std.specs.Prelude.{◌≡◌, ℕ, ◌+◌, ◌-◌, ⊤, ◌⊎◌, List, [], ◌∷◌, ◌++◌, length, take, drop, codes}
-use Rattle.std.specs.Prelude.{Option, None, Some, Ok}
+use Rattle.std.specs.Prelude.{Option, None, Some, Ok, Err}
 use Rattle.cfs_model.specs.Knobs.{KnobsView}
 use Rattle.ftrace_line.specs.Line.{LineAnswer, lost, sched}
 use Rattle.ftrace_line.specs.declared.kinds.Which.{Which}
 use Rattle.replay_model.specs.declared.first_fault.FirstFault.{FirstFault}
 use Rattle.sched_event.specs.declared.fault.EventFault.TheVariants as events
 use Rattle.sched_record.specs.Said.{RefusesEvent}
+use Rattle.sched_record.specs.Trace.{TraceAnswer}
 use Rattle.sched_record.specs.declared.cause.TraceCause.{TraceCause}
 use Rattle.sched_record.specs.declared.cause.TraceCause.TheVariants as traces
 use Rattle.text_parts.specs.Lines.{lines_of}
-use Rattle.recording_audit.specs.Parts.{IsFaultOf, IsStretch}
+use Rattle.recording_audit.specs.Parts.{IsFaultOf, IsOutsideOf, IsStretch}
 use Rattle.recording_audit.specs.declared.cut_cause.CutCause.{CutCause}
 use Rattle.recording_audit.specs.declared.cut_cause.CutCause.TheVariants as causes
 use Rattle.recording_audit.specs.declared.part.Part.{Part}
@@ -58,6 +59,20 @@ pub record IsFoundFault (text : List ℕ) (line : ℕ) (fault : FirstFault) : Ty
   pub companion : List ℕ
   pub found : IsFaultOf tried companion fault
   pub placed : fault.line ≡ line
+
+-- the line of this number in a text is the first that is refused, for this cause, in lines with which the text begins
+pub record IsFoundRefusal (text : List ℕ) (line : ℕ) (cause : TraceCause) : Type 0 where
+  pub tried : List ℕ
+  pub more : List ℕ
+  pub front : text ≡ tried ++ more
+  pub found : TraceAnswer tried (Err (line, cause))
+
+-- the line of this number in a text is the first that touches a processor which no companion has, in such lines
+pub record IsFoundOutside (text : List ℕ) (line : ℕ) : Type 0 where
+  pub tried : List ℕ
+  pub more : List ℕ
+  pub front : text ≡ tried ++ more
+  pub found : IsOutsideOf tried line
 
 -- the first line of a cut is such a line of a stretch that was tried, which began with the part before the cut, or with
 -- the cut itself
@@ -112,9 +127,25 @@ AreCaused limits before (part ∷ parts) =
 -- what is known of the line of this number in a text, where it is known to stand in no stretch
 abbrev pub IsKnown : List ℕ → ℕ → Option CutCause → Type 0
 IsKnown text line None = ⊤
-IsKnown text line (Some (causes.Refused cause)) = ⊤
+IsKnown text line (Some (causes.Refused cause)) = IsFoundRefusal text line cause
 IsKnown text line (Some causes.BufferStarted) = ⊤
 IsKnown text line (Some (causes.Fault fault)) = IsFoundFault text line fault
-IsKnown text line (Some causes.CpuOutside) = ⊤
+IsKnown text line (Some causes.CpuOutside) = IsFoundOutside text line
 IsKnown text line (Some causes.Short) = ⊥
 IsKnown text line (Some causes.Unsettled) = ⊤
+
+-- the line of this number in a text can't be read on from: the reader refuses it for this cause, or it touches a
+-- processor which no companion has
+abbrev pub IsUnreadable : List ℕ → ℕ → CutCause → Type 0
+IsUnreadable text line (causes.Refused cause) = IsFoundRefusal text line cause
+IsUnreadable text line causes.CpuOutside = IsFoundOutside text line
+IsUnreadable text line causes.BufferStarted = ⊥
+IsUnreadable text line (causes.Fault fault) = ⊥
+IsUnreadable text line causes.Short = ⊥
+IsUnreadable text line causes.Unsettled = ⊥
+
+-- the same, as it is read from the part before it on, which has that text, or from itself on
+pub record IsRefusedFirst (before text : List ℕ) (cause : CutCause) : Type 0 where
+  pub begin : List ℕ
+  pub begins : (begin ≡ before) ⊎ (begin ≡ [])
+  pub found : IsUnreadable (begin ++ text) (length (lines_of begin) + 1) cause

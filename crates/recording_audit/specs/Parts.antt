@@ -1,9 +1,11 @@
 -- The parts of a recording: stretches that were judged, cuts, and lines without an event (this project's profile).
-use Rattle.std.specs.Prelude.{◌≡◌, ℕ, ⊤, List, [], ◌∷◌, ◌++◌, length, Option, None, Some, Ok}
+use Rattle.std.specs.Prelude.{◌≡◌, ◌≢◌, ℕ, ◌<◌, ◌≤◌, ⊤, List, [], ◌∷◌, ◌++◌, length, Option, None, Some, Ok, Err}
 use Rattle.cfs_model.specs.Knobs.{KnobsView}
+use Rattle.cfs_model.specs.Limits.{most_processors}
 use Rattle.cfs_model.specs.Run.{IsRun}
 use Rattle.cfs_model.specs.Start.{start_machine}
 use Rattle.cfs_model.specs.declared.act.Entry.{Entry}
+use Rattle.sched_record.specs.Join.{IsFirstOutside}
 use Rattle.sched_record.specs.Record.{RecordView}
 use Rattle.sched_record.specs.Trace.{TraceAnswer}
 use Rattle.replay_model.specs.declared.first_fault.FirstFault.{FirstFault}
@@ -79,12 +81,18 @@ IsTold limits text (told.Stretch stretch) = IsStretch limits text stretch
 IsTold limits text (told.Cut cut) = ⊤
 IsTold limits text told.Quiet = TraceAnswer text (Ok [])
 
--- what is known of a line at which a text was found to be no run: of a fault, by which companion it is one
+-- a text's events are read, and that of this line is the first that touches a processor which no companion has
+abbrev pub IsOutsideOf : List ℕ → ℕ → Type 0
+IsOutsideOf text line =
+    (events : List Entry) × TraceAnswer text (Ok events) × IsFirstOutside most_processors events line
+
+-- what is known of a line at which a text was found to be no run: that it is refused there, or of a fault by which
+-- companion it is one
 abbrev pub IsBadFor : List ℕ → ℕ → CutCause → Type 0
-IsBadFor text line (causes.Refused cause) = ⊤
+IsBadFor text line (causes.Refused cause) = TraceAnswer text (Err (line, cause))
 IsBadFor text line causes.BufferStarted = ⊤
 IsBadFor text line (causes.Fault fault) = (companion : List ℕ) × IsFaultOf text companion fault × (fault.line ≡ line)
-IsBadFor text line causes.CpuOutside = ⊤
+IsBadFor text line causes.CpuOutside = IsOutsideOf text line
 IsBadFor text line causes.Short = ⊥
 IsBadFor text line causes.Unsettled = ⊤
 
@@ -93,3 +101,20 @@ abbrev pub IsJudgement : KnobsView → List ℕ → Judged → Type 0
 IsJudgement limits text (judgements.Run stretch) = IsStretch limits text stretch
 IsJudgement limits text judgements.Quiet = TraceAnswer text (Ok [])
 IsJudgement limits text (judgements.Bad line why) = IsBadFor text line why
+
+-- so many events are fewer than a stretch has to have, where that is the cause of a cut
+abbrev pub IsTooFew : ℕ → ℕ → CutCause → Type 0
+IsTooFew least events causes.Short = events < least
+IsTooFew least events cause = ⊤
+
+-- a stretch has at least so many events, and what was cut as too short has fewer
+abbrev pub IsLongEnough : ℕ → Told → Type 0
+IsLongEnough least (told.Stretch stretch) = least ≤ stretch.events
+IsLongEnough least (told.Cut cut) = IsTooFew least cut.events cut.cause
+IsLongEnough least told.Quiet = ⊤
+
+-- its events haven't been compared with how many a stretch has to have
+abbrev pub IsUnmeasured : Told → Type 0
+IsUnmeasured (told.Stretch stretch) = ⊤
+IsUnmeasured (told.Cut cut) = cut.cause ≢ causes.Short
+IsUnmeasured told.Quiet = ⊤

@@ -1,3 +1,7 @@
+ghost use Rattle.std.specs.Bool.{OnFalse};
+ghost use Rattle.std.specs.Prelude.{ℕ, List, Some};
+ghost use Rattle.recording_audit.specs.Causes.{IsKnown, IsUnreadable};
+
 use replay_model::FirstFault;
 use sched_event::EventFault;
 use sched_record::TraceCause;
@@ -22,7 +26,10 @@ pub enum CutCause {
 
 impl CutCause {
     /// Whether a stretch may begin behind it. Else the recording can't be read on.
-    pub(crate) fn is_passed(self) -> bool {
+    pub(crate) fn is_passed(self) -> bool
+        ensures { OnFalse result ((text : List ℕ) (line : ℕ) → IsKnown text line (Some self)
+            → IsUnreadable text line self) }
+    {
         match self {
             CutCause::Refused(cause) => is_passed(cause),
             CutCause::CpuOutside => false,

@@ -1,9 +1,9 @@
 //! The theorem: a recording's parts.
-ghost use Rattle.std.specs.Prelude.{ℕ, IfOk, List};
+ghost use Rattle.std.specs.Prelude.{ℕ, IfErr, IfOk, List};
 ghost use Rattle.cfs_model.specs.Knobs.{KnobsView};
 ghost use Rattle.recording_audit.specs.Causes.{IsCaused, IsKnown};
-ghost use Rattle.recording_audit.specs.Parts.{IsTold};
-ghost use Rattle.recording_audit.specs.Recording.{ArePartsOf};
+ghost use Rattle.recording_audit.specs.Parts.{IsLongEnough, IsTold, IsUnmeasured};
+ghost use Rattle.recording_audit.specs.Recording.{ArePartsOf, IsNotAudited};
 
 use crate::asked::Asked;
 use crate::cut_cause::CutCause;
@@ -33,7 +33,8 @@ pub fn audit_recording<'a, R: RandomSource + Threads + Wait + Sync, W: Watch>(
     asked: &Asked<'_>,
     watch: &mut W,
 ) -> Result<Vec<Part<'a>>, NotAudited>
-    ensures { IfOk result (λ parts. ArePartsOf asked.now.limits text.now parts.items) }
+    ensures parts { IfOk result (λ parts. ArePartsOf asked.now.limits asked.now.least_events text.now parts.items) }
+    ensures refused { IfErr result (IsNotAudited text.now) }
 {
     let mut parts = Vec::new(alloc);
     let mut rest = text;
@@ -99,6 +100,8 @@ fn reach_behind(told: &Told) -> usize {
 
 /// What is told of a part, where a stretch has to have so many events.
 fn long_enough(told: Told, least: u64) -> Told
+    requires { IsUnmeasured told }
+    ensures long { IsLongEnough least result }
     ensures told { (limits : KnobsView) (text : List ℕ) → IsTold limits text told → IsTold limits text result }
     ensures caused { (limits : KnobsView) (before text : List ℕ) → IsTold limits text told
         → IsCaused limits before text told → IsCaused limits before text result }

@@ -1,3 +1,6 @@
+ghost use Rattle.std.specs.Prelude.{◌≡◌};
+ghost use Rattle.recording_audit.specs.Pieces.{numbered_at};
+
 use crate::cut_cause::CutCause;
 use cfs_model::Memory;
 use std::alloc::AllocError;
@@ -13,7 +16,9 @@ pub enum NotAudited {
 
 impl NotAudited {
     /// The same at this line.
-    pub(crate) fn at(self, number: u64) -> NotAudited {
+    pub(crate) fn at(self, number: u64) -> NotAudited
+        ensures { result ≡ numbered_at number self }
+    {
         match self {
             NotAudited::Refused { cause, .. } => NotAudited::Refused {
                 line: number,
@@ -25,12 +30,22 @@ impl NotAudited {
 }
 
 impl From<Memory> for NotAudited {
+    ghost use Rattle.std.specs.Prelude.{◌≡◌};
+    ghost use Rattle.recording_audit.specs.declared.not_audited.NotAudited.TheVariants as nots;
+
+    ghost from_gives = { λ _ why. why ≡ nots.Memory };
+
     fn from(_want: Memory) -> NotAudited {
         NotAudited::Memory
     }
 }
 
 impl From<AllocError> for NotAudited {
+    ghost use Rattle.std.specs.Prelude.{◌≡◌};
+    ghost use Rattle.recording_audit.specs.declared.not_audited.NotAudited.TheVariants as nots;
+
+    ghost from_gives = { λ _ why. why ≡ nots.Memory };
+
     fn from(_want: AllocError) -> NotAudited {
         NotAudited::Memory
     }

@@ -1,9 +1,9 @@
 //! The next part of a recording.
-ghost use Rattle.std.specs.Prelude.{◌≡◌, ◌+◌, ◌<◌, ◌++◌, ◌⊎◌, ℕ, [], IfOk, List, Some, length};
+ghost use Rattle.std.specs.Prelude.{◌≡◌, ◌+◌, ◌<◌, ◌++◌, ◌⊎◌, ℕ, [], IfErr, IfOk, List, Some, length};
 ghost use Rattle.cfs_model.specs.Knobs.{KnobsView};
 ghost use Rattle.text_parts.specs.Lines.{lines_of};
 ghost use Rattle.recording_audit.specs.Causes.{IsKnown};
-ghost use Rattle.recording_audit.specs.Pieces.{IsCausedPiece, IsPieceOf};
+ghost use Rattle.recording_audit.specs.Pieces.{IsCausedPiece, IsNoPiece, IsPieceOf, IsUnmeasuredPiece};
 
 use crate::asked::Asked;
 use crate::cut_cause::CutCause;
@@ -53,6 +53,9 @@ pub(crate) fn next_piece<'a, R: RandomSource + Threads + Wait + Sync>(
     ensures piece { IfOk result (IsPieceOf asked.now.limits text.now) }
     ensures caused { (before : List ℕ) → IsKnown (before ++ text.now) (length (lines_of before) + 1) known
         → IfOk result (IsCausedPiece asked.now.limits before) }
+    ensures unmeasured { IfOk result IsUnmeasuredPiece }
+    ensures refused { (before : List ℕ) → IsKnown (before ++ text.now) (length (lines_of before) + 1) known
+        → IfErr result (IsNoPiece before text.now) }
 {
     if let Some(cause) = known {
         return cut_piece(alloc, text, cause);
@@ -75,6 +78,8 @@ fn longest_piece<'a, R: RandomSource + Threads + Wait + Sync>(
     requires { 0 < length text.now }
     ensures piece { IfOk result (IsPieceOf asked.now.limits text.now) }
     ensures caused { (before : List ℕ) → IfOk result (IsCausedPiece asked.now.limits before) }
+    ensures unmeasured { IfOk result IsUnmeasuredPiece }
+    ensures refused { (before : List ℕ) → IfErr result (IsNoPiece before text.now) }
 {
     let mut size = reach;
     for _ in 0..MOST_TRIES {
@@ -119,6 +124,8 @@ fn piece_before<'a, R: RandomSource + Threads + Wait + Sync>(
     requires known { IsKnown text.now line why }
     ensures piece { IfOk result (IsPieceOf asked.now.limits text.now) }
     ensures caused { (before : List ℕ) → IfOk result (IsCausedPiece asked.now.limits before) }
+    ensures unmeasured { IfOk result IsUnmeasuredPiece }
+    ensures refused { (before : List ℕ) → IfErr result (IsNoPiece before text.now) }
 {
     let mut last = line;
     let mut cause = why;
@@ -160,6 +167,10 @@ fn cut_piece<'a>(alloc: Global, text: &'a [u8], cause: CutCause) -> Result<Piece
     ensures caused { (limits : KnobsView) (before begin : List ℕ) → (begin ≡ before) ⊎ (begin ≡ [])
         → IsKnown (begin ++ text.now) (length (lines_of begin) + 1) (Some cause)
         → IfOk result (IsCausedPiece limits before) }
+    ensures unmeasured { IfOk result IsUnmeasuredPiece }
+    ensures refused { (before begin : List ℕ) → (begin ≡ before) ⊎ (begin ≡ [])
+        → IsKnown (begin ++ text.now) (length (lines_of begin) + 1) (Some cause)
+        → IfErr result (IsNoPiece before text.now) }
 {
     if !cause.is_passed() {
         return Err(NotAudited::Refused { line: 1, cause });

@@ -9,17 +9,10 @@ use crate::cut_cause::CutCause;
 use crate::part::{Part, Stretch, Told};
 use crate::tally::Tally;
 use crate::times::Seconds;
+use audit_report::told_settings;
 use cfs_model::{Knobs, Setting};
 use replay_model::FirstFault;
 use std::alloc::{AllocError, Global};
-
-/// What is told where the companion tells no charges: each setting but the drift.
-const WITHOUT_DRIFT: [Setting; 4] = [
-    Setting::Granularity,
-    Setting::Credit,
-    Setting::Debit,
-    Setting::Slack,
-];
 
 /// A line for each stretch and each cut, and then one of how many events were judged.
 pub fn report(alloc: Global, parts: &[Part<'_>]) -> Result<String, AllocError>
@@ -91,11 +84,7 @@ fn push_settings(text: &mut String, knobs: Knobs, tells_charges: bool) -> Result
     ensures { OnOk result
         (string_bytes text.new ≡ string_bytes text.old ++ words_of_settings knobs (told_settings tells_charges)) }
 {
-    if tells_charges {
-        push_each(text, knobs, &Setting::ALL)
-    } else {
-        push_each(text, knobs, &WITHOUT_DRIFT)
-    }
+    push_each(text, knobs, told_settings(tells_charges))
 }
 
 /// Writes each of these settings.

@@ -1,5 +1,5 @@
 //! Causes that a cut's own lines show.
-ghost use Rattle.std.specs.Prelude.{◌≡◌, ◌+◌, ◌<◌, ◌++◌, ◌⊎◌, ℕ, [], IsTrue, List, Ok, Some, length};
+ghost use Rattle.std.specs.Prelude.{◌≡◌, ◌≢◌, ◌+◌, ◌<◌, ◌++◌, ◌⊎◌, ℕ, [], IsTrue, List, Ok, Some, length};
 ghost use Rattle.cfs_model.specs.Knobs.{KnobsView};
 ghost use Rattle.ftrace_line.specs.Line.{LineAnswer, lost};
 ghost use Rattle.text_parts.specs.Lines.{lines_of};
@@ -17,9 +17,10 @@ use text_parts::lines::next_line;
 /// A cut's cause, where its lines show it, or it is that of a fault. The others don't come.
 pub(crate) fn shown_cause(text: &[u8], cause: CutCause) -> CutCause
     requires { 0 < length text.now }
-    ensures { (limits : KnobsView) (before begin after : List ℕ) (events : ℕ) → (begin ≡ before) ⊎ (begin ≡ [])
+    ensures shown { (limits : KnobsView) (before begin after : List ℕ) (events : ℕ) → (begin ≡ before) ⊎ (begin ≡ [])
         → IsKnown (begin ++ (text.now ++ after)) (length (lines_of begin) + 1) (Some cause)
         → IsCauseOf limits before text.now events result }
+    ensures unmeasured { result ≢ CutCause.Short }
 {
     let is_shown = match cause {
         CutCause::Refused(cause) => begins_so(text, cause),

@@ -8,7 +8,7 @@ use Rattle.recording_audit.proofs.piece.cut_piece.Goals as goal
 pub returns-clause-caused : goal.returns-clause-caused
 returns-clause-caused c =
     λ limits before begin begins known. (
-      c.shown_cause.ensures limits before begin c.split_lines.result.1.now c.event_count.result begins
+      c.shown_cause.ensures.shown limits before begin c.split_lines.result.1.now c.event_count.result begins
           (subst (λ text. IsKnown (begin ++ text) (length (lines_of begin) + 1) (Some c.args.cause))
           c.split_lines.ensures.bytes known),
       counted_any c.split_lines.result.0.now c.event_count.result c.shown_cause.result c.event_count.ensures,

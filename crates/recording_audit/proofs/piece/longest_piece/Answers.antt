@@ -1,4 +1,4 @@
-use Rattle.std.proofs.Common.{rules}
+use Rattle.std.proofs.Common.{rules, [], inr, refl}
 use Rattle.recording_audit.specs.Parts.{IsBadFor}
 use Rattle.recording_audit.proofs.Causing.{known_of_bad}
 use Rattle.recording_audit.proofs.piece.longest_piece.Goals as goal
@@ -10,3 +10,7 @@ piece_before-requires-clause-known g c =
     let rest = c.split_near.result.1.now in
     let bad : IsBadFor front c.in-Bad.line c.in-Bad.why = search rules in
     λ lifetimes lives. known_of_bad c.args.text.now front rest c.in-Bad.line c.in-Bad.why c.split_near.ensures bad
+
+-- tries are given up, and nothing is refused
+pub returns-clause-refused : goal.returns-clause-refused
+returns-clause-refused g c = λ before. c.cut_piece.ensures.refused before [] (inr refl) tt

@@ -18,6 +18,16 @@ returns-then-last-le1-clause-caused g c =
     λ before. c.cut_piece.ensures.caused c.args.asked.now.limits before [] (inr refl)
     (known_here c.args.text.now c.cause_of_first.result (c.cause_of_first.ensures c.args.text.now c.loop.invariant))
 
+-- and that it can't be read on from, if it can't
+pub returns-then-last-le1-clause-refused : goal.returns-then-last-le1-clause-refused
+returns-then-last-le1-clause-refused g c =
+    λ before. c.cut_piece.ensures.refused before [] (inr refl)
+    (known_here c.args.text.now c.cause_of_first.result (c.cause_of_first.ensures c.args.text.now c.loop.invariant))
+
+-- tries are given up, and nothing is refused
+pub returns-clause-refused : goal.returns-clause-refused
+returns-clause-refused g c = λ before. c.cut_piece-2.ensures.refused before [] (inr refl) tt
+
 -- the front and the rest are the text
 pub returns-in-Run-clause-piece : goal.returns-in-Run-clause-piece
 returns-in-Run-clause-piece g c =

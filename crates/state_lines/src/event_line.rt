@@ -1,17 +1,17 @@
 //! The line of an event.
-use crate::fields::{push_if, push_number, push_signed, push_word};
+use crate::json_text::JsonText;
 use crate::measures::Measures;
 use crate::sight::{Sight, subject};
 use crate::stretch::Stretch;
 use cfs_model::{Knobs, Place, Setting, Way};
 use replay_model::{Deed, Step};
-use runqueue::SchedEntity;
+use runqueue::{SchedEntity, WaitingTask};
 use std::alloc::AllocError;
 
 /// Writes the line of an event at a processor, by the settings of the replay. `waited` is how long who is picked had
 /// waited, in nanoseconds.
 pub(crate) fn push_event(
-    text: &mut String,
+    text: &mut JsonText,
     cpu: u32,
     sight: &Sight,
     waited: Option<u64>,
@@ -25,7 +25,7 @@ pub(crate) fn push_event(
         name_of(&sight.step.deed),
     )?;
     let pid = subject(&sight.step.deed);
-    push_number(text, "pid", u64::from(pid))?;
+    text.push_number(",\"pid\":", u64::from(pid))?;
     push_deed(text, &sight.step)?;
     if let Some(task) = sight.after.task {
         push_task(text, &task)?;
@@ -38,21 +38,21 @@ pub(crate) fn push_event(
     let measures = Measures::of(sight);
     push_measures(text, &measures)?;
     push_room(text, &measures, knobs)?;
-    text.push_str("}\n")
+    text.push("}\n")
 }
 
 /// Where and when an event is, and what it does.
 pub(crate) fn push_head(
-    text: &mut String,
+    text: &mut JsonText,
     cpu: u32,
     line: u32,
     time: u64,
     deed: &str,
 ) -> Result<(), AllocError> {
-    write!(
-        text,
-        "{{\"cpu\":{cpu},\"line\":{line},\"time\":{time},\"deed\":\"{deed}\""
-    )
+    text.push_number("{\"cpu\":", u64::from(cpu))?;
+    text.push_number(",\"line\":", u64::from(line))?;
+    text.push_number(",\"time\":", time)?;
+    text.push_word(",\"deed\":\"", deed)
 }
 
 fn name_of(deed: &Deed) -> &'static str {
@@ -66,14 +66,14 @@ fn name_of(deed: &Deed) -> &'static str {
 }
 
 /// What a deed has beside its task.
-fn push_deed(text: &mut String, step: &Step) -> Result<(), AllocError> {
+fn push_deed(text: &mut JsonText, step: &Step) -> Result<(), AllocError> {
     match step.deed {
         Deed::Switch { way, next, .. } => {
-            push_word(text, "way", word_of_way(way))?;
-            push_number(text, "next", u64::from(next))
+            text.push_word(",\"way\":\"", word_of_way(way))?;
+            text.push_number(",\"next\":", u64::from(next))
         }
-        Deed::Leave { dest, .. } => push_number(text, "dest", u64::from(dest)),
-        Deed::Arrive { orig, .. } => push_number(text, "orig", u64::from(orig)),
+        Deed::Leave { dest, .. } => text.push_number(",\"dest\":", u64::from(dest)),
+        Deed::Arrive { orig, .. } => text.push_number(",\"orig\":", u64::from(orig)),
         Deed::Wake { .. } | Deed::Born { .. } => Ok(()),
     }
 }
@@ -87,10 +87,10 @@ fn word_of_way(way: Way) -> &'static str {
 }
 
 /// How the event's task stands behind it.
-pub(crate) fn push_task(text: &mut String, task: &SchedEntity) -> Result<(), AllocError> {
-    push_word(text, "place", word_of_place(task.place))?;
-    push_signed(text, "nice", i64::from(task.nice.get()))?;
-    push_signed(text, "v", task.v)
+pub(crate) fn push_task(text: &mut JsonText, task: &SchedEntity) -> Result<(), AllocError> {
+    text.push_word(",\"place\":\"", word_of_place(task.place))?;
+    text.push_signed(",\"nice\":", i64::from(task.nice.get()))?;
+    text.push_signed(",\"v\":", task.v)
 }
 
 pub(crate) fn word_of_place(place: Place) -> &'static str {
@@ -102,61 +102,65 @@ pub(crate) fn word_of_place(place: Place) -> &'static str {
 }
 
 /// Who ran up to the event, for how long, from which virtual runtime to which, and the charge.
-fn push_stretch(text: &mut String, stretch: &Stretch) -> Result<(), AllocError> {
+fn push_stretch(text: &mut JsonText, stretch: &Stretch) -> Result<(), AllocError> {
     let SchedEntity { pid, v, .. } = stretch.task;
-    let Stretch { ran, to, .. } = *stretch;
-    let cost = stretch.cost();
-    write!(
-        text,
-        ",\"ran\":{{\"pid\":{pid},\"ns\":{ran},\"from\":{v},\"to\":{to},\"charge\":{cost}}}"
-    )
+    text.push_number(",\"ran\":{\"pid\":", u64::from(pid))?;
+    text.push_number(",\"ns\":", stretch.ran)?;
+    text.push_signed(",\"from\":", v)?;
+    text.push_signed(",\"to\":", stretch.to)?;
+    text.push_number(",\"charge\":", stretch.cost())?;
+    text.push("}")
 }
 
 /// The virtual runtime of who is picked, and how long it had waited.
-fn push_pick(text: &mut String, sight: &Sight, waited: Option<u64>) -> Result<(), AllocError> {
+fn push_pick(text: &mut JsonText, sight: &Sight, waited: Option<u64>) -> Result<(), AllocError> {
     match (sight.step.deed, sight.after.runner) {
         (Deed::Switch { .. }, Some(task)) => {
-            push_signed(text, "next_v", task.v)?;
-            push_if(text, "waited", waited)
+            text.push_signed(",\"next_v\":", task.v)?;
+            text.push_if(",\"waited\":", waited)
         }
         _ => Ok(()),
     }
 }
 
 /// The floor, how many wait, and the least of them, behind the event.
-fn push_queue(text: &mut String, sight: &Sight) -> Result<(), AllocError> {
-    push_signed(text, "floor", sight.after.floor)?;
-    push_number(text, "waiting", sight.after.waiting as u64)?;
+fn push_queue(text: &mut JsonText, sight: &Sight) -> Result<(), AllocError> {
+    text.push_signed(",\"floor\":", sight.after.floor)?;
+    text.push_number(",\"waiting\":", sight.after.waiting as u64)?;
     match sight.after.first {
-        Some(first) => {
-            let pid = first.pid;
-            let v = first.v;
-            write!(text, ",\"least\":{{\"pid\":{pid},\"v\":{v}}}")
-        }
+        Some(first) => push_least(text, first),
         None => Ok(()),
     }
 }
 
+/// The least of those who wait.
+fn push_least(text: &mut JsonText, first: WaitingTask) -> Result<(), AllocError> {
+    text.push_number(",\"least\":{\"pid\":", u64::from(first.pid))?;
+    text.push_signed(",\"v\":", first.v)?;
+    text.push("}")
+}
+
 /// What the event asks of each setting.
-fn push_measures(text: &mut String, measures: &Measures) -> Result<(), AllocError> {
-    push_if(text, "lead", measures.lead)?;
-    push_if(text, "under", measures.under)?;
-    push_if(text, "over", measures.over)?;
-    push_if(text, "idled", measures.idled)?;
-    push_if(text, "drift", measures.drift)
+fn push_measures(text: &mut JsonText, measures: &Measures) -> Result<(), AllocError> {
+    text.push_if(",\"lead\":", measures.lead)?;
+    text.push_if(",\"under\":", measures.under)?;
+    text.push_if(",\"over\":", measures.over)?;
+    text.push_if(",\"idled\":", measures.idled)?;
+    text.push_if(",\"drift\":", measures.drift)
 }
 
 /// What the event leaves of each setting that it asks of.
-fn push_room(text: &mut String, measures: &Measures, knobs: Knobs) -> Result<(), AllocError> {
-    let mut comma = "";
-    text.push_str(",\"room\":{")?;
+fn push_room(text: &mut JsonText, measures: &Measures, knobs: Knobs) -> Result<(), AllocError> {
+    let mut before = "\"";
+    text.push(",\"room\":{")?;
     for setting in &Setting::ALL {
         if let Some(needed) = measures.needed(*setting) {
-            let name = setting.name();
             let room = knobs.get(*setting).saturating_sub(needed);
-            write!(text, "{comma}\"{name}\":{room}")?;
-            comma = ",";
+            text.push(before)?;
+            text.push(setting.name())?;
+            text.push_number("\":", room)?;
+            before = ",\"";
         }
     }
-    text.push_str("}")
+    text.push("}")
 }

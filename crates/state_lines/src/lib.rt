@@ -2,8 +2,8 @@
 #![tactic(auto)]
 
 mod event_line;
-mod fields;
 mod glance;
+mod json_text;
 mod measures;
 mod not_written;
 mod output;

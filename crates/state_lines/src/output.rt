@@ -1,4 +1,5 @@
 use crate::NotWritten;
+use crate::json_text::JsonText;
 use std::alloc::Global;
 use std::io::Write;
 
@@ -8,14 +9,14 @@ const FULL: usize = 1 << 16;
 /// A text on its way to a writer.
 #[derive(Drop)]
 pub(crate) struct Output<W> {
-    pub text: String,
+    pub text: JsonText,
     writer: W,
 }
 
 impl<W: Write + Drop> Output<W> {
     pub(crate) fn new(alloc: Global, writer: W) -> Output<W> {
         Output {
-            text: String::new(alloc),
+            text: JsonText::new(alloc),
             writer,
         }
     }

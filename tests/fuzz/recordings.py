@@ -6,14 +6,14 @@ of the run is known, and which settings it needs."""
 from typing import NamedTuple
 
 from lib.made import moved, switched, woken
-from lib.words import IDLE_WEIGHT, MOST_PID, MOST_SETTING, OPTIONS, WEIGHTS, counted, least, options_of, tally
+from lib.words import (IDLE_WEIGHT, MOST_PID, MOST_SETTING, OPTIONS, STANDARD, WEIGHTS, counted, least, options_of,
+                       tally)
 
 MOST_VIRTUAL = 2**62
 LAST_TIME = 2**32 * 10**9 - 1
 # No floor rises by more than this within a recording.
 MARGIN = 10**18
 DRIFT = OPTIONS[-1]
-STANDARD = (1_000_000, 3_000_000, 3_000_000, 100_000, 0)
 
 NAMES = (b"t101", b"bash", b"Web Content", b"kworker/u16:2", b"", b" ", b"a prev_pid=1", b"x pid=7 prio=12",
          b"==> next_comm=a", b"fifteen bytes !", b"\xff\xfe\x00\r", b"sched_switch: ", b"#", b"-1     [000]")

@@ -71,6 +71,19 @@ def moved(microseconds, pid, orig, dest):
     return head(microseconds) + made.moved(named(pid), orig, dest)
 
 
+def real_time_wakeup(microseconds):
+    return wakeup(microseconds, 20, prio=0)
+
+
+def write_turns(path, count, step, piece):
+    """Writes a recording of so many events, one every 100 us, where two tasks take turns. At each line whose number is a
+    multiple of the step stands what is made for its time instead."""
+    with open(path, "wb") as out:
+        for number in range(1, count + 1):
+            one, other = (101, 102) if number % 2 else (102, 101)
+            out.write(piece(number * 100) if number % step == 0 else switch(number * 100, one, b"R+", other))
+
+
 def by_shell(line):
     """The words of a shell that does this and then becomes the program."""
     return "sh", "-c", f'{line} "$@"', "sh"
@@ -116,9 +129,13 @@ class Calls(Report):
         try:
             done = subprocess.run([*by, program or self.program, *words], cwd=self.room, stderr=subprocess.PIPE,
                                   timeout=seconds, **settings)
-            self.compare(about, expected, (done.returncode, done.stdout or b"", done.stderr))
+            self.answered(about, expected, (done.returncode, done.stdout or b"", done.stderr))
         except (OSError, subprocess.TimeoutExpired) as error:
             self.compare(about, expected, str(error))
+
+    def answered(self, about, expected, given):
+        """What a call answered is compared with what was expected."""
+        self.compare(about, expected, given)
 
     def from_pipe(self, about, expected, *words, of):
         """One call whose standard input is a pipe that a command of the shell writes."""

@@ -15,6 +15,9 @@ MOST_SETTING = 10**12
 SETTINGS = "granularity", "credit", "debit", "slack", "drift"
 ONE_BELOW = "NotLeast", "WakeBounds", "ForkBounds", "IdleTooLong", "WrongCharge"
 
+# Their defaults, in nanoseconds.
+STANDARD = 1_000_000, 3_000_000, 3_000_000, 100_000, 0
+
 OPTIONS = tuple(f"--{name}-ns" for name in SETTINGS)
 
 # What is said of likely mistakes on standard error: of texts in the wrong order, of a trace without an event, and of a
@@ -25,6 +28,25 @@ NO_EVENT = b"hint: the trace has no event of the scheduler\n"
 FAR = b"hint: a pick was %d ns above the least: the kernel is likely one of EEVDF\n"
 NONE_SERVES = b"hint: no granularity below 100 ms mends this fault: the kernel is likely one of EEVDF\n"
 OVERWRITTEN = b"hint: the trace misses events: its two numbers of entries differ, so the buffer was overwritten\n"
+
+# The commands behind `trace-cmd report -N` and `perf script` that make a trace of what these print.
+FROM_TRACE_CMD = r"sed -E '/^cpus=/d; s/: (sched_[a-z_]+): +/: \1: /'"
+FROM_PERF = r"sed -E 's/^(.{16}) +([0-9]+) +(\[[0-9]+\]) +([0-9.]+): +sched:(sched_[a-z_]+): +/\1-\2 \3 \4: \5: /'"
+SWITCH = b"prev_comm=name prev_pid=101 prev_prio=120 prev_state=R+ ==> next_comm=name next_pid=102 next_prio=120\n"
+# Texts of other shapes, as they begin, and what is said of each. Those that are printed are of one switch after 4 ms.
+SHAPES = {
+    "gzip": (b"\x1f\x8b\x08\0", "is compressed: `gzip -dc FILE` writes the text"),
+    "xz": (b"\xfd7zXZ\0\0", "is compressed: `xz -dc FILE` writes the text"),
+    "zstd": (b"\x28\xb5\x2f\xfd\0", "is compressed: `zstd -dc FILE` writes the text"),
+    "trace.dat": (b"\x17\x08Dtracing6\0",
+                  f"is trace-cmd's binary file: `trace-cmd report -N -i FILE | {FROM_TRACE_CMD}` writes the text"),
+    "trace-cmd report": (
+        b"cpus=1\n            name-1     [000] d..2.   100.004000: sched_switch:         " + SWITCH,
+        f"looks like `trace-cmd report`: `trace-cmd report -N | {FROM_TRACE_CMD}` writes the text"),
+    "perf.data": (b"PERFILE2h\0", f"is perf's binary file: `perf script -i FILE | {FROM_PERF}` writes the text"),
+    "perf script": (b"            name     1 [000]   100.004000:       sched:sched_switch: " + SWITCH,
+                    f"looks like `perf script`: `perf script | {FROM_PERF}` writes the text"),
+}
 
 KINDS = {
     "IdleTooLong": "idle beside a waiting task",
@@ -54,6 +76,13 @@ CAUSES = {
     "companion": "Version Group BadLine Order NumberRange TwiceNamed TwiceRunning LineOrder NoTask Short".split(),
     "join": "CpuOutside StartLate ClaimNoEvent".split(),
 }
+
+
+def shapes(source):
+    """Of each text of another shape its name, its bytes, and the hint where it is given as the trace or as the
+    companion."""
+    for name, (text, words) in SHAPES.items():
+        yield name, text, f"hint: the {source} {words}\n".encode()
 
 
 def options_of(settings):

@@ -17,10 +17,20 @@ const at = (kind, x, y, more) => {
 const seen = () => [Math.round(view.begin), Math.round(view.end)];
 const rows = () => [...document.querySelectorAll("#tasks tbody tr")].map((row) => row.cells[0].textContent);
 
-// How much of the data was unpacked: of what is drawn as it is, and of what stands for it from afar.
-function unpackedOf(kinds) {
-  const chunks = data.lanes.flatMap((lane) => kinds(lane).flat());
-  return [chunks.filter((chunk) => chunk.open).length, chunks.length];
+// Of each part of the lanes how many chunks were unpacked, and how many it has.
+function unpackedOf(name) {
+  const count = (chunks) => [chunks.filter((chunk) => chunk.open).length, chunks.length];
+  const parts = data.lanes.map((lane) => lane[name]);
+  if (Array.isArray(parts[0])) return count(parts.flat());
+  return Object.fromEntries(Object.keys(parts[0]).map((key) => [key, count(parts.flatMap((part) => part[key]))]));
+}
+
+const kinds = () => [...new Set(drawn().map((one) => one.kind))].sort();
+
+// What a click tells of one that is drawn, at this place of it or in its middle.
+function clicked(one, x = one.x + one.wide / 2) {
+  canvas.dispatchEvent(at("click", x, one.y + one.high / 2));
+  return byId("details").textContent;
 }
 
 // The colour of the canvas at a place.
@@ -36,20 +46,20 @@ async function probed() {
   told.headline = byId("headline").textContent;
   told.why = byId("why").textContent;
   told.whole = seen();
-  told.drawn = drawn().length;
-  told.near = unpackedOf((lane) => [lane.runs, lane.waits, ...Object.values(lane.points)]);
-  told.far = unpackedOf((lane) => [lane.levels, lane.longest, ...Object.values(lane.peaks)]);
+  told.kinds = kinds();
+  told.unpacked = Object.fromEntries(["runs", "waits", "levels", "longest", "points", "peaks"].map(
+    (name) => [name, unpackedOf(name)]));
   told.marked = performance.getEntriesByName("ready").length;
   told.rows = rows();
   if (data.fault) {
     const x = xOf(data.fault.time);
     told.fault = { share: (x - LEFT) / width(), colour: colourAt(x, places().height - 2) };
   }
-  const run = drawn().find((one) => one.kind === "runs");
-  if (run) {
-    canvas.dispatchEvent(at("click", run.x + run.wide / 2, run.y + run.high / 2));
-    told.clicked = byId("details").textContent;
-  }
+  const run = drawn().find((one) => one.kind === "runs" || one.kind === "bucket");
+  if (run) told.clicked = clicked(run);
+  const waits = drawn().filter((one) => one.kind === "waits");
+  const longest = waits.find((one) => waits.every((other) => other.wide <= one.wide));
+  if (longest) told.longest = clicked(longest);
   const middle = LEFT + width() / 4, time = timeOf(middle), before = view.end - view.begin;
   canvas.dispatchEvent(at("wheel", middle, 30, { deltaY: -100 }));
   await settled();
@@ -68,7 +78,10 @@ async function probed() {
   press("0");
   for (let times = 0; times < 12; times += 1) press("+");
   await settled();
-  told.nearest = [...new Set(drawn().map((one) => one.kind))].sort();
+  told.nearest = kinds();
+  const x = LEFT + width() / 2 + 4, around = drawn().find((one) => one.kind === "runs" && one.x < x
+    && x < one.x + one.wide);
+  if (around) told.middle = clicked(around, x);
   press("0");
   const field = byId("search");
   field.value = PROBE_SEARCH;

@@ -7,7 +7,7 @@ const canvas = byId("canvas"), pen = canvas.getContext("2d");
 const view = { begin: 0, end: Math.max(1, data.span) };
 const LEFT = 76, RUN = 20, ROW = 9, GAP = 10, CHART = 96, LEAST_SPAN = 20;
 // So many stretches are drawn as they are, and so many points of a measure; and so many buckets of a few lanes.
-const MOST_NEAR = 80000, MOST_BUCKETS = 4096, FEW_LANES = 8, MOST_TASKS = 300;
+const MOST_NEAR = 80000, MOST_POINTS = 20000, MOST_BUCKETS = 4096, FEW_LANES = 8, MOST_TASKS = 300;
 // A column's name begins with its kind.
 const KINDS = { B: Uint8Array, H: Uint16Array, I: Uint32Array, i: Int32Array, q: BigInt64Array };
 const COLUMNS = ["begins", "lengths", "before", "tasks", "first", "last", "rows", "charges", "from", "to", "times",
@@ -289,7 +289,7 @@ function drawFault(height) {
 }
 
 // Whether the points of a measure in view are few enough to be drawn as they are.
-const areNear = (name) => data.few || countOf((lane) => [lane.points[name]]) <= MOST_NEAR;
+const areNear = (name) => data.few || countOf((lane) => [lane.points[name]]) <= MOST_POINTS;
 
 // The points of a measure that are in view: all, or from afar the greatest of each bucket.
 function pointsOf(lane, name, all) {

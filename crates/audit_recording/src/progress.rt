@@ -11,6 +11,8 @@ pub(crate) struct Progress<'a, R> {
     begun: Option<Instant>,
     all: u64,
     done: u64,
+    /// The most bytes that were done or tried.
+    most: u64,
     told: bool,
 }
 
@@ -23,7 +25,23 @@ impl<'a, R: Clock + Eprint> Progress<'a, R> {
             begun,
             all,
             done: 0,
+            most: 0,
             told: false,
+        }
+    }
+
+    /// Tells that it came so far, or how far it was before where that is more.
+    fn tell(&mut self, bytes: u64) {
+        self.most = self.most.max(bytes);
+        let Some(begun) = self.begun else {
+            return;
+        };
+        if let Ok(taken) = begun.elapsed(self.rt) {
+            if taken.as_secs() >= QUIET {
+                let percent = u128::from(self.most) * 100 / u128::from(self.all.max(1));
+                let _ = eprint!(self.rt; "\raudit_recording: {percent} % judged");
+                self.told = true;
+            }
         }
     }
 
@@ -38,15 +56,10 @@ impl<'a, R: Clock + Eprint> Progress<'a, R> {
 impl<'a, R: Clock + Eprint> Watch for Progress<'a, R> {
     fn pass(&mut self, bytes: u64) {
         self.done = self.done.saturating_add(bytes);
-        let Some(begun) = self.begun else {
-            return;
-        };
-        if let Ok(taken) = begun.elapsed(self.rt) {
-            if taken.as_secs() >= QUIET {
-                let percent = u128::from(self.done) * 100 / u128::from(self.all.max(1));
-                let _ = eprint!(self.rt; "\raudit_recording: {percent} % judged");
-                self.told = true;
-            }
-        }
+        self.tell(self.done);
+    }
+
+    fn tried(&mut self, bytes: u64) {
+        self.tell(self.done.saturating_add(bytes));
     }
 }

@@ -44,7 +44,7 @@ pub fn audit_recording<'a, R: RandomSource + Threads + Wait + Sync, W: Watch>(
     let mut begins = true;
     while !rest.is_empty() {
         let now = asked.at(begins);
-        let piece = match next_piece(rt, alloc, rest, reach, known, &now) {
+        let piece = match next_piece(rt, alloc, rest, reach, known, &now, watch) {
             Ok(piece) => piece,
             Err(why) => return Err(why.at(number)),
         };

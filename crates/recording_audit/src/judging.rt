@@ -8,6 +8,8 @@ use crate::cut_cause::CutCause;
 use crate::limits::fault_over;
 use crate::part::Stretch;
 use crate::span::Span;
+use crate::splitting::end_of_lines;
+use crate::watch::Watch;
 use audit_input::tells_charges;
 use cfs_model::Memory;
 use companion_maker::{NotMade, companion_of_text};
@@ -30,8 +32,31 @@ pub(crate) enum Judged {
     Bad { line: u64, why: CutCause },
 }
 
+/// Judges a text, and says how far it is good.
+pub(crate) fn judge_watched<R: RandomSource + Threads + Wait + Sync, W: Watch>(
+    rt: &R,
+    alloc: Global,
+    text: &[u8],
+    asked: &Asked<'_>,
+    watch: &mut W,
+) -> Result<Judged, Memory>
+    ensures { IfOk result (IsJudgement asked.now.limits text.now) }
+{
+    let judged = judge(rt, alloc, text, asked)?;
+    watch.tried(good_bytes(text, &judged) as u64);
+    Ok(judged)
+}
+
+/// How many bytes of a text stand before the line up to which it can be no run; all where it is one.
+fn good_bytes(text: &[u8], judged: &Judged) -> usize {
+    match judged {
+        Judged::Run(_) | Judged::Quiet => text.len(),
+        Judged::Bad { line, .. } => end_of_lines(text, line.saturating_sub(1)),
+    }
+}
+
 /// Makes a companion for a text, and judges it.
-pub(crate) fn judge<R: RandomSource + Threads + Wait + Sync>(
+fn judge<R: RandomSource + Threads + Wait + Sync>(
     rt: &R,
     alloc: Global,
     text: &[u8],

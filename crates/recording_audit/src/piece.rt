@@ -7,13 +7,14 @@ ghost use Rattle.recording_audit.specs.Pieces.{IsCausedPiece, IsNoPiece, IsPiece
 
 use crate::asked::Asked;
 use crate::cut_cause::CutCause;
-use crate::judging::{Judged, judge};
+use crate::judging::{Judged, judge_watched};
 use crate::not_audited::NotAudited;
 use crate::part::{Cut, Told};
 use crate::real_time::lines_of_real_time;
 use crate::scanning::{comment_lines, event_count, last_start};
 use crate::showing::{cause_behind, cause_of_first, shown_cause};
 use crate::splitting::{split_lines, split_near};
+use crate::watch::Watch;
 use cfs_model::Memory;
 use std::alloc::Global;
 use std::random::RandomSource;
@@ -40,14 +41,15 @@ pub(crate) struct Piece<'a> {
 }
 
 /// The next part of a text of which so many bytes are tried first; why its first line stands in no stretch, where that
-/// is known.
-pub(crate) fn next_piece<'a, R: RandomSource + Threads + Wait + Sync>(
+/// is known. Each try is told.
+pub(crate) fn next_piece<'a, R: RandomSource + Threads + Wait + Sync, W: Watch>(
     rt: &R,
     alloc: Global,
     text: &'a [u8],
     reach: usize,
     known: Option<CutCause>,
     asked: &Asked<'_>,
+    watch: &mut W,
 ) -> Result<Piece<'a>, NotAudited>
     requires { 0 < length text.now }
     ensures piece { IfOk result (IsPieceOf asked.now.limits text.now) }
@@ -61,19 +63,28 @@ pub(crate) fn next_piece<'a, R: RandomSource + Threads + Wait + Sync>(
         return cut_piece(alloc, text, cause);
     }
     match comment_lines(text) {
-        0 => longest_piece(rt, alloc, text, reach, asked),
+        0 => longest_piece(rt, alloc, text, reach, asked, watch),
         // They stand in no stretch, but before one.
-        comments => piece_before(rt, alloc, text, comments.saturating_add(1), None, asked),
+        comments => piece_before(
+            rt,
+            alloc,
+            text,
+            comments.saturating_add(1),
+            None,
+            asked,
+            watch,
+        ),
     }
 }
 
 /// The longest front of a text that is a run, or the lines that can stand in none.
-fn longest_piece<'a, R: RandomSource + Threads + Wait + Sync>(
+fn longest_piece<'a, R: RandomSource + Threads + Wait + Sync, W: Watch>(
     rt: &R,
     alloc: Global,
     text: &'a [u8],
     reach: usize,
     asked: &Asked<'_>,
+    watch: &mut W,
 ) -> Result<Piece<'a>, NotAudited>
     requires { 0 < length text.now }
     ensures piece { IfOk result (IsPieceOf asked.now.limits text.now) }
@@ -84,9 +95,9 @@ fn longest_piece<'a, R: RandomSource + Threads + Wait + Sync>(
     let mut size = reach;
     for _ in 0..MOST_TRIES {
         let (front, rest) = split_near(text, size);
-        match judge(rt, alloc, front, asked)? {
+        match judge_watched(rt, alloc, front, asked, watch)? {
             Judged::Bad { line, why } => {
-                return piece_before(rt, alloc, text, line, Some(why), asked);
+                return piece_before(rt, alloc, text, line, Some(why), asked, watch);
             }
             Judged::Run(stretch) if rest.is_empty() => {
                 return Ok(Piece {
@@ -112,13 +123,14 @@ fn longest_piece<'a, R: RandomSource + Threads + Wait + Sync>(
 
 /// The longest front of a text that ends before this line, and is a run; why the line can stand in no stretch, where it
 /// can't.
-fn piece_before<'a, R: RandomSource + Threads + Wait + Sync>(
+fn piece_before<'a, R: RandomSource + Threads + Wait + Sync, W: Watch>(
     rt: &R,
     alloc: Global,
     text: &'a [u8],
     line: u64,
     why: Option<CutCause>,
     asked: &Asked<'_>,
+    watch: &mut W,
 ) -> Result<Piece<'a>, NotAudited>
     requires some { 0 < length text.now }
     requires known { IsKnown text.now line why }
@@ -134,7 +146,7 @@ fn piece_before<'a, R: RandomSource + Threads + Wait + Sync>(
             return cut_piece(alloc, text, cause_of_first(cause, last));
         }
         let (front, rest) = split_lines(text, last - 1);
-        match judge(rt, alloc, front, asked)? {
+        match judge_watched(rt, alloc, front, asked, watch)? {
             Judged::Run(stretch) => {
                 return Ok(Piece {
                     text: front,

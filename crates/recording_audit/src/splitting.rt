@@ -38,7 +38,7 @@ fn all_of(text: &[u8]) -> (&[u8], &[u8])
 }
 
 /// How many bytes so many lines take; all where there are no more lines.
-fn end_of_lines(text: &[u8], count: u64) -> usize {
+pub(crate) fn end_of_lines(text: &[u8], count: u64) -> usize {
     let mut left = count.max(1);
     for (place, byte) in text.iter().enumerate() {
         if *byte == b'\n' {

@@ -6,3 +6,4 @@ pub mod Events
 pub mod Grown
 pub mod Within
 pub mod Written
+pub mod NotNamed

@@ -12,6 +12,7 @@ use Rattle.sched_record.specs.declared.cause.TraceCause.{TraceCause}
 use Rattle.sched_record.specs.declared.cause.TraceCause.TheVariants as traces
 use Rattle.text_parts.specs.Lines.{lines_of}
 use Rattle.recording_audit.specs.Parts.{IsFaultOf, IsOutsideOf, IsStretch}
+use Rattle.recording_audit.specs.Tasks.{IsNamed}
 use Rattle.recording_audit.specs.declared.cut_cause.CutCause.{CutCause}
 use Rattle.recording_audit.specs.declared.cut_cause.CutCause.TheVariants as causes
 use Rattle.recording_audit.specs.declared.part.Part.{Part}
@@ -116,6 +117,7 @@ abbrev pub IsCaused : KnobsView → List ℕ → List ℕ → Told → Type 0
 IsCaused limits before text (told.Stretch stretch) = ⊤
 IsCaused limits before text (told.Cut cut) =
     IsCauseOf limits before text cut.events cut.cause × IsCounted text cut.events cut.cause
+    × IsNamed text cut.cause cut.task
 IsCaused limits before text told.Quiet = ⊤
 
 -- the causes and counts of all cuts of these parts behind a part with this text

@@ -1,4 +1,5 @@
 pub mod Parts
+pub mod Tasks
 pub mod Causes
 pub mod Splits
 pub mod Pieces

@@ -2,7 +2,8 @@
 -- and one that says how much was judged. Each ends in a line feed, with numbers in plain decimal.
 use Rattle.std.specs.Prelude.{ℕ, ◌+◌, ◌-◌, ◌^◌, ◌/◌, ◌%◌, ◌==◌, min, Bool, true, false, ◌||◌, if◌then◌else◌}
 use Rattle.std.specs.Prelude.{Option, Some, None, List, [], ◌∷◌, ◌++◌, codes, decimal, map}
-use Rattle.std.specs.Fmt.{format_spec, padded_integral}
+use Rattle.std.specs.Fmt.{digits, format_spec, padded_integral}
+use Rattle.std.specs.Int.{is_in_range}
 use Rattle.std.specs.List.{concat}
 use Rattle.cfs_model.specs.Kinds.{name_of, text_of}
 use Rattle.cfs_model.specs.Knobs.{KnobsView, value_at}
@@ -18,6 +19,8 @@ use Rattle.replay_model.specs.declared.first_fault.FirstFault.{FirstFault}
 use Rattle.audit_report.specs.Report.{fault_line, line_of, nine_digits, told_settings}
 use Rattle.recording_audit.specs.declared.cut_cause.CutCause.{CutCause}
 use Rattle.recording_audit.specs.declared.cut_cause.CutCause.TheVariants as causes
+use Rattle.recording_audit.specs.declared.cut_task.CutTask.{CutTask}
+use Rattle.recording_audit.specs.declared.part.Cut.{Cut}
 use Rattle.recording_audit.specs.declared.part.Part.{Part}
 use Rattle.recording_audit.specs.declared.part.Stretch.{Stretch}
 use Rattle.recording_audit.specs.declared.part.Told.{Told}
@@ -45,7 +48,7 @@ refusal_words traces.LostEvents = codes "LostEvents: a processor's events are mi
 refusal_words (traces.Event events.BadFields) = codes "BadFields"
 refusal_words (traces.Event events.NumberRange) = codes "NumberRange"
 refusal_words (traces.Event events.RealTime) =
-    codes "RealTime: a real-time or deadline task, or a thread migration/N, whose time is no other task's"
+    codes "RealTime: a real-time or deadline task, whose time is no other task's"
 refusal_words (traces.Event events.PrioRange) = codes "PrioRange"
 refusal_words (traces.Event events.IdleNamed) = codes "IdleNamed"
 refusal_words traces.TimeBack = codes "TimeBack"
@@ -79,10 +82,27 @@ numbers_words first last =
     if first == last then codes "line " ++ decimal first
     else (codes "lines " ++ (decimal first ++ (codes "-" ++ decimal last)))
 
+-- a byte of a name: that of a sign of ASCII which is printed, and any other by its number, in two digits to base 16
+abbrev pub shown_byte : ℕ → List ℕ
+shown_byte byte =
+    if is_in_range 32 126 byte then byte ∷ []
+    else codes "\\x" ++ padded_integral (format_spec 32 0 4 2 (2 ^ 64 - 1)) false [] (digits 16 false byte)
+
+-- a name
+abbrev pub shown_name : List ℕ → List ℕ
+shown_name name = concat (map shown_byte name)
+
+-- the real-time task at whose line a cut was made, where it was made at one's
+abbrev pub task_words : Option CutTask → List ℕ
+task_words None = []
+task_words (Some task) =
+    codes ": pid " ++ (decimal task.pid ++ (codes " (" ++ (shown_name task.name.items ++ codes ")")))
+
 -- the line of a cut
-abbrev pub cut_line : ℕ → ℕ → CutCause → List ℕ
-cut_line first last cause =
-    line_of (codes "cut " ++ (numbers_words first last ++ (codes " " ++ cause_words cause)))
+abbrev pub cut_line : ℕ → ℕ → Cut → List ℕ
+cut_line first last cut =
+    line_of (codes "cut " ++ (numbers_words first last ++ (codes " "
+    ++ (cause_words cut.cause ++ task_words cut.task))))
 
 -- a setting by the name of its option, in nanoseconds
 abbrev pub setting_words : KnobsView → Setting → List ℕ
@@ -119,7 +139,7 @@ over_line first (Some fault) = fault_line (record fault { line = more first faul
 abbrev pub told_lines : ℕ → ℕ → ℕ → Told → List ℕ
 told_lines number first last (told.Stretch stretch) =
     stretch_line number first last stretch ++ over_line first stretch.over
-told_lines number first last (told.Cut cut) = cut_line first last cut.cause
+told_lines number first last (told.Cut cut) = cut_line first last cut
 told_lines number first last told.Quiet = []
 
 abbrev pub part_lines : ℕ → Part → List ℕ

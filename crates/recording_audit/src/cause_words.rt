@@ -46,7 +46,7 @@ fn refusal_words(cause: TraceCause) -> &'static str
         TraceCause::Event(EventFault::BadFields) => "BadFields",
         TraceCause::Event(EventFault::NumberRange) => "NumberRange",
         TraceCause::Event(EventFault::RealTime) =>
-            "RealTime: a real-time or deadline task, or a thread migration/N, whose time is no other task's",
+            "RealTime: a real-time or deadline task, whose time is no other task's",
         TraceCause::Event(EventFault::PrioRange) => "PrioRange",
         TraceCause::Event(EventFault::IdleNamed) => "IdleNamed",
         TraceCause::TimeBack => "TimeBack",

@@ -1,6 +1,7 @@
 ghost use Rattle.std.specs.Bool.{OnFalse};
-ghost use Rattle.std.specs.Prelude.{ℕ, List, Some};
+ghost use Rattle.std.specs.Prelude.{◌≡◌, ◌≢◌, ℕ, List, Some, false};
 ghost use Rattle.recording_audit.specs.Causes.{IsKnown, IsUnreadable};
+ghost use Rattle.recording_audit.specs.Tasks.{real_time_cut};
 
 use replay_model::FirstFault;
 use sched_event::EventFault;
@@ -39,8 +40,13 @@ impl CutCause {
     }
 
     /// Whether the line is a real-time or deadline task's.
-    pub(crate) fn is_real_time(self) -> bool {
-        self == CutCause::Refused(TraceCause::Event(EventFault::RealTime))
+    pub(crate) fn is_real_time(self) -> bool
+        ensures { result ≡ false → self ≢ real_time_cut }
+    {
+        matches!(
+            self,
+            CutCause::Refused(TraceCause::Event(EventFault::RealTime))
+        )
     }
 }
 

@@ -110,6 +110,7 @@ fn long_enough(told: Told, least: u64) -> Told
         Told::Stretch(stretch) if stretch.events < least => Told::Cut(Cut {
             cause: CutCause::Short,
             events: stretch.events,
+            task: None,
         }),
         told => told,
     }

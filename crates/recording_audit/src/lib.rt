@@ -4,6 +4,8 @@
 mod asked;
 mod cause_words;
 mod cut_cause;
+mod cut_task;
+mod escaping;
 mod headline;
 mod judging;
 mod limits;
@@ -23,6 +25,7 @@ mod watch;
 pub use asked::Asked;
 pub use cause_words::CauseWords;
 pub use cut_cause::CutCause;
+pub use cut_task::CutTask;
 pub use headline::audit_recording;
 pub use not_audited::NotAudited;
 pub use part::{Cut, Part, Stretch, Told};

@@ -1,4 +1,5 @@
 use crate::cut_cause::CutCause;
+use crate::cut_task::CutTask;
 use cfs_model::Knobs;
 use replay_model::FirstFault;
 
@@ -42,8 +43,10 @@ pub struct Stretch {
 }
 
 /// A part that stands in no stretch.
-#[derive(Clone, Copy, Debug)]
+#[derive(Debug, Drop)]
 pub struct Cut {
     pub cause: CutCause,
     pub events: u64,
+    /// The real-time or deadline task that its first line names, where the cut was made for that.
+    pub task: Option<CutTask>,
 }

@@ -7,6 +7,7 @@ ghost use Rattle.recording_audit.specs.Pieces.{IsCausedPiece, IsNoPiece, IsPiece
 
 use crate::asked::Asked;
 use crate::cut_cause::CutCause;
+use crate::cut_task::task_of;
 use crate::judging::{Judged, judge_watched};
 use crate::not_audited::NotAudited;
 use crate::part::{Cut, Told};
@@ -188,12 +189,15 @@ fn cut_piece<'a>(alloc: Global, text: &'a [u8], cause: CutCause) -> Result<Piece
         return Err(NotAudited::Refused { line: 1, cause });
     }
     let (front, rest) = split_lines(text, cut_lines(alloc, text, cause)?);
+    let shown = shown_cause(front, cause);
+    let task = task_of(alloc, front, shown)?;
     Ok(Piece {
         text: front,
         rest,
         told: Told::Cut(Cut {
-            cause: shown_cause(front, cause),
+            cause: shown,
             events: event_count(front),
+            task,
         }),
         next: None,
     })

@@ -2,11 +2,12 @@
 ghost use Rattle.std.specs.Prelude.{◌≡◌, ◌++◌, IfOk, OnOk, Some, string_bytes};
 ghost use Rattle.audit_report.specs.Report.{told_settings};
 ghost use Rattle.recording_audit.specs.Report.{cut_line, over_line, part_lines, report_lines, stretch_line};
-ghost use Rattle.recording_audit.specs.Report.{stretch_words, words_of_settings};
+ghost use Rattle.recording_audit.specs.Report.{stretch_words, task_words, words_of_settings};
 
 use crate::cause_words::CauseWords;
-use crate::cut_cause::CutCause;
-use crate::part::{Part, Stretch, Told};
+use crate::cut_task::CutTask;
+use crate::escaping::push_name;
+use crate::part::{Cut, Part, Stretch, Told};
 use crate::tally::Tally;
 use crate::times::Seconds;
 use audit_report::told_settings;
@@ -38,7 +39,7 @@ fn push_part(text: &mut String, part: &Part<'_>, stretches: u64) -> Result<(), A
             push_stretch(text, stretches, first, last, stretch)?;
             push_over(text, first, stretch.over)
         }
-        Told::Cut(cut) => push_cut(text, first, last, cut.cause),
+        Told::Cut(cut) => push_cut(text, first, last, cut),
         Told::Quiet => Ok(()),
     }
 }
@@ -127,13 +128,30 @@ fn push_fault(text: &mut String, first: u64, fault: FirstFault) -> Result<(), Al
 }
 
 /// Writes which lines a cut has, and why.
-fn push_cut(text: &mut String, first: u64, last: u64, cause: CutCause) -> Result<(), AllocError>
-    ensures { OnOk result (string_bytes text.new ≡ string_bytes text.old ++ cut_line first last cause) }
+fn push_cut(text: &mut String, first: u64, last: u64, cut: &Cut) -> Result<(), AllocError>
+    ensures { OnOk result (string_bytes text.new ≡ string_bytes text.old ++ cut_line first last cut.now) }
 {
-    let words = CauseWords(cause);
+    let words = CauseWords(cut.cause);
     if first == last {
-        writeln!(text, "cut line {first} {words}")
+        write!(text, "cut line {first} {words}")?;
     } else {
-        writeln!(text, "cut lines {first}-{last} {words}")
+        write!(text, "cut lines {first}-{last} {words}")?;
     }
+    push_task(text, &cut.task)?;
+    writeln!(text, "")?;
+    Ok(())
+}
+
+/// Writes the real-time task at whose line a cut was made, where it was made at one's.
+fn push_task(text: &mut String, task: &Option<CutTask>) -> Result<(), AllocError>
+    ensures { OnOk result (string_bytes text.new ≡ string_bytes text.old ++ task_words task.now) }
+{
+    let Some(task) = task else {
+        return Ok(());
+    };
+    let pid = task.pid;
+    write!(text, ": pid {pid} (")?;
+    push_name(text, task.name.as_slice())?;
+    write!(text, ")")?;
+    Ok(())
 }

@@ -9,3 +9,4 @@ pub mod Verdicts
 pub mod Judgements
 pub mod Answering
 pub mod UsualFields
+pub mod RealTimes

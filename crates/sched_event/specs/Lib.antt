@@ -8,3 +8,5 @@ pub mod Reading
 pub mod Judging
 pub mod FieldsView
 pub mod Usual
+pub mod RealTime
+pub mod RealTimeReading

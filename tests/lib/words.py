@@ -31,7 +31,12 @@ OVERWRITTEN = b"hint: the trace misses events: its two numbers of entries differ
 
 # The commands behind `trace-cmd report -N` and `perf script` that make a trace of what these print.
 FROM_TRACE_CMD = r"sed -E '/^cpus=/d; s/: (sched_[a-z_]+): +/: \1: /'"
-FROM_PERF = r"sed -E 's/^(.{16}) +([0-9]+) +(\[[0-9]+\]) +([0-9.]+): +sched:(sched_[a-z_]+): +/\1-\2 \3 \4: \5: /'"
+FROM_PERF = (
+    r"LC_ALL=C sed -E 's/^(.{16}) +-?([0-9]+ +\[[0-9]+\] +[0-9.]+: ) *(sched:)?/\1-\2/; "
+    r"s/(: sched_switch: )(.*):([0-9]+) \[([-0-9]+)\] ([^ ]+) ==> (.*):([0-9]+) \[([-0-9]+)\]$"
+    r"/\1prev_comm=\2 prev_pid=\3 prev_prio=\4 prev_state=\5 ==> next_comm=\6 next_pid=\7 next_prio=\8/; "
+    r"s/(: sched_wakeup[_new]*: )(.*):([0-9]+) \[([-0-9]+)\].* CPU:([0-9]+)$"
+    r"/\1comm=\2 pid=\3 prio=\4 target_cpu=\5/'")
 SWITCH = b"prev_comm=name prev_pid=101 prev_prio=120 prev_state=R+ ==> next_comm=name next_pid=102 next_prio=120\n"
 # Texts of other shapes, as they begin, and what is said of each. Those that are printed are of one switch after 4 ms.
 SHAPES = {

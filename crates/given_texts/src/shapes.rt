@@ -34,14 +34,14 @@ static FRONTS: [Shape; 6] = [
     },
     Shape {
         mark: b"PERFILE2",
-        hint: "is perf's binary file: `perf script -i FILE | sed -E 's/^(.{16}) +([0-9]+) +(\\[[0-9]+\\]) +([0-9.]+): +sched:(sched_[a-z_]+): +/\\1-\\2 \\3 \\4: \\5: /'` writes the text",
+        hint: "is perf's binary file: `perf script -i FILE | LC_ALL=C sed -E 's/^(.{16}) +-?([0-9]+ +\\[[0-9]+\\] +[0-9.]+: ) *(sched:)?/\\1-\\2/; s/(: sched_switch: )(.*):([0-9]+) \\[([-0-9]+)\\] ([^ ]+) ==> (.*):([0-9]+) \\[([-0-9]+)\\]$/\\1prev_comm=\\2 prev_pid=\\3 prev_prio=\\4 prev_state=\\5 ==> next_comm=\\6 next_pid=\\7 next_prio=\\8/; s/(: sched_wakeup[_new]*: )(.*):([0-9]+) \\[([-0-9]+)\\].* CPU:([0-9]+)$/\\1comm=\\2 pid=\\3 prio=\\4 target_cpu=\\5/'` writes the text",
     },
 ];
 
 /// By what stands somewhere near the front.
 static WITHIN: [Shape; 1] = [Shape {
     mark: b" sched:sched_",
-    hint: "looks like `perf script`: `perf script | sed -E 's/^(.{16}) +([0-9]+) +(\\[[0-9]+\\]) +([0-9.]+): +sched:(sched_[a-z_]+): +/\\1-\\2 \\3 \\4: \\5: /'` writes the text",
+    hint: "looks like `perf script`: `perf script | LC_ALL=C sed -E 's/^(.{16}) +-?([0-9]+ +\\[[0-9]+\\] +[0-9.]+: ) *(sched:)?/\\1-\\2/; s/(: sched_switch: )(.*):([0-9]+) \\[([-0-9]+)\\] ([^ ]+) ==> (.*):([0-9]+) \\[([-0-9]+)\\]$/\\1prev_comm=\\2 prev_pid=\\3 prev_prio=\\4 prev_state=\\5 ==> next_comm=\\6 next_pid=\\7 next_prio=\\8/; s/(: sched_wakeup[_new]*: )(.*):([0-9]+) \\[([-0-9]+)\\].* CPU:([0-9]+)$/\\1comm=\\2 pid=\\3 prio=\\4 target_cpu=\\5/'` writes the text",
 }];
 
 /// What the text of an event of the scheduler begins with.

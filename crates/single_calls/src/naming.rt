@@ -1,4 +1,7 @@
 //! How long it takes to name the pids of a trace's births, by the hash that finds them.
+
+use crate::endings::{out_of_memory, refused};
+use crate::stopwatch::Stopwatch;
 use cfs_model::Memory;
 use indexmap::IndexMap;
 use pid_table::{PidHasher, PidTable};
@@ -7,43 +10,25 @@ use std::alloc::Global;
 use std::io;
 use std::random::RandomSource;
 use std::rt::Clock;
-use std::time::Instant;
 
-/// What the naming took, in nanoseconds.
-#[derive(Clone, Copy)]
-pub struct Naming {
-    /// In a table whose keys are random.
-    pub random: u128,
-    /// In a map with the hash that `indexmap` has by default, whose seed is fixed.
-    pub fixed: u128,
-    /// How many pids there are.
-    pub pids: usize,
-}
-
-/// Names the pids of a trace's births, in the order of their births, in a table and in a map.
-pub fn naming_of<R: Clock + RandomSource>(
+/// Names the pids of a trace's births, in their order, in a table whose keys are random, and in a map with the hash
+/// that `indexmap` has by default, whose seed is fixed. Prints how long each took, and how many pids there are.
+pub fn print_naming<R: AllocGlobal + Clock + Print + RandomSource>(
     rt: &R,
-    alloc: Global,
     trace: &Trace,
-) -> io::Result<Option<Naming>> {
-    let Ok(born) = born_in(alloc, trace) else {
-        return Ok(None);
-    };
+) -> io::Result<()> {
+    let alloc = rt.alloc();
+    let born = born_in(alloc, trace).map_err(out_of_memory)?;
     let hasher = PidHasher::random(rt);
-    let began = Instant::now(rt)?;
-    let by_table = named_in_table(alloc, hasher, &born);
-    let random = began.elapsed(rt)?.as_nanos();
-    let began = Instant::now(rt)?;
-    let by_map = named_in_map(alloc, &born);
-    let fixed = began.elapsed(rt)?.as_nanos();
-    match (by_table, by_map) {
-        (Ok(pids), Ok(same)) if pids == same => Ok(Some(Naming {
-            random,
-            fixed,
-            pids,
-        })),
-        _ => Ok(None),
+    let mut watch = Stopwatch::start(rt)?;
+    let in_table = named_in_table(alloc, hasher, &born).map_err(out_of_memory)?;
+    watch.print_lap(rt)?;
+    let in_map = named_in_map(alloc, &born).map_err(out_of_memory)?;
+    watch.print_lap(rt)?;
+    if in_table != in_map {
+        return Err(refused());
     }
+    println!(rt; "{in_table}")
 }
 
 /// The pids of a trace's births.

@@ -1,5 +1,5 @@
 use Rattle.std.proofs.Common.{length}
-use Rattle.reading_bench.proofs.readings.events_of.Given as goal
+use Rattle.single_calls.proofs.readings.usual_of.Given as goal
 
 abbrev pub decreases-loop-rest : goal.decreases-loop-rest
 decreases-loop-rest l = length l.rest

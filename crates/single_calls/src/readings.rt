@@ -6,7 +6,7 @@ use std::thread::Threads;
 use text_parts::lines::{is_comment, next_line};
 
 /// What a reading found, so that none of it can be left out.
-#[derive(Clone, Copy, Debug, PartialEq, Eq)]
+#[derive(Clone, Copy, Debug)]
 pub enum Found {
     /// How many events there are, and a sum over them.
     Events { count: u64, sum: u64 },
@@ -21,15 +21,16 @@ pub enum Found {
 
 /// What a reading of this name finds in a text.
 pub fn found_by<R: AllocGlobal + Threads + Sync>(rt: &R, what: &str, text: &[u8]) -> Option<Found> {
-    match what {
-        "events" => Some(events_of(text)),
-        "usual" => Some(usual_of(text)),
-        "trace" => Some(kept(read_trace(rt.alloc(), text))),
-        "trace_wide" => Some(kept(read_trace_wide(rt, rt.alloc(), text))),
-        "companion" => Some(claims_kept(read_companion(rt.alloc(), text))),
-        "companion_wide" => Some(claims_kept(read_companion_wide(rt, rt.alloc(), text))),
-        _ => None,
-    }
+    let alloc = rt.alloc();
+    Some(match what {
+        "events" => events_of(text),
+        "usual" => usual_of(text),
+        "trace" => events_kept(read_trace(alloc, text)),
+        "trace_wide" => events_kept(read_trace_wide(rt, alloc, text)),
+        "companion" => claims_kept(read_companion(alloc, text)),
+        "companion_wide" => claims_kept(read_companion_wide(rt, alloc, text)),
+        _ => return None,
+    })
 }
 
 /// The task of an event; of a switch the previous one.
@@ -90,11 +91,8 @@ fn usual_of(text: &[u8]) -> Found {
                 lines = lines.wrapping_add(1);
                 sum = sum.wrapping_add(part);
             }
-            None => {
-                if !is_comment(line) {
-                    others = others.wrapping_add(1);
-                }
-            }
+            None if is_comment(line) => {}
+            None => others = others.wrapping_add(1),
         }
         rest = after;
     }
@@ -102,7 +100,7 @@ fn usual_of(text: &[u8]) -> Found {
 }
 
 /// How much a trace that was read keeps.
-fn kept(read: Result<Trace, TraceFault>) -> Found {
+fn events_kept(read: Result<Trace, TraceFault>) -> Found {
     match read {
         Ok(trace) => Found::Kept {
             count: trace.events().len(),

@@ -1,0 +1,45 @@
+use crate::endings::bad_words;
+use sched_audit::{FeedOf, SinkOf, Sizes, command_line, run_counted_in_blocks, run_in_blocks};
+use std::fs::File;
+use std::io;
+use std::process::ExitCode;
+use std::random::RandomSource;
+use std::rt::Files;
+use std::thread::Threads;
+
+/// Runs the audit that reads both inputs at once, by how many bytes a read asks for, how many events a window has, and
+/// then the words of a command line of `sched_audit`; and prints its report.
+pub fn print_in_blocks<R: AllocGlobal + Files + Print + RandomSource + Threads + Sync>(
+    rt: &R,
+    block: &str,
+    words: &[String],
+) -> io::Result<ExitCode> {
+    let sizes = words
+        .first()
+        .and_then(|window| sizes_of(block, window.as_str()));
+    // The window's size stands where a command line has the program's name.
+    let (Some(sizes), Ok(request)) = (sizes, command_line(rt.alloc(), words)) else {
+        return bad_words();
+    };
+    let trace = &mut FeedOf::new(File::open(rt, request.trace)?);
+    let companion = &mut FeedOf::new(File::open(rt, request.companion)?);
+    let out = &mut SinkOf::new(io::writer(rt));
+    let (alloc, knobs) = (rt.alloc(), request.knobs);
+    let status = if request.summary {
+        run_counted_in_blocks(rt, alloc, trace, companion, knobs, sizes, out)
+    } else {
+        run_in_blocks(rt, alloc, trace, companion, knobs, sizes, out)
+    };
+    Ok(ExitCode::from(match status {
+        Ok(status) => status.code(),
+        Err(fault) => fault.code(),
+    }))
+}
+
+/// The sizes that two words say, each at least one.
+pub fn sizes_of(block: &str, window: &str) -> Option<Sizes> {
+    match (block.parse::<u32>(), window.parse::<usize>()) {
+        (Ok(block), Ok(window)) => Some(Sizes::new(block.max(1), window.max(1))),
+        _ => None,
+    }
+}

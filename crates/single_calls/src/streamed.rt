@@ -1,0 +1,31 @@
+use crate::stopwatch::Stopwatch;
+use cfs_model::Knobs;
+use sched_audit::{FeedOf, Sizes, Verdict};
+use std::fs::File;
+use std::io;
+use std::random::RandomSource;
+use std::rt::{Clock, Files};
+use std::thread::Threads;
+use stream_audit::{StreamOutcome, judge_stream};
+
+/// Judges two files a block at a time, and prints how long it took and what they came to.
+pub fn print_streamed<R: AllocGlobal + Clock + Files + Print + RandomSource + Threads + Sync>(
+    rt: &R,
+    trace: &str,
+    companion: &str,
+    sizes: Sizes,
+) -> io::Result<()> {
+    let mut watch = Stopwatch::start(rt)?;
+    let trace = &mut FeedOf::new(File::open(rt, trace)?);
+    let companion = &mut FeedOf::new(File::open(rt, companion)?);
+    let heard = judge_stream(rt, rt.alloc(), trace, companion, Knobs::standard(), sizes);
+    watch.print_lap(rt)?;
+    match heard {
+        Ok(hearing) => match hearing.outcome {
+            StreamOutcome::Judged(Verdict::Run(summary)) => println!(rt; "run {}", summary.events),
+            StreamOutcome::Judged(Verdict::Fault(fault)) => println!(rt; "fault {}", fault.line),
+            StreamOutcome::Text { line, .. } => println!(rt; "refused {line}"),
+        },
+        Err(fault) => println!(rt; "{fault}"),
+    }
+}

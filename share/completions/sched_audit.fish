@@ -7,7 +7,7 @@ complete -c sched_audit -l drift-ns -x -d "How far a task's told charges may str
 complete -c sched_audit -l least -d 'Print the least settings at which the recording is a run'
 complete -c sched_audit -l waits -d 'After the report of a run, say how long each task waited'
 complete -c sched_audit -l explain -d 'After a fault or a refusal, say why in lines that begin with #'
-complete -c sched_audit -l summary -d 'Of a run print the counts alone, and no line for each task'
+complete -c sched_audit -l summary -d 'Print only the counts of a run, and no line for each task'
 complete -c sched_audit -l states -r -d 'Write how the processor stands at each event to FILE, a JSON line for each'
 complete -c sched_audit -l json -d 'Print the report as one JSON object'
 complete -c sched_audit -l color -x -a 'auto always never' \

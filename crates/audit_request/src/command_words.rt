@@ -88,7 +88,7 @@ fn command<'a>(alloc: Global) -> Result<Command<'a>, AllocError>
         .arg(flag(
             alloc,
             "summary",
-            "Of a run print the counts alone, and no line for each task",
+            "Print only the counts of a run, and no line for each task",
         ))?
         .arg(word_option(
             alloc,

@@ -26,7 +26,7 @@ pub(crate) fn push_mend(text: &mut String, scene: &Scene) -> Result<(), AllocErr
 fn push_setting(text: &mut String, name: &str, least: u128) -> Result<(), AllocError> {
     writeln!(
         text,
-        "# this test passes with --{name} {least} or more; other tests may need more: --least tells"
+        "# this test passes with --{name} {least} or more; other tests may need more, which --least prints"
     )
 }
 

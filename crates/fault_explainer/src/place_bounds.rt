@@ -46,11 +46,11 @@ fn push_runner(
     match runner {
         Some(SchedEntity { pid, .. }) => {
             let named = scene.named(pid);
-            writeln!(text, "# prev_pid is {prev}, but at cpu {cpu} {named} runs")
+            writeln!(text, "# prev_pid is {prev}, but {named} runs at cpu {cpu}")
         }
         None => writeln!(
             text,
-            "# prev_pid is {prev}, but at cpu {cpu} nobody runs, for which pid {IDLE_PID} stands"
+            "# prev_pid is {prev}, but nobody runs at cpu {cpu}, for which pid {IDLE_PID} stands"
         ),
     }
 }

@@ -123,12 +123,12 @@ fn push_not_its(
             let named = scene.named(pid);
             writeln!(
                 text,
-                "# the told charge is of {told}, but at cpu {cpu} {named} runs"
+                "# the told charge is of {told}, but {named} runs at cpu {cpu}"
             )
         }
         None => writeln!(
             text,
-            "# the told charge is of {told}, but at cpu {cpu} nobody runs"
+            "# the told charge is of {told}, but nobody runs at cpu {cpu}"
         ),
     }
 }
@@ -141,7 +141,7 @@ fn push_told_at(text: &mut String, told: &ToldCharge, named: Named<'_>) -> Resul
         let apart = v.abs_diff(to);
         return writeln!(
             text,
-            "# {named} is told at {to}, which is {apart} below {v}, where it was before the charge: no charge takes virtual runtime away"
+            "# the companion has {named} at {to}, which is {apart} below {v}, where it was before the charge: no charge takes virtual runtime away"
         );
     }
     let exact = told.exact.to();
@@ -150,7 +150,7 @@ fn push_told_at(text: &mut String, told: &ToldCharge, named: Named<'_>) -> Resul
     let side = if stray < 0 { "below" } else { "above" };
     writeln!(
         text,
-        "# {named} is told at {to}, which is {apart} {side} {exact}, where it is by the exact charge"
+        "# the companion has {named} at {to}, which is {apart} {side} {exact}, where it is by the exact charge"
     )
 }
 

@@ -154,6 +154,7 @@ build() {
   rm -rf "$beside" && mkdir -p "$beside" || exit 70
   libraries || exit 70
   rm -r "$beside"
+  echo "$command: proving and building the program itself, some minutes more" >&2
   # Without words the program ends at once, by a status of its own.
   prove "$top" "$crate" run 0
   local status=$?

@@ -1,3 +1,4 @@
+use sched_event::EventFault;
 use sched_record::{JoinCause, TraceCause};
 use std::fmt;
 
@@ -8,6 +9,16 @@ pub(crate) enum CauseWord {
     Trace(TraceCause),
     /// No companion joins with the trace.
     Join(JoinCause),
+}
+
+impl CauseWord {
+    /// Whether a recording with such a line can be judged before it and behind it.
+    pub(crate) fn cuts_recordings(self) -> bool {
+        matches!(
+            self,
+            CauseWord::Trace(TraceCause::LostEvents | TraceCause::Event(EventFault::RealTime))
+        )
+    }
 }
 
 impl fmt::Display for CauseWord {

@@ -15,6 +15,13 @@ pub(crate) fn say_of_text<R: Eprint>(rt: &R, text: &[u8]) {
     say_of_loss(rt, text);
 }
 
+/// Says what makes companions of a trace in which some lines can't be judged.
+pub(crate) fn say_of_stretches<R: Eprint>(rt: &R) {
+    let _ = eprintln!(rt;
+        "hint: audit_recording leaves such lines out, and judges what is between; with --out FOLDER it writes the companions"
+    );
+}
+
 /// Says what to do with the companion that was written for a trace, and what is likely a mistake in that.
 pub(crate) fn say_of_companion<R: Eprint>(rt: &R, text: &[u8], guess: Option<Guessed>) {
     say_of_loss(rt, text);

@@ -1,7 +1,7 @@
 use crate::cause_word::CauseWord;
 use crate::command::{Request, command_line};
 use crate::ending::Ending;
-use crate::hints::{say_of_companion, say_of_text};
+use crate::hints::{say_of_companion, say_of_stretches, say_of_text};
 use clap::Error;
 use clap::error::ErrorKind::OutOfMemory;
 use companion_maker::{NotMade, Wishes, companion_of_text};
@@ -100,6 +100,9 @@ fn write_companion<R: Print + Eprint + RandomSource + AllocGlobal>(
 fn refuse<R: Eprint>(rt: &R, text: &[u8], line: u64, word: CauseWord) -> Ending {
     let _ = eprintln!(rt; "make_companion: refused trace line {line} {word}");
     say_of_text(rt, text);
+    if word.cuts_recordings() {
+        say_of_stretches(rt);
+    }
     Ending::Refused
 }
 

@@ -4,7 +4,6 @@ use amount_words::{Amount, amount_mistake};
 use cfs_model::{Knobs, Setting};
 use clap::error::ErrorKind;
 use clap::{Arg, ArgMatches, Command, Error, value_parser};
-use companion_maker::{Strategy, Wishes};
 use std::alloc::{AllocError, Global};
 use std::convert::AsStr;
 
@@ -18,7 +17,6 @@ pub(crate) struct Request<'a> {
     /// The name of the folder that stretches are kept in, as given.
     pub out: Option<&'a str>,
     pub least_events: u64,
-    pub wishes: Wishes,
     pub limits: Knobs,
 }
 
@@ -125,23 +123,19 @@ fn request_of<'a>(matches: &ArgMatches<'a>) -> Option<Request<'a>> {
             Ok(number) => number.unwrap_or(1),
             Err(_) => return None,
         },
-        wishes: Wishes {
-            knobs: knobs_of(matches, &Wishes::SETTINGS, Knobs::standard())?,
-            strategy: Some(Strategy::Kernel),
-        },
-        limits: knobs_of(matches, &Setting::ALL, Knobs::greatest())?,
+        limits: limits_of(matches)?,
     })
 }
 
-/// Settings of which these are as the values say, where they do; None where one has no sense.
-fn knobs_of(matches: &ArgMatches<'_>, settings: &[Setting], others: Knobs) -> Option<Knobs> {
-    let mut knobs = others;
-    for setting in settings {
+/// The settings that no stretch may need more than, the greatest where none is named; None where one has no sense.
+fn limits_of(matches: &ArgMatches<'_>) -> Option<Knobs> {
+    let mut limits = Knobs::greatest();
+    for setting in &Setting::ALL {
         if let Some(number) = number_of(matches, *setting)? {
-            knobs = knobs.with(*setting, number)?;
+            limits = limits.with(*setting, number)?;
         }
     }
-    Some(knobs)
+    Some(limits)
 }
 
 /// The nanoseconds of a setting, where its option is given; None where its word says no amount.

@@ -3,8 +3,10 @@ use crate::ending::Ending;
 use crate::hints::{say_of_audited, say_of_refused};
 use crate::keeping::keep;
 use crate::progress::Progress;
+use cfs_model::Knobs;
 use clap::Error;
 use clap::error::ErrorKind::OutOfMemory;
+use companion_maker::{Strategy, Wishes};
 use given_texts::file_of;
 use recording_audit::{Asked, CauseWords, NotAudited, Part, Tally, audit_recording, report};
 use std::alloc::Global;
@@ -54,7 +56,11 @@ fn audit<R: Files + Clock + Print + Eprint + RandomSource + AllocGlobal + Thread
         None => None,
     };
     let asked = Asked {
-        wishes: request.wishes,
+        // The limits are none of them: a stretch needs the same whatever is allowed.
+        wishes: Wishes {
+            knobs: Knobs::standard(),
+            strategy: Some(Strategy::Kernel),
+        },
         debug: debug.as_ref().map(|debug| debug.as_slice()),
         least_events: request.least_events,
         limits: request.limits,

@@ -1,6 +1,7 @@
 -- A piece of a recording.
 use Rattle.std.specs.Prelude.{ℕ, ◌+◌, ⊤, List, ◌++◌, length}
 use Rattle.cfs_model.specs.Knobs.{KnobsView}
+use Rattle.recording_audit.specs.declared.breach.Breach.{Breach}
 use Rattle.recording_audit.specs.declared.piece.Piece.{Piece}
 use Rattle.text_parts.specs.Lines.{lines_of}
 use Rattle.recording_audit.specs.declared.not_audited.NotAudited.{NotAudited}
@@ -15,6 +16,10 @@ abbrev pub IsPieceOf : KnobsView → List ℕ → Piece → Type 0
 IsPieceOf limits text piece =
     AreSplit text piece.text.now piece.rest.now × IsTold limits piece.text.now piece.told
     × IsKnown (piece.text.now ++ piece.rest.now) (length (lines_of piece.text.now) + 1) piece.next
+
+-- of the line that a stretch has to end before it is known why, where that is told
+abbrev pub IsKnownBreach : List ℕ → Breach → Type 0
+IsKnownBreach text breach = IsKnown text breach.line breach.cause
 
 -- the cause of a piece, if it is a cut, behind a part with this text
 abbrev pub IsCausedPiece : KnobsView → List ℕ → Piece → Type 0

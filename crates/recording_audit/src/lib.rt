@@ -2,6 +2,7 @@
 #![tactic(auto)]
 
 mod asked;
+mod breach;
 mod cause_words;
 mod cut_cause;
 mod cut_task;

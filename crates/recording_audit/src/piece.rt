@@ -6,6 +6,7 @@ ghost use Rattle.recording_audit.specs.Causes.{IsKnown};
 ghost use Rattle.recording_audit.specs.Pieces.{IsCausedPiece, IsNoPiece, IsPieceOf, IsUnmeasuredPiece};
 
 use crate::asked::Asked;
+use crate::breach::Breach;
 use crate::cut_cause::CutCause;
 use crate::cut_task::task_of;
 use crate::judging::{Judged, judge_watched};
@@ -98,7 +99,8 @@ fn longest_piece<'a, R: RandomSource + Threads + Wait + Sync, W: Watch>(
         let (front, rest) = split_near(text, size);
         match judge_watched(rt, alloc, front, asked, watch)? {
             Judged::Bad { line, why } => {
-                return piece_before(rt, alloc, text, line, Some(why), asked, watch);
+                let Breach { line, cause } = Breach::of(rt, alloc, text, line, why, asked, watch)?;
+                return piece_before(rt, alloc, text, line, cause, asked, watch);
             }
             Judged::Run(stretch) if rest.is_empty() => {
                 return Ok(Piece {

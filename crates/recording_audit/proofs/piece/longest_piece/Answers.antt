@@ -4,8 +4,8 @@ use Rattle.recording_audit.proofs.Causing.{known_of_bad}
 use Rattle.recording_audit.proofs.piece.longest_piece.Goals as goal
 
 -- the front is no run up to this line, and neither is the text
-pub piece_before-requires-clause-known : goal.piece_before-requires-clause-known
-piece_before-requires-clause-known g c =
+pub of-requires-clause-known : goal.of-requires-clause-known
+of-requires-clause-known g c =
     let front = c.split_near.result.0.now in
     let rest = c.split_near.result.1.now in
     let bad : IsBadFor front c.in-Bad.line c.in-Bad.why = search rules in

@@ -1,7 +1,7 @@
 //! What is likely a mistake, and what to do next: said on standard error.
 use crate::audit_command::AuditCommand;
 use cfs_model::{Amounts, GREATEST_SETTING, Knobs, Setting};
-use companion_maker::{Guessed, Strategy};
+use companion_maker::Guessed;
 use given_texts::{KernelHint, has_event, is_overwritten, trace_hint};
 
 /// What is said of a companion that is given as the trace.
@@ -42,11 +42,8 @@ fn say_of_loss<R: Eprint>(rt: &R, text: &[u8]) {
 
 fn say_of_guess<R: Eprint>(rt: &R, guess: Guessed) {
     let needs = guess.needs;
-    let granularity = needs.get(Setting::Granularity);
     say_of_stop(rt, guess.stop);
-    if guess.strategy == Strategy::Kernel {
-        say_of_kernel(rt, granularity);
-    }
+    say_of_kernel(rt, needs.get(Setting::Granularity));
     say_of_needs(rt, needs);
 }
 

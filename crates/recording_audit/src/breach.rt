@@ -84,7 +84,7 @@ impl Search {
         }
     }
 
-    /// The lines that were tried came to this, and whether they are all. The breach that is known by now; it was this one.
+    /// The lines that were tried came to this; whether they are all lines. The breach that is known by now.
     fn learn(&mut self, last: Breach, judged: &Judged, all: bool) -> Breach
         ensures { (limits : KnobsView) (text front rest : List ℕ) → AreSplit text front rest
             → IsJudgement limits front judged.now → IsKnownBreach text last → IsKnownBreach text result }

@@ -8,9 +8,9 @@ use crate::kind::Kind;
 pub enum Setting {
     /// How far above the least virtual runtime a picked task may be.
     Granularity,
-    /// How far below the floor a woken task may be placed.
+    /// How far below the floor (min_vruntime) a woken task may be placed.
     Credit,
-    /// How far above the floor a new task may be placed.
+    /// How far above the floor (min_vruntime) a new task may be placed.
     Debit,
     /// How long a processor may idle beside a waiting task.
     Slack,
@@ -57,11 +57,16 @@ impl Setting {
         ensures standard { result.standard ≡ standard_value self }
     {
         row_of!(self;
-            Granularity: "granularity-ns", "How far above the least a picked task may be", 1000000, NotLeast;
-            Credit: "credit-ns", "How far below the floor a woken task may be placed", 3000000, WakeBounds;
-            Debit: "debit-ns", "How far above the floor a new task may be placed", 3000000, ForkBounds;
-            Slack: "slack-ns", "How long a processor may idle beside a waiting task", 100000, IdleTooLong;
-            Drift: "drift-ns", "How far a task's told charges may stray in sum from exact ones", 0, WrongCharge;
+            Granularity: "granularity-ns",
+                "How far above the least virtual runtime (vruntime) a picked task may be", 1000000, NotLeast;
+            Credit: "credit-ns",
+                "How far below the floor (min_vruntime) a woken task may be placed", 3000000, WakeBounds;
+            Debit: "debit-ns",
+                "How far above the floor (min_vruntime) a new task may be placed", 3000000, ForkBounds;
+            Slack: "slack-ns",
+                "How long a processor may idle beside a waiting task", 100000, IdleTooLong;
+            Drift: "drift-ns",
+                "How far the companion's charges may stray in sum from exact ones", 0, WrongCharge;
         )
     }
 

@@ -6,7 +6,7 @@ use Rattle.std.specs.Prelude.{All, filter}
 use Rattle.std.specs.List.{enumerate_from}
 use Rattle.std.proofs.lemmas.List.{get_or-map, get_or_default, map-append, length-map}
 use Rattle.std.proofs.lemmas.List.Elements.{All-cons, All-nil, All-weaker, filter-append}
-use Rattle.cfs_model.specs.Claimed.{claimed, with_claim}
+use Rattle.cfs_model.specs.Claimed.{Claimed, claimed, with_claim}
 use Rattle.cfs_model.specs.Limits.{most_processors}
 use Rattle.cfs_model.specs.declared.act.Entry.{Entry}
 use Rattle.cfs_model.specs.declared.claim.Claim.{Claim}
@@ -16,7 +16,10 @@ use Rattle.replay_model.specs.StepAt.{step_at}
 use Rattle.replay_model.specs.Cut.{steps_at, touches}
 use Rattle.replay_model.specs.declared.step.Step.{Step}
 use Rattle.sched_record.specs.Indices.{AreIndicesOf, indices_at, indices_touching, touches_cpu}
+use Rattle.sched_record.specs.Window.{said_beside, said_of}
+use Rattle.sched_record.specs.declared.window.Saying.{Saying}
 use Rattle.sched_record.proofs.Lines.{enumerate_push}
+use Rattle.sched_record.proofs.Windows.{said_length}
 use Rattle.cfs_model.specs.declared.policy.Policy.{Policy}
 
 map_first : {X : Type 0} (b : Bool) (n : ℕ) (x : X)
@@ -66,7 +69,7 @@ abbrev pub touching : ℕ → List Entry → List Entry
 touching cpu events = filter (λ event. touches_cpu cpu event.act) events
 
 -- the indices, counted from a number on
-abbrev indices_from : ℕ → ℕ → List Entry → List ℕ
+abbrev pub indices_from : ℕ → ℕ → List Entry → List ℕ
 indices_from cpu n events = map (λ at. at.0) (filter (λ at. touches_cpu cpu (at.1).act) (enumerate_from n events))
 
 found_from : (cpu n : ℕ) (f : ℕ → Entry) (events : List Entry)
@@ -95,6 +98,41 @@ indices_found cpu events d =
     found_from cpu 0 (λ index. get_or events index d) events
     (λ k e h. ap (λ n. get_or events n d) (omega arith) ∙ get_or_default events k d e h)
 
+-- the same of what is said beside the events
+said_from : (cpu n : ℕ) (f : ℕ → Claimed) (events : List Entry) (sayings : List Saying)
+    → length sayings ≡ length events
+    → ((k : ℕ) (d : Claimed) → k < length events → f (n + k) ≡ get_or (said_beside events sayings) k d)
+    → map f (indices_from cpu n events) ≡ filter (touches cpu) (said_beside events sayings)
+said_from cpu n f [] sayings paired reads = refl
+said_from cpu n f (event ∷ events) [] paired reads = absurd (omega arith)
+said_from cpu n f (event ∷ events) (saying ∷ sayings) paired reads =
+    by (touches_cpu cpu event.act) refl (ap f (omega arith) ∙ reads 0 (said_of event saying) (omega arith))
+    (said_from cpu (n + 1) f events sayings (omega arith)
+    (λ k d h. ap f (omega arith) ∙ reads (suc k) d (omega arith)))
+  where
+    by : (b : Bool) → touches_cpu cpu event.act ≡ b → f n ≡ said_of event saying
+        → map f (indices_from cpu (n + 1) events) ≡ filter (touches cpu) (said_beside events sayings)
+        → map f (map (λ at. at.0) (cond (touches_cpu cpu event.act)
+        ((n, event) ∷ filter (λ at. touches_cpu cpu (at.1).act) (enumerate_from (n + 1) events))
+        (filter (λ at. touches_cpu cpu (at.1).act) (enumerate_from (n + 1) events))))
+        ≡ cond (touches_cpu cpu event.act) (said_of event saying ∷ filter (touches cpu) (said_beside events sayings))
+        (filter (touches cpu) (said_beside events sayings))
+    by true e first rest = rw e (ap (λ x. x ∷ map f (indices_from cpu (n + 1) events)) first
+        ∙ ap (λ xs. said_of event saying ∷ xs) rest)
+    by false e first rest = rw e rest
+
+-- what is said at the indices is what is said of the events that touch the processor
+pub said_found : (cpu : ℕ) (events : List Entry) (sayings : List Saying) (d : Claimed)
+    → length sayings ≡ length events
+    → map (λ index. get_or (said_beside events sayings) index d) (indices_touching cpu events)
+    ≡ filter (touches cpu) (said_beside events sayings)
+unfolding indices_touching
+said_found cpu events sayings d paired =
+    said_from cpu 0 (λ index. get_or (said_beside events sayings) index d) events sayings paired
+    (λ k e h. ap (λ n. get_or (said_beside events sayings) n d) (omega arith)
+    ∙ get_or_default (said_beside events sayings) k d e
+    (let n = said_length events sayings paired in omega (arith, h, n)))
+
 within_from : (cpu n : ℕ) (events : List Entry) → All (λ index. index < n + length events) (indices_from cpu n events)
 within_from cpu n [] = All-nil (λ index. index < n + 0)
 within_from cpu n (event ∷ events) =
@@ -119,6 +157,15 @@ unfolding indices_touching
 indices_within cpu events =
     All-weaker (λ index. index < 0 + length events) (λ index. index < length events) (λ index lt. omega arith) _
     (within_from cpu 0 events)
+
+-- each of the indices is one among the events
+pub index_below : (cpu : ℕ) (events : List Entry) (indices : List ℕ) (i : ℕ) → indices ≡ indices_touching cpu events
+    → i < length indices → get_or indices i 0 < length events
+index_below cpu events indices i is h =
+    let size = ap length is in
+    let within = indices_within cpu events i 0 (omega (arith, size, h)) in
+    let same = ap (λ (ps : List ℕ). get_or ps i 0) is in
+    omega (arith, within, same)
 
 -- an event with what is said on its line, as a processor sees it
 abbrev pub step_of : ℕ → List Claim → List NiceLine → List ChargeLine → (Entry → Policy) → Entry → Step

@@ -23,3 +23,4 @@ pub mod Births
 pub mod SpanEnds
 pub mod PolicyTold
 pub mod Windows
+pub mod WindowIndices

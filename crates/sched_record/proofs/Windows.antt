@@ -34,14 +34,14 @@ entries_said [] sayings e = refl
 entries_said (x ∷ events) [] e = absurd (omega arith)
 entries_said (x ∷ events) (s ∷ sayings) e = ap (λ es. x ∷ es) (entries_said events sayings (omega arith))
 
-said_length : (events : List Entry) (sayings : List Saying) → length sayings ≡ length events
+pub said_length : (events : List Entry) (sayings : List Saying) → length sayings ≡ length events
     → length (said_beside events sayings) ≡ length events
 said_length [] sayings e = refl
 said_length (x ∷ events) [] e = absurd (omega arith)
 said_length (x ∷ events) (s ∷ sayings) e = (let h = said_length events sayings (omega arith) in omega (arith, h))
 
 -- the event at an index with the saying there
-said_here : (events : List Entry) (sayings : List Saying) (i : ℕ) (event : Entry) (saying : Saying)
+pub said_here : (events : List Entry) (sayings : List Saying) (i : ℕ) (event : Entry) (saying : Saying)
     → length sayings ≡ length events → i < length events → event ≡ get_or events i event
     → saying ≡ get_or sayings i saying
     → said_of event saying ≡ get_or (said_beside events sayings) i (said_of event saying)
@@ -73,16 +73,17 @@ module _ (cpu : ℕ) (events : List Entry) (sayings : List Saying) (i : ℕ) (pa
       ∙ map-append (step_at cpu) (filter (touches cpu) (take i said)) (filter (touches cpu) (here ∷ []))
 
   -- an event that touches the processor
-  pub deals_one : (event : Entry) (saying : Saying) (steps : List Step) (step : Step)
-      → event ≡ get_or events i event → saying ≡ get_or sayings i saying → touches cpu (said_of event saying) ≡ true
-      → steps ≡ steps_at cpu (take i said) → step ≡ step_at cpu (said_of event saying)
-      → steps ++ step ∷ [] ≡ steps_at cpu (take (i + 1) said)
-  deals_one event saying steps step is there touched dealt made =
-      ap (λ s. steps ++ s ∷ []) made
-      ∙ ap (λ ss. ss ++ step_at cpu (said_of event saying) ∷ []) dealt
-      ∙ ap (λ b. steps_at cpu (take i said) ++ map (step_at cpu) (cond b (said_of event saying ∷ []) [])) (sym touched)
-      ∙ sym (one_more (said_of event saying)
-      (said_here events sayings i event saying paired lt is there))
+  pub deals_one : (event : Entry) (steps more : List Step) → event ≡ get_or events i event
+      → list_any (λ other. eqb other cpu) (touched event.act) ≡ true → steps ≡ steps_at cpu (take i said)
+      → ((here : Claimed) → here ≡ get_or said i here → more ≡ steps ++ step_at cpu here ∷ [])
+      → more ≡ steps_at cpu (take (i + 1) said)
+  deals_one event steps more is touched dealt added =
+      let there = saying_there sayings i (omega arith) in
+      let here = said_of event there.0 in
+      let is_here = said_here events sayings i event there.0 paired lt is there.1 in
+      added here is_here ∙ ap (λ ss. ss ++ step_at cpu here ∷ []) dealt
+      ∙ ap (λ b. steps_at cpu (take i said) ++ map (step_at cpu) (cond b (here ∷ []) [])) (sym touched)
+      ∙ sym (one_more here is_here)
 
   -- one that doesn't
   pub deals_none : (event : Entry) (steps : List Step)

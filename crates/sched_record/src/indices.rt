@@ -100,6 +100,16 @@ impl Indices {
         }
     }
 
+    /// Empties each list; what it took it keeps.
+    pub(crate) fn clear(&mut self)
+        ensures { (cpu : ℕ) → indices_at self.new cpu ≡ [] }
+    {
+        for list in self.lists.iter_mut() {
+            empty(list);
+        }
+        self.hints.clear();
+    }
+
     /// Adds the index of an event to the processors that it touches: to all of them, or to none where a growth is
     /// refused.
     pub(crate) fn add(&mut self, act: Act, index: u32) -> Result<(), Memory>
@@ -152,4 +162,11 @@ impl Indices {
             let _last = self.lists[processor].pop();
         }
     }
+}
+
+/// Takes all off; the room for it stays.
+fn empty(list: &mut PlainList<u32>)
+    ensures { list.new ≡ [] }
+{
+    while list.pop().is_some() {}
 }

@@ -1,9 +1,14 @@
-ghost use Rattle.std.specs.Prelude.{◌≡◌, ◌==◌, ◌<◌, ◌++◌, [], ◌∷◌, length, vec_capacity, vec_len};
+ghost use Rattle.std.specs.Prelude.{◌≡◌, ◌==◌, ℕ, ◌<◌, ◌^◌, ◌++◌, [], ◌∷◌, length, vec_capacity, vec_len};
+ghost use Rattle.std.specs.Prelude.{if◌then◌else◌, OnErr, OnOk};
 ghost use Rattle.std.specs.List.{list_any};
+ghost use Rattle.std.proofs.Props.{props};
+ghost use Rattle.cfs_model.specs.Limits.{most_processors};
 ghost use Rattle.cfs_model.specs.Touch.{touched};
+ghost use Rattle.sched_record.specs.Indices.{AreIndicesOf, indices_at, touches_cpu};
 
 use crate::dealing::step_at;
-use cfs_model::{Act, ChargeLine, Claim, Entry, Memory, NiceLine, Policy};
+use crate::indices::Indices;
+use cfs_model::{Act, ChargeLine, Claim, Entry, MOST_PROCESSORS, Memory, NiceLine, Policy};
 use replay_model::Step;
 use std::alloc::Global;
 
@@ -21,12 +26,17 @@ pub struct Saying {
 pub struct Window {
     events: Vec<Entry>,
     sayings: Vec<Saying>,
+    /// Where in `events` those of each processor stand, of as many as a `u32` counts.
+    indices: Indices,
     pub ghost paired: { length sayings.items ≡ length events.items },
+    ghost indexed: { length events.items < 2 ^ 32 → AreIndicesOf events.items indices } by { Prim.hlevel props },
 }
 
 impl Window {
-    ghost use Rattle.std.specs.Prelude.{OnErr, OnOk, map};
+    ghost use Rattle.std.specs.Prelude.{map, slice_index_or};
+    ghost use Rattle.cfs_model.specs.Claimed.{Claimed};
     ghost use Rattle.replay_model.specs.Cut.{steps_at};
+    ghost use Rattle.replay_model.specs.StepAt.{step_at as step_here};
     ghost use Rattle.sched_record.specs.Window.{said_of, window_view};
 
     /// A window without events.
@@ -36,6 +46,7 @@ impl Window {
         Window {
             events: Vec::new(alloc),
             sayings: Vec::new(alloc),
+            indices: Indices::new(alloc),
         }
     }
 
@@ -46,6 +57,7 @@ impl Window {
     {
         self.events.reserve(1)?;
         self.sayings.reserve(1)?;
+        add_index(&mut self.indices, event.act, self.events.len())?;
         // Taken apart: the check knows the types of what is named.
         let Entry { line, time, act } = event;
         let Saying {
@@ -73,6 +85,7 @@ impl Window {
     {
         self.events.clear();
         self.sayings.clear();
+        self.indices.clear();
     }
 
     /// The events.
@@ -87,16 +100,53 @@ impl Window {
         ensures { OnOk result (steps.new.items ≡ steps_at cpu (window_view self.now)) }
     {
         steps.clear();
+        if cpu as usize >= MOST_PROCESSORS || self.events.len() > u32::MAX as usize {
+            return self.deal_by_all(cpu, steps);
+        }
+        for index in self.indices.at(cpu) {
+            self.push_step(*index as usize, cpu, steps)?;
+        }
+        Ok(())
+    }
+
+    /// Deals by a look at each event, where no indices are kept.
+    fn deal_by_all(&self, cpu: u32, steps: &mut Vec<Step>) -> Result<(), Memory>
+        requires { steps.old.items ≡ [] }
+        ensures { OnOk result (steps.new.items ≡ steps_at cpu (window_view self.now)) }
+    {
         for index in 0..self.events.len() {
-            let event = self.events[index];
-            if touches(event.act, cpu) {
-                let said = self.sayings[index];
-                let step = step_at(event, said.claim, said.nice, said.charge, said.policy, cpu);
-                let _deed = step.deed;
-                steps.push(step)?;
+            if touches(self.events[index].act, cpu) {
+                self.push_step(index, cpu, steps)?;
             }
         }
         Ok(())
+    }
+
+    /// Adds the step of the event at an index, at a processor that it touches.
+    fn push_step(&self, index: usize, cpu: u32, steps: &mut Vec<Step>) -> Result<(), Memory>
+        requires { index < length self.now.events.items }
+        ensures { (here : Claimed) → here ≡ slice_index_or (window_view self.now) index here
+            → OnOk result (steps.new.items ≡ steps.old.items ++ step_here cpu here ∷ []) }
+    {
+        let event = self.events[index];
+        let said = self.sayings[index];
+        let step = step_at(event, said.claim, said.nice, said.charge, said.policy, cpu);
+        let _deed = step.deed;
+        steps.push(step)?;
+        Ok(())
+    }
+}
+
+/// Adds the index of an event to the processors that it touches, where a `u32` counts so many.
+fn add_index(indices: &mut Indices, act: Act, index: usize) -> Result<(), Memory>
+    ensures added { index < 2 ^ 32 → OnOk result ((cpu : ℕ) → cpu < most_processors
+        → indices_at indices.new cpu ≡ indices_at indices.old cpu ++ (if touches_cpu cpu act then index ∷ [] else [])) }
+    ensures kept { OnErr result ((cpu : ℕ) → cpu < most_processors
+        → indices_at indices.new cpu ≡ indices_at indices.old cpu) }
+{
+    match u32::try_from(index) {
+        Ok(index) => indices.add(act, index),
+        Err(_) => Ok(()),
     }
 }
 

@@ -1,4 +1,4 @@
-use Rattle.std.proofs.Common.{w64, rules, ◌∙◌, sym, subst}
+use Rattle.std.proofs.Common.{w64, rules, sym, subst}
 use Rattle.std.proofs.lemmas.Int.{to_z-of_z}
 use mir.Val.{SFits}
 use Rattle.companion_file.specs.Seen.{companion_view}

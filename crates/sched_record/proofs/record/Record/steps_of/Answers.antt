@@ -1,4 +1,4 @@
-use Rattle.std.proofs.Common.{◌≡◌, ℕ, ◌<◌, List, length, get_or, map, sym, ap, ◌∙◌, subst, arith}
+use Rattle.std.proofs.Common.{◌≡◌, ℕ, ◌<◌, List, get_or, map, sym, ap, ◌∙◌, subst, arith}
 use Rattle.std.specs.List.{AllPairs}
 use Rattle.std.proofs.lemmas.List.{take_all}
 use Rattle.cfs_model.specs.Claimed.{claimed}
@@ -15,7 +15,7 @@ use Rattle.sched_record.specs.declared.trace.Trace.{Trace}
 use Rattle.sched_record.specs.Indices.{indices_touching, touches_cpu}
 use Rattle.sched_record.proofs.Dealt.{dealt_more}
 use Rattle.sched_record.proofs.Pairs.{pairs_filter}
-use Rattle.sched_record.proofs.Indexing.{count_touching, next_touching, indices_within, step_of, steps_are, touching}
+use Rattle.sched_record.proofs.Indexing.{count_touching, index_below, next_touching, step_of, steps_are, touching}
 use Rattle.sched_record.proofs.Walk.{above_here, passed_more}
 use Rattle.sched_record.proofs.record.Record.steps_of.Goals as goal
 
@@ -43,15 +43,6 @@ indexed_here : (cpu : ℕ) (events all : List Entry) (indices : List ℕ) → ev
     ≡ indices_touching cpu all
     → indices ≡ indices_touching cpu events
 indexed_here cpu events all indices same indexed = indexed ∙ ap (indices_touching cpu) (sym same)
-
--- each is an index among the events
-index_below : (cpu : ℕ) (events : List Entry) (indices : List ℕ) (i : ℕ) → indices ≡ indices_touching cpu events
-    → i < length indices → get_or indices i 0 < length events
-index_below cpu events indices i is h =
-    let size = ap length is in
-    let within = indices_within cpu events i 0 (omega (arith, size, h)) in
-    let same = ap (λ (ps : List ℕ). get_or ps i 0) is in
-    omega (arith, within, same)
 
 pub bounds-events-index : goal.bounds-events-index
 bounds-events-index c =

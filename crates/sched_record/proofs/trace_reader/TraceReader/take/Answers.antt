@@ -1,5 +1,5 @@
 -- Behind lines of which none is bad, one more is passed over, adds its event, or is the first bad one.
-use Rattle.std.proofs.Common.{rules, ◌+◌, length, sym, ap, ◌∙◌, subst, arith}
+use Rattle.std.proofs.Common.{rules, ◌+◌, length, ap, subst, arith}
 use Rattle.std.proofs.lemmas.List.{length_push}
 use Rattle.sched_record.specs.Said.{LineSays}
 use Rattle.sched_record.proofs.Lines.{passes_over, adds, turns_back, refuses}

@@ -1,33 +1,42 @@
-use Rattle.std.proofs.Common.{◌<◌, ◌≤◌, length, sym, ap, arith, ◌∙◌}
-use Rattle.sched_record.proofs.Windows.{deals_all, deals_none, deals_one}
+use Rattle.std.proofs.Common.{◌^◌, ◌<◌, length, ◌∙◌, arith}
+use Rattle.sched_record.proofs.Indexing.{index_below}
+use Rattle.sched_record.proofs.WindowIndices.{deals_indexed, deals_next}
 use Rattle.sched_record.proofs.window.Window.deal.Goals as goal
-use Rattle.sched_record.proofs.window.Window.deal.Goals.{then-touches+in_ok-push, else-touches}
+
+pub push_step-requires : goal.push_step-requires
+push_step-requires c =
+    let self = c.args.self.now in
+    let n = c.len.ensures in
+    let k = self.events.ok in
+    let t = c.if-len.false in
+    let known : length self.events.items < 2 ^ 32 = omega (arith, n, k, t) in
+    let few = c.if-cpu-ge-MOST_PROCESSORS.false in
+    index_below c.args.cpu self.events.items c.at-index-items.result.now c.loop-index.index-index
+    (c.at-index-items.ensures ∙ self.indexed known c.args.cpu (omega (arith, few))) c.loop-index-test.true
 
 pub loop-index-preserved : goal.loop-index-preserved
 loop-index-preserved c =
     let self = c.args.self.now in
-    let i = c.loop-index.index in
-    let n = c.len-index-end.ensures in
+    let n = c.len.ensures in
     let k = self.events.ok in
-    let t = c.loop-index-test.true in
-    let within : i < length self.events.items = omega (arith, n, k, t) in
-    elim c.if-touches.branch [
-      | then-touches+in_ok-push w ↦
-          ap (λ s. s.items) w.steps-is ∙ w.in_ok-push.ensures.items
-          ∙ deals_one c.args.cpu self.events.items self.sayings.items i self.paired within c.index-event.result.now
-          w.index-said.result.now c.loop-index.steps.items w.step_at-step.result c.index-event.ensures
-          w.index-said.ensures (sym c.touches.ensures ∙ w.if-touches.true) c.loop-index.invariant
-          w.step_at-step.ensures
-      | else-touches w ↦
-          ap (λ s. s.items) w.steps-is
-          ∙ deals_none c.args.cpu self.events.items self.sayings.items i self.paired within c.index-event.result.now
-          c.loop-index.steps.items c.index-event.ensures (sym c.touches.ensures ∙ w.if-touches.false)
-          c.loop-index.invariant
-    ]
+    let t = c.if-len.false in
+    let known : length self.events.items < 2 ^ 32 = omega (arith, n, k, t) in
+    let few = c.if-cpu-ge-MOST_PROCESSORS.false in
+    deals_next c.args.cpu self.events.items self.sayings.items c.at-index-items.result.now self.paired
+    (c.at-index-items.ensures ∙ self.indexed known c.args.cpu (omega (arith, few))) c.loop-index.index-index
+    c.loop-index.steps.items c.push_step.new.steps.items c.loop-index-test.true c.loop-index.invariant
+    c.in_ok-push_step.ensures
 
 pub returns : goal.returns
 returns c =
     let self = c.args.self.now in
-    deals_all c.args.cpu self.events.items self.sayings.items c.loop-index.index c.loop-index.steps.items self.paired
-    (let n = c.len-index-end.ensures in let k = self.events.ok in let t = c.loop-index-test.false in
-    omega (arith, n, k, t)) c.loop-index.invariant
+    let n = c.len.ensures in
+    let k = self.events.ok in
+    let t = c.if-len.false in
+    let known : length self.events.items < 2 ^ 32 = omega (arith, n, k, t) in
+    let few = c.if-cpu-ge-MOST_PROCESSORS.false in
+    let end = c.loop-index-test.false in
+    deals_indexed c.args.cpu self.events.items self.sayings.items c.at-index-items.result.now c.loop-index.index-index
+    c.loop-index.steps.items self.paired
+    (c.at-index-items.ensures ∙ self.indexed known c.args.cpu (omega (arith, few))) (omega (arith, end))
+    c.loop-index.invariant

@@ -1,0 +1,12 @@
+use Rattle.std.proofs.Common.{ap, ◌∙◌, ◌++◌, ◌∷◌, []}
+use Rattle.replay_model.specs.StepAt.{step_at}
+use Rattle.sched_record.proofs.WindowIndices.{said_is}
+use Rattle.sched_record.proofs.window.Window.push_step.Goals as goal
+
+pub returns : goal.returns
+returns c here stands =
+    let self = c.args.self.now in
+    c.in_ok-push.ensures.items
+    ∙ ap (λ step. c.args.steps.now.items ++ step ∷ []) (c.step_at-step.ensures
+    ∙ ap (step_at c.args.cpu) (said_is self.events.items self.sayings.items c.args.index c.index-event.result.now
+    c.index-said.result.now here self.paired c.requires c.index-event.ensures c.index-said.ensures stands))

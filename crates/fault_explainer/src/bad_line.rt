@@ -53,9 +53,11 @@ fn push_count(
     given: usize,
 ) -> Result<(), AllocError> {
     let word = Escaped(word);
+    let noun = if given == 1 { "word" } else { "words" };
+    let verb = if wanted == 1 { "has" } else { "have" };
     writeln!(
         text,
-        "# words behind `{word}`: {given}, and there have to be {wanted}"
+        "# {given} {noun} behind `{word}`: there {verb} to be {wanted}"
     )
 }
 

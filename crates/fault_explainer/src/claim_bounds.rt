@@ -284,7 +284,7 @@ pub(crate) fn wake_bound(scene: &Scene) -> Option<Bound> {
 fn push_wake_rule(text: &mut String, own: i64, floor: i64, credit: u64) -> Result<(), AllocError> {
     writeln!(
         text,
-        "# allowed is at least the greater of its own {own} and the floor {floor} less the credit {credit}, and at most that of {own} and {floor}"
+        "# allowed: at least the greater of its own {own} and the floor {floor} less the credit {credit}, at most the greater of {own} and {floor}"
     )
 }
 
@@ -302,7 +302,7 @@ pub(crate) fn fork_bound(scene: &Scene) -> Option<Bound> {
 fn push_fork_rule(text: &mut String, floor: i64, debit: u64) -> Result<(), AllocError> {
     writeln!(
         text,
-        "# allowed is at least the floor {floor}, and at most the floor and the debit {debit}"
+        "# allowed: at least the floor {floor}, at most the floor plus the debit {debit}"
     )
 }
 

@@ -26,7 +26,7 @@ fn push_idled(text: &mut String, cpu: u32, since: u64, time: u64) -> Result<(), 
     let time = Nanoseconds(time);
     writeln!(
         text,
-        "# nobody has run at cpu {cpu} beside a waiting task since {since}, which is {idled} before this line at {time}"
+        "# cpu {cpu} has idled beside a waiting task since {since}, which is {idled} before this line at {time}"
     )
 }
 

@@ -64,7 +64,7 @@ fn push_look(
 fn meaning(source: Source, cause: Cause) -> &'static str {
     match cause {
         Cause::BadHead => {
-            "no comment, and no event: that begins with a name in 16 columns, -PID, [CPU] and the time in seconds"
+            "neither a comment nor an event: an event begins with a name in 16 columns, -PID, [CPU] and the time in seconds"
         }
         Cause::NumberRange if source == Source::Companion => "a number is out of its limits",
         Cause::NumberRange => {
@@ -80,14 +80,15 @@ fn meaning(source: Source, cause: Cause) -> &'static str {
         Cause::TimeBack => "the time is less than that of the event before it",
         Cause::TooManyLines => "a trace has at most 4294967295 lines",
         Cause::Version => {
-            "the first line that is no comment is cfs-companion 1, cfs-companion 2 or cfs-companion 3, and no more"
+            "the first line that is no comment has to be exactly cfs-companion 1, cfs-companion 2 or cfs-companion 3"
         }
         Cause::Group => "virtual runtimes of several control groups can't be compared",
         Cause::BadLine => "no line of a companion of this version",
         Cause::Order => "a line that isn't due here",
         Cause::TwiceNamed => "the task has the pid of the task line before it",
         Cause::TwiceRunning => "a task named before it runs at its processor already",
-        Cause::LineOrder => "the line of the trace that it names comes too late, or twice",
+        Cause::LineOrder =>
+            "it names an earlier line of the trace than the line above it, or the same one again",
         Cause::NoTask => "no task line names this pid",
         Cause::Short => "the text ends before each processor has its floor",
         Cause::CpuOutside => "the event is at a processor that the companion doesn't have",
@@ -129,9 +130,9 @@ fn remedy(source: Source, cause: Cause) -> &'static str {
             "let the lines rise; one line of the trace has one charge at most, then one nice, then one claim"
         }
         Cause::NoTask =>
-            "name its task above; of one that is born later, write the line of its birth for the 0",
+            "name its task above; if it is born later, write its birth's line in place of the 0",
         Cause::Short => "write a floor for each processor",
-        Cause::CpuOutside => "let cpus be the greatest processor of the recording, and one more",
+        Cause::CpuOutside => "set cpus to the greatest processor of the recording plus one",
         Cause::StartLate => "let start be the first event's time, or earlier",
         Cause::ClaimNoEvent => "count the trace's lines from 1, with its comments",
     }

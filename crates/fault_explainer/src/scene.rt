@@ -176,7 +176,7 @@ impl Scene {
     fn push_before(&self, text: &mut String) -> Result<(), AllocError> {
         writeln!(
             text,
-            "# times are in ns, and in s in brackets; virtual runtimes, floors and charges in virtual ns"
+            "# times are in ns, and in s in brackets; virtual runtimes (vruntime), floors (min_vruntime) and charges in virtual ns"
         )?;
         self.push_processor(text, &self.here)?;
         match &self.there {

@@ -21,8 +21,8 @@ use std::thread::Threads;
 /// How many bytes are tried first.
 const REACH: usize = 1 << 24;
 
-/// How many are tried first behind a fault, since the next may be near.
-const REACH_BEHIND_FAULT: usize = 1 << 14;
+/// How many are tried first behind a fault, and behind a stretch that no cut ends, since the next may be near.
+const NEAR_REACH: usize = 1 << 14;
 
 /// Cuts a recording into parts, and judges each stretch by a companion that is made for it.
 #[tactic(auto, using(crate::proofs::Grown::grown))]
@@ -58,7 +58,7 @@ pub fn audit_recording<'a, R: RandomSource + Threads + Wait + Sync, W: Watch>(
         let told = long_enough(told, asked.least_events);
         begins = begins && matches!(told, Told::Quiet);
         watch.pass(front.len() as u64);
-        reach = reach_behind(&told);
+        reach = reach_behind(&told, next);
         let part = Part {
             first: number,
             last: number + lines - 1,
@@ -85,15 +85,16 @@ fn first_cause(text: &[u8]) -> Option<CutCause>
     }
 }
 
-/// How many bytes are tried behind a part.
-fn reach_behind(told: &Told) -> usize {
+/// How many bytes are tried behind a part, where this cuts the next one, if anything is known to.
+fn reach_behind(told: &Told, next: Option<CutCause>) -> usize {
     match told {
         Told::Cut(
             Cut {
                 cause: CutCause::Fault(_),
                 ..
             },
-        ) => REACH_BEHIND_FAULT,
+        ) => NEAR_REACH,
+        Told::Stretch(_) if next.is_none() => NEAR_REACH,
         _ => REACH,
     }
 }

@@ -27,7 +27,7 @@ pub(crate) fn draft_of(
     wishes: &Wishes,
     strategy: Strategy,
 ) -> Result<Draft, Memory> {
-    let known = Known::nothing(alloc, outset.hasher);
+    let known = Known::nothing(alloc);
     let start = Start::of(alloc, outset, events, wishes, &known)?;
     let mut machine = Machine::new(alloc, outset, &start, wishes, strategy, &known)?;
     follow(&mut machine, outset, events, &known, None)?;
@@ -94,7 +94,7 @@ pub(crate) fn better_draft(
     strategy: Strategy,
     other: &Draft,
 ) -> Result<Option<Draft>, Memory> {
-    let known = Known::nothing(alloc, outset.hasher);
+    let known = Known::nothing(alloc);
     let start = Start::of(alloc, outset, events, wishes, &known)?;
     let mut machine = Machine::new(alloc, outset, &start, wishes, strategy, &known)?;
     if follow(&mut machine, outset, events, &known, Some(&other.candidate))? {

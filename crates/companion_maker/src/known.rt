@@ -5,7 +5,6 @@ use crate::placing::Placing;
 use crate::print::Print;
 use crate::prints::Prints;
 use cfs_model::{Entry, Memory, Place, Task};
-use pid_table::PidHasher;
 use std::alloc::Global;
 use std::collections::BTreeMap;
 
@@ -30,9 +29,8 @@ impl Known {
         prints: Prints,
         events: &[Entry],
         floors: Floors,
-        hasher: PidHasher,
     ) -> Result<Known, Memory> {
-        let (placements, first) = placements_of(alloc, prints.as_slice(), events, hasher)?;
+        let (placements, first) = placements_of(alloc, prints.as_slice(), events)?;
         Ok(Known {
             prints,
             first,
@@ -43,10 +41,10 @@ impl Known {
     }
 
     /// Nothing is.
-    pub(crate) fn nothing(alloc: Global, hasher: PidHasher) -> Known {
+    pub(crate) fn nothing(alloc: Global) -> Known {
         Known {
             prints: Prints::none(alloc),
-            first: NextPrints::new(alloc, hasher),
+            first: NextPrints::new(alloc),
             placements: Vec::new(alloc),
             asked: BTreeMap::new(alloc),
             floors: Floors::unknown(),

@@ -2,11 +2,13 @@
 #![tactic(auto)]
 
 mod candidate;
+mod companion_text;
 mod debug;
 mod draft;
 mod floors;
 mod forecast;
 mod known;
+mod line_text;
 mod machine;
 mod made;
 mod making;
@@ -16,6 +18,7 @@ mod next_prints;
 mod not_made;
 mod opening;
 mod outset;
+mod pid_rows;
 mod placements;
 mod placing;
 mod plain;

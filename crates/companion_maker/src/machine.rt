@@ -58,7 +58,7 @@ impl Machine {
     ) -> Result<Machine, Memory> {
         let mut machine = Machine {
             processors: Vec::new(alloc),
-            tasks: Tasks::new(alloc, outset.hasher),
+            tasks: Tasks::new(alloc),
             wishes: *wishes,
             made: Candidate {
                 strategy,
@@ -153,10 +153,14 @@ impl Machine {
             self.stop_at(moment.line);
         }
         self.need_slack(home);
-        self.need_slack(dest);
+        if dest != home {
+            self.need_slack(dest);
+        }
         self.act(event, moment, known)?;
         self.note_idling(home);
-        self.note_idling(dest);
+        if dest != home {
+            self.note_idling(dest);
+        }
         Ok(())
     }
 

@@ -23,17 +23,19 @@ use crate::touching::processors_of;
 use crate::wishes::Wishes;
 use crate::writing::text_of;
 use cfs_model::{Entry, MOST_PROCESSORS, Memory};
-use companion_file::{CompanionFault, read_companion};
+use companion_file::{CompanionFault, read_companion_wide};
 use pid_table::PidHasher;
-use sched_record::{Trace, join, one_trace_answer, outside_line, read_trace};
+use sched_record::{Trace, join, one_trace_answer, outside_line, read_trace_wide};
 use std::alloc::Global;
+use std::thread::Threads;
 
 /// The strategy that mostly needs the least granularity.
 const MOSTLY_BEST: Strategy = Strategy::Picked;
 
 /// A companion for the text of a trace, and for what `sched/debug` told when the trace was begun, where that is given.
-/// Pids are hashed by these keys.
+/// Several threads read a long text. Pids are hashed by these keys.
 pub fn companion_of_text(
+    rt: &(impl Threads + Sync),
     alloc: Global,
     text: &[u8],
     debug: Option<&[u8]>,
@@ -54,13 +56,14 @@ pub fn companion_of_text(
         × TraceAnswer text.now (Ok events) × IsFirstOutside most_processors events line }
 {
     one_trace_answer();
-    let trace = read_trace(alloc, text)?;
-    let known = wanted_values(alloc, text, debug, trace.events(), wishes, hasher)?;
-    companion_of_trace(alloc, trace, known, wishes, hasher)
+    let trace = read_trace_wide(rt, alloc, text)?;
+    let known = wanted_values(rt, alloc, text, debug, trace.events(), wishes)?;
+    companion_of_trace(rt, alloc, trace, known, wishes, hasher)
 }
 
 /// A companion for a trace, from its events alone. Pids are hashed by these keys.
 pub fn make_companion(
+    rt: &(impl Threads + Sync),
     alloc: Global,
     trace: Trace,
     wishes: &Wishes,
@@ -73,14 +76,15 @@ pub fn make_companion(
     // Else it is said why: the first event that touches a processor which no companion has.
     ensures outside { IfErr result (IsNotMadeFor (trace_view trace)) }
 {
-    let known = Known::nothing(alloc, hasher);
-    companion_of_trace(alloc, trace, known, wishes, hasher)
+    let known = Known::nothing(alloc);
+    companion_of_trace(rt, alloc, trace, known, wishes, hasher)
 }
 
 /// A companion for a trace of which this is known. What was found is read back and joined with the trace; where that
 /// should fail, the companion is the plain one, which goes together with every trace.
 #[tactic(auto, using(sched_record::proofs::OneRecord::none_outside))]
 fn companion_of_trace(
+    rt: &(impl Threads + Sync),
     alloc: Global,
     trace: Trace,
     known: Known,
@@ -100,7 +104,7 @@ fn companion_of_trace(
         });
     }
     let made = found_text(alloc, trace.events(), known, wishes, hasher)?;
-    if go_together(alloc, trace, made.text.as_slice())? {
+    if go_together(rt, alloc, trace, made.text.as_slice())? {
         Ok(made)
     } else {
         Ok(Made {
@@ -112,29 +116,34 @@ fn companion_of_trace(
 
 /// What the texts tell of the kernel's own values, where a companion is to be made by these.
 fn wanted_values(
+    rt: &(impl Threads + Sync),
     alloc: Global,
     text: &[u8],
     debug: Option<&[u8]>,
     events: &[Entry],
     wishes: &Wishes,
-    hasher: PidHasher,
 ) -> Result<Known, Memory> {
     if wishes.strategy != Some(Strategy::Kernel) {
-        return Ok(Known::nothing(alloc, hasher));
+        return Ok(Known::nothing(alloc));
     }
     let floors = match debug {
         Some(told) => told_floors(told),
         None => Floors::unknown(),
     };
-    let prints = Prints::of(alloc, text)?;
-    Known::of(alloc, prints, events, floors, hasher)
+    let prints = Prints::of(rt, alloc, text)?;
+    Known::of(alloc, prints, events, floors)
 }
 
 /// Whether the text is a companion that goes together with the trace.
-fn go_together(alloc: Global, trace: Trace, text: &[u8]) -> Result<bool, Memory>
+fn go_together(
+    rt: &(impl Threads + Sync),
+    alloc: Global,
+    trace: Trace,
+    text: &[u8],
+) -> Result<bool, Memory>
     ensures { IfOk result (λ fits. IsTrue fits ↔ ReadsAndJoins (trace_view trace) text.now) }
 {
-    match read_companion(alloc, text) {
+    match read_companion_wide(rt, alloc, text) {
         Ok(companion) => Ok(join(trace, companion).is_ok()),
         Err(CompanionFault::Text { .. }) => Ok(false),
         Err(CompanionFault::Memory) => Err(Memory),
@@ -152,7 +161,7 @@ fn found_text(
     let outset = Outset {
         cpus: processors_of(events),
         start: events.first().map_or(0, |event| event.time),
-        tasks: tasks_at_start(alloc, events, hasher)?,
+        tasks: tasks_at_start(alloc, events)?,
         forecast: Forecast::of(alloc, events)?,
         hasher,
     };

@@ -1,9 +1,9 @@
 //! Who stands where at the start.
 
+use crate::pid_rows::PidRows;
 use cfs_model::{
     Act, Entry, GREATEST_PID, IDLE_PID, MOST_PROCESSORS, Memory, Nice, Place, Policy, Task,
 };
-use pid_table::{PidHasher, PidTable};
 use std::alloc::Global;
 use std::collections::BTreeMap;
 
@@ -51,20 +51,16 @@ enum Runner {
 
 #[derive(Drop)]
 struct Opening {
-    tasks: PidTable<FirstSight>,
+    tasks: PidRows<FirstSight>,
     /// By processor.
     runners: [Runner; MOST_PROCESSORS],
 }
 
 /// The tasks of the start state, by rising pid: where each stood is told by the first events that name it. Among them a
 /// stand-in for each who must have run all along, unnamed, at a processor to which tasks come and which never switches.
-pub(crate) fn tasks_at_start(
-    alloc: Global,
-    events: &[Entry],
-    hasher: PidHasher,
-) -> Result<Vec<Task>, Memory> {
+pub(crate) fn tasks_at_start(alloc: Global, events: &[Entry]) -> Result<Vec<Task>, Memory> {
     let mut opening = Opening {
-        tasks: PidTable::new(alloc, hasher),
+        tasks: PidRows::new(alloc),
         runners: [Runner::Unsought; MOST_PROCESSORS],
     };
     for event in events {
@@ -167,22 +163,20 @@ impl Opening {
         if pid == IDLE_PID {
             return Ok(());
         }
-        match self.tasks.index_of(pid) {
-            Some(row) => {
-                let first = self.tasks.rows()[row];
+        match self.tasks.get(pid) {
+            Some(first) => {
                 let guess = guess_after(first.guess, sight);
-                if guess != first.guess {
-                    let guess = self.possible(guess, first.guess, first.cpu);
-                    *self.tasks.row_mut(row) = FirstSight { guess, ..first };
+                if guess == first.guess {
+                    return Ok(());
                 }
+                let guess = self.possible(guess, first.guess, first.cpu);
+                self.tasks.set(pid, FirstSight { guess, ..first })
             }
             None => {
                 let guess = self.possible(first_guess(sight), Guess::Unborn, cpu);
-                self.tasks.make_room()?;
-                self.tasks.add(pid, FirstSight { guess, cpu, nice });
+                self.tasks.set(pid, FirstSight { guess, cpu, nice })
             }
         }
-        Ok(())
     }
 
     /// The guess, where it isn't that one more task runs at a processor of which it is known who runs.
@@ -218,10 +212,7 @@ impl Opening {
 
     /// The lowest pid above this one that no event names.
     fn free_pid(&self, last: u32) -> Option<u32> {
-        (last.saturating_add(1)..=GREATEST_PID as u32).find(|pid| self
-            .tasks
-            .index_of(*pid)
-            .is_none())
+        (last.saturating_add(1)..=GREATEST_PID as u32).find(|pid| self.tasks.get(*pid).is_none())
     }
 
     /// Whether tasks came to the processor, and no switch has told who ran there.

@@ -3,7 +3,6 @@
 use crate::next_prints::NextPrints;
 use crate::print::Print;
 use cfs_model::{Act, Entry, IDLE_PID, Memory, Way};
-use pid_table::PidHasher;
 use std::alloc::Global;
 
 /// What is known of the virtual runtime at which an event places a task.
@@ -48,10 +47,9 @@ pub(crate) fn placements_of(
     alloc: Global,
     prints: &[Print],
     events: &[Entry],
-    hasher: PidHasher,
 ) -> Result<(Vec<Placement>, NextPrints), Memory> {
     let mut backwards = Vec::with_capacity(alloc, events.len())?;
-    let mut next = NextPrints::new(alloc, hasher);
+    let mut next = NextPrints::new(alloc);
     let mut earlier = prints;
     for event in events.iter().rev() {
         earlier = meet_behind(&mut next, earlier, event.line)?;

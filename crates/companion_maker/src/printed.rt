@@ -2,13 +2,17 @@
 
 use bstr::ByteSlice;
 use cfs_model::{GREATEST_PID, GREATEST_RUNTIME, NANOSECONDS_PER_SECOND};
-use ftrace_line::read_line;
+use ftrace_line::{read_line, usual_front};
+use memchr::{memchr, memmem};
 use text_parts::numerals::numeral_at;
-use text_parts::pieces::after_front;
+use text_parts::pieces::{after_front, begins_with};
 use text_parts::time::read_time;
 
 /// The most bytes of a task's name.
 const NAME_MAX: usize = 15;
+
+/// The columns of a head's name, with the space before and the `-` behind them.
+const NAME_WIDTH: usize = 17;
 
 /// A charge of a task, as the event `sched_stat_runtime` prints it.
 #[derive(Clone, Copy, Debug, PartialEq, Eq)]
@@ -28,13 +32,39 @@ pub(crate) struct PrintedAmounts {
     pub v: i64,
 }
 
+/// The name of that event, as it stands behind the head of a line.
+const NAME: &[u8] = b"sched_stat_runtime: ";
+
 /// What stands between the head of a line of that event and its text.
 pub(crate) const LABEL: &[u8] = b": sched_stat_runtime: ";
 
-/// The charge that a line of a trace prints, if it is a line of that event. Another line of a trace that can be read
-/// has none: the first label on it, which is given with its index, has to stand right behind the head, and the text has
-/// to have each field.
-pub(crate) fn printed_charge(line: &[u8], label: usize) -> Option<Printed> {
+/// The charge that a line of a trace prints, if it is a line of that event.
+pub(crate) fn printed_charge(line: &[u8]) -> Option<Printed> {
+    let label = label_of(line)?;
+    match usual_front(line) {
+        Some(front) => Some(Printed {
+            time: front.time,
+            amounts: amounts_of(after_front(front.rest, NAME)?)?,
+        }),
+        None => unusual_charge(line, label),
+    }
+}
+
+/// Where the first label on a line of a trace is. It mostly is at the first colon behind the columns of the name, in
+/// which none has room.
+fn label_of(line: &[u8]) -> Option<usize> {
+    let behind = line.get(NAME_WIDTH..)?;
+    let colon = memchr(b':', behind)?;
+    if begins_with(behind.get(colon..)?, LABEL) {
+        Some(NAME_WIDTH.saturating_add(colon))
+    } else {
+        memmem::find(line, LABEL)
+    }
+}
+
+/// The same of a line with something that is seldom there: the first label on it, which is given with its index, has to
+/// stand right behind the head.
+fn unusual_charge(line: &[u8], label: usize) -> Option<Printed> {
     let head = line.get(..label)?;
     let text = line.get(label.saturating_add(LABEL.len())..)?;
     // Where a head ends before the label, the label is a part of another event's text.

@@ -2,70 +2,94 @@
 
 use crate::print::Print;
 use crate::printed::{LABEL, printed_charge};
-use bstr::ByteSlice;
 use cfs_model::Memory;
-use memchr::{memchr_iter, memmem};
+use memchr::memmem;
+use rayon::prelude::*;
 use std::alloc::Global;
+use std::thread::Threads;
+use text_parts::cutting::cut_at_lines;
+use text_parts::lines::next_line;
 
 /// All charges that a trace prints.
 #[derive(Drop)]
 pub(crate) struct Prints {
+    /// How many lines were read.
+    lines: u32,
     /// By rising line.
     prints: Vec<Print>,
     /// The greatest virtual runtime among them.
     greatest: i64,
 }
 
-/// A line of a text, where it is looked at.
-#[derive(Clone, Copy)]
-struct Span {
-    /// From 1; 0 before the first.
-    number: u32,
-    start: usize,
-    /// Where its line feed is, or the text ends.
-    end: usize,
-}
-
 impl Prints {
     /// Nothing was printed.
     pub(crate) fn none(alloc: Global) -> Prints {
         Prints {
+            lines: 0,
             prints: Vec::new(alloc),
             greatest: 0,
         }
     }
 
-    /// What the text prints. Only lines with the event's label are looked at.
-    pub(crate) fn of(alloc: Global, text: &[u8]) -> Result<Prints, Memory> {
+    /// What the text of a trace prints. Several threads read a long one by pieces.
+    pub(crate) fn of(
+        rt: &(impl Threads + Sync),
+        alloc: Global,
+        text: &[u8],
+    ) -> Result<Prints, Memory> {
+        if memmem::find(text, LABEL).is_none() {
+            return Ok(Prints::none(alloc));
+        }
+        let pieces = cut_at_lines(alloc, text)?;
+        let parts = pieces
+            .par_iter()
+            .with_min_len(1)
+            .map(|piece: &&[u8]| -> Result<Prints, Memory> { Prints::of_piece(alloc, piece) })
+            .collect::<Result<Vec<Prints>, Memory>>(rt, alloc)??;
+        let mut whole = Prints::none(alloc);
+        for part in parts {
+            whole.append(part)?;
+        }
+        Ok(whole)
+    }
+
+    /// What a piece prints, with its lines counted from its own front.
+    fn of_piece(alloc: Global, piece: &[u8]) -> Result<Prints, Memory> {
         let mut found = Prints::none(alloc);
-        let mut span = Span {
-            number: 1,
-            start: 0,
-            end: 0,
-        };
-        for label in memmem::find_iter(text, LABEL) {
-            if label < span.end {
-                // A second label on a line.
-                continue;
-            }
-            span = span.next_with(text, label);
-            let line = text.get(span.start..span.end).unwrap_or(&[]);
-            if let Some(printed) = printed_charge(line, label.saturating_sub(span.start)) {
-                found.push(Print {
-                    line: span.number,
-                    pid: printed.amounts.pid,
-                    time: printed.time,
-                    runtime: printed.amounts.runtime,
-                    v: printed.amounts.v,
-                })?;
-            }
+        let mut rest = piece;
+        while !rest.is_empty() {
+            let (line, after) = next_line(rest);
+            rest = after;
+            found.read(line)?;
         }
         Ok(found)
     }
 
-    fn push(&mut self, print: Print) -> Result<(), Memory> {
-        self.greatest = self.greatest.max(print.v);
-        self.prints.push(print)?;
+    /// Reads one more line, and what it prints, if it prints something.
+    fn read(&mut self, line: &[u8]) -> Result<(), Memory> {
+        self.lines = self.lines.saturating_add(1);
+        let Some(printed) = printed_charge(line) else {
+            return Ok(());
+        };
+        self.greatest = self.greatest.max(printed.amounts.v);
+        self.prints.push(Print {
+            line: self.lines,
+            pid: printed.amounts.pid,
+            time: printed.time,
+            runtime: printed.amounts.runtime,
+            v: printed.amounts.v,
+        })?;
+        Ok(())
+    }
+
+    /// Takes what the text behind prints.
+    fn append(&mut self, part: Prints) -> Result<(), Memory> {
+        for print in part.prints.as_slice() {
+            let line = self.lines.saturating_add(print.line);
+            self.prints.push(Print { line, ..*print })?;
+        }
+        self.greatest = self.greatest.max(part.greatest);
+        self.lines = self.lines.saturating_add(part.lines);
         Ok(())
     }
 
@@ -81,23 +105,5 @@ impl Prints {
     /// The greatest virtual runtime that is printed.
     pub(crate) fn greatest(&self) -> i64 {
         self.greatest
-    }
-}
-
-impl Span {
-    /// The later line of the text that has a byte at this index.
-    fn next_with(self, text: &[u8], index: usize) -> Span {
-        let passed = text.get(self.start..index).unwrap_or(&[]);
-        let behind = text.get(index..).unwrap_or(&[]);
-        let mut span = self;
-        for line_feed in memchr_iter(b'\n', passed) {
-            span.number = span.number.saturating_add(1);
-            span.start = self.start.saturating_add(line_feed).saturating_add(1);
-        }
-        span.end = match behind.find_byte(b'\n') {
-            Some(length) => index.saturating_add(length),
-            None => text.len(),
-        };
-        span
     }
 }

@@ -1,9 +1,10 @@
 //! Writes a companion.
 
+use crate::companion_text::CompanionText;
 use crate::draft::Draft;
 use crate::outset::Outset;
 use crate::strategy::Strategy;
-use cfs_model::{ChargeLine, Claim, ClaimSort, NANOSECONDS_PER_SECOND, NiceLine, Place, Task};
+use cfs_model::{ChargeLine, NANOSECONDS_PER_SECOND, NiceLine};
 use std::alloc::{AllocError, Global};
 
 /// What is told beside the claims, each by rising line.
@@ -20,10 +21,9 @@ pub(crate) fn text_of(
     draft: &Draft,
 ) -> Result<Vec<u8>, AllocError> {
     let candidate = &draft.candidate;
-    let mut text = String::new(alloc);
-    push_head(&mut text, outset, draft)?;
+    let mut text = CompanionText::new(head_of(alloc, outset, draft)?);
     for task in draft.start.tasks.as_slice() {
-        push_task(&mut text, task)?;
+        text.push_task(task)?;
     }
     let changes: Vec<NiceLine> = candidate.nices.values().copied().collect(alloc)?;
     let mut later = Told {
@@ -32,14 +32,15 @@ pub(crate) fn text_of(
     };
     for claim in candidate.claims.as_slice() {
         later = push_told(&mut text, later, claim.line)?;
-        push_claim(&mut text, claim)?;
+        text.push_claim(claim)?;
     }
     push_told(&mut text, later, u32::MAX)?;
     Ok(text.into_bytes())
 }
 
 /// The lines before those of the tasks.
-fn push_head(text: &mut String, outset: &Outset, draft: &Draft) -> Result<(), AllocError> {
+fn head_of(alloc: Global, outset: &Outset, draft: &Draft) -> Result<String, AllocError> {
+    let mut text = String::new(alloc);
     let candidate = &draft.candidate;
     let strategy = candidate.strategy.name();
     let granularity = candidate.granularity();
@@ -62,66 +63,43 @@ fn push_head(text: &mut String, outset: &Outset, draft: &Draft) -> Result<(), Al
         let floor = draft.start.floor(cpu);
         writeln!(text, "floor {cpu} {floor}")?;
     }
-    Ok(())
-}
-
-fn push_task(text: &mut String, task: &Task) -> Result<(), AllocError> {
-    let pid = task.pid;
-    let nice = task.nice.get();
-    let cpu = task.cpu;
-    let v = task.v;
-    let place = match task.place {
-        Place::Run => "run",
-        Place::Wait => "wait",
-        Place::Rest => "rest",
-    };
-    writeln!(text, "task {pid} {nice} {cpu} {place} {v}")
-}
-
-fn push_claim(text: &mut String, claim: &Claim) -> Result<(), AllocError> {
-    let Claim { line, pid, v, sort } = claim;
-    match sort {
-        ClaimSort::At => writeln!(text, "at {line} {pid} {v}"),
-        ClaimSort::Pass => writeln!(text, "pass {line} {pid} {v}"),
-    }
+    Ok(text)
 }
 
 /// Writes what is told up to a line of the trace, and gives what follows.
-fn push_told<'c>(text: &mut String, told: Told<'c>, line: u32) -> Result<Told<'c>, AllocError> {
-    let due = told.charges.partition_point(|charge| charge.line <= line);
-    let (due, charges) = told.charges.split_at(due);
+fn push_told<'c>(
+    text: &mut CompanionText,
+    told: Told<'c>,
+    line: u32,
+) -> Result<Told<'c>, AllocError> {
+    let mut charges = told.charges;
     let mut nices = told.nices;
-    for charge in due {
+    for charge in told.charges {
+        if charge.line > line {
+            break;
+        }
         // On the line of a charge the change stands behind it.
         nices = push_changes(text, nices, charge.line.saturating_sub(1))?;
-        push_charge(text, charge)?;
+        text.push_charge(charge)?;
+        charges = charges.get(1..).unwrap_or(&[]);
     }
     let nices = push_changes(text, nices, line)?;
     Ok(Told { charges, nices })
 }
 
-fn push_charge(text: &mut String, charge: &ChargeLine) -> Result<(), AllocError> {
-    let ChargeLine { line, pid, v } = charge;
-    writeln!(text, "charge {line} {pid} {v}")
-}
-
 /// Writes the changes up to a line of the trace, and gives those that follow.
 fn push_changes<'c>(
-    text: &mut String,
+    text: &mut CompanionText,
     changes: &'c [NiceLine],
     line: u32,
 ) -> Result<&'c [NiceLine], AllocError> {
-    let due = changes.partition_point(|change| change.line <= line);
-    let (due, later) = changes.split_at(due);
-    for change in due {
-        push_change(text, change)?;
+    let mut later = changes;
+    for change in changes {
+        if change.line > line {
+            break;
+        }
+        text.push_change(change)?;
+        later = later.get(1..).unwrap_or(&[]);
     }
     Ok(later)
-}
-
-fn push_change(text: &mut String, change: &NiceLine) -> Result<(), AllocError> {
-    let line = change.line;
-    let pid = change.pid;
-    let nice = change.nice.get();
-    writeln!(text, "nice {line} {pid} {nice}")
 }

@@ -12,10 +12,11 @@ use std::alloc::Global;
 use std::io::{ErrorKind, Write};
 use std::random::RandomSource;
 use std::rt::{Env, Files};
+use std::thread::Threads;
 use std::{env, fs, io};
 
 /// Does what the command line says.
-pub fn obey<R: Env + Files + Print + Eprint + RandomSource + AllocGlobal>(
+pub fn obey<R: Env + Files + Print + Eprint + RandomSource + Threads + Sync + AllocGlobal>(
     rt: &R,
     alloc: Global,
 ) -> Ending {
@@ -39,7 +40,7 @@ fn words_of<R: Env + AllocGlobal>(rt: &R, alloc: Global) -> io::Result<Vec<Strin
 }
 
 /// Makes the companion, and writes it to standard output.
-fn make<R: Files + Print + Eprint + RandomSource + AllocGlobal>(
+fn make<R: Files + Print + Eprint + RandomSource + Threads + Sync + AllocGlobal>(
     rt: &R,
     alloc: Global,
     request: &Request<'_>,
@@ -66,14 +67,14 @@ fn make<R: Files + Print + Eprint + RandomSource + AllocGlobal>(
 }
 
 /// Writes the companion for these texts to standard output.
-fn write_companion<R: Print + Eprint + RandomSource + AllocGlobal>(
+fn write_companion<R: Print + Eprint + RandomSource + Threads + Sync + AllocGlobal>(
     rt: &R,
     alloc: Global,
     text: &[u8],
     debug: Option<&[u8]>,
     wishes: &Wishes,
 ) -> Ending {
-    match companion_of_text(alloc, text, debug, wishes, PidHasher::random(rt)) {
+    match companion_of_text(rt, alloc, text, debug, wishes, PidHasher::random(rt)) {
         Ok(made) => {
             if made.guess.is_none() {
                 let _ = eprintln!(rt;

@@ -91,7 +91,7 @@ fn judge_trace<R: RandomSource + Threads + Wait + Sync>(
         return Ok(Judged::Quiet);
     }
     let hasher = PidHasher::random(rt);
-    match companion_of_text(alloc, text, asked.debug, &asked.wishes, hasher) {
+    match companion_of_text(rt, alloc, text, asked.debug, &asked.wishes, hasher) {
         Ok(made) => judge_made(rt, alloc, text, made.text, span, asked),
         Err(NotMade::Trace { line, cause }) => Ok(Judged::Bad {
             line,

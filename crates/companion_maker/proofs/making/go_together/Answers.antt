@@ -6,7 +6,7 @@ use Rattle.companion_maker.proofs.Fits.{joins_where_fits, same_view, never_both}
 use Rattle.companion_maker.proofs.making.go_together.Goals as goal
 
 pub returns-in-Ok : goal.returns-in-Ok
-returns-in-Ok c =
+returns-in-Ok g c =
     let events = trace_view c.args.trace in
     let view = companion_view c.in-Ok.companion in
     let fits = joins_where_fits events view c.join.result c.join.ensures.answered c.join.ensures.only in (
@@ -17,7 +17,7 @@ returns-in-Ok c =
     )
 
 pub returns-in-Err-Text : goal.returns-in-Err-Text
-returns-in-Err-Text c = (
+returns-in-Err-Text g c = (
   (λ yes. absurd cc),
   (λ reads.
       let fault = c.in-Err-Text in

@@ -26,6 +26,7 @@ mod print;
 mod printed;
 mod prints;
 mod processor;
+mod standing;
 mod start;
 mod strategy;
 mod tasks;

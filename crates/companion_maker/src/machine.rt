@@ -6,14 +6,15 @@ use crate::outset::Outset;
 use crate::placements::Placement;
 use crate::placing::Placing;
 use crate::processor::Processor;
+use crate::standing::Standing;
 use crate::start::Start;
 use crate::strategy::Strategy;
 use crate::tasks::Tasks;
 use crate::values::{above, below, excess, moved};
 use crate::wishes::Wishes;
 use cfs_model::{
-    Act, Amounts, ChargeLine, Claim, ClaimSort, Entry, GREATEST_SETTING, Memory, Nice, NiceLine,
-    Place, Policy, Setting, Task, Way,
+    Act, Amounts, ChargeLine, Claim, ClaimSort, Entry, GREATEST_SETTING, IDLE_PID, Memory, Nice,
+    NiceLine, Place, Policy, Setting, Task, Way,
 };
 use std::alloc::Global;
 use std::collections::BTreeMap;
@@ -45,6 +46,8 @@ struct Moment {
     index: usize,
     is_picked: bool,
     placement: Placement,
+    /// The virtual runtime of the task that it wakes, where that rests.
+    own: Option<i64>,
 }
 
 impl Machine {
@@ -140,16 +143,18 @@ impl Machine {
         is_picked: bool,
         known: &Known,
     ) -> Result<(), Memory> {
+        let standing = self.standing(event.act);
         let moment = Moment {
             line: event.line,
             index,
             is_picked,
             placement: known.placement(index),
+            own: standing.and_then(|task| task.own()),
         };
         let (home, dest) = event.act.ends();
         self.time = event.time;
         self.hear(event.line, known);
-        if !self.fits(event) {
+        if !self.fits(event.act, standing.map(|task| task.place)) {
             self.stop_at(moment.line);
         }
         self.need_slack(home);
@@ -253,9 +258,21 @@ impl Machine {
         }
     }
 
-    /// Whether an event fits where the tasks stand. Else no settings mend it.
-    fn fits(&self, event: &Entry) -> bool {
-        let act = event.act;
+    /// How the task stands that an event picks, wakes or moves, where it stands at the processor.
+    fn standing(&self, act: Act) -> Option<Standing> {
+        match act {
+            Act::Switch { cpu, next, .. } if next != IDLE_PID => {
+                self.processors.get(cpu as usize)?.standing(next)
+            }
+            Act::Wake { cpu, pid, .. } => self.processors.get(cpu as usize)?.standing(pid),
+            Act::Shift { orig, pid, .. } => self.processors.get(orig as usize)?.standing(pid),
+            Act::Switch { .. } | Act::Born { .. } => None,
+        }
+    }
+
+    /// Whether an event fits where the tasks stand; the one that it picks, wakes or moves has this place. Else no
+    /// settings mend it.
+    fn fits(&self, act: Act, place: Option<Place>) -> bool {
         match act {
             Act::Switch {
                 cpu,
@@ -266,28 +283,13 @@ impl Machine {
             } => self
                 .processors
                 .get(cpu as usize)
-                .is_some_and(|here| here.can_switch(prev, way, next)),
-            Act::Wake { cpu, pid, .. } => self.place_at(cpu, pid).is_some(),
+                .is_some_and(|here| here.can_switch(prev, way, next, place)),
+            Act::Wake { .. } => place.is_some(),
             Act::Born { pid, .. } => self.tasks.get(pid).is_none(),
-            Act::Shift {
-                orig,
-                dest,
-                pid,
-                ..
-            } => {
-                orig != dest
-                    && matches!(
-                        self.place_at(orig, pid),
-                        Some(Place::Wait) | Some(Place::Rest)
-                    )
+            Act::Shift { orig, dest, .. } => {
+                orig != dest && matches!(place, Some(Place::Wait) | Some(Place::Rest))
             }
         }
-    }
-
-    /// How a task stands at the processor, where it stands there.
-    fn place_at(&self, cpu: u32, pid: u32) -> Option<Place> {
-        let task = self.processors.get(cpu as usize)?.queue.task_at(pid)?;
-        Some(task.place)
     }
 
     /// A task, named last on this line, comes to its processor.
@@ -454,7 +456,7 @@ impl Machine {
 
     /// A task that rests at the processor waits there.
     fn wake(&mut self, moment: Moment, cpu: u32, pid: u32) -> Result<(), Memory> {
-        let Some(own) = self.resting(cpu, pid) else {
+        let Some(own) = moment.own else {
             return Ok(());
         };
         let high = own.max(self.floor(cpu));
@@ -481,16 +483,6 @@ impl Machine {
         }
         self.made.claims.push(claim)?;
         Ok(())
-    }
-
-    /// The virtual runtime of a task that rests at the processor.
-    fn resting(&self, cpu: u32, pid: u32) -> Option<i64> {
-        let task = self.processors.get(cpu as usize)?.queue.task_at(pid)?;
-        if task.place == Place::Rest {
-            Some(task.v)
-        } else {
-            None
-        }
     }
 
     /// Where a woken task is placed at the processor that has this virtual runtime of its own.

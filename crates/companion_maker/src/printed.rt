@@ -3,7 +3,7 @@
 use bstr::ByteSlice;
 use cfs_model::{GREATEST_PID, GREATEST_RUNTIME, NANOSECONDS_PER_SECOND};
 use ftrace_line::{read_line, usual_front};
-use memchr::{memchr, memmem};
+use memchr::memchr_iter;
 use text_parts::numerals::numeral_at;
 use text_parts::pieces::{after_front, begins_with};
 use text_parts::time::read_time;
@@ -50,16 +50,16 @@ pub(crate) fn printed_charge(line: &[u8]) -> Option<Printed> {
     }
 }
 
-/// Where the first label on a line of a trace is. It mostly is at the first colon behind the columns of the name, in
-/// which none has room.
+/// Where the first label on a line of a trace is. None has room in the columns of the name. Most lines have one colon
+/// behind these, so they aren't searched for the whole label.
 fn label_of(line: &[u8]) -> Option<usize> {
     let behind = line.get(NAME_WIDTH..)?;
-    let colon = memchr(b':', behind)?;
-    if begins_with(behind.get(colon..)?, LABEL) {
-        Some(NAME_WIDTH.saturating_add(colon))
-    } else {
-        memmem::find(line, LABEL)
+    for colon in memchr_iter(b':', behind) {
+        if begins_with(behind.get(colon..)?, LABEL) {
+            return Some(NAME_WIDTH.saturating_add(colon));
+        }
     }
+    None
 }
 
 /// The same of a line with something that is seldom there: the first label on it, which is given with its index, has to

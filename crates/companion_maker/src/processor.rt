@@ -1,3 +1,4 @@
+use crate::standing::Standing;
 use cfs_model::{Claim, IDLE_PID, Memory, Place, Task, Way};
 use pid_table::PidHasher;
 use runqueue::{Runqueue, SchedEntity};
@@ -62,26 +63,36 @@ impl Processor {
         }
     }
 
-    /// Whether a switch from one pid, which goes this way, to another fits where the tasks stand.
-    pub(crate) fn can_switch(&self, prev: u32, way: Way, next: u32) -> bool {
-        prev != next
-            && self.runs(prev)
-            && self.can_pick(prev != IDLE_PID && way == Way::Stays, next)
+    /// How the task of this pid stands here, if it does.
+    pub(crate) fn standing(&self, pid: u32) -> Option<Standing> {
+        let task = self.queue.task_at(pid)?;
+        Some(Standing {
+            place: task.place,
+            v: task.v,
+        })
+    }
+
+    /// Whether a switch from one pid, which goes this way, to another, of which this is the place here, fits where the
+    /// tasks stand.
+    pub(crate) fn can_switch(&self, prev: u32, way: Way, next: u32, place: Option<Place>) -> bool {
+        if prev == next || !self.runs(prev) {
+            return false;
+        }
+        if next == IDLE_PID {
+            self.can_idle(prev != IDLE_PID && way == Way::Stays)
+        } else {
+            place == Some(Place::Wait)
+        }
+    }
+
+    /// Whether nobody waits, with who is put back, if one is.
+    fn can_idle(&self, puts_back: bool) -> bool {
+        !puts_back && self.queue.least_waiting().is_none()
     }
 
     /// Whether the task of this pid runs here; of the idle task's, whether none does.
     fn runs(&self, pid: u32) -> bool {
         self.queue.runner().map_or(IDLE_PID, |task| task.pid) == pid
-    }
-
-    /// Whether the task of this pid waits here; of the idle task's, whether none does, with who is put back, if one is.
-    fn can_pick(&self, puts_back: bool, next: u32) -> bool {
-        if next == IDLE_PID {
-            return !puts_back && self.queue.least_waiting().is_none();
-        }
-        self.queue
-            .task_at(next)
-            .is_some_and(|task| task.place == Place::Wait)
     }
 
     /// Who runs goes its way, if it is the task of this pid, and is answered as it ran.

@@ -1,0 +1,16 @@
+use cfs_model::Place;
+
+/// How a task stands at a processor.
+#[derive(Clone, Copy, Debug)]
+pub(crate) struct Standing {
+    pub place: Place,
+    /// In virtual nanoseconds.
+    pub v: i64,
+}
+
+impl Standing {
+    /// The virtual runtime that is the task's own, where it rests.
+    pub(crate) fn own(self) -> Option<i64> {
+        (self.place == Place::Rest).then_some(self.v)
+    }
+}

@@ -3,7 +3,7 @@ complete -c audit_recording -l out -x -a '(__fish_complete_directories)' \
   -d 'Writes each stretch and its companion into this folder, which has to be there'
 complete -c audit_recording -l min-events -x -d 'Judges no stretch with fewer events [default: 1]'
 complete -c audit_recording -l debug -r \
-  -d 'The state that sched/debug printed as the recording began: the floors at the start'
+  -d 'What sched/debug printed as the recording began: the floors (min_vruntime) at the start'
 complete -c audit_recording -l granularity-ns -x -d 'Ends with status 1 where a stretch needs more'
 complete -c audit_recording -l credit-ns -x -d 'Ends with status 1 where a stretch needs more'
 complete -c audit_recording -l debit-ns -x -d 'Ends with status 1 where a stretch needs more'

@@ -2,7 +2,7 @@
 complete -c make_companion -l strategy -x -a 'kernel low high picked level best' \
   -d 'How tasks are placed: kernel, or by guess: low, high, picked, level, best [default: kernel]'
 complete -c make_companion -l debug -r \
-  -d 'The state that sched/debug printed as the recording began: the floors at the start'
+  -d 'What sched/debug printed as the recording began: the floors (min_vruntime) at the start'
 complete -c make_companion -l credit-ns -x \
   -d 'How far below the floor (min_vruntime) a woken task may be placed [default: 3000000]'
 complete -c make_companion -l debit-ns -x \

@@ -67,7 +67,7 @@ fn command<'a>(alloc: Global) -> Result<Command<'a>, AllocError>
         .arg(name(
             alloc,
             "COMPANION",
-            "The start, and the claimed virtual runtimes",
+            "The start, and the claimed virtual runtimes (vruntime)",
         ))?;
     with_settings(alloc, named, &Setting::ALL)?
         .arg(lone_flag(

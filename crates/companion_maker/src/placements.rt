@@ -58,7 +58,13 @@ pub(crate) fn placements_of(
             next.part(pid);
         }
     }
-    meet_behind(&mut next, earlier, 0)?;
+    // Of the prints above the first event the last tells the start, and what ran up to there is in it.
+    for print in earlier {
+        next.meet(Print {
+            runtime: 0,
+            ..*print
+        })?;
+    }
     backwards.reverse();
     Ok((backwards, next))
 }

@@ -19,6 +19,8 @@ const NAME_WIDTH: usize = 17;
 pub(crate) struct Printed {
     /// In nanoseconds.
     pub time: u64,
+    /// The processor that the line's head names.
+    pub cpu: u32,
     pub amounts: PrintedAmounts,
 }
 
@@ -44,6 +46,7 @@ pub(crate) fn printed_charge(line: &[u8]) -> Option<Printed> {
     match usual_front(line) {
         Some(front) => Some(Printed {
             time: front.time,
+            cpu: front.cpu,
             amounts: amounts_of(after_front(front.rest, NAME)?)?,
         }),
         None => unusual_charge(line, label),
@@ -73,8 +76,17 @@ fn unusual_charge(line: &[u8], label: usize) -> Option<Printed> {
     }
     Some(Printed {
         time: time_of(head)?,
+        cpu: cpu_of(head)?,
         amounts: amounts_of(text)?,
     })
+}
+
+/// The processor that a head names, in the first brackets behind the columns of the name.
+fn cpu_of(head: &[u8]) -> Option<u32> {
+    let behind = head.get(NAME_WIDTH..)?;
+    let bracket = behind.find_byte(b'[')?;
+    let (cpu, _) = numeral_at(behind.get(bracket.saturating_add(1)..)?)?;
+    u32::try_from(cpu).ok()
 }
 
 /// The time that a head ends in.

@@ -2,7 +2,7 @@
 
 use crate::print::Print;
 use crate::printed::{LABEL, printed_charge};
-use cfs_model::Memory;
+use cfs_model::{MOST_PROCESSORS, Memory};
 use memchr::memmem;
 use rayon::prelude::*;
 use std::alloc::Global;
@@ -17,8 +17,8 @@ pub(crate) struct Prints {
     lines: u32,
     /// By rising line.
     prints: Vec<Print>,
-    /// The greatest virtual runtime among them.
-    greatest: i64,
+    /// The greatest virtual runtime of each processor, where one is printed there.
+    greatest: [i64; MOST_PROCESSORS],
 }
 
 impl Prints {
@@ -27,7 +27,7 @@ impl Prints {
         Prints {
             lines: 0,
             prints: Vec::new(alloc),
-            greatest: 0,
+            greatest: [0; MOST_PROCESSORS],
         }
     }
 
@@ -71,7 +71,9 @@ impl Prints {
         let Some(printed) = printed_charge(line) else {
             return Ok(());
         };
-        self.greatest = self.greatest.max(printed.amounts.v);
+        if let Some(greatest) = self.greatest.get_mut(printed.cpu as usize) {
+            *greatest = (*greatest).max(printed.amounts.v);
+        }
         self.prints.push(Print {
             line: self.lines,
             pid: printed.amounts.pid,
@@ -88,7 +90,9 @@ impl Prints {
             let line = self.lines.saturating_add(print.line);
             self.prints.push(Print { line, ..*print })?;
         }
-        self.greatest = self.greatest.max(part.greatest);
+        for (greatest, other) in self.greatest.iter_mut().zip(&part.greatest) {
+            *greatest = (*greatest).max(*other);
+        }
         self.lines = self.lines.saturating_add(part.lines);
         Ok(())
     }
@@ -102,8 +106,8 @@ impl Prints {
         self.prints.as_slice()
     }
 
-    /// The greatest virtual runtime that is printed.
-    pub(crate) fn greatest(&self) -> i64 {
-        self.greatest
+    /// The greatest virtual runtime that is printed at a processor, and 0 where none is.
+    pub(crate) fn greatest(&self, cpu: u32) -> i64 {
+        self.greatest.get(cpu as usize).copied().unwrap_or(0)
     }
 }

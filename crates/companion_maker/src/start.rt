@@ -48,7 +48,7 @@ impl Start {
     /// holds no floor.
     fn unknown(&self, task: &Task, known: &Known) -> i64 {
         match task.place {
-            Place::Wait => known.prints().greatest(),
+            Place::Wait => known.prints().greatest(task.cpu),
             Place::Run | Place::Rest => self.floor(task.cpu),
         }
     }

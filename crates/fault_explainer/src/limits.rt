@@ -143,7 +143,7 @@ static SHAPES: [Shape; 9] = [
 pub(crate) fn push_outside_limits(text: &mut String, line: &[u8]) -> Result<(), AllocError> {
     match shape_of(line).and_then(|shape| first_outside(line, shape)) {
         Some(outside) => push_outside(text, outside),
-        None => writeln!(text, "# its CPU is to be below cpus"),
+        None => writeln!(text, "# its CPU has to be below cpus"),
     }
 }
 

@@ -50,7 +50,7 @@ fn push_runner(
         }
         None => writeln!(
             text,
-            "# prev_pid is {prev}, but nobody runs at cpu {cpu}, for which pid {IDLE_PID} stands"
+            "# prev_pid is {prev}, but nobody runs at cpu {cpu}, so prev_pid has to be {IDLE_PID}"
         ),
     }
 }

@@ -82,7 +82,7 @@ fn meaning(source: Source, cause: Cause) -> &'static str {
         Cause::Version => {
             "the first line that is no comment has to be exactly cfs-companion 1, cfs-companion 2 or cfs-companion 3"
         }
-        Cause::Group => "virtual runtimes of several control groups can't be compared",
+        Cause::Group => "virtual runtimes (vruntime) of several control groups can't be compared",
         Cause::BadLine => "no line of a companion of this version",
         Cause::Order => "a line that isn't due here",
         Cause::TwiceNamed => "the task has the pid of the task line before it",

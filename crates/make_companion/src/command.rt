@@ -86,7 +86,7 @@ fn command<'a>(alloc: Global) -> Result<Command<'a>, AllocError> {
                 .long("debug")
                 .value_name("FILE")
                 .help(
-                    "The state that sched/debug printed as the recording began: the floors at the start",
+                    "What sched/debug printed as the recording began: the floors (min_vruntime) at the start",
                 ),
         )?;
     with_settings(alloc, named)

@@ -11,6 +11,11 @@ def printed(microseconds, pid, runtime, v, cpu=0):
     return head(microseconds, cpu) + made.printed(pid, runtime, v, b"name")
 
 
+def in_nanoseconds(line):
+    """The same line, whose time has nine digits."""
+    return line.replace(b": ", b"000: ", 1)
+
+
 def short_turns(turns):
     """102 wakes and sleeps so often before it is printed to come from 49.5 ms; 101 has come to 51 ms by then."""
     yield from (wakeup(0, 102), printed(1000, 101, 1_000_000, 51_000_000), switch(1000, 101, b"R+", 102),
@@ -92,6 +97,19 @@ ROWS = (
       printed(2000, 101, 1_000_000, 53_000_000), switch(2000, 101, b"S", 104)),
      b"floor 0 50000000\ntask 101 0 0 run 52000000\ntask 102 0 0 wait 50000000\ntask 104 0 0 wait 53000000\n"
      b"charge 1 101 52000000\nat 1 101 52000000\ncharge 3 102 51000000\nat 3 102 51000000\ncharge 5 101 53000000\n"),
+    # Both prints stand above the first event: 101 has come to 50 by the second.
+    ("two prints before the first event", 0,
+     (printed(0, 101, 500_000, 49_500_000), printed(0, 101, 500_000, 50_000_000), switch(0, 101, b"R+", 102),
+      printed(1000, 102, 1_000_000, 51_000_000), switch(1000, 102, b"S", 101),
+      printed(2000, 101, 1_000_000, 51_000_000), switch(2000, 101, b"S", 0)),
+     b"floor 0 50000000\ntask 101 0 0 run 50000000\ntask 102 0 0 wait 50000000\ncharge 3 101 50000000\n"
+     b"at 3 101 50000000\ncharge 5 102 51000000\ncharge 7 101 51000000\n"),
+    # No usual head has nanoseconds.
+    ("a print with nine digits of its time", 0,
+     (switch(0, 101, b"R+", 102), in_nanoseconds(printed(1000, 102, 1_000_000, 51_000_000)),
+      switch(1000, 102, b"S", 101), printed(2000, 101, 1_000_000, 51_000_000), switch(2000, 101, b"S", 0)),
+     b"floor 0 50000000\ntask 101 0 0 run 50000000\ntask 102 0 0 wait 50000000\ncharge 1 101 50000000\n"
+     b"at 1 101 50000000\ncharge 3 102 51000000\ncharge 5 101 51000000\n"),
     # Both lives of 103 are placed by their own prints.
     ("an end, and a birth of the same pid", 400_000,
      (birth(0, 103), printed(1000, 101, 1_000_000, 51_000_000), switch(1000, 101, b"R+", 103),
@@ -147,6 +165,14 @@ ROWS_OF_TWO = (
      b"floor 0 50000000\nfloor 1 10000000\ntask 101 0 0 run 50000000\ntask 102 0 0 rest 48700000\n"
      b"task 201 0 1 run 10000000\ncharge 1 101 50000000\nat 1 102 48700000\ncharge 2 101 50000000\nat 2 102 9200000\n"
      b"charge 4 201 11000000\nat 4 201 11000000\ncharge 6 102 10200000\ncharge 8 101 52000000\n"),
+    # 104 is taken to wait as far as any print at its own processor is, at 53, not at the 90.5 of the other.
+    ("a task that waits from the start, and is never printed, beside another processor", 2_000_000,
+     (switch(0, 101, b"R+", 102), printed(500, 201, 500_000, 90_500_000, cpu=1), switch(500, 201, b"S", 0, cpu=1),
+      printed(1000, 102, 1_000_000, 51_000_000), switch(1000, 102, b"R+", 101),
+      printed(2000, 101, 1_000_000, 53_000_000), switch(2000, 101, b"S", 104)),
+     b"floor 0 50000000\nfloor 1 90000000\ntask 101 0 0 run 52000000\ntask 102 0 0 wait 50000000\n"
+     b"task 104 0 0 wait 53000000\ntask 201 0 1 run 90000000\ncharge 1 101 52000000\nat 1 101 52000000\n"
+     b"charge 3 201 90500000\ncharge 5 102 51000000\nat 5 102 51000000\ncharge 7 101 53000000\n"),
     # It is woken there at 9.3, below the floor of 10 that it was taken to stand at: so it is moved at 0.7 less.
     ("a resting task that is moved", 0,
      (moved(0, 102, 0, 1), wakeup(1000, 102, cpu=1), printed(2000, 201, 2_000_000, 12_000_000, cpu=1),

@@ -58,13 +58,7 @@ pub(crate) fn placements_of(
             next.part(pid);
         }
     }
-    // Of the prints above the first event the last tells the start, and what ran up to there is in it.
-    for print in earlier {
-        next.meet(Print {
-            runtime: 0,
-            ..*print
-        })?;
-    }
+    meet_before(&mut next, earlier)?;
     backwards.reverse();
     Ok((backwards, next))
 }
@@ -84,6 +78,17 @@ fn meet_behind<'p>(
         earlier = &earlier[..earlier.len().saturating_sub(1)];
     }
     Ok(earlier)
+}
+
+/// Meets the prints above the first event: a task's last one tells its start, and what ran up to there is in it.
+fn meet_before(next: &mut NextPrints, prints: &[Print]) -> Result<(), Memory> {
+    for print in prints {
+        next.meet(Print {
+            runtime: 0,
+            ..*print
+        })?;
+    }
+    Ok(())
 }
 
 /// The virtual runtime at which an event places its task: the next that is printed, less what the run up to there cost.

@@ -119,11 +119,18 @@ stretch_words number first last stretch =
     ++ (codes " times " ++ (seconds_words stretch.begins ++ (codes "-" ++ (seconds_words stretch.ends
     ++ (codes " events " ++ (decimal stretch.events ++ codes ": run")))))))))))
 
--- the line of a stretch: that, and the least settings, the drift among them where the companion tells charges
+-- where the values of a companion come from: from the kernel, whose charges it then states, or from a guess
+abbrev pub values_words : Bool → List ℕ
+values_words true = codes " values kernel"
+values_words false = codes " values guessed"
+
+-- the line of a stretch: that, the least settings, the drift among them where the companion tells charges, and where
+-- the companion's values come from
 abbrev pub stretch_line : ℕ → ℕ → ℕ → Stretch → List ℕ
 stretch_line number first last stretch =
     stretch_words number first last stretch
-    ++ (words_of_settings stretch.least (told_settings stretch.tells_charges) ++ line_of [])
+    ++ (words_of_settings stretch.least (told_settings stretch.tells_charges)
+    ++ line_of (values_words stretch.tells_charges))
 
 -- a count with so many more, as far as 64 bits count
 abbrev pub more : ℕ → ℕ → ℕ

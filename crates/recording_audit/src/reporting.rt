@@ -1,8 +1,8 @@
 //! What is printed of a recording's parts.
 ghost use Rattle.std.specs.Prelude.{◌≡◌, ◌++◌, IfOk, OnOk, Some, string_bytes};
-ghost use Rattle.audit_report.specs.Report.{told_settings};
+ghost use Rattle.audit_report.specs.Report.{line_of, told_settings};
 ghost use Rattle.recording_audit.specs.Report.{cut_line, over_line, part_lines, report_lines, stretch_line};
-ghost use Rattle.recording_audit.specs.Report.{stretch_words, task_words, words_of_settings};
+ghost use Rattle.recording_audit.specs.Report.{stretch_words, task_words, values_words, words_of_settings};
 
 use crate::cause_words::CauseWords;
 use crate::cut_task::CutTask;
@@ -44,7 +44,7 @@ fn push_part(text: &mut String, part: &Part<'_>, stretches: u64) -> Result<(), A
     }
 }
 
-/// Writes where a stretch is, and its least settings.
+/// Writes where a stretch is, its least settings, and where its companion's values come from.
 fn push_stretch(
     text: &mut String,
     number: u64,
@@ -57,7 +57,7 @@ fn push_stretch(
 {
     push_where(text, number, first, last, stretch)?;
     push_settings(text, stretch.least, stretch.tells_charges)?;
-    writeln!(text, "")?;
+    push_values(text, stretch.tells_charges)?;
     Ok(())
 }
 
@@ -78,6 +78,18 @@ fn push_where(
         text,
         "stretch {number} lines {first}-{last} times {begins}-{ends} events {events}: run"
     )
+}
+
+/// Writes where the companion's values come from, and ends the line: one that states charges has the kernel's.
+fn push_values(text: &mut String, tells_charges: bool) -> Result<(), AllocError>
+    ensures { OnOk result (string_bytes text.new ≡ string_bytes text.old ++ line_of (values_words tells_charges)) }
+{
+    if tells_charges {
+        writeln!(text, " values kernel")?;
+    } else {
+        writeln!(text, " values guessed")?;
+    }
+    Ok(())
 }
 
 /// Writes each of the settings that are told, by whether the companion tells charges.

@@ -107,10 +107,25 @@ fn with_limits<'a>(alloc: Global, command: Command<'a>) -> Result<Command<'a>, A
 /// A setting's option, with a word that says an amount.
 fn limit_of(alloc: Global, setting: Setting) -> Arg<'static> {
     let name = setting.name();
-    Arg::new(alloc, name)
-        .long(name)
-        .value_name("N")
-        .help("Ends with status 1 where a stretch needs more")
+    let help = help_of_limit(setting);
+    Arg::new(alloc, name).long(name).value_name("N").help(help)
+}
+
+/// What ends with status 1 where a setting is limited to N.
+fn help_of_limit(setting: Setting) -> &'static str {
+    match setting {
+        Setting::Granularity => {
+            "Status 1 where a picked task is more than N above the least virtual runtime (vruntime)"
+        }
+        Setting::Credit => {
+            "Status 1 where a woken task is placed more than N below the floor (min_vruntime)"
+        }
+        Setting::Debit => {
+            "Status 1 where a new task is placed more than N above the floor (min_vruntime)"
+        }
+        Setting::Slack => "Status 1 where a processor idles longer than N beside a waiting task",
+        Setting::Drift => "Status 1 where charges stray more than N in sum from exact ones",
+    }
 }
 
 /// What the values ask for; None where one has no sense.

@@ -5,7 +5,7 @@ use Rattle.std.proofs.Common.{sym}
 use Rattle.std.proofs.lemmas.List.{append-nil}
 use Rattle.std.specs.Prelude.{is_some}
 use Rattle.cfs_model.specs.declared.act.Entry.{Entry}
-use Rattle.entry_reader.specs.Reader.{HasReadOut, IsReadOut, entries_of}
+use Rattle.entry_reader.specs.Reader.{HasReadOut, IsReadOut}
 use Rattle.entry_reader.specs.declared.reader.EntryReader.{EntryReader}
 use Rattle.sched_record.specs.ReadLines.{AreKept, AreRead}
 use Rattle.sched_record.specs.Said.{LineSays}

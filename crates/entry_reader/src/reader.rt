@@ -5,6 +5,7 @@ use crate::bad_line::BadLine;
 use cfs_model::{Entry, Memory};
 use sched_record::{TraceCause, TraceFault, next_entry};
 use std::alloc::Global;
+use std::mem::swap;
 
 /// A trace that is read some lines at a time, and whose events are taken out as they are used: the events that are
 /// held, or the first bad line.
@@ -69,20 +70,17 @@ impl EntryReader {
         self.bad.is_none()
     }
 
-    /// The events that were read and not yet taken out, in the order of their lines.
-    pub fn entries(&self) -> &[Entry]
-        ensures { result.now ≡ entries_of self.now }
-    {
-        &self.entries
-    }
-
-    /// Takes the events out; the room for them it keeps.
-    pub fn clear(&mut self)
+    /// Takes the events out that were read since they were taken out last, in the order of their lines, in place of what
+    /// a list held. The list's room is that of the next events.
+    pub fn take_out(&mut self, events: &mut Vec<Entry>)
+        ensures taken { events.new.items ≡ entries_of self.old }
         ensures emptied { entries_of self.new ≡ [] }
+        ensures bad { self.new.bad ≡ self.old.bad }
         ensures given { (lines : List (List ℕ)) (given : List Event) → HasReadOut self.old lines given
             → HasReadOut self.new lines (given ++ entries_of self.old) }
     {
-        self.entries.clear();
+        events.clear();
+        swap(&mut self.entries, events);
     }
 
     /// What the lines that were read are refused for: the first bad one.

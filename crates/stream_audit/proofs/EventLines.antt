@@ -112,3 +112,17 @@ pub with_window : (before events : List Entry) (from count : ℕ)
 with_window before events from count =
     append_assoc before (take from events) (take count (drop from events))
     ∙ ap (λ xs. before ++ xs) (sym (take-add from count events))
+
+-- a window goes no further than all of them
+pub window_below : (before events : List Entry) (from count : ℕ) → AreEventsNext before events
+    → edge_of ((before ++ take from events) ++ take count (drop from events)) ≤ edge_of (before ++ events)
+window_below before events from count next =
+    let front = before ++ take (from + count) events in
+    let rest = drop (from + count) events in
+    let parts : front ++ rest ≡ before ++ events =
+    append_assoc before (take (from + count) events) rest
+    ∙ ap (λ xs. before ++ xs) (take-append-drop (from + count) events) in
+    let up = edge_rises front rest (subst AreInOrder (sym parts) next.in_order) in
+    let all = ap edge_of parts in
+    let window = ap edge_of (with_window before events from count) in
+    omega (arith, up, all, window)

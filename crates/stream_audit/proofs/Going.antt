@@ -1,6 +1,6 @@
 -- What is known of a recording stays as its companion is read on and let go, and as windows are joined with it.
-use Rattle.std.proofs.Common.{◌≡◌, ℕ, ◌≤◌, Bool, true, false, List, [], ◌++◌, Option, Some, None, Ok, Err, refl}
-use Rattle.std.proofs.Common.{sym, subst, ◌∙◌, inl, inr, arith}
+use Rattle.std.proofs.Common.{◌≡◌, ℕ, ◌<◌, ◌≤◌, Bool, true, false, List, [], ◌++◌, length, Option, Some, None, Ok, Err}
+use Rattle.std.proofs.Common.{refl, sym, subst, ◌∙◌, inl, inr, arith}
 use Rattle.std.specs.Prelude.{MatchOption, IsNone, OnOk, Result, is_some}
 use Rattle.cfs_model.specs.Knobs.{KnobsView}
 use Rattle.cfs_model.specs.Limits.{no_line}
@@ -25,7 +25,7 @@ use Rattle.window_joining.specs.Joining.{IsHeadOf, IsHeld, StandBehind, edge_of}
 use Rattle.stream_audit.proofs.Companion.{good_same}
 use Rattle.stream_audit.proofs.Joined.{all_behind, held_on}
 use Rattle.stream_audit.specs.Companion.{GoesPast, IsCompanionAt, IsPast, SaysOn}
-use Rattle.stream_audit.specs.Course.{AreEventsNext, IsAmidAudit, IsCourseOf, IsNotBegun}
+use Rattle.stream_audit.specs.Course.{AreEventsNext, IsAmidAudit, IsCourseOf, IsNotBegun, IsReadyFor}
 use Rattle.stream_audit.specs.Joined.{Comes, IsAuditSoFar}
 use Rattle.stream_audit.specs.declared.companion_input.CompanionInput.{CompanionInput}
 use Rattle.stream_audit.specs.declared.course.Course.{Course}
@@ -283,6 +283,41 @@ start_told bad said found start is told none =
 pub on_ok : {T E : Type 0} (A B : Type 0) (r : Result T E) → (A → B) → OnOk r A → OnOk r B
 on_ok A B (Ok x) follows holds = follows holds
 on_ok A B (Err x) follows holds = holds
+
+-- the same, where it promises two things
+pub on_both : {T E : Type 0} (A B C : Type 0) (r : Result T E) → (A → B → C) → OnOk r A → OnOk r B → OnOk r C
+on_both A B C (Ok x) follows one other = follows one other
+on_both A B C (Err x) follows one other = other
+
+-- the companion was read past the events that come next
+pub made_ready : (knobs : KnobsView) (gave before left : Option (List ℕ)) (course later : Course) (said : Said)
+    (front events : List Entry) (so : IsCourseOf knobs gave before course said front)
+    → (0 < length events → AreEventsNext front events)
+    → later.audit ≡ course.audit → later.knobs ≡ course.knobs
+    → (on : SaysOn gave left course.companion later.companion said so.edge)
+    → (0 < length events → IsPast (edge_of (front ++ events)) on.after later.companion)
+    → IsReadyFor knobs gave left later front events
+made_ready knobs gave before left course later said front events so next same settings on past = record {
+  said = on.after;
+  so_far = goes_with knobs gave before left course later said front so same settings on;
+  next = next;
+  past = past;
+}
+
+-- what is let go leaves how far the companion was read
+pub still_past : (knobs : KnobsView) (gave left : Option (List ℕ)) (course later : Course) (said : Said)
+    (events : List Entry) (line edge : ℕ) (so : IsCourseOf knobs gave left course said events) → line ≡ edge_of events
+    → later.companion.goes_on ≡ course.companion.goes_on
+    → ((lines : List (List ℕ)) (s : Said) (e : ℕ) → HasReadCompanion course.companion.reader lines s e
+    → e ≤ line → HasReadCompanion later.companion.reader lines s line)
+    → IsPast edge said course.companion → IsPast edge said later.companion
+still_past knobs gave left course later said events line edge so is runs let_go past none =
+    let at = so.stands in
+    let up = subst (λ n. so.edge ≤ n) (sym is) so.passed in
+    let read = let_go (lines_of at.done) said so.edge at.read up in
+    past_as edge said course.companion later.companion runs
+    (past (good_same course.companion.reader later.companion.reader (lines_of at.done) said so.edge line at.few at.read
+    read none))
 
 -- ---- the beginning
 

@@ -1,5 +1,5 @@
 -- What a trace and a companion come to that were heard to their ends.
-use Rattle.std.proofs.Common.{◌≡◌, ℕ, ◌<◌, ◌≤◌, ◌^◌, Bool, true, false, not, List, [], ◌++◌, Option, Some, None}
+use Rattle.std.proofs.Common.{◌≡◌, ℕ, Bool, true, false, not, List, [], ◌++◌, Option, Some, None}
 use Rattle.std.proofs.Common.{Result, Ok, Err, MatchOption, refl, sym, ap, subst, arith, append-nil}
 use Rattle.std.proofs.Common.{◌∙◌}
 use Rattle.std.specs.Prelude.{IsNone, is_none}
@@ -9,13 +9,12 @@ use Rattle.audit_input.specs.Refusals.{companion_refusal, join_refusal, trace_re
 use Rattle.audit_input.specs.Texts.{TellsCharges}
 use Rattle.cfs_model.specs.Knobs.{KnobsView}
 use Rattle.cfs_model.specs.declared.act.Entry.{Entry}
-use Rattle.companion_file.specs.Earlier.{Said}
 use Rattle.companion_file.specs.declared.fault.CompanionFault.{CompanionFault}
 use Rattle.companion_file.specs.declared.fault.CompanionFault.TheVariants as companion_faults
 use Rattle.entry_reader.specs.Reader.{EndsSo, HasReadOut, IsReadOut, entries_of}
 use Rattle.entry_reader.specs.declared.bad_line.BadLine.{BadLine}
 use Rattle.entry_reader.specs.declared.reader.EntryReader.{EntryReader}
-use Rattle.input_blocks.specs.Blocks.{IsAmid, IsThen}
+use Rattle.input_blocks.specs.Blocks.{IsThen}
 use Rattle.input_blocks.specs.OfCompanion.{ReadsCompanion}
 use Rattle.input_blocks.specs.OfEntries.{ReadsEntries}
 use Rattle.input_blocks.specs.declared.line_blocks.LineBlocks.{LineBlocks}
@@ -29,8 +28,8 @@ use Rattle.sched_record.specs.declared.joining.JoinFault.{JoinFault}
 use Rattle.ticket_book.specs.declared.verdict.Verdict.{Verdict}
 use Rattle.text_parts.specs.Lines.{lines_of}
 use Rattle.stream_audit.specs.Course.{AreAllEvents, AreEventsNext, CourseGoesOn, IsAmidAudit, IsClosingOf, IsCourseOf}
-use Rattle.stream_audit.specs.Course.{IsNotBegun, IsWholeCourse}
-use Rattle.stream_audit.specs.Hearing.{AreBothDone, IsHeard, IsHearingOf, IsOutcome, IsRefusalOf}
+use Rattle.stream_audit.specs.Course.{IsNotBegun, IsReadyFor, IsWholeCourse}
+use Rattle.stream_audit.specs.Hearing.{AreBothDone, IsHeard, IsHearingOf, IsOutcome, IsReady, IsRefusalOf}
 use Rattle.stream_audit.specs.declared.course.Closing.TheVariants as closings
 use Rattle.stream_audit.specs.declared.course.Course.{Course}
 use Rattle.stream_audit.specs.declared.ending.Ending.TheVariants as endings
@@ -145,13 +144,6 @@ judged knobs bytes text events verdict are closing = (
 
 -- ---- more is read of the trace
 
--- an input that goes on is amid its lines
-pub amid : {R : Type 0} (reads : R → R → List (List ℕ) → Type 0) (gave left : Option (List ℕ)) (blocks : LineBlocks)
-    (done : List ℕ) (goes_on : Bool) → goes_on ≡ true → IsThen reads gave left blocks done goes_on
-    → IsAmid reads gave left blocks done
-amid reads gave left blocks done true on stands = stands
-amid reads gave left blocks done false on stands = absurd cc
-
 pub heard_on : (knobs : KnobsView) (gave left : Option (List ℕ)) (bytes more : List ℕ) (old new : EntryReader)
     (course : Course) → lines_of (bytes ++ more) ≡ lines_of bytes ++ lines_of more
     → ReadsEntries old new (lines_of more) → IsHeard knobs gave left bytes old course
@@ -182,32 +174,44 @@ course_there knobs gave left bytes reader course heard =
     subst (λ (k : KnobsView). IsCourseOf k gave left course heard.said heard.events) (sym heard.so_far.settings)
     heard.so_far
 
-pub gone_through : (knobs own : KnobsView) (gave left : Option (List ℕ)) (bytes : List ℕ) (reader : EntryReader)
-    (course : Course) (before events held : List Entry) → own ≡ knobs → events ≡ held
-    → CourseGoesOn own gave left course (before ++ events) → HasReadOut reader (lines_of bytes) (before ++ held)
-    → IsHeard knobs gave left bytes reader course
-gone_through knobs own gave left bytes reader course before events held same are went read = record {
-  events = before ++ held;
+pub ready_of : (knobs own : KnobsView) (gave left : Option (List ℕ)) (bytes : List ℕ) (reader : EntryReader)
+    (course : Course) (before events : List Entry) → own ≡ knobs → HasReadOut reader (lines_of bytes) (before ++ events)
+    → IsReadyFor own gave left course before events → IsReady knobs gave left bytes reader course events
+ready_of knobs own gave left bytes reader course before events same read ready = record {
+  before = before;
   has_read = read;
-  said = went.0;
-  so_far = subst (λ (k : KnobsView). IsCourseOf k gave left course went.0 (before ++ held)) same
-      (subst (λ (es : List Entry). IsCourseOf own gave left course went.0 (before ++ es)) are went.1);
+  ready = record {
+    said = ready.said;
+    so_far = subst (λ (k : KnobsView). IsCourseOf k gave left course ready.said before) same ready.so_far;
+    next = ready.next;
+    past = ready.past;
+  };
 }
 
--- the rest of the companion is read
-pub rest_heard : (knobs : KnobsView) (gave left rest : Option (List ℕ)) (bytes : List ℕ) (reader : EntryReader)
-    (old new : Course) → IsHeard knobs gave left bytes reader old
-    → ((said : Said) (events : List Entry) → IsCourseOf old.knobs gave left old said events
-    → CourseGoesOn old.knobs gave rest new events)
-    → IsHeard knobs gave rest bytes reader new
-rest_heard knobs gave left rest bytes reader old new heard goes =
-    let went = goes heard.said heard.events (course_there knobs gave left bytes reader old heard) in
-    record {
-      events = heard.events;
-      has_read = heard.has_read;
-      said = went.0;
-      so_far = subst (λ (k : KnobsView). IsCourseOf k gave rest new went.0 heard.events) heard.so_far.settings went.1;
-    }
+-- a course that is ready for them, by its own settings
+pub ready_there : (knobs : KnobsView) (gave left : Option (List ℕ)) (bytes : List ℕ) (reader : EntryReader)
+    (course : Course) (events : List Entry) (ready : IsReady knobs gave left bytes reader course events)
+    → IsReadyFor course.knobs gave left course ready.before events
+ready_there knobs gave left bytes reader course events ready = record {
+  said = ready.ready.said;
+  so_far = subst (λ (k : KnobsView). IsCourseOf k gave left course ready.ready.said ready.before)
+      (sym ready.ready.so_far.settings) ready.ready.so_far;
+  next = ready.ready.next;
+  past = ready.ready.past;
+}
+
+-- and it went through them
+pub gone_through : (knobs : KnobsView) (gave left : Option (List ℕ)) (bytes : List ℕ) (reader : EntryReader)
+    (course later : Course) (events : List Entry) (ready : IsReady knobs gave left bytes reader course events)
+    → CourseGoesOn course.knobs gave left later (ready.before ++ events)
+    → IsHeard knobs gave left bytes reader later
+gone_through knobs gave left bytes reader course later events ready went = record {
+  events = ready.before ++ events;
+  has_read = ready.has_read;
+  said = went.0;
+  so_far = subst (λ (k : KnobsView). IsCourseOf k gave left later went.0 (ready.before ++ events))
+      ready.ready.so_far.settings went.1;
+}
 
 -- ---- both inputs were read to their ends
 

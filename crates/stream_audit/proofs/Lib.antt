@@ -7,3 +7,4 @@ pub mod Joined
 mod KnownSoFar
 mod Heard
 mod BothRead
+mod UnderWay

@@ -1,6 +1,6 @@
 -- What is known of a recording whose texts both are read a block at a time (this project's profile).
 use Rattle.std.specs.Prelude.{◌≡◌, ◌⊎◌, ℕ, ◌^◌, ◌<◌, ◌≤◌, false, List, [], ◌++◌, All, Option, IsNone, MatchOption}
-use Rattle.std.specs.Prelude.{Ok, Err}
+use Rattle.std.specs.Prelude.{Ok, Err, length}
 use Rattle.cfs_model.specs.Knobs.{KnobsView}
 use Rattle.cfs_model.specs.Limits.{greatest_line}
 use Rattle.cfs_model.specs.declared.act.Entry.{Entry}
@@ -11,7 +11,7 @@ use Rattle.companion_file.specs.declared.fault.CompanionFault.TheVariants as fau
 use Rattle.sched_record.specs.Kept.{AreInOrder}
 use Rattle.text_parts.specs.Lines.{lines_of}
 use Rattle.window_joining.specs.Joining.{edge_of}
-use Rattle.stream_audit.specs.Companion.{GoesPast, IsCompanionAt}
+use Rattle.stream_audit.specs.Companion.{GoesPast, IsCompanionAt, IsPast}
 use Rattle.stream_audit.specs.Joined.{IsAuditSoFar, IsEndOf}
 use Rattle.stream_audit.specs.declared.companion_input.CompanionInput.{CompanionInput}
 use Rattle.stream_audit.specs.declared.course.Course.{Course}
@@ -58,6 +58,15 @@ IsDone input text = (input.goes_on ≡ false) × ((said : Said) × (edge : ℕ)
 pub record AreEventsNext (before events : List Entry) : Type 0 where
   pub in_order : AreInOrder (before ++ events)
   pub few : All (λ event. event.line ≤ greatest_line) (before ++ events)
+
+-- these events come next, and nothing more can be said of their lines; it may be none
+pub record IsReadyFor (knobs : KnobsView) (gave left : Option (List ℕ)) (course : Course) (before events : List Entry)
+    : Type 0
+  where
+    pub said : Said
+    pub so_far : IsCourseOf knobs gave left course said before
+    pub next : 0 < length events → AreEventsNext before events
+    pub past : 0 < length events → IsPast (edge_of (before ++ events)) said course.companion
 
 -- these are all events of a trace
 pub record AreAllEvents (events : List Entry) : Type 0 where

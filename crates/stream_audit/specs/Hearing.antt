@@ -1,5 +1,5 @@
 -- What a recording of any length comes to (this project's profile).
-use Rattle.std.specs.Prelude.{◌≡◌, ℕ, ◌≤◌, Bool, true, false, List, Option, Result, OnOk, IsErrOf, IsNone, []}
+use Rattle.std.specs.Prelude.{◌≡◌, ℕ, ◌≤◌, Bool, true, false, List, ◌++◌, Option, Result, OnOk, IsErrOf, IsNone, []}
 use Rattle.std.specs.Io.KnownBytes.{IsAtEnd}
 use Rattle.audit_input.specs.Known.{Agrees, IsCutShort, most_reads}
 use Rattle.audit_input.specs.Texts.{IsRecordOf, IsRefused, TellsCharges}
@@ -15,7 +15,7 @@ use Rattle.entry_reader.specs.declared.reader.EntryReader.{EntryReader}
 use Rattle.sched_record.specs.Record.{RecordView}
 use Rattle.ticket_book.specs.Verdict.{IsVerdict}
 use Rattle.text_parts.specs.Lines.{lines_of}
-use Rattle.stream_audit.specs.Course.{IsCourseOf, IsDone, IsWholeCourse}
+use Rattle.stream_audit.specs.Course.{IsCourseOf, IsDone, IsReadyFor, IsWholeCourse}
 use Rattle.stream_audit.specs.declared.course.Course.{Course}
 use Rattle.stream_audit.specs.declared.hearing.Hearing.{Hearing}
 use Rattle.stream_audit.specs.declared.hearing.StreamOutcome.{StreamOutcome}
@@ -79,6 +79,15 @@ pub record IsHeard (knobs : KnobsView) (gave left : Option (List ℕ)) (bytes : 
     pub has_read : HasReadOut reader (lines_of bytes) events
     pub said : Said
     pub so_far : IsCourseOf knobs gave left course said events
+
+-- these bytes of a trace were read, all events of theirs were taken out, and a course went through those before these,
+-- for which it is ready
+pub record IsReady (knobs : KnobsView) (gave left : Option (List ℕ)) (bytes : List ℕ) (reader : EntryReader)
+    (course : Course) (events : List Entry) : Type 0
+  where
+    pub before : List Entry
+    pub has_read : HasReadOut reader (lines_of bytes) (before ++ events)
+    pub ready : IsReadyFor knobs gave left course before events
 
 -- both texts were read whole: the trace is these bytes, and the companion is this text; of a trace of which no line is
 -- bad all events were joined

@@ -3,3 +3,4 @@ pub mod Joined
 pub mod Companion
 pub mod Course
 pub mod Hearing
+pub mod Listening

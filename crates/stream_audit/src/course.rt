@@ -1,6 +1,6 @@
 //! What is known of a recording, both of whose texts are read a block at a time.
-ghost use Rattle.std.specs.Prelude.{◌≡◌, ◌⊎◌, ◌≢◌, ◌++◌, ◌<◌, ◌≤◌, [], ℕ, List, Option, false, IfErr, IfOk, IsNone};
-ghost use Rattle.std.specs.Prelude.{OnOk};
+ghost use Rattle.std.specs.Prelude.{◌≡◌, ◌⊎◌, ◌≢◌, ◌++◌, ◌<◌, ◌≤◌, [], ℕ, Bool, List, Option, false, IfErr, IfOk, IsNone};
+ghost use Rattle.std.specs.Prelude.{OnOk, length};
 ghost use Rattle.audit_input.specs.Known.{IsCutShort, most_reads};
 ghost use Rattle.audit_input.specs.Texts.{TellsCharges};
 ghost use Rattle.cfs_model.specs.Limits.{no_line};
@@ -10,7 +10,7 @@ ghost use Rattle.companion_file.specs.Reader.{HasNoStart};
 ghost use Rattle.window_joining.specs.Joining.{edge_of};
 ghost use Rattle.stream_audit.specs.Companion.{IsFedBy, IsPast};
 ghost use Rattle.stream_audit.specs.Course.{AreEventsNext, CourseGoesOn, IsClosingOf, IsCourseOf, IsDone};
-ghost use Rattle.stream_audit.specs.Course.{IsWholeCourse};
+ghost use Rattle.stream_audit.specs.Course.{IsReadyFor, IsWholeCourse};
 
 use crate::companion_input::CompanionInput;
 use crate::{Ending, JoinedAudit};
@@ -55,25 +55,14 @@ impl Course {
         }
     }
 
-    /// Goes on by the next events of the trace, at most so many at once.
-    pub fn go_through<R: Threads + Sync, C: Feed>(
-        &mut self,
-        rt: &R,
-        alloc: Global,
-        companion: &mut C,
-        events: &[Entry],
-        most: usize,
-    ) -> Result<(), Fault>
-        requires some { 0 < most }
+    /// Reads the companion until nothing more can be said of the lines of these events, which come next.
+    pub fn read_past<C: Feed>(&mut self, companion: &mut C, events: &[Entry]) -> Result<(), Fault>
         requires fed { IsFedBy (C.calls companion.old) (C.has_ended companion.old) (C.has_failed companion.old)
             self.old.companion }
-        requires next { (gave : Option (List ℕ)) × (said : Said) × (before : List Event)
-            × IsCourseOf self.old.knobs gave (C.left companion.old) self.old said before
-            × AreEventsNext before events.now }
         ensures went { (gave : Option (List ℕ)) (said : Said) (before : List Event)
             → IsCourseOf self.old.knobs gave (C.left companion.old) self.old said before
-            → AreEventsNext before events.now
-            → OnOk result (CourseGoesOn self.old.knobs gave (C.left companion.new) self.new (before ++ events.now)) }
+            → (0 < length events.now → AreEventsNext before events.now)
+            → OnOk result (IsReadyFor self.old.knobs gave (C.left companion.new) self.new before events.now) }
         ensures knobs { self.new.knobs ≡ self.old.knobs }
         ensures fed { OnOk result (IsFedBy (C.calls companion.new) (C.has_ended companion.new)
             (C.has_failed companion.new) self.new.companion) }
@@ -81,43 +70,67 @@ impl Course {
         ensures cut_short { IfErr result (λ e. ((e ≡ Fault.Memory) × (C.has_failed companion.new ≡ false))
             ⊎ ((e ≡ Fault.ReadCompanion) × IsCutShort (C.has_failed companion.new) (C.calls companion.new))) }
     {
+        if events.is_empty() {
+            return Ok(());
+        }
+        self.companion
+            .read_past(companion, events[events.len() - 1].line)
+    }
+
+    /// Goes on by the next events of the trace, at most so many at once. The companion was read past them.
+    pub fn go_through<R: Threads + Sync>(
+        &mut self,
+        rt: &R,
+        alloc: Global,
+        events: &[Entry],
+        most: usize,
+    ) -> Result<(), Memory>
+        requires some { 0 < most }
+        requires ready { (gave : Option (List ℕ)) × (left : Option (List ℕ)) × (before : List Event)
+            × IsReadyFor self.old.knobs gave left self.old before events.now }
+        ensures went { (gave : Option (List ℕ)) (left : Option (List ℕ)) (before : List Event)
+            → IsReadyFor self.old.knobs gave left self.old before events.now
+            → OnOk result (CourseGoesOn self.old.knobs gave left self.new (before ++ events.now)) }
+        ensures knobs { self.new.knobs ≡ self.old.knobs }
+        ensures fed { (calls : ℕ) (has_ended : Bool) (has_failed : Bool)
+            → IsFedBy calls has_ended has_failed self.old.companion
+            → IsFedBy calls has_ended has_failed self.new.companion }
+    {
         let mut from = 0;
         while from < events.len() {
             let end = from + most.min(events.len() - from);
-            self.go_on(rt, alloc, companion, &events[from..end])?;
+            self.go_on(rt, alloc, &events[from..end])?;
             from = end;
         }
         Ok(())
     }
 
-    /// Goes on by a window's events, of which there is one at least.
-    fn go_on<R: Threads + Sync, C: Feed>(
+    /// Goes on by a window's events, of which there is one at least, and lets go what was said of their lines.
+    fn go_on<R: Threads + Sync>(
         &mut self,
         rt: &R,
         alloc: Global,
-        companion: &mut C,
         events: &[Entry],
-    ) -> Result<(), Fault>
+    ) -> Result<(), Memory>
         requires some { events.now ≢ [] }
-        requires fed { IsFedBy (C.calls companion.old) (C.has_ended companion.old) (C.has_failed companion.old)
-            self.old.companion }
-        requires next { (gave : Option (List ℕ)) × (said : Said) × (before : List Event)
-            × IsCourseOf self.old.knobs gave (C.left companion.old) self.old said before
-            × AreEventsNext before events.now }
-        ensures went { (gave : Option (List ℕ)) (said : Said) (before : List Event)
-            → IsCourseOf self.old.knobs gave (C.left companion.old) self.old said before
-            → AreEventsNext before events.now
-            → OnOk result (CourseGoesOn self.old.knobs gave (C.left companion.new) self.new (before ++ events.now)) }
+        requires next { (gave : Option (List ℕ)) × (left : Option (List ℕ)) × (said : Said) × (before : List Event)
+            × IsCourseOf self.old.knobs gave left self.old said before × AreEventsNext before events.now
+            × IsPast (edge_of (before ++ events.now)) said self.old.companion }
+        ensures went { (gave : Option (List ℕ)) (left : Option (List ℕ)) (said : Said) (before : List Event)
+            → IsCourseOf self.old.knobs gave left self.old said before → AreEventsNext before events.now
+            → IsPast (edge_of (before ++ events.now)) said self.old.companion
+            → OnOk result (IsCourseOf self.old.knobs gave left self.new said (before ++ events.now)) }
+        ensures past { (gave : Option (List ℕ)) (left : Option (List ℕ)) (said : Said) (before : List Event) (line : ℕ)
+            → IsCourseOf self.old.knobs gave left self.old said before → AreEventsNext before events.now
+            → IsPast (edge_of (before ++ events.now)) said self.old.companion → IsPast line said self.old.companion
+            → OnOk result (IsPast line said self.new.companion) }
         ensures knobs { self.new.knobs ≡ self.old.knobs }
-        ensures fed { OnOk result (IsFedBy (C.calls companion.new) (C.has_ended companion.new)
-            (C.has_failed companion.new) self.new.companion) }
-        ensures bounded { C.calls companion.new ≤ most_reads }
-        ensures cut_short { IfErr result (λ e. ((e ≡ Fault.Memory) × (C.has_failed companion.new ≡ false))
-            ⊎ ((e ≡ Fault.ReadCompanion) × IsCutShort (C.has_failed companion.new) (C.calls companion.new))) }
+        ensures fed { (calls : ℕ) (has_ended : Bool) (has_failed : Bool)
+            → IsFedBy calls has_ended has_failed self.old.companion
+            → IsFedBy calls has_ended has_failed self.new.companion }
     {
-        let line = events[events.len() - 1].line;
-        self.companion.read_past(companion, line)?;
         self.audit(rt, alloc, events)?;
+        let line = events[events.len() - 1].line;
         self.companion.reader.forget_through(line);
         Ok(())
     }

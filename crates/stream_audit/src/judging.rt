@@ -1,29 +1,25 @@
-ghost use Rattle.std.specs.Prelude.{◌≡◌, ◌≢◌, ◌⊎◌, ◌<◌, ◌≤◌, ℕ, List, Option, Ok, [], false, true, not};
-ghost use Rattle.std.specs.Prelude.{IfErr, IfOk, IsNone, OnOk};
-ghost use Rattle.audit_input.specs.Known.{IsCutShort, most_reads};
+ghost use Rattle.std.specs.Prelude.{◌≡◌, ◌≢◌, ◌⊎◌, ◌<◌, ℕ, List, Option, Ok, [], false};
+ghost use Rattle.std.specs.Prelude.{IfErr, IfOk, OnOk};
 ghost use Rattle.audit_input.specs.Texts.{TellsCharges};
 ghost use Rattle.cfs_model.specs.Knobs.{KnobsView};
 ghost use Rattle.cfs_model.specs.declared.act.Entry.{Entry as Event};
-ghost use Rattle.entry_reader.specs.Reader.{entries_of};
 ghost use Rattle.sched_record.specs.Trace.{TraceAnswer};
-ghost use Rattle.stream_audit.specs.Companion.{IsFedBy};
 ghost use Rattle.stream_audit.specs.Course.{IsClosingOf};
-ghost use Rattle.stream_audit.specs.Hearing.{AreBothDone, IsHeard, IsHearingOf, IsOutcome, IsRefusalOf, ReadsBoth};
-ghost use Rattle.stream_audit.specs.Hearing.{input_of};
+ghost use Rattle.stream_audit.specs.Hearing.{AreBothDone, IsHearingOf, IsOutcome, IsRefusalOf, ReadsBoth, input_of};
 
 use crate::course::{Closing, Course};
+use crate::listener::Listener;
 use crate::{Ending, Hearing, Sizes, StreamOutcome};
 use audit_input::{Fault, Feed, Refused};
 use cfs_model::{Knobs, Memory};
 use entry_reader::EntryReader;
-use input_blocks::LineBlocks;
 use pid_table::PidHasher;
 use sched_record::one_trace_answer;
 use std::alloc::Global;
 use std::random::RandomSource;
 use std::thread::Threads;
 
-/// Judges two inputs of any length, which are read a block at a time: no more of them is held than a block, what the
+/// Judges two inputs of any length, which are read a block at a time: no more of them is held than two blocks, what the
 /// companion says ahead of the trace, and who is alive. A fault of the trace is told before one of the companion.
 pub fn judge_stream<R: RandomSource + Threads + Sync, T: Feed, C: Feed>(
     rt: &R,
@@ -43,83 +39,14 @@ pub fn judge_stream<R: RandomSource + Threads + Sync, T: Feed, C: Feed>(
         (C.has_ended companion.new)) result }
     ensures unwritten { IfErr result (λ fault. fault ≢ Fault.Write) }
 {
-    let mut blocks = LineBlocks::new(alloc, sizes.block());
-    let mut reader = EntryReader::new(alloc);
-    let mut course = Course::new(alloc, sizes.block(), knobs, PidHasher::random(rt));
-    let most = sizes.window();
-    let mut goes_on = true;
+    let mut listener = Listener::new(alloc, knobs, sizes, PidHasher::random(rt));
+    let mut goes_on = listener.begin(trace)?;
     while goes_on {
-        goes_on = blocks.next(trace, &mut reader, Fault::ReadTrace)?;
-        if let Err(fault) = take_events(rt, alloc, &mut reader, &mut course, companion, most) {
-            return Err(fault_behind(&mut blocks, trace, goes_on, fault));
-        }
+        goes_on = listener.go_on(rt, alloc, trace, companion)?;
     }
-    course.read_rest(companion)?;
+    listener.read_rest(rt, alloc, companion)?;
+    let (reader, course) = listener.into_heard();
     Ok(hearing_of(alloc, &reader, course)?)
-}
-
-/// Takes out the events that were read and goes on by them, at most so many at once, where no line of the trace is bad.
-fn take_events<R: Threads + Sync, C: Feed>(
-    rt: &R,
-    alloc: Global,
-    reader: &mut EntryReader,
-    course: &mut Course,
-    companion: &mut C,
-    most: usize,
-) -> Result<(), Fault>
-    requires some { 0 < most }
-    requires fed { IsFedBy (C.calls companion.old) (C.has_ended companion.old) (C.has_failed companion.old)
-        course.old.companion }
-    requires heard { (knobs : KnobsView) × (gave : Option (List ℕ)) × (bytes : List ℕ)
-        × IsHeard knobs gave (C.left companion.old) bytes reader.old course.old }
-    ensures heard { (knobs : KnobsView) (gave : Option (List ℕ)) (bytes : List ℕ)
-        → IsHeard knobs gave (C.left companion.old) bytes reader.old course.old
-        → OnOk result (IsHeard knobs gave (C.left companion.new) bytes reader.new course.new) }
-    ensures taken { OnOk result (IsNone reader.new.bad → entries_of reader.new ≡ []) }
-    ensures fed { OnOk result (IsFedBy (C.calls companion.new) (C.has_ended companion.new) (C.has_failed companion.new)
-        course.new.companion) }
-    ensures bounded { C.calls companion.new ≤ most_reads }
-    ensures cut_short { IfErr result (λ e. ((e ≡ Fault.Memory) × (C.has_failed companion.new ≡ false))
-        ⊎ ((e ≡ Fault.ReadCompanion) × IsCutShort (C.has_failed companion.new) (C.calls companion.new))) }
-{
-    if !reader.is_good() {
-        return Ok(());
-    }
-    course.go_through(rt, alloc, companion, reader.entries(), most)?;
-    reader.clear();
-    Ok(())
-}
-
-/// A fault of the companion is told only where the trace has none: what is left of the trace is read.
-fn fault_behind<T: Feed>(
-    blocks: &mut LineBlocks,
-    trace: &mut T,
-    goes_on: bool,
-    fault: Fault,
-) -> Fault
-    requires ended { T.has_ended trace.old ≡ not goes_on }
-    requires counted { T.calls trace.old ≡ blocks.old.reads }
-    requires read { 0 < blocks.old.reads }
-    requires heard { T.has_failed trace.old ≡ false }
-    requires fault { (fault ≡ Fault.Memory) ⊎ (fault ≡ Fault.ReadCompanion) }
-    ensures memory { result ≡ Fault.Memory → (fault ≡ Fault.Memory) × (T.has_failed trace.new ≡ false) }
-    ensures trace { result ≡ Fault.ReadTrace → IsCutShort (T.has_failed trace.new) (T.calls trace.new) }
-    ensures companion { result ≡ Fault.ReadCompanion → (fault ≡ Fault.ReadCompanion)
-        × (T.has_ended trace.new ≡ true) × (T.has_failed trace.new ≡ false) }
-    ensures one { (result ≡ Fault.Memory) ⊎ (result ≡ Fault.ReadTrace) ⊎ (result ≡ Fault.ReadCompanion) }
-    ensures bounded { T.calls trace.new ≤ most_reads }
-{
-    if !goes_on {
-        return fault;
-    }
-    match fault {
-        // Nothing is read behind it.
-        Fault::Memory => Fault::Memory,
-        _ => match blocks.drain(trace, Fault::ReadTrace) {
-            Ok(()) => fault,
-            Err(earlier) => earlier,
-        },
-    }
 }
 
 /// What both inputs came to, once they were read to their ends.

@@ -8,6 +8,7 @@ mod ending;
 mod hearing;
 mod joined_audit;
 mod judging;
+mod listener;
 mod progress;
 mod sizes;
 

@@ -1,14 +1,9 @@
--- Of what was read of the trace the reader has read the whole lines, and the course went through the events that it
--- gave out; each input was read as often as its blocks say, and no read failed.
-use Rattle.std.proofs.Common.{◌≡◌, ◌-◌, false, not, List, [], ℕ}
-use Rattle.std.specs.Prelude.{IsNone}
-use Rattle.std.specs.Io.KnownBytes.{IsAtEnd}
+-- The two inputs are under way: of the trace whole blocks were read and it goes on as was said, of the companion what
+-- these ask for, and no read failed.
+use Rattle.std.proofs.Common.{◌-◌}
 use Rattle.audit_input.specs.Known.{most_reads}
-use Rattle.entry_reader.specs.Reader.{entries_of}
-use Rattle.input_blocks.specs.Blocks.{IsThen}
-use Rattle.input_blocks.specs.OfEntries.{ReadsEntries}
 use Rattle.stream_audit.specs.Companion.{IsFedBy}
-use Rattle.stream_audit.specs.Hearing.{IsHeard}
+use Rattle.stream_audit.specs.Listening.{IsReadBy, IsUnderWay}
 use Rattle.stream_audit.proofs.judging.judge_stream.Given as goal
 
 abbrev pub invariant-loop-goes_on : goal.invariant-loop-goes_on
@@ -16,18 +11,13 @@ invariant-loop-goes_on g l =
     let trace = g.T.Feed in
     let companion = g.C.Feed in
     record {
-      counted : trace.calls l.trace ≡ l.blocks.reads;
-      ended : trace.has_ended l.trace ≡ not l.goes_on;
-      at_end : l.goes_on ≡ false → IsAtEnd (trace.left l.trace);
-      unfailed : trace.has_failed l.trace ≡ false;
+      read : IsReadBy (trace.left l.trace) (trace.calls l.trace) (trace.has_failed l.trace) (trace.has_ended l.trace)
+          l.listener.blocks l.goes_on;
       fed : IsFedBy (companion.calls l.companion) (companion.has_ended l.companion) (companion.has_failed l.companion)
-          l.course.companion;
-      bytes : List ℕ;
-      stands : IsThen ReadsEntries (trace.left l.initial.trace) (trace.left l.trace) l.blocks bytes l.goes_on;
-      heard : IsHeard l.fn.knobs (companion.left l.initial.companion) (companion.left l.companion) bytes l.reader
-          l.course;
-      taken : l.goes_on ≡ false → IsNone l.reader.bad → entries_of l.reader ≡ [];
+          l.listener.course.companion;
+      under_way : IsUnderWay l.fn.knobs (trace.left l.fn.trace) (trace.left l.trace) (companion.left l.fn.companion)
+          (companion.left l.companion) l.listener l.goes_on;
     }
 
 abbrev pub decreases-loop-goes_on : goal.decreases-loop-goes_on
-decreases-loop-goes_on g l = most_reads - l.blocks.reads
+decreases-loop-goes_on g l = most_reads - l.listener.blocks.reads

@@ -1,5 +1,4 @@
 use Rattle.std.proofs.Common.{ap, subst, sym, ◌∙◌}
-use Rattle.audit_input.specs.declared.refused.Refused.{Refused}
 use Rattle.stream_audit.specs.Course.{IsClosingOf}
 use Rattle.stream_audit.specs.Hearing.{IsRefusalOf}
 use Rattle.stream_audit.specs.declared.course.Closing.{Closing}

@@ -1,24 +1,25 @@
--- So many of the events were gone through, as those that come first.
-use Rattle.std.proofs.Common.{◌≡◌, ℕ, ◌-◌, ◌≤◌, ◌++◌, List, length, take, Option}
+-- So many of the events were gone through, as those that come first, and the companion is past the others.
+use Rattle.std.proofs.Common.{◌≡◌, ℕ, Bool, ◌-◌, ◌<◌, ◌≤◌, ◌++◌, List, length, take, Option}
 use Rattle.cfs_model.specs.declared.act.Entry.{Entry}
-use Rattle.companion_file.specs.Earlier.{Said}
-use Rattle.stream_audit.specs.Companion.{IsFedBy}
-use Rattle.stream_audit.specs.Course.{AreEventsNext, CourseGoesOn, IsCourseOf}
+use Rattle.window_joining.specs.Joining.{edge_of}
+use Rattle.stream_audit.specs.Companion.{IsFedBy, IsPast}
+use Rattle.stream_audit.specs.Course.{IsCourseOf, IsReadyFor}
 use Rattle.stream_audit.proofs.course.Course.go_through.Given as goal
 
 abbrev pub invariant-loop-from : goal.invariant-loop-from
 invariant-loop-from g l =
-    let feed = g.C.Feed in
     let first = l.initial.self in
     record {
       within : l.from ≤ length l.events;
       knobs : l.self.knobs ≡ first.knobs;
-      fed : IsFedBy (feed.calls l.companion) (feed.has_ended l.companion) (feed.has_failed l.companion)
-          l.self.companion;
-      went : (gave : Option (List ℕ)) (said : Said) (before : List Entry)
-          → IsCourseOf first.knobs gave (feed.left l.initial.companion) first said before
-          → AreEventsNext before l.events
-          → CourseGoesOn first.knobs gave (feed.left l.companion) l.self (before ++ take l.from l.events);
+      fed : (calls : ℕ) (has_ended has_failed : Bool) → IsFedBy calls has_ended has_failed first.companion
+          → IsFedBy calls has_ended has_failed l.self.companion;
+      went : (gave left : Option (List ℕ)) (before : List Entry)
+          (ready : IsReadyFor first.knobs gave left first before l.events)
+          → IsCourseOf first.knobs gave left l.self ready.said (before ++ take l.from l.events);
+      past : (gave left : Option (List ℕ)) (before : List Entry)
+          (ready : IsReadyFor first.knobs gave left first before l.events) → 0 < length l.events
+          → IsPast (edge_of (before ++ l.events)) ready.said l.self.companion;
     }
 
 abbrev pub decreases-loop-from : goal.decreases-loop-from

@@ -70,8 +70,8 @@ impl EntryReader {
         self.bad.is_none()
     }
 
-    /// Takes the events out that were read since they were taken out last, in the order of their lines, in place of what
-    /// a list held. The list's room is that of the next events.
+    /// Takes the events out that were read since they were taken out last, in the order of their lines, in place of
+    /// what a list held. The list's room is that of the next events.
     pub fn take_out(&mut self, events: &mut Vec<Entry>)
         ensures taken { events.new.items ≡ entries_of self.old }
         ensures emptied { entries_of self.new ≡ [] }

@@ -78,7 +78,8 @@ pub outcome_as : (own other : Course) (bytes text : List ℕ) (hearing : Hearing
     → IsOutcome own.knobs bytes text hearing.outcome × TellsCharges text hearing.tells_charges
     → IsOutcome other.knobs bytes text hearing.outcome × TellsCharges text hearing.tells_charges
 outcome_as own other bytes text hearing same is =
-    subst (λ (k : Course). IsOutcome k.knobs bytes text hearing.outcome × TellsCharges text hearing.tells_charges) same is
+    subst (λ (k : Course). IsOutcome k.knobs bytes text hearing.outcome × TellsCharges text hearing.tells_charges) same
+    is
 
 -- a course that went on with the companion alone
 pub heard_further : (knobs : KnobsView) (gave left rest : Option (List ℕ)) (bytes : List ℕ) (reader : EntryReader)

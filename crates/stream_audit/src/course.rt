@@ -1,6 +1,6 @@
 //! What is known of a recording, both of whose texts are read a block at a time.
-ghost use Rattle.std.specs.Prelude.{◌≡◌, ◌⊎◌, ◌≢◌, ◌++◌, ◌<◌, ◌≤◌, [], ℕ, Bool, List, Option, false, IfErr, IfOk, IsNone};
-ghost use Rattle.std.specs.Prelude.{OnOk, length};
+ghost use Rattle.std.specs.Prelude.{◌≡◌, ◌⊎◌, ◌≢◌, ◌++◌, ◌<◌, ◌≤◌, [], ℕ, Bool, List, Option, false, IfErr, IfOk};
+ghost use Rattle.std.specs.Prelude.{IsNone, OnOk, length};
 ghost use Rattle.audit_input.specs.Known.{IsCutShort, most_reads};
 ghost use Rattle.audit_input.specs.Texts.{TellsCharges};
 ghost use Rattle.cfs_model.specs.Limits.{no_line};

@@ -6,7 +6,8 @@ use Rattle.stream_audit.proofs.listener.Listener.begin.Goals as goal
 pub returns-clause-under_way : goal.returns-clause-under_way
 returns-clause-under_way g c = λ knobs trace_gave gave left under.
     if_ok _ _ c.next.result
-    (λ goes_on next. under_way_on knobs trace_gave _ gave left under.bytes c.args.self.now.reader _ goes_on under.heard next)
+    (λ goes_on next.
+    under_way_on knobs trace_gave _ gave left under.bytes c.args.self.now.reader _ goes_on under.heard next)
     (c.next.ensures.passed trace_gave under.bytes under.stands)
 
 pub returns-clause-read : goal.returns-clause-read

@@ -39,7 +39,8 @@ audit_and_read-went-requires-clause-ready g c κs within =
     let bytes = under.3.bytes in
     let ready = subst (λ (es : List Entry). IsReady under.0 under.2 left bytes made.reader made.course es)
     (sym c.deref.ensures.value) (c.in_default.ensures.ready under.0 under.2 bytes under.3.heard) in
-    (under.2, left, ready.before, ready_there under.0 under.2 left bytes made.reader made.course c.deref.result.now ready)
+    let events = c.deref.result.now in
+    (under.2, left, ready.before, ready_there under.0 under.2 left bytes made.reader made.course events ready)
 
 pub returns-in_err-goes_on-clause-reads : goal.returns-in_err-goes_on-clause-reads
 returns-in_err-goes_on-clause-reads g c =

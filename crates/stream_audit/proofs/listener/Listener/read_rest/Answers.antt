@@ -13,7 +13,8 @@ go_through-requires-clause-ready g c κs within =
     let left = g.C.Feed.left made.companion in
     let ready = subst (λ (es : List Entry). IsReady heard.0 heard.1 left heard.2 made.reader made.course es)
     (sym c.deref.ensures.value) (c.in_ok-make_ready.ensures.ready heard.0 heard.1 heard.2 heard.3) in
-    (heard.1, left, ready.before, ready_there heard.0 heard.1 left heard.2 made.reader made.course c.deref.result.now ready)
+    let events = c.deref.result.now in
+    (heard.1, left, ready.before, ready_there heard.0 heard.1 left heard.2 made.reader made.course events ready)
 
 pub returns-in_err-go_through-clause-bounded : goal.returns-in_err-go_through-clause-bounded
 returns-in_err-go_through-clause-bounded g c = c.make_ready.ensures.bounded
@@ -34,7 +35,8 @@ returns-clause-heard g c = λ knobs gave bytes heard.
     (ready_there knobs gave left bytes made.reader made.course events ready) in
     let mid = gone_through knobs gave left bytes made.reader made.course c.go_through.new.self events ready went in
     on_ok _ _ c.read_rest.result
-    (λ further. heard_further knobs gave left _ bytes made.reader c.go_through.new.self c.read_rest.new.self mid further)
+    (λ further.
+    heard_further knobs gave left _ bytes made.reader c.go_through.new.self c.read_rest.new.self mid further)
     (c.read_rest.ensures.went gave mid.said mid.events
     (course_there knobs gave left bytes made.reader c.go_through.new.self mid))
 

@@ -6,7 +6,7 @@ use crate::progress::Progress;
 use cfs_model::Knobs;
 use clap::Error;
 use clap::error::ErrorKind::OutOfMemory;
-use companion_maker::{Strategy, Wishes};
+use companion_guess::{Strategy, Wishes};
 use given_texts::file_of;
 use recording_audit::{Asked, CauseWords, NotAudited, Part, Tally, audit_recording, report};
 use std::alloc::Global;

@@ -6,7 +6,7 @@ use Rattle.sched_record.specs.declared.cause.TraceFault.{TraceFault}
 use Rattle.sched_record.specs.declared.cause.TraceFault.TheVariants as faults
 use Rattle.sched_record.specs.Seen.{Tells}
 use Rattle.sched_record.specs.Trace.{TraceAnswer}
-use Rattle.companion_maker.specs.declared.made.Made.{Made}
+use Rattle.companion_guess.specs.declared.made.Made.{Made}
 use Rattle.companion_maker.specs.declared.not_made.NotMade.{NotMade}
 use Rattle.companion_maker.specs.declared.not_made.NotMade.TheVariants as reasons
 use Rattle.companion_maker.specs.Fitting.{ReadsAndJoins, reason_of}

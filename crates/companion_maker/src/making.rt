@@ -7,30 +7,15 @@ ghost use Rattle.sched_record.specs.Trace.{TraceAnswer};
 ghost use Rattle.sched_record.specs.Seen.{trace_view};
 ghost use Rattle.companion_maker.specs.Fitting.{ReadsAndJoins, IsNotMadeFor};
 
-use crate::debug::told_floors;
-use crate::draft::{Draft, better_draft, draft_of, kernel_draft};
-use crate::floors::Floors;
-use crate::forecast::Forecast;
-use crate::known::Known;
-use crate::made::Made;
-use crate::not_made::NotMade;
-use crate::opening::tasks_at_start;
-use crate::outset::Outset;
+use crate::NotMade;
 use crate::plain::plain_text;
-use crate::prints::Prints;
-use crate::strategy::{STRATEGIES, Strategy};
-use crate::touching::processors_of;
-use crate::wishes::Wishes;
-use crate::writing::text_of;
-use cfs_model::{Entry, MOST_PROCESSORS, Memory};
+use cfs_model::{MOST_PROCESSORS, Memory};
 use companion_file::{CompanionFault, read_companion_wide};
+use companion_guess::{Known, Made, Wishes, guessed, kernel_values};
 use pid_table::PidHasher;
 use sched_record::{Trace, join, one_trace_answer, outside_line, read_trace_wide};
 use std::alloc::Global;
 use std::thread::Threads;
-
-/// The strategy that mostly needs the least granularity.
-const MOSTLY_BEST: Strategy = Strategy::Picked;
 
 /// A companion for the text of a trace, and for what `sched/debug` told when the trace was begun, where that is given.
 /// Several threads read a long text. Pids are hashed by these keys.
@@ -57,7 +42,7 @@ pub fn companion_of_text(
 {
     one_trace_answer();
     let trace = read_trace_wide(rt, alloc, text)?;
-    let known = wanted_values(rt, alloc, text, debug, trace.events(), wishes)?;
+    let known = kernel_values(rt, alloc, text, debug, trace.events(), wishes)?;
     companion_of_trace(rt, alloc, trace, known, wishes, hasher)
 }
 
@@ -103,7 +88,7 @@ fn companion_of_trace(
             line: u64::from(line),
         });
     }
-    let made = found_text(alloc, trace.events(), known, wishes, hasher)?;
+    let made = guessed(alloc, trace.events(), known, wishes, hasher)?;
     if go_together(rt, alloc, trace, made.text.as_slice())? {
         Ok(made)
     } else {
@@ -112,26 +97,6 @@ fn companion_of_trace(
             guess: None,
         })
     }
-}
-
-/// What the texts tell of the kernel's own values, where a companion is to be made by these.
-fn wanted_values(
-    rt: &(impl Threads + Sync),
-    alloc: Global,
-    text: &[u8],
-    debug: Option<&[u8]>,
-    events: &[Entry],
-    wishes: &Wishes,
-) -> Result<Known, Memory> {
-    if wishes.strategy != Some(Strategy::Kernel) {
-        return Ok(Known::nothing(alloc));
-    }
-    let floors = match debug {
-        Some(told) => told_floors(told),
-        None => Floors::unknown(),
-    };
-    let prints = Prints::of(rt, alloc, text)?;
-    Known::of(alloc, prints, events, floors)
 }
 
 /// Whether the text is a companion that goes together with the trace.
@@ -148,53 +113,4 @@ fn go_together(
         Err(CompanionFault::Text { .. }) => Ok(false),
         Err(CompanionFault::Memory) => Err(Memory),
     }
-}
-
-/// The companion that the kernel's own values tell, or that the strategies find.
-fn found_text(
-    alloc: Global,
-    events: &[Entry],
-    known: Known,
-    wishes: &Wishes,
-    hasher: PidHasher,
-) -> Result<Made, Memory> {
-    let outset = Outset {
-        cpus: processors_of(events),
-        start: events.first().map_or(0, |event| event.time),
-        tasks: tasks_at_start(alloc, events)?,
-        forecast: Forecast::of(alloc, events)?,
-        hasher,
-    };
-    let draft = if known.prints().is_empty() {
-        best_of(alloc, &outset, events, wishes)?
-    } else {
-        kernel_draft(alloc, &outset, events, wishes, known)?
-    };
-    let text = text_of(alloc, &outset, &draft)?;
-    let guess = Some(draft.candidate.guessed());
-    Ok(Made { text, guess })
-}
-
-/// What the wanted strategy makes; where none of those that guess is named, the best.
-fn best_of(
-    alloc: Global,
-    outset: &Outset,
-    events: &[Entry],
-    wishes: &Wishes,
-) -> Result<Draft, Memory> {
-    match wishes.strategy {
-        None | Some(Strategy::Kernel) => (),
-        Some(strategy) => return draft_of(alloc, outset, events, wishes, strategy),
-    }
-    // It goes first, so that the others are soon given up.
-    let mut best = draft_of(alloc, outset, events, wishes, MOSTLY_BEST)?;
-    for strategy in STRATEGIES {
-        if *strategy == MOSTLY_BEST {
-            continue;
-        }
-        if let Some(better) = better_draft(alloc, outset, events, wishes, *strategy, &best)? {
-            best = better;
-        }
-    }
-    Ok(best)
 }

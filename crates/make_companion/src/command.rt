@@ -4,7 +4,7 @@ use amount_words::{Amount, amount_mistake};
 use cfs_model::{Knobs, Setting};
 use clap::error::ErrorKind;
 use clap::{Arg, ArgMatches, Command, Error};
-use companion_maker::{Strategy, Wishes};
+use companion_guess::{Strategy, Wishes};
 use std::alloc::{AllocError, Global};
 use std::convert::AsStr;
 

@@ -1,7 +1,7 @@
 //! What is likely a mistake, and what to do next: said on standard error.
 use crate::audit_command::AuditCommand;
 use cfs_model::{Amounts, GREATEST_SETTING, Knobs, Setting};
-use companion_maker::Guessed;
+use companion_guess::Guessed;
 use given_texts::{KernelHint, has_event, is_overwritten, trace_hint};
 
 /// What is said of a companion that is given as the trace.

@@ -1,7 +1,7 @@
 ghost use Rattle.std.specs.Prelude.{◌≡◌};
 
 use cfs_model::Knobs;
-use companion_maker::Wishes;
+use companion_guess::Wishes;
 
 /// What is asked of the audit of a recording.
 #[derive(Clone, Copy, Debug)]

@@ -10,7 +10,7 @@ use std::collections::BTreeMap;
 
 /// What is known of the kernel's own values.
 #[derive(Drop)]
-pub(crate) struct Known {
+pub struct Known {
     prints: Prints,
     /// The first print of each task.
     first: NextPrints,
@@ -41,7 +41,7 @@ impl Known {
     }
 
     /// Nothing is.
-    pub(crate) fn nothing(alloc: Global) -> Known {
+    pub fn nothing(alloc: Global) -> Known {
         Known {
             prints: Prints::none(alloc),
             first: NextPrints::new(alloc),

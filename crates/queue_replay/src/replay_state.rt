@@ -107,7 +107,7 @@ impl ReplayState {
     {
         let before = self.queue.unlifted();
         let runner = self.queue.runner();
-        let seat = self.queue.seat();
+        let runner_row = self.queue.runner_row();
         let time = step.time.saturating_sub(self.queue.mark());
         if let Err(fault) = self.queue.lift(step.time, step.charge, knobs.drift()) {
             return Ok(Some(failed_charge(fault)));
@@ -125,9 +125,9 @@ impl ReplayState {
                 return Err(memory);
             }
         };
-        self.draft.note_stretch(stretch, seat, self.made);
+        self.draft.note_stretch(stretch, runner_row, self.made);
         self.draft
-            .note(step, deed.ticket, self.queue.seat(), self.made);
+            .note(step, deed.ticket, self.queue.runner_row(), self.made);
         let idled = idled_time(self.since, step.time);
         raise(&mut self.needs, step.deed, deed.need, idled, drift);
         self.since = since_after(self.since, step.time, &self.queue);

@@ -28,7 +28,7 @@ use Rattle.runqueue.specs.Queue.{IsTheRunner, IsLeastIfWaiting, IsLeastQueued, I
 use Rattle.runqueue.specs.Entities.{by_runtime, listed, entities, runtime_if, waiting_runtime, IsOnlyRunner, IsQueue}
 use Rattle.runqueue.specs.Entities.{waiting_task}
 use Rattle.pid_table.specs.Rows.{index_in}
-use Rattle.runqueue.specs.TaskRows.{IsSeated, TaskRows}
+use Rattle.runqueue.specs.TaskRows.{IsRunnerRow, TaskRows}
 use Rattle.runqueue.specs.declared.waiting_task.WaitingTask.{WaitingTask}
 use Rattle.runqueue.specs.Tasks.{cost_of, charged_task, CanBeCharged, CanBeChargedAs, charged_as, told_task}
 use Rattle.runqueue.specs.Tasks.{IsChargeFaultOf, entity_of}
@@ -39,7 +39,7 @@ use Rattle.runqueue.proofs.Parts.{part_with, its_place, same_tasks, put-at}
 use Rattle.runqueue.proofs.EntitiesKept.{queue_is, waiting_in, only_in, listed_in, listed_none, listed_some, is_listed}
 use Rattle.runqueue.proofs.EntitiesKept.{waits_where, the_runner, stays, only_runs, only_none, waiting_none}
 use Rattle.runqueue.proofs.EntitiesKept.{lower_runtime}
-use Rattle.runqueue.proofs.TaskRows.{seated_at, task_none}
+use Rattle.runqueue.proofs.TaskRows.{runner_row_at, task_none}
 
 -- nobody stands in an empty map, and nobody waits in an empty set
 pub empty_queue : (m : TaskRows) (a : BTreeSet WaitingTask) → m.pids ≡ [] → a.keys ≡ []
@@ -53,11 +53,11 @@ empty_queue m a e f =
     (listed_none m)
 
 -- who runs keeps its row when it is charged
-pub charged_seated : (charge : Option ChargeLine) (delta : ℕ) (t : SchedEntity) (pids : List ℕ) (seat : ℕ)
-    → index_in pids t.pid ≡ Some seat
-    → IsSeated (Some (charged_as charge (charged_task delta t))) pids seat
-charged_seated None delta t pids seat is = seated_at (charged_task delta t) pids seat is
-charged_seated (Some line) delta t pids seat is = seated_at (told_task line (charged_task delta t)) pids seat is
+pub charged_runner_row : (charge : Option ChargeLine) (delta : ℕ) (t : SchedEntity) (pids : List ℕ) (row : ℕ)
+    → index_in pids t.pid ≡ Some row
+    → IsRunnerRow (Some (charged_as charge (charged_task delta t))) pids row
+charged_runner_row None delta t pids row is = runner_row_at (charged_task delta t) pids row is
+charged_runner_row (Some line) delta t pids row is = runner_row_at (told_task line (charged_task delta t)) pids row is
 
 -- one who waits
 waits_is : (o : Option Entity) (v : ℤ) → waiting_runtime o ≡ Some v → (s : Entity) × (o ≡ Some s) × (s.place ≡ Wait)

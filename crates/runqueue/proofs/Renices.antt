@@ -12,8 +12,8 @@ use Rattle.runqueue.specs.Entities.{by_runtime, HasNice, IsOnlyRunner, IsQueue, 
 use Rattle.runqueue.specs.Entities.{waiting_runtime, reniced_task, waiting_task}
 use Rattle.runqueue.specs.Tasks.{entity_of}
 use Rattle.runqueue.specs.declared.runqueue.Runqueue.{Runqueue}
-use Rattle.runqueue.specs.TaskRows.{IsSeated, TaskRows, Writes, task_in}
-use Rattle.runqueue.proofs.TaskRows.{seated_at, seated_is, seated_none}
+use Rattle.runqueue.specs.TaskRows.{IsRunnerRow, TaskRows, Writes, task_in}
+use Rattle.runqueue.proofs.TaskRows.{runner_row_at, runner_row_is, runner_row_none}
 use Rattle.pid_table.specs.Rows.{index_in}
 use Rattle.runqueue.specs.declared.waiting_task.WaitingTask.{WaitingTask}
 use Rattle.cfs_model.proofs.Moves.{put-other}
@@ -74,12 +74,12 @@ nobody_listed (Some t) m a kept pid none =
     go (Some t) i e = cc
 
 -- who runs keeps its row when a nice value changes
-pub reniced_seated : (runner : Option SchedEntity) (pids : List ℕ) (seat pid : ℕ) (nice : ℤ)
-    → IsSeated runner pids seat → IsSeated (option_map (reniced_task pid nice) runner) pids seat
-reniced_seated None pids seat pid nice seated = seated_none None pids seat refl
-reniced_seated (Some t) pids seat pid nice seated =
-    seated_at (reniced_task pid nice t) pids seat
-    (ap (index_in pids) (go (eqb t.pid pid)) ∙ seated_is (Some t) pids seat seated t refl)
+pub reniced_runner_row : (runner : Option SchedEntity) (pids : List ℕ) (row pid : ℕ) (nice : ℤ)
+    → IsRunnerRow runner pids row → IsRunnerRow (option_map (reniced_task pid nice) runner) pids row
+reniced_runner_row None pids row pid nice in_row = runner_row_none None pids row refl
+reniced_runner_row (Some t) pids row pid nice in_row =
+    runner_row_at (reniced_task pid nice t) pids row
+    (ap (index_in pids) (go (eqb t.pid pid)) ∙ runner_row_is (Some t) pids row in_row t refl)
   where
     go : (b : Bool) → (cond b (record t { nice = nice }) t).pid ≡ t.pid
     go true = refl

@@ -11,7 +11,7 @@ use Rattle.std.proofs.lemmas.List.Sums.{position_or_len_is}
 use Rattle.std.proofs.lemmas.Option.{same_Some}
 use Rattle.pid_table.proofs.Indices.{pid_there, pid_nowhere}
 use Rattle.pid_table.specs.Rows.{AreSound, index_in}
-use Rattle.runqueue.specs.TaskRows.{IsSeated, KeepsRows, TaskRows, Writes, task_at_index, task_in, task_of_row}
+use Rattle.runqueue.specs.TaskRows.{IsRunnerRow, KeepsRows, TaskRows, Writes, task_at_index, task_in, task_of_row}
 use Rattle.runqueue.specs.declared.sched_entity.SchedEntity.{SchedEntity}
 
 -- a list with one element written over, there and elsewhere
@@ -209,28 +209,28 @@ pub nothing_written : (table : TaskRows) (pid : ℕ) → index_in table.pids pid
 nothing_written table pid none = record { here = without_row table pid none; there = λ other ne. refl }
 
 -- where the runner sits
-pub seated_none : (runner : Option SchedEntity) (pids : List ℕ) (seat : ℕ) → runner ≡ None
-    → IsSeated runner pids seat
-unfolding IsSeated
-seated_none runner pids seat none t e = let f : None ≡ Some t = sym none ∙ e in cc
+pub runner_row_none : (runner : Option SchedEntity) (pids : List ℕ) (row : ℕ) → runner ≡ None
+    → IsRunnerRow runner pids row
+unfolding IsRunnerRow
+runner_row_none runner pids row none t e = let f : None ≡ Some t = sym none ∙ e in cc
 
-pub seated_at : (t : SchedEntity) (pids : List ℕ) (seat : ℕ) → index_in pids t.pid ≡ Some seat
-    → IsSeated (Some t) pids seat
-unfolding IsSeated
-seated_at t pids seat is u e = ap (λ (x : SchedEntity). index_in pids x.pid) (sym (same_Some t u e)) ∙ is
+pub runner_row_at : (t : SchedEntity) (pids : List ℕ) (row : ℕ) → index_in pids t.pid ≡ Some row
+    → IsRunnerRow (Some t) pids row
+unfolding IsRunnerRow
+runner_row_at t pids row is u e = ap (λ (x : SchedEntity). index_in pids x.pid) (sym (same_Some t u e)) ∙ is
 
-pub seated_is : (runner : Option SchedEntity) (pids : List ℕ) (seat : ℕ) → IsSeated runner pids seat
-    → (t : SchedEntity) → runner ≡ Some t → index_in pids t.pid ≡ Some seat
-unfolding IsSeated
-seated_is runner pids seat seated t e = seated t e
+pub runner_row_is : (runner : Option SchedEntity) (pids : List ℕ) (row : ℕ) → IsRunnerRow runner pids row
+    → (t : SchedEntity) → runner ≡ Some t → index_in pids t.pid ≡ Some row
+unfolding IsRunnerRow
+runner_row_is runner pids row in_row t e = in_row t e
 
-pub seated_kept : (runner : Option SchedEntity) (old new : List ℕ) (seat : ℕ) → IsSeated runner old seat
-    → KeepsRows old new → IsSeated runner new seat
-unfolding IsSeated KeepsRows
-seated_kept runner old new seat seated keeps t e = keeps t.pid seat (seated t e)
+pub runner_row_kept : (runner : Option SchedEntity) (old new : List ℕ) (row : ℕ) → IsRunnerRow runner old row
+    → KeepsRows old new → IsRunnerRow runner new row
+unfolding IsRunnerRow KeepsRows
+runner_row_kept runner old new row in_row keeps t e = keeps t.pid row (in_row t e)
 
-pub seated_same : (runner r : Option SchedEntity) (pids p : List ℕ) (seat s : ℕ) → r ≡ runner → p ≡ pids → s ≡ seat
-    → IsSeated runner pids seat → IsSeated r p s
-unfolding IsSeated
-seated_same runner r pids p seat s e f g seated t is =
-    ap (λ l. index_in l t.pid) f ∙ seated t (sym e ∙ is) ∙ ap Some (sym g)
+pub runner_row_same : (runner r : Option SchedEntity) (pids p : List ℕ) (row s : ℕ) → r ≡ runner → p ≡ pids → s ≡ row
+    → IsRunnerRow runner pids row → IsRunnerRow r p s
+unfolding IsRunnerRow
+runner_row_same runner r pids p row s e f g in_row t is =
+    ap (λ l. index_in l t.pid) f ∙ in_row t (sym e ∙ is) ∙ ap Some (sym g)

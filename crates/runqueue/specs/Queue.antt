@@ -29,7 +29,7 @@ pub record HoldsSame (old new : Runqueue) : Type 0 where
 -- what a charge and its lift change of a runqueue, as it stands
 pub record IsUnlifted (queue : Runqueue) (before : Unlifted) : Type 0 where
   pub runner : before.runner ≡ queue.runner
-  pub seat : before.seat ≡ queue.seat
+  pub runner_row : before.runner_row ≡ queue.runner_row
   pub floor : before.floor ≡ queue.floor
   pub mark : before.mark ≡ queue.mark
 

@@ -31,9 +31,9 @@ unfoldable pub KeepsRows : List ℕ → List ℕ → Type 0
 KeepsRows old new = (pid row : ℕ) → index_in old pid ≡ Some row → index_in new pid ≡ Some row
 
 -- the runner's row is at this index
-unfoldable pub IsSeated : Option SchedEntity → List ℕ → ℕ → Type 0
-IsSeated runner pids seat = (t : SchedEntity) → runner ≡ Some t → index_in pids t.pid ≡ Some seat
+unfoldable pub IsRunnerRow : Option SchedEntity → List ℕ → ℕ → Type 0
+IsRunnerRow runner pids row = (t : SchedEntity) → runner ≡ Some t → index_in pids t.pid ≡ Some row
 
-pub IsSeated-prop : (runner : Option SchedEntity) (pids : List ℕ) (seat : ℕ) → IsProp (IsSeated runner pids seat)
-unfolding IsSeated
-IsSeated-prop runner pids seat = Prim.hlevel props
+pub IsRunnerRow-prop : (runner : Option SchedEntity) (pids : List ℕ) (row : ℕ) → IsProp (IsRunnerRow runner pids row)
+unfolding IsRunnerRow
+IsRunnerRow-prop runner pids row = Prim.hlevel props

@@ -15,7 +15,7 @@ use cfs_model::ChargeLine;
 #[derive(Clone, Copy)]
 pub struct Unlifted {
     pub(crate) runner: Option<SchedEntity>,
-    pub(crate) seat: usize,
+    pub(crate) runner_row: usize,
     /// In virtual nanoseconds.
     pub(crate) floor: i64,
     /// In nanoseconds.
@@ -85,7 +85,7 @@ impl Runqueue {
     {
         Unlifted {
             runner: self.runner,
-            seat: self.seat,
+            runner_row: self.runner_row,
             floor: self.floor,
             mark: self.mark,
         }
@@ -98,7 +98,7 @@ impl Runqueue {
             → runqueue_view self.new ≡ runqueue_view queue }
     {
         self.runner = before.runner;
-        self.seat = before.seat;
+        self.runner_row = before.runner_row;
         self.floor = before.floor;
         self.mark = before.mark;
     }

@@ -26,7 +26,7 @@ impl Runqueue {
     {
         Runqueue {
             runner: None,
-            seat: 0,
+            runner_row: 0,
             tasks: PidTable::new(alloc, hasher),
             waiting: BTreeSet::new(alloc),
             floor,
@@ -92,7 +92,7 @@ impl Runqueue {
         })?;
         let mut task = runner;
         task.place = Place::Wait;
-        write_row(&mut self.tasks, self.seat, Some(task));
+        write_row(&mut self.tasks, self.runner_row, Some(task));
         self.runner = None;
         Ok(())
     }
@@ -106,7 +106,7 @@ impl Runqueue {
     {
         let mut task = runner;
         task.place = Place::Rest;
-        write_row(&mut self.tasks, self.seat, Some(task));
+        write_row(&mut self.tasks, self.runner_row, Some(task));
         self.runner = None;
     }
 
@@ -117,7 +117,7 @@ impl Runqueue {
             → runqueue_view self.new ≡ part_after_prev (runqueue_view self.old) prev Ends }
         ensures nobody { NobodyIn (runqueue_view self.new) Run }
     {
-        write_row(&mut self.tasks, self.seat, None);
+        write_row(&mut self.tasks, self.runner_row, None);
         self.runner = None;
     }
 
@@ -131,7 +131,7 @@ impl Runqueue {
             return;
         }
         if let Some(task) = task {
-            let Some(seat) = self.tasks.index_of(next) else {
+            let Some(row) = self.tasks.index_of(next) else {
                 unreachable!();
             };
             let waited = WaitingTask {
@@ -143,7 +143,7 @@ impl Runqueue {
             runner.pid = next;
             runner.place = Place::Run;
             self.runner = Some(runner);
-            self.seat = seat;
+            self.runner_row = row;
         }
     }
 
@@ -193,7 +193,7 @@ impl Runqueue {
         let pid = task.pid;
         match task.place {
             Place::Run => {
-                self.seat = put(&mut self.tasks, pid, &task);
+                self.runner_row = put(&mut self.tasks, pid, &task);
                 self.runner = Some(task);
                 Ok(())
             }

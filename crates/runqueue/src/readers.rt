@@ -4,7 +4,7 @@ ghost use Rattle.replay_model.specs.QueueTests.{IsRunner};
 ghost use Rattle.runqueue.specs.Queue.{IsLeastIfWaiting, IsLeastQueued, IsSwitchTask, IsTaskAt, IsTheRunner};
 ghost use Rattle.runqueue.specs.Queue.{runqueue_view};
 ghost use Rattle.runqueue.specs.Entities.{IsWaitingSet};
-ghost use Rattle.runqueue.specs.TaskRows.{IsSeated};
+ghost use Rattle.runqueue.specs.TaskRows.{IsRunnerRow};
 
 use crate::runqueue::Runqueue;
 use crate::sched_entity::SchedEntity;
@@ -23,10 +23,10 @@ impl Runqueue {
 
     /// Where the row of who runs is, by the order in which the pids first stood here; without meaning where nobody
     /// runs.
-    pub fn seat(&self) -> usize
-        ensures { IsSeated self.now.runner self.now.tasks.pids result }
+    pub fn runner_row(&self) -> usize
+        ensures { IsRunnerRow self.now.runner self.now.tasks.pids result }
     {
-        self.seat
+        self.runner_row
     }
 
     /// Those who wait, in their order.

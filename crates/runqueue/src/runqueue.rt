@@ -1,5 +1,5 @@
 ghost use Rattle.runqueue.specs.Entities.{IsQueue, IsQueue-prop};
-ghost use Rattle.runqueue.specs.TaskRows.{IsSeated, IsSeated-prop};
+ghost use Rattle.runqueue.specs.TaskRows.{IsRunnerRow, IsRunnerRow-prop};
 
 use crate::sched_entity::SchedEntity;
 use crate::task_rows::TaskRows;
@@ -12,7 +12,7 @@ pub struct Runqueue {
     /// Who runs, if somebody does.
     pub(crate) runner: Option<SchedEntity>,
     /// Where the row of who runs is; without meaning where nobody does.
-    pub(crate) seat: usize,
+    pub(crate) runner_row: usize,
     /// Everybody by pid; who runs as it stood before.
     pub(crate) tasks: TaskRows,
     /// Those who wait, in their order.
@@ -22,5 +22,5 @@ pub struct Runqueue {
     /// The time of the last charge, in nanoseconds.
     pub(crate) mark: u64,
     pub ghost kept: { IsQueue runner tasks waiting } by { IsQueue-prop runner tasks waiting },
-    pub ghost seated: { IsSeated runner tasks.pids seat } by { IsSeated-prop runner tasks.pids seat },
+    pub ghost in_row: { IsRunnerRow runner tasks.pids runner_row } by { IsRunnerRow-prop runner tasks.pids runner_row },
 }

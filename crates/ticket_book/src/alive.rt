@@ -2,7 +2,7 @@ ghost use Rattle.std.specs.Prelude.{◌≡◌, ℕ, IfOk, OnOk};
 ghost use Rattle.replay_model.specs.Roll.{named, roll_after};
 ghost use Rattle.ticket_book.specs.Alive.{alive_view};
 
-use cfs_model::{Act, Memory, Task, Way};
+use cfs_model::{Act, Memory, Task};
 use std::alloc::Global;
 use std::collections::BTreeSet;
 
@@ -36,18 +36,12 @@ impl Alive {
     pub(crate) fn pass(&mut self, act: Act) -> Result<(), Memory>
         ensures { OnOk result ((pid : ℕ) → alive_view self.new pid ≡ roll_after (alive_view self.old) act pid) }
     {
-        match act {
-            Act::Born { pid, .. } => {
-                self.pids.insert(pid)?;
-                Ok(())
-            }
-            Act::Switch { prev, way, .. } => {
-                if prev != 0 && matches!(way, Way::Ends) {
-                    self.pids.remove(&prev);
-                }
-                Ok(())
-            }
-            Act::Wake { .. } | Act::Shift { .. } => Ok(()),
+        if let Some(pid) = act.begun() {
+            self.pids.insert(pid)?;
         }
+        if let Some(pid) = act.ended() {
+            self.pids.remove(&pid);
+        }
+        Ok(())
     }
 }

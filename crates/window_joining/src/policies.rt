@@ -46,7 +46,7 @@ impl Policies {
         ensures { OnOk result ((pid : ℕ) → policies_view self.new pid
             ≡ policies_after idles.now (policies_view self.old) event.now.line event.now.act pid) }
     {
-        if let Act::Born { pid, .. } = event.act {
+        if let Some(pid) = event.act.begun() {
             self.put(pid, is_named(idles, event.line, pid))?;
         }
         Ok(())

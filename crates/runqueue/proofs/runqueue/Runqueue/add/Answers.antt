@@ -6,7 +6,7 @@ use Rattle.runqueue.proofs.EntitiesKept.{no_runner, same_queue}
 use Rattle.runqueue.proofs.Moved.{same_waiting_keys}
 use Rattle.runqueue.proofs.Coming.{come_runs_alone, run_part_alone, come_rests, come_waits, come_part, on_err}
 use Rattle.runqueue.specs.Queue.{HoldsSame}
-use Rattle.runqueue.proofs.TaskRows.{keeps_same, seated_at, seated_kept, task_same, writes_from}
+use Rattle.runqueue.proofs.TaskRows.{keeps_same, runner_row_at, runner_row_kept, task_same, writes_from}
 use Rattle.runqueue.proofs.runqueue.Runqueue.add.Goals as goal
 
 pub invariant_of-self : goal.invariant_of-self
@@ -17,7 +17,7 @@ invariant_of-self c =
     record {
       kept = same_queue q.runner q.tasks room q.waiting q.waiting (task_same q.tasks room e.pids e.rows)
           (λ v p. refl) q.kept;
-      seated = seated_kept q.runner q.tasks.pids room.pids q.seat q.seated
+      in_row = runner_row_kept q.runner q.tasks.pids room.pids q.runner_row q.in_row
           (keeps_same q.tasks.pids room.pids e.pids);
     }
 
@@ -43,7 +43,7 @@ invariant_of-self-in-Run c =
           c.requires.apart
           (writes_from q.tasks c.make_room.new.self c.put-self.new.tasks t.pid (Some t) e.pids e.rows
           c.put-self.ensures.written) c.in-Run.is;
-      seated = seated_at t c.put-self.new.tasks.pids c.put-self.result c.put-self.ensures.row;
+      in_row = runner_row_at t c.put-self.new.tasks.pids c.put-self.result c.put-self.ensures.row;
     }
 
 pub returns-in-Run-clause-part : goal.returns-in-Run-clause-part
@@ -67,7 +67,7 @@ invariant_of-self-in-Rest c =
       kept = come_rests q.runner q.tasks n q.waiting q.kept t c.requires.apart
           (writes_from q.tasks c.make_room.new.self n t.pid (Some t) e.pids e.rows c.put-in-Rest.ensures.written)
           c.in-Rest.is;
-      seated = seated_kept q.runner q.tasks.pids n.pids q.seat q.seated
+      in_row = runner_row_kept q.runner q.tasks.pids n.pids q.runner_row q.in_row
           (subst (λ pids. KeepsRows pids n.pids) e.pids c.put-in-Rest.ensures.kept);
     }
 
@@ -93,7 +93,7 @@ invariant_of-self-in-Wait c =
           c.insert.new.self
           (subst (λ (v : ℤ). set.Updates by_runtime q.waiting c.insert.new.self (waiting_task v t.pid) true)
           whole c.in_ok-insert-in-Wait.ensures.updates) c.in-Wait.is;
-      seated = seated_kept q.runner q.tasks.pids n.pids q.seat q.seated
+      in_row = runner_row_kept q.runner q.tasks.pids n.pids q.runner_row q.in_row
           (subst (λ pids. KeepsRows pids n.pids) e.pids c.put.ensures.kept);
     }
 
@@ -114,7 +114,7 @@ invariant_of-self-in-Break-branch-2 c =
     record {
       kept = same_queue q.runner q.tasks room q.waiting c.insert.new.self (task_same q.tasks room e.pids e.rows)
           (same_waiting_keys q.waiting c.insert.new.self c.in_err-insert-in-Wait.ensures.err) q.kept;
-      seated = seated_kept q.runner q.tasks.pids room.pids q.seat q.seated
+      in_row = runner_row_kept q.runner q.tasks.pids room.pids q.runner_row q.in_row
           (keeps_same q.tasks.pids room.pids e.pids);
     }
 

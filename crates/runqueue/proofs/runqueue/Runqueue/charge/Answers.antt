@@ -7,9 +7,9 @@ use Rattle.runqueue.specs.Entities.{IsQueue, entities}
 use Rattle.runqueue.specs.Tasks.{CanBeCharged, CanBeChargedAs, IsChargeFaultOf, charged_as, charged_task}
 use Rattle.runqueue.specs.Queue.{runqueue_view}
 use Rattle.runqueue.proofs.Lifts.{idle_in_range, idle_charged, idle_wrong, fits_in_range, charged_queue, charged_is}
-use Rattle.runqueue.proofs.Lifts.{charged_seated, told_right, fault_there}
-use Rattle.runqueue.proofs.TaskRows.{seated_is}
-use Rattle.runqueue.specs.TaskRows.{IsSeated}
+use Rattle.runqueue.proofs.Lifts.{charged_runner_row, told_right, fault_there}
+use Rattle.runqueue.proofs.TaskRows.{runner_row_is}
+use Rattle.runqueue.specs.TaskRows.{IsRunnerRow}
 use Rattle.runqueue.proofs.runqueue.Runqueue.charge.Goals as goal
 
 pub returns-in-Some-charge-clause-fault : goal.returns-in-Some-charge-clause-fault
@@ -46,9 +46,9 @@ invariant_of-self-in-Ok c =
     record {
       kept = subst K (sym (subst P c.saturating_sub.ensures c.in-Ok.ensures.fits.2))
           (charged_queue q.runner q.tasks q.waiting q.floor q.mark c.args.time q.kept t c.in-Some.is c.args.charge);
-      seated = subst (λ (u : SchedEntity). IsSeated (Some u) q.tasks.pids q.seat) (sym c.in-Ok.ensures.fits.2)
-          (charged_seated c.args.charge c.saturating_sub.result t q.tasks.pids q.seat
-          (seated_is q.runner q.tasks.pids q.seat q.seated t c.in-Some.is));
+      in_row = subst (λ (u : SchedEntity). IsRunnerRow (Some u) q.tasks.pids q.runner_row) (sym c.in-Ok.ensures.fits.2)
+          (charged_runner_row c.args.charge c.saturating_sub.result t q.tasks.pids q.runner_row
+          (runner_row_is q.runner q.tasks.pids q.runner_row q.in_row t c.in-Some.is));
     }
 
 pub returns-in-Ok-clause-in_range : goal.returns-in-Ok-clause-in_range

@@ -5,13 +5,13 @@ use Rattle.runqueue.specs.Tasks.{entity_of}
 use Rattle.runqueue.proofs.Lifts.{empty_queue}
 use Rattle.runqueue.proofs.Parts.{same_tasks}
 use Rattle.runqueue.proofs.TaskOf.{stands}
-use Rattle.runqueue.proofs.TaskRows.{seated_none, task_none}
+use Rattle.runqueue.proofs.TaskRows.{runner_row_none, task_none}
 use Rattle.runqueue.proofs.runqueue.Runqueue.empty.Goals as goal
 
 pub invariant_of-result : goal.invariant_of-result
 invariant_of-result c = record {
   kept = empty_queue c.new.result c.new-2.result c.new.ensures.pids c.new-2.ensures.empty;
-  seated = seated_none None c.new.result.pids 0 refl;
+  in_row = runner_row_none None c.new.result.pids 0 refl;
 }
 
 pub returns : goal.returns

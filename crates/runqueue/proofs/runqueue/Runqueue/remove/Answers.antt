@@ -2,7 +2,7 @@ use Rattle.std.proofs.Common.{◌≡◌, ℤ, false, subst, sym, ◌∙◌, rule
 use Rattle.std.specs.BTreeSet as set
 use Rattle.runqueue.specs.Entities.{by_runtime, waiting_task}
 use Rattle.runqueue.proofs.Moved.{gone_queue, nowhere_queue, gone_entities}
-use Rattle.runqueue.proofs.TaskRows.{keeps_same, seated_kept}
+use Rattle.runqueue.proofs.TaskRows.{keeps_same, runner_row_kept}
 use Rattle.runqueue.proofs.runqueue.Runqueue.remove.Goals as goal
 
 pub invariant_of-self : goal.invariant_of-self
@@ -16,7 +16,7 @@ invariant_of-self c =
           (sym c.take_out.ensures.value ∙ c.in-Some.is)
           (subst (λ (v : ℤ). set.Updates by_runtime q.waiting c.remove.new.self
           (waiting_task v c.args.pid) false) whole c.remove.ensures.updates);
-      seated = seated_kept q.runner q.tasks.pids c.take_out.new.tasks.pids q.seat q.seated
+      in_row = runner_row_kept q.runner q.tasks.pids c.take_out.new.tasks.pids q.runner_row q.in_row
           (keeps_same q.tasks.pids c.take_out.new.tasks.pids c.take_out.ensures.pids);
     }
 
@@ -27,7 +27,7 @@ invariant_of-self-in_default c =
       kept = nowhere_queue q.runner q.tasks c.take_out.new.tasks q.waiting q.kept c.args.pid c.requires
           c.take_out.ensures.gone
           (sym c.take_out.ensures.value ∙ c.in_default.is);
-      seated = seated_kept q.runner q.tasks.pids c.take_out.new.tasks.pids q.seat q.seated
+      in_row = runner_row_kept q.runner q.tasks.pids c.take_out.new.tasks.pids q.runner_row q.in_row
           (keeps_same q.tasks.pids c.take_out.new.tasks.pids c.take_out.ensures.pids);
     }
 

@@ -3,8 +3,8 @@ use Rattle.runqueue.specs.declared.sched_entity.SchedEntity.{SchedEntity}
 use Rattle.runqueue.specs.Entities.{IsQueue, entities, reniced_task}
 use Rattle.runqueue.specs.Queue.{runqueue_view}
 use Rattle.runqueue.proofs.Parts.{part_with}
-use Rattle.runqueue.proofs.TaskRows.{seated_same}
-use Rattle.runqueue.proofs.Renices.{nobody_changed, nobody_listed, reniced_part, reniced_queue, reniced_seated}
+use Rattle.runqueue.proofs.TaskRows.{runner_row_same}
+use Rattle.runqueue.proofs.Renices.{nobody_changed, nobody_listed, reniced_part, reniced_queue, reniced_runner_row}
 use Rattle.runqueue.proofs.Renices.{stands_listed, written}
 use Rattle.runqueue.proofs.runqueue.Runqueue.renice.Goals as goal
 
@@ -32,9 +32,9 @@ invariant_of-self c =
           (written q.tasks n pid nice c.in_ok-task.task
           (sym c.in_ok-task.ensures) c.write_over.ensures.written)
           q.runner q.waiting q.kept);
-      seated = seated_same (option_map (reniced_task pid nice) q.runner) c.reniced_runner-self.result q.tasks.pids
-          n.pids q.seat q.seat c.reniced_runner-self.ensures c.write_over.ensures.pids refl
-          (reniced_seated q.runner q.tasks.pids q.seat pid nice q.seated);
+      in_row = runner_row_same (option_map (reniced_task pid nice) q.runner) c.reniced_runner-self.result q.tasks.pids
+          n.pids q.runner_row q.runner_row c.reniced_runner-self.ensures c.write_over.ensures.pids refl
+          (reniced_runner_row q.runner q.tasks.pids q.runner_row pid nice q.in_row);
     }
 
 pub returns-clause-part : goal.returns-clause-part

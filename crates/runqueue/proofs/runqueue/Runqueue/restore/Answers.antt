@@ -3,7 +3,7 @@ use Rattle.runqueue.specs.declared.sched_entity.SchedEntity.{SchedEntity}
 use Rattle.runqueue.specs.Entities.{IsQueue}
 use Rattle.runqueue.proofs.Moved.{restored_part}
 use Rattle.runqueue.proofs.EntitiesKept.{same_queue}
-use Rattle.runqueue.proofs.TaskRows.{seated_same}
+use Rattle.runqueue.proofs.TaskRows.{runner_row_same}
 use Rattle.runqueue.proofs.runqueue.Runqueue.restore.Goals as goal
 
 pub invariant_of-self : goal.invariant_of-self
@@ -14,8 +14,8 @@ invariant_of-self c =
     record {
       kept = subst (λ (r : Option SchedEntity). IsQueue r now.tasks now.waiting) (sym c.requires.1.runner)
           (same_queue q.runner q.tasks now.tasks q.waiting now.waiting same.tasks same.waiting q.kept);
-      seated = seated_same q.runner c.args.before.runner q.tasks.pids now.tasks.pids q.seat c.args.before.seat
-          c.requires.1.runner same.pids c.requires.1.seat q.seated;
+      in_row = runner_row_same q.runner c.args.before.runner q.tasks.pids now.tasks.pids q.runner_row
+          c.args.before.runner_row c.requires.1.runner same.pids c.requires.1.runner_row q.in_row;
     }
 
 pub returns : goal.returns

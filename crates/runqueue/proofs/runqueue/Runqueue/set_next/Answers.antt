@@ -7,7 +7,7 @@ use Rattle.replay_model.specs.AfterDeed.{part_after_next}
 use Rattle.replay_model.specs.Part.{Part}
 use Rattle.runqueue.specs.Entities.{by_runtime, entities, waiting_task}
 use Rattle.runqueue.specs.Tasks.{entity_of}
-use Rattle.runqueue.proofs.TaskRows.{has_row, seated_at}
+use Rattle.runqueue.proofs.TaskRows.{has_row, runner_row_at}
 use Rattle.runqueue.proofs.Moved.{kept_runner, listed_has, next_entities, next_queue, no_next}
 use Rattle.runqueue.proofs.EntitiesKept.{no_runner}
 use Rattle.runqueue.proofs.runqueue.Runqueue.set_next.Goals as goal
@@ -37,7 +37,7 @@ invariant_of-self c =
           (kept_runner q.runner q.tasks q.waiting None q.kept none) (sym has)
           (subst (λ (v : ℤ). set.Updates by_runtime q.waiting c.remove.new.self (waiting_task v c.args.next) false)
           whole c.remove.ensures.updates) refl;
-      seated = seated_at _ q.tasks.pids c.in-Some-index_of.seat
+      in_row = runner_row_at _ q.tasks.pids c.in-Some-index_of.row
           (sym c.index_of.ensures.index ∙ c.in-Some-index_of.is);
     }
 

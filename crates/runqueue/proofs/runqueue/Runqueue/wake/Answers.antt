@@ -5,7 +5,7 @@ use Rattle.runqueue.specs.Queue.{runqueue_view}
 use Rattle.runqueue.specs.Entities.{by_runtime, entities, waiting_task}
 use Rattle.runqueue.specs.Tasks.{entity_of}
 use Rattle.runqueue.proofs.Moved.{nobody_woken, not_woken, wake_has, woken_queue, woken_part}
-use Rattle.runqueue.proofs.TaskRows.{keeps_same, seated_kept}
+use Rattle.runqueue.proofs.TaskRows.{keeps_same, runner_row_kept}
 use Rattle.runqueue.proofs.runqueue.Runqueue.wake.Goals as goal
 
 pub returns-in_default-clause-part : goal.returns-in_default-clause-part
@@ -49,7 +49,7 @@ invariant_of-self-in-Rest c =
           c.insert.new.self
           (subst (λ (x : ℤ). set.Updates by_runtime q.waiting c.insert.new.self (waiting_task x c.args.pid) true) whole
           c.in_ok-insert-in-Rest.ensures.updates);
-      seated = seated_kept q.runner q.tasks.pids c.write_over.new.tasks.pids q.seat q.seated
+      in_row = runner_row_kept q.runner q.tasks.pids c.write_over.new.tasks.pids q.runner_row q.in_row
           (keeps_same q.tasks.pids c.write_over.new.tasks.pids c.write_over.ensures.pids);
     }
 

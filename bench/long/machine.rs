@@ -104,11 +104,10 @@ impl Machine {
     }
 
     fn event(&self, number: usize, act: Act, claim: Option<Claim>) -> Event {
-        let running = self.processors[number].running.map_or(0, |task| task.pid);
         Event {
             time: self.time,
             processor: number,
-            running,
+            running: pid_of(self.processors[number].running),
             act,
             claim,
         }
@@ -175,25 +174,36 @@ impl Machine {
             (Some(_), _) if stays => return None,
             _ => false,
         };
-        self.processors[number].charge(self.time);
-        let before = self.processors[number].running;
-        let mut event = self.event(number, Act::Wakeup { pid: 0 }, None);
         let processor = &mut self.processors[number];
+        processor.charge(self.time);
+        let before = processor.running;
         processor.pick();
-        let next = processor.running.map_or(0, |task| task.pid);
-        event.act = Act::Switch {
-            prev: event.running,
-            stays,
-            next,
-        };
+        let next = processor.running;
+        let mut claim = None;
         if let Some(task) = before {
             if stays {
                 processor.wait(task);
-                event.claim = Some(Claim { waits: true, task });
+                claim = Some(Claim { waits: true, task });
             } else {
                 processor.resting.push(task);
             }
         }
-        Some(event)
+        let prev = pid_of(before);
+        Some(Event {
+            time: self.time,
+            processor: number,
+            running: prev,
+            act: Act::Switch {
+                prev,
+                stays,
+                next: pid_of(next),
+            },
+            claim,
+        })
     }
+}
+
+/// Of who runs, 0 of the idle task.
+fn pid_of(running: Option<Task>) -> u32 {
+    running.map_or(0, |task| task.pid)
 }

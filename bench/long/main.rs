@@ -16,18 +16,27 @@ use texts::{write_beginning, write_claim, write_event};
 
 fn main() -> ExitCode {
     let words: Vec<String> = std::env::args().skip(1).collect();
-    let [what, events, processors] = words.as_slice() else {
-        eprintln!("usage: long trace|companion EVENTS PROCESSORS");
-        return ExitCode::from(2);
+    let [text, events, processors] = words.as_slice() else {
+        return misused();
+    };
+    let is_trace = match text.as_str() {
+        "trace" => true,
+        "companion" => false,
+        _ => return misused(),
     };
     let (Ok(events), Ok(processors)) = (events.parse(), processors.parse()) else {
         eprintln!("two numbers are wanted: how many events, and of how many processors");
         return ExitCode::from(2);
     };
-    match write(what == "trace", events, processors) {
+    match write(is_trace, events, processors) {
         Ok(()) => ExitCode::SUCCESS,
         Err(_) => ExitCode::FAILURE,
     }
+}
+
+fn misused() -> ExitCode {
+    eprintln!("usage: long trace|companion EVENTS PROCESSORS");
+    ExitCode::from(2)
 }
 
 fn write(is_trace: bool, events: u64, processors: usize) -> io::Result<()> {

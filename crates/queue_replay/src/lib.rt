@@ -33,6 +33,7 @@ pub use lists::{LifeEvents, Tallies, Tickets};
 pub use page::Page;
 pub use paged::Paged;
 pub use replay::Replay;
+pub use replay_model::Ticket;
 pub use state::State;
 pub use stretch::Stretch;
 pub use tag::{Reached, Tag};

@@ -29,6 +29,7 @@ pub use processor_stream::Stream;
 pub use reading::read_trace;
 pub use reading_wide::read_trace_wide;
 pub use record::Record;
+pub use replay_model::{Deed, Step};
 pub use trace::Trace;
 pub use trace_reader::TraceReader;
 pub use window::{Saying, Window};

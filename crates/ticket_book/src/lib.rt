@@ -35,6 +35,7 @@ pub use laws::{one_least_answer, one_verdict, whole_pages_left};
 pub use least_settings::LeastSettings;
 pub use post_fault::PostFault;
 pub use remaking::whole_page;
+pub use replay_model::{FirstFault, Tally};
 pub use summary::Summary;
 pub use verdict::Verdict;
 pub use window_book::WindowBook;

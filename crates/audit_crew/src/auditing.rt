@@ -10,8 +10,8 @@ use pid_table::PidHasher;
 use sched_record::Stream;
 use std::alloc::Global;
 
-/// Replays a stream in stretches of so many steps, and posts its page. It enters the gate before its first step and
-/// again after each stretch; a stream without steps has one. Where steps are left after a stretch it asks the shelf for
+/// Replays a stream in stretches of so many steps, and posts its page. It goes through the gate at the beginning and
+/// behind every stretch; a stream without steps has one. Where steps are left after a stretch it asks the shelf for
 /// the least line of a fault, and stops where it is on that line or past it: no step that is left can tell of an
 /// earlier one. Pids are hashed by these keys.
 pub fn auditor<S: Shelf, G: Gate>(

@@ -22,4 +22,4 @@ pub use gate::{Gate, OpenGate};
 pub use gathered::Gathered;
 pub use serial::audit_serial;
 pub use shelf::Shelf;
-pub use threads::{audit, crew};
+pub use threads::{audit, crew, least_settings};

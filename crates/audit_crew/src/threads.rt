@@ -19,7 +19,7 @@ use std::random::RandomSource;
 use std::sync::ledger::Blank;
 use std::sync::{Mutex, Wait};
 use std::thread::Threads;
-use ticket_book::{Book, Closed, one_verdict};
+use ticket_book::{Book, Closed, LeastSettings, one_verdict};
 
 /// The audit of a record by a crew: its auditors' pages in one book, which is then closed.
 pub fn audit<R: RandomSource + Threads + Wait + Sync, G: Gate>(
@@ -38,6 +38,20 @@ pub fn audit<R: RandomSource + Threads + Wait + Sync, G: Gate>(
     crew(rt, alloc, joined, knobs, gate)?
         .book
         .close_own(joined, knobs)
+}
+
+/// The least settings of a record by a crew at the greatest: its auditors' pages in one book, which is then closed.
+pub fn least_settings<R: RandomSource + Threads + Wait + Sync, G: Gate>(
+    rt: &R,
+    alloc: Global,
+    joined: &Record,
+    gate: &G,
+) -> Result<LeastSettings, Memory>
+    ensures { IfOk result (IsLeastAnswer (record_view joined.now)) }
+{
+    let gathered = crew(rt, alloc, joined, Knobs::greatest(), gate)?;
+    let closed = gathered.book.close_least(joined)?;
+    Ok(closed.least)
 }
 
 /// Audits each processor of a record in a thread of its own, all at once, and gathers their pages in one book. No

@@ -66,10 +66,11 @@ fn audit<R: Files + Clock + Print + Eprint + RandomSource + AllocGlobal + Thread
         limits: request.limits,
     };
     let parts = parts_of(rt, alloc, text.as_slice(), &asked, tells)?;
+    // The report first: it isn't lost where the folder can't be written.
+    let ending = write_report(rt, alloc, parts.as_slice())?;
     if let Some(folder) = request.out {
         keep(rt, alloc, folder, parts.as_slice())?;
     }
-    let ending = write_report(rt, alloc, parts.as_slice())?;
     say_of_audited(rt, text.as_slice(), parts.as_slice());
     Ok(ending)
 }

@@ -2,7 +2,7 @@
 
 use crate::floors::Floors;
 use bstr::ByteSlice;
-use cfs_model::GREATEST_RUNTIME;
+use cfs_model::{GREATEST_RUNTIME, MOST_PROCESSORS};
 use text_parts::numerals::{number_at, numeral_at};
 use text_parts::pieces::{after_byte, after_front, after_gap};
 
@@ -22,6 +22,12 @@ pub(crate) fn told_floors(text: &[u8]) -> Floors {
         }
     }
     told
+}
+
+/// Whether the text tells a floor.
+pub fn tells_floors(text: &[u8]) -> bool {
+    let told = told_floors(text);
+    (0..MOST_PROCESSORS as u32).any(|cpu| told.at(cpu).is_some())
 }
 
 /// The processor whose runqueue's heading the line is: `cfs_rq[CPU]:/`.

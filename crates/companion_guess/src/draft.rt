@@ -1,13 +1,17 @@
 use crate::candidate::Candidate;
+use crate::course::Course;
 use crate::known::Known;
-use crate::machine::Machine;
+use crate::learnt::Learnt;
 use crate::news::News;
 use crate::outset::Outset;
+use crate::pair::{EVENTS_BEHIND, Pair};
+use crate::placements::Placements;
 use crate::start::Start;
 use crate::strategy::Strategy;
 use crate::wishes::Wishes;
 use cfs_model::{Entry, Memory};
 use std::alloc::Global;
+use std::thread::Threads;
 
 /// How often the events are gone through again at most, where placements turned out to be others.
 const MOST_RETURNS: usize = 4;
@@ -27,31 +31,80 @@ pub(crate) fn draft_of(
     wishes: &Wishes,
     strategy: Strategy,
 ) -> Result<Draft, Memory> {
-    let known = Known::nothing(alloc);
-    let start = Start::of(alloc, outset, events, wishes, &known)?;
-    let mut machine = Machine::new(alloc, outset, &start, wishes, strategy, &known)?;
-    follow(&mut machine, outset, events, &known, None)?;
-    Ok(drafted(start, machine))
+    let (known, placements) = nothing(alloc);
+    let learnt = Learnt {
+        known: &known,
+        placements: &placements,
+    };
+    let mut course = Course::new(alloc, outset, events, wishes, strategy, learnt)?;
+    course.go_through(outset, events, learnt)?;
+    Ok(course.into_draft())
+}
+
+/// The same, where it is better than another.
+pub(crate) fn better_draft(
+    alloc: Global,
+    outset: &Outset,
+    events: &[Entry],
+    wishes: &Wishes,
+    strategy: Strategy,
+    other: &Draft,
+) -> Result<Option<Draft>, Memory> {
+    let (known, placements) = nothing(alloc);
+    let learnt = Learnt {
+        known: &known,
+        placements: &placements,
+    };
+    let mut course = Course::new(alloc, outset, events, wishes, strategy, learnt)?;
+    if course.beats(outset, events, learnt, &other.candidate)? {
+        Ok(Some(course.into_draft()))
+    } else {
+        Ok(None)
+    }
+}
+
+/// What is known where the kernel told nothing.
+fn nothing(alloc: Global) -> (Known, Placements) {
+    (Known::nothing(alloc), Placements::none(alloc))
 }
 
 /// What the kernel's own values make of the events. Where no print tells a placement, what is found later tells what it
 /// has to be; then the events are gone through again.
 pub(crate) fn kernel_draft(
+    rt: &(impl Threads + Sync),
     alloc: Global,
     outset: &Outset,
     events: &[Entry],
     wishes: &Wishes,
     known: Known,
+    placements: Placements,
 ) -> Result<Draft, Memory> {
-    let mut known = known;
-    for returns in 0..MOST_RETURNS {
-        let (start, machine) = gone_through(alloc, outset, events, wishes, &known)?;
-        if !is_worth_it(machine.tell_asked(&mut known)?, returns) {
-            return Ok(drafted(start, machine));
-        }
+    let (mut known, mut placements) = (known, placements);
+    let (first, second) = first_courses(
+        rt,
+        alloc,
+        outset,
+        events,
+        wishes,
+        Learnt {
+            known: &known,
+            placements: &placements,
+        },
+    )?;
+    let news = first.machine.tell_asked(&mut known, &mut placements)?;
+    if !is_worth_it(news, 0) {
+        return Ok(first.into_draft());
     }
-    let (start, machine) = gone_through(alloc, outset, events, wishes, &known)?;
-    Ok(drafted(start, machine))
+    drop(first);
+    let mut course = again(alloc, outset, events, wishes, second, &known, &placements)?;
+    for returns in 1..MOST_RETURNS {
+        let news = course.machine.tell_asked(&mut known, &mut placements)?;
+        if !is_worth_it(news, returns) {
+            break;
+        }
+        course = again(alloc, outset, events, wishes, None, &known, &placements)?;
+    }
+    Ok(course.into_draft())
 }
 
 /// Whether to go through the events again, after so many returns. What events place elsewhere seldom asks for more than
@@ -64,70 +117,42 @@ fn is_worth_it(news: News, returns: usize) -> bool {
     }
 }
 
-/// The events gone through by what is known of the kernel's own values.
-fn gone_through(
+/// The first course through the events. Where there are many, the second is made beside it, which most recordings need.
+fn first_courses(
+    rt: &(impl Threads + Sync),
     alloc: Global,
     outset: &Outset,
     events: &[Entry],
     wishes: &Wishes,
-    known: &Known,
-) -> Result<(Start, Machine), Memory> {
-    let start = Start::of(alloc, outset, events, wishes, known)?;
-    let mut machine = Machine::new(alloc, outset, &start, wishes, Strategy::Kernel, known)?;
-    follow(&mut machine, outset, events, known, None)?;
-    Ok((start, machine))
-}
-
-fn drafted(start: Start, machine: Machine) -> Draft {
-    Draft {
-        start,
-        candidate: machine.into_candidate(),
+    learnt: Learnt<'_>,
+) -> Result<(Course, Option<Course>), Memory> {
+    if events.len() <= EVENTS_BEHIND {
+        let mut course = Course::new(alloc, outset, events, wishes, Strategy::Kernel, learnt)?;
+        course.go_through(outset, events, learnt)?;
+        return Ok((course, None));
     }
+    let mut pair = Pair::new(alloc, outset, events, wishes, learnt)?;
+    pair.go_through(rt, outset, events, learnt)?;
+    Ok(pair.into_courses())
 }
 
-/// The same as `draft_of`, where it is better than another.
-pub(crate) fn better_draft(
+/// The course by what is known now: the one that was made, where it began as this one does.
+fn again(
     alloc: Global,
     outset: &Outset,
     events: &[Entry],
     wishes: &Wishes,
-    strategy: Strategy,
-    other: &Draft,
-) -> Result<Option<Draft>, Memory> {
-    let known = Known::nothing(alloc);
-    let start = Start::of(alloc, outset, events, wishes, &known)?;
-    let mut machine = Machine::new(alloc, outset, &start, wishes, strategy, &known)?;
-    if follow(&mut machine, outset, events, &known, Some(&other.candidate))? {
-        Ok(Some(drafted(start, machine)))
-    } else {
-        Ok(None)
-    }
-}
-
-/// Goes through the events by the rules, and answers whether what is made is better than a rival. It gives up at the
-/// first event by which it can't be any more: what is needed never falls, and nothing is scored behind an event that
-/// fits no settings.
-fn follow(
-    machine: &mut Machine,
-    outset: &Outset,
-    events: &[Entry],
+    made: Option<Course>,
     known: &Known,
-    rival: Option<&Candidate>,
-) -> Result<bool, Memory> {
-    for (index, event) in events.iter().enumerate() {
-        if !is_better(machine, rival) {
-            return Ok(false);
+    placements: &Placements,
+) -> Result<Course, Memory> {
+    let learnt = Learnt { known, placements };
+    let mut course = Course::new(alloc, outset, events, wishes, Strategy::Kernel, learnt)?;
+    match made {
+        Some(made) if made.start.is_same(&course.start) => Ok(made),
+        _ => {
+            course.go_through(outset, events, learnt)?;
+            Ok(course)
         }
-        machine.pass(event, index, outset.forecast.is_picked(index), known)?;
-    }
-    machine.end();
-    Ok(is_better(machine, rival))
-}
-
-/// Whether what is made so far is better than a rival, if there is one.
-fn is_better(machine: &Machine, rival: Option<&Candidate>) -> bool {
-    match rival {
-        Some(rival) => machine.candidate().is_better_than(rival),
-        None => true,
     }
 }

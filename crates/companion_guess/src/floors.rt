@@ -1,4 +1,5 @@
 use crate::known::Known;
+use crate::learnt::Learnt;
 use crate::outset::Outset;
 use crate::values::above;
 use crate::wishes::Wishes;
@@ -21,14 +22,20 @@ impl Floors {
     /// At the start: what the kernel told, as far as the placements bound it. Where it told none, or nobody is placed,
     /// the least virtual runtime of those who run or wait; where nobody does, what the first placement says, or a lower
     /// wakeup. One that lies below who runs or waits lowers nothing: it would hide how low it is.
-    pub(crate) fn of(outset: &Outset, events: &[Entry], wishes: &Wishes, known: &Known) -> Floors {
+    pub(crate) fn of(
+        outset: &Outset,
+        events: &[Entry],
+        wishes: &Wishes,
+        learnt: Learnt<'_>,
+    ) -> Floors {
+        let known = learnt.known;
         let mut found = Floors::unknown();
         if known.prints().is_empty() {
             return found;
         }
         let mut bounds = Floors::unknown();
         for (index, event) in events.iter().enumerate() {
-            let placed = known.placement(index).value();
+            let placed = learnt.placements.at(index).value();
             if let Some((cpu, bound)) = bound_of(event.act, placed, wishes) {
                 found.begin(cpu, bound);
                 bounds.lower(cpu, Some(bound));
@@ -71,6 +78,11 @@ impl Floors {
         if let Some(floor) = self.floors.get_mut(cpu as usize) {
             *floor = Some(v);
         }
+    }
+
+    /// Whether each is that of another.
+    pub(crate) fn are_same(&self, other: &Floors) -> bool {
+        (0..MOST_PROCESSORS as u32).all(|cpu| self.at(cpu) == other.at(cpu))
     }
 
     /// That of a processor.

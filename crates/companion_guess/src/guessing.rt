@@ -1,65 +1,54 @@
-use crate::debug::told_floors;
 use crate::draft::{Draft, better_draft, draft_of, kernel_draft};
-use crate::floors::Floors;
-use crate::forecast::Forecast;
+use crate::kernel_values::KernelValues;
 use crate::known::Known;
 use crate::made::Made;
-use crate::opening::tasks_at_start;
 use crate::outset::Outset;
-use crate::prints::Prints;
+use crate::placements::Placements;
 use crate::strategy::{STRATEGIES, Strategy};
-use crate::touching::processors_of;
 use crate::wishes::Wishes;
 use crate::writing::text_of;
 use cfs_model::{Entry, Memory};
 use pid_table::PidHasher;
 use std::alloc::Global;
-use std::thread::Threads;
+use std::thread::{Threads, join};
 
 /// The strategy that mostly needs the least granularity.
 const MOSTLY_BEST: Strategy = Strategy::Picked;
 
-/// What the texts tell of the kernel's own values, where a companion is to be made by these.
-pub fn kernel_values(
-    rt: &(impl Threads + Sync),
-    alloc: Global,
-    text: &[u8],
-    debug: Option<&[u8]>,
-    events: &[Entry],
-    wishes: &Wishes,
-) -> Result<Known, Memory> {
-    if wishes.strategy != Some(Strategy::Kernel) {
-        return Ok(Known::nothing(alloc));
-    }
-    let floors = match debug {
-        Some(told) => told_floors(told),
-        None => Floors::unknown(),
-    };
-    let prints = Prints::of(rt, alloc, text)?;
-    Known::of(alloc, prints, events, floors)
-}
-
 /// The companion that the kernel's own values tell, or that the strategies find. Pids are hashed by these keys.
 pub fn guessed(
+    rt: &(impl Threads + Sync),
     alloc: Global,
     events: &[Entry],
-    known: Known,
+    values: KernelValues,
     wishes: &Wishes,
     hasher: PidHasher,
 ) -> Result<Made, Memory> {
-    let outset = Outset {
-        cpus: processors_of(events),
-        start: events.first().map_or(0, |event| event.time),
-        tasks: tasks_at_start(alloc, events)?,
-        forecast: Forecast::of(alloc, events)?,
-        hasher,
-    };
-    let draft = if known.prints().is_empty() {
-        best_of(alloc, &outset, events, wishes)?
-    } else {
-        kernel_draft(alloc, &outset, events, wishes, known)?
-    };
-    let text = text_of(alloc, &outset, &draft)?;
+    if values.prints.is_empty() {
+        let outset = Outset::of(alloc, events, hasher)?;
+        let draft = best_of(alloc, &outset, events, wishes)?;
+        return made_of(rt, alloc, &outset, &draft);
+    }
+    let prints = values.prints.as_slice();
+    let (outset, placed) = join(
+        rt,
+        || Outset::of(alloc, events, hasher),
+        || Placements::of(alloc, prints, events),
+    );
+    let (outset, (placements, first)) = (outset?, placed?);
+    let known = Known::of(alloc, values, first);
+    let draft = kernel_draft(rt, alloc, &outset, events, wishes, known, placements)?;
+    made_of(rt, alloc, &outset, &draft)
+}
+
+/// A draft with its text.
+fn made_of(
+    rt: &(impl Threads + Sync),
+    alloc: Global,
+    outset: &Outset,
+    draft: &Draft,
+) -> Result<Made, Memory> {
+    let text = text_of(rt, alloc, outset, draft)?;
     let guess = Some(draft.candidate.guessed());
     Ok(Made { text, guess })
 }

@@ -1,14 +1,18 @@
 //! Guesses at the companion of a trace alone. Nothing is proved of a guess.
 #![tactic(auto)]
 
+mod ask;
 mod candidate;
 mod companion_text;
+mod course;
 mod debug;
 mod draft;
 mod floors;
 mod forecast;
 mod guessing;
+mod kernel_values;
 mod known;
+mod learnt;
 mod line_text;
 mod machine;
 mod made;
@@ -17,24 +21,29 @@ mod news;
 mod next_prints;
 mod opening;
 mod outset;
+mod pair;
 mod pid_rows;
+mod placement;
 mod placements;
 mod placing;
 mod print;
 mod printed;
 mod prints;
 mod processor;
-mod standing;
+mod sayings;
 mod start;
 mod strategy;
+mod stretch;
+mod task_at;
 mod tasks;
 mod touching;
 mod values;
 mod wishes;
 mod writing;
 
-pub use guessing::{guessed, kernel_values};
-pub use known::Known;
+pub use debug::tells_floors;
+pub use guessing::guessed;
+pub use kernel_values::KernelValues;
 pub use made::{Guessed, Made};
 pub use strategy::{STRATEGIES, Strategy};
 pub use wishes::Wishes;

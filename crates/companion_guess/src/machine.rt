@@ -1,14 +1,17 @@
+use crate::ask::Ask;
 use crate::candidate::Candidate;
 use crate::known::Known;
+use crate::learnt::Learnt;
 use crate::named::{Heard, Named, Unsettled};
 use crate::news::News;
 use crate::outset::Outset;
-use crate::placements::Placement;
+use crate::placement::Placement;
+use crate::placements::Placements;
 use crate::placing::Placing;
 use crate::processor::Processor;
-use crate::standing::Standing;
 use crate::start::Start;
 use crate::strategy::Strategy;
+use crate::task_at::TaskAt;
 use crate::tasks::Tasks;
 use crate::values::{above, below, excess, moved};
 use crate::wishes::Wishes;
@@ -33,6 +36,8 @@ pub(crate) struct Machine {
     unsettled: Vec<Unsettled>,
     /// What they have to be, by what was found later.
     asked: BTreeMap<Placing, i64>,
+    /// The same that wasn't passed on yet, in the order in which it was found.
+    recent: Vec<Ask>,
     /// How many prints have been heard.
     heard: usize,
     /// Of the last event, in nanoseconds.
@@ -46,6 +51,8 @@ struct Moment {
     index: usize,
     is_picked: bool,
     placement: Placement,
+    /// Where the row is expected of the task that it picks, wakes or moves.
+    row: usize,
     /// The virtual runtime of the task that it wakes, where that rests.
     own: Option<i64>,
 }
@@ -73,6 +80,7 @@ impl Machine {
             },
             unsettled: Vec::new(alloc),
             asked: BTreeMap::new(alloc),
+            recent: Vec::new(alloc),
             heard: 0,
             time: outset.start,
         };
@@ -117,14 +125,38 @@ impl Machine {
     }
 
     /// Tells which placements turned out to be others, and what they have to be.
-    pub(crate) fn tell_asked(&self, known: &mut Known) -> Result<News, Memory> {
+    pub(crate) fn tell_asked(
+        &self,
+        known: &mut Known,
+        placements: &mut Placements,
+    ) -> Result<News, Memory> {
         let mut news = News::None;
         for (at, v) in self.asked.iter() {
-            if known.ask(*at, *v)? {
+            let is_news = match *at {
+                Placing::AtStart(pid) => known.ask(pid, *v)?,
+                Placing::ByEvent(index) => placements.ask(index, *v),
+            };
+            if is_news {
                 news = news.max(News::of(*at));
             }
         }
         Ok(news)
+    }
+
+    /// Passes on what was asked since it was last, to who knows these placements and has passed so many events. Whether
+    /// it is too late for one.
+    pub(crate) fn pass_on(&mut self, placements: &mut Placements, passed: usize) -> bool {
+        let mut is_late = false;
+        for ask in self.recent.as_slice() {
+            is_late = match ask.at {
+                Placing::AtStart(_) => true,
+                Placing::ByEvent(index) => {
+                    (placements.ask(index, ask.v) && index < passed) || is_late
+                }
+            };
+        }
+        self.recent.clear();
+        is_late
     }
 
     /// No event follows.
@@ -141,20 +173,23 @@ impl Machine {
         event: &Entry,
         index: usize,
         is_picked: bool,
-        known: &Known,
+        learnt: Learnt<'_>,
     ) -> Result<(), Memory> {
-        let standing = self.standing(event.act);
+        let known = learnt.known;
+        let row = self.tasks.row_of(moved_by(event.act));
+        let standing = self.standing(event.act, row);
         let moment = Moment {
             line: event.line,
             index,
             is_picked,
-            placement: known.placement(index),
-            own: standing.and_then(|task| task.own()),
+            placement: learnt.placements.at(index),
+            row,
+            own: standing.and_then(|standing| standing.own()),
         };
         let (home, dest) = event.act.ends();
         self.time = event.time;
         self.hear(event.line, known);
-        if !self.fits(event.act, standing.map(|task| task.place)) {
+        if !self.fits(event.act, standing.map(|standing| standing.place)) {
             self.stop_at(moment.line);
         }
         self.need_slack(home);
@@ -185,7 +220,7 @@ impl Machine {
                 self.renice(moment.line, cpu, prev, prev_nice)?;
                 self.renice(moment.line, cpu, next, next_nice)?;
                 self.leave(moment, cpu, prev, way)?;
-                self.pick(cpu, next)?;
+                self.pick(moment, cpu, next)?;
                 self.end_line(moment.line, cpu);
                 Ok(())
             }
@@ -258,14 +293,15 @@ impl Machine {
         }
     }
 
-    /// How the task stands that an event picks, wakes or moves, where it stands at the processor.
-    fn standing(&self, act: Act) -> Option<Standing> {
+    /// Where the task is that an event picks, wakes or moves, if it stands at the processor. Its row is expected at an
+    /// index.
+    fn standing(&self, act: Act, row: usize) -> Option<TaskAt> {
         match act {
             Act::Switch { cpu, next, .. } if next != IDLE_PID => {
-                self.processors.get(cpu as usize)?.standing(next)
+                self.processors.get(cpu as usize)?.task(row, next)
             }
-            Act::Wake { cpu, pid, .. } => self.processors.get(cpu as usize)?.standing(pid),
-            Act::Shift { orig, pid, .. } => self.processors.get(orig as usize)?.standing(pid),
+            Act::Wake { cpu, pid, .. } => self.processors.get(cpu as usize)?.task(row, pid),
+            Act::Shift { orig, pid, .. } => self.processors.get(orig as usize)?.task(row, pid),
             Act::Switch { .. } | Act::Born { .. } => None,
         }
     }
@@ -300,20 +336,27 @@ impl Machine {
         unsettled: Option<usize>,
         known: &Known,
     ) -> Result<(), Memory> {
-        let cpu = task.cpu;
-        let named = Named {
-            cpu,
+        let pid = task.pid;
+        let mut named = Named {
+            cpu: task.cpu,
+            row: usize::MAX,
             line,
             since: line,
             nice: task.nice,
             unsettled,
-            is_printed: known.names(task.pid),
+            is_printed: known.names(pid),
             heard: None,
         };
-        self.tasks.set(task.pid, named)?;
+        named.row = self.come(task)?;
+        self.tasks.set(pid, named)
+    }
+
+    /// A task stands at its processor from now on. Where its row is there.
+    fn come(&mut self, task: Task) -> Result<usize, Memory> {
+        let cpu = task.cpu;
         match self.processors.get_mut(cpu as usize) {
             Some(processor) => processor.enter(task),
-            None => Ok(()),
+            None => Ok(usize::MAX),
         }
     }
 
@@ -371,9 +414,6 @@ impl Machine {
         let Some(before) = self.tasks.name(pid, line, nice) else {
             return Ok(());
         };
-        if before.nice == nice {
-            return Ok(());
-        }
         let Some(processor) = self.processors.get_mut(before.cpu as usize) else {
             return Ok(());
         };
@@ -445,9 +485,9 @@ impl Machine {
     }
 
     /// A task that waits is picked.
-    fn pick(&mut self, cpu: u32, next: u32) -> Result<(), Memory> {
+    fn pick(&mut self, moment: Moment, cpu: u32, next: u32) -> Result<(), Memory> {
         if let Some(processor) = self.processors.get_mut(cpu as usize) {
-            if let Some(lead) = processor.pick(next)? {
+            if let Some(lead) = processor.pick(moment.row, next)? {
                 self.made.need(Setting::Granularity, lead);
             }
         }
@@ -479,7 +519,7 @@ impl Machine {
             sort: ClaimSort::At,
         };
         if let Some(processor) = self.processors.get_mut(cpu as usize) {
-            processor.wake(claim)?;
+            processor.wake(moment.row, claim)?;
         }
         self.made.claims.push(claim)?;
         Ok(())
@@ -571,6 +611,10 @@ impl Machine {
             };
             let v = moved(unsettled.v, found, wanted);
             self.asked.insert(unsettled.at, v)?;
+            self.recent.push(Ask {
+                at: unsettled.at,
+                v,
+            })?;
             if v >= unsettled.own {
                 break;
             }
@@ -664,7 +708,7 @@ impl Machine {
         let Some(processor) = self.processors.get_mut(orig as usize) else {
             return Ok(());
         };
-        let Some(task) = processor.send(pid) else {
+        let Some(task) = processor.send(moment.row, pid) else {
             return Ok(());
         };
         let sort = match task.place {
@@ -721,5 +765,13 @@ impl Machine {
         self.processors
             .get(cpu as usize)
             .map_or(0, |processor| processor.queue.floor())
+    }
+}
+
+/// The task that an event picks, wakes, bears or moves.
+fn moved_by(act: Act) -> u32 {
+    match act {
+        Act::Switch { next, .. } => next,
+        Act::Wake { pid, .. } | Act::Born { pid, .. } | Act::Shift { pid, .. } => pid,
     }
 }

@@ -5,6 +5,8 @@ use cfs_model::Nice;
 #[derive(Clone, Copy, Debug)]
 pub(crate) struct Named {
     pub cpu: u32,
+    /// Where its row is in that processor's runqueue.
+    pub row: usize,
     /// From 1; 0 before the first.
     pub line: u32,
     /// The line on which it was woken, was born or came here; 0 where it has been here from the start.

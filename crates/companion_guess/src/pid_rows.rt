@@ -40,7 +40,12 @@ impl<V: Copy + Drop> PidRows<V> {
 
     /// The row of a pid, if it has one.
     pub(crate) fn get(&self, pid: u32) -> Option<V> {
-        self.rows.get(self.row_of(pid)).copied()
+        self.get_ref(pid).copied()
+    }
+
+    /// The same, where it stands.
+    pub(crate) fn get_ref(&self, pid: u32) -> Option<&V> {
+        self.rows.get(self.row_of(pid))
     }
 
     /// The same, to be changed.

@@ -1,66 +1,77 @@
 //! Where the events place tasks, as far as the prints tell it.
 
 use crate::next_prints::NextPrints;
+use crate::placement::Placement;
 use crate::print::Print;
 use cfs_model::{Act, Entry, IDLE_PID, Memory, Way};
 use std::alloc::Global;
 
-/// What is known of the virtual runtime at which an event places a task.
-#[derive(Clone, Copy, Debug, PartialEq, Eq)]
-pub(crate) enum Placement {
-    /// Nothing.
-    Unknown,
-    /// A print tells it.
-    Printed(i64),
-    /// What is found later asks for it.
-    Asked(i64),
+/// Of each event what is known of its placement.
+#[derive(Drop)]
+pub(crate) struct Placements {
+    /// By event; none where nothing is known.
+    placements: Vec<Placement>,
 }
 
-impl Placement {
-    pub(crate) fn of(printed: Option<i64>) -> Placement {
-        match printed {
-            Some(v) => Placement::Printed(v),
-            None => Placement::Unknown,
+impl Placements {
+    /// As the prints tell them, and what these tell of the start. The events are gone through from the last to the first,
+    /// since the next print behind a placement tells it.
+    pub(crate) fn of(
+        alloc: Global,
+        prints: &[Print],
+        events: &[Entry],
+    ) -> Result<(Placements, NextPrints), Memory> {
+        let mut backwards = Vec::with_capacity(alloc, events.len())?;
+        let mut next = NextPrints::new(alloc);
+        let mut earlier = prints;
+        for event in events.iter().rev() {
+            earlier = meet_behind(&mut next, earlier, event.line)?;
+            backwards.push(placement_by(event.act, &next))?;
+            if let Some(pid) = placed_by(event.act) {
+                next.part(pid);
+            }
+        }
+        meet_before(&mut next, earlier)?;
+        backwards.reverse();
+        let placements = Placements {
+            placements: backwards,
+        };
+        Ok((placements, next))
+    }
+
+    /// Nothing is known of any.
+    pub(crate) fn none(alloc: Global) -> Placements {
+        Placements {
+            placements: Vec::new(alloc),
         }
     }
 
-    /// In virtual nanoseconds.
-    pub(crate) fn value(self) -> Option<i64> {
-        match self {
-            Placement::Unknown => None,
-            Placement::Printed(v) | Placement::Asked(v) => Some(v),
-        }
+    /// The same once more.
+    pub(crate) fn copy(&self, alloc: Global) -> Result<Placements, Memory> {
+        Ok(Placements {
+            placements: self.placements.to_vec(alloc)?,
+        })
     }
 
-    /// That which a print tells.
-    pub(crate) fn printed(self) -> Option<i64> {
-        match self {
-            Placement::Printed(v) => Some(v),
-            Placement::Unknown | Placement::Asked(_) => None,
-        }
+    /// Of the event at an index.
+    pub(crate) fn at(&self, index: usize) -> Placement {
+        self.placements
+            .get(index)
+            .copied()
+            .unwrap_or(Placement::Unknown)
     }
-}
 
-/// For each event what the prints tell of its placement, and the first prints of the tasks. The events are gone through
-/// from the last to the first, since the next print behind a placement tells it.
-pub(crate) fn placements_of(
-    alloc: Global,
-    prints: &[Print],
-    events: &[Entry],
-) -> Result<(Vec<Placement>, NextPrints), Memory> {
-    let mut backwards = Vec::with_capacity(alloc, events.len())?;
-    let mut next = NextPrints::new(alloc);
-    let mut earlier = prints;
-    for event in events.iter().rev() {
-        earlier = meet_behind(&mut next, earlier, event.line)?;
-        backwards.push(placement_by(event.act, &next))?;
-        if let Some(pid) = placed_by(event.act) {
-            next.part(pid);
+    /// The event at an index has to place its task here. Whether that is news.
+    pub(crate) fn ask(&mut self, index: usize, v: i64) -> bool {
+        match self.placements.get_mut(index) {
+            Some(placement) => {
+                let before = *placement;
+                *placement = Placement::Asked(v);
+                before != Placement::Asked(v)
+            }
+            None => false,
         }
     }
-    meet_before(&mut next, earlier)?;
-    backwards.reverse();
-    Ok((backwards, next))
 }
 
 /// Meets the prints behind a line, from the last, and gives those before.

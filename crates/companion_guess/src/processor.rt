@@ -1,4 +1,4 @@
-use crate::standing::Standing;
+use crate::task_at::TaskAt;
 use cfs_model::{Claim, IDLE_PID, Memory, Place, Task, Way};
 use pid_table::PidHasher;
 use runqueue::{Runqueue, SchedEntity};
@@ -54,19 +54,22 @@ impl Processor {
         }
     }
 
-    /// A task comes, unless one of its pid stands here, or it is to run beside another.
-    pub(crate) fn enter(&mut self, task: Task) -> Result<(), Memory> {
+    /// A task comes, unless one of its pid stands here, or it is to run beside another. Where its row is.
+    pub(crate) fn enter(&mut self, task: Task) -> Result<usize, Memory> {
         match (self.queue.task_at(task.pid), self.queue.runner()) {
-            (None, None) => self.queue.add(SchedEntity::of(task)),
-            (None, Some(_)) if task.place != Place::Run => self.queue.add(SchedEntity::of(task)),
-            _ => Ok(()),
+            (None, None) => self.queue.add(SchedEntity::of(task))?,
+            (None, Some(_)) if task.place != Place::Run => {
+                self.queue.add(SchedEntity::of(task))?
+            }
+            _ => (),
         }
+        Ok(self.queue.row_of(task.pid))
     }
 
-    /// How the task of this pid stands here, if it does.
-    pub(crate) fn standing(&self, pid: u32) -> Option<Standing> {
-        let task = self.queue.task_at(pid)?;
-        Some(Standing {
+    /// Where the task of this pid is, if it stands here. Its row is expected at an index.
+    pub(crate) fn task(&self, row: usize, pid: u32) -> Option<TaskAt> {
+        let task = self.queue.task_near(row, pid)?;
+        Some(TaskAt {
             place: task.place,
             v: task.v,
         })
@@ -107,10 +110,12 @@ impl Processor {
     }
 
     /// A task that waits is picked; whoever runs still is lost. How far it was above the least who waits, in virtual
-    /// nanoseconds.
-    pub(crate) fn pick(&mut self, next: u32) -> Result<Option<u64>, Memory> {
-        let (Some(task), Some(least)) = (self.queue.switch_task(next), self.queue.least_waiting())
-        else {
+    /// nanoseconds. Its row is expected at an index.
+    pub(crate) fn pick(&mut self, row: usize, next: u32) -> Result<Option<u64>, Memory> {
+        let (Some(task), Some(least)) = (
+            self.queue.switch_task(row, next),
+            self.queue.least_waiting(),
+        ) else {
             return Ok(None);
         };
         if task.place != Place::Wait {
@@ -118,23 +123,23 @@ impl Processor {
         }
         if self.queue.runner().is_some() {
             self.queue.put_prev(Way::Ends)?;
-            let picked = self.queue.switch_task(next);
-            self.queue.set_next(next, picked);
+            let picked = self.queue.switch_task(row, next);
+            self.queue.set_next(next, picked, row);
         } else {
-            self.queue.set_next(next, Some(task));
+            self.queue.set_next(next, Some(task), row);
         }
         Ok(Some(task.v.abs_diff(least)))
     }
 
-    /// A task that rests waits where it is claimed.
-    pub(crate) fn wake(&mut self, claim: Claim) -> Result<(), Memory> {
-        let task = self.queue.task_at(claim.pid);
-        self.queue.wake(claim.pid, task, claim)
+    /// A task that rests waits where it is claimed. Its row is expected at an index.
+    pub(crate) fn wake(&mut self, row: usize, claim: Claim) -> Result<(), Memory> {
+        let task = self.queue.task_near(row, claim.pid);
+        self.queue.wake(claim.pid, task, claim, row)
     }
 
-    /// A task that doesn't run leaves, and is answered as it stood.
-    pub(crate) fn send(&mut self, pid: u32) -> Option<SchedEntity> {
-        let task = self.queue.task_at(pid)?;
+    /// A task that doesn't run leaves, and is answered as it stood. Its row is expected at an index.
+    pub(crate) fn send(&mut self, row: usize, pid: u32) -> Option<SchedEntity> {
+        let task = self.queue.task_near(row, pid)?;
         if task.place == Place::Run {
             return None;
         }

@@ -2,6 +2,7 @@
 
 use crate::floors::Floors;
 use crate::known::Known;
+use crate::learnt::Learnt;
 use crate::outset::Outset;
 use crate::wishes::Wishes;
 use cfs_model::{Entry, Memory, Place, Task};
@@ -22,11 +23,12 @@ impl Start {
         outset: &Outset,
         events: &[Entry],
         wishes: &Wishes,
-        known: &Known,
+        learnt: Learnt<'_>,
     ) -> Result<Start, Memory> {
+        let known = learnt.known;
         let mut start = Start {
             tasks: Vec::with_capacity(alloc, outset.tasks.len())?,
-            floors: Floors::of(outset, events, wishes, known),
+            floors: Floors::of(outset, events, wishes, learnt),
         };
         for task in outset.tasks.as_slice() {
             let mut placed = *task;
@@ -37,6 +39,11 @@ impl Start {
             start.tasks.push(placed)?;
         }
         Ok(start)
+    }
+
+    /// Whether all tasks and floors are those of another.
+    pub(crate) fn is_same(&self, other: &Start) -> bool {
+        self.tasks.as_slice() == other.tasks.as_slice() && self.floors.are_same(&other.floors)
     }
 
     /// The floor of a processor.

@@ -25,13 +25,22 @@ impl Tasks {
         self.rows.get_mut(pid)?.as_mut()
     }
 
-    /// A line names the task of this pid with a nice value. Answers how it stood before.
+    /// Where the row of the task of this pid is in its processor's runqueue; where there is none, an index that no row
+    /// has.
+    pub(crate) fn row_of(&self, pid: u32) -> usize {
+        match self.rows.get_ref(pid) {
+            Some(Some(named)) => named.row,
+            _ => usize::MAX,
+        }
+    }
+
+    /// A line names the task of this pid with a nice value. Answers how it stood before, where that is another one.
     pub(crate) fn name(&mut self, pid: u32, line: u32, nice: Nice) -> Option<Named> {
         let named = self.get_mut(pid)?;
-        let before = *named;
+        let before = (named.nice != nice).then_some(*named);
         named.line = line;
         named.nice = nice;
-        Some(before)
+        before
     }
 
     /// The task of this pid stands so, whether there was one or not.

@@ -6,5 +6,5 @@ mod making;
 mod not_made;
 mod plain;
 
-pub use making::{companion_of_text, make_companion};
+pub use making::{companion_of_read, companion_of_text, make_companion};
 pub use not_made::NotMade;

@@ -11,7 +11,7 @@ use crate::NotMade;
 use crate::plain::plain_text;
 use cfs_model::{MOST_PROCESSORS, Memory};
 use companion_file::{CompanionFault, read_companion_wide};
-use companion_guess::{Known, Made, Wishes, guessed, kernel_values};
+use companion_guess::{KernelValues, Made, Wishes, guessed};
 use pid_table::PidHasher;
 use sched_record::{Trace, join, one_trace_answer, outside_line, read_trace_wide};
 use std::alloc::Global;
@@ -42,8 +42,28 @@ pub fn companion_of_text(
 {
     one_trace_answer();
     let trace = read_trace_wide(rt, alloc, text)?;
-    let known = kernel_values(rt, alloc, text, debug, trace.events(), wishes)?;
-    companion_of_trace(rt, alloc, trace, known, wishes, hasher)
+    companion_of_read(rt, alloc, trace, text, debug, wishes, hasher)
+}
+
+/// The same for a trace that was read, with its text, whose prints are still to be read.
+pub fn companion_of_read(
+    rt: &(impl Threads + Sync),
+    alloc: Global,
+    trace: Trace,
+    text: &[u8],
+    debug: Option<&[u8]>,
+    wishes: &Wishes,
+    hasher: PidHasher,
+) -> Result<Made, NotMade>
+    // What is made is a companion, and joins with the trace.
+    ensures fits { IfOk result (λ made. ReadsAndJoins (trace_view trace) made.text.items) }
+    // It is made for every trace whose processors a companion can have, unless a growth is refused.
+    ensures made { All (IsInside most_processors) (trace_view trace) → IfErr result (λ why. why ≡ NotMade.Memory) }
+    // Else it is said why: the first event that touches a processor which no companion has.
+    ensures outside { IfErr result (IsNotMadeFor (trace_view trace)) }
+{
+    let values = KernelValues::of(rt, alloc, text, debug, wishes)?;
+    companion_of_trace(rt, alloc, trace, values, wishes, hasher)
 }
 
 /// A companion for a trace, from its events alone. Pids are hashed by these keys.
@@ -61,18 +81,18 @@ pub fn make_companion(
     // Else it is said why: the first event that touches a processor which no companion has.
     ensures outside { IfErr result (IsNotMadeFor (trace_view trace)) }
 {
-    let known = Known::nothing(alloc);
-    companion_of_trace(rt, alloc, trace, known, wishes, hasher)
+    let values = KernelValues::none(alloc);
+    companion_of_trace(rt, alloc, trace, values, wishes, hasher)
 }
 
-/// A companion for a trace of which this is known. What was found is read back and joined with the trace; where that
-/// should fail, the companion is the plain one, which goes together with every trace.
+/// A companion for a trace of which these values are known. What was found is read back and joined with the trace; where
+/// that should fail, the companion is the plain one, which goes together with every trace.
 #[tactic(auto, using(sched_record::proofs::OneRecord::none_outside))]
 fn companion_of_trace(
     rt: &(impl Threads + Sync),
     alloc: Global,
     trace: Trace,
-    known: Known,
+    values: KernelValues,
     wishes: &Wishes,
     hasher: PidHasher,
 ) -> Result<Made, NotMade>
@@ -88,7 +108,7 @@ fn companion_of_trace(
             line: u64::from(line),
         });
     }
-    let made = guessed(alloc, trace.events(), known, wishes, hasher)?;
+    let made = guessed(rt, alloc, trace.events(), values, wishes, hasher)?;
     if go_together(rt, alloc, trace, made.text.as_slice())? {
         Ok(made)
     } else {

@@ -1,3 +1,4 @@
+use crate::shapes::near_front;
 use bstr::ByteSlice;
 use text_parts::numerals::numeral_at;
 use text_parts::pieces::after_byte;
@@ -15,8 +16,9 @@ pub fn is_overwritten(front: &[u8]) -> bool {
 
 /// How many entries the buffer kept, and how many were written.
 fn entries(front: &[u8]) -> Option<(u64, u64)> {
-    let place = front.find(ENTRIES)?;
-    let text = front.get(place..)?.get(ENTRIES.len()..)?;
+    let near = near_front(front);
+    let place = near.find(ENTRIES)?;
+    let text = near.get(place..)?.get(ENTRIES.len()..)?;
     let (kept, rest) = numeral_at(text)?;
     let (written, _) = numeral_at(after_byte(rest, b'/')?)?;
     Some((kept, written))

@@ -10,6 +10,9 @@ struct Shape {
 /// What a companion begins with.
 const COMPANION: &[u8] = b"cfs-companion ";
 
+/// How many bytes of a text are its front.
+const NEAR: usize = 1 << 16;
+
 /// By what stands in front.
 static FRONTS: [Shape; 6] = [
     Shape {
@@ -62,6 +65,11 @@ pub fn trace_hint(front: &[u8], of_companion: &'static str) -> Option<&'static s
     }
 }
 
+/// A text, of which no more is looked at than its front.
+pub(crate) fn near_front(text: &[u8]) -> &[u8] {
+    text.get(..NEAR).unwrap_or(text)
+}
+
 /// What to do with a text that is neither of a trace's shape nor of a companion's, where its shape is known.
 fn shape_hint(front: &[u8]) -> Option<&'static str> {
     for shape in &FRONTS {
@@ -70,7 +78,7 @@ fn shape_hint(front: &[u8]) -> Option<&'static str> {
         }
     }
     for shape in &WITHIN {
-        if front.find(shape.mark).is_some() {
+        if near_front(front).find(shape.mark).is_some() {
             return Some(shape.hint);
         }
     }

@@ -8,7 +8,7 @@ ghost use Rattle.ticket_book.specs.declared.least_settings.LeastSettings.TheVari
 
 use crate::placing::{lessened, place_by};
 use crate::{LeastFigures, Place, Places};
-use audit_crew::{Gate, OpenGate, audit, crew};
+use audit_crew::{Gate, OpenGate, audit, least_settings};
 use cfs_model::{Knobs, Memory, Setting};
 use sched_record::Record;
 use std::alloc::Global;
@@ -27,9 +27,8 @@ pub fn least_figures<R: RandomSource + Threads + Wait + Sync, G: Gate>(
 ) -> Result<LeastFigures, Memory>
     ensures { IfOk result (IsLeastAnswer (record_view joined.now)) }
 {
-    let gathered = crew(rt, alloc, joined, Knobs::greatest(), gate)?;
-    let closed = gathered.book.close_least(joined)?;
-    figures_of(rt, alloc, joined, &closed.least)
+    let least = least_settings(rt, alloc, joined, gate)?;
+    figures_of(rt, alloc, joined, &least)
 }
 
 /// A record's least settings with their places.

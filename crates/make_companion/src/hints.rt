@@ -1,7 +1,7 @@
 //! What is likely a mistake, and what to do next: said on standard error.
 use crate::audit_command::AuditCommand;
 use cfs_model::{Amounts, GREATEST_SETTING, Knobs, Setting};
-use companion_guess::Guessed;
+use companion_guess::{Guessed, Strategy, tells_floors};
 use given_texts::{KernelHint, has_event, is_overwritten, trace_hint};
 
 /// What is said of a companion that is given as the trace.
@@ -22,13 +22,33 @@ pub(crate) fn say_of_stretches<R: Eprint>(rt: &R) {
     );
 }
 
-/// Says what to do with the companion that was written for a trace, and what is likely a mistake in that.
-pub(crate) fn say_of_companion<R: Eprint>(rt: &R, text: &[u8], guess: Option<Guessed>) {
+/// Says what to do with the companion that was written for a trace, and what is likely a mistake in that or in the text
+/// of `--debug`.
+pub(crate) fn say_of_companion<R: Eprint>(
+    rt: &R,
+    text: &[u8],
+    debug: Option<&[u8]>,
+    guess: Option<Guessed>,
+) {
     say_of_loss(rt, text);
     if !has_event(text) {
         let _ = eprintln!(rt; "hint: the trace has no event of the scheduler");
     } else if let Some(guess) = guess {
+        if let Some(debug) = debug {
+            say_of_debug(rt, debug, guess.strategy);
+        }
         say_of_guess(rt, guess);
+    }
+}
+
+/// Says where the text of `--debug` changed nothing.
+fn say_of_debug<R: Eprint>(rt: &R, debug: &[u8], strategy: Strategy) {
+    if strategy != Strategy::Kernel {
+        let _ = eprintln!(rt;
+            "hint: --debug changes nothing: the companion has none of the kernel's values, which lines of sched_stat_runtime tell"
+        );
+    } else if !tells_floors(debug) {
+        let _ = eprintln!(rt; "hint: the file of --debug tells no floor: it has no line of .min_vruntime");
     }
 }
 

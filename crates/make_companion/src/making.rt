@@ -84,7 +84,7 @@ fn write_companion<R: Print + Eprint + RandomSource + Threads + Sync + AllocGlob
             }
             match io::writer(rt).write_all(made.text.as_slice()) {
                 Ok(()) => {
-                    say_of_companion(rt, text, made.guess);
+                    say_of_companion(rt, text, debug, made.guess);
                     Ending::Told
                 }
                 Err(_) => Ending::Unwritten,

@@ -1,6 +1,6 @@
 -- Where the row of a pid is: at one index at most.
 use Rattle.std.proofs.Common.{◌≡◌, ◌≢◌, ℕ, ◌<◌, Bool, true, false, List, length, nat_eq, get_or, All, None}
-use Rattle.std.proofs.Common.{Some, cond, sym, ap, ◌∙◌, subst, arith, inl, inr, true≢false}
+use Rattle.std.proofs.Common.{Option, Some, cond, refl, sym, ap, ◌∙◌, subst, arith, inl, inr, true≢false}
 use Rattle.std.specs.List.{IsDistinct, position_or_len}
 use Rattle.std.proofs.lemmas.Bool.{cases_lt, eqb-true, eq-eqb, lt-ltb}
 use Rattle.std.proofs.lemmas.Bool.Decides.{Decides-eqb}
@@ -42,3 +42,14 @@ only_there pids apart i k d h w same =
         | inr here ↦ omega (arith, after, here)
       ]
     ]
+
+-- a pid that stands at an index has its row there
+pub index_there : (pids : List ℕ) → IsDistinct nat_eq pids → (pid index d : ℕ) → index < length pids
+    → get_or pids index d ≡ pid → index_in pids pid ≡ Some index
+index_there pids apart pid index d within here = go (index_in pids pid) refl
+  where
+    go : (found : Option ℕ) → index_in pids pid ≡ found → found ≡ Some index
+    go None none = absurd (pid_nowhere pids pid none index d within here)
+    go (Some k) is =
+        let there = position-Some (nat_eq pid) pids k d is in
+        ap Some (only_there pids apart k index d there.0 within (sym (eqb-true pid (get_or pids k d) there.1) ∙ sym here))

@@ -64,6 +64,20 @@ impl<V> PidTable<V> {
         self.map.get_index_of(&pid)
     }
 
+    /// The same, where the row is expected at an index: it is looked at before the pid is hashed.
+    #[tactic(auto, using(crate::proofs::Indices::index_there))]
+    pub fn index_near(&self, expected: usize, pid: u32) -> Option<usize>
+        ensures index { result ≡ index_in self.now.pids pid }
+        ensures within { IfSome result (λ index. index < length self.now.rows) }
+        ensures sound { AreSound self.now }
+    {
+        let pids = self.pids();
+        if expected < pids.len() && pids[expected] == pid {
+            return Some(expected);
+        }
+        self.index_of(pid)
+    }
+
     /// The row at an index, to be changed.
     pub fn row_mut(&mut self, index: usize) -> &mut V
         requires { index < length self.old.rows }

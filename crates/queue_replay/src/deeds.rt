@@ -22,11 +22,11 @@ macro_rules! moves {
     ($queue:ident: runner leaves by $way:ident) => {
         $queue.put_prev($way)?
     };
-    ($queue:ident: $task:ident of $pid:ident runs) => {
-        $queue.set_next($pid, $task)
+    ($queue:ident: $task:ident of $pid:ident in $row:ident runs) => {
+        $queue.set_next($pid, $task, $row)
     };
-    ($queue:ident: $task:ident of $pid:ident wakes at $claim:ident) => {
-        $queue.wake($pid, $task, $claim)?
+    ($queue:ident: $task:ident of $pid:ident in $row:ident wakes at $claim:ident) => {
+        $queue.wake($pid, $task, $claim, $row)?
     };
     ($queue:ident: $pid:ident is gone) => {
         $queue.remove($pid)
@@ -88,9 +88,10 @@ fn try_switch(
         (IsDeedTried knobs cpu (runqueue_view queue.old) step.now (runqueue_view queue.new)) }
     ensures same { HoldsUnmade result queue.old queue.new }
 {
-    let prev = queue.switch_task(switch.prev);
+    let prev = queue.switch_task(queue.runner_row(), switch.prev);
     let pid = switch.next;
-    let next = queue.switch_task(pid);
+    let row = queue.row_of(pid);
+    let next = queue.switch_task(row, pid);
     let way = switch.way;
     if let Some(failed) = first_switch_test(queue, switch, &prev, &next, step.claim) {
         return Ok(Outcome::Failed(failed));
@@ -101,7 +102,7 @@ fn try_switch(
         return Ok(Outcome::Failed(failed));
     }
     moves!(queue: runner leaves by way);
-    moves!(queue: next of pid runs);
+    moves!(queue: next of pid in row runs);
     Ok(Outcome::Made(MadeDeed { ticket: None, need }))
 }
 
@@ -117,7 +118,8 @@ fn try_wake(
         (IsDeedTried knobs cpu (runqueue_view queue.old) step.now (runqueue_view queue.new)) }
     ensures same { HoldsUnmade result queue.old queue.new }
 {
-    let task = queue.task_at(pid);
+    let row = queue.row_of(pid);
+    let task = queue.task_near(row, pid);
     if let Some(failed) = first_wake_test(queue, pid, nice, &task, step.claim, knobs) {
         return Ok(Outcome::Failed(failed));
     }
@@ -128,7 +130,7 @@ fn try_wake(
         }));
     };
     let need = excess(queue.floor(), claim.v);
-    moves!(queue: task of pid wakes at claim);
+    moves!(queue: task of pid in row wakes at claim);
     Ok(Outcome::Made(MadeDeed { ticket: None, need }))
 }
 

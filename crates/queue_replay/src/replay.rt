@@ -82,8 +82,7 @@ impl Replay {
     }
 
     /// Makes steps while some are left, none has failed and fewer than so many were made in this call; where then
-    /// none is left, the end test. Where memory is wanted the replay stands before the step that met it, and may go
-    /// on.
+    /// none is left, the end test. A step that wants memory isn't made; a later call begins with it.
     pub fn go_on(&mut self, steps: u64) -> Result<State, Memory>
         ensures stream { self.new.stream ≡ self.old.stream }
         ensures knobs { self.new.knobs ≡ self.old.knobs }

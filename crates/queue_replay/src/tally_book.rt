@@ -80,30 +80,17 @@ impl TallyBook {
         ensures none { result ≡ None → All (λ tally. tally.pid ≢ pid) self.now.table.rows }
         ensures apart { AreApart self.now.table.rows }
     {
-        self.table.index_of(pid)
+        self.index_near(usize::MAX, pid)
     }
 
-    /// The same, where the tally is expected at an index: it is looked at before the table is asked.
-    fn index_from(&self, expected: usize, pid: u32) -> Option<usize>
+    /// The same, where the tally is expected at an index.
+    fn index_near(&self, expected: usize, pid: u32) -> Option<usize>
         ensures found { (index : ℕ) → result ≡ Some index → (index < length self.now.table.rows)
             × ((d : TallyOf) → (get_or self.now.table.rows index d).pid ≡ pid) }
         ensures none { result ≡ None → All (λ tally. tally.pid ≢ pid) self.now.table.rows }
         ensures apart { AreApart self.now.table.rows }
     {
-        if self.is_at(expected, pid) {
-            return Some(expected);
-        }
-        self.index_of(pid)
-    }
-
-    /// Whether the tally at this index is that of the pid.
-    fn is_at(&self, index: usize, pid: u32) -> bool
-        ensures here { result ≡ true → (index < length self.now.table.rows)
-            × ((d : TallyOf) → (get_or self.now.table.rows index d).pid ≡ pid) }
-        ensures apart { AreApart self.now.table.rows }
-    {
-        let tallies = self.table.rows();
-        index < tallies.len() && tallies[index].pid == pid
+        self.table.index_near(expected, pid)
     }
 
     /// Lets the pid have a tally. Takes no memory.
@@ -126,7 +113,7 @@ impl TallyBook {
             ≡ map (ran_tally stretch.pid stretch.time stretch.cost) self.old.table.rows }
         ensures room { self.new.table.room ≡ self.old.table.room }
     {
-        if let Some(index) = self.index_from(expected, stretch.pid) {
+        if let Some(index) = self.index_near(expected, stretch.pid) {
             add_run(self.table.row_mut(index), stretch);
         }
     }
@@ -138,7 +125,7 @@ impl TallyBook {
         requires within { All (λ tally. tally.picks ≤ steps) self.old.table.rows }
         ensures { self.new.table.rows ≡ map (picked_tally pid) self.old.table.rows }
     {
-        if let Some(index) = self.index_from(expected, pid) {
+        if let Some(index) = self.index_near(expected, pid) {
             pick(self.table.row_mut(index), pid);
         }
     }

@@ -9,14 +9,12 @@ use Rattle.sched_record.specs.Join.{IsFirstOutside}
 use Rattle.sched_record.specs.Record.{RecordView}
 use Rattle.sched_record.specs.Trace.{TraceAnswer}
 use Rattle.replay_model.specs.declared.first_fault.FirstFault.{FirstFault}
+use Rattle.ticket_book.specs.LeastAnswer.{IsLeastAnswer}
 use Rattle.ticket_book.specs.SaidEvents.{events_of}
 use Rattle.ticket_book.specs.Verdict.{IsVerdict}
+use Rattle.ticket_book.specs.declared.least_settings.LeastSettings.TheVariants as leasts
 use Rattle.ticket_book.specs.declared.verdict.Verdict.TheVariants as verdicts
 use Rattle.audit_input.specs.Texts.{IsRecordOf, TellsCharges}
-use Rattle.sched_audit.specs.Answer.{IsAnswer}
-use Rattle.least_places.specs.LeastAnswer.{IsLeastAnswer}
-use Rattle.least_places.specs.declared.figures.LeastFigures.TheVariants as leasts
-use Rattle.least_places.specs.declared.places.Places.{Places}
 use Rattle.recording_audit.specs.declared.cut_cause.CutCause.{CutCause}
 use Rattle.recording_audit.specs.declared.cut_cause.CutCause.TheVariants as causes
 use Rattle.recording_audit.specs.declared.part.Stretch.{Stretch}
@@ -26,24 +24,23 @@ use Rattle.recording_audit.specs.declared.span.Span.{Span}
 use Rattle.recording_audit.specs.declared.judging.Judged.{Judged}
 use Rattle.recording_audit.specs.declared.judging.Judged.TheVariants as judgements
 
--- these are the least settings at which a text is a run by its companion
-abbrev pub IsLeastOf : List ℕ → List ℕ → KnobsView → Places → Type 0
-IsLeastOf text companion least places = IsAnswer IsLeastAnswer text companion (Ok (leasts.Found least places))
+-- these are the least settings at which a record is a run
+abbrev pub IsLeastOf : RecordView → KnobsView → Type 0
+IsLeastOf r least = IsLeastAnswer r (leasts.Found least)
 
 -- this is wrong first in a text at all settings, by its companion
 abbrev pub IsFaultOf : List ℕ → List ℕ → FirstFault → Type 0
-IsFaultOf text companion fault = IsAnswer IsLeastAnswer text companion (Ok (leasts.Fault fault))
+IsFaultOf text companion fault =
+    (r : RecordView) × IsRecordOf text companion r × IsLeastAnswer r (leasts.Fault fault)
 
--- a text is a run by its companion at the limits
-abbrev pub IsWithin : List ℕ → List ℕ → KnobsView → Type 0
-IsWithin text companion limits =
-    (r : RecordView) × IsRecordOf text companion r
-    × IsRun limits r.start (start_machine r.start r.floors r.tasks) (events_of r)
+-- a record is a run at the limits
+abbrev pub IsWithin : RecordView → KnobsView → Type 0
+IsWithin r limits = IsRun limits r.start (start_machine r.start r.floors r.tasks) (events_of r)
 
--- what is wrong first at the limits: the verdict's fault there, or none, and the text is a run there
-abbrev pub IsOver : List ℕ → List ℕ → KnobsView → Option FirstFault → Type 0
-IsOver text companion limits None = IsWithin text companion limits
-IsOver text companion limits (Some fault) = IsAnswer (IsVerdict limits) text companion (Ok (verdicts.Fault fault))
+-- what is wrong first at the limits: the verdict's fault there, or none, and the record is a run there
+abbrev pub IsOver : RecordView → KnobsView → Option FirstFault → Type 0
+IsOver r limits None = IsWithin r limits
+IsOver r limits (Some fault) = IsVerdict limits r (verdicts.Fault fault)
 
 -- the times of the first of these events, and of the last
 pub record AreTimesOf (events : List Entry) (begins ends : ℕ) : Type 0 where
@@ -63,10 +60,11 @@ pub record IsStretch (limits : KnobsView) (text : List ℕ) (stretch : Stretch) 
   pub means : TraceAnswer text (Ok events)
   pub counted : stretch.events ≡ length events
   pub times : AreTimesOf events stretch.begins stretch.ends
-  pub places : Places
-  pub least : IsLeastOf text stretch.companion.items stretch.least places
+  pub joined : RecordView
+  pub is_record : IsRecordOf text stretch.companion.items joined
+  pub least : IsLeastOf joined stretch.least
   pub tells : TellsCharges stretch.companion.items stretch.tells_charges
-  pub over : IsOver text stretch.companion.items limits stretch.over
+  pub over : IsOver joined limits stretch.over
 
 -- the events of a text are so many, and were then
 pub record IsSpanOf (text : List ℕ) (span : Span) : Type 0 where

@@ -55,10 +55,11 @@ pub fn audit_recording<'a, R: RandomSource + Threads + Wait + Sync, W: Watch>(
             next,
         } = piece;
         let lines = line_count(front);
+        // By what was found, before a stretch is called too short.
+        reach = reach_behind(&told, next);
         let told = long_enough(told, asked.least_events);
         begins = begins && matches!(told, Told::Quiet);
         watch.pass(front.len() as u64);
-        reach = reach_behind(&told, next);
         let part = Part {
             first: number,
             last: number + lines - 1,

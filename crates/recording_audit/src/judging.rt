@@ -10,16 +10,17 @@ use crate::part::Stretch;
 use crate::span::Span;
 use crate::splitting::end_of_lines;
 use crate::watch::Watch;
-use audit_input::tells_charges;
+use audit_crew::{OpenGate, least_settings};
+use audit_input::{Refused, record_of, tells_charges};
 use cfs_model::Memory;
-use companion_maker::{NotMade, companion_of_text};
+use companion_maker::{NotMade, companion_of_read};
 use pid_table::PidHasher;
-use sched_audit::{LeastFigures, OpenGate, Refused, least_texts};
-use sched_record::{Trace, TraceFault, read_trace};
+use sched_record::{Trace, TraceFault, read_trace, read_trace_wide};
 use std::alloc::Global;
 use std::random::RandomSource;
 use std::sync::Wait;
 use std::thread::Threads;
+use ticket_book::LeastSettings;
 
 /// What a text came to.
 #[derive(Debug, Drop)]
@@ -86,12 +87,11 @@ fn judge_trace<R: RandomSource + Threads + Wait + Sync>(
     ensures { IfOk result (IsJudgement asked.now.limits text.now) }
 {
     let span = Span::of(trace.events());
-    drop(trace);
     if span.events == 0 {
         return Ok(Judged::Quiet);
     }
     let hasher = PidHasher::random(rt);
-    match companion_of_text(rt, alloc, text, asked.debug, &asked.wishes, hasher) {
+    match companion_of_read(rt, alloc, trace, text, asked.debug, &asked.wishes, hasher) {
         Ok(made) => judge_made(rt, alloc, text, made.text, span, asked),
         Err(NotMade::Trace { line, cause }) => Ok(Judged::Bad {
             line,
@@ -117,30 +117,35 @@ fn judge_made<R: RandomSource + Threads + Wait + Sync>(
     requires { IsSpanOf text.now span }
     ensures { IfOk result (IsJudgement asked.now.limits text.now) }
 {
-    let tells_charges = tells_charges(companion.as_slice());
-    let answer = least_texts(rt, alloc, text, companion.as_slice(), &OpenGate);
-    match &answer {
-        Ok(LeastFigures::Found { knobs: least, .. }) => {
-            let over = fault_over(rt, alloc, text, companion.as_slice(), *least, asked.limits)?;
+    let trace = read_trace_wide(rt, alloc, text);
+    let joined = match record_of(rt, alloc, trace, companion.as_slice()) {
+        Ok(joined) => joined,
+        // The companion was read back, and joins: this doesn't come.
+        Err(Refused::Text { line, .. }) => {
+            return Ok(Judged::Bad {
+                line,
+                why: CutCause::Unsettled,
+            });
+        }
+        Err(Refused::Memory) => return Err(Memory),
+    };
+    match least_settings(rt, alloc, &joined, &OpenGate)? {
+        LeastSettings::Found(least) => {
+            let over = fault_over(rt, alloc, &joined, least, asked.limits)?;
+            let tells_charges = tells_charges(companion.as_slice());
             Ok(Judged::Run(Stretch {
                 companion,
                 events: span.events,
                 begins: span.begins,
                 ends: span.ends,
-                least: *least,
+                least,
                 tells_charges,
                 over,
             }))
         }
-        Ok(LeastFigures::Fault(fault)) => Ok(Judged::Bad {
+        LeastSettings::Fault(fault) => Ok(Judged::Bad {
             line: u64::from(fault.line),
-            why: CutCause::Fault(*fault),
+            why: CutCause::Fault(fault),
         }),
-        // The companion was read back, and joins: this doesn't come.
-        Err(Refused::Text { line, .. }) => Ok(Judged::Bad {
-            line: *line,
-            why: CutCause::Unsettled,
-        }),
-        Err(Refused::Memory) => Err(Memory),
     }
 }

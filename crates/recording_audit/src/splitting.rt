@@ -37,18 +37,16 @@ fn all_of(text: &[u8]) -> (&[u8], &[u8])
     text.split_at(text.len())
 }
 
-/// How many bytes so many lines take; all where there are no more lines.
+/// How many bytes so many lines take; all where there are no more lines. One line is taken at least.
 pub(crate) fn end_of_lines(text: &[u8], count: u64) -> usize {
+    let mut rest = text;
     let mut left = count.max(1);
-    for (place, byte) in text.iter().enumerate() {
-        if *byte == b'\n' {
-            left = left.saturating_sub(1);
-            if left == 0 {
-                return place.saturating_add(1);
-            }
-        }
+    while left > 0 && !rest.is_empty() {
+        let (_line, after) = next_line(rest);
+        rest = after;
+        left = left.saturating_sub(1);
     }
-    text.len()
+    text.len().saturating_sub(rest.len())
 }
 
 /// How many lines a text has.

@@ -121,8 +121,8 @@ impl Runqueue {
         self.runner = None;
     }
 
-    /// The next task of a switch runs, as it stands here.
-    pub fn set_next(&mut self, next: u32, task: Option<SchedEntity>)
+    /// The next task of a switch runs, as it stands here. Its row is expected at an index.
+    pub fn set_next(&mut self, next: u32, task: Option<SchedEntity>, expected: usize)
         requires nobody { NobodyIn (runqueue_view self.old) Run }
         requires task { IsSwitchTask (runqueue_view self.old) next task }
         ensures { runqueue_view self.new ≡ part_after_next (runqueue_view self.old) next }
@@ -131,7 +131,7 @@ impl Runqueue {
             return;
         }
         if let Some(task) = task {
-            let Some(row) = self.tasks.index_of(next) else {
+            let Some(row) = self.tasks.index_near(expected, next) else {
                 unreachable!();
             };
             let waited = WaitingTask {
@@ -157,9 +157,15 @@ impl Runqueue {
         }
     }
 
-    /// The task of this pid, as it stands here, waits at the claimed virtual runtime, if it rests. Where memory is
-    /// wanted nothing changes.
-    pub fn wake(&mut self, pid: u32, task: Option<SchedEntity>, claim: Claim) -> Result<(), Memory>
+    /// The task of this pid, as it stands here, waits at the claimed virtual runtime, if it rests. Its row is expected at
+    /// an index. Where memory is wanted nothing changes.
+    pub fn wake(
+        &mut self,
+        pid: u32,
+        task: Option<SchedEntity>,
+        claim: Claim,
+        expected: usize,
+    ) -> Result<(), Memory>
         requires { IsTaskAt (runqueue_view self.old) pid task }
         ensures part { OnOk result (runqueue_view self.new ≡ wakes (runqueue_view self.old) pid (Some claim)) }
         ensures same { OnErr result (HoldsSame self.old self.new) }
@@ -175,7 +181,7 @@ impl Runqueue {
                 woken.pid = pid;
                 woken.place = Place::Wait;
                 woken.v = claim.v;
-                write_over(&mut self.tasks, pid, woken);
+                write_over(&mut self.tasks, expected, pid, woken);
                 Ok(())
             }
         }

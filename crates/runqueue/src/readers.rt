@@ -13,6 +13,9 @@ use crate::waiting_task::WaitingTask;
 use cfs_model::{IDLE_PID, Way};
 use std::collections::BTreeSet;
 
+/// Where the row of a pid is expected that isn't known to have one.
+const NO_ROW: usize = usize::MAX;
+
 impl Runqueue {
     /// Who runs, if somebody does.
     pub fn runner(&self) -> Option<SchedEntity>
@@ -82,8 +85,24 @@ impl Runqueue {
         self.mark
     }
 
+    /// Where the row of a pid is, by the order in which the pids first stood here; where it has none, an index that no
+    /// row has. Whoever is given it looks whether the row is there, so nothing rests on it.
+    pub fn row_of(&self, pid: u32) -> usize {
+        if pid == IDLE_PID {
+            return NO_ROW;
+        }
+        self.tasks.index_of(pid).unwrap_or(NO_ROW)
+    }
+
     /// The task of this pid, if it stands here.
     pub fn task_at(&self, pid: u32) -> Option<SchedEntity>
+        ensures { IsTaskAt (runqueue_view self.now) pid result }
+    {
+        self.task_near(NO_ROW, pid)
+    }
+
+    /// The same, where its row is expected at an index.
+    pub fn task_near(&self, expected: usize, pid: u32) -> Option<SchedEntity>
         ensures { IsTaskAt (runqueue_view self.now) pid result }
     {
         match self.runner {
@@ -91,21 +110,21 @@ impl Runqueue {
                 if task.pid == pid {
                     Some(task)
                 } else {
-                    listed(&self.tasks, pid)
+                    listed(&self.tasks, expected, pid)
                 }
             }
-            None => listed(&self.tasks, pid),
+            None => listed(&self.tasks, expected, pid),
         }
     }
 
-    /// The task of a pid that a switch names, if it stands here; none of pid 0.
-    pub fn switch_task(&self, pid: u32) -> Option<SchedEntity>
+    /// The task of a pid that a switch names, if it stands here; none of pid 0. Its row is expected at an index.
+    pub fn switch_task(&self, expected: usize, pid: u32) -> Option<SchedEntity>
         ensures { IsSwitchTask (runqueue_view self.now) pid result }
     {
         if pid == IDLE_PID {
             None
         } else {
-            self.task_at(pid)
+            self.task_near(expected, pid)
         }
     }
 }

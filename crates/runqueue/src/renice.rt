@@ -21,10 +21,11 @@ impl Runqueue {
         ensures strange { result ≡ None → (runqueue_view self.old).tasks pid ≡ None }
         ensures stands { result ≢ None → (runqueue_view self.old).tasks pid ≢ None }
     {
-        let mut task = listed(&self.tasks, pid)?;
+        let row = self.row_of(pid);
+        let mut task = listed(&self.tasks, row, pid)?;
         let before = task.nice;
         task.nice = nice;
-        write_over(&mut self.tasks, pid, task);
+        write_over(&mut self.tasks, row, pid, task);
         self.runner = reniced_runner(self.runner, pid, nice);
         Some(before)
     }

@@ -8,11 +8,11 @@ use pid_table::PidTable;
 /// The tasks of a processor in rows by pid. A row stays when its task goes.
 pub(crate) type TaskRows = PidTable<Option<SchedEntity>>;
 
-/// The task that the rows have of a pid.
-pub(crate) fn listed(tasks: &TaskRows, pid: u32) -> Option<SchedEntity>
+/// The task that the rows have of a pid, whose row is expected at an index.
+pub(crate) fn listed(tasks: &TaskRows, expected: usize, pid: u32) -> Option<SchedEntity>
     ensures { result ≡ task_in tasks.now pid }
 {
-    match tasks.index_of(pid) {
+    match tasks.index_near(expected, pid) {
         Some(row) => tasks.rows()[row],
         None => None,
     }
@@ -28,13 +28,13 @@ pub(crate) fn write_row(tasks: &mut TaskRows, row: usize, task: Option<SchedEnti
     *tasks.row_mut(row) = task;
 }
 
-/// Writes over the task that the rows have of a pid.
-pub(crate) fn write_over(tasks: &mut TaskRows, pid: u32, task: SchedEntity)
+/// Writes over the task that the rows have of a pid, whose row is expected at an index.
+pub(crate) fn write_over(tasks: &mut TaskRows, expected: usize, pid: u32, task: SchedEntity)
     requires { IsSome (task_in tasks.old pid) }
     ensures written { Writes tasks.old tasks.new pid (Some task) }
     ensures pids { tasks.new.pids ≡ tasks.old.pids }
 {
-    match tasks.index_of(pid) {
+    match tasks.index_near(expected, pid) {
         Some(row) => write_row(tasks, row, Some(task)),
         None => unreachable!(),
     }

@@ -1,19 +1,19 @@
 -- A set of pids that takes one in or out, as a function of pids: as the roll puts one.
-use Rattle.std.proofs.Common.{◌≡◌, ◌≢◌, ℕ, zero, suc, ℤ, nat_eq, Bool, true, false, cond, Option, Some, None, is_some}
+use Rattle.std.proofs.Common.{◌≡◌, ◌≢◌, ℕ, zero, suc, nat_eq, Bool, true, false, cond, Option, Some, None, is_some}
 use Rattle.std.proofs.Common.{inl, inr, List, [], ◌∷◌, ◌++◌, refl, sym, ap, ◌∙◌, arith}
 use Rattle.std.specs.Option.{option_or}
 use Rattle.std.specs.Ordering.{nat_cmp, is_eq}
 use Rattle.std.proofs.lemmas.Bool.{eq-eqb, ne_eqb}
 use Rattle.std.proofs.lemmas.Bool.Decides.{nat_tests}
 use Rattle.std.proofs.lemmas.List.Folds.{find-append}
+use Rattle.cfs_model.specs.Lives.{begun_by, ended_by}
 use Rattle.cfs_model.specs.Machine.{put}
 use Rattle.cfs_model.specs.Start.{task_of}
 use Rattle.cfs_model.proofs.Moves.{put-same, put-other, same_or_not}
 use Rattle.replay_model.specs.Roll.{named, roll_after}
 use Rattle.cfs_model.specs.declared.act.Act.{Act}
-use Rattle.cfs_model.specs.declared.act.Act.TheVariants.{Switch}
-use Rattle.cfs_model.specs.declared.act.Way.{Way}
-use Rattle.cfs_model.specs.declared.act.Way.TheVariants.{Ends}
+use Rattle.cfs_model.specs.declared.act.Act.TheVariants.{Born, Shift, Switch, Wake}
+use Rattle.cfs_model.specs.declared.act.Way.TheVariants.{Ends, Sleeps, Stays}
 use Rattle.cfs_model.specs.declared.task.Task.{Task}
 
 is_eq_same : (k : ℕ) → is_eq (nat_cmp k k) ≡ true
@@ -63,14 +63,31 @@ pub one_named : (tasks : List Task) (t : Task) (before after : ℕ → Bool) →
 one_named tasks t before after h k q =
     one_put before after t.pid true k q ∙ put_along before (named tasks) t.pid true h q ∙ sym (named_more tasks t q)
 
--- a switch away from a task that ends takes its pid out
-pub roll_ends : (alive : ℕ → Bool) (act : Act) (cpu prev : ℕ) (pn : ℤ) (way : Way) (next : ℕ) (nn : ℤ)
-    → act ≡ Switch cpu prev pn way next nn → way ≡ Ends → prev ≢ 0
-    → (q : ℕ) → put alive prev false q ≡ roll_after alive act q
-roll_ends alive act cpu prev pn way next nn is ends ne q = go prev ne
-    ∙ ap (λ w. roll_after alive (Switch cpu prev pn w next nn) q) (sym ends)
-    ∙ ap (λ a. roll_after alive a q) (sym is)
-  where
-    go : (prev : ℕ) → prev ≢ 0 → put alive prev false q ≡ roll_after alive (Switch cpu prev pn Ends next nn) q
-    go zero h = absurd (h refl)
-    go (suc n) h = refl
+-- the roll with a pid taken in or out, where there is one
+abbrev pub put_any : (ℕ → Bool) → Option ℕ → Bool → ℕ → Bool
+put_any alive None b = alive
+put_any alive (Some pid) b = put alive pid b
+
+put_any_along : (f g : ℕ → Bool) (o : Option ℕ) (b : Bool) → ((q : ℕ) → f q ≡ g q) → (q : ℕ)
+    → put_any f o b q ≡ put_any g o b q
+put_any_along f g None b h q = h q
+put_any_along f g (Some pid) b h q = put_along f g pid b h q
+
+-- an event takes in who begins with it, and out who ends
+by_lives : (alive : ℕ → Bool) (act : Act) (q : ℕ)
+    → put_any (put_any alive (begun_by act) true) (ended_by act) false q ≡ roll_after alive act q
+by_lives alive (Switch cpu zero pn way next nn) q = refl
+by_lives alive (Switch cpu (suc n) pn Stays next nn) q = refl
+by_lives alive (Switch cpu (suc n) pn Sleeps next nn) q = refl
+by_lives alive (Switch cpu (suc n) pn Ends next nn) q = refl
+by_lives alive (Wake cpu pid nice) q = refl
+by_lives alive (Born cpu pid nice) q = refl
+by_lives alive (Shift orig dest pid nice) q = refl
+
+-- so a set that does so is the roll behind the event
+pub roll_by_lives : (alive between after : ℕ → Bool) (act : Act)
+    → ((q : ℕ) → between q ≡ put_any alive (begun_by act) true q)
+    → ((q : ℕ) → after q ≡ put_any between (ended_by act) false q) → (q : ℕ) → after q ≡ roll_after alive act q
+roll_by_lives alive between after act begun ended q =
+    ended q ∙ put_any_along between (put_any alive (begun_by act) true) (ended_by act) false begun q
+    ∙ by_lives alive act q

@@ -2,7 +2,7 @@ ghost use Rattle.std.specs.Prelude.{◌≡◌, ℕ, IfOk, OnOk};
 ghost use Rattle.replay_model.specs.Roll.{named, roll_after};
 ghost use Rattle.ticket_book.specs.Alive.{alive_view};
 
-use cfs_model::{Act, Memory, Task};
+use cfs_model::{Entry, Memory, Task};
 use std::alloc::Global;
 use std::collections::BTreeSet;
 
@@ -33,13 +33,14 @@ impl Alive {
     }
 
     /// A birth begins a pid, and a switch away from a task that ends ends it.
-    pub(crate) fn pass(&mut self, act: Act) -> Result<(), Memory>
-        ensures { OnOk result ((pid : ℕ) → alive_view self.new pid ≡ roll_after (alive_view self.old) act pid) }
+    pub(crate) fn pass(&mut self, event: &Entry) -> Result<(), Memory>
+        ensures { OnOk result ((pid : ℕ) → alive_view self.new pid
+            ≡ roll_after (alive_view self.old) event.now.act pid) }
     {
-        if let Some(pid) = act.begun() {
+        if let Some(pid) = event.act.begun() {
             self.pids.insert(pid)?;
         }
-        if let Some(pid) = act.ended() {
+        if let Some(pid) = event.act.ended() {
             self.pids.remove(&pid);
         }
         Ok(())

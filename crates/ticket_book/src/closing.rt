@@ -88,7 +88,7 @@ pub(crate) fn told_from<P: Paged>(
         if let Some(fault) = walk.fault(pages, alive, event) {
             return Ok(Some(fault));
         }
-        alive.pass(event.act)?;
+        alive.pass(event)?;
     }
     Ok(None)
 }

@@ -1,5 +1,4 @@
--- A replay goes the same way whatever lists stand before its page's: no test looks at them, and a step adds to their
--- ends.
+-- What a page's lists hold already changes no step that follows: no test looks at them, and a step adds to their ends.
 use Rattle.std.proofs.Common.{◌≡◌, ℕ, Option, Some, None, inl, inr, List, [], ◌∷◌, ◌++◌, append_assoc, sym, ap, ◌∙◌}
 use Rattle.std.proofs.Common.{subst}
 use Rattle.std.proofs.lemmas.List.{append-nil}

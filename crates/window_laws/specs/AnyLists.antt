@@ -1,4 +1,4 @@
--- A replay goes the same way whatever lists stand before its page's (this project's profile).
+-- What a page's lists hold already changes no step that follows (this project's profile).
 use Rattle.std.specs.Prelude.{ℕ, List}
 use Rattle.cfs_model.specs.Knobs.{KnobsView}
 use Rattle.replay_model.specs.Noted.{PageView}

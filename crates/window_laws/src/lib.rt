@@ -10,7 +10,7 @@ ghost use Rattle.window_laws.specs.NeedsOfParts.{NeedsInParts};
 ghost use Rattle.window_laws.specs.WindowEnds.{SoFarIsRun, SoFarTellsSummary};
 ghost use Rattle.window_laws.specs.Windows.{FaultStays, WindowPasses, WindowTellsFault};
 
-/// A replay goes the same way whatever lists stand before its page's, so the pages of a window begin without any.
+/// What a page's lists hold already changes no step that follows, so the pages of a window begin with empty ones.
 ///
 /// Carried by Behind.
 pub fn any_lists()

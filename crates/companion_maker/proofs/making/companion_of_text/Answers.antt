@@ -18,9 +18,9 @@ returns-clause-made g c =
     let same = same_events (trace_view c.in_ok-trace.trace) events
     (c.in_ok-trace.ensures.only (Ok events) answer) in
     let All-inside : List Entry → Type 0 = λ list. All (IsInside most_processors) list in
-    c.companion_of_trace.ensures.made (subst All-inside (sym same) inside)
+    c.companion_of_read.ensures.made (subst All-inside (sym same) inside)
 
 pub returns-clause-fits : goal.returns-clause-fits
 returns-clause-fits g c =
-    fits_text (trace_view c.in_ok-trace.trace) c.args.text.now c.companion_of_trace.result
-    c.in_ok-trace.ensures.answered c.companion_of_trace.ensures.fits
+    fits_text (trace_view c.in_ok-trace.trace) c.args.text.now c.companion_of_read.result
+    c.in_ok-trace.ensures.answered c.companion_of_read.ensures.fits

@@ -4,4 +4,4 @@ use Rattle.runqueue.proofs.task_rows.write_over.Goals as goal
 
 pub unreachable-requires : goal.unreachable-requires
 unreachable-requires c =
-    has_row c.args.tasks.now c.args.pid c.requires (sym c.index_of.ensures.index ∙ c.in-None.is)
+    has_row c.args.tasks.now c.args.pid c.requires (sym c.index_near.ensures.index ∙ c.in-None.is)

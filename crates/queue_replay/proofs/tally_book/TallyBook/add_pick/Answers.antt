@@ -9,9 +9,9 @@ invariant_of-self c =
     let book = c.args.self.now in
     let index = c.in-Some.index in
     let before = c.row_mut.result.now in
-    let f = c.index_from.ensures.found index c.in-Some.is in
+    let f = c.index_near.ensures.found index c.in-Some.is in
     record {
-      own = picked_own book.table book.own c.index_from.ensures.apart c.args.pid index before c.pick.new.tally f.0
+      own = picked_own book.table book.own c.index_near.ensures.apart c.args.pid index before c.pick.new.tally f.0
           (f.1 before)
           (c.pick.ensures ∙ ap (picked_tally c.args.pid)
           (sym (get_or_from_slice_get book.table.rows index before before c.row_mut.ensures.value)));
@@ -22,11 +22,11 @@ returns-in-Some c =
     let book = c.args.self.now in
     let index = c.in-Some.index in
     let before = c.row_mut.result.now in
-    let f = c.index_from.ensures.found index c.in-Some.is in
-    picked_there book.table book.own c.index_from.ensures.apart c.args.pid index before c.pick.new.tally f.0
+    let f = c.index_near.ensures.found index c.in-Some.is in
+    picked_there book.table book.own c.index_near.ensures.apart c.args.pid index before c.pick.new.tally f.0
     (f.1 before)
     (c.pick.ensures ∙ ap (picked_tally c.args.pid)
     (sym (get_or_from_slice_get book.table.rows index before before c.row_mut.ensures.value)))
 
 pub returns-in_default : goal.returns-in_default
-returns-in_default c = picked_nowhere c.args.self.now.table.rows c.args.pid (c.index_from.ensures.none c.in_default.is)
+returns-in_default c = picked_nowhere c.args.self.now.table.rows c.args.pid (c.index_near.ensures.none c.in_default.is)

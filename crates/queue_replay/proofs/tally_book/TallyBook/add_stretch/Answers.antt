@@ -9,9 +9,9 @@ invariant_of-self c =
     let book = c.args.self.now in
     let index = c.in-Some.index in
     let before = c.row_mut.result.now in
-    let f = c.index_from.ensures.found index c.in-Some.is in
+    let f = c.index_near.ensures.found index c.in-Some.is in
     record {
-      own = ran_own book.table book.own c.index_from.ensures.apart c.args.stretch.pid c.args.stretch.time
+      own = ran_own book.table book.own c.index_near.ensures.apart c.args.stretch.pid c.args.stretch.time
           c.args.stretch.cost index
           before c.add_run.new.tally f.0 (f.1 before)
           (c.add_run.ensures ∙ ap (ran_tally c.args.stretch.pid c.args.stretch.time c.args.stretch.cost)
@@ -23,8 +23,8 @@ returns-in-Some-clause-tallies c =
     let book = c.args.self.now in
     let index = c.in-Some.index in
     let before = c.row_mut.result.now in
-    let f = c.index_from.ensures.found index c.in-Some.is in
-    ran_there book.table book.own c.index_from.ensures.apart c.args.stretch.pid c.args.stretch.time c.args.stretch.cost
+    let f = c.index_near.ensures.found index c.in-Some.is in
+    ran_there book.table book.own c.index_near.ensures.apart c.args.stretch.pid c.args.stretch.time c.args.stretch.cost
     index
     before c.add_run.new.tally f.0 (f.1 before)
     (c.add_run.ensures ∙ ap (ran_tally c.args.stretch.pid c.args.stretch.time c.args.stretch.cost)
@@ -33,4 +33,4 @@ returns-in-Some-clause-tallies c =
 pub returns-in_default-clause-tallies : goal.returns-in_default-clause-tallies
 returns-in_default-clause-tallies c =
     ran_nowhere c.args.self.now.table.rows c.args.stretch.pid c.args.stretch.time c.args.stretch.cost
-    (c.index_from.ensures.none c.in_default.is)
+    (c.index_near.ensures.none c.in_default.is)

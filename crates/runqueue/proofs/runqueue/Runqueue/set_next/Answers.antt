@@ -21,7 +21,7 @@ unreachable-requires c =
     sym (ap (option_map entity_of) c.in-Some.is) ∙ c.requires.task c.if-next-eq-IDLE_PID.false
     ∙ ap (λ (r : Option SchedEntity). entities r q.tasks c.args.next) none in
     has_row q.tasks c.args.next (listed_has q.tasks c.args.next (entity_of t) (sym has))
-    (sym c.index_of.ensures.index ∙ c.in_default-index_of.is)
+    (sym c.index_near.ensures.index ∙ c.in_default-index_near.is)
 
 pub invariant_of-self : goal.invariant_of-self
 invariant_of-self c =
@@ -37,12 +37,12 @@ invariant_of-self c =
           (kept_runner q.runner q.tasks q.waiting None q.kept none) (sym has)
           (subst (λ (v : ℤ). set.Updates by_runtime q.waiting c.remove.new.self (waiting_task v c.args.next) false)
           whole c.remove.ensures.updates) refl;
-      in_row = runner_row_at _ q.tasks.pids c.in-Some-index_of.row
-          (sym c.index_of.ensures.index ∙ c.in-Some-index_of.is);
+      in_row = runner_row_at _ q.tasks.pids c.in-Some-index_near.row
+          (sym c.index_near.ensures.index ∙ c.in-Some-index_near.is);
     }
 
-pub returns-in-Some-index_of : goal.returns-in-Some-index_of
-returns-in-Some-index_of c =
+pub returns-in-Some-index_near : goal.returns-in-Some-index_near
+returns-in-Some-index_near c =
     let q = c.args.self.now in
     let none = no_runner q.runner q.tasks q.waiting q.floor q.mark q.kept c.requires.nobody in
     let t = c.in-Some.task in

@@ -1,25 +1,41 @@
-use Rattle.std.proofs.Common.{◌≡◌, true, false, sym, ap, ◌∙◌}
-use Rattle.replay_model.specs.Roll.{roll_after}
-use Rattle.cfs_model.specs.declared.act.Way.TheVariants.{Ends}
+use Rattle.std.proofs.Common.{true, false, sym, ap, ◌∙◌}
 use Rattle.ticket_book.specs.Alive.{alive_view}
-use Rattle.ticket_book.proofs.Living.{one_put, roll_ends}
+use Rattle.ticket_book.proofs.Living.{one_put, put_any, roll_by_lives}
 use Rattle.ticket_book.proofs.alive.Alive.pass.Goals as goal
-use Rattle.ticket_book.proofs.alive.Alive.pass.Goals.{in-Ends, in_default}
+use Rattle.ticket_book.proofs.alive.Alive.pass.Goals.{in-Some+in_ok-insert, in_default}
 
-pub returns-in_ok-insert-in-Born : goal.returns-in_ok-insert-in-Born
-returns-in_ok-insert-in-Born c = λ q.
-    one_put (alive_view c.args.self.now) (alive_view (record { pids = c.insert.new.self })) c.in-Born.pid true
-    (c.in_ok-insert-in-Born.ensures.updates.0) q
-    ∙ ap (λ act. roll_after (alive_view c.args.self.now) act q) (sym c.in-Born.is)
+pub returns-in-Some-ended : goal.returns-in-Some-ended
+returns-in-Some-ended c =
+    let old = alive_view c.args.self.now in
+    let act = c.args.event.now.act in
+    let between = alive_view c.match-begun.self in
+    roll_by_lives old between (alive_view (record { pids = c.remove.new.self })) act
+    (λ q. elim c.match-begun.branch [
+      | in-Some+in_ok-insert w ↦
+          ap (λ m. alive_view m q) w.self-is
+          ∙ one_put old (alive_view (record { pids = w.insert.new.self })) w.in-Some.pid true
+              (w.in_ok-insert.ensures.updates.0) q
+          ∙ ap (λ o. put_any old o true q) (sym w.in-Some.is ∙ c.begun.ensures)
+      | in_default w ↦ ap (λ m. alive_view m q) w.self-is
+          ∙ ap (λ o. put_any old o true q) (sym w.in_default.is ∙ c.begun.ensures)
+    ])
+    (λ q. one_put between (alive_view (record { pids = c.remove.new.self })) c.in-Some-ended.pid false
+        (c.remove.ensures.updates.0) q
+        ∙ ap (λ o. put_any between o false q) (sym c.in-Some-ended.is ∙ c.ended.ensures))
 
-pub returns-then-matches : goal.returns-then-matches
-returns-then-matches c = λ q.
-    let s = c.in-Switch in
-    let ends : s.way ≡ Ends = elim c.match-matches.branch [
-      | in-Ends w ↦ w.in-Ends.is
-      | in_default w ↦ (cc (w.matches-is, c.if-matches.true))
-    ] in
-    one_put (alive_view c.args.self.now) (alive_view (record { pids = c.remove.new.self })) s.prev false
-    c.remove.ensures.updates.0 q
-    ∙ roll_ends (alive_view c.args.self.now) c.args.act s.cpu s.prev s.prev_nice s.way s.next s.next_nice s.is ends
-    c.if-prev-ne0.true q
+pub returns-in_default-ended : goal.returns-in_default-ended
+returns-in_default-ended c =
+    let old = alive_view c.args.self.now in
+    let act = c.args.event.now.act in
+    let between = alive_view c.match-begun.self in
+    roll_by_lives old between between act
+    (λ q. elim c.match-begun.branch [
+      | in-Some+in_ok-insert w ↦
+          ap (λ m. alive_view m q) w.self-is
+          ∙ one_put old (alive_view (record { pids = w.insert.new.self })) w.in-Some.pid true
+              (w.in_ok-insert.ensures.updates.0) q
+          ∙ ap (λ o. put_any old o true q) (sym w.in-Some.is ∙ c.begun.ensures)
+      | in_default w ↦ ap (λ m. alive_view m q) w.self-is
+          ∙ ap (λ o. put_any old o true q) (sym w.in_default.is ∙ c.begun.ensures)
+    ])
+    (λ q. ap (λ o. put_any between o false q) (sym c.in_default-ended.is ∙ c.ended.ensures))

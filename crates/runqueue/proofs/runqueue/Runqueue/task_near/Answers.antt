@@ -1,7 +1,7 @@
 use Rattle.std.proofs.Common.{◌∙◌, ap, option_map}
 use Rattle.runqueue.specs.Tasks.{entity_of}
 use Rattle.runqueue.proofs.Moved.{stands_there, stands_apart, stands_alone}
-use Rattle.runqueue.proofs.runqueue.Runqueue.task_at.Goals as goal
+use Rattle.runqueue.proofs.runqueue.Runqueue.task_near.Goals as goal
 
 pub returns-then-task-pid : goal.returns-then-task-pid
 returns-then-task-pid c =

@@ -1,0 +1,89 @@
+use crate::candidate::Candidate;
+use crate::draft::Draft;
+use crate::learnt::Learnt;
+use crate::machine::Machine;
+use crate::outset::Outset;
+use crate::start::Start;
+use crate::strategy::Strategy;
+use crate::stretch::Stretch;
+use crate::wishes::Wishes;
+use cfs_model::{Entry, Memory};
+use std::alloc::Global;
+
+/// A way through the events by a strategy, from a start.
+#[derive(Drop)]
+pub(crate) struct Course {
+    pub start: Start,
+    pub machine: Machine,
+}
+
+impl Course {
+    /// Before the first event.
+    pub(crate) fn new(
+        alloc: Global,
+        outset: &Outset,
+        events: &[Entry],
+        wishes: &Wishes,
+        strategy: Strategy,
+        learnt: Learnt<'_>,
+    ) -> Result<Course, Memory> {
+        let start = Start::of(alloc, outset, events, wishes, learnt)?;
+        let machine = Machine::new(alloc, outset, &start, wishes, strategy, learnt.known)?;
+        Ok(Course { start, machine })
+    }
+
+    /// Goes through all events.
+    pub(crate) fn go_through(
+        &mut self,
+        outset: &Outset,
+        events: &[Entry],
+        learnt: Learnt<'_>,
+    ) -> Result<(), Memory> {
+        self.go_on(outset, Stretch { events, first: 0 }, learnt)?;
+        self.machine.end();
+        Ok(())
+    }
+
+    /// Goes on by some of the events.
+    pub(crate) fn go_on(
+        &mut self,
+        outset: &Outset,
+        stretch: Stretch<'_>,
+        learnt: Learnt<'_>,
+    ) -> Result<(), Memory> {
+        for (place, event) in stretch.events.iter().enumerate() {
+            let index = stretch.first.saturating_add(place);
+            self.machine.pass(event, index, outset.forecast.is_picked(index), learnt)?;
+        }
+        Ok(())
+    }
+
+    /// Goes through all events, and answers whether what is made is better than a rival. It gives up at the first event
+    /// by which it can't be any more: what is needed never falls, and nothing is scored behind an event that fits no
+    /// settings.
+    pub(crate) fn beats(
+        &mut self,
+        outset: &Outset,
+        events: &[Entry],
+        learnt: Learnt<'_>,
+        rival: &Candidate,
+    ) -> Result<bool, Memory> {
+        for (index, event) in events.iter().enumerate() {
+            if !self.machine.candidate().is_better_than(rival) {
+                return Ok(false);
+            }
+            self.machine.pass(event, index, outset.forecast.is_picked(index), learnt)?;
+        }
+        self.machine.end();
+        Ok(self.machine.candidate().is_better_than(rival))
+    }
+
+    /// What the companion says of it.
+    pub(crate) fn into_draft(self) -> Draft {
+        let Course { start, machine } = self;
+        Draft {
+            start,
+            candidate: machine.into_candidate(),
+        }
+    }
+}

@@ -5,7 +5,6 @@ use crate::machine::Machine;
 use crate::outset::Outset;
 use crate::start::Start;
 use crate::strategy::Strategy;
-use crate::stretch::Stretch;
 use crate::wishes::Wishes;
 use cfs_model::{Entry, Memory};
 use std::alloc::Global;
@@ -39,22 +38,10 @@ impl Course {
         events: &[Entry],
         learnt: Learnt<'_>,
     ) -> Result<(), Memory> {
-        self.go_on(outset, Stretch { events, first: 0 }, learnt)?;
-        self.machine.end();
-        Ok(())
-    }
-
-    /// Goes on by some of the events.
-    pub(crate) fn go_on(
-        &mut self,
-        outset: &Outset,
-        stretch: Stretch<'_>,
-        learnt: Learnt<'_>,
-    ) -> Result<(), Memory> {
-        for (place, event) in stretch.events.iter().enumerate() {
-            let index = stretch.first.saturating_add(place);
+        for (index, event) in events.iter().enumerate() {
             self.machine.pass(event, index, outset.forecast.is_picked(index), learnt)?;
         }
+        self.machine.end();
         Ok(())
     }
 

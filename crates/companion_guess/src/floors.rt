@@ -80,11 +80,6 @@ impl Floors {
         }
     }
 
-    /// Whether each is that of another.
-    pub(crate) fn are_same(&self, other: &Floors) -> bool {
-        (0..MOST_PROCESSORS as u32).all(|cpu| self.at(cpu) == other.at(cpu))
-    }
-
     /// That of a processor.
     pub(crate) fn at(&self, cpu: u32) -> Option<i64> {
         self.floors.get(cpu as usize).copied().flatten()

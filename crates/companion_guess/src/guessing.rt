@@ -37,7 +37,7 @@ pub fn guessed(
     );
     let (outset, (placements, first)) = (outset?, placed?);
     let known = Known::of(alloc, values, first);
-    let draft = kernel_draft(rt, alloc, &outset, events, wishes, known, placements)?;
+    let draft = kernel_draft(alloc, &outset, events, wishes, known, placements)?;
     made_of(rt, alloc, &outset, &draft)
 }
 

@@ -1,7 +1,6 @@
 //! Guesses at the companion of a trace alone. Nothing is proved of a guess.
 #![tactic(auto)]
 
-mod ask;
 mod candidate;
 mod companion_text;
 mod course;
@@ -21,7 +20,6 @@ mod news;
 mod next_prints;
 mod opening;
 mod outset;
-mod pair;
 mod pid_rows;
 mod placement;
 mod placements;
@@ -33,7 +31,6 @@ mod processor;
 mod sayings;
 mod start;
 mod strategy;
-mod stretch;
 mod task_at;
 mod tasks;
 mod touching;

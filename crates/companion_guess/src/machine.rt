@@ -1,4 +1,3 @@
-use crate::ask::Ask;
 use crate::candidate::Candidate;
 use crate::known::Known;
 use crate::learnt::Learnt;
@@ -36,8 +35,6 @@ pub(crate) struct Machine {
     unsettled: Vec<Unsettled>,
     /// What they have to be, by what was found later.
     asked: BTreeMap<Placing, i64>,
-    /// The same that wasn't passed on yet, in the order in which it was found.
-    recent: Vec<Ask>,
     /// How many prints have been heard.
     heard: usize,
     /// Of the last event, in nanoseconds.
@@ -80,7 +77,6 @@ impl Machine {
             },
             unsettled: Vec::new(alloc),
             asked: BTreeMap::new(alloc),
-            recent: Vec::new(alloc),
             heard: 0,
             time: outset.start,
         };
@@ -141,22 +137,6 @@ impl Machine {
             }
         }
         Ok(news)
-    }
-
-    /// Passes on what was asked since it was last, to who knows these placements and has passed so many events. Whether
-    /// it is too late for one.
-    pub(crate) fn pass_on(&mut self, placements: &mut Placements, passed: usize) -> bool {
-        let mut is_late = false;
-        for ask in self.recent.as_slice() {
-            is_late = match ask.at {
-                Placing::AtStart(_) => true,
-                Placing::ByEvent(index) => {
-                    (placements.ask(index, ask.v) && index < passed) || is_late
-                }
-            };
-        }
-        self.recent.clear();
-        is_late
     }
 
     /// No event follows.
@@ -611,10 +591,6 @@ impl Machine {
             };
             let v = moved(unsettled.v, found, wanted);
             self.asked.insert(unsettled.at, v)?;
-            self.recent.push(Ask {
-                at: unsettled.at,
-                v,
-            })?;
             if v >= unsettled.own {
                 break;
             }

@@ -46,13 +46,6 @@ impl Placements {
         }
     }
 
-    /// The same once more.
-    pub(crate) fn copy(&self, alloc: Global) -> Result<Placements, Memory> {
-        Ok(Placements {
-            placements: self.placements.to_vec(alloc)?,
-        })
-    }
-
     /// Of the event at an index.
     pub(crate) fn at(&self, index: usize) -> Placement {
         self.placements

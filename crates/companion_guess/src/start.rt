@@ -41,11 +41,6 @@ impl Start {
         Ok(start)
     }
 
-    /// Whether all tasks and floors are those of another.
-    pub(crate) fn is_same(&self, other: &Start) -> bool {
-        self.tasks.as_slice() == other.tasks.as_slice() && self.floors.are_same(&other.floors)
-    }
-
     /// The floor of a processor.
     pub(crate) fn floor(&self, cpu: u32) -> i64 {
         self.floors.at(cpu).unwrap_or(0)

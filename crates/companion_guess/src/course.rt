@@ -39,7 +39,8 @@ impl Course {
         learnt: Learnt<'_>,
     ) -> Result<(), Memory> {
         for (index, event) in events.iter().enumerate() {
-            self.machine.pass(event, index, outset.forecast.is_picked(index), learnt)?;
+            self.machine
+                .pass(event, index, outset.forecast.is_picked(index), learnt)?;
         }
         self.machine.end();
         Ok(())
@@ -59,7 +60,8 @@ impl Course {
             if !self.machine.candidate().is_better_than(rival) {
                 return Ok(false);
             }
-            self.machine.pass(event, index, outset.forecast.is_picked(index), learnt)?;
+            self.machine
+                .pass(event, index, outset.forecast.is_picked(index), learnt)?;
         }
         self.machine.end();
         Ok(self.machine.candidate().is_better_than(rival))

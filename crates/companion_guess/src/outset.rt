@@ -20,11 +20,7 @@ pub(crate) struct Outset {
 
 impl Outset {
     /// By the events of the trace.
-    pub(crate) fn of(
-        alloc: Global,
-        events: &[Entry],
-        hasher: PidHasher,
-    ) -> Result<Outset, Memory> {
+    pub(crate) fn of(alloc: Global, events: &[Entry], hasher: PidHasher) -> Result<Outset, Memory> {
         Ok(Outset {
             cpus: processors_of(events),
             start: events.first().map_or(0, |event| event.time),

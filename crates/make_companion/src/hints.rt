@@ -48,7 +48,9 @@ fn say_of_debug<R: Eprint>(rt: &R, debug: &[u8], strategy: Strategy) {
             "hint: --debug changes nothing: the companion has none of the kernel's values, which lines of sched_stat_runtime tell"
         );
     } else if !tells_floors(debug) {
-        let _ = eprintln!(rt; "hint: the file of --debug tells no floor: it has no line of .min_vruntime");
+        let _ = eprintln!(rt;
+            "hint: the file of --debug tells no floor: it has no line of .min_vruntime"
+        );
     }
 }
 

@@ -24,4 +24,4 @@ pub over_within : RunFromLeast → (r : RecordView) (least limits : KnobsView) �
     → AllByRecursion (λ which. value_at least which ≤ value_at limits which) all_settings → IsOver r limits None
 over_within exact r least limits found within =
     (exact r.start (start_machine r.start r.floors r.tasks) (events_of r) least limits found.0).1
-        (at_most_all least limits within)
+    (at_most_all least limits within)

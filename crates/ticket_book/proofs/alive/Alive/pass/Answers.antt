@@ -14,14 +14,14 @@ returns-in-Some-ended c =
       | in-Some+in_ok-insert w ↦
           ap (λ m. alive_view m q) w.self-is
           ∙ one_put old (alive_view (record { pids = w.insert.new.self })) w.in-Some.pid true
-              (w.in_ok-insert.ensures.updates.0) q
+          (w.in_ok-insert.ensures.updates.0) q
           ∙ ap (λ o. put_any old o true q) (sym w.in-Some.is ∙ c.begun.ensures)
       | in_default w ↦ ap (λ m. alive_view m q) w.self-is
           ∙ ap (λ o. put_any old o true q) (sym w.in_default.is ∙ c.begun.ensures)
     ])
     (λ q. one_put between (alive_view (record { pids = c.remove.new.self })) c.in-Some-ended.pid false
-        (c.remove.ensures.updates.0) q
-        ∙ ap (λ o. put_any between o false q) (sym c.in-Some-ended.is ∙ c.ended.ensures))
+    (c.remove.ensures.updates.0) q
+    ∙ ap (λ o. put_any between o false q) (sym c.in-Some-ended.is ∙ c.ended.ensures))
 
 pub returns-in_default-ended : goal.returns-in_default-ended
 returns-in_default-ended c =
@@ -33,7 +33,7 @@ returns-in_default-ended c =
       | in-Some+in_ok-insert w ↦
           ap (λ m. alive_view m q) w.self-is
           ∙ one_put old (alive_view (record { pids = w.insert.new.self })) w.in-Some.pid true
-              (w.in_ok-insert.ensures.updates.0) q
+          (w.in_ok-insert.ensures.updates.0) q
           ∙ ap (λ o. put_any old o true q) (sym w.in-Some.is ∙ c.begun.ensures)
       | in_default w ↦ ap (λ m. alive_view m q) w.self-is
           ∙ ap (λ o. put_any old o true q) (sym w.in_default.is ∙ c.begun.ensures)

@@ -85,8 +85,8 @@ pub fn make_companion(
     companion_of_trace(rt, alloc, trace, values, wishes, hasher)
 }
 
-/// A companion for a trace of which these values are known. What was found is read back and joined with the trace; where
-/// that should fail, the companion is the plain one, which goes together with every trace.
+/// A companion for a trace of which these values are known. What was found is read back and joined with the trace;
+/// where that should fail, the companion is the plain one, which goes together with every trace.
 #[tactic(auto, using(sched_record::proofs::OneRecord::none_outside))]
 fn companion_of_trace(
     rt: &(impl Threads + Sync),

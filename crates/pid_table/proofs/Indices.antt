@@ -52,4 +52,5 @@ index_there pids apart pid index d within here = go (index_in pids pid) refl
     go None none = absurd (pid_nowhere pids pid none index d within here)
     go (Some k) is =
         let there = position-Some (nat_eq pid) pids k d is in
-        ap Some (only_there pids apart k index d there.0 within (sym (eqb-true pid (get_or pids k d) there.1) ∙ sym here))
+        ap Some (only_there pids apart k index d there.0 within
+        (sym (eqb-true pid (get_or pids k d) there.1) ∙ sym here))

@@ -157,8 +157,8 @@ impl Runqueue {
         }
     }
 
-    /// The task of this pid, as it stands here, waits at the claimed virtual runtime, if it rests. Its row is expected at
-    /// an index. Where memory is wanted nothing changes.
+    /// The task of this pid, as it stands here, waits at the claimed virtual runtime, if it rests. Its row is expected
+    /// at an index. Where memory is wanted nothing changes.
     pub fn wake(
         &mut self,
         pid: u32,

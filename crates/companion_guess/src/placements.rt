@@ -14,8 +14,8 @@ pub(crate) struct Placements {
 }
 
 impl Placements {
-    /// As the prints tell them, and what these tell of the start. The events are gone through from the last to the first,
-    /// since the next print behind a placement tells it.
+    /// As the prints tell them, and what these tell of the start. The events are gone through from the last to the
+    /// first, since the next print behind a placement tells it.
     pub(crate) fn of(
         alloc: Global,
         prints: &[Print],

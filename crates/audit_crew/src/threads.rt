@@ -3,6 +3,7 @@ ghost use Rattle.std.specs.Prelude.{◌≡◌, ◌≤◌, length, IfOk};
 ghost use Rattle.audit_crew.specs.Filled.{filled};
 ghost use Rattle.sched_record.specs.Record.{record_view};
 ghost use Rattle.ticket_book.specs.BookView.{book_view};
+ghost use Rattle.ticket_book.specs.LeastAnswer.{IsLeastAnswer};
 ghost use Rattle.ticket_book.specs.OneVerdict.{IsOneVerdict};
 ghost use Rattle.ticket_book.specs.Own.{AreOwn};
 ghost use Rattle.ticket_book.specs.Verdict.{IsVerdict};

@@ -40,11 +40,12 @@ fn all_of(text: &[u8]) -> (&[u8], &[u8])
 /// How many bytes so many lines take; all where there are no more lines. One line is taken at least.
 pub(crate) fn end_of_lines(text: &[u8], count: u64) -> usize {
     let mut rest = text;
-    let mut left = count.max(1);
-    while left > 0 && !rest.is_empty() {
+    for _ in 0..count.max(1) {
+        if rest.is_empty() {
+            break;
+        }
         let (_line, after) = next_line(rest);
         rest = after;
-        left = left.saturating_sub(1);
     }
     text.len().saturating_sub(rest.len())
 }

@@ -7,7 +7,7 @@ use cfs_model::Knobs;
 use clap::Error;
 use clap::error::ErrorKind::OutOfMemory;
 use companion_guess::{Strategy, Wishes};
-use given_texts::file_of;
+use given_texts::read_file;
 use recording_audit::{Asked, CauseWords, NotAudited, Part, Tally, audit_recording, report};
 use std::alloc::Global;
 use std::io::{ErrorKind, Write};
@@ -16,7 +16,7 @@ use std::rt::{Env, Files};
 use std::sync::Wait;
 use std::thread::Threads;
 use std::time::Clock;
-use std::{env, fs, io};
+use std::{env, io};
 
 /// Does what the command line says; whether standard error is told how far it is.
 pub fn obey<
@@ -50,9 +50,9 @@ fn audit<R: Files + Clock + Print + Eprint + RandomSource + AllocGlobal + Thread
     request: &Request<'_>,
     tells: bool,
 ) -> Result<Ending, Ending> {
-    let text = read(rt, request.trace, Ending::Unread)?;
+    let text = read(rt, alloc, request.trace, Ending::Unread)?;
     let debug = match request.debug {
-        Some(name) => Some(read(rt, name, Ending::DebugUnread)?),
+        Some(name) => Some(read(rt, alloc, name, Ending::DebugUnread)?),
         None => None,
     };
     let asked = Asked {
@@ -76,8 +76,8 @@ fn audit<R: Files + Clock + Print + Eprint + RandomSource + AllocGlobal + Thread
 }
 
 /// The bytes of the file that a name of the command line is.
-fn read<R: Files + AllocGlobal>(rt: &R, name: &str, unread: Ending) -> Result<Vec<u8>, Ending> {
-    match fs::read(rt, file_of(name)) {
+fn read<R: Files>(rt: &R, alloc: Global, name: &str, unread: Ending) -> Result<Vec<u8>, Ending> {
+    match read_file(rt, alloc, name) {
         Ok(text) => Ok(text),
         Err(error) if error.kind() == ErrorKind::OutOfMemory => Err(Ending::Memory),
         Err(_) => Err(unread),

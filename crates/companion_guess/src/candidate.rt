@@ -1,6 +1,7 @@
 use crate::made::Guessed;
 use crate::strategy::Strategy;
-use cfs_model::{Amounts, ChargeLine, Claim, NiceLine, Setting};
+use cfs_model::{Amounts, ChargeLine, Claim, Memory, NiceLine, Setting};
+use std::alloc::Global;
 use std::collections::BTreeMap;
 
 /// What a companion says of the events, as one strategy makes it.
@@ -19,6 +20,39 @@ pub(crate) struct Candidate {
 }
 
 impl Candidate {
+    /// Nothing is said yet. There is room for a claim of each of so many events, and for a charge where the kernel's are
+    /// told: moving long lists as they grow takes a while.
+    pub(crate) fn new(
+        alloc: Global,
+        strategy: Strategy,
+        events: usize,
+    ) -> Result<Candidate, Memory> {
+        let charges = if strategy == Strategy::Kernel {
+            events
+        } else {
+            0
+        };
+        Ok(Candidate {
+            strategy,
+            needs: Amounts::none(),
+            stop: None,
+            claims: Vec::with_capacity(alloc, events)?,
+            nices: BTreeMap::new(alloc),
+            charges: Vec::with_capacity(alloc, charges)?,
+        })
+    }
+
+    /// Nothing is said again, with the room that there was.
+    pub(crate) fn emptied(self) -> Candidate {
+        let mut emptied = self;
+        emptied.needs = Amounts::none();
+        emptied.stop = None;
+        emptied.claims.clear();
+        emptied.nices.clear();
+        emptied.charges.clear();
+        emptied
+    }
+
     /// Whether it is right for more lines than another, or needs less granularity up to the same one; of two that need
     /// the same, the one is better whose strategy is listed first.
     pub(crate) fn is_better_than(&self, other: &Candidate) -> bool {

@@ -4,7 +4,6 @@ use crate::learnt::Learnt;
 use crate::machine::Machine;
 use crate::outset::Outset;
 use crate::start::Start;
-use crate::strategy::Strategy;
 use crate::wishes::Wishes;
 use cfs_model::{Entry, Memory};
 use std::alloc::Global;
@@ -17,17 +16,17 @@ pub(crate) struct Course {
 }
 
 impl Course {
-    /// Before the first event.
+    /// Before the first event, of a companion that says nothing of events yet.
     pub(crate) fn new(
         alloc: Global,
         outset: &Outset,
         events: &[Entry],
         wishes: &Wishes,
-        strategy: Strategy,
+        made: Candidate,
         learnt: Learnt<'_>,
     ) -> Result<Course, Memory> {
         let start = Start::of(alloc, outset, events, wishes, learnt)?;
-        let machine = Machine::new(alloc, outset, &start, wishes, strategy, learnt.known)?;
+        let machine = Machine::new(alloc, outset, &start, wishes, made, learnt.known)?;
         Ok(Course { start, machine })
     }
 

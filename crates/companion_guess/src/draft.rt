@@ -34,7 +34,8 @@ pub(crate) fn draft_of(
         known: &known,
         placements: &placements,
     };
-    let mut course = Course::new(alloc, outset, events, wishes, strategy, learnt)?;
+    let made = Candidate::new(alloc, strategy, events.len())?;
+    let mut course = Course::new(alloc, outset, events, wishes, made, learnt)?;
     course.go_through(outset, events, learnt)?;
     Ok(course.into_draft())
 }
@@ -53,7 +54,8 @@ pub(crate) fn better_draft(
         known: &known,
         placements: &placements,
     };
-    let mut course = Course::new(alloc, outset, events, wishes, strategy, learnt)?;
+    let made = Candidate::new(alloc, strategy, events.len())?;
+    let mut course = Course::new(alloc, outset, events, wishes, made, learnt)?;
     if course.beats(outset, events, learnt, &other.candidate)? {
         Ok(Some(course.into_draft()))
     } else {
@@ -77,14 +79,16 @@ pub(crate) fn kernel_draft(
     placements: Placements,
 ) -> Result<Draft, Memory> {
     let (mut known, mut placements) = (known, placements);
+    let mut made = Candidate::new(alloc, Strategy::Kernel, events.len())?;
     for returns in 0..MOST_RETURNS {
-        let course = kernel_course(alloc, outset, events, wishes, &known, &placements)?;
+        let course = kernel_course(alloc, outset, events, wishes, made, &known, &placements)?;
         let news = course.machine.tell_asked(&mut known, &mut placements)?;
         if !is_worth_it(news, returns) {
             return Ok(course.into_draft());
         }
+        made = course.into_draft().candidate.emptied();
     }
-    let course = kernel_course(alloc, outset, events, wishes, &known, &placements)?;
+    let course = kernel_course(alloc, outset, events, wishes, made, &known, &placements)?;
     Ok(course.into_draft())
 }
 
@@ -104,11 +108,12 @@ fn kernel_course(
     outset: &Outset,
     events: &[Entry],
     wishes: &Wishes,
+    made: Candidate,
     known: &Known,
     placements: &Placements,
 ) -> Result<Course, Memory> {
     let learnt = Learnt { known, placements };
-    let mut course = Course::new(alloc, outset, events, wishes, Strategy::Kernel, learnt)?;
+    let mut course = Course::new(alloc, outset, events, wishes, made, learnt)?;
     course.go_through(outset, events, learnt)?;
     Ok(course)
 }

@@ -1,6 +1,7 @@
 use crate::known::Known;
 use crate::learnt::Learnt;
 use crate::outset::Outset;
+use crate::placements::Placements;
 use crate::values::above;
 use crate::wishes::Wishes;
 use cfs_model::{Act, Entry, MOST_PROCESSORS, Place};
@@ -35,8 +36,7 @@ impl Floors {
         }
         let mut bounds = Floors::unknown();
         for (index, event) in events.iter().enumerate() {
-            let placed = learnt.placements.at(index).value();
-            if let Some((cpu, bound)) = bound_of(event.act, placed, wishes) {
+            if let Some((cpu, bound)) = bound_of(event.act, index, learnt.placements, wishes) {
                 found.begin(cpu, bound);
                 bounds.lower(cpu, Some(bound));
                 if matches!(event.act, Act::Wake { .. }) {
@@ -100,13 +100,20 @@ impl Floors {
     }
 }
 
-/// The processor at which an event places a task, and what its floor is at most by that, now and at the start: a task
-/// that is woken lies at most the credit below it, and a new one not below.
-fn bound_of(act: Act, placed: Option<i64>, wishes: &Wishes) -> Option<(u32, i64)> {
-    let v = placed?;
+/// The processor at which the event at an index places a task, and what its floor is at most by that, now and at the
+/// start: a task that is woken lies at most the credit below it, and a new one not below.
+fn bound_of(
+    act: Act,
+    index: usize,
+    placements: &Placements,
+    wishes: &Wishes,
+) -> Option<(u32, i64)> {
     match act {
-        Act::Wake { cpu, .. } => Some((cpu, above(v, wishes.knobs.credit()))),
-        Act::Born { cpu, .. } => Some((cpu, v)),
+        Act::Wake { cpu, .. } => {
+            let v = placements.at(index).value()?;
+            Some((cpu, above(v, wishes.knobs.credit())))
+        }
+        Act::Born { cpu, .. } => Some((cpu, placements.at(index).value()?)),
         Act::Switch { .. } | Act::Shift { .. } => None,
     }
 }

@@ -15,8 +15,8 @@ use crate::tasks::Tasks;
 use crate::values::{above, below, excess, moved};
 use crate::wishes::Wishes;
 use cfs_model::{
-    Act, Amounts, ChargeLine, Claim, ClaimSort, Entry, GREATEST_SETTING, IDLE_PID, Memory, Nice,
-    NiceLine, Place, Policy, Setting, Task, Way,
+    Act, ChargeLine, Claim, ClaimSort, Entry, GREATEST_SETTING, IDLE_PID, Memory, Nice, NiceLine,
+    Place, Policy, Setting, Task, Way,
 };
 use std::alloc::Global;
 use std::collections::BTreeMap;
@@ -55,26 +55,20 @@ struct Moment {
 }
 
 impl Machine {
+    /// Before the first event; of a companion that says nothing of events yet.
     pub(crate) fn new(
         alloc: Global,
         outset: &Outset,
         start: &Start,
         wishes: &Wishes,
-        strategy: Strategy,
+        made: Candidate,
         known: &Known,
     ) -> Result<Machine, Memory> {
         let mut machine = Machine {
             processors: Vec::new(alloc),
             tasks: Tasks::new(alloc),
             wishes: *wishes,
-            made: Candidate {
-                strategy,
-                needs: Amounts::none(),
-                stop: None,
-                claims: Vec::new(alloc),
-                nices: BTreeMap::new(alloc),
-                charges: Vec::new(alloc),
-            },
+            made,
             unsettled: Vec::new(alloc),
             asked: BTreeMap::new(alloc),
             heard: 0,

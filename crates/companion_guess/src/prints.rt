@@ -47,6 +47,7 @@ impl Prints {
             .map(|piece: &&[u8]| -> Result<Prints, Memory> { Prints::of_piece(alloc, piece) })
             .collect::<Result<Vec<Prints>, Memory>>(rt, alloc)??;
         let mut whole = Prints::none(alloc);
+        whole.make_room(parts.as_slice())?;
         for part in parts {
             whole.append(part)?;
         }
@@ -81,6 +82,16 @@ impl Prints {
             runtime: printed.amounts.runtime,
             v: printed.amounts.v,
         })?;
+        Ok(())
+    }
+
+    /// Makes room for what these parts print.
+    fn make_room(&mut self, parts: &[Prints]) -> Result<(), Memory> {
+        let mut count: usize = 0;
+        for part in parts {
+            count = count.saturating_add(part.prints.len());
+        }
+        self.prints.reserve(count)?;
         Ok(())
     }
 

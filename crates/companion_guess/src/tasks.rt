@@ -37,10 +37,14 @@ impl Tasks {
     /// A line names the task of this pid with a nice value. Answers how it stood before, where that is another one.
     pub(crate) fn name(&mut self, pid: u32, line: u32, nice: Nice) -> Option<Named> {
         let named = self.get_mut(pid)?;
-        let before = (named.nice != nice).then_some(*named);
+        if named.nice == nice {
+            named.line = line;
+            return None;
+        }
+        let before = *named;
         named.line = line;
         named.nice = nice;
-        before
+        Some(before)
     }
 
     /// The task of this pid stands so, whether there was one or not.

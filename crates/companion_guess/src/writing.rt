@@ -32,10 +32,20 @@ pub(crate) fn text_of(
         .map(|piece: &Sayings<'_>| -> Result<Vec<u8>, AllocError> { piece.text(alloc) })
         .collect::<Result<Vec<Vec<u8>>, AllocError>>(rt, alloc)??;
     let mut text = front_of(alloc, outset, draft)?;
+    text.reserve(length_of(parts.as_slice()))?;
     for part in parts.as_slice() {
         text.extend_from_slice(part)?;
     }
     Ok(text)
+}
+
+/// How long these texts are together.
+fn length_of(texts: &[Vec<u8>]) -> usize {
+    let mut length: usize = 0;
+    for text in texts {
+        length = length.saturating_add(text.len());
+    }
+    length
 }
 
 /// The lines before those of the events.

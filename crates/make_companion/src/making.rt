@@ -6,7 +6,7 @@ use clap::Error;
 use clap::error::ErrorKind::OutOfMemory;
 use companion_guess::Wishes;
 use companion_maker::{NotMade, companion_of_text};
-use given_texts::file_of;
+use given_texts::read_file;
 use pid_table::PidHasher;
 use sched_record::JoinCause;
 use std::alloc::Global;
@@ -14,7 +14,7 @@ use std::io::{ErrorKind, Write};
 use std::random::RandomSource;
 use std::rt::{Env, Files};
 use std::thread::Threads;
-use std::{env, fs, io};
+use std::{env, io};
 
 /// Does what the command line says.
 pub fn obey<R: Env + Files + Print + Eprint + RandomSource + Threads + Sync + AllocGlobal>(
@@ -46,7 +46,7 @@ fn make<R: Files + Print + Eprint + RandomSource + Threads + Sync + AllocGlobal>
     alloc: Global,
     request: &Request<'_>,
 ) -> Ending {
-    let text = match fs::read(rt, file_of(request.trace)) {
+    let text = match read_file(rt, alloc, request.trace) {
         Ok(text) => text,
         Err(error) if error.kind() == ErrorKind::OutOfMemory => return Ending::Memory,
         Err(_) => return Ending::Unread,
@@ -54,7 +54,7 @@ fn make<R: Files + Print + Eprint + RandomSource + Threads + Sync + AllocGlobal>
     let Some(name) = request.debug else {
         return write_companion(rt, alloc, text.as_slice(), None, &request.wishes);
     };
-    match fs::read(rt, file_of(name)) {
+    match read_file(rt, alloc, name) {
         Ok(debug) => write_companion(
             rt,
             alloc,

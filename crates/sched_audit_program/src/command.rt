@@ -2,6 +2,7 @@ use crate::answer::{Answer, FrontOf};
 use crate::ending::Ending;
 use crate::explaining::{answer_kept, answer_kept_json};
 use crate::failure::Failure;
+use crate::full_feed::FullFeed;
 use crate::hints::say_hints;
 use crate::json_report::answer_json;
 use crate::progress::{Lengths, WatchedFeed};
@@ -20,11 +21,14 @@ use std::io::ErrorKind;
 use std::random::RandomSource;
 use std::rt::{Env, Files};
 use std::sync::Wait;
-use std::thread::Threads;
+use std::thread::{self, Threads};
 use std::{env, io};
 
-/// How many bytes a read of an input asks for, where both are read at once.
+/// How many bytes a read of an input asks for on one core, where both are read at once.
 const BLOCK: u32 = 1 << 20;
+
+/// The same on several cores: threads begin for each block, and some systems let a new one wait for milliseconds.
+const BLOCK_OF_THREADS: u32 = 3 << 20;
 
 /// How many events are audited at once there, at most.
 const WINDOW: usize = 1 << 16;
@@ -148,8 +152,12 @@ fn answer_kept_in<J: Told, R: Files + Print + Eprint + RandomSource + Threads + 
 }
 
 /// How much of a recording is looked at at once.
-fn sizes() -> Sizes {
-    Sizes::new(BLOCK, WINDOW)
+fn sizes<R: Threads>(rt: &R) -> Sizes {
+    let block = match thread::available_parallelism(rt) {
+        Ok(cores) if cores.get() > 1 => BLOCK_OF_THREADS,
+        _ => BLOCK,
+    };
+    Sizes::new(block, WINDOW)
 }
 
 /// Writes the report, and nothing behind it.
@@ -164,8 +172,12 @@ fn answer_alone<R: Files + Print + Eprint + RandomSource + Threads + Wait + Sync
     if request.json {
         return answer_json(rt, alloc, request, trace, companion, lengths);
     }
-    let mut trace = WatchedFeed::new(rt, FeedOf::new(trace), lengths.trace);
-    let mut companion = WatchedFeed::new(rt, FeedOf::new(companion), lengths.companion);
+    let mut trace = FullFeed::new(WatchedFeed::new(rt, FeedOf::new(trace), lengths.trace));
+    let mut companion = FullFeed::new(WatchedFeed::new(
+        rt,
+        FeedOf::new(companion),
+        lengths.companion,
+    ));
     let mut end = FrontOf::new(SinkOf::new(io::writer(rt)));
     let (trace, companion, out) = (&mut trace, &mut companion, &mut end);
     let knobs = request.knobs;
@@ -175,10 +187,10 @@ fn answer_alone<R: Files + Print + Eprint + RandomSource + Threads + Wait + Sync
         (true, _, false) => run_least(rt, alloc, trace, companion, gate, out),
         (false, true, true) => run_counted_waits(rt, alloc, trace, companion, knobs, gate, out),
         (false, true, false) => {
-            run_counted_in_blocks(rt, alloc, trace, companion, knobs, sizes(), out)
+            run_counted_in_blocks(rt, alloc, trace, companion, knobs, sizes(rt), out)
         }
         (false, false, true) => run_waits(rt, alloc, trace, companion, knobs, gate, out),
-        (false, false, false) => run_in_blocks(rt, alloc, trace, companion, knobs, sizes(), out),
+        (false, false, false) => run_in_blocks(rt, alloc, trace, companion, knobs, sizes(rt), out),
     }?;
     Ok(end.answer(status))
 }

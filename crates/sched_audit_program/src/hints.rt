@@ -4,7 +4,7 @@ use bstr::ByteSlice;
 use cfs_model::{Knobs, Setting};
 use given_texts::{KernelHint, companion_hint, has_event, is_overwritten, trace_hint};
 use sched_audit::{Request, Status};
-use std::fs::{File, OpenFile};
+use std::fs::{self, File};
 use std::io::Read;
 use std::rt::Files;
 use text_parts::numerals::numeral_at;
@@ -116,10 +116,11 @@ fn say<R: Eprint>(rt: &R, text: &str, hint: Option<&str>) {
 
 /// The first bytes of a regular file, as many as the room has.
 fn front_of<'b, R: Files>(rt: &R, name: &str, room: &'b mut [u8]) -> Option<&'b [u8]> {
-    let mut file = File::open(rt, name).ok()?;
-    if !file.metadata().ok()?.is_file() {
+    // Before it is opened: to open a named pipe again would wait for another writer.
+    if !fs::metadata(rt, name).ok()?.is_file() {
         return None;
     }
+    let mut file = File::open(rt, name).ok()?;
     let count = file.read(room).ok()?;
     room.get(..count)
 }

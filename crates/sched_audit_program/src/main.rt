@@ -7,6 +7,7 @@ mod ending;
 mod explaining;
 mod failure;
 mod fault_members;
+mod full_feed;
 mod hints;
 mod json_report;
 mod progress;

@@ -19,8 +19,9 @@ use std::alloc::Global;
 use std::random::RandomSource;
 use std::thread::Threads;
 
-/// Judges two inputs of any length, which are read a block at a time: no more of them is held than two blocks, what the
-/// companion says ahead of the trace, and who is alive. A fault of the trace is told before one of the companion.
+/// Judges two inputs of any length, which are read a block at a time. Of the trace a block is held, the events of the
+/// block before, and a row for each task at each processor where it ever stood; of the companion a block, the start,
+/// the `idle` lines, and what is said ahead of the trace. A fault of the trace is told before one of the companion.
 pub fn judge_stream<R: RandomSource + Threads + Sync, T: Feed, C: Feed>(
     rt: &R,
     alloc: Global,

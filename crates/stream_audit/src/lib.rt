@@ -1,5 +1,5 @@
-//! The audit of a recording of any length: both texts come a block at a time, and no more of them is kept than what
-//! the next events ask for.
+//! The audit of a recording of any length: both texts come a block at a time, and no event is kept longer than until
+//! the next block is read.
 #![tactic(auto)]
 
 mod companion_input;

@@ -51,7 +51,7 @@ impl WindowAudit {
         })
     }
 
-    /// Replays a window's events, each processor's in a thread of its own, and tells the first fault of the events with
+    /// Replays a window's events, by several threads where they are many, and tells the first fault of the events with
     /// it, if there is one. Else the audit has seen them, and keeps where the replays stand. A window has an event.
     pub fn go_through<R: Threads + Sync>(
         &mut self,

@@ -61,7 +61,7 @@ fn member_of(
     Ok(Member::new(alloc, replay))
 }
 
-/// Lets each go through a window, at once, up to the time and line of its last event.
+/// Lets each go through a window up to the time and line of its last event, several at once where its events are many.
 pub(crate) fn go_through_all<R: Threads + Sync>(
     rt: &R,
     members: &mut [Member],

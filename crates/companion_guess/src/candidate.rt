@@ -20,8 +20,8 @@ pub(crate) struct Candidate {
 }
 
 impl Candidate {
-    /// Nothing is said yet. There is room for a claim of each of so many events, and for a charge where the kernel's are
-    /// told: moving long lists as they grow takes a while.
+    /// Nothing is said yet. There is room for a claim of each of so many events, and for a charge of each where charges
+    /// are told: moving long lists as they grow takes a while.
     pub(crate) fn new(
         alloc: Global,
         strategy: Strategy,

@@ -13,7 +13,7 @@ use std::process::ExitCode;
 
 fn main(rt: HostRuntime) -> ExitCode {
     let tells = rt.stderr().is_terminal();
-    let ending = obeying::obey(&rt, rt.alloc(), tells);
+    let ending = obeying::obey(&rt, rt.alloc(), rt.stdin(), tells);
     if let Some(words) = ending.words() {
         let _ = eprintln!(rt; "audit_recording: {words}");
     }

@@ -7,12 +7,12 @@ use cfs_model::Knobs;
 use clap::Error;
 use clap::error::ErrorKind::OutOfMemory;
 use companion_guess::{Strategy, Wishes};
-use given_texts::read_file;
+use given_texts::read_input;
 use recording_audit::{Asked, CauseWords, NotAudited, Part, Tally, audit_recording, report};
 use std::alloc::Global;
 use std::io::{ErrorKind, Write};
 use std::random::RandomSource;
-use std::rt::{Env, Files};
+use std::rt::{Env, Files, Stdin};
 use std::sync::Wait;
 use std::thread::Threads;
 use std::time::Clock;
@@ -21,7 +21,7 @@ use std::{env, io};
 /// Does what the command line says; whether standard error is told how far it is.
 pub fn obey<
     R: Env + Files + Clock + Print + Eprint + RandomSource + AllocGlobal + Threads + Wait + Sync,
->(rt: &R, alloc: Global, tells: bool) -> Ending {
+>(rt: &R, alloc: Global, stdin: Stdin, tells: bool) -> Ending {
     let words = match words_of(rt, alloc) {
         Ok(words) => words,
         Err(error) if error.kind() == ErrorKind::OutOfMemory => return Ending::Memory,
@@ -31,7 +31,7 @@ pub fn obey<
         }
     };
     match command_line(alloc, words.as_slice()) {
-        Ok(request) => match audit(rt, alloc, &request, tells) {
+        Ok(request) => match audit(rt, alloc, stdin, &request, tells) {
             Ok(ending) | Err(ending) => ending,
         },
         Err(error) => tell(rt, &error),
@@ -47,12 +47,13 @@ fn words_of<R: Env + AllocGlobal>(rt: &R, alloc: Global) -> io::Result<Vec<Strin
 fn audit<R: Files + Clock + Print + Eprint + RandomSource + AllocGlobal + Threads + Wait + Sync>(
     rt: &R,
     alloc: Global,
+    stdin: Stdin,
     request: &Request<'_>,
     tells: bool,
 ) -> Result<Ending, Ending> {
-    let text = read(rt, alloc, request.trace, Ending::Unread)?;
+    let text = read(rt, alloc, stdin, request.trace, Ending::Unread)?;
     let debug = match request.debug {
-        Some(name) => Some(read(rt, alloc, name, Ending::DebugUnread)?),
+        Some(name) => Some(read(rt, alloc, stdin, name, Ending::DebugUnread)?),
         None => None,
     };
     let asked = Asked {
@@ -76,8 +77,14 @@ fn audit<R: Files + Clock + Print + Eprint + RandomSource + AllocGlobal + Thread
 }
 
 /// The bytes of the file that a name of the command line is.
-fn read<R: Files>(rt: &R, alloc: Global, name: &str, unread: Ending) -> Result<Vec<u8>, Ending> {
-    match read_file(rt, alloc, name) {
+fn read<R: Files>(
+    rt: &R,
+    alloc: Global,
+    stdin: Stdin,
+    name: &str,
+    unread: Ending,
+) -> Result<Vec<u8>, Ending> {
+    match read_input(rt, alloc, stdin, name) {
         Ok(text) => Ok(text),
         Err(error) if error.kind() == ErrorKind::OutOfMemory => Err(Ending::Memory),
         Err(_) => Err(unread),

@@ -3,13 +3,13 @@
 #![tactic(auto)]
 
 mod header;
+mod input;
 mod kernel_hint;
-mod name;
 mod reading;
 mod shapes;
 
 pub use header::is_overwritten;
+pub use input::{Input, is_standard, open_input};
 pub use kernel_hint::KernelHint;
-pub use name::file_of;
-pub use reading::read_file;
+pub use reading::read_input;
 pub use shapes::{companion_hint, has_event, trace_hint};

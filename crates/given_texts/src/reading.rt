@@ -1,15 +1,19 @@
-use crate::file_of;
+use crate::input::open_input;
 use std::alloc::Global;
-use std::fs::{File, OpenFile};
 use std::io::{self, Read};
-use std::rt::Files;
+use std::rt::{Files, Stdin};
 
-/// The bytes of the file of a name. Of a regular file room is made for all of them first: moving a long text as it
-/// grows takes longer than reading it.
-pub fn read_file<R: Files>(rt: &R, alloc: Global, name: &str) -> io::Result<Vec<u8>> {
-    let mut file = File::open(rt, file_of(name))?;
-    let length = file.metadata()?.len() as usize;
+/// The bytes of what a name of a command line is. Of a regular file room is made for all of them first: moving a long
+/// text as it grows takes longer than reading it.
+pub fn read_input<R: Files>(
+    rt: &R,
+    alloc: Global,
+    stdin: Stdin,
+    name: &str,
+) -> io::Result<Vec<u8>> {
+    let mut input = open_input(rt, stdin, name)?;
+    let length = input.length() as usize;
     let mut text = Vec::with_capacity(alloc, length.saturating_add(1))?;
-    file.read_to_end(&mut text)?;
+    input.read_to_end(&mut text)?;
     Ok(text)
 }

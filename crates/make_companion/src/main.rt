@@ -11,7 +11,7 @@ mod making;
 use std::process::ExitCode;
 
 fn main(rt: HostRuntime) -> ExitCode {
-    let ending = making::obey(&rt, rt.alloc());
+    let ending = making::obey(&rt, rt.alloc(), rt.stdin());
     if let Some(words) = ending.words() {
         let _ = eprintln!(rt; "make_companion: {words}");
     }

@@ -6,13 +6,13 @@ use clap::Error;
 use clap::error::ErrorKind::OutOfMemory;
 use companion_guess::Wishes;
 use companion_maker::{NotMade, companion_of_text};
-use given_texts::read_file;
+use given_texts::read_input;
 use pid_table::PidHasher;
 use sched_record::JoinCause;
 use std::alloc::Global;
 use std::io::{ErrorKind, Write};
 use std::random::RandomSource;
-use std::rt::{Env, Files};
+use std::rt::{Env, Files, Stdin};
 use std::thread::Threads;
 use std::{env, io};
 
@@ -20,6 +20,7 @@ use std::{env, io};
 pub fn obey<R: Env + Files + Print + Eprint + RandomSource + Threads + Sync + AllocGlobal>(
     rt: &R,
     alloc: Global,
+    stdin: Stdin,
 ) -> Ending {
     let words = match words_of(rt, alloc) {
         Ok(words) => words,
@@ -30,7 +31,7 @@ pub fn obey<R: Env + Files + Print + Eprint + RandomSource + Threads + Sync + Al
         }
     };
     match command_line(alloc, words.as_slice()) {
-        Ok(request) => make(rt, alloc, &request),
+        Ok(request) => make(rt, alloc, stdin, &request),
         Err(error) => tell(rt, &error),
     }
 }
@@ -44,9 +45,10 @@ fn words_of<R: Env + AllocGlobal>(rt: &R, alloc: Global) -> io::Result<Vec<Strin
 fn make<R: Files + Print + Eprint + RandomSource + Threads + Sync + AllocGlobal>(
     rt: &R,
     alloc: Global,
+    stdin: Stdin,
     request: &Request<'_>,
 ) -> Ending {
-    let text = match read_file(rt, alloc, request.trace) {
+    let text = match read_input(rt, alloc, stdin, request.trace) {
         Ok(text) => text,
         Err(error) if error.kind() == ErrorKind::OutOfMemory => return Ending::Memory,
         Err(_) => return Ending::Unread,
@@ -54,7 +56,7 @@ fn make<R: Files + Print + Eprint + RandomSource + Threads + Sync + AllocGlobal>
     let Some(name) = request.debug else {
         return write_companion(rt, alloc, text.as_slice(), None, &request.wishes);
     };
-    match read_file(rt, alloc, name) {
+    match read_input(rt, alloc, stdin, name) {
         Ok(debug) => write_companion(
             rt,
             alloc,

@@ -9,17 +9,16 @@ use crate::progress::{Lengths, WatchedFeed};
 use crate::terminals::Terminals;
 use clap::Error;
 use clap::error::ErrorKind::OutOfMemory;
-use given_texts::file_of;
+use given_texts::{Input, open_input};
 use sched_audit::{
     Counted, Fault, FeedOf, LeastFigures, OpenGate, Request, SinkOf, Sizes, Told, Verdict,
     WithWaits, command_line, run_counted_in_blocks, run_counted_waits, run_in_blocks, run_least,
     run_least_waits, run_waits,
 };
 use std::alloc::Global;
-use std::fs::File;
 use std::io::ErrorKind;
 use std::random::RandomSource;
-use std::rt::{Env, Files};
+use std::rt::{Env, Files, Stdin};
 use std::sync::Wait;
 use std::thread::{self, Threads};
 use std::{env, io};
@@ -37,6 +36,7 @@ const WINDOW: usize = 1 << 16;
 pub fn obey<R: Env + Files + Print + Eprint + AllocGlobal + RandomSource + Threads + Wait + Sync>(
     rt: &R,
     alloc: Global,
+    stdin: Stdin,
     terminals: Terminals,
 ) -> Ending {
     let words = match words_of(rt, alloc) {
@@ -52,22 +52,10 @@ pub fn obey<R: Env + Files + Print + Eprint + AllocGlobal + RandomSource + Threa
     match command_line(alloc, words.as_slice()) {
         Ok(request) => {
             let color = terminals.resolve(rt, request.color);
-            let request = Request {
-                color,
-                ..with_files(request)
-            };
-            ending_of(rt, alloc, &request, terminals)
+            let request = Request { color, ..request };
+            ending_of(rt, alloc, stdin, &request, terminals)
         }
         Err(error) => tell(rt, &error),
-    }
-}
-
-/// The request with the files of its names.
-fn with_files(request: Request<'_>) -> Request<'_> {
-    Request {
-        trace: file_of(request.trace),
-        companion: file_of(request.companion),
-        ..request
     }
 }
 
@@ -75,10 +63,11 @@ fn with_files(request: Request<'_>) -> Request<'_> {
 fn ending_of<R: Files + Print + Eprint + RandomSource + Threads + Wait + Sync>(
     rt: &R,
     alloc: Global,
+    stdin: Stdin,
     request: &Request<'_>,
     terminals: Terminals,
 ) -> Ending {
-    match answer(rt, alloc, request, terminals) {
+    match answer(rt, alloc, stdin, request, terminals) {
         Ok(answer) => {
             say_hints(rt, request, &answer);
             Ending::Answered(answer.status)
@@ -97,11 +86,15 @@ fn words_of<R: Env + AllocGlobal>(rt: &R, alloc: Global) -> io::Result<Vec<Strin
 fn answer<R: Files + Print + Eprint + RandomSource + Threads + Wait + Sync>(
     rt: &R,
     alloc: Global,
+    stdin: Stdin,
     request: &Request<'_>,
     terminals: Terminals,
 ) -> Result<Answer, Failure> {
-    let trace = File::open(rt, request.trace).map_err(|_| Fault::ReadTrace)?;
-    let companion = File::open(rt, request.companion).map_err(|_| Fault::ReadCompanion)?;
+    let trace = open_input(rt, stdin, request.trace).map_err(|_| Fault::ReadTrace)?;
+    let companion = open_input(rt, stdin, request.companion).map_err(|_| Fault::ReadCompanion)?;
+    if overwrites(rt, request, &trace, &companion) {
+        return Err(Failure::States);
+    }
     let lengths = Lengths::of(&trace, &companion, terminals.errors);
     if !request.explain && request.states.is_none() {
         return Ok(answer_alone(rt, alloc, request, trace, companion, lengths)?);
@@ -119,13 +112,26 @@ fn answer<R: Files + Print + Eprint + RandomSource + Threads + Wait + Sync>(
     }
 }
 
+/// Whether the file of `--states` is an input's, which would be lost.
+fn overwrites<R: Files, F>(
+    rt: &R,
+    request: &Request<'_>,
+    trace: &Input<F>,
+    companion: &Input<F>,
+) -> bool {
+    match request.states {
+        Some(name) => trace.is_at(rt, name) || companion.is_at(rt, name),
+        None => false,
+    }
+}
+
 /// The same where the record is kept, with the waits of its tasks where they are asked for.
 fn answer_kept_as<J: Told, R: Files + Print + Eprint + RandomSource + Threads + Wait + Sync>(
     rt: &R,
     alloc: Global,
     request: &Request<'_>,
-    trace: R::File,
-    companion: R::File,
+    trace: Input<R::File>,
+    companion: Input<R::File>,
     lengths: Lengths,
 ) -> Result<Answer, Failure> {
     if request.waits {
@@ -140,8 +146,8 @@ fn answer_kept_in<J: Told, R: Files + Print + Eprint + RandomSource + Threads + 
     rt: &R,
     alloc: Global,
     request: &Request<'_>,
-    trace: R::File,
-    companion: R::File,
+    trace: Input<R::File>,
+    companion: Input<R::File>,
     lengths: Lengths,
 ) -> Result<Answer, Failure> {
     if request.json {
@@ -165,8 +171,8 @@ fn answer_alone<R: Files + Print + Eprint + RandomSource + Threads + Wait + Sync
     rt: &R,
     alloc: Global,
     request: &Request<'_>,
-    trace: R::File,
-    companion: R::File,
+    trace: Input<R::File>,
+    companion: Input<R::File>,
     lengths: Lengths,
 ) -> Result<Answer, Fault> {
     if request.json {

@@ -5,10 +5,11 @@ use crate::failure::Failure;
 use crate::fault_members::FaultMembers;
 use crate::progress::{Lengths, WatchedFeed};
 use crate::states::{file_of, write_states_to};
-use crate::trace_again::{TraceAgain, is_regular};
+use crate::trace_again::TraceAgain;
 use audit_input::{Cause, KeepingFeed, line_of};
 use cfs_model::Knobs;
 use fault_explainer::{explanation, quoted_line, refusal_words};
+use given_texts::Input;
 use pid_table::PidHasher;
 use replay_model::FirstFault;
 use sched_audit::{
@@ -40,11 +41,11 @@ pub(crate) fn answer_kept<
     rt: &R,
     alloc: Global,
     request: &Request<'_>,
-    trace: R::File,
-    companion: R::File,
+    trace: Input<R::File>,
+    companion: Input<R::File>,
     lengths: Lengths,
 ) -> Result<Answer, Failure> {
-    let keeps = request.explain && !is_regular(&trace);
+    let keeps = request.explain && !trace.is_regular();
     let mut trace = KeepingFeed::new(
         alloc,
         WatchedFeed::new(rt, FeedOf::new(trace), lengths.trace),
@@ -68,11 +69,11 @@ pub(crate) fn answer_kept_json<
     rt: &R,
     alloc: Global,
     request: &Request<'_>,
-    trace: R::File,
-    companion: R::File,
+    trace: Input<R::File>,
+    companion: Input<R::File>,
     lengths: Lengths,
 ) -> Result<Answer, Failure> {
-    let keeps = !is_regular(&trace);
+    let keeps = !trace.is_regular();
     let mut trace = KeepingFeed::new(
         alloc,
         WatchedFeed::new(rt, FeedOf::new(trace), lengths.trace),

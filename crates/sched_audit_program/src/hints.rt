@@ -2,7 +2,7 @@
 use crate::answer::Answer;
 use bstr::ByteSlice;
 use cfs_model::{Knobs, Setting};
-use given_texts::{KernelHint, companion_hint, has_event, is_overwritten, trace_hint};
+use given_texts::{KernelHint, companion_hint, has_event, is_overwritten, is_standard, trace_hint};
 use sched_audit::{Request, Status};
 use std::fs::{self, File};
 use std::io::Read;
@@ -117,7 +117,7 @@ fn say<R: Eprint>(rt: &R, text: &str, hint: Option<&str>) {
 /// The first bytes of a regular file, as many as the room has.
 fn front_of<'b, R: Files>(rt: &R, name: &str, room: &'b mut [u8]) -> Option<&'b [u8]> {
     // Before it is opened: to open a named pipe again would wait for another writer.
-    if !fs::metadata(rt, name).ok()?.is_file() {
+    if is_standard(name) || !fs::metadata(rt, name).ok()?.is_file() {
         return None;
     }
     let mut file = File::open(rt, name).ok()?;

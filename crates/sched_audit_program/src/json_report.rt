@@ -2,8 +2,8 @@
 use crate::answer::{Answer, FrontOf};
 use crate::fault_members::FaultMembers;
 use crate::progress::{Lengths, WatchedFeed};
-use crate::trace_again::is_regular;
 use audit_input::KeepingFeed;
+use given_texts::Input;
 use sched_audit::{
     Counted, Fault, FeedOf, LeastFigures, OpenGate, Request, SinkOf, Told, Verdict, WithWaits,
     run_json_further,
@@ -20,8 +20,8 @@ pub(crate) fn answer_json<R: Files + Print + Eprint + RandomSource + Threads + W
     rt: &R,
     alloc: Global,
     request: &Request<'_>,
-    trace: R::File,
-    companion: R::File,
+    trace: Input<R::File>,
+    companion: Input<R::File>,
     lengths: Lengths,
 ) -> Result<Answer, Fault> {
     match (request.least, request.summary) {
@@ -36,8 +36,8 @@ fn answer_as<J: Told, R: Files + Print + Eprint + RandomSource + Threads + Wait 
     rt: &R,
     alloc: Global,
     request: &Request<'_>,
-    trace: R::File,
-    companion: R::File,
+    trace: Input<R::File>,
+    companion: Input<R::File>,
     lengths: Lengths,
 ) -> Result<Answer, Fault> {
     if request.waits {
@@ -52,11 +52,11 @@ fn answer_in<J: Told, R: Files + Print + Eprint + RandomSource + Threads + Wait 
     rt: &R,
     alloc: Global,
     request: &Request<'_>,
-    trace: R::File,
-    companion: R::File,
+    trace: Input<R::File>,
+    companion: Input<R::File>,
     lengths: Lengths,
 ) -> Result<Answer, Fault> {
-    let keeps = !is_regular(&trace);
+    let keeps = !trace.is_regular();
     let mut trace = KeepingFeed::new(
         alloc,
         WatchedFeed::new(rt, FeedOf::new(trace), lengths.trace),

@@ -25,7 +25,7 @@ fn main(rt: HostRuntime) -> ExitCode {
         output: rt.stdout().is_terminal(),
         errors: rt.stderr().is_terminal(),
     };
-    let ending = command::obey(&rt, rt.alloc(), terminals);
+    let ending = command::obey(&rt, rt.alloc(), rt.stdin(), terminals);
     match ending {
         Ending::Failed(fault) => {
             let _ = eprintln!(rt; "sched_audit: {fault}");

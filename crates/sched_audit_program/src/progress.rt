@@ -1,8 +1,8 @@
 //! How far a long text is read, said on standard error where that is a terminal.
 ghost use Rattle.std.specs.Prelude.{◌≡◌};
 
+use given_texts::Input;
 use sched_audit::{Failed, Feed};
-use std::fs::OpenFile;
 
 /// A text of so many bytes is read without a word.
 const QUIET: u64 = 100_000_000;
@@ -23,7 +23,7 @@ pub(crate) struct Lengths {
 
 impl Lengths {
     /// Of their files.
-    pub(crate) fn of<F: OpenFile>(trace: &F, companion: &F, is_seen: bool) -> Lengths {
+    pub(crate) fn of<F>(trace: &Input<F>, companion: &Input<F>, is_seen: bool) -> Lengths {
         Lengths {
             trace: Size::of("trace", trace, is_seen),
             companion: Size::of("companion", companion, is_seen),
@@ -33,14 +33,10 @@ impl Lengths {
 
 impl Size {
     /// Of a file: its progress is told where that is seen, and the file is regular and long.
-    fn of<F: OpenFile>(name: &'static str, file: &F, is_seen: bool) -> Size {
-        match file.metadata() {
-            Ok(about) if is_seen && about.is_file() && about.len() > QUIET => Size {
-                name,
-                bytes: about.len(),
-            },
-            _ => Size { name, bytes: 0 },
-        }
+    fn of<F>(name: &'static str, input: &Input<F>, is_seen: bool) -> Size {
+        let length = input.length();
+        let bytes = if is_seen && length > QUIET { length } else { 0 };
+        Size { name, bytes }
     }
 
     /// How many percent of it these bytes are, if its progress is told.

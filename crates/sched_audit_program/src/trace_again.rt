@@ -2,18 +2,9 @@ use audit_input::{Feed, KeepingFeed, line_again};
 use cfs_model::Memory;
 use fault_explainer::TraceText;
 use std::alloc::Global;
-use std::fs::OpenFile;
 use std::io;
 use std::io::ErrorKind;
 use std::rt::Files;
-
-/// Whether a file is one that can be read a second time.
-pub(crate) fn is_regular<F: OpenFile>(file: &F) -> bool {
-    match file.metadata() {
-        Ok(about) => about.is_file(),
-        Err(_) => false,
-    }
-}
 
 /// A trace that went by, of which lines are read again.
 #[derive(Drop)]

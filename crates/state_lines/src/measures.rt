@@ -1,6 +1,7 @@
 ghost use Rattle.replay_model.specs.Needs.{IsExcess};
 
 use crate::sight::Sight;
+use crate::stretch::Stretch;
 use cfs_model::{IDLE_PID, Setting};
 use replay_model::Deed;
 
@@ -83,15 +84,10 @@ fn idled(sight: &Sight) -> Option<u64> {
     Some(sight.step.time.saturating_sub(since))
 }
 
-/// Of a task that is gone nothing is known any more.
+/// Also of a task that ends with the event, and stands nowhere behind it.
 fn drift(sight: &Sight) -> Option<u64> {
-    let told = sight.step.charge?;
-    let runner = sight.after.runner;
-    let task = match runner {
-        Some(task) if task.pid == told.pid => task,
-        _ => sight.after.task?,
-    };
-    Some(task.drift.unsigned_abs())
+    sight.step.charge?;
+    Some(Stretch::of(sight)?.drift(&sight.after).unsigned_abs())
 }
 
 /// How far a virtual runtime is above another, in virtual nanoseconds; 0 where it isn't.

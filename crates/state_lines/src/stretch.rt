@@ -26,6 +26,18 @@ impl Stretch {
     pub fn cost(&self) -> u64 {
         self.to.abs_diff(self.task.v)
     }
+
+    /// By how much told charges of who ran stray in sum from exact ones behind the event, where the processor stands so
+    /// then; in virtual nanoseconds, signed.
+    pub(crate) fn drift(&self, after: &Glance) -> i64 {
+        match kept(after, self.task.pid) {
+            Some(task) => task.drift,
+            None => {
+                let strayed = self.to.saturating_sub(exact_end(&self.task, self.ran));
+                self.task.drift.saturating_add(strayed)
+            }
+        }
+    }
 }
 
 /// Who ran, where it still stands at the processor: it runs on, or is the previous task of a switch.

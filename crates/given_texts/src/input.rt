@@ -1,0 +1,85 @@
+use std::fs::{self, File, Metadata, OpenFile};
+use std::io::{self, Read};
+use std::os::unix::fs::MetadataExt;
+use std::rt::{Files, Stdin};
+
+/// The name of standard input on a command line.
+const STANDARD: &str = "-";
+
+/// Where the system shows what standard input is.
+const SHOWN: &str = "/dev/stdin";
+
+/// A text that a user names, while it is read, and what the system says of its file.
+#[derive(Drop)]
+pub struct Input<F> {
+    source: Source<F>,
+    about: Metadata,
+}
+
+/// Where the bytes of a text come from.
+#[derive(Drop)]
+enum Source<F> {
+    File(F),
+    /// From where it stands; opened anew it would begin at its front.
+    Standard(Stdin),
+}
+
+impl<F> Input<F> {
+    /// Whether the name can be opened a second time for the same bytes.
+    pub fn is_regular(&self) -> bool {
+        match &self.source {
+            Source::File(_) => self.about.is_file(),
+            Source::Standard(_) => false,
+        }
+    }
+
+    /// How long its file is, in bytes; 0 where it isn't a regular one.
+    pub fn length(&self) -> u64 {
+        if self.about.is_file() {
+            self.about.len()
+        } else {
+            0
+        }
+    }
+
+    /// Whether a name is that of the same regular file.
+    pub fn is_at<R: Files>(&self, rt: &R, name: &str) -> bool {
+        match fs::metadata(rt, name) {
+            Ok(other) => {
+                self.about.is_file()
+                    && self.about.dev() == other.dev()
+                    && self.about.ino() == other.ino()
+            }
+            Err(_) => false,
+        }
+    }
+}
+
+impl<F: Read> Read for Input<F> {
+    fn read(&mut self, buf: &mut [u8]) -> io::Result<usize> {
+        match &mut self.source {
+            Source::File(file) => file.read(buf),
+            Source::Standard(stdin) => stdin.read(buf),
+        }
+    }
+}
+
+/// Opens what a name of a command line is: `-` is standard input, where that isn't closed.
+pub fn open_input<R: Files>(rt: &R, stdin: Stdin, name: &str) -> io::Result<Input<R::File>> {
+    if is_standard(name) {
+        let about = fs::metadata(rt, SHOWN)?;
+        let source = Source::Standard(stdin);
+        return Ok(Input { source, about });
+    }
+    let file = File::open(rt, name)?;
+    let about = file.metadata()?;
+    Ok(Input {
+        source: Source::File(file),
+        about,
+    })
+}
+
+/// Whether a name of a command line is that of standard input.
+pub fn is_standard(name: &str) -> bool {
+    name == STANDARD
+}

@@ -1,4 +1,2 @@
 mod Counting
-mod Holding
-mod Passing
 pub mod Versions

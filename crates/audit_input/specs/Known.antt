@@ -1,7 +1,6 @@
 -- What is known of the bytes of readers and writers, and how their calls are counted (this project's profile).
-use Rattle.std.specs.Prelude.{◌≡◌, ℕ, ◌+◌, ◌-◌, ◌^◌, ◌⊎◌, min, List, ◌++◌, length, nat_lt, ◌==◌, ◌&&◌, ⊤, Option, None}
+use Rattle.std.specs.Prelude.{◌≡◌, ℕ, ◌+◌, ◌-◌, ◌^◌, ◌⊎◌, min, List, length, nat_lt, ◌==◌, ◌&&◌, ⊤, Option, None}
 use Rattle.std.specs.Prelude.{Some, Result, Ok, Err, Bool, true, false}
-use Rattle.std.specs.Io.KnownBytes.{Appends}
 
 -- where bytes are known, they are these
 abbrev pub Agrees : Option (List ℕ) → List ℕ → Type 0

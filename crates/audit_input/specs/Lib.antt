@@ -4,4 +4,3 @@ pub mod Refusals
 pub mod Words
 pub mod Codes
 pub mod Known
-pub mod Held

@@ -10,7 +10,7 @@ use std::alloc::{AllocError, Global};
 const CHUNK: usize = 64 * 1024;
 
 /// How many reads are made on one input, at most.
-pub(crate) const MOST_READS: u64 = 1 << 32;
+const MOST_READS: u64 = 1 << 32;
 
 /// All that an input still gives. Where a read fails, or the most reads don't reach the end, this fault.
 pub fn read_all<F: Feed>(alloc: Global, feed: &mut F, fault: Fault) -> Result<Vec<u8>, Fault>
@@ -37,7 +37,7 @@ pub fn read_all<F: Feed>(alloc: Global, feed: &mut F, fault: Fault) -> Result<Ve
 }
 
 /// Reads once, behind what is filled, and says how many bytes came. None is the end.
-pub(crate) fn read_chunk<F: Feed>(
+fn read_chunk<F: Feed>(
     feed: &mut F,
     bytes: &mut Vec<u8>,
     filled: usize,

@@ -1,7 +1,6 @@
 use crate::debug::told_floors;
 use crate::floors::Floors;
 use crate::prints::Prints;
-use crate::strategy::Strategy;
 use crate::wishes::Wishes;
 use cfs_model::Memory;
 use std::alloc::Global;
@@ -25,17 +24,19 @@ impl KernelValues {
         debug: Option<&[u8]>,
         wishes: &Wishes,
     ) -> Result<KernelValues, Memory> {
-        if wishes.strategy != Some(Strategy::Kernel) {
+        if !wishes.want_prints() {
             return Ok(KernelValues::none(alloc));
         }
+        Ok(KernelValues::told(Prints::of(rt, alloc, text)?, debug))
+    }
+
+    /// Those that these prints tell, and that the text of `sched/debug` tells, where it is given.
+    pub fn told(prints: Prints, debug: Option<&[u8]>) -> KernelValues {
         let floors = match debug {
             Some(told) => told_floors(told),
             None => Floors::unknown(),
         };
-        Ok(KernelValues {
-            prints: Prints::of(rt, alloc, text)?,
-            floors,
-        })
+        KernelValues { prints, floors }
     }
 
     /// Nothing.

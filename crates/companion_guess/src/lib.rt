@@ -42,5 +42,6 @@ pub use debug::tells_floors;
 pub use guessing::guessed;
 pub use kernel_values::KernelValues;
 pub use made::{Guessed, Made};
+pub use prints::Prints;
 pub use strategy::{STRATEGIES, Strategy};
 pub use wishes::Wishes;

@@ -29,8 +29,9 @@ impl LineText {
     pub(crate) fn push(&mut self, more: &str) {
         let more = more.as_bytes();
         if let Some(room) = self.bytes.get_mut(self.length..) {
-            for (place, byte) in room.iter_mut().zip(more) {
-                *place = *byte;
+            if more.len() <= room.len() {
+                let (place, _) = room.split_at_mut(more.len());
+                place.copy_from_slice(more);
             }
         }
         self.length = self.length.saturating_add(more.len());

@@ -4,6 +4,7 @@ use bstr::ByteSlice;
 use cfs_model::{GREATEST_PID, GREATEST_RUNTIME, NANOSECONDS_PER_SECOND};
 use ftrace_line::{read_line, usual_front};
 use memchr::memchr_iter;
+use text_parts::lines::next_line;
 use text_parts::numerals::numeral_at;
 use text_parts::pieces::{after_front, begins_with};
 use text_parts::time::read_time;
@@ -40,21 +41,30 @@ const NAME: &[u8] = b"sched_stat_runtime: ";
 /// What stands between the head of a line of that event and its text.
 pub(crate) const LABEL: &[u8] = b": sched_stat_runtime: ";
 
-/// The charge that a line of a trace prints, if it is a line of that event.
-pub(crate) fn printed_charge(line: &[u8]) -> Option<Printed> {
-    let label = label_of(line)?;
-    match usual_front(line) {
-        Some(front) => Some(Printed {
-            time: front.time,
-            cpu: front.cpu,
-            amounts: amounts_of(after_front(front.rest, NAME)?)?,
-        }),
-        None => unusual_charge(line, label),
+/// The charge that the first line of a text prints, if it is a line of that event, and what follows the line.
+pub(crate) fn first_charge(text: &[u8]) -> (Option<Printed>, &[u8]) {
+    match usual_front(text) {
+        Some(front) => {
+            let (rest, after) = next_line(front.rest);
+            (usual_charge(front.cpu, front.time, rest), after)
+        }
+        None => {
+            let (line, after) = next_line(text);
+            (unusual_charge(line), after)
+        }
     }
 }
 
-/// Where the first label on a line of a trace is. None has room in the columns of the name. Most lines have one colon
-/// behind these, so they aren't searched for the whole label.
+/// The charge that a line prints whose head has this processor and time, by what follows the head.
+fn usual_charge(cpu: u32, time: u64, rest: &[u8]) -> Option<Printed> {
+    Some(Printed {
+        time,
+        cpu,
+        amounts: amounts_of(after_front(rest, NAME)?)?,
+    })
+}
+
+/// Where the first label on a line of a trace is. None has room in the columns of the name.
 fn label_of(line: &[u8]) -> Option<usize> {
     let behind = line.get(NAME_WIDTH..)?;
     for colon in memchr_iter(b':', behind) {
@@ -65,9 +75,10 @@ fn label_of(line: &[u8]) -> Option<usize> {
     None
 }
 
-/// The same of a line with something that is seldom there: the first label on it, which is given with its index, has to
-/// stand right behind the head.
-fn unusual_charge(line: &[u8], label: usize) -> Option<Printed> {
+/// The charge that a line with something that is seldom there prints: the first label on it has to stand right behind
+/// the head.
+fn unusual_charge(line: &[u8]) -> Option<Printed> {
+    let label = label_of(line)?;
     let head = line.get(..label)?;
     let text = line.get(label.saturating_add(LABEL.len())..)?;
     // Where a head ends before the label, the label is a part of another event's text.

@@ -1,18 +1,17 @@
 //! What a kernel printed of its charges.
 
 use crate::print::Print;
-use crate::printed::{LABEL, printed_charge};
+use crate::printed::{LABEL, Printed, first_charge};
 use cfs_model::{MOST_PROCESSORS, Memory};
-use memchr::memmem;
+use memchr::{memchr_iter, memmem};
 use rayon::prelude::*;
 use std::alloc::Global;
 use std::thread::Threads;
 use text_parts::cutting::cut_at_lines;
-use text_parts::lines::next_line;
 
-/// All charges that a trace prints.
+/// The charges that the lines of a trace print, which are read some at a time.
 #[derive(Drop)]
-pub(crate) struct Prints {
+pub struct Prints {
     /// How many lines were read.
     lines: u32,
     /// By rising line.
@@ -22,8 +21,8 @@ pub(crate) struct Prints {
 }
 
 impl Prints {
-    /// Nothing was printed.
-    pub(crate) fn none(alloc: Global) -> Prints {
+    /// Before the first line. It takes no memory.
+    pub fn none(alloc: Global) -> Prints {
         Prints {
             lines: 0,
             prints: Vec::new(alloc),
@@ -37,7 +36,7 @@ impl Prints {
         alloc: Global,
         text: &[u8],
     ) -> Result<Prints, Memory> {
-        if memmem::find(text, LABEL).is_none() {
+        if !has_label(text) {
             return Ok(Prints::none(alloc));
         }
         let pieces = cut_at_lines(alloc, text)?;
@@ -57,21 +56,33 @@ impl Prints {
     /// What a piece prints, with its lines counted from its own front.
     fn of_piece(alloc: Global, piece: &[u8]) -> Result<Prints, Memory> {
         let mut found = Prints::none(alloc);
-        let mut rest = piece;
-        while !rest.is_empty() {
-            let (line, after) = next_line(rest);
-            rest = after;
-            found.read(line)?;
-        }
+        found.read(piece)?;
         Ok(found)
     }
 
-    /// Reads one more line, and what it prints, if it prints something.
-    fn read(&mut self, line: &[u8]) -> Result<(), Memory> {
-        self.lines = self.lines.saturating_add(1);
-        let Some(printed) = printed_charge(line) else {
+    /// Reads the lines of a text, behind those read before.
+    pub fn read(&mut self, text: &[u8]) -> Result<(), Memory> {
+        if !has_label(text) {
+            self.lines = self.lines.saturating_add(line_count(text));
             return Ok(());
-        };
+        }
+        let mut rest = text;
+        for _ in 0..text.len() {
+            if rest.is_empty() {
+                break;
+            }
+            let (printed, after) = first_charge(rest);
+            rest = after;
+            self.lines = self.lines.saturating_add(1);
+            if let Some(printed) = printed {
+                self.take(printed)?;
+            }
+        }
+        Ok(())
+    }
+
+    /// Notes what the line prints that was read last.
+    fn take(&mut self, printed: Printed) -> Result<(), Memory> {
         if let Some(greatest) = self.greatest.get_mut(printed.cpu as usize) {
             *greatest = (*greatest).max(printed.amounts.v);
         }
@@ -121,4 +132,16 @@ impl Prints {
     pub(crate) fn greatest(&self, cpu: u32) -> i64 {
         self.greatest.get(cpu as usize).copied().unwrap_or(0)
     }
+}
+
+/// Whether a charge may be printed somewhere in a text.
+fn has_label(text: &[u8]) -> bool {
+    memmem::find(text, LABEL).is_some()
+}
+
+/// How many lines a text has; what stands behind the last line feed is one too.
+fn line_count(text: &[u8]) -> u32 {
+    let ended = memchr_iter(b'\n', text).count();
+    let open = usize::from(!text.is_empty() && !text.ends_with(b"\n"));
+    u32::try_from(ended.saturating_add(open)).unwrap_or(u32::MAX)
 }

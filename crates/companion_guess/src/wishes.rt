@@ -13,4 +13,9 @@ pub struct Wishes {
 impl Wishes {
     /// The settings that bound where a task is placed; the others change nothing.
     pub const SETTINGS: [Setting; 2] = [Setting::Credit, Setting::Debit];
+
+    /// Whether the kernel's values are wanted, which the trace may print.
+    pub fn want_prints(&self) -> bool {
+        self.strategy == Some(Strategy::Kernel)
+    }
 }

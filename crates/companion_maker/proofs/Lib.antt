@@ -1,3 +1,2 @@
 pub mod Fits
-mod Told
 mod Unguessed

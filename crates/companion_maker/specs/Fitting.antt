@@ -4,8 +4,6 @@ use Rattle.cfs_model.specs.declared.act.Entry.{Entry}
 use Rattle.cfs_model.specs.Limits.{most_processors}
 use Rattle.companion_file.specs.Companion.{CompanionView, CompanionAnswer}
 use Rattle.sched_record.specs.Join.{GoTogether, IsFirstOutside}
-use Rattle.sched_record.specs.declared.cause.TraceFault.{TraceFault}
-use Rattle.sched_record.specs.declared.cause.TraceFault.TheVariants as faults
 use Rattle.companion_maker.specs.declared.not_made.NotMade.{NotMade}
 use Rattle.companion_maker.specs.declared.not_made.NotMade.TheVariants as reasons
 
@@ -19,9 +17,3 @@ ReadsAndJoins events text = (companion : CompanionView) × CompanionAnswer text 
 abbrev pub IsNotMadeFor : List Entry → NotMade → Type 0
 IsNotMadeFor events (reasons.CpuOutside line) = IsFirstOutside most_processors events line
 IsNotMadeFor events reasons.Memory = Unit {0}
-IsNotMadeFor events (reasons.Trace line cause) = ⊥
-
--- why no companion is made for a trace that is refused
-abbrev pub reason_of : TraceFault → NotMade
-reason_of (faults.Text line cause) = reasons.Trace line cause
-reason_of faults.Memory = reasons.Memory

@@ -2,9 +2,11 @@
 //! for this trace; the auditor judges it.
 #![tactic(auto)]
 
+mod hearing;
 mod making;
 mod not_made;
 mod plain;
 
-pub use making::{companion_of_read, companion_of_text, make_companion};
+pub use hearing::{Heard, Hearing, hear_trace};
+pub use making::{companion_of_trace, make_companion};
 pub use not_made::NotMade;

@@ -1,16 +1,12 @@
 ghost use Rattle.std.specs.Prelude.{◌≡◌};
-ghost use Rattle.companion_maker.specs.Fitting.{reason_of};
 ghost use Rattle.companion_maker.specs.declared.not_made.NotMade.TheVariants as reasons;
 
 use cfs_model::Memory;
-use sched_record::{TraceCause, TraceFault};
 use std::alloc::AllocError;
 
 /// Why no companion was made.
 #[derive(Clone, Copy, Debug, PartialEq, Eq)]
 pub enum NotMade {
-    /// The trace is refused: its first bad line, from 1, comments counted, and why.
-    Trace { line: u64, cause: TraceCause },
     /// An event touches a processor that no companion has: the line of the first such event.
     CpuOutside { line: u64 },
     /// A growth was refused.
@@ -30,16 +26,5 @@ impl From<AllocError> for NotMade {
 
     fn from(_want: AllocError) -> NotMade {
         NotMade::Memory
-    }
-}
-
-impl From<TraceFault> for NotMade {
-    ghost from_gives = { λ fault why. why ≡ reason_of fault };
-
-    fn from(fault: TraceFault) -> NotMade {
-        match fault {
-            TraceFault::Text { line, cause } => NotMade::Trace { line, cause },
-            TraceFault::Memory => NotMade::Memory,
-        }
     }
 }

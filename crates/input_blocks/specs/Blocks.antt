@@ -41,3 +41,7 @@ pub record ComesTo {R : Type 0} (reads : R → R → List (List ℕ) → Type 0)
     -- they are few enough to be numbered
     pub few : length (lines_of (done ++ more)) + 1 < 2 ^ 64
     pub next : IsThen reads gave left blocks (done ++ more) goes_on
+
+-- a reader has read the lines of all that an input gave
+abbrev pub ReadsAll : {R : Type 0} → (R → R → List (List ℕ) → Type 0) → R → R → Option (List ℕ) → Type 0
+ReadsAll reads old new gave = (text : List ℕ) × Agrees gave text × reads old new (lines_of text)

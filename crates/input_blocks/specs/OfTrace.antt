@@ -1,8 +1,14 @@
 -- How the reader of a trace reads lines (this project's profile).
-use Rattle.std.specs.Prelude.{ℕ, List, [], ◌++◌}
-use Rattle.std.proofs.Common.{ap, sym, subst, append_assoc, append-nil}
+use Rattle.std.specs.Prelude.{ℕ, List, [], ◌++◌, Option}
+use Rattle.std.proofs.Common.{sym, subst, append_assoc, append-nil}
+use Rattle.audit_input.specs.Known.{Agrees}
 use Rattle.sched_record.specs.Reader.{HasRead}
 use Rattle.sched_record.specs.declared.trace_reader.TraceReader.{TraceReader}
+use Rattle.text_parts.specs.Lines.{lines_of}
+
+-- it has read the lines of all that an input gave
+abbrev pub IsReadFrom : TraceReader → Option (List ℕ) → Type 0
+IsReadFrom reader gave = (text : List ℕ) × Agrees gave text × HasRead reader (lines_of text)
 
 -- behind any lines that the one has read the other has read these
 abbrev pub ReadsTrace : TraceReader → TraceReader → List (List ℕ) → Type 0

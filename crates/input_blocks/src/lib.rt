@@ -9,7 +9,10 @@ mod line_blocks;
 mod line_reader;
 mod passing;
 mod reading;
+mod to_end;
 mod trace;
 
 pub use line_blocks::LineBlocks;
 pub use line_reader::LineReader;
+pub use to_end::read_to_end;
+pub use trace::read_lines;

@@ -2,17 +2,17 @@
 use crate::audit_command::AuditCommand;
 use cfs_model::{Amounts, GREATEST_SETTING, Knobs, Setting};
 use companion_guess::{Guessed, Strategy, tells_floors};
-use given_texts::{KernelHint, has_event, is_overwritten, trace_hint};
+use given_texts::{KernelHint, is_overwritten, trace_hint};
 
 /// What is said of a companion that is given as the trace.
 const OF_COMPANION: &str = "is a companion: a companion is made of a trace";
 
-/// Says what is likely a mistake in a trace that is refused.
-pub(crate) fn say_of_text<R: Eprint>(rt: &R, text: &[u8]) {
-    if let Some(hint) = trace_hint(text, OF_COMPANION) {
+/// Says what is likely a mistake in a trace that is refused, by its front.
+pub(crate) fn say_of_text<R: Eprint>(rt: &R, front: &[u8]) {
+    if let Some(hint) = trace_hint(front, OF_COMPANION) {
         let _ = eprintln!(rt; "hint: the trace {hint}");
     }
-    say_of_loss(rt, text);
+    say_of_loss(rt, front);
 }
 
 /// Says what makes companions of a trace in which some lines can't be judged.
@@ -22,16 +22,17 @@ pub(crate) fn say_of_stretches<R: Eprint>(rt: &R) {
     );
 }
 
-/// Says what to do with the companion that was written for a trace, and what is likely a mistake in that or in the text
-/// of `--debug`.
+/// Says what to do with the companion that was written for a trace, which begins with this and may have no event; and
+/// what is likely a mistake in that or in the text of `--debug`.
 pub(crate) fn say_of_companion<R: Eprint>(
     rt: &R,
-    text: &[u8],
+    front: &[u8],
+    is_empty: bool,
     debug: Option<&[u8]>,
     guess: Option<Guessed>,
 ) {
-    say_of_loss(rt, text);
-    if !has_event(text) {
+    say_of_loss(rt, front);
+    if is_empty {
         let _ = eprintln!(rt; "hint: the trace has no event of the scheduler");
     } else if let Some(guess) = guess {
         if let Some(debug) = debug {
@@ -54,8 +55,8 @@ fn say_of_debug<R: Eprint>(rt: &R, debug: &[u8], strategy: Strategy) {
     }
 }
 
-fn say_of_loss<R: Eprint>(rt: &R, text: &[u8]) {
-    if is_overwritten(text) {
+fn say_of_loss<R: Eprint>(rt: &R, front: &[u8]) {
+    if is_overwritten(front) {
         let _ = eprintln!(rt;
             "hint: the trace misses events: its two numbers of entries differ, so the buffer was overwritten"
         );

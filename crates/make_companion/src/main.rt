@@ -5,6 +5,7 @@ mod audit_command;
 mod cause_word;
 mod command;
 mod ending;
+mod front_feed;
 mod hints;
 mod making;
 

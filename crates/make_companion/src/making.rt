@@ -1,20 +1,25 @@
 use crate::cause_word::CauseWord;
 use crate::command::{Request, command_line};
 use crate::ending::Ending;
+use crate::front_feed::FrontFeed;
 use crate::hints::{say_of_companion, say_of_stretches, say_of_text};
+use audit_input::{Fault, FeedOf};
 use clap::Error;
 use clap::error::ErrorKind::OutOfMemory;
-use companion_guess::Wishes;
-use companion_maker::{NotMade, companion_of_text};
-use given_texts::read_input;
+use companion_guess::{KernelValues, Wishes};
+use companion_maker::{Heard, Hearing, NotMade, companion_of_trace, hear_trace};
+use given_texts::{open_input, read_input};
 use pid_table::PidHasher;
-use sched_record::JoinCause;
+use sched_record::{JoinCause, TraceFault};
 use std::alloc::Global;
 use std::io::{ErrorKind, Write};
 use std::random::RandomSource;
 use std::rt::{Env, Files, Stdin};
 use std::thread::Threads;
 use std::{env, io};
+
+/// How many bytes of the trace a read asks for.
+const BLOCK: u32 = 1 << 18;
 
 /// Does what the command line says.
 pub fn obey<R: Env + Files + Print + Eprint + RandomSource + Threads + Sync + AllocGlobal>(
@@ -48,36 +53,60 @@ fn make<R: Files + Print + Eprint + RandomSource + Threads + Sync + AllocGlobal>
     stdin: Stdin,
     request: &Request<'_>,
 ) -> Ending {
-    let text = match read_input(rt, alloc, stdin, request.trace) {
-        Ok(text) => text,
-        Err(error) if error.kind() == ErrorKind::OutOfMemory => return Ending::Memory,
+    let trace = match open_input(rt, stdin, request.trace) {
+        Ok(trace) => trace,
+        Err(error) => return ending_of(&error, Ending::Unread),
+    };
+    let mut feed = FrontFeed::new(alloc, FeedOf::new(trace));
+    let hearing = match hear_trace(alloc, &mut feed, BLOCK, &request.wishes) {
+        Ok(hearing) => hearing,
+        Err(Fault::Memory) => return Ending::Memory,
         Err(_) => return Ending::Unread,
     };
     let Some(name) = request.debug else {
-        return write_companion(rt, alloc, text.as_slice(), None, &request.wishes);
+        return write_companion(rt, alloc, feed.front(), hearing, None, &request.wishes);
     };
     match read_input(rt, alloc, stdin, name) {
         Ok(debug) => write_companion(
             rt,
             alloc,
-            text.as_slice(),
+            feed.front(),
+            hearing,
             Some(debug.as_slice()),
             &request.wishes,
         ),
-        Err(error) if error.kind() == ErrorKind::OutOfMemory => Ending::Memory,
-        Err(_) => Ending::DebugUnread,
+        Err(error) => ending_of(&error, Ending::DebugUnread),
     }
 }
 
-/// Writes the companion for these texts to standard output.
+/// How the program ends where a text couldn't be read.
+fn ending_of(error: &io::Error, unread: Ending) -> Ending {
+    if error.kind() == ErrorKind::OutOfMemory {
+        Ending::Memory
+    } else {
+        unread
+    }
+}
+
+/// Writes the companion of what was heard to standard output. The trace's text began like this.
 fn write_companion<R: Print + Eprint + RandomSource + Threads + Sync + AllocGlobal>(
     rt: &R,
     alloc: Global,
-    text: &[u8],
+    front: &[u8],
+    hearing: Hearing,
     debug: Option<&[u8]>,
     wishes: &Wishes,
 ) -> Ending {
-    match companion_of_text(rt, alloc, text, debug, wishes, PidHasher::random(rt)) {
+    let Heard { trace, prints } = match hearing.finish() {
+        Ok(heard) => heard,
+        Err(TraceFault::Text { line, cause }) => {
+            return refuse(rt, front, line, CauseWord::Trace(cause));
+        }
+        Err(TraceFault::Memory) => return Ending::Memory,
+    };
+    let is_empty = trace.events().is_empty();
+    let values = KernelValues::told(prints, debug);
+    match companion_of_trace(rt, alloc, trace, values, wishes, PidHasher::random(rt)) {
         Ok(made) => {
             if made.guess.is_none() {
                 let _ = eprintln!(rt;
@@ -86,24 +115,23 @@ fn write_companion<R: Print + Eprint + RandomSource + Threads + Sync + AllocGlob
             }
             match io::writer(rt).write_all(made.text.as_slice()) {
                 Ok(()) => {
-                    say_of_companion(rt, text, debug, made.guess);
+                    say_of_companion(rt, front, is_empty, debug, made.guess);
                     Ending::Told
                 }
                 Err(_) => Ending::Unwritten,
             }
         }
-        Err(NotMade::Trace { line, cause }) => refuse(rt, text, line, CauseWord::Trace(cause)),
         Err(NotMade::CpuOutside { line }) => {
-            refuse(rt, text, line, CauseWord::Join(JoinCause::CpuOutside))
+            refuse(rt, front, line, CauseWord::Join(JoinCause::CpuOutside))
         }
         Err(NotMade::Memory) => Ending::Memory,
     }
 }
 
 /// Says on standard error that the trace is refused.
-fn refuse<R: Eprint>(rt: &R, text: &[u8], line: u64, word: CauseWord) -> Ending {
+fn refuse<R: Eprint>(rt: &R, front: &[u8], line: u64, word: CauseWord) -> Ending {
     let _ = eprintln!(rt; "make_companion: refused trace line {line} {word}");
-    say_of_text(rt, text);
+    say_of_text(rt, front);
     if word.cuts_recordings() {
         say_of_stretches(rt);
     }

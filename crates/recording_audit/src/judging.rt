@@ -13,7 +13,8 @@ use crate::watch::Watch;
 use audit_crew::{OpenGate, least_settings};
 use audit_input::{Refused, record_of, tells_charges};
 use cfs_model::Memory;
-use companion_maker::{NotMade, companion_of_read};
+use companion_guess::KernelValues;
+use companion_maker::{NotMade, companion_of_trace};
 use pid_table::PidHasher;
 use sched_record::{Trace, TraceFault, read_trace, read_trace_wide};
 use std::alloc::Global;
@@ -91,12 +92,9 @@ fn judge_trace<R: RandomSource + Threads + Wait + Sync>(
         return Ok(Judged::Quiet);
     }
     let hasher = PidHasher::random(rt);
-    match companion_of_read(rt, alloc, trace, text, asked.debug, &asked.wishes, hasher) {
+    let values = KernelValues::of(rt, alloc, text, asked.debug, &asked.wishes)?;
+    match companion_of_trace(rt, alloc, trace, values, &asked.wishes, hasher) {
         Ok(made) => judge_made(rt, alloc, text, made.text, span, asked),
-        Err(NotMade::Trace { line, cause }) => Ok(Judged::Bad {
-            line,
-            why: CutCause::Refused(cause),
-        }),
         Err(NotMade::CpuOutside { line }) => Ok(Judged::Bad {
             line,
             why: CutCause::CpuOutside,

@@ -13,8 +13,9 @@ use crate::{
     write_report,
 };
 use audit_crew::audit;
-use audit_input::{read_all, read_lines, record_of, tells_charges};
+use audit_input::{read_all, record_of, tells_charges};
 use cfs_model::{Knobs, Memory};
+use input_blocks::read_lines;
 use least_places::least_figures;
 use pid_table::PidHasher;
 use sched_record::{Record, Trace, TraceFault, read_trace_wide};

@@ -132,7 +132,9 @@ fn remedy(source: Source, cause: Cause) -> &'static str {
         Cause::NoTask =>
             "name its task above; if it is born later, write its birth's line in place of the 0",
         Cause::Short => "write a floor for each processor",
-        Cause::CpuOutside => "set cpus to the greatest processor of the recording plus one",
+        Cause::CpuOutside => {
+            "set cpus to the greatest processor of the recording plus one; at most 64 processors can be judged"
+        }
         Cause::StartLate => "let start be the first event's time, or earlier",
         Cause::ClaimNoEvent => "count the trace's lines from 1, with its comments",
     }

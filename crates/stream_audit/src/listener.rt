@@ -21,6 +21,10 @@ use pid_table::PidHasher;
 use std::alloc::Global;
 use std::thread::{Threads, join_mut};
 
+/// How many bytes of the companion a read asks for, at most. What it says ahead of the trace is moved each time that
+/// what was passed is let go.
+const COMPANION_BLOCK: u32 = 1 << 17;
+
 /// What was heard so far of two inputs that are read a block at a time: the trace is a block ahead of the audit.
 #[derive(Drop)]
 pub(crate) struct Listener {
@@ -47,7 +51,7 @@ impl Listener {
     {
         let blocks = LineBlocks::new(alloc, sizes.block());
         let reader = EntryReader::new(alloc);
-        let course = Course::new(alloc, sizes.block(), knobs, hasher);
+        let course = Course::new(alloc, sizes.block().min(COMPANION_BLOCK), knobs, hasher);
         Listener {
             blocks,
             reader,

@@ -7,7 +7,7 @@ use cfs_model::Knobs;
 use clap::Error;
 use clap::error::ErrorKind::OutOfMemory;
 use companion_guess::{Strategy, Wishes};
-use given_texts::read_input;
+use given_texts::{StandardInput, read_input};
 use recording_audit::{Asked, CauseWords, NotAudited, Part, Tally, audit_recording, report};
 use std::alloc::Global;
 use std::io::{ErrorKind, Write};
@@ -51,9 +51,10 @@ fn audit<R: Files + Clock + Print + Eprint + RandomSource + AllocGlobal + Thread
     request: &Request<'_>,
     tells: bool,
 ) -> Result<Ending, Ending> {
-    let text = read(rt, alloc, stdin, request.trace, Ending::Unread)?;
+    let mut standard = StandardInput::new(rt, stdin);
+    let text = read(rt, alloc, &mut standard, request.trace, Ending::Unread)?;
     let debug = match request.debug {
-        Some(name) => Some(read(rt, alloc, stdin, name, Ending::DebugUnread)?),
+        Some(name) => Some(read(rt, alloc, &mut standard, name, Ending::DebugUnread)?),
         None => None,
     };
     let asked = Asked {
@@ -80,11 +81,11 @@ fn audit<R: Files + Clock + Print + Eprint + RandomSource + AllocGlobal + Thread
 fn read<R: Files>(
     rt: &R,
     alloc: Global,
-    stdin: Stdin,
+    standard: &mut StandardInput,
     name: &str,
     unread: Ending,
 ) -> Result<Vec<u8>, Ending> {
-    match read_input(rt, alloc, stdin, name) {
+    match read_input(rt, alloc, standard, name) {
         Ok(text) => Ok(text),
         Err(error) if error.kind() == ErrorKind::OutOfMemory => Err(Ending::Memory),
         Err(_) => Err(unread),

@@ -30,11 +30,12 @@ pub fn tells_floors(text: &[u8]) -> bool {
     (0..MOST_PROCESSORS as u32).any(|cpu| told.at(cpu).is_some())
 }
 
-/// The processor whose runqueue's heading the line is: `cfs_rq[CPU]:/`.
+/// The processor whose runqueue's heading the line is: `cfs_rq[CPU]:/`, or `cfs_rq[CPU]:` where the kernel has no
+/// groups.
 fn heading_of(line: &[u8]) -> Option<u32> {
     let (cpu, rest) = numeral_at(after_front(line, b"cfs_rq[")?)?;
-    let end = after_front(rest, b"]:/")?;
-    if end.is_empty() {
+    let path = after_front(rest, b"]:")?;
+    if path.is_empty() || path == b"/".as_slice() {
         u32::try_from(cpu).ok()
     } else {
         None

@@ -14,12 +14,16 @@ pub fn is_overwritten(front: &[u8]) -> bool {
     }
 }
 
-/// How many entries the buffer kept, and how many were written.
+/// How many entries the buffer kept, and how many were written. A number that the front ends with may go on.
 fn entries(front: &[u8]) -> Option<(u64, u64)> {
     let near = near_front(front);
     let place = near.find(ENTRIES)?;
     let text = near.get(place..)?.get(ENTRIES.len()..)?;
     let (kept, rest) = numeral_at(text)?;
-    let (written, _) = numeral_at(after_byte(rest, b'/')?)?;
-    Some((kept, written))
+    let (written, rest) = numeral_at(after_byte(rest, b'/')?)?;
+    if rest.is_empty() {
+        None
+    } else {
+        Some((kept, written))
+    }
 }

@@ -1,3 +1,4 @@
+use crate::standard_input::StandardInput;
 use std::fs::{self, File, Metadata, OpenFile};
 use std::io::{self, Read};
 use std::os::unix::fs::MetadataExt;
@@ -5,9 +6,6 @@ use std::rt::{Files, Stdin};
 
 /// The name of standard input on a command line.
 const STANDARD: &str = "-";
-
-/// Where the system shows what standard input is.
-const SHOWN: &str = "/dev/stdin";
 
 /// A text that a user names, while it is read, and what the system says of its file.
 #[derive(Drop)]
@@ -64,10 +62,14 @@ impl<F: Read> Read for Input<F> {
     }
 }
 
-/// Opens what a name of a command line is: `-` is standard input, where that isn't closed.
-pub fn open_input<R: Files>(rt: &R, stdin: Stdin, name: &str) -> io::Result<Input<R::File>> {
+/// Opens what a name of a command line is: `-` is standard input, where that isn't closed and wasn't opened before.
+pub fn open_input<R: Files>(
+    rt: &R,
+    standard: &mut StandardInput,
+    name: &str,
+) -> io::Result<Input<R::File>> {
     if is_standard(name) {
-        let about = fs::metadata(rt, SHOWN)?;
+        let (stdin, about) = standard.take()?;
         let source = Source::Standard(stdin);
         return Ok(Input { source, about });
     }

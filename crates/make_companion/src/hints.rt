@@ -50,7 +50,7 @@ fn say_of_debug<R: Eprint>(rt: &R, debug: &[u8], strategy: Strategy) {
         );
     } else if !tells_floors(debug) {
         let _ = eprintln!(rt;
-            "hint: the file of --debug tells no floor: it has no line of .min_vruntime"
+            "hint: the file of --debug tells no floor: it has no .min_vruntime that can be read behind a heading cfs_rq[CPU]:"
         );
     }
 }

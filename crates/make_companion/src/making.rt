@@ -8,7 +8,7 @@ use clap::Error;
 use clap::error::ErrorKind::OutOfMemory;
 use companion_guess::{KernelValues, Wishes};
 use companion_maker::{Heard, Hearing, NotMade, companion_of_trace, hear_trace};
-use given_texts::{open_input, read_input};
+use given_texts::{StandardInput, open_input, read_input};
 use pid_table::PidHasher;
 use sched_record::{JoinCause, TraceFault};
 use std::alloc::Global;
@@ -53,7 +53,8 @@ fn make<R: Files + Print + Eprint + RandomSource + Threads + Sync + AllocGlobal>
     stdin: Stdin,
     request: &Request<'_>,
 ) -> Ending {
-    let trace = match open_input(rt, stdin, request.trace) {
+    let mut standard = StandardInput::new(rt, stdin);
+    let trace = match open_input(rt, &mut standard, request.trace) {
         Ok(trace) => trace,
         Err(error) => return ending_of(&error, Ending::Unread),
     };
@@ -66,7 +67,7 @@ fn make<R: Files + Print + Eprint + RandomSource + Threads + Sync + AllocGlobal>
     let Some(name) = request.debug else {
         return write_companion(rt, alloc, feed.front(), hearing, None, &request.wishes);
     };
-    match read_input(rt, alloc, stdin, name) {
+    match read_input(rt, alloc, &mut standard, name) {
         Ok(debug) => write_companion(
             rt,
             alloc,

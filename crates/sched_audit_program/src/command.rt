@@ -9,7 +9,7 @@ use crate::progress::{Lengths, WatchedFeed};
 use crate::terminals::Terminals;
 use clap::Error;
 use clap::error::ErrorKind::OutOfMemory;
-use given_texts::{Input, open_input};
+use given_texts::{Input, StandardInput, open_input};
 use sched_audit::{
     Counted, Fault, FeedOf, LeastFigures, OpenGate, Request, SinkOf, Sizes, Told, Verdict,
     WithWaits, command_line, run_counted_in_blocks, run_counted_waits, run_in_blocks, run_least,
@@ -90,8 +90,11 @@ fn answer<R: Files + Print + Eprint + RandomSource + Threads + Wait + Sync>(
     request: &Request<'_>,
     terminals: Terminals,
 ) -> Result<Answer, Failure> {
-    let trace = open_input(rt, stdin, request.trace).map_err(|_| Fault::ReadTrace)?;
-    let companion = open_input(rt, stdin, request.companion).map_err(|_| Fault::ReadCompanion)?;
+    let mut standard = StandardInput::new(rt, stdin);
+    let trace = open_input(rt, &mut standard, request.trace).map_err(|_| Fault::ReadTrace)?;
+    let companion = open_input(rt, &mut standard, request.companion).map_err(
+        |_| Fault::ReadCompanion,
+    )?;
     if overwrites(rt, request, &trace, &companion) {
         return Err(Failure::States);
     }

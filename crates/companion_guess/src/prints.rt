@@ -4,10 +4,7 @@ use crate::print::Print;
 use crate::printed::{LABEL, Printed, first_charge};
 use cfs_model::{MOST_PROCESSORS, Memory};
 use memchr::{memchr_iter, memmem};
-use rayon::prelude::*;
 use std::alloc::Global;
-use std::thread::Threads;
-use text_parts::cutting::cut_at_lines;
 
 /// The charges that the lines of a trace print, which are read some at a time.
 #[derive(Drop)]
@@ -28,36 +25,6 @@ impl Prints {
             prints: Vec::new(alloc),
             greatest: [0; MOST_PROCESSORS],
         }
-    }
-
-    /// What the text of a trace prints. Several threads read a long one by pieces.
-    pub(crate) fn of(
-        rt: &(impl Threads + Sync),
-        alloc: Global,
-        text: &[u8],
-    ) -> Result<Prints, Memory> {
-        if !has_label(text) {
-            return Ok(Prints::none(alloc));
-        }
-        let pieces = cut_at_lines(alloc, text)?;
-        let parts = pieces
-            .par_iter()
-            .with_min_len(1)
-            .map(|piece: &&[u8]| -> Result<Prints, Memory> { Prints::of_piece(alloc, piece) })
-            .collect::<Result<Vec<Prints>, Memory>>(rt, alloc)??;
-        let mut whole = Prints::none(alloc);
-        whole.make_room(parts.as_slice())?;
-        for part in parts {
-            whole.append(part)?;
-        }
-        Ok(whole)
-    }
-
-    /// What a piece prints, with its lines counted from its own front.
-    fn of_piece(alloc: Global, piece: &[u8]) -> Result<Prints, Memory> {
-        let mut found = Prints::none(alloc);
-        found.read(piece)?;
-        Ok(found)
     }
 
     /// Reads the lines of a text, behind those read before.
@@ -93,29 +60,6 @@ impl Prints {
             runtime: printed.amounts.runtime,
             v: printed.amounts.v,
         })?;
-        Ok(())
-    }
-
-    /// Makes room for what these parts print.
-    fn make_room(&mut self, parts: &[Prints]) -> Result<(), Memory> {
-        let mut count: usize = 0;
-        for part in parts {
-            count = count.saturating_add(part.prints.len());
-        }
-        self.prints.reserve(count)?;
-        Ok(())
-    }
-
-    /// Takes what the text behind prints.
-    fn append(&mut self, part: Prints) -> Result<(), Memory> {
-        for print in part.prints.as_slice() {
-            let line = self.lines.saturating_add(print.line);
-            self.prints.push(Print { line, ..*print })?;
-        }
-        for (greatest, other) in self.greatest.iter_mut().zip(&part.greatest) {
-            *greatest = (*greatest).max(*other);
-        }
-        self.lines = self.lines.saturating_add(part.lines);
         Ok(())
     }
 

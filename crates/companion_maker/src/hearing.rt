@@ -3,6 +3,7 @@ ghost use Rattle.std.specs.Prelude.{◌≡◌, ◌⊎◌, ◌<◌, ◌≤◌, �
 ghost use Rattle.std.specs.Io.KnownBytes.{IsAtEnd};
 ghost use Rattle.audit_input.specs.Known.{IsCutShort, most_reads};
 ghost use Rattle.companion_maker.specs.Hearing.{reads_hearing, hears_none, hears_on};
+ghost use Rattle.ftrace_line.specs.Front.{IsTold};
 ghost use Rattle.input_blocks.specs.OfTrace.{IsReadFrom};
 ghost use Rattle.sched_record.specs.declared.cause.TraceCause.{TraceCause};
 ghost use Rattle.sched_record.specs.Reader.{HasRead};
@@ -51,6 +52,8 @@ impl Hearing {
             → IfOk result (λ heard. LinesAnswer lines (Ok (trace_view heard.trace))) }
         ensures refused { (lines : List (List ℕ)) (line : ℕ) (cause : TraceCause) → HasRead self.trace lines
             → IsErrOf result (TraceFault.Text line cause) → LinesAnswer lines (Err (line, cause)) }
+        // Nothing grows here.
+        ensures memory { IsErrOf result TraceFault.Memory → ⊥ }
     {
         let Hearing { trace, prints, .. } = self;
         Ok(Heard {
@@ -69,6 +72,8 @@ impl LineReader for Hearing {
         }
         self.trace.read(text)
     }
+
+    ghost told = { IsTold };
 
     fn settles(&self, line: &[u8]) -> bool {
         TraceReader::settled_line();

@@ -8,5 +8,5 @@ mod not_made;
 mod plain;
 
 pub use hearing::{Heard, Hearing, hear_trace};
-pub use making::{companion_of_trace, make_companion};
+pub use making::companion_of_trace;
 pub use not_made::NotMade;

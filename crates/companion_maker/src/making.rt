@@ -14,25 +14,6 @@ use sched_record::{Trace, join, outside_line};
 use std::alloc::Global;
 use std::thread::Threads;
 
-/// A companion for a trace, from its events alone. Pids are hashed by these keys.
-pub fn make_companion(
-    rt: &(impl Threads + Sync),
-    alloc: Global,
-    trace: Trace,
-    wishes: &Wishes,
-    hasher: PidHasher,
-) -> Result<Made, NotMade>
-    // What is made is a companion, and joins with the trace.
-    ensures fits { IfOk result (λ made. ReadsAndJoins (trace_view trace) made.text.items) }
-    // It is made for every trace whose processors a companion can have, unless a growth is refused.
-    ensures made { All (IsInside most_processors) (trace_view trace) → IfErr result (λ why. why ≡ NotMade.Memory) }
-    // Else it is said why: the first event that touches a processor which no companion has.
-    ensures outside { IfErr result (IsNotMadeFor (trace_view trace)) }
-{
-    let values = KernelValues::none(alloc);
-    companion_of_trace(rt, alloc, trace, values, wishes, hasher)
-}
-
 /// A companion for a trace of which these values are known. What was found is read back and joined with the trace;
 /// where that should fail, the companion is the plain one, which goes together with every trace. Pids are hashed by
 /// these keys.

@@ -12,6 +12,8 @@ impl LineReader for CompanionReader {
         CompanionReader::read(self, text)
     }
 
+    ghost told = { λ line. ⊥ };
+
     /// A companion's line is read whole.
     fn settles(&self, _line: &[u8]) -> bool {
         false

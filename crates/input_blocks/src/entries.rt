@@ -1,4 +1,5 @@
 //! The reader of a trace whose events are taken out, a block at a time.
+ghost use Rattle.ftrace_line.specs.Front.{IsTold};
 ghost use Rattle.input_blocks.specs.OfEntries.{ReadsEntries, reads_none, reads_on};
 
 use crate::LineReader;
@@ -12,6 +13,8 @@ impl LineReader for EntryReader {
     fn read(&mut self, text: &[u8]) -> Result<(), Memory> {
         EntryReader::read(self, text)
     }
+
+    ghost told = { IsTold };
 
     fn settles(&self, line: &[u8]) -> bool {
         EntryReader::settled_line();

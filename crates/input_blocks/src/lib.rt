@@ -1,4 +1,4 @@
-//! Two inputs of lines that are read a block at a time, each by a reader of lines: what was read is given back, but for
+//! Inputs of lines that are read a block at a time, each by a reader of lines: what was read is given back, but for
 //! the beginning of a line.
 #![tactic(auto)]
 

@@ -1,5 +1,5 @@
-ghost use Rattle.std.specs.Prelude.{ℕ, List, [], ◌++◌, OnOk};
-ghost use Rattle.std.specs.Bool.{OnTrue};
+ghost use Rattle.std.specs.Prelude.{◌↔◌, ℕ, List, [], ◌++◌, OnOk};
+ghost use Rattle.std.specs.Bool.{IsTrue, OnTrue};
 ghost use Rattle.text_parts.specs.Lines.{lines_of};
 ghost use Rattle.input_blocks.specs.Held.{Settles};
 
@@ -14,9 +14,13 @@ pub trait LineReader {
     fn read(&mut self, text: &[u8]) -> Result<(), Memory>
         ensures { OnOk result (reads self.old self.new (lines_of text.now)) };
 
+    /// Which beginnings of a line a reader knows to settle it.
+    ghost told: { List ℕ → Type 0 };
+
     /// Whether the beginning of a line settles what is read of the line.
     fn settles(&self, line: &[u8]) -> bool
-        ensures { OnTrue result (Settles reads line.now) };
+        ensures settled { OnTrue result (Settles reads line.now) }
+        ensures told { IsTrue result ↔ told line.now };
 
     /// Without a line all stays.
     ghost reads_none: { (reader : Self) → reads reader reader [] };

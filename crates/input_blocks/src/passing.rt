@@ -1,7 +1,7 @@
 //! What comes of an input is passed on to a reader of lines.
-ghost use Rattle.std.specs.Prelude.{◌≡◌, ◌+◌, ◌-◌, ◌<◌, ◌≤◌, ◌⊎◌, ◌++◌, ℕ, List, true, false, IfOk, OnOk, take, drop};
-ghost use Rattle.std.specs.Prelude.{length, vec_len};
-ghost use Rattle.std.specs.Bool.{OnTrue};
+ghost use Rattle.std.specs.Prelude.{◌≡◌, ◌↔◌, ◌+◌, ◌-◌, ◌<◌, ◌≤◌, ◌⊎◌, ◌++◌, ℕ, List, true, false, IfOk, OnOk};
+ghost use Rattle.std.specs.Prelude.{drop, length, take, vec_len};
+ghost use Rattle.std.specs.Bool.{IsTrue, OnTrue};
 ghost use Rattle.std.specs.List.{list_any};
 ghost use Rattle.text_parts.specs.Lines.{is_line_feed, lines_of};
 ghost use Rattle.input_blocks.specs.Held.{IsHeld, PassesOn, PassesWhole, Settles};
@@ -83,6 +83,7 @@ fn read_open<L: LineReader>(
 fn held_of<L: LineReader>(reader: &L, line: &[u8]) -> Held
     ensures length { result.length ≡ length line.now }
     ensures settled { OnTrue result.settled (Settles L.reads line.now) }
+    ensures told { IsTrue result.settled ↔ L.told line.now }
 {
     Held {
         length: line.len(),

@@ -2,6 +2,7 @@
 ghost use Rattle.std.specs.Prelude.{◌≡◌, ◌⊎◌, ◌≤◌, true, false, IfErr, IfOk, OnOk};
 ghost use Rattle.std.specs.Io.KnownBytes.{IsAtEnd};
 ghost use Rattle.audit_input.specs.Known.{IsCutShort, most_reads};
+ghost use Rattle.ftrace_line.specs.Front.{IsTold};
 ghost use Rattle.input_blocks.specs.OfTrace.{IsReadFrom, ReadsTrace, reads_none, reads_on};
 
 use crate::{LineReader, read_to_end};
@@ -20,6 +21,8 @@ impl LineReader for TraceReader {
     fn read(&mut self, text: &[u8]) -> Result<(), Memory> {
         TraceReader::read(self, text)
     }
+
+    ghost told = { IsTold };
 
     fn settles(&self, line: &[u8]) -> bool {
         TraceReader::settled_line();

@@ -13,7 +13,7 @@ use crate::watch::Watch;
 use audit_crew::{OpenGate, least_settings};
 use audit_input::{Refused, record_of, tells_charges};
 use cfs_model::Memory;
-use companion_guess::KernelValues;
+use companion_guess::{KernelValues, Prints};
 use companion_maker::{NotMade, companion_of_trace};
 use pid_table::PidHasher;
 use sched_record::{Trace, TraceFault, read_trace, read_trace_wide};
@@ -92,7 +92,7 @@ fn judge_trace<R: RandomSource + Threads + Wait + Sync>(
         return Ok(Judged::Quiet);
     }
     let hasher = PidHasher::random(rt);
-    let values = KernelValues::of(rt, alloc, text, asked.debug, &asked.wishes)?;
+    let values = kernel_values(alloc, text, asked)?;
     match companion_of_trace(rt, alloc, trace, values, &asked.wishes, hasher) {
         Ok(made) => judge_made(rt, alloc, text, made.text, span, asked),
         Err(NotMade::CpuOutside { line }) => Ok(Judged::Bad {
@@ -101,6 +101,15 @@ fn judge_trace<R: RandomSource + Threads + Wait + Sync>(
         }),
         Err(NotMade::Memory) => Err(Memory),
     }
+}
+
+/// What a text tells of the kernel's own values, where the companion is made by them.
+fn kernel_values(alloc: Global, text: &[u8], asked: &Asked<'_>) -> Result<KernelValues, Memory> {
+    let mut prints = Prints::none(alloc);
+    if asked.wishes.want_prints() {
+        prints.read(text)?;
+    }
+    Ok(KernelValues::told(prints, asked.debug))
 }
 
 /// Judges a text by the companion that was made for it.

@@ -50,16 +50,27 @@ word_rule id = record (new_rule id) { long = Some id; value_names = 1 }
 abbrev pub parted_flag_rule : Text → Rule
 parted_flag_rule id = record (flag_rule id) { is_free = false }
 
--- the names of the two files, the settings, the flags, the file of states and the colour; clap adds help and version
-abbrev pub audit_app : App
-audit_app =
-    with_rule (with_rule (with_rule (with_rule (with_rule (with_rule (with_rule (with_settings all_settings
-    (with_rule (with_rule
-    (on_top (λ s. record s { has_version = true }) (new_app (codes "sched_audit")))
-    (name_rule (codes "TRACE"))) (name_rule (codes "COMPANION"))))
-    (lone_flag_rule (codes "least"))) (flag_rule (codes "waits"))) (flag_rule (codes "explain")))
-    (flag_rule (codes "summary"))) (word_rule (codes "states"))) (parted_flag_rule (codes "json")))
+-- a command with the names of the two files; clap adds help and the version
+abbrev pub with_names : App → App
+with_names app =
+    with_rule (with_rule (on_top (λ s. record s { has_version = true }) app)
+    (name_rule (codes "TRACE"))) (name_rule (codes "COMPANION"))
+
+-- a command with the flags of the report
+abbrev pub with_flags : App → App
+with_flags app =
+    with_rule (with_rule (with_rule (with_rule app (lone_flag_rule (codes "least"))) (flag_rule (codes "waits")))
+    (flag_rule (codes "explain"))) (flag_rule (codes "summary"))
+
+-- a command with the file of states, the flag for JSON and the colour
+abbrev pub with_words : App → App
+with_words app =
+    with_rule (with_rule (with_rule app (word_rule (codes "states"))) (parted_flag_rule (codes "json")))
     (word_rule (codes "color"))
+
+-- the auditor's command
+abbrev pub audit_app : App
+audit_app = with_words (with_flags (with_settings all_settings (with_names (new_app (codes "sched_audit")))))
 
 -- the amount that a setting's option says, in nanoseconds, or its default where the option isn't given
 abbrev pub amount_for : List Row → Setting → Option ℕ

@@ -9,8 +9,8 @@ ghost use Rattle.cfs_model.specs.Knobs.{AreInRange, all_settings, nothing, setti
 ghost use Rattle.audit_request.specs.CommandLine.{HasNoSetting, HaveAmounts, HaveNone, IsAskedBy, IsRequestOf};
 ghost use Rattle.audit_request.specs.CommandLine.{amount_for, audit_app, beside_none, color_for, flag_rule};
 ghost use Rattle.audit_request.specs.CommandLine.{is_flagged, is_input, lone_flag_rule, name_rule};
-ghost use Rattle.audit_request.specs.CommandLine.{parted_flag_rule, setting_of, setting_rule, with_settings};
-ghost use Rattle.audit_request.specs.CommandLine.{with_values, word_rule};
+ghost use Rattle.audit_request.specs.CommandLine.{parted_flag_rule, setting_of, setting_rule, with_flags, with_names};
+ghost use Rattle.audit_request.specs.CommandLine.{with_settings, with_values, with_words, word_rule};
 
 use crate::{Color, Request};
 use amount_words::{Amount, amount_mistake};
@@ -56,7 +56,16 @@ fn mistake(
 fn command<'a>(alloc: Global) -> Result<Command<'a>, AllocError>
     ensures { IfOk result (λ command. app_of command ≡ audit_app) }
 {
-    let named = Command::new(alloc, "sched_audit")
+    let named = with_names(alloc, Command::new(alloc, "sched_audit"))?;
+    let set = with_settings(alloc, named, &Setting::ALL)?;
+    with_words(alloc, with_flags(alloc, set)?)
+}
+
+/// The command with the names of the two files, and what it says of itself.
+fn with_names<'a>(alloc: Global, command: Command<'a>) -> Result<Command<'a>, AllocError>
+    ensures { IfOk result (λ more. app_of more ≡ with_names (app_of command.entry)) }
+{
+    command
         .version("0.1.0")
         .about("Judges a recorded CFS schedule: a run, or its first fault")
         .after_help(
@@ -68,8 +77,14 @@ fn command<'a>(alloc: Global) -> Result<Command<'a>, AllocError>
             alloc,
             "COMPANION",
             "The start, and the claimed virtual runtimes (vruntime)",
-        ))?;
-    with_settings(alloc, named, &Setting::ALL)?
+        ))
+}
+
+/// The command with the flags of the report.
+fn with_flags<'a>(alloc: Global, command: Command<'a>) -> Result<Command<'a>, AllocError>
+    ensures { IfOk result (λ more. app_of more ≡ with_flags (app_of command.entry)) }
+{
+    command
         .arg(lone_flag(
             alloc,
             "least",
@@ -89,7 +104,14 @@ fn command<'a>(alloc: Global) -> Result<Command<'a>, AllocError>
             alloc,
             "summary",
             "Print only the counts of a run, and no line for each task",
-        ))?
+        ))
+}
+
+/// The command with the file of states, the flag for JSON and the colour.
+fn with_words<'a>(alloc: Global, command: Command<'a>) -> Result<Command<'a>, AllocError>
+    ensures { IfOk result (λ more. app_of more ≡ with_words (app_of command.entry)) }
+{
+    command
         .arg(word_option(
             alloc,
             "states",
@@ -155,8 +177,7 @@ fn json_flag(alloc: Global) -> Result<Arg<'static>, AllocError>
     ensures local { IfOk result (λ flag. flag.global ≡ false) }
 {
     let flag = flag(alloc, "json", "Print the report as one JSON object");
-    let parted = beside(flag, "explain")?;
-    Ok(parted)
+    beside(flag, "explain")
 }
 
 /// An option that doesn't go with the one of this name either.

@@ -34,6 +34,7 @@ mod strategy;
 mod task_at;
 mod tasks;
 mod touching;
+mod unsettled;
 mod values;
 mod wishes;
 mod writing;

@@ -1,28 +1,24 @@
 use crate::candidate::Candidate;
 use crate::known::Known;
 use crate::learnt::Learnt;
-use crate::named::{Heard, Named, Unsettled};
+use crate::named::{Heard, Named};
 use crate::news::News;
 use crate::outset::Outset;
 use crate::placement::Placement;
 use crate::placements::Placements;
-use crate::placing::Placing;
 use crate::processor::Processor;
 use crate::start::Start;
-use crate::strategy::Strategy;
 use crate::task_at::TaskAt;
 use crate::tasks::Tasks;
-use crate::values::{above, below, excess, moved};
+use crate::unsettled::UnsettledPlacings;
 use crate::wishes::Wishes;
-use cfs_model::{
-    Act, ChargeLine, Claim, ClaimSort, Entry, GREATEST_SETTING, IDLE_PID, Memory, Nice, NiceLine,
-    Place, Policy, Setting, Task, Way,
-};
+use cfs_model::{Act, Claim, ClaimSort, Entry, IDLE_PID, Memory, Place, Setting, Task, Way};
 use std::alloc::Global;
-use std::collections::BTreeMap;
 
-/// How many placements one print tells at most, each by the next.
-const MOST_TOLD: usize = 64;
+mod charging;
+mod moving;
+mod renicing;
+mod waking;
 
 /// The machine that the events lead, as far as they can: what breaks a rule changes nothing.
 #[derive(Drop)]
@@ -32,9 +28,7 @@ pub(crate) struct Machine {
     wishes: Wishes,
     made: Candidate,
     /// The placements that no print tells.
-    unsettled: Vec<Unsettled>,
-    /// What they have to be, by what was found later.
-    asked: BTreeMap<Placing, i64>,
+    unsettled: UnsettledPlacings,
     /// How many prints have been heard.
     heard: usize,
     /// Of the last event, in nanoseconds.
@@ -69,8 +63,7 @@ impl Machine {
             tasks: Tasks::new(alloc),
             wishes: *wishes,
             made,
-            unsettled: Vec::new(alloc),
-            asked: BTreeMap::new(alloc),
+            unsettled: UnsettledPlacings::new(alloc),
             heard: 0,
             time: outset.start,
         };
@@ -120,17 +113,7 @@ impl Machine {
         known: &mut Known,
         placements: &mut Placements,
     ) -> Result<News, Memory> {
-        let mut news = News::None;
-        for (at, v) in self.asked.iter() {
-            let is_news = match *at {
-                Placing::AtStart(pid) => known.ask(pid, *v)?,
-                Placing::ByEvent(index) => placements.ask(index, *v),
-            };
-            if is_news {
-                news = news.max(News::of(*at));
-            }
-        }
-        Ok(news)
+        self.unsettled.tell_asked(known, placements)
     }
 
     /// No event follows.
@@ -334,112 +317,6 @@ impl Machine {
         }
     }
 
-    /// Charges who runs, exactly, and raises the floor.
-    fn lift(&mut self, line: u32, cpu: u32, time: u64) {
-        let Some(processor) = self.processors.get_mut(cpu as usize) else {
-            return;
-        };
-        if processor.queue.lift(time, None, 0).is_err() {
-            self.stop_at(line);
-        }
-    }
-
-    /// The same at the processor where an event happens: as it was printed, where the kernel printed what it charged.
-    fn charge(&mut self, line: u32, cpu: u32, time: u64) -> Result<(), Memory> {
-        if let Some(told) = self.told(line, cpu) {
-            if let Some(processor) = self.processors.get_mut(cpu as usize) {
-                if processor
-                    .queue
-                    .lift(time, Some(told), GREATEST_SETTING)
-                    .is_ok()
-                {
-                    self.made.need(Setting::Drift, processor.drift());
-                    self.made.charges.push(told)?;
-                    return Ok(());
-                }
-            }
-        }
-        self.lift(line, cpu, time);
-        Ok(())
-    }
-
-    /// What who runs has come to before a line, where anything is printed of it: what was printed last since it came,
-    /// or what it has. Its placement is settled by that.
-    fn told(&mut self, line: u32, cpu: u32) -> Option<ChargeLine> {
-        let task = self.processors.get(cpu as usize)?.queue.runner()?;
-        let pid = task.pid;
-        let named = self.tasks.get_mut(pid)?;
-        if !named.is_printed {
-            return None;
-        }
-        let v = match named.printed() {
-            Some(printed) => {
-                named.unsettled = None;
-                printed.max(task.v)
-            }
-            None => task.v,
-        };
-        Some(ChargeLine { line, pid, v })
-    }
-
-    /// Where the event prints another nice value than the task's, it has changed: on this line, or on an earlier one of
-    /// the processor that doesn't name it.
-    fn renice(&mut self, line: u32, cpu: u32, pid: u32, nice: Nice) -> Result<(), Memory> {
-        let Some(before) = self.tasks.name(pid, line, nice) else {
-            return Ok(());
-        };
-        let Some(processor) = self.processors.get_mut(before.cpu as usize) else {
-            return Ok(());
-        };
-        match processor.queue.renice(pid, nice) {
-            Some(old) if before.cpu == cpu && old != nice => {
-                self.tell_change(line, pid, nice, before)
-            }
-            _ => Ok(()),
-        }
-    }
-
-    /// Tells a change of a task's nice value, where a line is left for it.
-    fn tell_change(
-        &mut self,
-        line: u32,
-        pid: u32,
-        nice: Nice,
-        before: Named,
-    ) -> Result<(), Memory> {
-        match self.line_of_change(line, before) {
-            Some(line) => {
-                self.made.nices.insert(line, NiceLine { line, pid, nice })?;
-            }
-            None => self.stop_at(line),
-        }
-        Ok(())
-    }
-
-    /// A line on which a change of the task's nice value can be told.
-    fn line_of_change(&self, line: u32, before: Named) -> Option<u32> {
-        if !self.made.nices.contains_key(&line) {
-            return Some(line);
-        }
-        let processor = self.processors.get(before.cpu as usize)?;
-        let free = processor.free_line;
-        if free > before.line && !self.made.nices.contains_key(&free) {
-            Some(free)
-        } else {
-            None
-        }
-    }
-
-    /// The line of an event at the processor is over.
-    fn end_line(&mut self, line: u32, cpu: u32) {
-        if self.made.nices.contains_key(&line) {
-            return;
-        }
-        if let Some(processor) = self.processors.get_mut(cpu as usize) {
-            processor.free_line = line;
-        }
-    }
-
     /// Who runs leaves the processor.
     fn leave(&mut self, moment: Moment, cpu: u32, prev: u32, way: Way) -> Result<(), Memory> {
         let Some(processor) = self.processors.get_mut(cpu as usize) else {
@@ -466,264 +343,6 @@ impl Machine {
             }
         }
         Ok(())
-    }
-
-    /// A task that rests at the processor waits there.
-    fn wake(&mut self, moment: Moment, cpu: u32, pid: u32) -> Result<(), Memory> {
-        let Some(own) = moment.own else {
-            return Ok(());
-        };
-        let high = own.max(self.floor(cpu));
-        let v = match moment.placement.value() {
-            Some(placed) => {
-                if placed < own || placed > high {
-                    self.ask(pid, placed, own)?;
-                }
-                placed.min(high).max(own)
-            }
-            None => self.wake_place(moment, cpu, own),
-        };
-        let credit = excess(self.floor(cpu), v);
-        self.made.need(Setting::Credit, credit);
-        self.place_anew(moment, pid, v, own)?;
-        let claim = Claim {
-            line: moment.line,
-            pid,
-            v,
-            sort: ClaimSort::At,
-        };
-        if let Some(processor) = self.processors.get_mut(cpu as usize) {
-            processor.wake(moment.row, claim)?;
-        }
-        self.made.claims.push(claim)?;
-        Ok(())
-    }
-
-    /// Where a woken task is placed at the processor that has this virtual runtime of its own.
-    fn wake_place(&self, moment: Moment, cpu: u32, own: i64) -> i64 {
-        let floor = self.floor(cpu);
-        let low = own.max(below(floor, self.wishes.knobs.credit()));
-        let high = own.max(floor);
-        match (self.made.strategy, self.processors.get(cpu as usize)) {
-            (Strategy::Low, _) => low,
-            (Strategy::Picked, _) if moment.is_picked => low,
-            (Strategy::Level, Some(processor)) if moment.is_picked => processor.level(low, high),
-            // The kernel's credit isn't known, but nobody waits further below the floor than by that.
-            (Strategy::Kernel, Some(processor)) if moment.is_picked => processor.level(own, high),
-            _ => high,
-        }
-    }
-
-    /// A task that had a virtual runtime of its own is placed, and has this one then.
-    fn place_anew(&mut self, moment: Moment, pid: u32, v: i64, own: i64) -> Result<(), Memory> {
-        let Some(named) = self.tasks.get(pid) else {
-            return Ok(());
-        };
-        let unsettled = if named.is_printed {
-            let at = Placing::ByEvent(moment.index);
-            let before = named.unsettled;
-            self.unsettle(moment.placement, Unsettled { at, v, own, before })?
-        } else {
-            None
-        };
-        if let Some(named) = self.tasks.get_mut(pid) {
-            named.since = moment.line;
-            named.unsettled = unsettled;
-        }
-        Ok(())
-    }
-
-    /// Notes a placement, unless a print tells it.
-    fn unsettle(
-        &mut self,
-        placement: Placement,
-        unsettled: Unsettled,
-    ) -> Result<Option<usize>, Memory> {
-        match placement {
-            Placement::Printed(_) => Ok(None),
-            Placement::Unknown | Placement::Asked(_) => {
-                let index = self.unsettled.len();
-                self.unsettled.push(unsettled)?;
-                Ok(Some(index))
-            }
-        }
-    }
-
-    /// The same of a task at the start, which is given in nanoseconds.
-    fn unsettled_at_start(
-        &mut self,
-        task: &Task,
-        start: u64,
-        known: &Known,
-    ) -> Result<Option<usize>, Memory> {
-        if !known.names(task.pid) {
-            return Ok(None);
-        }
-        let printed = known.printed_at_start(task, start);
-        let unsettled = Unsettled {
-            at: Placing::AtStart(task.pid),
-            v: task.v,
-            own: task.v,
-            before: None,
-        };
-        self.unsettle(Placement::of(printed), unsettled)
-    }
-
-    /// Where a task has turned out to have another virtual runtime than it has here, its last placement has to be
-    /// another by as much, if no print has told it. Where that is less than the task had before, the placement before
-    /// that has to be another too, and so on.
-    fn ask(&mut self, pid: u32, wanted: i64, found: i64) -> Result<(), Memory> {
-        let Some(named) = self.tasks.get(pid) else {
-            return Ok(());
-        };
-        let mut last = named.unsettled;
-        let mut wanted = wanted;
-        let mut found = found;
-        for _ in 0..MOST_TOLD {
-            let Some(unsettled) = self.unsettled_at(last) else {
-                break;
-            };
-            let v = moved(unsettled.v, found, wanted);
-            self.asked.insert(unsettled.at, v)?;
-            if v >= unsettled.own {
-                break;
-            }
-            wanted = v;
-            found = unsettled.own;
-            last = unsettled.before;
-        }
-        Ok(())
-    }
-
-    fn unsettled_at(&self, index: Option<usize>) -> Option<Unsettled> {
-        self.unsettled.get(index?).copied()
-    }
-
-    /// A new task waits at the processor.
-    fn bear(
-        &mut self,
-        moment: Moment,
-        cpu: u32,
-        pid: u32,
-        nice: Nice,
-        known: &Known,
-    ) -> Result<(), Memory> {
-        if self.tasks.get(pid).is_some() {
-            return Ok(());
-        }
-        let v = match moment.placement.value() {
-            Some(placed) => placed.max(self.floor(cpu)),
-            None => self.birth_place(moment, cpu),
-        };
-        let debit = excess(v, self.floor(cpu));
-        self.made.need(Setting::Debit, debit);
-        let task = Task {
-            pid,
-            nice,
-            policy: Policy::Normal,
-            cpu,
-            place: Place::Wait,
-            v,
-        };
-        let unsettled = self.unsettled_at_birth(moment, pid, v, known)?;
-        self.enter(task, moment.line, unsettled, known)?;
-        self.claim(moment.line, pid, v, ClaimSort::At)
-    }
-
-    /// Notes where a new task is placed, unless a print tells it. It had nothing before.
-    fn unsettled_at_birth(
-        &mut self,
-        moment: Moment,
-        pid: u32,
-        v: i64,
-        known: &Known,
-    ) -> Result<Option<usize>, Memory> {
-        if !known.names(pid) {
-            return Ok(None);
-        }
-        let unsettled = Unsettled {
-            at: Placing::ByEvent(moment.index),
-            v,
-            own: v,
-            before: None,
-        };
-        self.unsettle(moment.placement, unsettled)
-    }
-
-    /// Where a new task is placed at the processor.
-    fn birth_place(&self, moment: Moment, cpu: u32) -> i64 {
-        let low = self.floor(cpu);
-        let high = above(low, self.wishes.knobs.debit());
-        match (self.made.strategy, self.processors.get(cpu as usize)) {
-            (Strategy::Picked, _) if moment.is_picked => low,
-            (Strategy::Level | Strategy::Kernel, Some(processor)) if moment.is_picked => {
-                processor.level(low, high)
-            }
-            _ => high,
-        }
-    }
-
-    /// A task that doesn't run goes to another processor.
-    fn shift(
-        &mut self,
-        moment: Moment,
-        orig: u32,
-        dest: u32,
-        pid: u32,
-        known: &Known,
-    ) -> Result<(), Memory> {
-        if orig == dest {
-            return Ok(());
-        }
-        let Some(processor) = self.processors.get_mut(orig as usize) else {
-            return Ok(());
-        };
-        let Some(task) = processor.send(moment.row, pid) else {
-            return Ok(());
-        };
-        let sort = match task.place {
-            Place::Rest => ClaimSort::Pass,
-            Place::Run | Place::Wait => ClaimSort::At,
-        };
-        let v = moved(task.v, self.floor(orig), self.floor(dest));
-        let unsettled = self.settle_moved(moment, task.place, pid, v)?;
-        let come = Task {
-            pid,
-            nice: task.nice,
-            policy: task.policy,
-            cpu: dest,
-            place: task.place,
-            v,
-        };
-        self.enter(come, moment.line, unsettled, known)?;
-        self.claim(moment.line, pid, v, sort)
-    }
-
-    /// What is unsettled of a task that comes to another processor with this virtual runtime. Of one that waits the
-    /// next print may tell what it has there, and so what its placement was.
-    fn settle_moved(
-        &mut self,
-        moment: Moment,
-        place: Place,
-        pid: u32,
-        v: i64,
-    ) -> Result<Option<usize>, Memory> {
-        let unsettled = match self.tasks.get(pid) {
-            Some(named) => named.unsettled,
-            None => None,
-        };
-        if place != Place::Wait {
-            return Ok(unsettled);
-        }
-        match moment.placement.printed() {
-            Some(wanted) => {
-                if wanted != v {
-                    self.ask(pid, wanted, v)?;
-                }
-                Ok(None)
-            }
-            None => Ok(unsettled),
-        }
     }
 
     fn claim(&mut self, line: u32, pid: u32, v: i64, sort: ClaimSort) -> Result<(), Memory> {

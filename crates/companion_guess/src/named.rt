@@ -1,4 +1,3 @@
-use crate::placing::Placing;
 use cfs_model::Nice;
 
 /// Where a task stands, and which lines named and placed it last.
@@ -26,18 +25,6 @@ impl Named {
         let heard = self.heard?;
         (heard.line > self.since).then_some(heard.v)
     }
-}
-
-/// A placement that no print tells.
-#[derive(Clone, Copy, Debug)]
-pub(crate) struct Unsettled {
-    pub at: Placing,
-    /// The virtual runtime that it was given.
-    pub v: i64,
-    /// The least that it could be given: what the task had before.
-    pub own: i64,
-    /// The placement before, among those that no print tells, where none has told it since.
-    pub before: Option<usize>,
 }
 
 /// What was printed of a task on a line.

@@ -21,15 +21,43 @@ pub fn explanation<T: TraceText>(
     hasher: PidHasher,
     trace: &mut T,
 ) -> Result<String, Memory> {
-    let mut text = String::new(alloc);
-    if let Some(event) = Event::on_line(record, fault.line) {
-        let mut scene = Scene::new(alloc, record, knobs, *fault, event, hasher)?;
-        scene.recall(alloc, record, hasher, trace)?;
-        scene.set(&mut text)?;
-        scene.go_on_to_pick()?;
-        push_bound(&mut text, &scene)?;
-        push_gap(&mut text, &scene)?;
-        push_mend(&mut text, &scene)?;
+    match Event::on_line(record, fault.line) {
+        Some(event) => {
+            let scene = Scene::new(alloc, record, knobs, *fault, event, hasher)?;
+            told(alloc, scene, record, hasher, trace)
+        }
+        None => Ok(String::new(alloc)),
     }
+}
+
+/// A scene in words.
+fn told<T: TraceText>(
+    alloc: Global,
+    scene: Scene,
+    record: &Record,
+    hasher: PidHasher,
+    trace: &mut T,
+) -> Result<String, Memory> {
+    let mut scene = scene;
+    let mut text = String::new(alloc);
+    push_scene(&mut text, &mut scene, alloc, record, hasher, trace)?;
     Ok(text)
+}
+
+/// Plays a scene to its fault, and tells it.
+fn push_scene<T: TraceText>(
+    text: &mut String,
+    scene: &mut Scene,
+    alloc: Global,
+    record: &Record,
+    hasher: PidHasher,
+    trace: &mut T,
+) -> Result<(), Memory> {
+    scene.recall(alloc, record, hasher, trace)?;
+    scene.set(text)?;
+    scene.go_on_to_pick()?;
+    push_bound(text, scene)?;
+    push_gap(text, scene)?;
+    push_mend(text, scene)?;
+    Ok(())
 }

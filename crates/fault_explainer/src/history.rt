@@ -142,6 +142,16 @@ fn places(deed: Deed) -> bool {
 fn halt_at(alloc: Global, replay: Replay, halts: &[Halt]) -> Result<Vec<Placed>, Memory> {
     let mut placed = Vec::new(alloc);
     let mut replay = replay;
+    note_placed(&mut replay, halts, &mut placed)?;
+    Ok(placed)
+}
+
+/// Notes it at each place where the replay halts.
+fn note_placed(
+    replay: &mut Replay,
+    halts: &[Halt],
+    placed: &mut Vec<Placed>,
+) -> Result<(), Memory> {
     let mut made = 0;
     for Halt { pid, steps } in halts.iter().copied() {
         replay.go_on(steps.saturating_sub(made) as u64)?;
@@ -154,5 +164,5 @@ fn halt_at(alloc: Global, replay: Replay, halts: &[Halt]) -> Result<Vec<Placed>,
             beside: Beside { own, floor },
         })?;
     }
-    Ok(placed)
+    Ok(())
 }

@@ -1,5 +1,6 @@
-ghost use Rattle.std.specs.Prelude.{◌≡◌, IfOk};
+ghost use Rattle.std.specs.Prelude.{◌≡◌, ◌<◌, IfOk};
 ghost use Rattle.processor_stream.specs.Stream.{stream_view};
+ghost use Rattle.sched_record.specs.Record.{record_view};
 
 use crate::NotWritten;
 use crate::event_line::push_event;
@@ -27,14 +28,9 @@ pub fn write_states<W: Write + Drop>(
     writer: W,
 ) -> Result<(), NotWritten> {
     let mut out = Output::new(alloc, writer);
+    let until = fault.map_or(u32::MAX, |fault| fault.line);
     for cpu in 0..record.cpus() {
-        let stream = record.deal(cpu)?;
-        let replay = replay_of(alloc, record.deal(cpu)?, knobs, hasher)?;
-        let until = match fault {
-            Some(fault) => fault.line,
-            None => u32::MAX,
-        };
-        write_processor(alloc, &mut out, &stream, replay, knobs, until, hasher)?;
+        write_processor(alloc, &mut out, record, cpu, knobs, until, hasher)?;
     }
     if let Some(fault) = fault {
         push_fault(&mut out.text, record, &fault)?;
@@ -62,25 +58,55 @@ fn replay_of(
 fn write_processor<W: Write + Drop>(
     alloc: Global,
     out: &mut Output<W>,
-    stream: &Stream,
-    replay: Replay,
+    joined: &Record,
+    cpu: u32,
     knobs: Knobs,
     until: u32,
     hasher: PidHasher,
 ) -> Result<(), NotWritten>
-    requires stream { replay.stream ≡ stream_view stream.now }
-    requires made { replay.made ≡ 0 }
+    requires { cpu < (record_view joined.now).cpus }
 {
-    let mut replay = replay;
-    push_start(&mut out.text, stream)?;
+    let stream = joined.deal(cpu)?;
+    push_start(&mut out.text, &stream)?;
+    write_steps(alloc, out, &stream, joined.deal(cpu)?, knobs, until, hasher)
+}
+
+/// Writes a processor's events above a line. The stream is dealt twice: once to be read, and once to be replayed.
+fn write_steps<W: Write + Drop>(
+    alloc: Global,
+    out: &mut Output<W>,
+    stream: &Stream,
+    replayed: Stream,
+    knobs: Knobs,
+    until: u32,
+    hasher: PidHasher,
+) -> Result<(), NotWritten>
+    requires { stream_view replayed ≡ stream_view stream.now }
+{
     let mut waits = waits_at_start(alloc, stream, hasher)?;
+    let mut replay = replay_of(alloc, replayed, knobs, hasher)?;
+    write_events(out, stream, &mut replay, &mut waits, knobs, until)
+}
+
+/// The same, by a replay of the stream that has made no step, and those who wait at the start.
+fn write_events<W: Write + Drop>(
+    out: &mut Output<W>,
+    stream: &Stream,
+    replay: &mut Replay,
+    waits: &mut Waits,
+    knobs: Knobs,
+    until: u32,
+) -> Result<(), NotWritten>
+    requires stream { replay.old.stream ≡ stream_view stream.now }
+    requires made { replay.old.made ≡ 0 }
+{
     let steps = stream.steps();
     for step in steps {
         if step.line >= until {
             break;
         }
-        match next_sight(&mut replay, step)? {
-            Some(sight) => write_sight(out, stream.cpu(), &sight, &mut waits, knobs)?,
+        match next_sight(replay, step)? {
+            Some(sight) => write_sight(out, stream.cpu(), &sight, waits, knobs)?,
             None => break,
         }
     }

@@ -1,7 +1,7 @@
 -- The replay is that of the stream, and has made the steps before this one.
 use Rattle.std.proofs.Common.{◌≡◌}
 use Rattle.processor_stream.specs.Stream.{stream_view}
-use Rattle.state_lines.proofs.state_writer.write_processor.Given as goal
+use Rattle.state_lines.proofs.state_writer.write_events.Given as goal
 
 abbrev pub invariant-loop-step : goal.invariant-loop-step
 invariant-loop-step g l =

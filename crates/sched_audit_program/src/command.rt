@@ -1,3 +1,5 @@
+ghost use Rattle.std.specs.Prelude.{◌≡◌, false};
+
 use crate::answer::{Answer, FrontOf};
 use crate::ending::Ending;
 use crate::explaining::{answer_kept, answer_kept_json};
@@ -11,9 +13,9 @@ use clap::Error;
 use clap::error::ErrorKind::OutOfMemory;
 use given_texts::{Input, StandardInput, open_input};
 use sched_audit::{
-    Counted, Fault, FeedOf, LeastFigures, OpenGate, Request, SinkOf, Sizes, Told, Verdict,
-    WithWaits, command_line, run_counted_in_blocks, run_counted_waits, run_in_blocks, run_least,
-    run_least_waits, run_waits,
+    Counted, Fault, Feed, FeedOf, LeastFigures, OpenGate, Request, Sink, SinkOf, Sizes, Status,
+    Told, Verdict, WithWaits, command_line, run_counted_in_blocks, run_counted_waits,
+    run_in_blocks, run_least, run_least_waits, run_waits,
 };
 use std::alloc::Global;
 use std::io::ErrorKind;
@@ -188,10 +190,26 @@ fn answer_alone<R: Files + Print + Eprint + RandomSource + Threads + Wait + Sync
         lengths.companion,
     ));
     let mut end = FrontOf::new(SinkOf::new(io::writer(rt)));
-    let (trace, companion, out) = (&mut trace, &mut companion, &mut end);
+    let status = report(rt, alloc, request, &mut trace, &mut companion, &mut end)?;
+    Ok(end.answer(status))
+}
+
+/// Writes the report of inputs of which nothing was read to an end to which nothing was written.
+fn report<R: RandomSource + Threads + Wait + Sync, T: Feed, C: Feed, S: Sink>(
+    rt: &R,
+    alloc: Global,
+    request: &Request<'_>,
+    trace: &mut T,
+    companion: &mut C,
+    out: &mut S,
+) -> Result<Status, Fault>
+    requires trace { T.calls trace.old ≡ 0 }
+    requires companion { C.calls companion.old ≡ 0 }
+    requires out { S.has_failed out.old ≡ false }
+{
     let knobs = request.knobs;
     let gate = &OpenGate;
-    let status = match (request.least, request.summary, request.waits) {
+    match (request.least, request.summary, request.waits) {
         (true, _, true) => run_least_waits(rt, alloc, trace, companion, gate, out),
         (true, _, false) => run_least(rt, alloc, trace, companion, gate, out),
         (false, true, true) => run_counted_waits(rt, alloc, trace, companion, knobs, gate, out),
@@ -200,8 +218,7 @@ fn answer_alone<R: Files + Print + Eprint + RandomSource + Threads + Wait + Sync
         }
         (false, false, true) => run_waits(rt, alloc, trace, companion, knobs, gate, out),
         (false, false, false) => run_in_blocks(rt, alloc, trace, companion, knobs, sizes(rt), out),
-    }?;
-    Ok(end.answer(status))
+    }
 }
 
 /// Prints clap's text: help and the version to standard output, a mistake to standard error.

@@ -1,5 +1,7 @@
 //! The report of an audit, the states at its events, and behind them why that is a fault, or which line is refused and
 //! why.
+ghost use Rattle.std.specs.Prelude.{◌≡◌};
+
 use crate::answer::{Answer, FrontOf};
 use crate::failure::Failure;
 use crate::fault_members::FaultMembers;
@@ -52,11 +54,40 @@ pub(crate) fn answer_kept<
         keeps,
     );
     let mut companion = WatchedFeed::new(rt, FeedOf::new(companion), lengths.companion);
-    let knobs = request.knobs;
-    let hearing: Hearing<J> = judge(rt, alloc, &mut trace, &mut companion, knobs, &OpenGate)?;
-    let answer = write_kept(rt, alloc, request, &hearing)?;
+    answer_of::<J, _, _, _>(rt, alloc, request, &mut trace, &mut companion)
+}
+
+/// The same, of inputs of which nothing was read.
+fn answer_of<
+    J: Judgement,
+    R: Files + Print + RandomSource + Threads + Wait + Sync,
+    F: Feed,
+    C: Feed,
+>(
+    rt: &R,
+    alloc: Global,
+    request: &Request<'_>,
+    trace: &mut KeepingFeed<F>,
+    companion: &mut C,
+) -> Result<Answer, Failure>
+    requires trace { ⟦<KeepingFeed<F> as Feed>⟧.calls trace.old ≡ 0 }
+    requires companion { C.calls companion.old ≡ 0 }
+{
+    let hearing: Hearing<J> = judge(rt, alloc, trace, companion, request.knobs, &OpenGate)?;
+    write_all_of(rt, alloc, request, &hearing, trace)
+}
+
+/// Writes what is asked for of what was judged, and an explanation behind it.
+fn write_all_of<J: Judgement, R: Files + Print + RandomSource, F: Feed>(
+    rt: &R,
+    alloc: Global,
+    request: &Request<'_>,
+    hearing: &Hearing<J>,
+    trace: &KeepingFeed<F>,
+) -> Result<Answer, Failure> {
+    let answer = write_kept(rt, alloc, request, hearing)?;
     if request.explain && answer.status != Status::Yes {
-        explain(rt, alloc, request, &hearing, &trace)?;
+        explain(rt, alloc, request, hearing, trace)?;
     }
     Ok(answer)
 }
@@ -80,15 +111,28 @@ pub(crate) fn answer_kept_json<
         keeps,
     );
     let mut companion = WatchedFeed::new(rt, FeedOf::new(companion), lengths.companion);
+    json_of::<J, _, _, _>(rt, alloc, request, &mut trace, &mut companion)
+}
+
+/// The same, of inputs of which nothing was read.
+fn json_of<J: Told, R: Files + Print + RandomSource + Threads + Wait + Sync, F: Feed, C: Feed>(
+    rt: &R,
+    alloc: Global,
+    request: &Request<'_>,
+    trace: &mut KeepingFeed<F>,
+    companion: &mut C,
+) -> Result<Answer, Failure>
+    requires trace { ⟦<KeepingFeed<F> as Feed>⟧.calls trace.old ≡ 0 }
+    requires companion { C.calls companion.old ≡ 0 }
+{
     let mut further = FaultMembers::new(rt, alloc, request.trace);
-    let (trace, companion, gate) = (&mut trace, &mut companion, &OpenGate);
     let hearing: Hearing<AsJson<J>> = judge_json(
         rt,
         alloc,
         trace,
         companion,
         request.knobs,
-        gate,
+        &OpenGate,
         &mut further,
     )?;
     write_kept(rt, alloc, request, &hearing)

@@ -67,8 +67,7 @@ fn answer_in<J: Told, R: Files + Print + Eprint + RandomSource + Threads + Wait 
     let mut end = FrontOf::new(SinkOf::new(io::writer(rt)));
     let (trace, companion, out) = (&mut trace, &mut companion, &mut end);
     let (knobs, gate, further) = (request.knobs, &OpenGate, &mut further);
-    let status = run_json_further::<J, R, _, _, _, _, _>(
+    run_json_further::<J, R, _, _, _, _, _>(
         rt, alloc, trace, companion, knobs, gate, further, out,
-    )?;
-    Ok(end.answer(status))
+    ).map(|status| end.answer(status))
 }

@@ -1,5 +1,5 @@
-//! What goes into an audit: two inputs are read to their ends, and are a record together, or one text is refused.
-//! A line of theirs can be had again.
+//! What goes into an audit: the ends that give its inputs, and the record that two texts are together, or which of
+//! them is refused and why. A line of theirs can be had again.
 #![tactic(auto)]
 
 mod again;

@@ -2,7 +2,7 @@
 -- once a claim, a change or a charge was: each line's tests say it, and so it is of lines one after another.
 use Rattle.std.proofs.Common.{◌≡◌, ℕ, ◌<◌, ◌≤◌, Bool, true, false, not, ◌&&◌, eqb, List, [], ◌∷◌, ◌++◌, length, Option}
 use Rattle.std.proofs.Common.{Some, None, Ok, refl, sym, ap, subst, ◌∙◌, append_assoc, inl, inr, arith}
-use Rattle.std.specs.Prelude.{All, MatchOption, is_some, is_none, nat_lt, nat_le, ◌||◌, ◌⊎◌}
+use Rattle.std.specs.Prelude.{MatchOption, is_some, is_none, nat_lt, nat_le, ◌||◌, ◌⊎◌}
 use Rattle.std.specs.Option.{option_map_or}
 use Rattle.std.specs.List.{last_or}
 use Rattle.std.proofs.lemmas.Bool.{and_parts, ne_eqb}
@@ -14,18 +14,17 @@ use Rattle.cfs_model.specs.declared.nice_line.NiceLine.{NiceLine}
 use Rattle.cfs_model.specs.declared.charge_line.ChargeLine.{ChargeLine}
 use Rattle.companion_file.specs.Shape.{Shape, version_line, cpus_line, start_line, floor_line, task_line, claim_line}
 use Rattle.companion_file.specs.Shape.{nice_line, idle_line, charge_line}
-use Rattle.text_parts.specs.Lines.{IsComment}
 use Rattle.companion_file.specs.Spelling.{IsFirstLine}
 use Rattle.companion_file.specs.Earlier.{Said, summed, has_all_floors, last_claim, last_nice, last_charge}
-use Rattle.companion_file.specs.Tests.{fault_of, may_claim_at, may_change_at, may_charge_at, IsJudgedFirst}
+use Rattle.companion_file.specs.Tests.{may_claim_at, may_change_at, may_charge_at, IsJudgedFirst}
 use Rattle.companion_file.specs.Tests.{IsJudgedLater, IsJudged, is_at_start}
 use Rattle.companion_file.specs.Draft.{KeepsOrder, with_line}
 use Rattle.companion_file.specs.Piecewise.{SaysOn}
-use Rattle.companion_file.specs.Reader.{AddsAbove, GoesOn, has_begun, reaches_past, start_of}
+use Rattle.companion_file.specs.Reader.{AddsAbove, GoesOn, has_begun, reaches_past}
 use Rattle.companion_file.proofs.Lasts.{last_or-push}
 use Rattle.companion_file.proofs.KeptOrder.{Passes, all_passed}
 use Rattle.companion_file.proofs.GoodLines.{nothing_order, order_judged_on}
-use Rattle.companion_file.proofs.Piecewise.{good_line, both_true, no_cpus, not_true}
+use Rattle.companion_file.proofs.Piecewise.{good_line, no_cpus, not_true}
 
 -- ---- nothing more, and more behind more
 

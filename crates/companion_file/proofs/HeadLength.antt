@@ -1,5 +1,5 @@
 -- Up to a line feed with `at ` behind it a text is whole lines.
-use Rattle.std.proofs.Common.{◌≡◌, ℕ, zero, ◌+◌, ◌∷◌, ◌++◌, [], List, take, get_or, inr, ap, ◌∙◌, lit<, arith}
+use Rattle.std.proofs.Common.{◌≡◌, ℕ, ◌+◌, ◌∷◌, ◌++◌, [], List, take, get_or, inr, ap, ◌∙◌, lit<, arith}
 use Rattle.std.proofs.lemmas.List.{take_more}
 use Rattle.text_parts.specs.Lines.{IsWhole}
 use Rattle.companion_file.specs.Piecewise.{BeginsClaim}

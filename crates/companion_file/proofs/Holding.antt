@@ -1,6 +1,6 @@
 -- What is held answers as all that was said does: the tests of a line ask for the last claim, change and charge, and
 -- whether there is one, and the last of each is always held.
-use Rattle.std.proofs.Common.{◌≡◌, ℕ, ◌+◌, ◌-◌, ◌<◌, ◌≤◌, zero, suc, Bool, true, false, cond, eqb, leb, min}
+use Rattle.std.proofs.Common.{◌≡◌, ℕ, ◌+◌, ◌-◌, ◌<◌, ◌≤◌, suc, Bool, true, false, cond, eqb, leb, min}
 use Rattle.std.proofs.Common.{List, [], ◌∷◌, ◌++◌, length, drop, get_or, Option, Some, None, Result, Ok, Err, refl}
 use Rattle.std.proofs.Common.{sym, ap, subst, ◌∙◌, append_assoc, inl, inr, arith}
 use Rattle.std.specs.Prelude.{All, AllPairs, MatchOption, ◌⊎◌}
@@ -8,20 +8,17 @@ use Rattle.std.specs.Option.{option_map_or}
 use Rattle.std.specs.List.{last_or, prefix_len}
 use Rattle.std.proofs.lemmas.Bool.{ne_eqb}
 use Rattle.std.proofs.lemmas.Bool.Decides.{nat_tests}
-use Rattle.std.proofs.lemmas.List.{append-nil}
 use Rattle.std.proofs.lemmas.List.Elements.{All-nil, All-cons, All-append}
-use Rattle.cfs_model.specs.declared.task.Task.{Task}
 use Rattle.cfs_model.specs.declared.claim.Claim.{Claim}
-use Rattle.cfs_model.specs.declared.idle_line.IdleLine.{IdleLine}
 use Rattle.cfs_model.specs.declared.nice_line.NiceLine.{NiceLine}
 use Rattle.cfs_model.specs.declared.charge_line.ChargeLine.{ChargeLine}
 use Rattle.companion_file.specs.declared.fault.CompanionCause.{CompanionCause}
 use Rattle.companion_file.specs.Shape.{Shape, version_line, cpus_line, start_line, floor_line, task_line, claim_line}
 use Rattle.companion_file.specs.Shape.{nice_line, idle_line, charge_line}
-use Rattle.companion_file.specs.Earlier.{Said, has_all_floors, last_claim, last_nice, last_charge}
+use Rattle.companion_file.specs.Earlier.{Said, has_all_floors}
 use Rattle.companion_file.specs.Tests.{fault_of, IsJudgedFirst, IsJudgedLater, IsJudged}
-use Rattle.companion_file.specs.Draft.{KeepsOrder, with_line}
-use Rattle.companion_file.specs.Reader.{IsHeldOf, HoldsOf, OnlyFirstPassed, start_of, has_begun, reaches_past}
+use Rattle.companion_file.specs.Draft.{with_line}
+use Rattle.companion_file.specs.Reader.{IsHeldOf, HoldsOf, OnlyFirstPassed, has_begun, reaches_past}
 use Rattle.companion_file.proofs.Piecewise.{last_of_second, no_push}
 
 -- ---- a list, and what is held of it

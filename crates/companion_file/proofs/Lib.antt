@@ -27,4 +27,4 @@ pub mod Sorting
 pub mod Starts
 pub mod Summing
 pub mod Taking
-pub mod UsualClaims
+pub mod UsualLines

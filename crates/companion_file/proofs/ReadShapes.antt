@@ -55,13 +55,13 @@ idle_tried : (version : ℕ) (rest : List ℕ) → shape_at version (spaced_from
 unfolding shape_at after_text
 idle_tried version rest = refl
 
-charge_tried : (version : ℕ) (rest : List ℕ)
+pub charge_tried : (version : ℕ) (rest : List ℕ)
     → shape_at version (spaced_from (codes "charge") rest) ≡ charge_shape_at version rest
 unfolding shape_at after_text
 charge_tried version rest = refl
 
 -- the version has what a least version has
-not_below : (least version : ℕ) → least ≤ version → ltb version least ≡ false
+pub not_below : (least version : ℕ) → least ≤ version → ltb version least ≡ false
 not_below least version le = grind (arith, nat_tests)
 
 not_above : (least version : ℕ) → ltb version least ≡ false → least ≤ version
@@ -149,7 +149,7 @@ same_nice : (l m p q : ℕ) (v w : ℤ) → l ≡ m → p ≡ q → v ≡ w
     → nice_line (record { line = l; pid = p; nice = v }) ≡ nice_line (record { line = m; pid = q; nice = w })
 same_nice l m p q v w e f g = rw (e, f, g) refl
 
-same_charge : (l m p q : ℕ) (v w : ℤ) → l ≡ m → p ≡ q → v ≡ w
+pub same_charge : (l m p q : ℕ) (v w : ℤ) → l ≡ m → p ≡ q → v ≡ w
     → charge_line (record { line = l; pid = p; v = v }) ≡ charge_line (record { line = m; pid = q; v = w })
 same_charge l m p q v w e f g = rw (e, f, g) refl
 

@@ -1,15 +1,15 @@
 -- What a reader has read, one line on: while no line was bad, what they say and what is held of it; then the first bad
 -- line. A line is tested on what is held, which answers as all that was said does.
-use Rattle.std.proofs.Common.{◌≡◌, ℕ, ◌+◌, ◌-◌, ◌^◌, ◌<◌, ◌≤◌, zero, suc, min, Bool, true, false, List, [], ◌∷◌, ◌++◌}
-use Rattle.std.proofs.Common.{length, Option, Some, None, Result, Ok, Err, refl, sym, ap, subst, ◌∙◌, append_assoc, inl}
+use Rattle.std.proofs.Common.{◌≡◌, ℕ, ◌+◌, ◌-◌, ◌^◌, ◌<◌, ◌≤◌, suc, min, Bool, true, false, List, [], ◌∷◌, ◌++◌}
+use Rattle.std.proofs.Common.{length, Option, Some, None, Ok, Err, refl, sym, ap, subst, ◌∙◌, append_assoc, inl}
 use Rattle.std.proofs.Common.{inr, arith, length-append}
-use Rattle.std.specs.Prelude.{All, AllPairs, MatchOption, is_some, IsNone, ◌||◌, ◌↔◌, ◌⊎◌}
+use Rattle.std.specs.Prelude.{All, AllPairs, MatchOption, is_some, ◌↔◌}
 use Rattle.std.proofs.lemmas.List.{append-nil}
 use Rattle.std.proofs.lemmas.List.Elements.{All-nil, All-cons, All-head, All-tail}
 use Rattle.cfs_model.specs.declared.claim.Claim.{Claim}
 use Rattle.cfs_model.specs.declared.nice_line.NiceLine.{NiceLine}
 use Rattle.cfs_model.specs.declared.charge_line.ChargeLine.{ChargeLine}
-use Rattle.text_parts.specs.Lines.{IsComment, lines_of}
+use Rattle.text_parts.specs.Lines.{IsComment}
 use Rattle.companion_file.specs.declared.bad_line.BadLine.{BadLine}
 use Rattle.companion_file.specs.declared.companion.Companion.{Companion}
 use Rattle.companion_file.specs.declared.companion_reader.CompanionReader.{CompanionReader}
@@ -22,7 +22,7 @@ use Rattle.companion_file.specs.Spelling.{IsFirstLine}
 use Rattle.companion_file.specs.Order.{IsCompanionInOrder, IsClaimInLimits, IsNiceLineInLimits, IsChargeLineInLimits}
 use Rattle.companion_file.specs.Earlier.{Said, summed, has_all_floors}
 use Rattle.companion_file.specs.Tests.{IsJudgedFirst, IsJudgedLater, IsJudged}
-use Rattle.companion_file.specs.Companion.{CompanionView, AreGood, AreOfVersion, IsFirstBadCompanionLine, IsShort}
+use Rattle.companion_file.specs.Companion.{CompanionView, AreOfVersion, IsFirstBadCompanionLine, IsShort}
 use Rattle.companion_file.specs.Companion.{IsRead}
 use Rattle.companion_file.specs.Draft.{KeepsOrder, IsCompleted, Takes, with_line}
 use Rattle.companion_file.specs.Piecewise.{SaysOn}

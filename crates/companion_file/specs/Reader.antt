@@ -1,7 +1,7 @@
 -- A companion that is read some lines at a time, and of which claims, changes and charges are let go (this project's
 -- companion format: what is read in parts means what the whole means).
 use Rattle.std.specs.Prelude.{◌≡◌, ℕ, ◌+◌, ◌<◌, ◌≤◌, ◌^◌, Bool, true, false, not, ◌&&◌, ◌||◌, ◌==◌, nat_lt, List, []}
-use Rattle.std.specs.Prelude.{◌∷◌, ◌++◌, length, All, Option, Some, None, Result, Ok, Err, is_some, IsNone, MatchOption}
+use Rattle.std.specs.Prelude.{◌∷◌, ◌++◌, length, All, Option, Some, None, Result, Ok, Err, MatchOption}
 use Rattle.std.specs.Prelude.{◌⊎◌, ◌↔◌}
 use Rattle.std.specs.Option.{option_map_or}
 use Rattle.cfs_model.specs.declared.claim.Claim.{Claim}

@@ -18,7 +18,7 @@ mod reading_wide;
 mod shapes;
 mod spans;
 mod statement;
-mod usual_claim;
+mod usual_line;
 mod version;
 
 pub use companion::Companion;

@@ -37,16 +37,23 @@ impl LineText {
         self.length = self.length.saturating_add(more.len());
     }
 
+    fn push_byte(&mut self, byte: u8) {
+        if let Some(place) = self.bytes.get_mut(self.length) {
+            *place = byte;
+        }
+        self.length = self.length.saturating_add(1);
+    }
+
     /// A number behind a space.
     pub(crate) fn push_number<I: Integer>(&mut self, value: I) {
         let mut digits = Buffer::new();
-        self.push(" ");
+        self.push_byte(b' ');
         self.push(digits.format(value));
     }
 
     /// Ends the line, and gives it.
     pub(crate) fn end(&mut self) -> &[u8] {
-        self.push("\n");
+        self.push_byte(b'\n');
         self.bytes.get(..self.length).unwrap_or(&[])
     }
 }

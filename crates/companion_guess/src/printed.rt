@@ -43,25 +43,23 @@ pub(crate) const LABEL: &[u8] = b": sched_stat_runtime: ";
 
 /// The charge that the first line of a text prints, if it is a line of that event, and what follows the line.
 pub(crate) fn first_charge(text: &[u8]) -> (Option<Printed>, &[u8]) {
-    match usual_front(text) {
-        Some(front) => {
-            let (rest, after) = next_line(front.rest);
-            (usual_charge(front.cpu, front.time, rest), after)
-        }
-        None => {
-            let (line, after) = next_line(text);
-            (unusual_charge(line), after)
-        }
+    let (line, after) = next_line(text);
+    match label_of(line) {
+        Some(label) => (charge_on(line, label), after),
+        None => (None, after),
     }
 }
 
-/// The charge that a line prints whose head has this processor and time, by what follows the head.
-fn usual_charge(cpu: u32, time: u64, rest: &[u8]) -> Option<Printed> {
-    Some(Printed {
-        time,
-        cpu,
-        amounts: amounts_of(after_front(rest, NAME)?)?,
-    })
+/// The charge that a line prints on which the label stands first at this place.
+fn charge_on(line: &[u8], label: usize) -> Option<Printed> {
+    match usual_front(line) {
+        Some(front) => Some(Printed {
+            time: front.time,
+            cpu: front.cpu,
+            amounts: amounts_of(after_front(front.rest, NAME)?)?,
+        }),
+        None => unusual_charge(line, label),
+    }
 }
 
 /// Where the first label on a line of a trace is. None has room in the columns of the name.
@@ -75,10 +73,8 @@ fn label_of(line: &[u8]) -> Option<usize> {
     None
 }
 
-/// The charge that a line with something that is seldom there prints: the first label on it has to stand right behind
-/// the head.
-fn unusual_charge(line: &[u8]) -> Option<Printed> {
-    let label = label_of(line)?;
+/// The same of a line with something that is seldom there: the first label on it has to stand right behind the head.
+fn unusual_charge(line: &[u8], label: usize) -> Option<Printed> {
     let head = line.get(..label)?;
     let text = line.get(label.saturating_add(LABEL.len())..)?;
     // Where a head ends before the label, the label is a part of another event's text.
@@ -115,11 +111,12 @@ fn time_of(head: &[u8]) -> Option<u64> {
 /// range.
 fn amounts_of(text: &[u8]) -> Option<PrintedAmounts> {
     let named = after_front(text, b"comm=")?;
-    for width in 0..NAME_MAX + 1 {
-        if width <= named.len() {
-            if let Some(amounts) = amounts_behind_name(&named[width..]) {
-                return Some(amounts);
-            }
+    for blank in memchr_iter(b' ', named) {
+        if blank > NAME_MAX {
+            return None;
+        }
+        if let Some(amounts) = amounts_behind_name(named.get(blank..)?) {
+            return Some(amounts);
         }
     }
     None

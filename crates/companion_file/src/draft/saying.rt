@@ -13,7 +13,7 @@ use crate::known_lines::{is_group, version_of};
 use crate::limits::{change_within, charge_within, claim_within, is_value};
 use crate::shapes::statement_of;
 use crate::statement::Statement;
-use crate::usual_claim::usual_claim;
+use crate::usual_line::{usual_charge, usual_claim};
 use cfs_model::{ClaimSort, GREATEST_SECONDS, MOST_PROCESSORS, NANOSECONDS_PER_SECOND, Place};
 use text_parts::lines::{is_comment, next_line};
 use text_parts::time::Time;
@@ -189,11 +189,17 @@ impl Draft {
         ensures lines { lines_of text.now ≡ before_first is_line_feed text.now ∷ lines_of result.1.now }
         ensures shorter { length result.1.now < length text.now }
     {
-        if self.version.is_some()
-            && let Some(claim) = usual_claim(text)
-        {
-            let said = self.say_claim(claim.line, claim.pid, claim.v, ClaimSort::At);
-            return (said, claim.rest);
+        if let Some(version) = self.version {
+            if let Some(claim) = usual_claim(text) {
+                let said = self.say_claim(claim.line, claim.pid, claim.v, ClaimSort::At);
+                return (said, claim.rest);
+            }
+            if version >= 3
+                && let Some(charge) = usual_charge(text)
+            {
+                let said = self.say_charge(charge.line, charge.pid, charge.v);
+                return (said, charge.rest);
+            }
         }
         let (line, rest) = next_line(text);
         (self.take(line), rest)

@@ -76,7 +76,7 @@ impl Machine {
         Ok(())
     }
 
-    /// The same of a task at the start, which is given in nanoseconds.
+    /// Notes where a task stands at the start, in nanoseconds, unless a print tells it, and answers its index there.
     pub(super) fn unsettled_at_start(
         &mut self,
         task: &Task,

@@ -192,5 +192,9 @@ rest_lines word text rest line pid v some unbroken has = lines_of_next text some
 pub rest_shorter : (word text rest : List ℕ) (line pid : ℕ) (v : ℤ) → 0 < length text → IsUnbroken word
     → HasLine word text line pid v rest → length rest < length text
 rest_shorter word text rest line pid v some unbroken has =
-    omega (arith, some, ap length (line_leaves word text rest line pid v unbroken has),
-    length-drop (position_or_len is_line_feed text + 1) text)
+    omega (
+      arith,
+      some,
+      ap length (line_leaves word text rest line pid v unbroken has),
+      length-drop (position_or_len is_line_feed text + 1) text,
+    )

@@ -18,7 +18,7 @@ use std::thread::Threads;
 use std::time::Clock;
 use std::{env, io};
 
-/// Does what the command line says; whether standard error is told how far it is.
+/// Does what the command line says. Where `tells` is set, standard error is told how far it is.
 pub fn obey<
     R: Env + Files + Clock + Print + Eprint + RandomSource + AllocGlobal + Threads + Wait + Sync,
 >(rt: &R, alloc: Global, stdin: Stdin, tells: bool) -> Ending {

@@ -15,7 +15,7 @@ use std::thread::Threads;
 const TRACE: &[u8] =
     b"# a comment\n            t101-101     [000] d..2.   100.004000: sched_switch: prev_comm=t101 prev_pid=101 prev_prio=120 prev_state=R+ ==> next_comm=t102 next_pid=102 next_prio=120\n            t201-201     [001] d..2.   100.004000: sched_switch: prev_comm=t201 prev_pid=201 prev_prio=120 prev_state=R+ ==> next_comm=t202 next_pid=202 next_prio=120\n";
 
-/// The same, with a line between them that no trace has.
+/// The comment and the first event of it, with a line between them that no trace has.
 const CUT_TRACE: &[u8] =
     b"# a comment\nhello\n            t101-101     [000] d..2.   100.004000: sched_switch: prev_comm=t101 prev_pid=101 prev_prio=120 prev_state=R+ ==> next_comm=t102 next_pid=102 next_prio=120\n";
 

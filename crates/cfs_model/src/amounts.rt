@@ -59,7 +59,7 @@ impl Amounts {
         }
     }
 
-    /// The same of each.
+    /// One amount for each setting.
     pub fn all(amount: u64) -> Amounts
         ensures { result ≡ settings_by (λ which. amount) }
     {

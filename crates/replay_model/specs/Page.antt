@@ -50,7 +50,7 @@ abbrev pub deadline_of : Kind → ℕ → Option ℕ → Option ℕ
 deadline_of IdleTooLong slack (Some since) = Some (since + slack)
 deadline_of _ slack since = None
 
--- the same with a fault
+-- a state whose page has this fault
 abbrev pub with_fault : ReplayStateView → StepFault → ReplayStateView
 with_fault before fault = record before { page = record (before.page) { fault = Some fault } }
 

@@ -1,11 +1,12 @@
 use crate::answers::wants;
 use cfs_model::{
     Kind, Knobs, Memory, Nice, Policy, PrioFault, birth_example, charge, drifts, floors_rise,
-    idle_example, marks_move, migration_example, no_drift, one_list, pick_example, places,
-    prefixes, put_back_example, told_example, untold, wake_example, weight, weight_of,
+    idle_example, least_settings, marks_move, migration_example, nice_example, no_drift, one_list,
+    pick_example, places, policies, policy_example, prefixes, put_back_example, told_example,
+    untold, wake_example, weight, weight_of,
 };
 use part_laws::{migrations, pages, part_steps};
-use replay_laws::{closing, composition, endings, faults_end_runs, first_faults, replays};
+use replay_laws::{closing, composition, endings, faults_end_runs, first_faults, needs, replays};
 use std::test::Fail;
 
 static CHARGES: [(u64, u32, Option<i64>); 9] = [
@@ -164,7 +165,7 @@ fn want_of_memory_prints_its_text(rt: HostRuntime) -> Result<(), Fail> {
     Ok(())
 }
 
-// Laws and examples do nothing: a call of each shows that it can be made.
+// Laws and examples of the crates below do nothing: a call shows that it can be made.
 #[test]
 fn laws_and_examples() {
     one_list();
@@ -175,6 +176,8 @@ fn laws_and_examples() {
     untold();
     no_drift();
     drifts();
+    policies();
+    least_settings();
     pages();
     part_steps();
     migrations();
@@ -184,11 +187,14 @@ fn laws_and_examples() {
     endings();
     closing();
     first_faults();
+    needs();
     put_back_example();
     pick_example();
     migration_example();
     wake_example();
     idle_example();
     birth_example();
+    nice_example();
+    policy_example();
     told_example();
 }

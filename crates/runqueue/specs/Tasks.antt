@@ -34,11 +34,12 @@ pub record CanBeTold (bound : ℕ) (charge : ChargeLine) (own : ℤ) (exact : Sc
 abbrev pub told_task : ChargeLine → SchedEntity → SchedEntity
 told_task charge exact = record exact { v = charge.v; drift = drift_after exact.drift charge.v exact.v }
 
--- the same where nothing may be told
+-- what is told of a charge can be told, if anything is
 abbrev pub CanBeChargedAs : ℕ → Option ChargeLine → ℤ → SchedEntity → Type 0
 CanBeChargedAs bound None own exact = ⊤
 CanBeChargedAs bound (Some charge) own exact = CanBeTold bound charge own exact
 
+-- the task after the charge that is told, if one is, and else after the exact one
 abbrev pub charged_as : Option ChargeLine → SchedEntity → SchedEntity
 charged_as None exact = exact
 charged_as (Some charge) exact = told_task charge exact

@@ -25,7 +25,7 @@ impl Front {
         self.bytes.get(..self.count).unwrap_or(&[])
     }
 
-    /// The same where nothing was written before, and these bytes are now.
+    /// Keeps the first of these bytes, if nothing was written before them.
     fn note(&mut self, bytes: &[u8]) {
         if self.count == 0 {
             for (place, byte) in self.bytes.iter_mut().zip(bytes) {

@@ -130,7 +130,7 @@ fn overwrites<R: Files, F>(
     }
 }
 
-/// The same where the record is kept, with the waits of its tasks where they are asked for.
+/// Answers a request with the record kept, and with the waits of its tasks where they are asked for.
 fn answer_kept_as<J: Told, R: Files + Print + Eprint + RandomSource + Threads + Wait + Sync>(
     rt: &R,
     alloc: Global,

@@ -79,12 +79,14 @@ fn over(sight: &Sight) -> Option<u64> {
     }
 }
 
+/// For how long the processor had idled beside a waiting task, in nanoseconds.
 fn idled(sight: &Sight) -> Option<u64> {
     let since = sight.before.since?;
     Some(sight.step.time.saturating_sub(since))
 }
 
-/// Also of a task that ends with the event, and stands nowhere behind it.
+/// How far the told charges of who ran stray from exact ones in sum, up or down, in virtual nanoseconds; also of a task
+/// that ends with the event, and stands nowhere behind it.
 fn drift(sight: &Sight) -> Option<u64> {
     sight.step.charge?;
     Some(Stretch::of(sight)?.drift(&sight.after).unsigned_abs())

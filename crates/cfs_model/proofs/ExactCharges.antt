@@ -1,6 +1,6 @@
 -- Runs without told charges, and those at drift 0: where nothing is told the bound isn't asked for, and where the bound
 -- is 0 what is told of a task without a drift is just its exact charge.
-use Rattle.std.proofs.Common.{◌≡◌, ◌≢◌, ◌↔◌, ℕ, Bool, Option, Some, None, ℤ, pos, neg_ℤ, ◌+ℤ◌, ◌-ℤ◌, ◌≤ℤ◌, ◌⊎◌, inl}
+use Rattle.std.proofs.Common.{◌≡◌, ◌≢◌, ℕ, Option, Some, None, ℤ, pos, ◌⊎◌, inl}
 use Rattle.std.proofs.Common.{inr}
 use Rattle.std.proofs.Common.{List, [], ◌∷◌, map, refl, sym, ap, ap₂, ◌∙◌, subst, arith}
 use Rattle.std.proofs.lemmas.Int.{ints}
@@ -12,17 +12,16 @@ use Rattle.cfs_model.specs.Claimed.{Claimed}
 use Rattle.cfs_model.specs.Touch.{touched}
 use Rattle.cfs_model.specs.Told.{drift_after, IsWithin, ChargesAs}
 use Rattle.cfs_model.specs.Lifted.{charged, IsLiftedAt, IsLifted}
-use Rattle.cfs_model.specs.Step.{Changes, IsStep}
+use Rattle.cfs_model.specs.Step.{IsStep}
 use Rattle.cfs_model.specs.Idling.{KeepsSlack}
-use Rattle.cfs_model.specs.Run.{AreSteps, times_of, IsRun}
+use Rattle.cfs_model.specs.Run.{AreSteps}
 use Rattle.cfs_model.specs.ToldLaws.{IsUntold, HasNoDrift, UntoldIgnoresDrift, UntoldHasNoDrift, IsExactlyLifted}
 use Rattle.cfs_model.specs.ToldLaws.{UntoldLiftsExactly, untold, NoDriftIsExact, AreDriftsWithin}
 use Rattle.cfs_model.proofs.Moves.{put-same, put-other, same_or_not}
 use Rattle.cfs_model.proofs.ToldCharge.{untold_is, untold_raised}
-use Rattle.cfs_model.proofs.MoreGenerous.{asked, changes_more}
+use Rattle.cfs_model.proofs.MoreGenerous.{changes_more}
 use Rattle.cfs_model.proofs.LeastSettings.{asked_same}
 use Rattle.cfs_model.proofs.DriftSums.{step_within, drifts_are_within}
-use Rattle.cfs_model.specs.declared.act.Act.{Act}
 use Rattle.cfs_model.specs.declared.charge_line.ChargeLine.{ChargeLine}
 
 -- a lift of one processor where nothing is told, under any bound

@@ -86,9 +86,6 @@ one_place Wait Run Pass a b = absurd b
 one_place Rest Run At a b = absurd b
 one_place Rest Run Pass a b = absurd b
 
-one_some : (o : Option ℤ) (v w : ℤ) → o ≡ Some v → o ≡ Some w → v ≡ w
-one_some o v w p q = cc
-
 one_waken : (knobs : KnobsView) (m : Machine) (cpu pid : ℕ) (nice : ℤ) (claim : Option Claim) (after other : Machine)
     → IsWakeQueued m cpu pid nice claim after ⊎ IsWakeResting knobs m cpu pid nice claim after
     → IsWakeQueued m cpu pid nice claim other ⊎ IsWakeResting knobs m cpu pid nice claim other → after ≡ other

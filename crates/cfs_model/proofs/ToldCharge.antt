@@ -1,7 +1,7 @@
 -- What a told charge changes: the virtual runtime and the drift of the task that runs, and nothing else. So it keeps
 -- the order and the range of a machine, is one whatever the bound, and is none where no charge is told.
-use Rattle.std.proofs.Common.{◌≡◌, ◌≢◌, ℕ, ◌≤◌, Option, Some, None, IfSome, is_some, ℤ, pos, neg_ℤ, ◌≤ℤ◌, ◌⊎◌, inl, inr}
-use Rattle.std.proofs.Common.{refl, sym, ap, ◌∙◌, subst, arith}
+use Rattle.std.proofs.Common.{◌≡◌, ◌≢◌, ℕ, ◌≤◌, Option, Some, None, IfSome, is_some, ℤ, ◌⊎◌, inl, inr}
+use Rattle.std.proofs.Common.{sym, ap, ◌∙◌, subst, arith}
 use Rattle.std.proofs.lemmas.Int.{ints}
 use Rattle.cfs_model.specs.Charge.{IsInRange}
 use Rattle.cfs_model.specs.Machine.{Machine, pairs_of, put, with_floor, with_runtime, with_drift}

@@ -1,14 +1,13 @@
 -- The examples of a told charge: 101 is told to be charged up to a virtual runtime, from which its drift follows; it is
 -- put back at it, and the floor is raised from it.
-use Rattle.std.proofs.Common.{◌≡◌, ℕ, true, false, Some, None, ℤ, pos, ◌+ℤ◌, ◌-ℤ◌, ◌≤ℤ◌, ◌⊎◌, inl, inr, [], ◌∷◌, refl}
+use Rattle.std.proofs.Common.{◌≡◌, ℕ, true, Some, ℤ, pos, ◌+ℤ◌, ◌-ℤ◌, ◌≤ℤ◌, ◌⊎◌, inl, inr, [], ◌∷◌, refl}
 use Rattle.std.proofs.Common.{sym, ap, ◌∙◌, subst, arith, lit<, lit≤}
 use Rattle.std.proofs.lemmas.Int.{ints}
 use Rattle.std.specs.Int.{int_max}
 use Rattle.cfs_model.specs.Machine.{Machine, Stands, IsQueued, put, put_pair, with_floor, with_move, with_runtime}
 use Rattle.cfs_model.specs.Machine.{with_drift}
-use Rattle.cfs_model.specs.Claimed.{Claimed}
 use Rattle.cfs_model.specs.Told.{IsTold, drift_after, IsWithin}
-use Rattle.cfs_model.specs.Lifted.{charged, IsLeast, IsRaised, IsLifted}
+use Rattle.cfs_model.specs.Lifted.{charged, IsLifted}
 use Rattle.cfs_model.specs.Step.{after_prev, after_next, IsSwitch, IsWakeQueued, IsWakeResting, IsStep}
 use Rattle.cfs_model.specs.Order.{IsStart}
 use Rattle.cfs_model.specs.Examples.{drifting, HasStep, start_time, switch_start, told_event, ToldExample, floor_start}

@@ -1,5 +1,5 @@
 -- Lines that are all good, one after another: their order is kept, and one more good line makes one more of them.
-use Rattle.std.proofs.Common.{◌≡◌, ℕ, true, false, ◌^◌, ◌<◌, List, [], ◌∷◌, ◌++◌, length, Option, Some, None, Result}
+use Rattle.std.proofs.Common.{◌≡◌, ℕ, true, false, ◌^◌, ◌<◌, List, [], ◌∷◌, ◌++◌, length, Option, Some, None}
 use Rattle.std.proofs.Common.{Ok, Err, refl, sym, ap, subst, inl, inr, arith}
 use Rattle.std.specs.Prelude.{MatchOption}
 use Rattle.std.specs.Option.{option_map_or}
@@ -104,9 +104,6 @@ order_later version said line y order (inr (inr p)) =
     let t = tested_ok said p.1.0 y p.1.2 in
     subst (λ (x : Shape). KeepsOrder (with_line said x)) (sym t.1)
     (order_with said p.1.0 (second_fits version line p.1.0 p.1.1) order (all_passed said p.1.0 t.0))
-
-ok_is : (x y : Shape) (c : CompanionCause) → ◌≡◌ {A = Result Shape CompanionCause} (Ok x) (Ok y) → x ≡ y
-ok_is x y c e = cc
 
 order_first : (said : Said) (line : List ℕ) (y : Shape) → KeepsOrder said → IsJudgedFirst line (Ok y)
     → KeepsOrder (with_line said y)

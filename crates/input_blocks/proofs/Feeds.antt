@@ -1,7 +1,7 @@
 -- Where lines end among bytes.
 use Rattle.std.proofs.Common.{◌≡◌, ℕ, suc, ◌+◌, ◌-◌, ◌<◌, ◌≤◌, true, false, List, [], ◌∷◌, ◌++◌, length, take, drop}
 use Rattle.std.proofs.Common.{inl, inr, refl, sym, ap, ◌∙◌, subst, arith, add-one, one-add}
-use Rattle.std.specs.List.{after_first, before_first, list_any}
+use Rattle.std.specs.List.{before_first, list_any}
 use Rattle.std.proofs.lemmas.Bool.{cases_Bool, eqb-true, or_parts}
 use Rattle.std.proofs.Math.Seq.{take-add}
 use Rattle.std.proofs.lemmas.List.{drop_at, drop-take, drop-drop}
@@ -41,15 +41,8 @@ before_cons : (b : ℕ) (s : List ℕ) → is_line_feed b ≡ false
     → before_first is_line_feed (b ∷ s) ≡ b ∷ before_first is_line_feed s
 before_cons b s e = rw (e, one-add) refl
 
-after_cons : (b : ℕ) (s : List ℕ) → is_line_feed b ≡ false
-    → after_first is_line_feed (b ∷ s) ≡ after_first is_line_feed s
-after_cons b s e = rw (e, add-one, one-add, add-one) refl
-
 before_at : (b : ℕ) (s : List ℕ) → is_line_feed b ≡ true → before_first is_line_feed (b ∷ s) ≡ []
 before_at b s e = rw e refl
-
-after_at : (b : ℕ) (s : List ℕ) → is_line_feed b ≡ true → after_first is_line_feed (b ∷ s) ≡ s
-after_at b s e = rw e refl
 
 pub no_feed_before : (s : List ℕ) → list_any is_line_feed (before_first is_line_feed s) ≡ false
 no_feed_before [] = refl

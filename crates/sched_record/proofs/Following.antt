@@ -92,11 +92,6 @@ times_across last events later before after i d h j e h' =
     let high = after j e h' in
     omega (arith, low, high)
 
--- the times of events further down are the same
-times_shifted : (count last : ℕ) (later : List Entry) → All (λ e. last ≤ e.time) later
-    → All (λ e. last ≤ e.time) (map (shifted count) later)
-times_shifted count last later after = All-map (λ e. last ≤ e.time) (shifted count) later after
-
 last_time : (last last' count : ℕ) (events later : List Entry) → All (λ e. last ≤ e.time) later → IsLastTime last events
     → IsLastTime last' later
     → IsLastTime (max last last') (events ++ map (shifted count) later)

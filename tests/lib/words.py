@@ -41,6 +41,7 @@ SWITCH = b"prev_comm=name prev_pid=101 prev_prio=120 prev_state=R+ ==> next_comm
 # Texts of other shapes, as they begin, and what is said of each. Those that are printed are of one switch after 4 ms.
 SHAPES = {
     "gzip": (b"\x1f\x8b\x08\0", "is compressed: `gzip -dc FILE` writes the text"),
+    "bzip2": (b"BZh91AY&SY", "is compressed: `bzip2 -dc FILE` writes the text"),
     "xz": (b"\xfd7zXZ\0\0", "is compressed: `xz -dc FILE` writes the text"),
     "zstd": (b"\x28\xb5\x2f\xfd\0", "is compressed: `zstd -dc FILE` writes the text"),
     "trace.dat": (b"\x17\x08Dtracing6\0",

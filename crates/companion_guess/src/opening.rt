@@ -101,11 +101,13 @@ fn place_of(guess: Guess) -> Option<Place> {
     }
 }
 
-/// What more is known of a task that is named again.
-fn guess_after(guess: Guess, sight: Sight) -> Guess {
+/// What more is known of a task that is named again, at the processor where it was named first or at another.
+fn guess_after(guess: Guess, sight: Sight, is_there: bool) -> Guess {
     match (guess, sight) {
-        (Guess::Woken, Sight::Previous) => Guess::Known(Place::Run),
-        (Guess::Woken, Sight::Next | Sight::Moved | Sight::Born) => Guess::Known(Place::Rest),
+        (Guess::Woken, Sight::Previous) if is_there => Guess::Known(Place::Run),
+        (Guess::Woken, Sight::Previous | Sight::Next | Sight::Moved | Sight::Born) => {
+            Guess::Known(Place::Rest)
+        }
         (Guess::Moved, Sight::Next | Sight::Previous) => Guess::Known(Place::Wait),
         (Guess::Moved, Sight::Woken | Sight::Born) => Guess::Known(Place::Rest),
         _ => guess,
@@ -165,7 +167,7 @@ impl Opening {
         }
         match self.tasks.get(pid) {
             Some(first) => {
-                let guess = guess_after(first.guess, sight);
+                let guess = guess_after(first.guess, sight, cpu == first.cpu);
                 if guess == first.guess {
                     return Ok(());
                 }

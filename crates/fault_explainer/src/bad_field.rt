@@ -28,7 +28,7 @@ static WAKEUP_KEYS: [&[u8]; 4] = [b"comm=", b" pid=", b" prio=", b" target_cpu="
 static MIGRATION_KEYS: [&[u8]; 5] = [b"comm=", b" pid=", b" prio=", b" orig_cpu=", b" dest_cpu="];
 
 /// The keys of an event.
-fn keys_of(which: Which) -> &'static [&'static [u8]] {
+pub(crate) fn keys_of(which: Which) -> &'static [&'static [u8]] {
     match which {
         Which::Switch => &SWITCH_KEYS,
         Which::Wakeup | Which::WakeupNew => &WAKEUP_KEYS,
@@ -36,7 +36,8 @@ fn keys_of(which: Which) -> &'static [&'static [u8]] {
     }
 }
 
-/// Says which key stands nowhere on an event's line; else, which name has too many bytes.
+/// Says which key stands nowhere on an event's line; else which name has too many bytes, or where no number is. Where a
+/// key stands more than once it may be a part of a name, and nothing more is said.
 pub(crate) fn push_bad_field(text: &mut String, line: &[u8]) -> Result<(), AllocError> {
     let Ok(Line::Sched(sched)) = read_line(line) else {
         return Ok(());
@@ -44,19 +45,16 @@ pub(crate) fn push_bad_field(text: &mut String, line: &[u8]) -> Result<(), Alloc
     let keys = keys_of(sched.which);
     match keys.iter().find(|key| sched.rest.find(**key).is_none()) {
         Some(key) => push_missing_key(text, *key),
-        None => {
+        None if keys.iter().all(|key| stands_once(line, *key)) => {
             push_long_names(text, line, sched.rest, keys)?;
             push_odd_number(text, line, keys)
         }
+        None => Ok(()),
     }
 }
 
-/// Says behind which key no number stands, or that more stands behind the last one. Where a key stands more than once
-/// nothing is said.
+/// Says behind which key no number stands, or that more stands behind the last one.
 fn push_odd_number(text: &mut String, line: &[u8], keys: &[&[u8]]) -> Result<(), AllocError> {
-    if !keys.iter().all(|key| stands_once(line, *key)) {
-        return Ok(());
-    }
     for key in keys.iter().copied() {
         if !key.ends_with(b"comm=") && !key.ends_with(b"state=") && !has_number(line, key) {
             return push_no_number(text, line, key);

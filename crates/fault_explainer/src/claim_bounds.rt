@@ -6,7 +6,7 @@ use crate::names::Named;
 use crate::processor::Processor;
 use crate::scene::Scene;
 use crate::task_words::{verb, weight_words};
-use cfs_model::{Act, Claim, ClaimSort, IDLE_PID, Place, Way};
+use cfs_model::{Act, Claim, ClaimSort, GREATEST_RUNTIME, IDLE_PID, Place, Way};
 use runqueue::SchedEntity;
 use std::alloc::AllocError;
 
@@ -164,6 +164,9 @@ fn push_moved_claim(
     sort: ClaimSort,
     v: i128,
 ) -> Result<(), AllocError> {
+    if v.unsigned_abs() > GREATEST_RUNTIME as u128 {
+        return writeln!(text, "# by the rules it is {v}, which no companion may say");
+    }
     let word = word_of(sort);
     writeln!(text, "# by the rules it is: {word} {line} {pid} {v}")
 }

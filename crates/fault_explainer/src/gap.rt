@@ -7,10 +7,10 @@ use crate::scene::Scene;
 use crate::trace_text::TraceText;
 use cfs_model::{Entry, Memory, NO_LINE};
 use sched_record::Record;
-use std::alloc::{AllocError, Global};
+use std::alloc::AllocError;
 
-/// So many events before a fault are looked at.
-const MOST_HEADS: usize = 100;
+/// The heads of so many lines before a fault are looked at.
+const MOST_HEADS: u32 = 100;
 
 /// A line whose head names another task than the one that should run at its processor.
 #[derive(Clone, Copy)]
@@ -25,7 +25,6 @@ pub(crate) struct Gap {
 
 /// The first such line behind the last switch at a processor and before a line, among those that are looked at.
 pub(crate) fn gap_before<T: TraceText>(
-    alloc: Global,
     record: &Record,
     cpu: u32,
     line: u32,
@@ -34,14 +33,16 @@ pub(crate) fn gap_before<T: TraceText>(
     trace: &mut T,
 ) -> Result<Option<Gap>, Memory> {
     let switch = line_of_switch(record, cpu, line);
-    let lines = lines_between(alloc, record, switch, line)?;
-    // Where events may be left out, the switch is no line right behind which another is missing.
-    let mut behind = if lines.len() < MOST_HEADS {
-        switch
-    } else {
+    let first = switch
+        .saturating_add(1)
+        .max(line.saturating_sub(MOST_HEADS));
+    // Where lines may be left out, the switch is no line right behind which another is missing.
+    let mut behind = if first > switch.saturating_add(1) {
         NO_LINE
+    } else {
+        switch
     };
-    for line in lines.iter().copied() {
+    for line in first..line {
         match head_at(trace, names, cpu, line)? {
             Some(pid) if pid != runner => {
                 return Ok(Some(Gap {
@@ -64,31 +65,6 @@ fn line_of_switch(record: &Record, cpu: u32, line: u32) -> u32 {
         Some(Entry { line, .. }) => line,
         None => NO_LINE,
     }
-}
-
-/// The lines of the last events behind one line and before another, as many as are looked at.
-fn lines_between(
-    alloc: Global,
-    record: &Record,
-    first: u32,
-    last: u32,
-) -> Result<Vec<u32>, AllocError> {
-    let between = events_between(record, first, last);
-    let skipped = between.len().saturating_sub(MOST_HEADS);
-    let mut lines = Vec::new(alloc);
-    for event in between.iter().skip(skipped) {
-        lines.push(event.line)?;
-    }
-    Ok(lines)
-}
-
-/// The events behind one line and before another.
-fn events_between(record: &Record, first: u32, last: u32) -> &[Entry] {
-    let events = record.events();
-    let above = events.partition_point(|event| event.line < last);
-    let before = events.get(..above).unwrap_or(&[]);
-    let behind = before.partition_point(|event| event.line <= first);
-    before.get(behind..).unwrap_or(&[])
 }
 
 /// The pid in the head of a line, where that is of this processor and can be read again. Its names are learnt.

@@ -1,9 +1,10 @@
 //! The numbers behind the keys of an event's line.
 
+use crate::bad_field::keys_of;
 use crate::escaped::Escaped;
 use crate::odd_byte::column_behind;
 use bstr::ByteSlice;
-use ftrace_line::{LineFault, read_line};
+use ftrace_line::{Line, LineFault, read_line};
 use std::alloc::AllocError;
 use text_parts::numerals::number_at;
 
@@ -97,12 +98,34 @@ fn head_field(line: &[u8]) -> Option<Field<'_>> {
     field_at(line, before, HEAD_CPU_ABOVE.key)
 }
 
-/// Says which number behind a key isn't allowed, where it is the only such one.
+/// Says which number behind a key isn't allowed, where it is the only such one. A key that stands on the line more
+/// often than the event has it may be a part of a name.
 fn push_only(text: &mut String, line: &[u8], outlaw: Outlaw) -> Result<(), AllocError> {
+    if count_of(line, outlaw.key) > fields_of(line, outlaw.key) {
+        return Ok(());
+    }
     let mut found = (0..line.len()).filter(|before| is_at(line, *before, outlaw));
     match (found.next(), found.next()) {
         (Some(before), None) => push_at(text, line, before, outlaw),
         _ => Ok(()),
+    }
+}
+
+/// How often a key stands on a line.
+fn count_of(line: &[u8], key: &[u8]) -> usize {
+    (0..line.len())
+        .filter(|before| behind_key(line, *before, key).is_some())
+        .count()
+}
+
+/// How many fields with this key the event on a line has.
+fn fields_of(line: &[u8], key: &[u8]) -> usize {
+    match read_line(line) {
+        Ok(Line::Sched(sched)) => keys_of(sched.which)
+            .iter()
+            .filter(|field| field.ends_with(key))
+            .count(),
+        _ => 0,
     }
 }
 

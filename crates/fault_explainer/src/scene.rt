@@ -125,7 +125,7 @@ impl Scene {
         if hides_switch(self.fault.kind) {
             let runner = self.here.queue.runner().map_or(IDLE_PID, |task| task.pid);
             let (cpu, names) = (self.here.cpu, &mut self.names);
-            self.gap = gap_before(alloc, record, cpu, line, runner, names, trace)?;
+            self.gap = gap_before(record, cpu, line, runner, names, trace)?;
         }
         Ok(())
     }

@@ -7,6 +7,9 @@ use std::rt::{Files, Stdin};
 /// The name of standard input on a command line.
 const STANDARD: &str = "-";
 
+/// The file to which standard output goes.
+const OUTPUT: &str = "/dev/stdout";
+
 /// A text that a user names, while it is read, and what the system says of its file.
 #[derive(Drop)]
 pub struct Input<F> {
@@ -42,14 +45,23 @@ impl<F> Input<F> {
 
     /// Whether a name is that of the same regular file.
     pub fn is_at<R: Files>(&self, rt: &R, name: &str) -> bool {
-        match fs::metadata(rt, name) {
-            Ok(other) => {
-                self.about.is_file()
-                    && self.about.dev() == other.dev()
-                    && self.about.ino() == other.ino()
-            }
-            Err(_) => false,
-        }
+        is_named(rt, &self.about, name)
+    }
+}
+
+/// Whether a name is that of the regular file to which standard output goes.
+pub fn is_output<R: Files>(rt: &R, name: &str) -> bool {
+    match fs::metadata(rt, OUTPUT) {
+        Ok(about) => is_named(rt, &about, name),
+        Err(_) => false,
+    }
+}
+
+/// Whether a name is that of the regular file of which the system says this.
+fn is_named<R: Files>(rt: &R, about: &Metadata, name: &str) -> bool {
+    match fs::metadata(rt, name) {
+        Ok(other) => about.is_file() && about.dev() == other.dev() && about.ino() == other.ino(),
+        Err(_) => false,
     }
 }
 

@@ -10,7 +10,7 @@ mod shapes;
 mod standard_input;
 
 pub use header::is_overwritten;
-pub use input::{Input, is_standard, open_input};
+pub use input::{Input, is_output, is_standard, open_input};
 pub use kernel_hint::KernelHint;
 pub use reading::read_input;
 pub use shapes::{companion_hint, has_event, trace_hint};

@@ -14,10 +14,14 @@ const COMPANION: &[u8] = b"cfs-companion ";
 const NEAR: usize = 1 << 16;
 
 /// By what stands in front.
-static FRONTS: [Shape; 6] = [
+static FRONTS: [Shape; 7] = [
     Shape {
         mark: b"\x1f\x8b",
         hint: "is compressed: `gzip -dc FILE` writes the text",
+    },
+    Shape {
+        mark: b"BZh",
+        hint: "is compressed: `bzip2 -dc FILE` writes the text",
     },
     Shape {
         mark: b"\xfd7zXZ\0",

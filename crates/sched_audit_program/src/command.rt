@@ -11,7 +11,7 @@ use crate::progress::{Lengths, WatchedFeed};
 use crate::terminals::Terminals;
 use clap::Error;
 use clap::error::ErrorKind::OutOfMemory;
-use given_texts::{Input, StandardInput, open_input};
+use given_texts::{Input, StandardInput, is_output, open_input};
 use sched_audit::{
     Counted, Fault, Feed, FeedOf, LeastFigures, OpenGate, Request, Sink, SinkOf, Sizes, Status,
     Told, Verdict, WithWaits, command_line, run_counted_in_blocks, run_counted_waits,
@@ -117,7 +117,7 @@ fn answer<R: Files + Print + Eprint + RandomSource + Threads + Wait + Sync>(
     }
 }
 
-/// Whether the file of `--states` is an input's, which would be lost.
+/// Whether the file of `--states` is an input's or the report's, which would be lost.
 fn overwrites<R: Files, F>(
     rt: &R,
     request: &Request<'_>,
@@ -125,7 +125,7 @@ fn overwrites<R: Files, F>(
     companion: &Input<F>,
 ) -> bool {
     match request.states {
-        Some(name) => trace.is_at(rt, name) || companion.is_at(rt, name),
+        Some(name) => { trace.is_at(rt, name) || companion.is_at(rt, name) || is_output(rt, name) }
         None => false,
     }
 }

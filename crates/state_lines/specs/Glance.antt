@@ -1,5 +1,5 @@
 -- What is seen of a processor between two events (this project's profile).
-use Rattle.std.specs.Prelude.{◌≡◌, ℕ, Option, Some, None}
+use Rattle.std.specs.Prelude.{◌≡◌, ℕ, Option}
 use Rattle.queue_replay.specs.Made.{IsPartAfter}
 use Rattle.queue_replay.specs.Replay.{ReplayView}
 use Rattle.replay_model.specs.Part.{Part}

@@ -1,4 +1,4 @@
-ghost use Rattle.std.specs.Prelude.{◌≡◌, ◌+◌, Some, IfOk, IfSome, slice_get};
+ghost use Rattle.std.specs.Prelude.{◌≡◌, ◌+◌, Some, None, IfOk, IfSome, slice_get};
 ghost use Rattle.state_lines.specs.Glance.{IsGlanceAt, subject_of};
 
 use crate::glance::Glance;
@@ -14,7 +14,7 @@ pub struct Sight {
     pub after: Glance,
 }
 
-/// Makes the next step of a replay. None where it fails.
+/// Makes the next step of a replay. None where it fails. Behind the last step the end test may fail, too.
 pub fn next_sight(replay: &mut Replay, step: &Step) -> Result<Option<Sight>, Memory>
     requires { slice_get replay.old.stream.steps replay.old.made ≡ Some step.now }
     ensures step { IfOk result (λ found. IfSome found (λ sight. sight.step ≡ step.now)) }
@@ -22,20 +22,24 @@ pub fn next_sight(replay: &mut Replay, step: &Step) -> Result<Option<Sight>, Mem
         (λ sight. IsGlanceAt replay.old (subject_of step.now.deed) sight.before)) }
     ensures after { IfOk result (λ found. IfSome found
         (λ sight. IsGlanceAt replay.new (subject_of step.now.deed) sight.after)) }
+    ensures failed { IfOk result (λ found. found ≡ None → replay.new.page.line ≡ replay.old.page.line) }
     ensures made { IfOk result (λ found. IfSome found (λ _. replay.new.made ≡ replay.old.made + 1)) }
     ensures stream { replay.new.stream ≡ replay.old.stream }
     ensures knobs { replay.new.knobs ≡ replay.old.knobs }
 {
     let pid = subject(&step.deed);
     let before = Glance::of(replay, pid);
-    match replay.go_on(1)? {
-        State::Faulted => Ok(None),
-        State::Going | State::Done => Ok(Some(Sight {
-            step: *step,
-            before,
-            after: Glance::of(replay, pid),
-        })),
+    let last = replay.line();
+    let state = replay.go_on(1)?;
+    // The line of the last step that passed stays where a step fails.
+    if state == State::Faulted && replay.line() == last {
+        return Ok(None);
     }
+    Ok(Some(Sight {
+        step: *step,
+        before,
+        after: Glance::of(replay, pid),
+    }))
 }
 
 /// The task that a deed is of; of a switch the previous one.

@@ -12,7 +12,12 @@ TOP = Path(__file__).resolve().parent.parent.parent.parent
 SETTINGS = {"granularity": 10**6, "credit": 3 * 10**6, "debit": 3 * 10**6, "slack": 10**5, "drift": 0}
 AMOUNT = re.compile(r"\+?(\d+(?:\.\d+)?)(|ns|us|ms|s|e\d+)")
 UNITS = {"": 0, "ns": 0, "us": 3, "ms": 6, "s": 9}
-NAMES = re.compile(rb"(?:prev_|next_)?comm=(.{0,15}?) (?:prev_|next_)?pid=(\d+) (?:prev_|next_)?prio=")
+# The tasks of an event, each by its name and its pid. A name may hold keys, so all fields are read, to the line's end.
+NAMES = re.compile(
+    rb": sched_(?:switch: prev_comm=(.{0,15}) prev_pid=(\d+) prev_prio=-?\d+ prev_state=\S+"
+    rb" ==> next_comm=(.{0,15}) next_pid=(\d+) next_prio=-?\d+"
+    rb"|(?:wakeup|wakeup_new|migrate_task): comm=(.{0,15}) pid=(\d+) prio=-?\d+(?: success=\d+)?"
+    rb"(?: [a-z]+_cpu=\d+){1,2})\n?$")
 
 
 class Audit:
@@ -38,10 +43,16 @@ def names_in(trace):
     names = {0: "idle"}
     with open(trace, "rb") as lines:
         for line in lines:
-            if b"comm=" in line:
-                for name, pid in NAMES.findall(line):
-                    names[int(pid)] = name.decode(errors="replace")
+            match = NAMES.search(line) if b": sched_" in line else None
+            for name, pid in pairs_of(match.groups()) if match else ():
+                if pid is not None:
+                    # Python reads no number of more than 4300 digits.
+                    names[int(pid.lstrip(b"0") or b"0")] = name.decode(errors="replace")
     return names
+
+
+def pairs_of(words):
+    return zip(words[::2], words[1::2])
 
 
 def settings_of(words):

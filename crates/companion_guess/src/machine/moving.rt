@@ -2,7 +2,7 @@
 
 use super::{Machine, Moment};
 use crate::known::Known;
-use crate::values::moved;
+use crate::values::{moved, stays_in_range};
 use cfs_model::{ClaimSort, Memory, Place, Task};
 
 impl Machine {
@@ -28,7 +28,11 @@ impl Machine {
             Place::Rest => ClaimSort::Pass,
             Place::Run | Place::Wait => ClaimSort::At,
         };
-        let v = moved(task.v, self.floor(orig), self.floor(dest));
+        let (from, to) = (self.floor(orig), self.floor(dest));
+        if !stays_in_range(task.v, from, to) {
+            self.stop_at(moment.line);
+        }
+        let v = moved(task.v, from, to);
         let unsettled = self.settle_moved(moment, task.place, pid, v)?;
         let come = Task {
             pid,

@@ -4,9 +4,7 @@ import os
 import subprocess
 from pathlib import Path
 
-from lib.report import without_hints
-
-SECONDS = 300
+from lib.report import SECONDS, without_hints
 
 
 class Refusing:

@@ -7,8 +7,8 @@ import tempfile
 from pathlib import Path
 
 TOP = Path(__file__).resolve().parent.parent.parent
-# How long one call may take.
-SECONDS = 120
+# How long one call may take, on a slow machine beside other work.
+SECONDS = 300
 
 
 def words_of(doc, least, most=None):

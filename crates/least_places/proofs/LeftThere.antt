@@ -1,5 +1,5 @@
 -- What a replay up to a line has of its processor, and who waits there in the machine behind that line.
-use Rattle.std.proofs.Common.{◌≡◌, ℕ, suc, ◌+◌, ◌<◌, ◌≤◌, min, nat_le, Bool, true, false, Option, Some, None, List, []}
+use Rattle.std.proofs.Common.{◌≡◌, ℕ, suc, ◌≤◌, nat_le, Bool, true, false, Option, Some, None, List, []}
 use Rattle.std.proofs.Common.{◌∷◌, ◌++◌, length, take, drop, refl, sym, ap, ◌∙◌, subst, append_assoc, take-append-drop}
 use Rattle.std.proofs.Common.{cond, arith}
 use Rattle.std.proofs.lemmas.Bool.{leb-true}
@@ -16,7 +16,6 @@ use Rattle.least_places.specs.Left.{IsFront, end_of}
 use Rattle.least_places.specs.Walks.{steps_to}
 use Rattle.queue_replay.specs.Made.{GoesOn, IsPartAfter}
 use Rattle.replay_laws.proofs.telling.Fronts.{record_front}
-use Rattle.replay_laws.specs.CutReplay.{IsCutReplay}
 use Rattle.replay_laws.specs.Replays.{ReplayFollows}
 use Rattle.replay_model.proofs.RecordFrom.{record_from}
 use Rattle.replay_model.proofs.Replayed.{IsReplay-append}

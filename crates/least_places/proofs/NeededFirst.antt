@@ -15,11 +15,8 @@ use Rattle.replay_model.specs.declared.first_fault.FirstFault.{FirstFault}
 use Rattle.sched_record.specs.Record.{RecordView}
 use Rattle.ticket_book.specs.LeastAnswer.{IsLeastAnswer}
 use Rattle.ticket_book.specs.SaidEvents.{events_of}
-use Rattle.ticket_book.specs.Verdict.{IsFaulty, IsVerdict}
+use Rattle.ticket_book.specs.Verdict.{IsFaulty}
 use Rattle.ticket_book.specs.declared.least_settings.LeastSettings.TheVariants.{Found}
-use Rattle.ticket_book.specs.declared.summary.Summary.{Summary}
-use Rattle.ticket_book.specs.declared.verdict.Verdict.{Verdict}
-use Rattle.ticket_book.specs.declared.verdict.Verdict.TheVariants.{Run}
 
 module _ (more : MoreKeepsRun) (both : LesserKeepsRun) (prefix : RunPrefix) (r : RecordView) (knobs : KnobsView)
     (which : Setting) (least : IsLeastAnswer r (Found knobs)) (some : 0 < value_at knobs which) where
@@ -59,9 +56,8 @@ module _ (more : MoreKeepsRun) (both : LesserKeepsRun) (prefix : RunPrefix) (r :
   }
 
 -- by a nanosecond less than the least it is no run
-pub no_run : (r : RecordView) (knobs : KnobsView) (which : Setting) (summary : Summary) (verdict : Verdict)
-    → IsLeastAnswer r (Found knobs) → 0 < value_at knobs which → verdict ≡ Run summary
-    → IsVerdict (one_less knobs which) r verdict → ⊥
-no_run r knobs which summary verdict least some is told =
-    let scheduled = subst (IsVerdict (one_less knobs which) r) is told in
-    omega (arith, is_less knobs which some, least.0.least (one_less knobs which) scheduled.run which)
+pub no_run : (r : RecordView) (knobs : KnobsView) (which : Setting)
+    → IsLeastAnswer r (Found knobs) → 0 < value_at knobs which
+    → IsRun (one_less knobs which) r.start (start_machine r.start r.floors r.tasks) (events_of r) → ⊥
+no_run r knobs which least some run =
+    omega (arith, is_less knobs which some, least.0.least (one_less knobs which) run which)

@@ -12,7 +12,7 @@ use Rattle.cfs_model.specs.declared.act.Act.{Act}
 use Rattle.cfs_model.specs.declared.act.Act.TheVariants.{Switch, Wake, Born, Shift}
 use Rattle.cfs_model.specs.declared.setting.Setting.{Setting}
 use Rattle.cfs_model.specs.declared.setting.Setting.TheVariants.{Granularity, Credit, Debit, Slack, Drift}
-use Rattle.least_places.specs.Left.{IsFront, IsLeastIfAny, IsLeastOf, IsLeft, IsOver, end_of}
+use Rattle.least_places.specs.Left.{IsFront, IsLeastIfAny, IsLeft, IsOver, end_of}
 use Rattle.least_places.specs.Place.{IsNeededFirst}
 use Rattle.sched_record.specs.Record.{RecordView}
 use Rattle.ticket_book.specs.SaidEvents.{events_of}

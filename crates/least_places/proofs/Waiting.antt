@@ -1,6 +1,6 @@
 -- The first of those who wait in a runqueue is the least of those who wait at its processor in a machine in order.
 use Rattle.std.proofs.Common.{◌≡◌, ◌↔◌, ℕ, ◌≤◌, ◌<◌, Bool, true, false, IsTrue, IsSome, Option, Some, None, ℤ, ◌<ℤ◌}
-use Rattle.std.proofs.Common.{◌⊎◌, inl, inr, List, [], ◌∷◌, length, refl, sym, ap, ◌∙◌, subst, true≢false, arith}
+use Rattle.std.proofs.Common.{◌⊎◌, inl, inr, List, [], ◌∷◌, length, refl, sym, true≢false, arith}
 use Rattle.std.specs.BTreeMap.{is_at}
 use Rattle.std.specs.List.{list_any}
 use Rattle.std.specs.BTreeSet.{BTreeSet, IsLowerBound, btree_set_len, contains}
@@ -9,7 +9,6 @@ use Rattle.std.specs.declared.cmp.Ordering.{Ordering}
 use Rattle.std.specs.declared.cmp.Ordering.TheVariants.{Less, Equal, Greater}
 use Rattle.std.proofs.lemmas.Bool.{cases_Bool}
 use Rattle.std.proofs.lemmas.Cmp.{int_ranked, ranked}
-use Rattle.std.proofs.lemmas.Int.{ints}
 use Rattle.cfs_model.specs.Machine.{Machine, NobodyStands, Stands}
 use Rattle.cfs_model.specs.Order.{IsInOrder}
 use Rattle.cfs_model.specs.declared.policy.Policy.{Policy}

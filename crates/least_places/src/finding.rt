@@ -1,24 +1,27 @@
-//! The least settings of a record and their places, by audits with threads.
+//! The least settings of a record and their places, by an audit with threads.
 ghost use Rattle.std.specs.Prelude.{IfOk};
 ghost use Rattle.least_places.specs.LeastAnswer.{IsLeastAnswer};
 ghost use Rattle.least_places.specs.Place.{ArePlaces, IsPlaced};
 ghost use Rattle.sched_record.specs.Record.{record_view};
+ghost use Rattle.ticket_book.specs.Faultless.{AreBehind, AreFaultless};
 ghost use Rattle.ticket_book.specs.LeastAnswer as settings;
 ghost use Rattle.ticket_book.specs.declared.least_settings.LeastSettings.TheVariants as leasts;
 
 use crate::placing::{lessened, place_by};
 use crate::{LeastFigures, Place, Places};
-use audit_crew::{Gate, OpenGate, audit, least_settings};
+use audit_crew::{Gate, crew};
 use cfs_model::{Knobs, Memory, Setting};
+use pid_table::PidHasher;
+use queue_replay::Page;
 use sched_record::Record;
 use std::alloc::Global;
 use std::random::RandomSource;
 use std::sync::Wait;
 use std::thread::Threads;
-use ticket_book::LeastSettings;
+use ticket_book::{LeastSettings, first_fault_by};
 
-/// The least settings of a record and their places: by the pages of a crew that passes this gate, and by one more audit
-/// for each figure above 0, which ends at its place.
+/// The least settings of a record and their places, by the pages of a crew that passes this gate. For each figure above
+/// 0 those processors are replayed once more that need so much, up to their first fault with a nanosecond less.
 pub fn least_figures<R: RandomSource + Threads + Wait + Sync, G: Gate>(
     rt: &R,
     alloc: Global,
@@ -27,23 +30,26 @@ pub fn least_figures<R: RandomSource + Threads + Wait + Sync, G: Gate>(
 ) -> Result<LeastFigures, Memory>
     ensures { IfOk result (IsLeastAnswer (record_view joined.now)) }
 {
-    let least = least_settings(rt, alloc, joined, gate)?;
-    figures_of(rt, alloc, joined, &least)
+    let book = crew(rt, alloc, joined, Knobs::greatest(), gate)?.book;
+    let (closed, pages) = book.close_least_by_pages(joined)?;
+    figures_of(rt, alloc, joined, &closed.least, pages.as_slice())
 }
 
-/// A record's least settings with their places.
-fn figures_of<R: RandomSource + Threads + Wait + Sync>(
+/// A record's least settings with their places, by the pages behind them.
+fn figures_of<R: RandomSource>(
     rt: &R,
     alloc: Global,
     joined: &Record,
     least: &LeastSettings,
+    pages: &[Page],
 ) -> Result<LeastFigures, Memory>
-    requires { settings.IsLeastAnswer (record_view joined.now) least.now }
+    requires least { settings.IsLeastAnswer (record_view joined.now) least.now }
+    requires behind { AreBehind (record_view joined.now) least.now pages.now }
     ensures { IfOk result (IsLeastAnswer (record_view joined.now)) }
 {
     match least {
         LeastSettings::Found(knobs) => {
-            let places = places_of(rt, alloc, joined, *knobs)?;
+            let places = places_of(rt, alloc, joined, *knobs, pages)?;
             Ok(LeastFigures::Found {
                 knobs: *knobs,
                 places,
@@ -54,39 +60,44 @@ fn figures_of<R: RandomSource + Threads + Wait + Sync>(
 }
 
 /// The places of a record's least settings.
-fn places_of<R: RandomSource + Threads + Wait + Sync>(
+fn places_of<R: RandomSource>(
     rt: &R,
     alloc: Global,
     joined: &Record,
     knobs: Knobs,
+    pages: &[Page],
 ) -> Result<Places, Memory>
-    requires { settings.IsLeastAnswer (record_view joined.now) (leasts.Found knobs) }
+    requires least { settings.IsLeastAnswer (record_view joined.now) (leasts.Found knobs) }
+    requires faultless { AreFaultless (record_view joined.now) pages.now }
     ensures { IfOk result (ArePlaces (record_view joined.now) knobs) }
 {
     Ok(Places {
-        granularity: place_of(rt, alloc, joined, knobs, Setting::Granularity)?,
-        credit: place_of(rt, alloc, joined, knobs, Setting::Credit)?,
-        debit: place_of(rt, alloc, joined, knobs, Setting::Debit)?,
-        slack: place_of(rt, alloc, joined, knobs, Setting::Slack)?,
-        drift: place_of(rt, alloc, joined, knobs, Setting::Drift)?,
+        granularity: place_of(rt, alloc, joined, knobs, pages, Setting::Granularity)?,
+        credit: place_of(rt, alloc, joined, knobs, pages, Setting::Credit)?,
+        debit: place_of(rt, alloc, joined, knobs, pages, Setting::Debit)?,
+        slack: place_of(rt, alloc, joined, knobs, pages, Setting::Slack)?,
+        drift: place_of(rt, alloc, joined, knobs, pages, Setting::Drift)?,
     })
 }
 
 /// The place of a setting's figure among a record's least settings.
-fn place_of<R: RandomSource + Threads + Wait + Sync>(
+fn place_of<R: RandomSource>(
     rt: &R,
     alloc: Global,
     joined: &Record,
     knobs: Knobs,
+    pages: &[Page],
     setting: Setting,
 ) -> Result<Option<Place>, Memory>
-    requires { settings.IsLeastAnswer (record_view joined.now) (leasts.Found knobs) }
+    requires least { settings.IsLeastAnswer (record_view joined.now) (leasts.Found knobs) }
+    requires faultless { AreFaultless (record_view joined.now) pages.now }
     ensures { IfOk result (IsPlaced (record_view joined.now) knobs setting) }
 {
     if knobs.get(setting) == 0 {
         return Ok(None);
     }
-    let closed = audit(rt, alloc, joined, lessened(knobs, setting), &OpenGate)?;
-    let place = place_by(rt, alloc, joined, knobs, setting, &closed.verdict)?;
+    let less = lessened(knobs, setting);
+    let fault = first_fault_by(alloc, pages, joined, less, PidHasher::random(rt))?;
+    let place = place_by(rt, alloc, joined, knobs, setting, fault)?;
     Ok(Some(place))
 }

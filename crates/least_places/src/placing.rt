@@ -1,11 +1,12 @@
-//! The place of a figure, by the verdict at a nanosecond less.
+//! The place of a figure, by what is wrong first at a nanosecond less.
 ghost use Rattle.std.specs.Prelude.{◌≡◌, ◌<◌, IfOk};
 ghost use Rattle.cfs_model.specs.Knobs.{value_at};
 ghost use Rattle.least_places.specs.Left.{IsOver};
 ghost use Rattle.least_places.specs.Place.{IsPlace, one_less, time_on_line};
 ghost use Rattle.sched_record.specs.Record.{record_view};
+ghost use Rattle.ticket_book.specs.Faultless.{IsFaultOf};
 ghost use Rattle.ticket_book.specs.LeastAnswer as settings;
-ghost use Rattle.ticket_book.specs.Verdict.{IsFaulty, IsVerdict};
+ghost use Rattle.ticket_book.specs.Verdict.{IsFaulty};
 ghost use Rattle.ticket_book.specs.declared.least_settings.LeastSettings.TheVariants as leasts;
 
 use crate::Place;
@@ -15,7 +16,6 @@ use replay_model::FirstFault;
 use sched_record::Record;
 use std::alloc::Global;
 use std::random::RandomSource;
-use ticket_book::Verdict;
 
 /// These settings, but for a nanosecond less of one.
 pub(crate) fn lessened(knobs: Knobs, setting: Setting) -> Knobs
@@ -27,27 +27,27 @@ pub(crate) fn lessened(knobs: Knobs, setting: Setting) -> Knobs
     }
 }
 
-/// The place of a figure above 0, by the verdict on the record at a nanosecond less.
+/// The place of a figure above 0, by what is wrong first with the record at a nanosecond less.
 pub(crate) fn place_by<R: RandomSource>(
     rt: &R,
     alloc: Global,
     joined: &Record,
     knobs: Knobs,
     setting: Setting,
-    verdict: &Verdict,
+    fault: Option<FirstFault>,
 ) -> Result<Place, Memory>
     requires least { settings.IsLeastAnswer (record_view joined.now) (leasts.Found knobs) }
     requires some { 0 < value_at knobs setting }
-    requires verdict { IsVerdict (one_less knobs setting) (record_view joined.now) verdict.now }
+    requires fault { IsFaultOf (one_less knobs setting) (record_view joined.now) fault }
     ensures { IfOk result (IsPlace (record_view joined.now) knobs setting) }
 {
-    match verdict {
-        Verdict::Fault(fault) => {
+    match fault {
+        Some(fault) => {
             let over = over(rt, alloc, joined, knobs, setting, fault.line)?;
             Ok(place_at_fault(joined, knobs, setting, fault, over))
         }
         // With less than the least it is no run.
-        Verdict::Run(_) => unreachable!(),
+        None => unreachable!(),
     }
 }
 
@@ -56,18 +56,18 @@ fn place_at_fault(
     joined: &Record,
     knobs: Knobs,
     setting: Setting,
-    fault: &FirstFault,
+    fault: FirstFault,
     over: Option<u32>,
 ) -> Place
     requires least { settings.IsLeastAnswer (record_view joined.now) (leasts.Found knobs) }
     requires some { 0 < value_at knobs setting }
-    requires fault { IsFaulty (one_less knobs setting) (record_view joined.now) fault.now }
-    requires over { IsOver (record_view joined.now) knobs setting fault.now.line over }
+    requires fault { IsFaulty (one_less knobs setting) (record_view joined.now) fault }
+    requires over { IsOver (record_view joined.now) knobs setting fault.line over }
     ensures { IsPlace (record_view joined.now) knobs setting result }
 {
     prefixes();
     least_settings();
-    let FirstFault { line, cpu, pid, .. } = *fault;
+    let FirstFault { line, cpu, pid, .. } = fault;
     let time = time_on(joined.events(), line);
     Place {
         line,

@@ -1,5 +1,6 @@
 -- What pages that suffice at the greatest settings tell of a record is its least settings.
 use Rattle.std.proofs.Common.{◌≡◌, ℕ, ◌<◌, ◌≤◌, Some, None, List, length, sym, ap, ◌∙◌, subst}
+use Rattle.std.proofs.lemmas.Option.{same_Some, slice_get_within}
 use Rattle.cfs_model.specs.Laws.{GreatestTellBadAtAll}
 use Rattle.cfs_model.specs.Least.{AreLeast, greatest_settings}
 use Rattle.cfs_model.specs.Knobs.{AreInRange}
@@ -15,6 +16,7 @@ use Rattle.replay_model.specs.Noted.{PageView}
 use Rattle.queue_replay.specs.Replay.{ReplayView}
 use Rattle.sched_record.specs.Record.{RecordView, IsRecordInOrder}
 use Rattle.sched_record.specs.Stream.{cut_of}
+use Rattle.ticket_book.specs.Faultless.{AreFaultless, IsFaultlessPageOf}
 use Rattle.ticket_book.specs.LeastAnswer.{IsLeastAnswer}
 use Rattle.ticket_book.specs.NeedsOfPages.{HaveNeeds, needs_at}
 use Rattle.ticket_book.specs.SaidEvents.{events_of}
@@ -65,6 +67,28 @@ module _ (r : RecordView) (pages : List ReplayView) (sufficient : AreSufficient 
         (subst (λ v. IsPageNeeding (cut_of r cpu) greatest_settings v page.needs) (sym p.2)
         (subst (λ s. IsPageNeeding s greatest_settings page.page page.needs) own.stream
         (subst (λ k. IsPageNeeding page.stream k page.page page.needs) own.knobs_are (have cpu page p.1 fault all))))
+
+    -- and none has a fault
+    pub faultless_of : AreFaultless r pages
+    faultless_of = record {
+      count = sufficient.count;
+      each = λ cpu page at. (let h = slice_get_within pages cpu page at in
+          let p = page_there pages cpu h in
+          subst (IsFaultlessPageOf r cpu) (same_Some p.0 page (sym p.1 ∙ at)) (faultless cpu h));
+    }
+      where
+        faultless : (cpu : ℕ) → (h : cpu < length pages) → IsFaultlessPageOf r cpu (page_there pages cpu h).0
+        faultless cpu h =
+            let p = page_there pages cpu h in
+            let own = sufficient.each cpu p.0 p.1 in
+            let whole = done greatest_settings r.start r.floors r.tasks (events_of r) (length pages) (view_at (pages_of
+            pages))
+            (in_record greatest_settings r pages sufficient o) suffice nothing cpu h in
+            record {
+              own = record { stream = own.stream; knobs_are = own.knobs_are };
+              none = ap (λ (v : PageView). v.fault) (sym p.2) ∙ whole.0;
+              all = whole.1;
+            }
 
     module _ (tells : PagesTellLeast) where
       -- and the largest needs are the least settings

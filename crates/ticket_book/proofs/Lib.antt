@@ -30,3 +30,5 @@ pub mod Verdicts
 pub mod Views
 mod Walked
 mod WholeLeft
+mod WithinNeeds
+mod ByOthers

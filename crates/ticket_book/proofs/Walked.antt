@@ -24,9 +24,8 @@ use Rattle.replay_model.specs.Roll.{roll_of}
 use Rattle.replay_model.specs.Noted.{PageView}
 use Rattle.sched_record.proofs.Rising.{split_at}
 use Rattle.ticket_book.specs.Alive.{alive_view}
-use Rattle.ticket_book.specs.Idling.{NoneFirst}
 use Rattle.ticket_book.specs.Told.{Allow, Tell, TellFaultFrom, TellFrom, view_at}
-use Rattle.ticket_book.specs.Walk.{AreBehind, StandsAt}
+use Rattle.ticket_book.specs.Walk.{StandsAt}
 use Rattle.ticket_book.specs.declared.alive.Alive.{Alive}
 use Rattle.ticket_book.specs.declared.walk.Walk.{Walk}
 use Rattle.replay_model.specs.declared.first_fault.FirstFault.{FirstFault}

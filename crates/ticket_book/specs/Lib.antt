@@ -3,6 +3,7 @@ pub mod BookView
 pub mod Core
 pub mod Cursor
 pub mod EventCounts
+pub mod Faultless
 pub mod Framed
 pub mod Relying
 pub mod Remade
@@ -15,6 +16,7 @@ pub mod OneVerdict
 pub mod Own
 pub mod Naming
 pub mod NeedsOfPages
+pub mod PageBy
 pub mod Same
 pub mod SummaryView
 pub mod Tallying

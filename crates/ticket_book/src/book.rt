@@ -30,6 +30,7 @@ impl Book {
     ghost use Rattle.sched_record.specs.Record.{record_view};
     ghost use Rattle.ticket_book.specs.BookView.{book_view};
     ghost use Rattle.ticket_book.specs.Core.{AreLeft};
+    ghost use Rattle.ticket_book.specs.Faultless.{AreBehind};
     ghost use Rattle.ticket_book.specs.LeastAnswer.{IsLeastAnswer};
     ghost use Rattle.ticket_book.specs.Own.{AreOwn};
     ghost use Rattle.ticket_book.specs.Remade.{AreRemade};
@@ -145,11 +146,26 @@ impl Book {
             (λ closed. AreLeft greatest_settings (record_view joined.now) (book_view self) → closed.remade ≡ 0) }
         ensures few { IfOk result (λ closed. closed.remade ≤ (record_view joined.now).cpus) }
     {
+        let (closed, _pages) = self.close_least_by_pages(joined)?;
+        Ok(closed)
+    }
+
+    /// The same, with the pages that tell it, one for each processor.
+    pub fn close_least_by_pages(self, joined: &Record) -> Result<(ClosedLeast, Vec<Page>), Memory>
+        requires own { AreOwn greatest_settings (record_view joined.now) (book_view self) }
+        ensures least { IfOk result (λ closed. IsLeastAnswer (record_view joined.now) closed.0.least) }
+        ensures behind { IfOk result (λ closed. AreBehind (record_view joined.now) closed.0.least closed.1.items) }
+        ensures remade { IfOk result (λ closed. AreRemade greatest_settings (record_view joined.now)
+            (book_view self) closed.0.remade) }
+        ensures nothing_remade { IfOk result
+            (λ closed. AreLeft greatest_settings (record_view joined.now) (book_view self) → closed.0.remade ≡ 0) }
+        ensures few { IfOk result (λ closed. closed.0.remade ≤ (record_view joined.now).cpus) }
+    {
         let alloc = *self.slots.allocator();
         let hasher = self.hasher;
         let (pages, remade) = sufficing_own_pages(alloc, self, joined, Knobs::greatest(), hasher)?;
         let least = least_on(alloc, &pages, joined)?;
-        Ok(ClosedLeast { least, remade })
+        Ok((ClosedLeast { least, remade }, pages))
     }
 
     /// The slots of the book's processors.

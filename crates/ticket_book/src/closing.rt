@@ -5,7 +5,7 @@ ghost use Rattle.replay_model.specs.Roll.{roll_of};
 ghost use Rattle.ticket_book.specs.Alive.{alive_view};
 ghost use Rattle.sched_record.specs.Record.{record_view};
 ghost use Rattle.ticket_book.specs.SaidEvents.{events_of};
-ghost use Rattle.ticket_book.specs.Told.{Tell, TellFrom, pages_of, view_at};
+ghost use Rattle.ticket_book.specs.Told.{Tell, TellFrom, view_at};
 ghost use Rattle.ticket_book.specs.Verdict.{IsVerdict};
 ghost use Rattle.ticket_book.specs.Walk.{TicketsRise};
 ghost use Rattle.ticket_book.specs.Whole.{AreSufficient};
@@ -52,14 +52,14 @@ pub(crate) fn verdict_on(
 
 /// What the pages of a record's processors tell of its events, which are walked once: the first thing that they say
 /// against one, or nothing.
-pub(crate) fn told_by(
+pub(crate) fn told_by<P: Paged>(
     alloc: Global,
-    pages: &[Page],
+    pages: &[P],
     joined: &Record,
 ) -> Result<Option<FirstFault>, Memory>
     requires count { length pages.now ≡ (record_view joined.now).cpus }
-    requires rise { TicketsRise (pages_of pages.now) }
-    ensures { IfOk result (Tell (view_at (pages_of pages.now)) (length pages.now) (record_view joined.now).tasks
+    requires rise { TicketsRise (map P.page pages.now) }
+    ensures { IfOk result (Tell (view_at (map P.page pages.now)) (length pages.now) (record_view joined.now).tasks
         (events_of (record_view joined.now))) }
 {
     let mut alive = Alive::new(alloc, joined.tasks())?;

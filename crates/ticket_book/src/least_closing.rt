@@ -6,6 +6,7 @@ ghost use Rattle.replay_model.specs.Needs.{largest};
 ghost use Rattle.sched_record.specs.Record.{record_view};
 ghost use Rattle.ticket_book.specs.LeastAnswer.{IsLeastAnswer};
 ghost use Rattle.ticket_book.specs.NeedsOfPages.{HaveNeeds, needs_at};
+ghost use Rattle.ticket_book.specs.Faultless.{AreBehind};
 ghost use Rattle.ticket_book.specs.Whole.{AreSufficient};
 
 use crate::LeastSettings;
@@ -23,7 +24,8 @@ pub(crate) fn least_on(
     joined: &Record,
 ) -> Result<LeastSettings, Memory>
     requires { AreSufficient greatest_settings (record_view joined.now) pages.now }
-    ensures { IfOk result (IsLeastAnswer (record_view joined.now)) }
+    ensures answer { IfOk result (IsLeastAnswer (record_view joined.now)) }
+    ensures behind { IfOk result (λ least. AreBehind (record_view joined.now) least pages.now) }
 {
     closing();
     least_settings();

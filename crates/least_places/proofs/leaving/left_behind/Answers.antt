@@ -1,7 +1,7 @@
-use Rattle.std.proofs.Common.{◌≡◌, ◌↔◌, ℕ, ◌<◌, IsTrue, Some, ℤ, true≢false, refl, sym, ap, ◌∙◌, subst}
+use Rattle.std.proofs.Common.{◌≡◌, ◌↔◌, ℕ, IsTrue, Some, ℤ, true≢false, sym, ap, ◌∙◌, subst}
 use Rattle.std.specs.BTreeSet.{contains}
 use Rattle.sched_record.specs.Record.{record_view}
-use Rattle.replay_model.specs.Part.{Part, entity_at, part_of}
+use Rattle.replay_model.specs.Part.{Part, part_of}
 use Rattle.runqueue.specs.Queue.{runqueue_view}
 use Rattle.runqueue.specs.Entities.{by_runtime, waiting_runtime, waiting_task}
 use Rattle.runqueue.proofs.EntitiesKept.{waits_where}

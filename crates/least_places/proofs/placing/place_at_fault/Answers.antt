@@ -6,7 +6,7 @@ use Rattle.least_places.proofs.placing.place_at_fault.Goals as goal
 
 pub returns : goal.returns
 returns c =
-    let fault = c.args.fault.now in
+    let fault = c.args.fault in
     place_is c.least_settings.ensures.more c.least_settings.ensures.lesser c.prefixes.ensures
     (record_view c.args.joined.now) c.args.knobs c.args.setting c.requires.least c.requires.some fault
     c.time_on-time.result c.args.over c.requires.fault

@@ -6,7 +6,7 @@ use Rattle.replay_laws.specs.Telling.{SayNothing}
 use Rattle.sched_record.specs.Record.{record_view}
 use Rattle.ticket_book.specs.SaidEvents.{events_of}
 use Rattle.ticket_book.specs.Told.{Tell, pages_of, view_at}
-use Rattle.ticket_book.proofs.LeastFound.{bad_of, in_range, least_of}
+use Rattle.ticket_book.proofs.LeastFound.{bad_of, faultless_of, in_range, least_of}
 use Rattle.ticket_book.proofs.Verdicts.{tickets_rise}
 use Rattle.ticket_book.proofs.least_closing.least_on.Goals as goal
 use Rattle.ticket_book.proofs.least_closing.least_on.Goals.{After-largest_needs}
@@ -16,8 +16,8 @@ told_by-requires-clause-rise c =
     tickets_rise greatest_settings (record_view c.args.joined.now) c.args.pages.now c.requires
     c.args.joined.now.in_order
 
-pub returns-in-Some : goal.returns-in-Some
-returns-in-Some c =
+pub returns-in-Some-clause-answer : goal.returns-in-Some-clause-answer
+returns-in-Some-clause-answer c =
     let r = record_view c.args.joined.now in
     let pages = c.args.pages.now in
     bad_of r pages c.requires c.args.joined.now.in_order c.closing.ensures.fault c.first_faults.ensures.first_bad
@@ -41,11 +41,11 @@ knobs_of-requires c =
     (nothing c) c.largest_needs.ensures.have c.closing.ensures.done
     c.needs.ensures.pages c.closing.ensures.run)
 
-pub returns-in-None : goal.returns-in-None
-returns-in-None c =
+pub returns-in-None-clause-answer : goal.returns-in-None-clause-answer
+returns-in-None-clause-answer c =
     let r = record_view c.args.joined.now in
     let pages = c.args.pages.now in
-    let quiet = nothing (goal.at.returns-in-None c).After-largest_needs in
+    let quiet = nothing (goal.at.returns-in-None-clause-answer c).After-largest_needs in
     subst (λ knobs. AreLeast r.start (start_machine r.start r.floors r.tasks) (events_of r) knobs × AreInRange knobs)
     (sym (c.knobs_of.ensures ∙ c.largest_needs.ensures.largest)) (
       least_of r pages c.requires c.args.joined.now.in_order quiet c.largest_needs.ensures.have c.closing.ensures.done
@@ -53,3 +53,11 @@ returns-in-None c =
       in_range r pages c.requires c.args.joined.now.in_order quiet c.largest_needs.ensures.have c.closing.ensures.done
           c.needs.ensures.pages c.closing.ensures.run,
     )
+
+pub returns-in-None-clause-behind : goal.returns-in-None-clause-behind
+returns-in-None-clause-behind c =
+    let r = record_view c.args.joined.now in
+    let pages = c.args.pages.now in
+    let quiet = nothing (goal.at.returns-in-None-clause-behind c).After-largest_needs in
+    faultless_of r pages c.requires c.args.joined.now.in_order quiet c.largest_needs.ensures.have
+    c.closing.ensures.done

@@ -1,4 +1,4 @@
-use Rattle.std.proofs.Common.{All, length, sym, subst, ◌∙◌, ap}
+use Rattle.std.proofs.Common.{All, length, sym, subst}
 use Rattle.std.proofs.lemmas.Result.{IfOk-weaker}
 use Rattle.sched_record.specs.Record.{record_view}
 use Rattle.sched_record.specs.RecordView.{policy_of}

@@ -20,6 +20,7 @@ fn object_of_run(alloc: Global) -> Result<Vec<u8>, Fail> {
     let outcome = Outcome::Judged(AsJson {
         judged,
         time: 0,
+        bound: None,
         further: String::new(alloc),
     });
     let mut out = Narrow::new(alloc, ample());
@@ -145,7 +146,7 @@ static ROWS: [Row; 4] = [
         companion: ONE_MORE,
         status: Status::No,
         places: &[
-            ("", Held::Parts(7)),
+            ("", Held::Parts(8)),
             ("/verdict", Held::Words("fault")),
             ("/line", Held::Number(1)),
             ("/time", Held::Number(100_004_000_000)),
@@ -153,6 +154,8 @@ static ROWS: [Row; 4] = [
             ("/pid", Held::Number(101)),
             ("/kind", Held::Words("WrongPutBack")),
             ("/text", Held::Words("put back at another value")),
+            ("/bound/value", Held::Words("4000001")),
+            ("/bound/limit", Held::Words("4000000")),
         ],
     },
     Row {

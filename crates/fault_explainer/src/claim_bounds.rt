@@ -1,6 +1,5 @@
 //! What a claim has to say, beside what it says.
 
-use crate::bound::Bound;
 use crate::companion_lines::word_of;
 use crate::names::Named;
 use crate::processor::Processor;
@@ -15,19 +14,6 @@ use std::alloc::AllocError;
 struct Bounds {
     least: i128,
     greatest: i128,
-}
-
-impl Bounds {
-    /// What is claimed, beside the one of these that it is beyond.
-    fn beyond(self, claim: Claim) -> Bound {
-        let value = i128::from(claim.v);
-        let limit = if value < self.least {
-            self.least
-        } else {
-            self.greatest
-        };
-        Bound { value, limit }
-    }
 }
 
 /// Of a task that is put back, its own alone.
@@ -133,17 +119,6 @@ fn push_moved(text: &mut String, scene: &Scene) -> Result<(), AllocError> {
     }
 }
 
-/// At what a migrated task is claimed, and at what by the rules. Where these are equal, the claim is of another sort.
-pub(crate) fn moved_bound(scene: &Scene) -> Option<Bound> {
-    let claim = scene.event.claim?;
-    let task = scene.task(scene.event.act.subject())?;
-    let there = scene.there.as_ref()?;
-    Some(Bound {
-        value: i128::from(claim.v),
-        limit: moved_value(task.v, &scene.here, there),
-    })
-}
-
 /// What a task is at by the rules that was at this and is migrated: as far from the floor as it was.
 fn moved_value(v: i64, here: &Processor, there: &Processor) -> i128 {
     offset(v, here).saturating_add(i128::from(there.queue.floor()))
@@ -230,26 +205,12 @@ pub(crate) fn push_claim_pid(text: &mut String, scene: &Scene) -> Result<(), All
     )
 }
 
-/// Whose claim it is, and whose it has to be.
-pub(crate) fn claim_pid_bound(scene: &Scene) -> Bound {
-    Bound {
-        value: i128::from(scene.fault.pid),
-        limit: i128::from(scene.event.act.subject()),
-    }
-}
-
 /// A previous task that is put back at another virtual runtime than its own.
 pub(crate) fn push_wrong_put_back(text: &mut String, scene: &Scene) -> Result<(), AllocError> {
     match (scene.task(scene.fault.pid), scene.event.claim) {
         (Some(task), Some(claim)) => { push_apart(text, scene.named(claim.pid), claim.v, task.v) },
         _ => Ok(()),
     }
-}
-
-/// At what a task is claimed that is put back, and its own.
-pub(crate) fn put_back_bound(scene: &Scene) -> Option<Bound> {
-    let task = scene.task(scene.fault.pid)?;
-    Some(put_back_bounds(task).beyond(scene.event.claim?))
 }
 
 /// How far what is claimed is from a task's own virtual runtime.
@@ -278,12 +239,6 @@ pub(crate) fn push_wake_bounds(text: &mut String, scene: &Scene) -> Result<(), A
     }
 }
 
-/// At what a woken task is claimed, and the bound that it is beyond.
-pub(crate) fn wake_bound(scene: &Scene) -> Option<Bound> {
-    let task = scene.task(scene.fault.pid)?;
-    Some(wake_bounds(scene, task).beyond(scene.event.claim?))
-}
-
 fn push_wake_rule(text: &mut String, own: i64, floor: i64, credit: u64) -> Result<(), AllocError> {
     writeln!(
         text,
@@ -295,11 +250,6 @@ fn push_wake_rule(text: &mut String, own: i64, floor: i64, credit: u64) -> Resul
 pub(crate) fn push_fork_bounds(text: &mut String, scene: &Scene) -> Result<(), AllocError> {
     push_fork_rule(text, scene.here.queue.floor(), scene.knobs.debit())?;
     push_outside(text, scene, fork_bounds(scene))
-}
-
-/// At what a new task is claimed, and the bound that it is beyond.
-pub(crate) fn fork_bound(scene: &Scene) -> Option<Bound> {
-    Some(fork_bounds(scene).beyond(scene.event.claim?))
 }
 
 fn push_fork_rule(text: &mut String, floor: i64, debit: u64) -> Result<(), AllocError> {

@@ -5,7 +5,6 @@
 mod bad_field;
 mod bad_head;
 mod bad_line;
-mod bound;
 mod bounds;
 mod charge;
 mod claim_bounds;
@@ -23,7 +22,7 @@ mod limits;
 mod mend;
 mod names;
 mod number_field;
-mod object_end;
+mod object_name;
 mod odd_byte;
 mod origin;
 mod pick_bounds;
@@ -38,7 +37,7 @@ mod told_charge;
 mod trace_text;
 
 pub use explaining::explanation;
-pub use object_end::fault_members;
+pub use object_name::name_member;
 pub use quoting::quoted_line;
 pub use refusal::refusal_words;
 pub use trace_text::TraceText;

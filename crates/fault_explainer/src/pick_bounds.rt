@@ -1,6 +1,5 @@
 //! Who is picked, how long nobody is, and where running leads.
 
-use crate::bound::Bound;
 use crate::charge::Charge;
 use crate::duration::Nanoseconds;
 use crate::names::Named;
@@ -35,15 +34,6 @@ fn push_slack(text: &mut String, slack: u64) -> Result<(), AllocError> {
     writeln!(text, "# the slack allows {slack}")
 }
 
-/// For how long nobody ran beside a waiting task, and the slack, in nanoseconds.
-pub(crate) fn idle_bound(scene: &Scene) -> Option<Bound> {
-    let since = scene.here.since?;
-    Some(Bound {
-        value: i128::from(scene.event.time.saturating_sub(since)),
-        limit: i128::from(scene.knobs.slack()),
-    })
-}
-
 /// Where the charge leads.
 pub(crate) fn push_range(text: &mut String, scene: &Scene) -> Result<(), AllocError> {
     match Charge::at(&scene.at_fault().queue, scene.event.time) {
@@ -63,15 +53,6 @@ fn push_beyond_range(
         text,
         "# {named} would be at {to}, charged {cost}; neither may be above {GREATEST_RUNTIME}"
     )
-}
-
-/// Where the charge leads, or what it costs where that alone is too much; in virtual nanoseconds.
-pub(crate) fn range_bound(scene: &Scene) -> Option<Bound> {
-    let charge = Charge::at(&scene.at_fault().queue, scene.event.time)?;
-    let limit = i128::from(GREATEST_RUNTIME);
-    let to = charge.to();
-    let value = if to > limit { to } else { charge.cost() };
-    Some(Bound { value, limit })
 }
 
 /// Who waits beside a switch to the idle task.
@@ -96,14 +77,6 @@ fn push_passed_over(
         text,
         "# cpu {cpu} goes idle while {named} waits at {v}; tasks that wait: {count}, allowed: 0"
     )
-}
-
-/// How many wait beside a switch to the idle task, and that none may.
-pub(crate) fn idle_beside_bound(scene: &Scene) -> Bound {
-    Bound {
-        value: scene.here.queue.waiting().len() as i128,
-        limit: 0,
-    }
 }
 
 /// How far the next task is above the least that waits.
@@ -137,14 +110,4 @@ fn push_above(
         text,
         "# {next} at {v} is above the least that waits, {least} at {low}, by {apart}; the granularity allows {granularity}"
     )
-}
-
-/// How far the next task is above the least that waits, and the granularity, in virtual nanoseconds.
-pub(crate) fn lead_bound(scene: &Scene) -> Option<Bound> {
-    let next = scene.task(scene.fault.pid)?;
-    let least = scene.here.queue.waiting().first()?;
-    Some(Bound {
-        value: i128::from(next.v.abs_diff(least.v)),
-        limit: i128::from(scene.knobs.granularity()),
-    })
 }

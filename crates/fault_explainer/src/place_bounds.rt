@@ -1,6 +1,5 @@
 //! Who stands where, and which prio is printed.
 
-use crate::bound::Bound;
 use crate::names::Named;
 use crate::scene::{Scene, lies_in_place};
 use crate::task_words::{verb, weight_words};
@@ -52,15 +51,6 @@ fn push_runner(
             text,
             "# prev_pid is {prev}, but nobody runs at cpu {cpu}, so prev_pid has to be {IDLE_PID}"
         ),
-    }
-}
-
-/// The pid of the task that is told to run, and of who runs; pid 0 where nobody does.
-pub(crate) fn runner_bound(scene: &Scene) -> Bound {
-    let runner = scene.here.queue.runner().map_or(IDLE_PID, |task| task.pid);
-    Bound {
-        value: i128::from(scene.fault.pid),
-        limit: i128::from(runner),
     }
 }
 
@@ -156,16 +146,6 @@ fn push_prios(
         text,
         "# the line prints prio {other} of {named}; by its nice value {nice} it is {own}"
     )
-}
-
-/// The printed prio, and the task's own.
-pub(crate) fn prio_bound(scene: &Scene) -> Option<Bound> {
-    let pid = scene.fault.pid;
-    let own = scene.task(pid)?.nice;
-    Some(Bound {
-        value: i128::from(prio_of(printed_nice(scene.event.act, pid))),
-        limit: i128::from(prio_of(own)),
-    })
 }
 
 fn prio_of(nice: Nice) -> i32 {

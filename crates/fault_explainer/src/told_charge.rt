@@ -1,9 +1,8 @@
 //! What the companion tells of a charge, beside the exact one.
 
-use crate::bound::Bound;
 use crate::charge::Charge;
 use crate::names::{Named, Names};
-use crate::place_bounds::{push_stood, runner_bound};
+use crate::place_bounds::push_stood;
 use crate::scene::Scene;
 use cfs_model::ChargeLine;
 use runqueue::{Runqueue, SchedEntity};
@@ -85,29 +84,6 @@ pub(crate) fn push_wrong_charge(text: &mut String, scene: &Scene) -> Result<(), 
             push_not_its(text, scene, queue.runner())?;
             push_stood(text, scene)
         }
-    }
-}
-
-/// How far the told charge leads its task's drift, and how far it may; or where it leads, and where its task was, below
-/// which none may. Where it is of a task that doesn't run: whose it is, and who runs, pid 0 where nobody does.
-pub(crate) fn charge_bound(scene: &Scene) -> Bound {
-    let queue = &scene.here.queue;
-    match ToldCharge::at(queue, scene.event.time, scene.event.charge) {
-        Some(told) => drift_bound(told, scene.knobs.drift()),
-        None => runner_bound(scene),
-    }
-}
-
-fn drift_bound(told: ToldCharge, most: u64) -> Bound {
-    if told.takes_away() {
-        return Bound {
-            value: i128::from(told.to),
-            limit: i128::from(told.exact.task.v),
-        };
-    }
-    Bound {
-        value: told.drift_after().saturating_abs(),
-        limit: i128::from(most),
     }
 }
 

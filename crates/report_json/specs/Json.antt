@@ -1,5 +1,6 @@
 -- The parts of a JSON text, with no space between them.
-use Rattle.std.specs.Prelude.{ℕ, Option, Some, None, List, [], ◌∷◌, ◌++◌, codes, decimal, map}
+use Rattle.std.specs.Fmt.{signed_decimal}
+use Rattle.std.specs.Prelude.{ℕ, ℤ, Option, Some, None, List, [], ◌∷◌, ◌++◌, codes, decimal, map}
 use Rattle.std.specs.List.{concat}
 
 -- a string. Each that is told is a word of this project's own, with no quote, no backslash and no control character
@@ -9,6 +10,10 @@ quoted text = codes "\"" ++ (text ++ codes "\"")
 -- a number that may have more than 64 bits: a string, since many readers keep numbers in fewer
 abbrev pub wide : ℕ → List ℕ
 wide number = quoted (decimal number)
+
+-- the same, with a sign where it is below 0
+abbrev pub signed_wide : ℤ → List ℕ
+signed_wide number = quoted (signed_decimal number)
 
 -- a number, or null
 abbrev pub number_or_null : Option ℕ → List ℕ

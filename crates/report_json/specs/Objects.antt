@@ -11,6 +11,7 @@ use Rattle.cfs_model.specs.Knobs.{KnobsView, value_at}
 use Rattle.cfs_model.specs.Options.{name_of_setting}
 use Rattle.cfs_model.specs.declared.kind.Kind.{Kind}
 use Rattle.cfs_model.specs.declared.setting.Setting.{Setting}
+use Rattle.fault_bounds.specs.declared.bound.Bound.{Bound}
 use Rattle.least_places.specs.Place.{place_at, time_on_line}
 use Rattle.least_places.specs.declared.figures.LeastFigures.{LeastFigures}
 use Rattle.least_places.specs.declared.figures.LeastFigures.TheVariants as leasts
@@ -18,7 +19,7 @@ use Rattle.least_places.specs.declared.place.Place.{Place}
 use Rattle.least_places.specs.declared.places.Places.{Places}
 use Rattle.replay_model.specs.declared.first_fault.FirstFault.{FirstFault}
 use Rattle.replay_model.specs.declared.page.Tally.{Tally}
-use Rattle.report_json.specs.Json.{also, array_of, member, number_or_null, object, quoted, wide}
+use Rattle.report_json.specs.Json.{also, array_of, member, number_or_null, object, quoted, signed_wide, wide}
 use Rattle.sched_record.specs.Record.{RecordView}
 use Rattle.ticket_book.specs.SummaryView.{SummaryView, summary_view}
 use Rattle.ticket_book.specs.declared.verdict.Verdict.{Verdict}
@@ -162,10 +163,26 @@ abbrev pub fault_time : RecordView → Option FirstFault → ℕ
 fault_time r None = 0
 fault_time r (Some fault) = time_on_line r.events fault.line
 
--- the report: of a fault, with further members behind its own; or by the members that are told where none is named
-abbrev pub told_object : Option FirstFault → ℕ → List ℕ → List ℕ → List ℕ
-told_object None time further members = line_of (object members)
-told_object (Some fault) time further members = line_of (object (fault_members fault time ++ further))
+-- the two numbers that the rule of a fault compares, null where none are told
+abbrev pub number_members : Bound → List ℕ
+number_members bound =
+    member (codes "value") (signed_wide bound.value) ++ also (codes "limit") (signed_wide bound.limit)
+
+abbrev pub bound_value : Option Bound → List ℕ
+bound_value None = codes "null"
+bound_value (Some bound) = object (number_members bound)
+
+abbrev pub bound_member : Option Bound → List ℕ
+bound_member bound = also (codes "bound") (bound_value bound)
+
+-- a fault, with further members and its numbers
+abbrev pub all_members : FirstFault → ℕ → List ℕ → Option Bound → List ℕ
+all_members f time further bound = fault_members f time ++ (further ++ bound_member bound)
+
+-- the report: of a fault with all that is told of it, or by the members that are told where none is named
+abbrev pub told_object : Option FirstFault → ℕ → List ℕ → Option Bound → List ℕ → List ℕ
+told_object None time further bound members = line_of (object members)
+told_object (Some fault) time further bound members = line_of (object (all_members fault time further bound))
 
 -- which text is refused
 abbrev pub source_members : Source → List ℕ

@@ -1,25 +1,38 @@
--- What is judged of a record, with the time of its fault (this project's format).
-use Rattle.std.specs.Prelude.{◌≡◌, ℕ, Bool, List, [], Option, string_bytes}
+-- What is judged of a record, with the time of its fault and the two numbers that its rule compares (this project's
+-- format).
+use Rattle.std.specs.Prelude.{◌≡◌, ℕ, Bool, List, [], Option, Some, ⊤, string_bytes}
+use Rattle.cfs_model.specs.Knobs.{KnobsView}
+use Rattle.fault_bounds.specs.Bounds.{AreNumbers}
+use Rattle.fault_bounds.specs.declared.bound.Bound.{Bound}
 use Rattle.replay_model.specs.declared.first_fault.FirstFault.{FirstFault}
 use Rattle.report_json.specs.Objects.{fault_time, told_object}
 use Rattle.report_json.specs.declared.as_json.AsJson.{AsJson}
 use Rattle.sched_record.specs.Record.{RecordView}
 
--- it is that of the record, and the time is that of the event on the line of the fault that it names. What a fault's
--- object says behind that may be anything
-abbrev pub is_timed : {J : Type 0} → (J → Option FirstFault) → (RecordView → J → Type 0) → RecordView → AsJson J
-    → Type 0
-is_timed fault_of is_of r told = is_of r told.judged × (told.time ≡ fault_time r (fault_of told.judged))
+-- the numbers are those of the fault at these settings, where some are told
+abbrev pub HasBound : KnobsView → RecordView → Option FirstFault → Option Bound → Type 0
+HasBound knobs r (Some fault) (Some bound) = AreNumbers knobs r fault.kind fault bound.value bound.limit
+HasBound knobs r _ _ = ⊤
 
--- the same, and a fault's object says nothing behind that
-abbrev pub is_timed_alone : {J : Type 0} → (J → Option FirstFault) → (RecordView → J → Type 0) → RecordView → AsJson J
-    → Type 0
-is_timed_alone fault_of is_of r told = is_timed fault_of is_of r told × (string_bytes told.further ≡ [])
+-- it is that of the record, the time is that of the event on the line of the fault that it names, and the numbers are
+-- the fault's at these settings. The further members of the fault's object may be any
+abbrev pub is_timed : {J : Type 0} → KnobsView → (J → Option FirstFault) → (RecordView → J → Type 0) → RecordView
+    → AsJson J → Type 0
+is_timed knobs fault_of is_of r told =
+    is_of r told.judged × (told.time ≡ fault_time r (fault_of told.judged))
+    × HasBound knobs r (fault_of told.judged) told.bound
 
--- its report: the fault with what is said behind it, or the members that are told where none is named
+-- the same, and a fault's object has no further members
+abbrev pub is_timed_alone : {J : Type 0} → KnobsView → (J → Option FirstFault) → (RecordView → J → Type 0) → RecordView
+    → AsJson J → Type 0
+is_timed_alone knobs fault_of is_of r told =
+    is_timed knobs fault_of is_of r told × (string_bytes told.further ≡ [])
+
+-- its report: the fault with its further members and its numbers, or the members that are told where none is named
 abbrev pub object_by : {J : Type 0} → (J → Option FirstFault) → (Bool → J → List ℕ) → Bool → AsJson J → List ℕ
 object_by fault_of members tells_charges told =
-    told_object (fault_of told.judged) told.time (string_bytes told.further) (members tells_charges told.judged)
+    told_object (fault_of told.judged) told.time (string_bytes told.further) told.bound
+    (members tells_charges told.judged)
 
 -- the fault that it names
 abbrev pub timed_fault : {J : Type 0} → (J → Option FirstFault) → AsJson J → Option FirstFault

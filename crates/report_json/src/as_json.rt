@@ -8,6 +8,7 @@ use crate::faults::{push_fault, push_refusal, time_of};
 use audit_input::{Cause, Source};
 use audit_report::{Finding, Judgement};
 use cfs_model::{Knobs, Memory};
+use fault_bounds::{Bound, bound_of};
 use pid_table::PidHasher;
 use replay_model::FirstFault;
 use sched_record::Record;
@@ -19,7 +20,9 @@ pub struct AsJson<J> {
     pub judged: J,
     /// When the event on the fault's line happened, in nanoseconds; 0 where there is no fault.
     pub time: u64,
-    /// What a fault's object says last: further members, each behind a comma, of which no clause speaks.
+    /// The two numbers that the fault's rule compares, where it compares any.
+    pub bound: Option<Bound>,
+    /// Further members of a fault's object, each behind a comma, of which no clause speaks.
     pub further: String,
 }
 
@@ -27,7 +30,7 @@ impl<J: Told> Judgement for AsJson<J> {
     ghost use Rattle.report_json.specs.Objects.{refusal_object};
     ghost use Rattle.report_json.specs.Timed.{is_timed_alone, object_by, timed_fault};
 
-    ghost is_of = { λ knobs. is_timed_alone J.fault (J.is_of knobs) };
+    ghost is_of = { λ knobs. is_timed_alone (J.replayed_by knobs) J.fault (J.is_of knobs) };
 
     ghost is_least = { J.is_least };
 
@@ -55,10 +58,15 @@ impl<J: Told> Judgement for AsJson<J> {
         hasher: PidHasher,
     ) -> Result<AsJson<J>, Memory> {
         let judged = J::of_finding(alloc, finding, joined, knobs, hasher)?;
-        let time = time_of(judged.fault(), joined);
+        let fault = judged.fault();
+        let bound = match fault {
+            Some(fault) => bound_of(alloc, joined, J::replayed_by(knobs), fault, hasher)?,
+            None => None,
+        };
         Ok(AsJson {
             judged,
-            time,
+            time: time_of(fault, joined),
+            bound,
             further: String::new(alloc),
         })
     }
@@ -69,7 +77,7 @@ impl<J: Told> Judgement for AsJson<J> {
 
     fn push(&self, text: &mut String, tells_charges: bool) -> Result<(), AllocError> {
         match self.judged.fault() {
-            Some(fault) => push_fault(text, fault, self.time, self.further.as_str()),
+            Some(fault) => push_fault(text, fault, self.time, self.further.as_str(), self.bound),
             None => push_judged(text, &self.judged, tells_charges),
         }
     }

@@ -3,29 +3,66 @@ ghost use Rattle.std.specs.Prelude.{◌≡◌, ◌++◌, OnOk, string_bytes};
 ghost use Rattle.audit_report.specs.Report.{line_of};
 ghost use Rattle.least_places.specs.Place.{time_on_line};
 ghost use Rattle.report_json.specs.Json.{object};
-ghost use Rattle.report_json.specs.Objects.{cause_members, fault_members, fault_time, kind_members};
+ghost use Rattle.report_json.specs.Objects.{all_members, bound_member, cause_members, fault_members, fault_time};
+ghost use Rattle.report_json.specs.Objects.{kind_members, number_members};
 ghost use Rattle.report_json.specs.Objects.{refusal_members, refusal_object, source_members, where_members};
 ghost use Rattle.sched_record.specs.Record.{record_view};
 
 use audit_input::{Cause, Source};
 use cfs_model::{Entry, Kind};
+use fault_bounds::Bound;
 use replay_model::FirstFault;
 use sched_record::Record;
 use std::alloc::AllocError;
 
-/// Writes a fault, and further members behind its own.
+/// Writes a fault, and behind its own members further ones and its numbers.
 pub(crate) fn push_fault(
     text: &mut String,
     fault: FirstFault,
     time: u64,
     further: &str,
+    bound: Option<Bound>,
 ) -> Result<(), AllocError>
     ensures { OnOk result (string_bytes text.new
-        ≡ string_bytes text.old ++ line_of (object (fault_members fault time ++ further.now))) }
+        ≡ string_bytes text.old ++ line_of (object (all_members fault time further.now bound))) }
 {
     write!(text, "{{")?;
+    push_all_members(text, fault, time, further, bound)?;
+    writeln!(text, "}}")
+}
+
+fn push_all_members(
+    text: &mut String,
+    fault: FirstFault,
+    time: u64,
+    further: &str,
+    bound: Option<Bound>,
+) -> Result<(), AllocError>
+    ensures { OnOk result
+        (string_bytes text.new ≡ string_bytes text.old ++ all_members fault time further.now bound) }
+{
     push_fault_members(text, fault, time)?;
-    writeln!(text, "{further}}}")
+    write!(text, "{further}")?;
+    push_bound(text, bound)
+}
+
+/// Writes the numbers of a fault, or that there are none.
+fn push_bound(text: &mut String, bound: Option<Bound>) -> Result<(), AllocError>
+    ensures { OnOk result (string_bytes text.new ≡ string_bytes text.old ++ bound_member bound) }
+{
+    write!(text, ",\"bound\":")?;
+    match bound {
+        Some(bound) => push_numbers(text, bound),
+        None => write!(text, "null"),
+    }
+}
+
+/// Writes both numbers as strings: one may have more than 64 bits.
+fn push_numbers(text: &mut String, bound: Bound) -> Result<(), AllocError>
+    ensures { OnOk result (string_bytes text.new ≡ string_bytes text.old ++ object (number_members bound)) }
+{
+    let Bound { value, limit } = bound;
+    write!(text, "{{\"value\":\"{value}\",\"limit\":\"{limit}\"}}")
 }
 
 fn push_fault_members(text: &mut String, fault: FirstFault, time: u64) -> Result<(), AllocError>

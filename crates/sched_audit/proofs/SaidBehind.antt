@@ -3,6 +3,7 @@ use Rattle.std.specs.Prelude.{ℕ, Bool, List, Option, String}
 use Rattle.std.specs.declared.alloc.Global.{Global}
 use Rattle.audit_report.specs.declared.outcome.Outcome.{Outcome}
 use Rattle.audit_report.specs.declared.outcome.Outcome.TheVariants.{Judged, Text}
+use Rattle.cfs_model.specs.Knobs.{KnobsView}
 use Rattle.replay_model.specs.declared.first_fault.FirstFault.{FirstFault}
 use Rattle.report_json.specs.Timed.{is_timed, is_timed_alone}
 use Rattle.report_json.specs.declared.as_json.AsJson.{AsJson}
@@ -13,16 +14,17 @@ use Rattle.sched_audit.specs.declared.hearing.Kept.{Kept}
 use Rattle.sched_audit.specs.declared.hearing.Kept.TheVariants.{Record, Companion}
 use Rattle.sched_record.specs.Record.{RecordView}
 
-module _ {J : Type 0} (fault_of : J → Option FirstFault) (is_of : RecordView → J → Type 0) (m : String Global) where
+module _ {J : Type 0} (knobs : KnobsView) (fault_of : J → Option FirstFault) (is_of : RecordView → J → Type 0)
+    (m : String Global) where
   pub answer_with : (trace companion : List ℕ) (o : Outcome (AsJson J))
-      → OutcomeAnswer (is_timed_alone fault_of is_of) trace companion o
-      → OutcomeAnswer (is_timed fault_of is_of) trace companion (with_further m o)
+      → OutcomeAnswer (is_timed_alone knobs fault_of is_of) trace companion o
+      → OutcomeAnswer (is_timed knobs fault_of is_of) trace companion (with_further m o)
   answer_with trace companion (Judged told) answer = (answer.0, answer.1, answer.2.0)
   answer_with trace companion (Text source line cause) answer = answer
 
   pub outcome_with : (trace companion : Option (List ℕ)) (o : Outcome (AsJson J)) (b : Bool)
-      → IsOutcomeOf (is_timed_alone fault_of is_of) trace companion o b
-      → IsOutcomeOf (is_timed fault_of is_of) trace companion (with_further m o) b
+      → IsOutcomeOf (is_timed_alone knobs fault_of is_of) trace companion o b
+      → IsOutcomeOf (is_timed knobs fault_of is_of) trace companion (with_further m o) b
   outcome_with trace companion o b is = record {
     trace_bytes = is.trace_bytes;
     companion_bytes = is.companion_bytes;
@@ -33,8 +35,8 @@ module _ {J : Type 0} (fault_of : J → Option FirstFault) (is_of : RecordView �
   }
 
   pub kept_with : (companion : Option (List ℕ)) (o : Outcome (AsJson J)) (k : Kept)
-      → IsKept (is_timed_alone fault_of is_of) companion o k
-      → IsKept (is_timed fault_of is_of) companion (with_further m o) k
+      → IsKept (is_timed_alone knobs fault_of is_of) companion o k
+      → IsKept (is_timed knobs fault_of is_of) companion (with_further m o) k
   kept_with companion (Judged told) (Record joined) is = is.0
   kept_with companion (Text source line cause) (Companion bytes) is = is
   kept_with companion (Judged told) (Companion bytes) is = is

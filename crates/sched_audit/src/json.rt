@@ -3,7 +3,7 @@
 ghost use Rattle.std.specs.Prelude.{◌≡◌, ◌≢◌, false, IfErr, IfOk, string_bytes};
 ghost use Rattle.report_json.specs.Objects.{refusal_object};
 ghost use Rattle.report_json.specs.Timed.{is_timed, is_timed_alone, object_by, timed_fault};
-ghost use Rattle.sched_audit.specs.Json.{with_further};
+ghost use Rattle.sched_audit.specs.Json.{told_with, with_further};
 ghost use Rattle.sched_audit.specs.Run.{IsKept, IsOutcomeOf, Reads, RunsBy, input_of, one_by_one, output_of};
 
 use crate::judging::run_judged;
@@ -39,7 +39,8 @@ pub fn run_json<
     requires companion { C.calls companion.old ≡ 0 }
     requires out { S.has_failed out.old ≡ false }
     // The object of what was judged, or of a refusal.
-    ensures { RunsBy one_by_one refusal_object (is_timed_alone J.fault (J.is_of knobs)) (object_by J.fault J.members)
+    ensures { RunsBy one_by_one refusal_object (is_timed_alone (J.replayed_by knobs) J.fault (J.is_of knobs))
+        (object_by J.fault J.members)
         (timed_fault J.fault)
         (input_of (T.left trace.old) (T.left trace.new) (T.calls trace.new) (T.has_failed trace.new)
         (T.has_ended trace.new)) (input_of (C.left companion.old) (C.left companion.new) (C.calls companion.new)
@@ -49,7 +50,7 @@ pub fn run_json<
     run_judged::<AsJson<J>, _, _, _, _, _>(rt, alloc, trace, companion, knobs, gate, out)
 }
 
-/// The same, but a fault's object goes on with further members.
+/// The same, but a fault's object has further members.
 pub fn run_json_further<
     J: Told,
     R: RandomSource + Threads + Wait + Sync,
@@ -71,8 +72,9 @@ pub fn run_json_further<
     requires trace { T.calls trace.old ≡ 0 }
     requires companion { C.calls companion.old ≡ 0 }
     requires out { S.has_failed out.old ≡ false }
-    // The object of what was judged, or of a refusal. Of what stands behind a fault's own members nothing is said.
-    ensures { RunsBy one_by_one refusal_object (is_timed J.fault (J.is_of knobs)) (object_by J.fault J.members)
+    // The object of what was judged, or of a refusal. Of a fault's further members nothing is said.
+    ensures { RunsBy one_by_one refusal_object (is_timed (J.replayed_by knobs) J.fault (J.is_of knobs))
+        (object_by J.fault J.members)
         (timed_fault J.fault)
         (input_of (T.left trace.old) (T.left trace.new) (T.calls trace.new) (T.has_failed trace.new)
         (T.has_ended trace.new)) (input_of (C.left companion.old) (C.left companion.new) (C.calls companion.new)
@@ -92,8 +94,8 @@ pub fn run_json_further<
     write_report(alloc, &outcome, tells_charges, out)
 }
 
-/// Reads the trace to its end, then the companion, and judges them; a fault's object goes on with further members. What
-/// was read is kept beside the outcome.
+/// Reads the trace to its end, then the companion, and judges them; a fault's object has further members. What was read
+/// is kept beside the outcome.
 pub fn judge_json<
     J: Told,
     R: RandomSource + Threads + Wait + Sync,
@@ -114,18 +116,19 @@ pub fn judge_json<
     requires trace { T.calls trace.old ≡ 0 }
     requires companion { C.calls companion.old ≡ 0 }
     ensures outcome { IfOk result (λ hearing.
-        IsOutcomeOf (is_timed J.fault (J.is_of knobs)) (T.left trace.old) (C.left companion.old) hearing.outcome
-        hearing.tells_charges) }
+        IsOutcomeOf (is_timed (J.replayed_by knobs) J.fault (J.is_of knobs)) (T.left trace.old) (C.left companion.old)
+        hearing.outcome hearing.tells_charges) }
     ensures reads { Reads
         (input_of (T.left trace.old) (T.left trace.new) (T.calls trace.new) (T.has_failed trace.new)
         (T.has_ended trace.new)) (input_of (C.left companion.old) (C.left companion.new) (C.calls companion.new)
         (C.has_failed companion.new) (C.has_ended companion.new)) result }
     ensures kept { IfOk result (λ hearing.
-        IsKept (is_timed J.fault (J.is_of knobs)) (C.left companion.old) hearing.outcome hearing.kept) }
+        IsKept (is_timed (J.replayed_by knobs) J.fault (J.is_of knobs)) (C.left companion.old) hearing.outcome
+        hearing.kept) }
     ensures unwritten { IfErr result (λ fault. fault ≢ Fault.Write) }
 {
     let hearing: Hearing<AsJson<J>> = judge(rt, alloc, trace, companion, knobs, gate)?;
-    let members = members_of(alloc, &hearing, knobs, trace, further)?;
+    let members = members_of(alloc, &hearing, trace, further)?;
     let Hearing {
         outcome,
         kept,
@@ -142,13 +145,12 @@ pub fn judge_json<
 fn members_of<J: Told, T, F: Further<T>>(
     alloc: Global,
     hearing: &Hearing<AsJson<J>>,
-    knobs: Knobs,
     trace: &T,
     further: &mut F,
 ) -> Result<String, Memory> {
     match (&hearing.outcome, &hearing.kept) {
         (Outcome::Judged(told), Kept::Record(record)) => match told.fault() {
-            Some(fault) => further.members(record, J::replayed_by(knobs), &fault, trace),
+            Some(fault) => further.members(record, &fault, trace),
             None => Ok(String::new(alloc)),
         },
         _ => Ok(String::new(alloc)),
@@ -160,11 +162,7 @@ fn outcome_with<J: Told>(outcome: Outcome<AsJson<J>>, members: String) -> Outcom
     ensures { result ≡ with_further members outcome }
 {
     match outcome {
-        Outcome::Judged(AsJson { judged, time, .. }) => Outcome::Judged(AsJson {
-            judged,
-            time,
-            further: members,
-        }),
+        Outcome::Judged(told) => Outcome::Judged(told_with(told, members)),
         Outcome::Text {
             source,
             line,
@@ -174,5 +172,23 @@ fn outcome_with<J: Told>(outcome: Outcome<AsJson<J>>, members: String) -> Outcom
             line,
             cause,
         },
+    }
+}
+
+/// What is told of a record, with further members in a fault's object.
+fn told_with<J: Told>(told: AsJson<J>, members: String) -> AsJson<J>
+    ensures { result ≡ told_with members told }
+{
+    let AsJson {
+        judged,
+        time,
+        bound,
+        ..
+    } = told;
+    AsJson {
+        judged,
+        time,
+        bound,
+        further: members,
     }
 }

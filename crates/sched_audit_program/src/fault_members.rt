@@ -1,8 +1,7 @@
 use crate::trace_again::TraceAgain;
 use audit_input::{Feed, KeepingFeed};
-use cfs_model::{Knobs, Memory};
-use fault_explainer::fault_members;
-use pid_table::PidHasher;
+use cfs_model::Memory;
+use fault_explainer::name_member;
 use replay_model::FirstFault;
 use sched_audit::Further;
 use sched_record::Record;
@@ -10,7 +9,7 @@ use std::alloc::Global;
 use std::random::RandomSource;
 use std::rt::Files;
 
-/// The last members of a fault's object: the name of its task, read from the trace of this name, and its bound.
+/// The further member of a fault's object: the name of its task, read from the trace of this name.
 #[derive(Drop)]
 pub(crate) struct FaultMembers<'a, R> {
     rt: &'a R,
@@ -28,7 +27,6 @@ impl<R: Files + RandomSource, F: Feed> Further<KeepingFeed<F>> for FaultMembers<
     fn members(
         &mut self,
         record: &Record,
-        knobs: Knobs,
         fault: &FirstFault,
         trace: &KeepingFeed<F>,
     ) -> Result<String, Memory> {
@@ -38,7 +36,6 @@ impl<R: Files + RandomSource, F: Feed> Further<KeepingFeed<F>> for FaultMembers<
             name: self.trace,
             trace,
         };
-        let hasher = PidHasher::random(self.rt);
-        fault_members(self.alloc, record, knobs, fault, hasher, &mut again)
+        name_member(self.alloc, record, fault, &mut again)
     }
 }

@@ -5,7 +5,8 @@ use crate::audits::busy;
 use crate::ends::{Narrow, ample, whole};
 use crate::runs::object_ran;
 use sched_audit::{
-    AsJson, Fault, LeastFigures, Outcome, SinkOf, Status, Verdict, WithWaits, write_report,
+    AsJson, Fault, LeastFigures, NameTold, Outcome, SinkOf, Status, Verdict, WithWaits,
+    write_report,
 };
 use serde_json::Value;
 use std::alloc::Global;
@@ -21,7 +22,7 @@ fn object_of_run(alloc: Global) -> Result<Vec<u8>, Fail> {
         judged,
         time: 0,
         bound: None,
-        further: String::new(alloc),
+        name: NameTold::Untold,
     });
     let mut out = Narrow::new(alloc, ample());
     let _ = write_report(alloc, &outcome, false, &mut SinkOf::new(&mut out));

@@ -3,12 +3,12 @@ use crate::event::Event;
 use crate::gap::push_gap;
 use crate::mend::push_mend;
 use crate::scene::Scene;
-use crate::trace_text::TraceText;
 use cfs_model::{Knobs, Memory};
 use pid_table::PidHasher;
 use replay_model::FirstFault;
 use sched_record::Record;
 use std::alloc::Global;
+use task_names::TraceText;
 
 /// How the first fault of a record under these settings comes about: how things were before its event, what comes first
 /// at it, the bound that failed, and which setting would do. Each line begins with `# `. Names are read from lines of

@@ -4,10 +4,10 @@ use crate::head::Head;
 use crate::names::Names;
 use crate::origin::last_switch;
 use crate::scene::Scene;
-use crate::trace_text::TraceText;
 use cfs_model::{Entry, Memory, NO_LINE};
 use sched_record::Record;
 use std::alloc::AllocError;
+use task_names::TraceText;
 
 /// The heads of so many lines before a fault are looked at.
 const MOST_HEADS: u32 = 100;

@@ -1,12 +1,12 @@
 use crate::escaped::Escaped;
 use crate::head::Head;
 use crate::origin::Origin;
-use crate::trace_text::TraceText;
 use cfs_model::{IDLE_PID, Memory};
 use ftrace_line::{Line, read_line};
 use sched_event::{Event, Switch, read_event};
 use std::alloc::{AllocError, Global};
 use std::fmt;
+use task_names::TraceText;
 
 /// The name of a task, as a line of the trace has it.
 #[derive(Drop)]

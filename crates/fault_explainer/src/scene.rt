@@ -9,13 +9,13 @@ use crate::names::{Named, Names};
 use crate::processor::Processor;
 use crate::processor_lines::{Telling, push_charge, push_floor, push_processor};
 use crate::told_charge::{ToldCharge, push_told_charge};
-use crate::trace_text::TraceText;
 use cfs_model::{Act, ChargeLine, IDLE_PID, Kind, Knobs, Memory};
 use pid_table::PidHasher;
 use replay_model::FirstFault;
 use runqueue::SchedEntity;
 use sched_record::Record;
 use std::alloc::{AllocError, Global};
+use task_names::TraceText;
 
 /// A fault with its event, and the processors at which it happened.
 #[derive(Drop)]

@@ -1,5 +1,5 @@
 -- The report as a JSON object (this project's format): its keys and its words are those of the report.
-use Rattle.std.specs.Prelude.{ℕ, Bool, Option, Some, None, List, [], ◌++◌, codes, decimal, map}
+use Rattle.std.specs.Prelude.{ℕ, Bool, Option, Some, None, List, [], ◌++◌, Vec, codes, decimal, map}
 use Rattle.std.specs.List.{concat}
 use Rattle.audit_input.specs.Words.{cause_word, source_word}
 use Rattle.audit_input.specs.declared.cause.Cause.{Cause}
@@ -19,7 +19,10 @@ use Rattle.least_places.specs.declared.place.Place.{Place}
 use Rattle.least_places.specs.declared.places.Places.{Places}
 use Rattle.replay_model.specs.declared.first_fault.FirstFault.{FirstFault}
 use Rattle.replay_model.specs.declared.page.Tally.{Tally}
-use Rattle.report_json.specs.Json.{also, array_of, member, number_or_null, object, quoted, signed_wide, wide}
+use Rattle.report_json.specs.Json.{also, array_of, member, number_or_null, object, quoted, signed_wide, string_of, wide}
+use Rattle.report_json.specs.declared.name.NameTold.{NameTold}
+use Rattle.report_json.specs.declared.name.NameTold.TheVariants.{Untold, Told}
+use Rattle.std.specs.declared.alloc.Global.{Global}
 use Rattle.sched_record.specs.Record.{RecordView}
 use Rattle.ticket_book.specs.SummaryView.{SummaryView, summary_view}
 use Rattle.ticket_book.specs.declared.verdict.Verdict.{Verdict}
@@ -175,14 +178,23 @@ bound_value (Some bound) = object (number_members bound)
 abbrev pub bound_member : Option Bound → List ℕ
 bound_member bound = also (codes "bound") (bound_value bound)
 
--- a fault, with further members and its numbers
-abbrev pub all_members : FirstFault → ℕ → List ℕ → Option Bound → List ℕ
-all_members f time further bound = fault_members f time ++ (further ++ bound_member bound)
+-- the name of a task, null where it isn't known
+abbrev pub name_value : Option (Vec ℕ Global) → List ℕ
+name_value None = codes "null"
+name_value (Some name) = string_of name.items
+
+abbrev pub name_member : NameTold → List ℕ
+name_member Untold = []
+name_member (Told name) = also (codes "name") (name_value name)
+
+-- a fault, with its task's name and its numbers
+abbrev pub all_members : FirstFault → ℕ → NameTold → Option Bound → List ℕ
+all_members f time name bound = fault_members f time ++ (name_member name ++ bound_member bound)
 
 -- the report: of a fault with all that is told of it, or by the members that are told where none is named
-abbrev pub told_object : Option FirstFault → ℕ → List ℕ → Option Bound → List ℕ → List ℕ
-told_object None time further bound members = line_of (object members)
-told_object (Some fault) time further bound members = line_of (object (all_members fault time further bound))
+abbrev pub told_object : Option FirstFault → ℕ → NameTold → Option Bound → List ℕ → List ℕ
+told_object None time name bound members = line_of (object members)
+told_object (Some fault) time name bound members = line_of (object (all_members fault time name bound))
 
 -- which text is refused
 abbrev pub source_members : Source → List ℕ

@@ -3,8 +3,8 @@ ghost use Rattle.std.specs.Prelude.{◌≡◌, ◌++◌, OnOk, string_bytes};
 ghost use Rattle.audit_report.specs.Report.{line_of};
 ghost use Rattle.report_json.specs.Json.{object};
 
-use crate::Told;
 use crate::faults::{push_fault, push_refusal, time_of};
+use crate::{NameTold, Told};
 use audit_input::{Cause, Source};
 use audit_report::{Finding, Judgement};
 use cfs_model::{Knobs, Memory};
@@ -22,8 +22,8 @@ pub struct AsJson<J> {
     pub time: u64,
     /// The two numbers that the fault's rule compares, where it compares any.
     pub bound: Option<Bound>,
-    /// Further members of a fault's object, each behind a comma, of which no clause speaks.
-    pub further: String,
+    /// The name of the fault's task.
+    pub name: NameTold,
 }
 
 impl<J: Told> Judgement for AsJson<J> {
@@ -67,7 +67,7 @@ impl<J: Told> Judgement for AsJson<J> {
             judged,
             time: time_of(fault, joined),
             bound,
-            further: String::new(alloc),
+            name: NameTold::Untold,
         })
     }
 
@@ -77,7 +77,7 @@ impl<J: Told> Judgement for AsJson<J> {
 
     fn push(&self, text: &mut String, tells_charges: bool) -> Result<(), AllocError> {
         match self.judged.fault() {
-            Some(fault) => push_fault(text, fault, self.time, self.further.as_str(), self.bound),
+            Some(fault) => push_fault(text, fault, self.time, &self.name, self.bound),
             None => push_judged(text, &self.judged, tells_charges),
         }
     }

@@ -8,6 +8,7 @@ ghost use Rattle.report_json.specs.Objects.{kind_members, number_members};
 ghost use Rattle.report_json.specs.Objects.{refusal_members, refusal_object, source_members, where_members};
 ghost use Rattle.sched_record.specs.Record.{record_view};
 
+use crate::name::{NameTold, push_name};
 use audit_input::{Cause, Source};
 use cfs_model::{Entry, Kind};
 use fault_bounds::Bound;
@@ -15,19 +16,19 @@ use replay_model::FirstFault;
 use sched_record::Record;
 use std::alloc::AllocError;
 
-/// Writes a fault, and behind its own members further ones and its numbers.
+/// Writes a fault, with its task's name and its numbers.
 pub(crate) fn push_fault(
     text: &mut String,
     fault: FirstFault,
     time: u64,
-    further: &str,
+    name: &NameTold,
     bound: Option<Bound>,
 ) -> Result<(), AllocError>
     ensures { OnOk result (string_bytes text.new
-        ≡ string_bytes text.old ++ line_of (object (all_members fault time further.now bound))) }
+        ≡ string_bytes text.old ++ line_of (object (all_members fault time name.now bound))) }
 {
     write!(text, "{{")?;
-    push_all_members(text, fault, time, further, bound)?;
+    push_all_members(text, fault, time, name, bound)?;
     writeln!(text, "}}")
 }
 
@@ -35,14 +36,14 @@ fn push_all_members(
     text: &mut String,
     fault: FirstFault,
     time: u64,
-    further: &str,
+    name: &NameTold,
     bound: Option<Bound>,
 ) -> Result<(), AllocError>
     ensures { OnOk result
-        (string_bytes text.new ≡ string_bytes text.old ++ all_members fault time further.now bound) }
+        (string_bytes text.new ≡ string_bytes text.old ++ all_members fault time name.now bound) }
 {
     push_fault_members(text, fault, time)?;
-    write!(text, "{further}")?;
+    push_name(text, name)?;
     push_bound(text, bound)
 }
 

@@ -2,6 +2,6 @@ mod InBlocks
 mod Lawful
 mod OneOf
 mod Outcomes
-mod SaidBehind
+mod Named
 mod Starts
 pub mod Ended

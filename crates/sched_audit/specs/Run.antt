@@ -18,7 +18,7 @@ use Rattle.audit_report.specs.Codes.{status_of}
 use Rattle.audit_input.specs.Known.{Agrees, IsCutShort, most_reads}
 use Rattle.audit_report.specs.Report.{refusal_line, report_by}
 use Rattle.audit_report.specs.Taken.{AppendsFront}
-use Rattle.audit_input.specs.Texts.{TellsCharges}
+use Rattle.audit_input.specs.Texts.{IsRecordOf, IsRefused, TellsCharges}
 use Rattle.stream_audit.specs.Hearing.{ReadsBoth, Input as Ended, input_of as ended}
 
 -- the outcome is that of the bytes that the two inputs still gave, and so is it whether the companion tells charges
@@ -38,6 +38,25 @@ IsKept is_of companion (Judged judged) (Record joined) = is_of (record_view join
 IsKept is_of companion (Text source line cause) (Companion bytes) = Agrees companion bytes.items
 IsKept is_of companion (Judged judged) (Companion bytes) = ⊥
 IsKept is_of companion (Text source line cause) (Record joined) = ⊥
+
+-- the same of a trace and its companion: what was judged is that of the record that is kept, and this is theirs
+abbrev pub KeptAnswer : {J : Type 0} → (RecordView → J → Type 0) → List ℕ → List ℕ → Outcome J → Kept → Type 0
+KeptAnswer is_of trace companion (Judged judged) (Record joined) =
+    IsRecordOf trace companion (record_view joined) × is_of (record_view joined) judged
+KeptAnswer is_of trace companion (Text source line cause) (Companion bytes) =
+    IsRefused trace companion source line cause
+KeptAnswer is_of trace companion (Judged judged) (Companion bytes) = ⊥
+KeptAnswer is_of trace companion (Text source line cause) (Record joined) = ⊥
+
+-- what was heard of two inputs, with what is kept of them, by what is known of their bytes
+pub record IsHeard {J : Type 0} (is_of : RecordView → J → Type 0) (trace companion : Option (List ℕ))
+    (outcome : Outcome J) (kept : Kept) (tells_charges : Bool) : Type 0 where
+  pub trace_bytes : List ℕ
+  pub companion_bytes : List ℕ
+  pub trace_whole : Agrees trace trace_bytes
+  pub companion_whole : Agrees companion companion_bytes
+  pub answer : KeptAnswer is_of trace_bytes companion_bytes outcome kept
+  pub tells : TellsCharges companion_bytes tells_charges
 
 -- of an input: the bytes that it gave from the call's beginning on and those that it has left, where they are known;
 -- the reads made of it, whether one failed, and whether it has ended

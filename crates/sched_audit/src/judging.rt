@@ -5,7 +5,8 @@ ghost use Rattle.sched_record.specs.Seen.{Tells};
 ghost use Rattle.sched_record.specs.Trace.{TraceAnswer};
 ghost use Rattle.sched_audit.specs.Answer.{IsAnswer, OutcomeAnswer};
 ghost use Rattle.audit_input.specs.Known.{Agrees};
-ghost use Rattle.sched_audit.specs.Run.{IsKept, IsOutcomeOf, Reads, RunsBy, input_of, one_by_one, output_of};
+ghost use Rattle.sched_audit.specs.Run.{IsHeard, IsKept, IsOutcomeOf, KeptAnswer, Reads, RunsBy, input_of};
+ghost use Rattle.sched_audit.specs.Run.{one_by_one, output_of};
 ghost use Rattle.audit_input.specs.Texts.{TellsCharges};
 
 use crate::{
@@ -97,6 +98,8 @@ pub fn judge<J: Judgement, R: RandomSource + Threads + Wait + Sync, T: Feed, C: 
         (T.has_ended trace.new)) (input_of (C.left companion.old) (C.left companion.new) (C.calls companion.new)
         (C.has_failed companion.new) (C.has_ended companion.new)) result }
     ensures kept { IfOk result (λ hearing. IsKept (J.is_of knobs) (C.left companion.old) hearing.outcome hearing.kept) }
+    ensures heard { IfOk result (λ hearing. IsHeard (J.is_of knobs) (T.left trace.old) (C.left companion.old)
+        hearing.outcome hearing.kept hearing.tells_charges) }
     ensures unwritten { IfErr result (λ fault. fault ≢ Fault.Write) }
 {
     let trace = read_lines(alloc, trace)?;
@@ -117,6 +120,8 @@ fn hearing_of<J: Judgement, R: RandomSource + Threads + Wait + Sync, G: Gate>(
         → IfOk result (λ hearing. IsKept (J.is_of knobs) left hearing.outcome hearing.kept) }
     ensures outcome { (text : List ℕ) → Tells trace (TraceAnswer text)
         → IfOk result (λ hearing. OutcomeAnswer (J.is_of knobs) text companion.items hearing.outcome) }
+    ensures heard { (text : List ℕ) → Tells trace (TraceAnswer text)
+        → IfOk result (λ hearing. KeptAnswer (J.is_of knobs) text companion.items hearing.outcome hearing.kept) }
     ensures tells { IfOk result (λ hearing. TellsCharges companion.items hearing.tells_charges) }
 {
     let text = companion.as_slice();

@@ -4,7 +4,7 @@ ghost use Rattle.std.specs.Prelude.{◌≡◌};
 
 use crate::answer::{Answer, FrontOf};
 use crate::failure::Failure;
-use crate::fault_members::FaultMembers;
+use crate::fault_naming::FaultNaming;
 use crate::progress::{Lengths, WatchedFeed};
 use crate::states::{file_of, write_states_to};
 use crate::trace_again::TraceAgain;
@@ -125,7 +125,7 @@ fn json_of<J: Told, R: Files + Print + RandomSource + Threads + Wait + Sync, F: 
     requires trace { ⟦<KeepingFeed<F> as Feed>⟧.calls trace.old ≡ 0 }
     requires companion { C.calls companion.old ≡ 0 }
 {
-    let mut further = FaultMembers::new(rt, alloc, request.trace);
+    let mut naming = FaultNaming::new(rt, alloc, request.trace);
     let hearing: Hearing<AsJson<J>> = judge_json(
         rt,
         alloc,
@@ -133,7 +133,7 @@ fn json_of<J: Told, R: Files + Print + RandomSource + Threads + Wait + Sync, F: 
         companion,
         request.knobs,
         &OpenGate,
-        &mut further,
+        &mut naming,
     )?;
     write_kept(rt, alloc, request, &hearing)
 }

@@ -1,12 +1,12 @@
 //! The report as JSON, with nothing beside it.
 use crate::answer::{Answer, FrontOf};
-use crate::fault_members::FaultMembers;
+use crate::fault_naming::FaultNaming;
 use crate::progress::{Lengths, WatchedFeed};
 use audit_input::KeepingFeed;
 use given_texts::Input;
 use sched_audit::{
     Counted, Fault, FeedOf, LeastFigures, OpenGate, Request, SinkOf, Told, Verdict, WithWaits,
-    run_json_further,
+    run_json_named,
 };
 use std::alloc::Global;
 use std::io;
@@ -63,11 +63,11 @@ fn answer_in<J: Told, R: Files + Print + Eprint + RandomSource + Threads + Wait 
         keeps,
     );
     let mut companion = WatchedFeed::new(rt, FeedOf::new(companion), lengths.companion);
-    let mut further = FaultMembers::new(rt, alloc, request.trace);
+    let mut naming = FaultNaming::new(rt, alloc, request.trace);
     let mut end = FrontOf::new(SinkOf::new(io::writer(rt)));
     let (trace, companion, out) = (&mut trace, &mut companion, &mut end);
-    let (knobs, gate, further) = (request.knobs, &OpenGate, &mut further);
-    run_json_further::<J, R, _, _, _, _, _>(
-        rt, alloc, trace, companion, knobs, gate, further, out,
+    let (knobs, gate, naming) = (request.knobs, &OpenGate, &mut naming);
+    run_json_named::<J, R, _, _, _, _, _>(
+        rt, alloc, trace, companion, knobs, gate, naming, out,
     ).map(|status| end.answer(status))
 }

@@ -6,7 +6,7 @@ mod command;
 mod ending;
 mod explaining;
 mod failure;
-mod fault_members;
+mod fault_naming;
 mod full_feed;
 mod hints;
 mod json_report;

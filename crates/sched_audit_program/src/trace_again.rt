@@ -1,10 +1,10 @@
 use audit_input::{Feed, KeepingFeed, line_again};
 use cfs_model::Memory;
-use fault_explainer::TraceText;
 use std::alloc::Global;
 use std::io;
 use std::io::ErrorKind;
 use std::rt::Files;
+use task_names::TraceText;
 
 /// A trace that went by, of which lines are read again.
 #[derive(Drop)]

@@ -1,5 +1,5 @@
 use Rattle.sched_audit.proofs.Ended.{answered_as, reads_on, unwritten_as}
-use Rattle.sched_audit.proofs.json.run_json_further.Goals as goal
+use Rattle.sched_audit.proofs.json.run_json_named.Goals as goal
 
 pub returns : goal.returns
 returns g c =

@@ -1,0 +1,2 @@
+pub mod NameOf
+pub mod Names

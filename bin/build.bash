@@ -1,6 +1,8 @@
 # For the commands of this folder, which source it: whether a program is built, and its building. They say in `top`
 # where the tree is, in `crate` whose program it is, and in `command` by which name they speak.
-program=$top/crates/$crate/out/$crate
+take_crate() { crate=$1 program=$top/crates/$1/out/$1; }
+
+take_crate "$crate"
 
 # Whether the program stands there, and no source is newer.
 is_built() {

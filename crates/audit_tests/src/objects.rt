@@ -4,10 +4,8 @@ use crate::answers::wants_about;
 use crate::audits::busy;
 use crate::ends::{Narrow, ample, whole};
 use crate::runs::object_ran;
-use sched_audit::{
-    AsJson, Fault, LeastFigures, NameTold, Outcome, SinkOf, Status, Verdict, WithWaits,
-    write_report,
-};
+use json_audit::{AsJson, NameTold};
+use sched_audit::{Fault, LeastFigures, Outcome, SinkOf, Status, Verdict, WithWaits, write_report};
 use serde_json::Value;
 use std::alloc::Global;
 use std::random::RandomSource;

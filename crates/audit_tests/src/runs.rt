@@ -3,9 +3,8 @@
 
 use crate::ends::{Narrow, Pieces, Room, ample};
 use cfs_model::Knobs;
-use sched_audit::{
-    Fault, FeedOf, OpenGate, SinkOf, Sizes, Status, Told, run, run_in_blocks, run_json, run_least,
-};
+use json_audit::{Told, run_json};
+use sched_audit::{Fault, FeedOf, OpenGate, SinkOf, Sizes, Status, run, run_in_blocks, run_least};
 use std::alloc::Global;
 use std::process::Abort;
 use std::random::RandomSource;

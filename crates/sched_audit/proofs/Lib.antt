@@ -1,7 +1,3 @@
 mod InBlocks
-mod Lawful
-mod OneOf
 mod Outcomes
-mod Named
-mod Starts
 pub mod Ended

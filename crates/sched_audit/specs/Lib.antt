@@ -1,7 +1,5 @@
 pub mod Answer
+pub mod Asked
 pub mod Codes
-pub mod Json
 pub mod Run
 pub mod Waits
-pub mod OneOutcome
-pub mod LawsOfAYes

@@ -41,8 +41,8 @@ pub(crate) fn texts_judged<J: Judgement, R: RandomSource + Threads + Wait + Sync
     Ok(judged(rt, alloc, &record, knobs, gate)?)
 }
 
-/// Reads the trace to its end, then the companion, judges them, and writes the report.
-pub(crate) fn run_judged<
+/// Reads the trace to its end, then the companion, judges them, and writes the report. `run` is this by a verdict.
+pub fn run_judged<
     J: Judgement,
     R: RandomSource + Threads + Wait + Sync,
     T: Feed,
@@ -58,9 +58,11 @@ pub(crate) fn run_judged<
     gate: &G,
     out: &mut S,
 ) -> Result<Status, Fault>
+    // No read was made yet, and no write failed.
     requires trace { T.calls trace.old ≡ 0 }
     requires companion { C.calls companion.old ≡ 0 }
     requires out { S.has_failed out.old ≡ false }
+    // The report of what was judged, or of a refusal, was written, and else it is told why not.
     ensures { RunsBy one_by_one J.refusal (J.is_of knobs) J.lines J.fault
         (input_of (T.left trace.old) (T.left trace.new) (T.calls trace.new) (T.has_failed trace.new)
         (T.has_ended trace.new)) (input_of (C.left companion.old) (C.left companion.new) (C.calls companion.new)

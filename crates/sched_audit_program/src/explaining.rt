@@ -2,21 +2,20 @@
 //! why.
 ghost use Rattle.std.specs.Prelude.{◌≡◌};
 
-use crate::answer::{Answer, FrontOf};
-use crate::failure::Failure;
 use crate::fault_naming::FaultNaming;
-use crate::progress::{Lengths, WatchedFeed};
 use crate::states::{file_of, write_states_to};
 use crate::trace_again::TraceAgain;
+use audit_command::{Answer, Failure, FrontOf, Lengths, kept_input, watched_input};
 use audit_input::{Cause, KeepingFeed, line_of};
 use cfs_model::Knobs;
 use fault_explainer::{explanation, quoted_line, refusal_words};
 use given_texts::Input;
+use json_audit::{AsJson, Told, judge_json};
 use pid_table::PidHasher;
 use replay_model::FirstFault;
 use sched_audit::{
-    AsJson, Color, Fault, Feed, FeedOf, Hearing, Judgement, Kept, OpenGate, Outcome, Request,
-    SinkOf, Source, Status, Told, judge, judge_json, write_report,
+    Color, Fault, Feed, Hearing, Judgement, Kept, OpenGate, Outcome, Request, SinkOf, Source,
+    Status, judge, write_report,
 };
 use sched_record::Record;
 use std::alloc::Global;
@@ -47,13 +46,8 @@ pub(crate) fn answer_kept<
     companion: Input<R::File>,
     lengths: Lengths,
 ) -> Result<Answer, Failure> {
-    let keeps = request.explain && !trace.is_regular();
-    let mut trace = KeepingFeed::new(
-        alloc,
-        WatchedFeed::new(rt, FeedOf::new(trace), lengths.trace),
-        keeps,
-    );
-    let mut companion = WatchedFeed::new(rt, FeedOf::new(companion), lengths.companion);
+    let mut trace = kept_input(rt, alloc, trace, lengths.trace, request.explain);
+    let mut companion = watched_input(rt, companion, lengths.companion);
     answer_of::<J, _, _, _>(rt, alloc, request, &mut trace, &mut companion)
 }
 
@@ -104,13 +98,8 @@ pub(crate) fn answer_kept_json<
     companion: Input<R::File>,
     lengths: Lengths,
 ) -> Result<Answer, Failure> {
-    let keeps = !trace.is_regular();
-    let mut trace = KeepingFeed::new(
-        alloc,
-        WatchedFeed::new(rt, FeedOf::new(trace), lengths.trace),
-        keeps,
-    );
-    let mut companion = WatchedFeed::new(rt, FeedOf::new(companion), lengths.companion);
+    let mut trace = kept_input(rt, alloc, trace, lengths.trace, true);
+    let mut companion = watched_input(rt, companion, lengths.companion);
     json_of::<J, _, _, _>(rt, alloc, request, &mut trace, &mut companion)
 }
 

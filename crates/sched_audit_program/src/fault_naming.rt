@@ -1,8 +1,8 @@
 use crate::trace_again::TraceAgain;
 use audit_input::{Feed, KeepingFeed};
 use cfs_model::Memory;
+use json_audit::TaskNaming;
 use replay_model::FirstFault;
-use sched_audit::TaskNaming;
 use sched_record::Record;
 use std::alloc::Global;
 use std::rt::Files;

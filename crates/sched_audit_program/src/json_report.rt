@@ -1,13 +1,9 @@
 //! The report as JSON, with nothing beside it.
-use crate::answer::{Answer, FrontOf};
 use crate::fault_naming::FaultNaming;
-use crate::progress::{Lengths, WatchedFeed};
-use audit_input::KeepingFeed;
+use audit_command::{Answer, FrontOf, Lengths, kept_input, watched_input};
 use given_texts::Input;
-use sched_audit::{
-    Counted, Fault, FeedOf, LeastFigures, OpenGate, Request, SinkOf, Told, Verdict, WithWaits,
-    run_json_named,
-};
+use json_audit::{Told, run_json_named};
+use sched_audit::{Counted, Fault, LeastFigures, OpenGate, Request, SinkOf, Verdict, WithWaits};
 use std::alloc::Global;
 use std::io;
 use std::random::RandomSource;
@@ -56,13 +52,8 @@ fn answer_in<J: Told, R: Files + Print + Eprint + RandomSource + Threads + Wait 
     companion: Input<R::File>,
     lengths: Lengths,
 ) -> Result<Answer, Fault> {
-    let keeps = !trace.is_regular();
-    let mut trace = KeepingFeed::new(
-        alloc,
-        WatchedFeed::new(rt, FeedOf::new(trace), lengths.trace),
-        keeps,
-    );
-    let mut companion = WatchedFeed::new(rt, FeedOf::new(companion), lengths.companion);
+    let mut trace = kept_input(rt, alloc, trace, lengths.trace, true);
+    let mut companion = watched_input(rt, companion, lengths.companion);
     let mut naming = FaultNaming::new(rt, alloc, request.trace);
     let mut end = FrontOf::new(SinkOf::new(io::writer(rt)));
     let (trace, companion, out) = (&mut trace, &mut companion, &mut end);

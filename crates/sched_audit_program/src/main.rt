@@ -1,24 +1,17 @@
-//! `sched_audit TRACE COMPANION`, with options: judges a recorded schedule and prints the report.
+//! `sched_audit TRACE COMPANION`, with options: judges a recorded schedule and prints the report, in lines or as JSON,
+//! and what is asked for beside it.
 #![tactic(auto)]
 
-mod answer;
 mod command;
-mod ending;
 mod explaining;
-mod failure;
 mod fault_naming;
-mod full_feed;
-mod hints;
 mod json_report;
-mod progress;
 mod states;
-mod terminals;
 mod trace_again;
 
-use ending::Ending;
+use audit_command::Terminals;
 use std::io::IsTerminal;
 use std::process::ExitCode;
-use terminals::Terminals;
 
 fn main(rt: HostRuntime) -> ExitCode {
     let terminals = Terminals {
@@ -26,14 +19,6 @@ fn main(rt: HostRuntime) -> ExitCode {
         errors: rt.stderr().is_terminal(),
     };
     let ending = command::obey(&rt, rt.alloc(), rt.stdin(), terminals);
-    match ending {
-        Ending::Failed(fault) => {
-            let _ = eprintln!(rt; "sched_audit: {fault}");
-        }
-        Ending::StatesUnwritten => {
-            let _ = eprintln!(rt; "sched_audit: cannot write the file of --states");
-        }
-        Ending::Answered(_) | Ending::Told | Ending::Misused => {}
-    }
+    ending.say(&rt);
     ExitCode::from(ending.code())
 }

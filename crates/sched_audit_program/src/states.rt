@@ -1,5 +1,5 @@
 //! The file of `--states`.
-use crate::failure::Failure;
+use audit_command::Failure;
 use cfs_model::Knobs;
 use pid_table::PidHasher;
 use sched_audit::{Fault, Hearing, Judgement, Kept, Outcome};

@@ -1,4 +1,4 @@
-use crate::endings::print_answer;
+use crate::endings::{bad_words, print_answer};
 use crate::record_calls::print_call_on;
 use crate::texts::Texts;
 use cfs_model::Knobs;
@@ -17,6 +17,43 @@ pub fn print_call<R: AllocGlobal + Print + RandomSource + Threads + Wait + Sync>
     call: &str,
     texts: &Texts,
 ) -> io::Result<ExitCode> {
+    match call {
+        "audit_texts" => print_audit(rt, texts),
+        "least_texts" => print_least(rt, texts),
+        _ if call.starts_with("read_") => print_reading(rt, call, texts),
+        _ => print_call_on(rt, call, &texts.record(rt.alloc())?),
+    }
+}
+
+fn print_audit<R: AllocGlobal + Print + RandomSource + Threads + Wait + Sync>(
+    rt: &R,
+    texts: &Texts,
+) -> io::Result<ExitCode> {
+    let (trace, companion) = (texts.trace.as_slice(), texts.companion.as_slice());
+    let knobs = Knobs::standard();
+    print_answer(
+        rt,
+        &audit_texts(rt, rt.alloc(), trace, companion, knobs, &OpenGate),
+    )
+}
+
+fn print_least<R: AllocGlobal + Print + RandomSource + Threads + Wait + Sync>(
+    rt: &R,
+    texts: &Texts,
+) -> io::Result<ExitCode> {
+    let (trace, companion) = (texts.trace.as_slice(), texts.companion.as_slice());
+    print_answer(
+        rt,
+        &least_texts(rt, rt.alloc(), trace, companion, &OpenGate),
+    )
+}
+
+/// Makes the reading of this name.
+fn print_reading<R: AllocGlobal + Print + Threads + Sync>(
+    rt: &R,
+    call: &str,
+    texts: &Texts,
+) -> io::Result<ExitCode> {
     let alloc = rt.alloc();
     let (trace, companion) = (texts.trace.as_slice(), texts.companion.as_slice());
     match call {
@@ -24,11 +61,6 @@ pub fn print_call<R: AllocGlobal + Print + RandomSource + Threads + Wait + Sync>
         "read_trace_wide" => print_answer(rt, &read_trace_wide(rt, alloc, trace)),
         "read_companion" => print_answer(rt, &read_companion(alloc, companion)),
         "read_companion_wide" => print_answer(rt, &read_companion_wide(rt, alloc, companion)),
-        "audit_texts" => print_answer(
-            rt,
-            &audit_texts(rt, alloc, trace, companion, Knobs::standard(), &OpenGate),
-        ),
-        "least_texts" => print_answer(rt, &least_texts(rt, alloc, trace, companion, &OpenGate)),
-        _ => print_call_on(rt, call, &texts.record(alloc)?),
+        _ => bad_words(),
     }
 }

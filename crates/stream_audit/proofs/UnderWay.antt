@@ -69,18 +69,6 @@ pub fed_as : (calls : ℕ) (has_ended has_failed : Bool) (old new : CompanionInp
 fed_as calls has_ended has_failed old new same fed =
     subst (λ (input : CompanionInput). IsFedBy calls has_ended has_failed input) (sym same) fed
 
--- what is done, by other names of the reader and the course
-pub both_as : (reader as_reader : EntryReader) (course as_course : Course) (bytes text : List ℕ) → as_reader ≡ reader
-    → as_course ≡ course → AreBothDone reader course bytes text → AreBothDone as_reader as_course bytes text
-both_as reader as_reader course as_course bytes text e f both = rw (e, f) both
-
-pub outcome_as : (own other : Course) (bytes text : List ℕ) (hearing : Hearing) → own ≡ other
-    → IsOutcome own.knobs bytes text hearing.outcome × TellsCharges text hearing.tells_charges
-    → IsOutcome other.knobs bytes text hearing.outcome × TellsCharges text hearing.tells_charges
-outcome_as own other bytes text hearing same is =
-    subst (λ (k : Course). IsOutcome k.knobs bytes text hearing.outcome × TellsCharges text hearing.tells_charges) same
-    is
-
 -- a course that went on with the companion alone
 pub heard_further : (knobs : KnobsView) (gave left rest : Option (List ℕ)) (bytes : List ℕ) (reader : EntryReader)
     (old new : Course) (heard : IsHeard knobs gave left bytes reader old)

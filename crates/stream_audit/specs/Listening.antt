@@ -1,5 +1,5 @@
 -- What was heard so far of two inputs, of which the trace is read a block ahead of the audit (this project's profile).
-use Rattle.std.specs.Prelude.{◌≡◌, ◌≢◌, ℕ, ◌<◌, Bool, false, not, List, Option, Err}
+use Rattle.std.specs.Prelude.{◌≡◌, ◌≢◌, ℕ, ◌<◌, Bool, true, false, not, List, Option, Err}
 use Rattle.std.specs.Io.KnownBytes.{IsAtEnd}
 use Rattle.audit_input.specs.declared.fault.Fault.{Fault}
 use Rattle.audit_input.specs.declared.fault.Fault.TheVariants.{Write}
@@ -19,6 +19,10 @@ pub record IsUnderWay (knobs : KnobsView) (trace_gave trace_left gave left : Opt
     pub bytes : List ℕ
     pub stands : IsThen ReadsEntries trace_gave trace_left listener.blocks bytes goes_on
     pub heard : IsHeard knobs gave left bytes listener.reader listener.course
+
+-- nothing was heard yet, whatever the inputs have
+abbrev pub HasHeardNothing : KnobsView → Listener → Type 0
+HasHeardNothing knobs listener = (trace gave : Option (List ℕ)) → IsUnderWay knobs trace trace gave gave listener true
 
 -- an input was read as often as its blocks say, once at least, no read of it failed, and it has ended where it doesn't
 -- go on

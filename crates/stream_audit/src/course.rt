@@ -214,23 +214,18 @@ impl Course {
         }
     }
 
-    /// What the trace's events and the companion come to, once both were read to their ends.
-    pub fn finish(self, alloc: Global) -> Result<Closing, Memory>
-        requires { (text : List ℕ) × (events : List Event) × IsWholeCourse self.knobs self text events }
-        ensures { (text : List ℕ) (events : List Event) → IsWholeCourse self.knobs self text events
-            → IfOk result (IsClosingOf self.knobs text events) }
+    /// What the trace's events and the companion come to, once both were read to their ends. Then the audit is over.
+    pub fn finish(&mut self, alloc: Global) -> Result<Closing, Memory>
+        requires { (text : List ℕ) × (events : List Event) × IsWholeCourse self.old.knobs self.old text events }
+        ensures { (text : List ℕ) (events : List Event) → IsWholeCourse self.old.knobs self.old text events
+            → IfOk result (IsClosingOf self.old.knobs text events) }
     {
-        let mut course = self;
-        if let Err(fault) = course.companion.reader.finish() {
+        if let Err(fault) = self.companion.reader.finish() {
             return Ok(Closing::Refused(fault));
         }
-        course.begin(alloc)?;
-        let Course {
-            companion,
-            audit,
-            ..
-        } = course;
-        let reader = companion.reader;
+        self.begin(alloc)?;
+        let audit = self.audit.take();
+        let reader = &self.companion.reader;
         match audit {
             Some(audit) => Ok(Closing::Joined(audit.finish(
                 alloc,

@@ -140,6 +140,12 @@ impl JoinedAudit {
         if let Some(fault) = self.joining.finish(&self.start, claims, nices, charges) {
             return Ok(Ending::Apart(fault));
         }
-        Ok(Ending::Judged(self.progress.finish(alloc)?))
+        Ok(Ending::Judged(self.into_progress().finish(alloc)?))
+    }
+
+    fn into_progress(self) -> Progress
+        ensures { result ≡ self.progress }
+    {
+        self.progress
     }
 }

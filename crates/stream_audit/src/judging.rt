@@ -4,8 +4,10 @@ ghost use Rattle.audit_input.specs.Texts.{TellsCharges};
 ghost use Rattle.cfs_model.specs.Knobs.{KnobsView};
 ghost use Rattle.cfs_model.specs.declared.act.Entry.{Entry as Event};
 ghost use Rattle.sched_record.specs.Trace.{TraceAnswer};
+ghost use Rattle.stream_audit.specs.Companion.{IsFedBy};
 ghost use Rattle.stream_audit.specs.Course.{IsClosingOf};
 ghost use Rattle.stream_audit.specs.Hearing.{AreBothDone, IsHearingOf, IsOutcome, IsRefusalOf, ReadsBoth, input_of};
+ghost use Rattle.stream_audit.specs.Listening.{HasHeardNothing};
 
 use crate::course::{Closing, Course};
 use crate::listener::Listener;
@@ -41,20 +43,43 @@ pub fn judge_stream<R: RandomSource + Threads + Sync, T: Feed, C: Feed>(
     ensures unwritten { IfErr result (λ fault. fault ≢ Fault.Write) }
 {
     let mut listener = Listener::new(alloc, knobs, sizes, PidHasher::random(rt));
+    hear(rt, alloc, trace, companion, &mut listener)
+}
+
+/// Hears two inputs to their ends, and tells what they came to.
+fn hear<R: Threads + Sync, T: Feed, C: Feed>(
+    rt: &R,
+    alloc: Global,
+    trace: &mut T,
+    companion: &mut C,
+    listener: &mut Listener,
+) -> Result<Hearing, Fault>
+    requires trace { T.calls trace.old ≡ 0 }
+    requires companion { C.calls companion.old ≡ 0 }
+    requires nothing { (knobs : KnobsView) × HasHeardNothing knobs listener.old }
+    requires unread { listener.old.blocks.reads ≡ 0 }
+    requires unfed { IsFedBy 0 false false listener.old.course.companion }
+    ensures outcome { (knobs : KnobsView) → HasHeardNothing knobs listener.old
+        → IfOk result (IsHearingOf knobs (T.left trace.old) (C.left companion.old)) }
+    ensures reads { ReadsBoth
+        (input_of (T.left trace.new) (T.calls trace.new) (T.has_failed trace.new) (T.has_ended trace.new))
+        (input_of (C.left companion.new) (C.calls companion.new) (C.has_failed companion.new)
+        (C.has_ended companion.new)) result }
+    ensures unwritten { IfErr result (λ fault. fault ≢ Fault.Write) }
+{
     let mut goes_on = listener.begin(trace)?;
     while goes_on {
         goes_on = listener.go_on(rt, alloc, trace, companion)?;
     }
     listener.read_rest(rt, alloc, companion)?;
-    let (reader, course) = listener.into_heard();
-    Ok(hearing_of(alloc, &reader, course)?)
+    Ok(hearing_of(alloc, &listener.reader, &mut listener.course)?)
 }
 
 /// What both inputs came to, once they were read to their ends.
-fn hearing_of(alloc: Global, trace: &EntryReader, course: Course) -> Result<Hearing, Memory>
-    requires { (bytes : List ℕ) × (text : List ℕ) × AreBothDone trace.now course bytes text }
-    ensures { (bytes : List ℕ) (text : List ℕ) → AreBothDone trace.now course bytes text
-        → IfOk result (λ hearing. IsOutcome course.knobs bytes text hearing.outcome
+fn hearing_of(alloc: Global, trace: &EntryReader, course: &mut Course) -> Result<Hearing, Memory>
+    requires { (bytes : List ℕ) × (text : List ℕ) × AreBothDone trace.now course.old bytes text }
+    ensures { (bytes : List ℕ) (text : List ℕ) → AreBothDone trace.now course.old bytes text
+        → IfOk result (λ hearing. IsOutcome course.old.knobs bytes text hearing.outcome
         × TellsCharges text hearing.tells_charges) }
 {
     let tells_charges = course.tells_charges();
@@ -69,19 +94,16 @@ fn hearing_of(alloc: Global, trace: &EntryReader, course: Course) -> Result<Hear
 fn outcome_of_both(
     alloc: Global,
     trace: &EntryReader,
-    course: Course,
+    course: &mut Course,
 ) -> Result<StreamOutcome, Memory>
-    requires { (bytes : List ℕ) × (text : List ℕ) × AreBothDone trace.now course bytes text }
-    ensures { (bytes : List ℕ) (text : List ℕ) → AreBothDone trace.now course bytes text
-        → IfOk result (IsOutcome course.knobs bytes text) }
+    requires { (bytes : List ℕ) × (text : List ℕ) × AreBothDone trace.now course.old bytes text }
+    ensures { (bytes : List ℕ) (text : List ℕ) → AreBothDone trace.now course.old bytes text
+        → IfOk result (IsOutcome course.old.knobs bytes text) }
 {
     one_trace_answer();
     match trace.finish() {
         Ok(()) => outcome_of(course.finish(alloc)?),
-        Err(fault) => {
-            drop(course);
-            refused(fault.into())
-        }
+        Err(fault) => refused(fault.into()),
     }
 }
 

@@ -30,22 +30,21 @@ const COMPANION_BLOCK: u32 = 1 << 17;
 pub(crate) struct Listener {
     /// Of the trace.
     blocks: LineBlocks,
-    reader: EntryReader,
+    pub reader: EntryReader,
     /// Those of the block before, which are audited while the next one is read; the room for them is used again.
     events: Vec<Entry>,
-    course: Course,
+    pub course: Course,
     /// How many events are audited at once, at most.
     most: usize,
     ghost some: { 0 < most },
 }
 
 impl Listener {
-    ghost use Rattle.stream_audit.specs.Listening.{EndsBoth, IsReadBy, IsUnderWay};
+    ghost use Rattle.stream_audit.specs.Listening.{EndsBoth, HasHeardNothing, IsReadBy, IsUnderWay};
 
     /// Before the first block. Pids are hashed by these keys.
     pub fn new(alloc: Global, knobs: Knobs, sizes: Sizes, hasher: PidHasher) -> Listener
-        ensures under_way { (trace : Option (List ℕ)) (gave : Option (List ℕ))
-            → IsUnderWay knobs trace trace gave gave result true }
+        ensures under_way { HasHeardNothing knobs result }
         ensures reads { result.blocks.reads ≡ 0 }
         ensures fed { IsFedBy 0 false false result.course.companion }
     {
@@ -159,14 +158,6 @@ impl Listener {
         )?;
         self.course.go_through(rt, alloc, &self.events, self.most)?;
         self.course.read_rest(companion)
-    }
-
-    /// What was heard: what the trace said, and what it came to with the companion.
-    pub fn into_heard(self) -> (EntryReader, Course)
-        ensures { (result.0 ≡ self.reader) × (result.1 ≡ self.course) }
-    {
-        let Listener { reader, course, .. } = self;
-        (reader, course)
     }
 }
 

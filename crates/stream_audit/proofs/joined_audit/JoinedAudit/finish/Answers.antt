@@ -30,9 +30,9 @@ finish-requires-2 c =
     let none = calm (is_refused self.joining) c.finish.result c.finish.ensures.refused c.in_default.is in (
       self.knobs,
       joined_record events of,
-      at_end of events c.args.claims.now c.args.nices.now c.args.charges.now self last
+      rw c.into_progress.ensures (at_end of events c.args.claims.now c.args.nices.now c.args.charges.now self last
           (subst (λ n. n ≤ greatest_setting) c.drift-drift.ensures.same c.drift-drift.ensures.in_range) none
-          (c.together.ensures self.joining of events last.so_far.joined none),
+          (c.together.ensures self.joining of events last.so_far.joined none)),
     )
 
 pub returns-in-Some : goal.returns-in-Some
@@ -47,7 +47,7 @@ returns c = λ of events last.
       subst (λ (found : Option JoinFault). RecordAnswer events of (joined_answer events of found)) c.in_default.is
           (c.finish.ensures.answered of events last.so_far.joined last.so_far.head last.held),
       c.in_ok-finish.ensures self.knobs (joined_record events of)
-          (at_end of events c.args.claims.now c.args.nices.now c.args.charges.now self last
+          (rw c.into_progress.ensures (at_end of events c.args.claims.now c.args.nices.now c.args.charges.now self last
           (subst (λ n. n ≤ greatest_setting) c.drift-drift.ensures.same c.drift-drift.ensures.in_range) none
-          (c.together.ensures self.joining of events last.so_far.joined none)),
+          (c.together.ensures self.joining of events last.so_far.joined none))),
     )

@@ -1,0 +1,2 @@
+pub mod LawsOfAYes
+pub mod OneOutcome

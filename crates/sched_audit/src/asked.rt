@@ -1,0 +1,66 @@
+//! The theorem, where it is a request that says what is asked for.
+
+ghost use Rattle.std.specs.Prelude.{◌≡◌, false};
+ghost use Rattle.sched_audit.specs.Asked.{RunsAsked};
+ghost use Rattle.sched_audit.specs.Run.{input_of, output_of};
+
+use crate::{
+    Fault, Feed, OpenGate, Request, Sink, Sizes, Status, run_counted_in_blocks, run_counted_waits,
+    run_in_blocks, run_least, run_least_waits, run_waits,
+};
+use std::alloc::Global;
+use std::random::RandomSource;
+use std::sync::Wait;
+use std::thread::{self, Threads};
+
+/// How many bytes a read of an input asks for on one core, where both are read at once.
+const BLOCK: u32 = 1 << 20;
+
+/// The same on several cores: threads begin for each block, and some systems let a new one wait for milliseconds.
+const BLOCK_OF_THREADS: u32 = 3 << 20;
+
+/// How many events are audited at once there, at most.
+const WINDOW: usize = 1 << 16;
+
+/// Reads both inputs to their ends, judges them as a request asks, and writes the report in lines.
+pub fn run_request<R: RandomSource + Threads + Wait + Sync, T: Feed, C: Feed, S: Sink>(
+    rt: &R,
+    alloc: Global,
+    request: &Request<'_>,
+    trace: &mut T,
+    companion: &mut C,
+    out: &mut S,
+) -> Result<Status, Fault>
+    // No read was made yet, and no write failed.
+    requires trace { T.calls trace.old ≡ 0 }
+    requires companion { C.calls companion.old ≡ 0 }
+    requires out { S.has_failed out.old ≡ false }
+    // The report that is asked for of the two inputs, or of a refusal.
+    ensures { RunsAsked request.now.least request.now.summary request.now.waits request.now.knobs
+        (input_of (T.left trace.old) (T.left trace.new) (T.calls trace.new) (T.has_failed trace.new)
+        (T.has_ended trace.new)) (input_of (C.left companion.old) (C.left companion.new) (C.calls companion.new)
+        (C.has_failed companion.new) (C.has_ended companion.new))
+        (output_of (S.taken out.old) (S.taken out.new) (S.has_failed out.new)) result }
+{
+    let knobs = request.knobs;
+    let gate = &OpenGate;
+    match (request.least, request.summary, request.waits) {
+        (true, _, true) => run_least_waits(rt, alloc, trace, companion, gate, out),
+        (true, _, false) => run_least(rt, alloc, trace, companion, gate, out),
+        (false, true, true) => run_counted_waits(rt, alloc, trace, companion, knobs, gate, out),
+        (false, true, false) => {
+            run_counted_in_blocks(rt, alloc, trace, companion, knobs, sizes(rt), out)
+        }
+        (false, false, true) => run_waits(rt, alloc, trace, companion, knobs, gate, out),
+        (false, false, false) => run_in_blocks(rt, alloc, trace, companion, knobs, sizes(rt), out),
+    }
+}
+
+/// How much of a recording is looked at at once.
+fn sizes<R: Threads>(rt: &R) -> Sizes {
+    let block = match thread::available_parallelism(rt) {
+        Ok(cores) if cores.get() > 1 => BLOCK_OF_THREADS,
+        _ => BLOCK,
+    };
+    Sizes::new(block, WINDOW)
+}

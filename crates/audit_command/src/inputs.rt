@@ -72,17 +72,16 @@ pub fn filled_input<'a, R: Eprint, F: Read + Drop>(
     FullFeed::new(watched_input(rt, input, size))
 }
 
-/// The same as `watched_input`, of which lines are to be read again, if that is wished: what can't be opened a second
-/// time is kept then.
+/// The same, of which lines are to be read again, if that is wished: what can't be opened a second time is kept then.
 pub fn kept_input<'a, R: Eprint, F: Read + Drop>(
     rt: &'a R,
     alloc: Global,
     input: Input<F>,
     size: Size,
     is_wished: bool,
-) -> KeepingFeed<WatchedFeed<'a, R, FeedOf<Input<F>>>>
-    ensures { ⟦<KeepingFeed<WatchedFeed<'a, R, FeedOf<Input<F>>>> as Feed>⟧.calls result ≡ 0 }
+) -> KeepingFeed<FullFeed<WatchedFeed<'a, R, FeedOf<Input<F>>>>>
+    ensures { ⟦<KeepingFeed<FullFeed<WatchedFeed<'a, R, FeedOf<Input<F>>>>> as Feed>⟧.calls result ≡ 0 }
 {
     let keeps = is_wished && !input.is_regular();
-    KeepingFeed::new(alloc, watched_input(rt, input, size), keeps)
+    KeepingFeed::new(alloc, filled_input(rt, input, size), keeps)
 }

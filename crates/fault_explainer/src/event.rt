@@ -1,5 +1,5 @@
 use cfs_model::{Act, ChargeLine, Claim, Entry, IdleLine, NiceLine};
-use sched_record::Record;
+use recent_past::RecentPast;
 
 /// The event on a line, and what the companion says on it.
 #[derive(Clone, Copy)]
@@ -16,35 +16,18 @@ pub(crate) struct Event {
 }
 
 impl Event {
-    /// That of a record on a line, if there is one.
-    pub(crate) fn on_line(record: &Record, line: u32) -> Option<Event> {
-        let events = record.events();
-        let index = events.partition_point(|event| event.line < line);
-        let Entry { time, act, .. } = *events.get(index).filter(|event| event.line == line)?;
+    /// That on the fault's line, if there is one.
+    pub(crate) fn on_line(past: &RecentPast, line: u32) -> Option<Event> {
+        let (entry, said) = past.event_on(line)?;
+        let Entry { time, act, .. } = entry;
         Some(Event {
             line,
             time,
             act,
-            claim: record
-                .claims()
-                .iter()
-                .find(|claim| claim.line == line)
-                .copied(),
-            nice: record
-                .nices()
-                .iter()
-                .find(|change| change.line == line)
-                .copied(),
-            charge: record
-                .charges()
-                .iter()
-                .find(|charge| charge.line == line)
-                .copied(),
-            idle: record
-                .idles()
-                .iter()
-                .find(|idle| idle.line == line)
-                .copied(),
+            claim: said.claim,
+            nice: said.nice,
+            charge: said.charge,
+            idle: past.idle(),
         })
     }
 

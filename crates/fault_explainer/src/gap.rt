@@ -2,10 +2,9 @@
 
 use crate::head::Head;
 use crate::names::Names;
-use crate::origin::last_switch;
 use crate::scene::Scene;
-use cfs_model::{Entry, Memory, NO_LINE};
-use sched_record::Record;
+use cfs_model::{Memory, NO_LINE};
+use recent_past::{Moment, RecentPast};
 use std::alloc::AllocError;
 use task_names::TraceText;
 
@@ -25,14 +24,14 @@ pub(crate) struct Gap {
 
 /// The first such line behind the last switch at a processor and before a line, among those that are looked at.
 pub(crate) fn gap_before<T: TraceText>(
-    record: &Record,
+    past: &RecentPast,
     cpu: u32,
     line: u32,
     runner: u32,
     names: &mut Names,
     trace: &mut T,
 ) -> Result<Option<Gap>, Memory> {
-    let switch = line_of_switch(record, cpu, line);
+    let switch = line_of_switch(past, cpu, line);
     let first = switch
         .saturating_add(1)
         .max(line.saturating_sub(MOST_HEADS));
@@ -60,9 +59,9 @@ pub(crate) fn gap_before<T: TraceText>(
 }
 
 /// The line of the last switch at a processor before another line; `NO_LINE` where there is none.
-fn line_of_switch(record: &Record, cpu: u32, line: u32) -> u32 {
-    match last_switch(record, cpu, line) {
-        Some(Entry { line, .. }) => line,
+fn line_of_switch(past: &RecentPast, cpu: u32, line: u32) -> u32 {
+    match past.switch_before(cpu, line) {
+        Some(Moment { line, .. }) => line,
         None => NO_LINE,
     }
 }

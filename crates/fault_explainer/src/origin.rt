@@ -1,6 +1,6 @@
 use crate::duration::Nanoseconds;
-use cfs_model::{Act, Claim, Entry, Knobs};
-use sched_record::Record;
+use cfs_model::{Act, Claim, Knobs};
+use recent_past::{Beside, Moment, Placing, RecentPast};
 use std::fmt;
 
 /// How a task came to where it runs or waits.
@@ -31,14 +31,6 @@ pub(crate) struct Spot {
     pub beside: Option<Beside>,
 }
 
-/// What lies beside the virtual runtime of a task that is placed, in virtual nanoseconds, signed.
-#[derive(Clone, Copy)]
-pub(crate) struct Beside {
-    /// The virtual runtime that the task had before, where it stood there.
-    pub own: Option<i64>,
-    pub floor: i64,
-}
-
 /// How a task came to where it runs or waits, and since when it does.
 #[derive(Clone, Copy)]
 pub(crate) struct Origin {
@@ -50,39 +42,33 @@ pub(crate) struct Origin {
 
 impl Origin {
     /// That of a task that stands there at the start.
-    pub(crate) fn at_start(record: &Record, pid: u32) -> Origin {
+    pub(crate) fn at_start(past: &RecentPast, pid: u32) -> Origin {
         Origin {
             pid,
             coming: Coming::Started,
-            since: record.start(),
+            since: past.start(),
         }
     }
 
     /// That of who runs at a processor before a line: the last switch there picked it.
-    pub(crate) fn of_runner(record: &Record, cpu: u32, line: u32, pid: u32) -> Origin {
-        match last_switch(record, cpu, line) {
-            Some(Entry { line, time, .. }) => Origin {
+    pub(crate) fn of_runner(past: &RecentPast, cpu: u32, line: u32, pid: u32) -> Origin {
+        match past.switch_before(cpu, line) {
+            Some(Moment { line, time }) => Origin {
                 pid,
                 coming: Coming::Picked { line },
                 since: time,
             },
-            None => Origin::at_start(record, pid),
+            None => Origin::at_start(past, pid),
         }
     }
 
-    /// That of a task which waits since this claim.
-    pub(crate) fn claimed(
-        record: &Record,
-        knobs: Knobs,
-        claim: Claim,
-        beside: Option<Beside>,
-    ) -> Option<Origin> {
-        let Entry { time, act, .. } = entry_on(record, claim.line)?;
-        Some(Origin {
-            pid: claim.pid,
-            coming: coming_by(act, knobs, claim, beside),
-            since: time,
-        })
+    /// That of a task which waits since it was placed so.
+    pub(crate) fn placed(past: &RecentPast, placing: &Placing) -> Origin {
+        Origin {
+            pid: placing.claim.pid,
+            coming: coming_by(placing, past.knobs()),
+            since: placing.time,
+        }
     }
 
     /// The line since which the task is there; none where it stands there at the start.
@@ -105,47 +91,22 @@ impl Origin {
     }
 }
 
-/// How a task came by an event that claims a virtual runtime of it.
-fn coming_by(act: Act, knobs: Knobs, claim: Claim, beside: Option<Beside>) -> Coming {
-    let Claim { line, v, .. } = claim;
+/// How a task came that was placed so.
+fn coming_by(placing: &Placing, knobs: Knobs) -> Coming {
+    let Claim { line, v, .. } = placing.claim;
+    let beside = placing.beside;
     let spot = |most| Spot {
         line,
         v,
         most,
         beside,
     };
-    match act {
+    match placing.act {
         Act::Switch { .. } => Coming::PutBack { line },
         Act::Shift { orig, .. } => Coming::Moved { line, orig },
         Act::Wake { .. } => Coming::Woken(spot(knobs.credit())),
         Act::Born { .. } => Coming::Born(spot(knobs.debit())),
     }
-}
-
-/// The event on a line, if there is one.
-pub(crate) fn entry_on(record: &Record, line: u32) -> Option<Entry> {
-    let events = record.events();
-    let index = events.partition_point(|event| event.line < line);
-    events
-        .get(index)
-        .filter(|event| event.line == line)
-        .copied()
-}
-
-/// The last switch at a processor before a line.
-pub(crate) fn last_switch(record: &Record, cpu: u32, line: u32) -> Option<Entry> {
-    let events = record.events();
-    let above = events.partition_point(|event| event.line < line);
-    let before = events.get(..above)?;
-    before
-        .iter()
-        .rev()
-        .find(|event| is_switch_at(event.act, cpu))
-        .copied()
-}
-
-fn is_switch_at(act: Act, processor: u32) -> bool {
-    matches!(act, Act::Switch { cpu, .. } if cpu == processor)
 }
 
 /// The words on an origin, and on how long that was ago.

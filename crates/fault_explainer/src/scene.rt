@@ -10,10 +10,9 @@ use crate::processor::Processor;
 use crate::processor_lines::{Telling, push_charge, push_floor, push_processor};
 use crate::told_charge::{ToldCharge, push_told_charge};
 use cfs_model::{Act, ChargeLine, IDLE_PID, Kind, Knobs, Memory};
-use pid_table::PidHasher;
+use recent_past::RecentPast;
 use replay_model::FirstFault;
 use runqueue::SchedEntity;
-use sched_record::Record;
 use std::alloc::{AllocError, Global};
 use task_names::TraceText;
 
@@ -39,25 +38,23 @@ impl Scene {
     /// As it is before the event.
     pub(crate) fn new(
         alloc: Global,
-        record: &Record,
-        knobs: Knobs,
+        past: &RecentPast,
         fault: FirstFault,
         event: Event,
-        hasher: PidHasher,
     ) -> Result<Scene, Memory> {
         let (here, there) = match event.ends() {
             Some((orig, dest)) if fault.kind != Kind::IdleTooLong => (orig, Some(dest)),
             _ => (fault.cpu, None),
         };
-        let here = Processor::before(alloc, record, knobs, here, fault.line, hasher)?;
+        let here = Processor::before(alloc, past, here, fault.line)?;
         let there = match there {
-            Some(cpu) => Some(Processor::before(alloc, record, knobs, cpu, fault.line, hasher)?),
+            Some(cpu) => Some(Processor::before(alloc, past, cpu, fault.line)?),
             None => None,
         };
         Ok(Scene {
             fault,
             event,
-            knobs,
+            knobs: past.knobs(),
             here,
             there,
             stood: None,
@@ -71,8 +68,7 @@ impl Scene {
     fn stood_before(
         &self,
         alloc: Global,
-        record: &Record,
-        hasher: PidHasher,
+        past: &RecentPast,
     ) -> Result<Option<(u32, SchedEntity)>, Memory> {
         let pid = self.fault.pid;
         let shown = self.here.place_of(pid);
@@ -83,12 +79,9 @@ impl Scene {
         if shown.is_some() {
             return Ok(shown);
         }
-        for cpu in 0..record.cpus() {
+        for cpu in 0..past.cpus() {
             if !self.shows(cpu) {
-                let line = self.fault.line;
-                let place = Processor::before(
-                    alloc, record, self.knobs, cpu, line, hasher,
-                )?.place_of(pid);
+                let place = Processor::before(alloc, past, cpu, self.fault.line)?.place_of(pid);
                 if place.is_some() {
                     return Ok(place);
                 }
@@ -106,26 +99,25 @@ impl Scene {
     pub(crate) fn recall<T: TraceText>(
         &mut self,
         alloc: Global,
-        record: &Record,
-        hasher: PidHasher,
+        past: &RecentPast,
         trace: &mut T,
     ) -> Result<(), Memory> {
         let line = self.fault.line;
         if lies_in_place(self.fault) {
-            self.stood = self.stood_before(alloc, record, hasher)?;
+            self.stood = self.stood_before(alloc, past)?;
         }
         self.names.read_line(trace, line)?;
-        recall_at(alloc, record, self.knobs, line, &mut self.here, hasher)?;
+        recall_at(alloc, past, line, &mut self.here)?;
         self.names
             .read_lines_of(trace, self.here.origins.as_slice())?;
         if let Some(there) = &mut self.there {
-            recall_at(alloc, record, self.knobs, line, there, hasher)?;
+            recall_at(alloc, past, line, there)?;
             self.names.read_lines_of(trace, there.origins.as_slice())?;
         }
         if hides_switch(self.fault.kind) {
             let runner = self.here.queue.runner().map_or(IDLE_PID, |task| task.pid);
             let (cpu, names) = (self.here.cpu, &mut self.names);
-            self.gap = gap_before(record, cpu, line, runner, names, trace)?;
+            self.gap = gap_before(past, cpu, line, runner, names, trace)?;
         }
         Ok(())
     }
@@ -237,13 +229,11 @@ impl Scene {
 /// How those came who are shown of a processor.
 fn recall_at(
     alloc: Global,
-    record: &Record,
-    knobs: Knobs,
+    past: &RecentPast,
     line: u32,
     processor: &mut Processor,
-    hasher: PidHasher,
 ) -> Result<(), Memory> {
-    processor.origins = origins(alloc, record, knobs, processor, line, hasher)?;
+    processor.origins = origins(alloc, past, processor, line)?;
     Ok(())
 }
 

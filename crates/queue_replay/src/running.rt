@@ -1,4 +1,6 @@
-ghost use Rattle.std.specs.Prelude.{◌≡◌, ◌+◌, ◌^◌, ◌<◌, ◌≤◌, true, false, None, IsSome, ◌⊎◌, length, OnOk, OnErr, IfOk};
+ghost use Rattle.std.specs.Prelude.{◌≡◌, ◌+◌, ◌^◌, ◌<◌, ◌≤◌, [], true, false, None, IsSome, ◌⊎◌, length, OnOk, OnErr};
+ghost use Rattle.std.specs.Prelude.{IfOk};
+ghost use Rattle.cfs_model.specs.Limits.{no_line};
 ghost use Rattle.replay_model.specs.Cut.{StreamView};
 ghost use Rattle.queue_replay.specs.Windowed.{GoesThrough, StopsWithin, windowed_by};
 ghost use Rattle.cfs_model.specs.Least.{larger};
@@ -178,11 +180,34 @@ pub(crate) fn before_steps(
         stream.floor(),
         stream.start(),
     )?;
-    Ok(ReplayState {
+    let since = since_after(None, stream.start(), &queue);
+    let tallies = TallyBook::of_tasks(alloc, hasher, stream.tasks())?;
+    Ok(state_before(alloc, queue, since, tallies))
+}
+
+/// The state before any step, of who stands at the processor, since when it has idled beside a waiting task, in
+/// nanoseconds, and what the tasks did by then.
+pub(crate) fn state_before(
+    alloc: Global,
+    queue: Runqueue,
+    since: Option<u64>,
+    tallies: TallyBook,
+) -> ReplayState
+    ensures made { result.made ≡ 0 }
+    ensures part { runqueue_view result.queue ≡ runqueue_view queue }
+    ensures since { result.since ≡ since }
+    ensures needs { result.needs ≡ only_slack 0 }
+    ensures fault { result.draft.fault ≡ None }
+    ensures line { result.draft.line ≡ no_line }
+    ensures lists { (result.draft.left.items ≡ []) × (result.draft.came.items ≡ []) × (result.draft.births.items ≡ [])
+        × (result.draft.deaths.items ≡ []) }
+    ensures tallies { result.draft.tallies ≡ tallies }
+{
+    ReplayState {
         made: 0,
-        since: since_after(None, stream.start(), &queue),
-        needs: Amounts::none(),
         queue,
+        since,
+        needs: Amounts::none(),
         draft: PageDraft {
             line: NO_LINE,
             fault: None,
@@ -190,7 +215,7 @@ pub(crate) fn before_steps(
             came: Vec::new(alloc),
             births: Vec::new(alloc),
             deaths: Vec::new(alloc),
-            tallies: TallyBook::of_tasks(alloc, hasher, stream.tasks())?,
+            tallies,
         },
-    })
+    }
 }

@@ -2,7 +2,8 @@ ghost use Rattle.std.specs.Prelude.{◌≡◌, None};
 ghost use Rattle.queue_replay.specs.ReplayState.{IsGoing};
 
 use crate::replay_state::ReplayState;
-use crate::running::{before_steps, end_window, go_through};
+use crate::running::{before_steps, end_window, go_through, state_before};
+use crate::tally_book::TallyBook;
 use cfs_model::{Amounts, Knobs, Memory};
 use pid_table::PidHasher;
 use processor_stream::Stream;
@@ -46,6 +47,31 @@ impl WindowedReplay {
             knobs,
             state: before_steps(alloc, stream, hasher)?,
         })
+    }
+
+    /// The replay of a processor that goes on from where its runqueue stands, and since when the processor has idled
+    /// beside a waiting task, in nanoseconds. It is before its first step: of what was before that it has no tallies.
+    pub fn of_runqueue(
+        alloc: Global,
+        cpu: u32,
+        knobs: Knobs,
+        queue: Runqueue,
+        since: Option<u64>,
+        hasher: PidHasher,
+    ) -> WindowedReplay
+        ensures cpu { (windowed_view result).cpu ≡ cpu }
+        ensures knobs { (windowed_view result).knobs ≡ knobs }
+        ensures made { (windowed_view result).made ≡ 0 }
+        ensures part { (windowed_view result).state.part ≡ runqueue_view queue }
+        ensures since { (windowed_view result).state.since ≡ since }
+        ensures fault { (windowed_view result).state.page.fault ≡ None }
+    {
+        let tallies = TallyBook::new(alloc, hasher);
+        WindowedReplay {
+            cpu,
+            knobs,
+            state: state_before(alloc, queue, since, tallies),
+        }
     }
 
     /// Makes these steps, in their order, up to the first that fails. A step that wants memory isn't made, and none
@@ -145,5 +171,20 @@ impl WindowedReplay {
         ensures { runqueue_view result.now ≡ (windowed_view self.now).state.part }
     {
         &self.state.queue
+    }
+    /// The same, where the replay ends there.
+    pub fn into_runqueue(self) -> Runqueue
+        ensures { runqueue_view result ≡ (windowed_view self).state.part }
+    {
+        let WindowedReplay { state, .. } = self;
+        let ReplayState { queue, .. } = state;
+        queue
+    }
+
+    /// Since when nothing has run at the processor while somebody waited, in nanoseconds; if that is so.
+    pub fn idled_since(&self) -> Option<u64>
+        ensures { result ≡ (windowed_view self.now).state.since }
+    {
+        self.state.since
     }
 }

@@ -49,15 +49,23 @@ pub fn run_request<R: RandomSource + Threads + Wait + Sync, T: Feed, C: Feed, S:
         (true, _, false) => run_least(rt, alloc, trace, companion, gate, out),
         (false, true, true) => run_counted_waits(rt, alloc, trace, companion, knobs, gate, out),
         (false, true, false) => {
-            run_counted_in_blocks(rt, alloc, trace, companion, knobs, sizes(rt), out)
+            run_counted_in_blocks(rt, alloc, trace, companion, knobs, block_sizes(rt), out)
         }
         (false, false, true) => run_waits(rt, alloc, trace, companion, knobs, gate, out),
-        (false, false, false) => run_in_blocks(rt, alloc, trace, companion, knobs, sizes(rt), out),
+        (false, false, false) => run_in_blocks(
+            rt,
+            alloc,
+            trace,
+            companion,
+            knobs,
+            block_sizes(rt),
+            out,
+        ),
     }
 }
 
-/// How much of a recording is looked at at once.
-fn sizes<R: Threads>(rt: &R) -> Sizes {
+/// How much of a recording is looked at at once where both inputs are read a block at a time.
+pub fn block_sizes<R: Threads>(rt: &R) -> Sizes {
     let block = match thread::available_parallelism(rt) {
         Ok(cores) if cores.get() > 1 => BLOCK_OF_THREADS,
         _ => BLOCK,

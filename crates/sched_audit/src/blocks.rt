@@ -10,6 +10,7 @@ ghost use Rattle.ticket_book.specs.Verdict.{IsVerdict};
 
 use crate::{Counted, Fault, Feed, Outcome, Sink, Sizes, Status, Verdict, write_report};
 use cfs_model::Knobs;
+use recent_past::RecentPast;
 use std::alloc::Global;
 use std::random::RandomSource;
 use std::thread::Threads;
@@ -37,9 +38,10 @@ pub fn run_in_blocks<R: RandomSource + Threads + Sync, T: Feed, C: Feed, S: Sink
         (C.has_failed companion.new) (C.has_ended companion.new))
         (output_of (S.taken out.old) (S.taken out.new) (S.has_failed out.new)) result }
 {
-    let heard = judge_stream(rt, alloc, trace, companion, knobs, sizes)?;
+    let mut past = RecentPast::unkept(alloc);
+    let heard = judge_stream(rt, alloc, trace, companion, knobs, sizes, &mut past)?;
     let tells_charges = heard.tells_charges;
-    let outcome = judged(heard.outcome);
+    let outcome = streamed_outcome(heard.outcome);
     write_report(alloc, &outcome, tells_charges, out)
 }
 
@@ -62,14 +64,15 @@ pub fn run_counted_in_blocks<R: RandomSource + Threads + Sync, T: Feed, C: Feed,
         (C.has_failed companion.new) (C.has_ended companion.new))
         (output_of (S.taken out.old) (S.taken out.new) (S.has_failed out.new)) result }
 {
-    let heard = judge_stream(rt, alloc, trace, companion, knobs, sizes)?;
+    let mut past = RecentPast::unkept(alloc);
+    let heard = judge_stream(rt, alloc, trace, companion, knobs, sizes, &mut past)?;
     let tells_charges = heard.tells_charges;
-    let outcome = counted(heard.outcome);
+    let outcome = streamed_counts(heard.outcome);
     write_report(alloc, &outcome, tells_charges, out)
 }
 
-/// What two inputs came to, for a report.
-fn judged(outcome: StreamOutcome) -> Outcome
+/// What two inputs of any length came to, for a report.
+pub fn streamed_outcome(outcome: StreamOutcome) -> Outcome
     ensures { (knobs : KnobsView) (trace companion : List ℕ) → IsOutcome knobs trace companion outcome
         → OutcomeAnswer (IsVerdict knobs) trace companion result }
 {
@@ -88,11 +91,11 @@ fn judged(outcome: StreamOutcome) -> Outcome
 }
 
 /// The same, for a report of the counts alone.
-fn counted(outcome: StreamOutcome) -> Outcome<Counted>
+pub fn streamed_counts(outcome: StreamOutcome) -> Outcome<Counted>
     ensures { (knobs : KnobsView) (trace companion : List ℕ) → IsOutcome knobs trace companion outcome
         → OutcomeAnswer (IsCounted knobs) trace companion result }
 {
-    match judged(outcome) {
+    match streamed_outcome(outcome) {
         Outcome::Judged(verdict) => Outcome::Judged(Counted { verdict }),
         Outcome::Text {
             source,

@@ -9,7 +9,7 @@ mod hearing;
 mod judging;
 mod waits;
 
-pub use asked::run_request;
+pub use asked::{block_sizes, run_request};
 pub use audit_crew::{Gate, OpenGate};
 pub use audit_input::{Cause, Failed, Fault, Feed, FeedOf, Refused, Source};
 pub use audit_report::{
@@ -17,7 +17,7 @@ pub use audit_report::{
     write_report,
 };
 pub use audit_request::{Color, Request, command_line};
-pub use blocks::{run_counted_in_blocks, run_in_blocks};
+pub use blocks::{run_counted_in_blocks, run_in_blocks, streamed_counts, streamed_outcome};
 pub use counts::run_counted;
 pub use headline::{audit_texts, least_texts, run, run_least};
 pub use hearing::{Hearing, Kept};

@@ -1,5 +1,6 @@
-use crate::explaining::{answer_kept, answer_kept_json};
 use crate::json_report::answer_json;
+use crate::keeping::{answer_kept, answer_kept_json};
+use crate::streaming::answer_explained;
 use audit_command::{
     Answer, Ending, Failure, FrontOf, Inputs, Lengths, Terminals, filled_input, open_inputs, tell,
     words_of,
@@ -52,6 +53,9 @@ fn answer<R: Files + Print + Eprint + RandomSource + Threads + Wait + Sync>(
     if !request.explain && request.states.is_none() {
         return Ok(answer_alone(rt, alloc, request, trace, companion, lengths)?);
     }
+    if !keeps_record(request) {
+        return answer_explained(rt, alloc, request, trace, companion, lengths);
+    }
     match (request.least, request.summary) {
         (true, _) => answer_kept_as::<LeastFigures, R>(
             rt, alloc, request, trace, companion, lengths,
@@ -63,6 +67,11 @@ fn answer<R: Files + Print + Eprint + RandomSource + Threads + Wait + Sync>(
             rt, alloc, request, trace, companion, lengths,
         ),
     }
+}
+
+/// Whether what is asked for wants the record, beside an explanation.
+fn keeps_record(request: &Request<'_>) -> bool {
+    request.least || request.waits || request.states.is_some()
 }
 
 /// Answers a request with the record kept, and with the waits of its tasks where they are asked for.

@@ -1,4 +1,4 @@
-use crate::trace_again::TraceAgain;
+use crate::text_again::TextAgain;
 use audit_input::{Feed, KeepingFeed};
 use cfs_model::Memory;
 use json_audit::TaskNaming;
@@ -29,11 +29,11 @@ impl<R: Files, F: Feed> TaskNaming<KeepingFeed<F>> for FaultNaming<'_, R> {
         fault: FirstFault,
         trace: &KeepingFeed<F>,
     ) -> Result<Option<Vec<u8>>, Memory> {
-        let mut again = TraceAgain {
+        let mut again = TextAgain {
             rt: self.rt,
             alloc: self.alloc,
             name: self.trace,
-            trace,
+            text: trace,
         };
         task_name(self.alloc, joined, fault.pid, fault.line, &mut again)
     }

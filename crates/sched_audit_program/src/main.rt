@@ -6,8 +6,10 @@ mod command;
 mod explaining;
 mod fault_naming;
 mod json_report;
+mod keeping;
 mod states;
-mod trace_again;
+mod streaming;
+mod text_again;
 
 use audit_command::Terminals;
 use std::io::IsTerminal;

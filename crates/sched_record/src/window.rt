@@ -37,7 +37,7 @@ impl Window {
     ghost use Rattle.cfs_model.specs.Claimed.{Claimed};
     ghost use Rattle.replay_model.specs.Cut.{steps_at};
     ghost use Rattle.replay_model.specs.StepAt.{step_at as step_here};
-    ghost use Rattle.sched_record.specs.Window.{said_of, window_view};
+    ghost use Rattle.sched_record.specs.Window.{said_beside, said_of, window_view};
 
     /// A window without events.
     pub fn new(alloc: Global) -> Window
@@ -93,6 +93,13 @@ impl Window {
         ensures { result.now ≡ map (λ event. event.entry) (window_view self.now) }
     {
         &self.events
+    }
+
+    /// What is said on their lines, in the same order.
+    pub fn sayings(&self) -> &[Saying]
+        ensures { said_beside (map (λ event. event.entry) (window_view self.now)) result.now ≡ window_view self.now }
+    {
+        &self.sayings
     }
 
     /// The steps of the events that touch a processor, in place of what the list held.

@@ -1,5 +1,6 @@
 use crate::stopwatch::Stopwatch;
 use cfs_model::Knobs;
+use recent_past::RecentPast;
 use sched_audit::{FeedOf, Sizes, Verdict};
 use std::fs::File;
 use std::io;
@@ -18,7 +19,16 @@ pub fn print_streamed<R: AllocGlobal + Clock + Files + Print + RandomSource + Th
     let mut watch = Stopwatch::start(rt)?;
     let trace = &mut FeedOf::new(File::open(rt, trace)?);
     let companion = &mut FeedOf::new(File::open(rt, companion)?);
-    let heard = judge_stream(rt, rt.alloc(), trace, companion, Knobs::standard(), sizes);
+    let past = &mut RecentPast::unkept(rt.alloc());
+    let heard = judge_stream(
+        rt,
+        rt.alloc(),
+        trace,
+        companion,
+        Knobs::standard(),
+        sizes,
+        past,
+    );
     watch.print_lap(rt)?;
     match heard {
         Ok(hearing) => match hearing.outcome {

@@ -18,6 +18,7 @@ use audit_input::{Fault, Feed};
 use cfs_model::{Entry, Knobs, Memory};
 use companion_file::CompanionFault;
 use pid_table::PidHasher;
+use recent_past::RecentPast;
 use std::alloc::Global;
 use std::thread::Threads;
 
@@ -77,13 +78,15 @@ impl Course {
             .read_past(companion, events[events.len() - 1].line)
     }
 
-    /// Goes on by the next events of the trace, at most so many at once. The companion was read past them.
+    /// Goes on by the next events of the trace, at most so many at once. The companion was read past them. The recent
+    /// past takes them, if it keeps events.
     pub fn go_through<R: Threads + Sync>(
         &mut self,
         rt: &R,
         alloc: Global,
         events: &[Entry],
         most: usize,
+        past: &mut RecentPast,
     ) -> Result<(), Memory>
         requires some { 0 < most }
         requires ready { (gave : Option (List ℕ)) × (left : Option (List ℕ)) × (before : List Event)
@@ -99,7 +102,7 @@ impl Course {
         let mut from = 0;
         while from < events.len() {
             let end = from + most.min(events.len() - from);
-            self.go_on(rt, alloc, &events[from..end])?;
+            self.go_on(rt, alloc, &events[from..end], past)?;
             from = end;
         }
         Ok(())
@@ -111,6 +114,7 @@ impl Course {
         rt: &R,
         alloc: Global,
         events: &[Entry],
+        past: &mut RecentPast,
     ) -> Result<(), Memory>
         requires some { events.now ≢ [] }
         requires next { (gave : Option (List ℕ)) × (left : Option (List ℕ)) × (said : Said) × (before : List Event)
@@ -129,7 +133,7 @@ impl Course {
             → IsFedBy calls has_ended has_failed self.old.companion
             → IsFedBy calls has_ended has_failed self.new.companion }
     {
-        self.audit(rt, alloc, events)?;
+        self.audit(rt, alloc, events, past)?;
         let line = events[events.len() - 1].line;
         self.companion.reader.forget_through(line);
         Ok(())
@@ -141,6 +145,7 @@ impl Course {
         rt: &R,
         alloc: Global,
         events: &[Entry],
+        past: &mut RecentPast,
     ) -> Result<(), Memory>
         requires some { events.now ≢ [] }
         requires next { (gave : Option (List ℕ)) × (left : Option (List ℕ)) × (said : Said) × (before : List Event)
@@ -160,7 +165,15 @@ impl Course {
         }
         if let Some(audit) = &mut self.audit {
             let claims = reader.claims();
-            audit.go_through(rt, alloc, events, claims, reader.nices(), reader.charges())?;
+            audit.go_through(
+                rt,
+                alloc,
+                events,
+                claims,
+                reader.nices(),
+                reader.charges(),
+                past,
+            )?;
         }
         Ok(())
     }

@@ -14,6 +14,7 @@ use crate::{Ending, Progress};
 use cfs_model::{ChargeLine, Claim, Entry, Knobs, Memory, NiceLine};
 use companion_file::Companion;
 use pid_table::PidHasher;
+use recent_past::RecentPast;
 use sched_record::Window;
 use std::alloc::Global;
 use std::thread::Threads;
@@ -55,7 +56,7 @@ impl JoinedAudit {
     }
 
     /// Goes on by the next events, of which there is one at least, and by what is held of what the companion says of
-    /// their lines.
+    /// their lines. The recent past takes them, if it keeps events.
     pub fn go_through<R: Threads + Sync>(
         &mut self,
         rt: &R,
@@ -64,6 +65,7 @@ impl JoinedAudit {
         claims: &[Claim],
         nices: &[NiceLine],
         charges: &[ChargeLine],
+        past: &mut RecentPast,
     ) -> Result<(), Memory>
         requires some { events.now ≢ [] }
         requires comes { (c : CompanionView) × (before : List Event)
@@ -74,7 +76,7 @@ impl JoinedAudit {
     {
         together();
         self.join(events, claims, nices, charges)?;
-        Ok(self.judge(rt, alloc)?)
+        Ok(self.judge(rt, alloc, past)?)
     }
 
     /// Joins events.
@@ -103,7 +105,12 @@ impl JoinedAudit {
     }
 
     /// Goes through the window, where nothing was refused, and empties it.
-    fn judge<R: Threads + Sync>(&mut self, rt: &R, alloc: Global) -> Result<(), Memory>
+    fn judge<R: Threads + Sync>(
+        &mut self,
+        rt: &R,
+        alloc: Global,
+        past: &mut RecentPast,
+    ) -> Result<(), Memory>
         requires some { window_view self.old.window ≢ [] }
         requires next { is_refused self.old.joining ≡ false → (of : Beginning) × (so_far : List Claimed)
             × IsNext of so_far (window_view self.old.window) self.old.progress }
@@ -116,7 +123,10 @@ impl JoinedAudit {
             → OnOk result (IsKnownOf of (so_far ++ window_view self.old.window) self.new.progress) }
     {
         if !self.joining.is_refused() {
+            self.progress.begin_past(alloc, &self.start, past)?;
             self.progress.judge(rt, alloc, &self.window)?;
+            self.progress
+                .fill_past(alloc, &self.start, &mut self.window, past)?;
         }
         self.window.clear();
         Ok(())

@@ -16,6 +16,7 @@ use audit_input::{Fault, Feed, Refused};
 use cfs_model::{Knobs, Memory};
 use entry_reader::EntryReader;
 use pid_table::PidHasher;
+use recent_past::RecentPast;
 use sched_record::one_trace_answer;
 use std::alloc::Global;
 use std::random::RandomSource;
@@ -23,7 +24,8 @@ use std::thread::Threads;
 
 /// Judges two inputs of any length, which are read a block at a time. Of the trace a block is held, the events of the
 /// block before, and a row for each task at each processor where it ever stood; of the companion a block, the start,
-/// the `idle` lines, and what is said ahead of the trace. A fault of the trace is told before one of the companion.
+/// the `idle` lines, and what is said ahead of the trace. A fault of the trace is told before one of the companion. The
+/// recent past takes the last events up to the first fault, if it keeps events.
 pub fn judge_stream<R: RandomSource + Threads + Sync, T: Feed, C: Feed>(
     rt: &R,
     alloc: Global,
@@ -31,6 +33,7 @@ pub fn judge_stream<R: RandomSource + Threads + Sync, T: Feed, C: Feed>(
     companion: &mut C,
     knobs: Knobs,
     sizes: Sizes,
+    past: &mut RecentPast,
 ) -> Result<Hearing, Fault>
     // No read was made yet.
     requires trace { T.calls trace.old ≡ 0 }
@@ -43,7 +46,7 @@ pub fn judge_stream<R: RandomSource + Threads + Sync, T: Feed, C: Feed>(
     ensures unwritten { IfErr result (λ fault. fault ≢ Fault.Write) }
 {
     let mut listener = Listener::new(alloc, knobs, sizes, PidHasher::random(rt));
-    hear(rt, alloc, trace, companion, &mut listener)
+    hear(rt, alloc, trace, companion, &mut listener, past)
 }
 
 /// Hears two inputs to their ends, and tells what they came to.
@@ -53,6 +56,7 @@ fn hear<R: Threads + Sync, T: Feed, C: Feed>(
     trace: &mut T,
     companion: &mut C,
     listener: &mut Listener,
+    past: &mut RecentPast,
 ) -> Result<Hearing, Fault>
     requires trace { T.calls trace.old ≡ 0 }
     requires companion { C.calls companion.old ≡ 0 }
@@ -69,9 +73,9 @@ fn hear<R: Threads + Sync, T: Feed, C: Feed>(
 {
     let mut goes_on = listener.begin(trace)?;
     while goes_on {
-        goes_on = listener.go_on(rt, alloc, trace, companion)?;
+        goes_on = listener.go_on(rt, alloc, trace, companion, past)?;
     }
-    listener.read_rest(rt, alloc, companion)?;
+    listener.read_rest(rt, alloc, companion, past)?;
     Ok(hearing_of(alloc, &listener.reader, &mut listener.course)?)
 }
 

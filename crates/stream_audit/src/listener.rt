@@ -18,6 +18,7 @@ use cfs_model::{Entry, Knobs, Memory};
 use entry_reader::EntryReader;
 use input_blocks::LineBlocks;
 use pid_table::PidHasher;
+use recent_past::RecentPast;
 use std::alloc::Global;
 use std::thread::{Threads, join_mut};
 
@@ -85,6 +86,7 @@ impl Listener {
         alloc: Global,
         trace: &mut T,
         companion: &mut C,
+        past: &mut RecentPast,
     ) -> Result<bool, Fault>
         requires under_way { (knobs : KnobsView) × (trace_gave : Option (List ℕ)) × (gave : Option (List ℕ))
             × IsUnderWay knobs trace_gave (T.left trace.old) gave (C.left companion.old) self.old true }
@@ -119,6 +121,7 @@ impl Listener {
             &mut self.course,
             &self.events,
             self.most,
+            past,
             &mut self.blocks,
             trace,
             &mut self.reader,
@@ -134,6 +137,7 @@ impl Listener {
         rt: &R,
         alloc: Global,
         companion: &mut C,
+        past: &mut RecentPast,
     ) -> Result<(), Fault>
         requires heard { (knobs : KnobsView) × (gave : Option (List ℕ)) × (bytes : List ℕ)
             × IsHeard knobs gave (C.left companion.old) bytes self.old.reader self.old.course }
@@ -156,7 +160,8 @@ impl Listener {
             &mut self.course,
             companion,
         )?;
-        self.course.go_through(rt, alloc, &self.events, self.most)?;
+        self.course
+            .go_through(rt, alloc, &self.events, self.most, past)?;
         self.course.read_rest(companion)
     }
 }
@@ -169,6 +174,7 @@ fn audit_and_read<R: Threads + Sync, T: Feed>(
     course: &mut Course,
     events: &[Entry],
     most: usize,
+    past: &mut RecentPast,
     blocks: &mut LineBlocks,
     trace: &mut T,
     reader: &mut EntryReader,
@@ -210,7 +216,7 @@ fn audit_and_read<R: Threads + Sync, T: Feed>(
             ensures fed { (calls : ℕ) (has_ended : Bool) (has_failed : Bool)
                 → IsFedBy calls has_ended has_failed course.entry.now.companion
                 → OnOk result (IsFedBy calls has_ended has_failed course.exit.now.companion) }
-        { course.go_through(rt, alloc, events, most) },
+        { course.go_through(rt, alloc, events, most, past) },
         &mut || blocks.next(trace, reader, Fault::ReadTrace),
     )
 }

@@ -8,10 +8,13 @@ ghost use Rattle.window_audit.specs.Audit.{Beginning};
 ghost use Rattle.stream_audit.specs.Progress.{IsEnd, IsKnownOf, IsNext};
 
 use cfs_model::Memory;
+use companion_file::Companion;
+use queue_replay::WindowedReplay;
+use recent_past::RecentPast;
 use replay_laws::first_faults;
 use replay_model::FirstFault;
 use sched_record::Window;
-use std::alloc::Global;
+use std::alloc::{AllocError, Global};
 use std::thread::Threads;
 use ticket_book::Verdict;
 use window_audit::WindowAudit;
@@ -53,6 +56,41 @@ impl Progress {
         }
     }
 
+    /// Before the first window a past that keeps events is told where the replays stand, by the start of this
+    /// companion.
+    pub(crate) fn begin_past(
+        &self,
+        alloc: Global,
+        start: &Companion,
+        past: &mut RecentPast,
+    ) -> Result<(), Memory> {
+        match self {
+            Progress::Running(audit) if past.goes_on() => {
+                let replays = replays_of(alloc, audit, start.cpus())?;
+                past.begin(start, replays.as_slice())
+            }
+            _ => Ok(()),
+        }
+    }
+
+    /// A past that keeps events takes a window, once that was judged.
+    pub(crate) fn fill_past(
+        &self,
+        alloc: Global,
+        start: &Companion,
+        window: &mut Window,
+        past: &mut RecentPast,
+    ) -> Result<(), Memory> {
+        match self {
+            Progress::Running(audit) if past.goes_on() => {
+                let replays = replays_of(alloc, audit, start.cpus())?;
+                past.take_window(replays.as_slice(), window)
+            }
+            Progress::Running(_) => Ok(()),
+            Progress::Told(fault) => past.take_last(start, window, *fault),
+        }
+    }
+
     /// The verdict on the record whose events these are.
     pub fn finish(self, alloc: Global) -> Result<Verdict, Memory>
         requires { (knobs : KnobsView) × (r : RecordView) × IsEnd knobs r self }
@@ -64,4 +102,19 @@ impl Progress {
             Progress::Told(fault) => Ok(Verdict::Fault(fault)),
         }
     }
+}
+
+/// The replays of so many processors.
+fn replays_of(
+    alloc: Global,
+    audit: &WindowAudit,
+    cpus: u32,
+) -> Result<Vec<&WindowedReplay>, AllocError> {
+    let mut replays = Vec::new(alloc);
+    for cpu in 0..cpus {
+        if let Some(replay) = audit.replay(cpu) {
+            replays.push(replay)?;
+        }
+    }
+    Ok(replays)
 }

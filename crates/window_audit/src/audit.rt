@@ -6,6 +6,7 @@ use crate::members::{forget_all, go_through_all, members_of, want_memory};
 use cfs_model::{Knobs, Memory};
 use companion_file::Companion;
 use pid_table::PidHasher;
+use queue_replay::WindowedReplay;
 use replay_model::FirstFault;
 use sched_record::Window;
 use std::alloc::Global;
@@ -76,6 +77,12 @@ impl WindowAudit {
             forget_all(&mut self.members);
         }
         Ok(told)
+    }
+
+    /// A processor's replay, where there is one.
+    pub fn replay(&self, cpu: u32) -> Option<&WindowedReplay> {
+        let member = self.members.get(cpu as usize)?;
+        Some(&member.replay)
     }
 
     /// The summary of the run that all events are, where nothing was told of any window.

@@ -8,9 +8,9 @@ returns g c =
     let hearing = c.in_ok-heard.heard in
     let heard = c.in_ok-heard.ensures in
     let written = c.write_report.ensures in
-    let outcome = c.judged-outcome.result in
+    let outcome = c.streamed_outcome-outcome.result in
     let is_outcome = outcome_heard (IsVerdict c.args.knobs) c.args.knobs _ _ hearing outcome
-    (c.judged-outcome.ensures c.args.knobs) heard.outcome in
+    (c.streamed_outcome-outcome.ensures c.args.knobs) heard.outcome in
     record {
       answered = answered_as _ _ _ c.write_report.result outcome hearing.tells_charges is_outcome written.whole
           written.status;

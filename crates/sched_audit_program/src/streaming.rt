@@ -1,0 +1,91 @@
+//! The report of an audit that keeps no record, and behind it why that is a fault, or which line is refused and why.
+ghost use Rattle.std.specs.Prelude.{◌≡◌};
+
+use crate::explaining::{Texts, explain};
+use audit_command::{Answer, Failure, FrontOf, Lengths, kept_input};
+use audit_input::KeepingFeed;
+use given_texts::Input;
+use pid_table::PidHasher;
+use recent_past::RecentPast;
+use sched_audit::{
+    Feed, Judgement, Outcome, Request, SinkOf, Status, block_sizes, streamed_counts,
+    streamed_outcome, write_report,
+};
+use std::alloc::Global;
+use std::io;
+use std::random::RandomSource;
+use std::rt::Files;
+use std::thread::Threads;
+use stream_audit::judge_stream;
+
+/// Judges both inputs, a block at a time, writes the report, and explains it.
+pub(crate) fn answer_explained<R: Files + Print + Eprint + RandomSource + Threads + Sync>(
+    rt: &R,
+    alloc: Global,
+    request: &Request<'_>,
+    trace: Input<R::File>,
+    companion: Input<R::File>,
+    lengths: Lengths,
+) -> Result<Answer, Failure> {
+    let mut trace = kept_input(rt, alloc, trace, lengths.trace, true);
+    let mut companion = kept_input(rt, alloc, companion, lengths.companion, true);
+    explained_of(rt, alloc, request, &mut trace, &mut companion)
+}
+
+/// The same, of inputs of which nothing was read.
+fn explained_of<'a, R: Files + Print + RandomSource + Threads + Sync, F: Feed, C: Feed>(
+    rt: &'a R,
+    alloc: Global,
+    request: &'a Request<'a>,
+    trace: &'a mut KeepingFeed<F>,
+    companion: &'a mut KeepingFeed<C>,
+) -> Result<Answer, Failure>
+    requires trace { ⟦<KeepingFeed<F> as Feed>⟧.calls trace.old ≡ 0 }
+    requires companion { ⟦<KeepingFeed<C> as Feed>⟧.calls companion.old ≡ 0 }
+{
+    let mut past = RecentPast::new(alloc, request.knobs, PidHasher::random(rt));
+    let sizes = block_sizes(rt);
+    let heard = judge_stream(rt, alloc, trace, companion, request.knobs, sizes, &mut past)?;
+    let mut texts = Texts::of(rt, alloc, request, trace, companion);
+    let tells_charges = heard.tells_charges;
+    if request.summary {
+        let outcome = streamed_counts(heard.outcome);
+        return write_explained(
+            rt,
+            alloc,
+            request,
+            &outcome,
+            tells_charges,
+            &past,
+            &mut texts,
+        );
+    }
+    let outcome = streamed_outcome(heard.outcome);
+    write_explained(
+        rt,
+        alloc,
+        request,
+        &outcome,
+        tells_charges,
+        &past,
+        &mut texts,
+    )
+}
+
+/// Writes the report, and an explanation behind it.
+fn write_explained<J: Judgement, R: Files + Print, F: Feed, C: Feed>(
+    rt: &R,
+    alloc: Global,
+    request: &Request<'_>,
+    outcome: &Outcome<J>,
+    tells_charges: bool,
+    past: &RecentPast,
+    texts: &mut Texts<'_, R, F, C>,
+) -> Result<Answer, Failure> {
+    let mut out = FrontOf::new(SinkOf::new(io::writer(rt)));
+    let status = write_report(alloc, outcome, tells_charges, &mut out)?;
+    if status != Status::Yes {
+        explain(rt, alloc, request, outcome, past, texts)?;
+    }
+    Ok(out.answer(status))
+}

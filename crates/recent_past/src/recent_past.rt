@@ -139,23 +139,36 @@ impl RecentPast {
         Ok(gone.windows.pop())
     }
 
-    /// Notes how those were placed in the earlier segment who wait since.
+    /// Notes how those were placed who wait since before the latest segment, and of nobody else.
     fn note_placings(&mut self, standings: &[Standing]) -> Result<(), Memory> {
         let mut pending = Pending::new(self.alloc, self.hasher);
         push_waiting(standings, &mut pending)?;
         self.latest.seek(u32::MAX, &mut pending)?;
         if pending.is_over() {
+            self.placings = PidTable::new(self.alloc, self.hasher);
             return Ok(());
         }
         pending.found.clear();
         self.earlier.seek(u32::MAX, &mut pending)?;
+        self.keep_placings(&pending.missing(self.alloc)?)?;
         for cpu in 0..self.cpus {
             self.note_placings_at(cpu, pending.found.as_slice())?;
         }
         Ok(())
     }
 
-    /// The same of those who were placed at one processor; the last comes first.
+    /// Keeps what is noted of these tasks, and lets go the rest.
+    fn keep_placings(&mut self, pids: &[u32]) -> Result<(), AllocError> {
+        let noted = mem::replace(&mut self.placings, PidTable::new(self.alloc, self.hasher));
+        for pid in pids {
+            if let Some(index) = noted.index_of(*pid) {
+                self.note_placing(noted.rows()[index])?;
+            }
+        }
+        Ok(())
+    }
+
+    /// Notes how tasks were placed at one processor in the earlier segment, of which the last comes first.
     fn note_placings_at(&mut self, cpu: u32, found: &[Placing]) -> Result<(), Memory> {
         if !found.iter().any(|placing| placing.cpu() == cpu) {
             return Ok(());

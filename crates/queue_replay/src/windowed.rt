@@ -65,6 +65,9 @@ impl WindowedReplay {
         ensures part { (windowed_view result).state.part ≡ runqueue_view queue }
         ensures since { (windowed_view result).state.since ≡ since }
         ensures fault { (windowed_view result).state.page.fault ≡ None }
+        ensures needs { (windowed_view result).needs ≡ only_slack 0 }
+        ensures lists { let page = (windowed_view result).state.page in (page.left ≡ []) × (page.came ≡ [])
+            × (page.births ≡ []) × (page.deaths ≡ []) × (page.tallies ≡ []) }
     {
         let tallies = TallyBook::new(alloc, hasher);
         WindowedReplay {

@@ -11,8 +11,8 @@ use sched_record::{Saying, Window};
 use std::alloc::{AllocError, Global};
 use std::mem;
 
-/// So many times as many events as tasks that ever stood at a processor are kept at least, so that it costs little to
-/// look at all of these once for them.
+/// For so many tasks that ever stood at a processor a segment has an event at least, so that it costs little to look at
+/// all of these once for it.
 const TASKS_AN_EVENT: usize = 4;
 
 /// The last events of a record that comes in windows, in two segments, and how the processors stood before each. Of

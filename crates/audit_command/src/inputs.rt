@@ -4,7 +4,7 @@ use crate::failure::Failure;
 use crate::full_feed::FullFeed;
 use crate::progress::{Lengths, Size, WatchedFeed};
 use crate::terminals::Terminals;
-use audit_input::{Fault, Feed, FeedOf, KeepingFeed};
+use audit_input::{Fault, Feed, FeedOf, Keeping, KeepingFeed};
 use audit_request::Request;
 use given_texts::{Input, StandardInput, is_output, open_input};
 use std::alloc::Global;
@@ -72,16 +72,20 @@ pub fn filled_input<'a, R: Eprint, F: Read + Drop>(
     FullFeed::new(watched_input(rt, input, size))
 }
 
-/// The same, of which lines are to be read again, if that is wished: what can't be opened a second time is kept then.
+/// The same, of which lines can be read again: of what can't be opened a second time this is kept.
 pub fn kept_input<'a, R: Eprint, F: Read + Drop>(
     rt: &'a R,
     alloc: Global,
     input: Input<F>,
     size: Size,
-    is_wished: bool,
+    keeping: Keeping,
 ) -> KeepingFeed<FullFeed<WatchedFeed<'a, R, FeedOf<Input<F>>>>>
     ensures { ⟦<KeepingFeed<FullFeed<WatchedFeed<'a, R, FeedOf<Input<F>>>>> as Feed>⟧.calls result ≡ 0 }
 {
-    let keeps = is_wished && !input.is_regular();
-    KeepingFeed::new(alloc, filled_input(rt, input, size), keeps)
+    let keeping = if input.is_regular() {
+        Keeping::Nothing
+    } else {
+        keeping
+    };
+    KeepingFeed::new(alloc, filled_input(rt, input, size), keeping)
 }

@@ -145,15 +145,10 @@ impl<L: CrewLedger> Member<L> {
         ensures parts { OnOk result (all.new.parts ≡ all.old.parts + 1) }
         ensures amount { IfOk result (λ posted. all.new.amount ≡ all.old.amount + posted) }
     {
-        let Member {
-            share,
-            posted,
-            memory,
-            ..
-        } = self;
-        if memory {
+        if self.memory {
             return Err(Memory);
         }
+        let Member { share, posted, .. } = self;
         all.merge(share);
         Ok(u32::from(posted.is_some()))
     }

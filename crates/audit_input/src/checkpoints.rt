@@ -1,49 +1,50 @@
-use memchr::memchr_iter;
+use crate::checkpoint::Checkpoint;
 use std::alloc::Global;
 
 /// How many bytes lie between two checkpoints, at least.
-const STRIDE: u64 = 1 << 20;
+const STRIDE: u64 = 1 << 17;
 
-/// The beginning of a text.
-const BEGINNING: Checkpoint = Checkpoint {
-    offset: 0,
-    lines: 0,
-};
+/// After so many bytes it is seen whether a checkpoint is due.
+const PART: usize = 1 << 16;
 
-/// A place in a text from which its lines can be counted on.
-#[derive(Clone, Copy)]
-pub(crate) struct Checkpoint {
-    /// How many bytes lie before it.
-    pub offset: u64,
-    /// How many lines end among those.
-    pub lines: u64,
-}
+/// The line feeds of so many bytes are counted in one byte, so that many bytes are compared at once.
+const STRETCH: usize = 1 << 7;
 
 /// Checkpoints in a text that goes by in pieces, so that none of its lines is far from one.
 #[derive(Drop)]
 pub(crate) struct Checkpoints {
     /// Where the pieces end that have gone by.
     end: Checkpoint,
-    /// From the first on, each at a place where a piece ends.
+    /// From the first on, each at a place where a part of a piece ends.
     checkpoints: Vec<Checkpoint>,
 }
 
 impl Checkpoints {
     pub(crate) fn new(alloc: Global) -> Checkpoints {
         Checkpoints {
-            end: BEGINNING,
+            end: Checkpoint::BEGINNING,
             checkpoints: Vec::new(alloc),
         }
     }
 
+    /// Where the pieces end that have gone by.
+    pub(crate) fn end(&self) -> Checkpoint {
+        self.end
+    }
+
     /// The next piece of the text goes by.
     pub(crate) fn pass(&mut self, piece: &[u8]) {
-        let ended = memchr_iter(b'\n', piece).count();
+        for part in piece.chunks(PART) {
+            self.pass_part(part);
+        }
+    }
+
+    fn pass_part(&mut self, part: &[u8]) {
         self.end = Checkpoint {
-            offset: self.end.offset.saturating_add(piece.len() as u64),
-            lines: self.end.lines.saturating_add(ended as u64),
+            offset: self.end.offset.saturating_add(part.len() as u64),
+            lines: self.end.lines.saturating_add(line_feeds_in(part)),
         };
-        let last = *self.checkpoints.last().unwrap_or(&BEGINNING);
+        let last = *self.checkpoints.last().unwrap_or(&Checkpoint::BEGINNING);
         if self.end.offset.saturating_sub(last.offset) >= STRIDE {
             // Where there is no memory for a checkpoint, the search goes on from an earlier one.
             let _ = self.checkpoints.push(self.end);
@@ -52,13 +53,28 @@ impl Checkpoints {
 
     /// The last checkpoint before the line of this number, from 1; the beginning where there is none.
     pub(crate) fn before(&self, number: u64) -> Checkpoint {
-        // A checkpoint behind so many lines may lie within the next one.
         let above = self
             .checkpoints
-            .partition_point(|checkpoint| checkpoint.lines.saturating_add(1) < number);
+            .partition_point(|checkpoint| checkpoint.is_before(number));
         match above.checked_sub(1) {
-            Some(index) => *self.checkpoints.get(index).unwrap_or(&BEGINNING),
-            None => BEGINNING,
+            Some(index) => *self
+                .checkpoints
+                .get(index)
+                .unwrap_or(&Checkpoint::BEGINNING),
+            None => Checkpoint::BEGINNING,
         }
     }
+}
+
+/// How many line feeds there are.
+fn line_feeds_in(part: &[u8]) -> u64 {
+    let mut count = 0u64;
+    for stretch in part.chunks(STRETCH) {
+        let mut few = 0u8;
+        for byte in stretch {
+            few = few.wrapping_add(u8::from(*byte == b'\n'));
+        }
+        count = count.saturating_add(u64::from(few));
+    }
+    count
 }

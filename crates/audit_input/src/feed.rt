@@ -28,6 +28,10 @@ pub trait Feed {
         ensures failed { has_failed self.new ≡ (has_failed self.old || is_err result) }
         ensures ended { has_ended self.new ≡ (has_ended self.old || gives_nothing result buf.new) };
 
+    /// Tells how much was found so far for which a line may be quoted. Where it is more than before, the latest finding
+    /// is told in place of all before, and a feed that keeps its last reads holds those that it has then.
+    fn note_findings(&self, _count: u32) {}
+
     /// Where no read was made none failed and none ended.
     ghost untouched: { (feed : Self) → calls feed ≡ 0 → (has_failed feed ≡ false) × (has_ended feed ≡ false) };
 }

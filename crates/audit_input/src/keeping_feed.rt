@@ -1,41 +1,38 @@
 ghost use Rattle.std.specs.Prelude.{◌≡◌};
 
-use crate::checkpoints::{Checkpoint, Checkpoints};
-use crate::{Failed, Feed};
-use cfs_model::Memory;
+use crate::checkpoint::Checkpoint;
+use crate::checkpoints::Checkpoints;
+use crate::kept_text::KeptText;
+use crate::{Failed, Feed, Keeping};
 use std::alloc::Global;
+use std::cell::Cell;
 use std::io;
-use std::io::ErrorKind;
 
-/// A feed that keeps what it gives, where that is asked for, and checkpoints among its lines.
+/// A feed that keeps what it gives, as far as that is asked for, and checkpoints among its lines.
 #[derive(Drop)]
 pub struct KeepingFeed<F> {
     feed: F,
-    keeps: bool,
-    /// What was given, or that there is no memory for it.
-    kept: Result<Vec<u8>, Memory>,
+    kept: KeptText,
     checkpoints: Checkpoints,
+    /// How much was found so far.
+    findings: Cell<u32>,
 }
 
 impl<F: Feed> KeepingFeed<F> {
-    pub fn new(alloc: Global, feed: F, keeps: bool) -> KeepingFeed<F>
+    pub fn new(alloc: Global, feed: F, keeping: Keeping) -> KeepingFeed<F>
         ensures { ⟦<KeepingFeed<F> as Feed>⟧.calls result ≡ F.calls feed }
     {
         KeepingFeed {
             feed,
-            keeps,
-            kept: Ok(Vec::new(alloc)),
+            kept: KeptText::new(alloc, keeping),
             checkpoints: Checkpoints::new(alloc),
+            findings: Cell::new(0),
         }
     }
 
-    /// What was given, where it is kept.
-    pub(crate) fn kept(&self) -> io::Result<Option<&[u8]>> {
-        match &self.kept {
-            Ok(bytes) if self.keeps => Ok(Some(bytes.as_slice())),
-            Ok(_) => Ok(None),
-            Err(_) => Err(io::Error::from(ErrorKind::OutOfMemory)),
-        }
+    /// The line of this number, from 1, if the text has it. None where its file is to be asked.
+    pub(crate) fn kept_line(&self, number: u64) -> Option<io::Result<Option<Vec<u8>>>> {
+        self.kept.line(self.checkpoint_before(number), number)
     }
 
     /// The last checkpoint before the line of this number, from 1.
@@ -47,12 +44,9 @@ impl<F: Feed> KeepingFeed<F> {
     fn pass(&mut self, bytes: &[u8])
         ensures { self.new.feed ≡ self.old.feed }
     {
+        let begins = self.checkpoints.end();
+        self.kept.pass(begins, bytes, self.findings.get());
         self.checkpoints.pass(bytes);
-        if let Ok(kept) = &mut self.kept {
-            if self.keeps && kept.extend_from_slice(bytes).is_err() {
-                self.kept = Err(Memory);
-            }
-        }
     }
 }
 
@@ -73,6 +67,10 @@ impl<F: Feed> Feed for KeepingFeed<F> {
             }
             Err(failed) => Err(failed),
         }
+    }
+
+    fn note_findings(&self, count: u32) {
+        self.findings.set(count);
     }
 
     ghost untouched = { λ keeping. F.untouched keeping.feed };

@@ -4,26 +4,31 @@
 
 mod again;
 mod cause;
+mod checkpoint;
 mod checkpoints;
 mod failed;
 mod fault;
 mod feed;
 mod feed_of;
+mod keeping;
 mod keeping_feed;
+mod kept_read;
+mod kept_reads;
+mod kept_text;
 mod line_finding;
 mod reading;
 mod refused;
 mod source;
 mod texts;
 
-pub use again::line_again;
+pub use again::LinesAgain;
 pub use cause::Cause;
 pub use failed::Failed;
 pub use fault::Fault;
 pub use feed::Feed;
 pub use feed_of::FeedOf;
+pub use keeping::Keeping;
 pub use keeping_feed::KeepingFeed;
-pub use line_finding::line_of;
 pub use reading::read_all;
 pub use refused::Refused;
 pub use source::Source;

@@ -1,7 +1,7 @@
 -- The fault that a step leaves on the page, and a state whose step was undone.
-use Rattle.std.proofs.Common.{◌≡◌, ◌≢◌, ℕ, ◌+◌, Option, None, inl, inr, refl, sym, ap, ◌∙◌, subst, All, List}
+use Rattle.std.proofs.Common.{◌≡◌, ◌≢◌, ℕ, ◌+◌, Option, None, inl, refl, sym, ap, ◌∙◌, subst, All, List}
 use Rattle.replay_model.specs.Noted.{PageView}
-use Rattle.replay_model.specs.Page.{ReplayStateView, FailsTest, deadline_of, with_fault}
+use Rattle.replay_model.specs.Page.{ReplayStateView, FailsStep, FailsTest, deadline_of, with_fault}
 use Rattle.replay_model.specs.Part.{Part}
 use Rattle.cfs_model.specs.Knobs.{KnobsView}
 use Rattle.cfs_model.specs.declared.kind.Kind.{Kind}
@@ -10,32 +10,30 @@ use Rattle.replay_model.specs.declared.page.StepFault.{StepFault}
 use Rattle.replay_model.specs.declared.page.Tally.{Tally}
 use Rattle.replay_model.specs.declared.step.Step.{Step}
 use Rattle.queue_replay.specs.Counting.{page_draft_view}
+use Rattle.queue_replay.specs.FirstTest.{IsOn}
 use Rattle.queue_replay.specs.Stretches.{IsWithin}
 use Rattle.queue_replay.specs.ReplayState.{replay_state_view, IsGoing, IsPassed, IsStepped, IsUndone}
 use Rattle.runqueue.specs.Queue.{runqueue_view}
 use Rattle.queue_replay.specs.declared.replay_state.ReplayState.{ReplayState}
 
 -- a fault of another kind has no deadline
-pub no_deadline : (kind : Kind) (slack : ℕ) (since : Option ℕ) → kind ≢ IdleTooLong
+no_deadline : (kind : Kind) (slack : ℕ) (since : Option ℕ) → kind ≢ IdleTooLong
     → None ≡ deadline_of kind slack since
 no_deadline IdleTooLong slack since ne = absurd (ne refl)
 no_deadline _ slack since ne = refl
 
--- a step that fails
-pub failed : (knobs : KnobsView) (cpu : ℕ) (before : ReplayStateView) (needed : KnobsView) (step : Step) (kind : Kind)
-    (pid : ℕ) (deadline : Option ℕ) (mid : ReplayStateView) (new : ReplayState)
-    → FailsTest knobs cpu before step kind pid → deadline ≡ deadline_of kind knobs.slack before.since → mid ≡ before
-    → replay_state_view new ≡ with_fault mid (record { line = step.line; kind = kind; pid = pid; deadline = deadline })
-    → IsStepped knobs cpu before needed step new
-failed knobs cpu before needed step kind pid deadline mid new fails is same noted =
-    inr (record {
-      kind = kind;
-      pid = pid;
-      fails = fails;
-      result = noted ∙ ap (λ (s : ReplayStateView). with_fault s
-          (record { line = step.line; kind = kind; pid = pid; deadline = deadline })) same
-          ∙ ap (λ d. with_fault before (record { line = step.line; kind = kind; pid = pid; deadline = d })) is;
-    })
+-- a step that fails a later test than the first
+pub fails_later : (knobs : KnobsView) (cpu : ℕ) (before : ReplayStateView) (step : Step) (fault : StepFault)
+    → FailsTest knobs cpu before step fault.kind fault.pid → IsOn step.line fault → fault.kind ≢ IdleTooLong
+    → FailsStep knobs cpu before step (with_fault before fault)
+fails_later knobs cpu before step fault fails on later = record {
+  kind = fault.kind;
+  pid = fault.pid;
+  fails = fails;
+  result = ap (λ l. with_fault before (record fault { line = l })) on.0
+      ∙ ap (λ d. with_fault before (record fault { line = step.line; deadline = d }))
+      (on.1 ∙ no_deadline fault.kind knobs.slack before.since later);
+}
 
 -- a step that passes
 pub passed : (knobs : KnobsView) (cpu : ℕ) (old between new : ReplayState) (step : Step)

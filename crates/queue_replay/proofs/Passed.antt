@@ -9,13 +9,13 @@ use Rattle.replay_model.specs.QueueTests.{IsPrevNotRunning, IsRunner}
 use Rattle.cfs_model.specs.declared.act.Way.{Way}
 use Rattle.cfs_model.specs.declared.act.Way.TheVariants.{Stays, Sleeps, Ends}
 use Rattle.cfs_model.specs.declared.claim.Claim.{Claim}
+use Rattle.replay_model.specs.declared.page.StepFault.{StepFault}
 use Rattle.replay_model.specs.declared.step.Deed.TheVariants.{Switch, Arrive}
 use Rattle.cfs_model.specs.declared.task.Place.{Place}
 use Rattle.cfs_model.specs.declared.task.Place.TheVariants.{Run, Wait, Rest}
 use Rattle.cfs_model.specs.Knobs.{KnobsView}
 use Rattle.queue_replay.specs.FirstTest.{IsFirst}
 use Rattle.queue_replay.specs.Rows.{IsUnclaimed, moved_tests, pick_tests}
-use Rattle.queue_replay.specs.declared.failed_test.FailedTest.{FailedTest}
 use Rattle.cfs_model.proofs.Moves.{put-other}
 use Rattle.runqueue.proofs.Parts.{written_over}
 use Rattle.cfs_model.specs.declared.policy.Policy.{Policy}
@@ -70,7 +70,7 @@ pub pick_tests_same : (knobs : KnobsView) (part : Part) (prev : ℕ) (prev_nice 
     : ℤ)
     (own : Option Entity)
     → (next ≢ 0 → own ≡ part.tasks next)
-    → (found : Option FailedTest) → IsFirst found
+    → (found : Option StepFault) → IsFirst found
     (moved_tests knobs.granularity own (part_after_prev part prev way) next)
     → IsFirst found (pick_tests knobs part (Switch prev prev_nice way next next_nice))
 pick_tests_same knobs part prev prev_nice way next next_nice own o found h =

@@ -21,12 +21,14 @@ changed nice s = record s { nice = nice }
 pub strange_first : (knobs : KnobsView) (cpu : ℕ) (part : Part) (step : Step) (change : NiceLine) (after : Part)
     → step.nice ≡ Some change
     → part.tasks change.pid ≡ None
-    → IsTried knobs cpu (reniced (Some change) part) step after (Failed (record { kind = Strange; pid = change.pid }))
+    → IsTried knobs cpu (reniced (Some change) part) step after
+    (Failed (record { line = step.line; kind = Strange; pid = change.pid; deadline = None }))
 strange_first knobs cpu part step change after says none =
     let gone : (reniced (Some change) part).tasks change.pid ≡ None =
     put-at part.tasks change.pid (option_map (changed change.nice) (part.tasks change.pid)) change.pid refl
     ∙ ap (option_map (changed change.nice)) none in
-    inl (subst (λ o. IsStrangeNice (reniced (Some change) part) o change.pid) (sym says) (gone, refl), refl)
+    let strange = subst (λ o. IsStrangeNice (reniced (Some change) part) o change.pid) (sym says) (gone, refl) in
+    (inl (strange, refl), (refl, refl))
 
 -- a step without a change is its deed
 pub deed_alone : {E : Type 0} (knobs : KnobsView) (cpu : ℕ) (part : Part) (step : Step) (after : Part)
@@ -59,5 +61,5 @@ deed_after knobs cpu part step change after outcome says stands h =
     go : (o : Outcome) → IsDeedTried knobs cpu (reniced (Some change) part) step after o
         → IsTried knobs cpu (reniced (Some change) part) step after o
     go (Made deed) i = ((not_strange, i.0.1), i.1, i.2, i.3)
-    go (Failed failed) (inl i) = absurd i.0
-    go (Failed failed) (inr i) = inr (not_strange, i.1)
+    go (Failed fault) (inl i, on) = absurd i.0
+    go (Failed fault) (inr i, on) = (inr (not_strange, i.1), on)

@@ -3,7 +3,8 @@ use Rattle.std.proofs.Common.{◌≡◌, ◌≢◌, ℕ, List, [], ◌∷◌, Op
 use Rattle.std.specs.Prelude.{⊤}
 use Rattle.replay_model.specs.AfterDeed.{after_deed}
 use Rattle.replay_model.specs.Part.{Part}
-use Rattle.replay_model.specs.Tests.{Test, FirstHolds, late_tests}
+use Rattle.replay_model.specs.Tests.{Test, NoneHolds, FirstHolds, late_tests}
+use Rattle.replay_model.specs.declared.page.StepFault.{StepFault}
 use Rattle.replay_model.specs.declared.step.Deed.{Deed}
 use Rattle.replay_model.specs.declared.step.Deed.TheVariants.{Switch, Wake, Born, Leave, Arrive}
 use Rattle.replay_model.specs.declared.step.Step.{Step}
@@ -13,38 +14,33 @@ use Rattle.cfs_model.specs.declared.claim.Claim.{Claim}
 use Rattle.cfs_model.specs.declared.kind.Kind.{Kind}
 use Rattle.cfs_model.specs.declared.kind.Kind.TheVariants.{IdleTooLong}
 use Rattle.queue_replay.specs.Counting.{ticket_by}
-use Rattle.queue_replay.specs.FirstTest.{IsFirst}
+use Rattle.queue_replay.specs.FirstTest.{IsFirst, IsOn}
 use Rattle.queue_replay.specs.Needing.{IsNeed}
 use Rattle.queue_replay.specs.Rows.{IsDeedTried, arrival_tests, birth_tests, leave_tests, switch_tests, wake_tests}
-use Rattle.queue_replay.specs.declared.failed_test.FailedTest.{FailedTest}
 use Rattle.queue_replay.specs.declared.made_deed.MadeDeed.{MadeDeed}
 use Rattle.queue_replay.specs.declared.outcome.Outcome.TheVariants.{Made, Failed}
 use Rattle.cfs_model.specs.declared.policy.Policy.{Policy}
 
 -- what is first among some tests is first among more
 pub record Widens (less more : List Test) : Type 0 where
-  pub first : (found : Option FailedTest) → IsFirst found less → IsFirst found more
+  pub none : NoneHolds less → NoneHolds more
+  pub first : (kind : Kind) (pid : ℕ) → FirstHolds less kind pid → FirstHolds more kind pid
 
 end : Widens [] []
-end = record { first = λ found h. h }
+end = record { none = λ h. h; first = λ kind pid h. h }
 
 -- a test that holds of no pid
 skip : {less more : List Test} {test : Test} → ((pid : ℕ) → ¬ test.holds pid) → Widens less more
     → Widens less (test ∷ more)
-skip {less} {more} {test} none w = record { first = go }
-  where
-    go : (found : Option FailedTest) → IsFirst found less → IsFirst found (test ∷ more)
-    go None h = (none, w.first None h)
-    go (Some failed) h = inr (none, w.first (Some failed) h)
+skip none w = record { none = λ h. (none, w.none h); first = λ kind pid h. inr (none, w.first kind pid h) }
 
 -- a test that both have
 keep : {less more : List Test} {test : Test} → Widens less more → Widens (test ∷ less) (test ∷ more)
-keep {less} {more} {test} w = record { first = go }
+keep {less} {more} {test} w = record { none = λ h. (h.0, w.none h.1); first = go }
   where
-    go : (found : Option FailedTest) → IsFirst found (test ∷ less) → IsFirst found (test ∷ more)
-    go None h = (h.0, w.first None h.1)
-    go (Some failed) (inl h) = inl h
-    go (Some failed) (inr h) = inr (h.0, w.first (Some failed) h.1)
+    go : (kind : Kind) (pid : ℕ) → FirstHolds (test ∷ less) kind pid → FirstHolds (test ∷ more) kind pid
+    go kind pid (inl h) = inl h
+    go kind pid (inr h) = inr (h.0, w.first kind pid h.1)
 
 -- the ordered list, for a deed and its claim
 abbrev pub all_tests : KnobsView → ℕ → Part → Deed → Option Claim → List Test
@@ -140,23 +136,22 @@ arrival_row knobs cpu part pid nice orig policy (Some c) =
 module _ (knobs : KnobsView) (cpu : ℕ) (part : Part) (step : Step) (deed : Deed) (claim : Option Claim)
     (tests : List Test)
     (row : Widens tests (all_tests knobs cpu part deed claim)) (is : step.deed ≡ deed) (says : step.claim ≡ claim) where
-  among : (found : Option FailedTest) → IsFirst found tests
-      → IsFirst found (late_tests knobs cpu part (record step { nice = None }))
-  among found h =
-      subst (λ (d : Deed). IsFirst found (all_tests knobs cpu part d step.claim)) (sym is)
-      (subst (λ (c : Option Claim). IsFirst found (all_tests knobs cpu part deed c)) (sym says) (row.first found h))
+  among_all : Widens tests (late_tests knobs cpu part (record step { nice = None }))
+  among_all =
+      subst (λ (d : Deed). Widens tests (all_tests knobs cpu part d step.claim)) (sym is)
+      (subst (λ (c : Option Claim). Widens tests (all_tests knobs cpu part deed c)) (sym says) row)
 
   -- it fails
-  pub fails : (after : Part) (failed : FailedTest) → IsFirst (Some failed) tests
-      → IsDeedTried knobs cpu part step after (Failed failed)
-  fails after failed h = among (Some failed) h
+  pub fails : (after : Part) (fault : StepFault) → IsOn step.line fault → IsFirst (Some fault) tests
+      → IsDeedTried knobs cpu part step after (Failed fault)
+  fails after fault on h = (among_all.first fault.kind fault.pid h, on)
 
   -- it passes
   pub passes : (after : Part) (made : MadeDeed) → IsFirst None tests → after ≡ after_deed part deed claim
       → made.ticket ≡ ticket_by part (record step { claim = claim }) deed → IsNeed part deed claim made.need
       → IsDeedTried knobs cpu part step after (Made made)
   passes after made h e t n = (
-    among None h,
+    among_all.none h,
     e ∙ sym (ap (after_deed part deed) says) ∙ sym (ap (λ (d : Deed). after_deed part d step.claim) is),
     t ∙ sym (ap (λ (c : Option Claim). ticket_by part (record step { claim = c }) deed) says)
         ∙ sym (ap (λ (d : Deed). ticket_by part step d) is),

@@ -3,13 +3,13 @@ use Rattle.std.specs.Prelude.{◌≡◌, ℕ, ◌+◌, None, ◌⊎◌, All}
 use Rattle.cfs_model.specs.Knobs.{KnobsView}
 use Rattle.cfs_model.specs.declared.kind.Kind.TheVariants as kind
 use Rattle.replay_model.specs.Page.{ReplayStateView, FailsStep}
+use Rattle.replay_model.specs.declared.page.StepFault.{StepFault}
 use Rattle.replay_model.specs.declared.step.Step.{Step}
 use Rattle.queue_replay.specs.Counting.{page_draft_view}
 use Rattle.queue_replay.specs.Needing.{PassesRaising}
 use Rattle.runqueue.specs.Queue.{runqueue_view}
 use Rattle.runqueue.specs.declared.charging.ChargeFault.{ChargeFault}
 use Rattle.runqueue.specs.declared.charging.ChargeFault.TheVariants.{Range, Told}
-use Rattle.queue_replay.specs.declared.failed_test.FailedTest.{FailedTest}
 use Rattle.queue_replay.specs.Stretches.{IsWithin}
 use Rattle.queue_replay.specs.declared.replay_state.ReplayState.{ReplayState}
 
@@ -46,7 +46,7 @@ pub record IsUndone (old new : ReplayState) : Type 0 where
   pub needs : new.needs ≡ old.needs
   pub noted : page_draft_view new.draft ≡ page_draft_view old.draft
 
--- the test that a charge fails
-abbrev pub charge_test : ChargeFault → FailedTest
-charge_test (Range pid) = record { kind = kind.Range; pid = pid }
-charge_test (Told pid) = record { kind = kind.WrongCharge; pid = pid }
+-- the fault on this line of a charge that can't be made
+abbrev pub failed_charge : ℕ → ChargeFault → StepFault
+failed_charge line (Range pid) = record { line = line; kind = kind.Range; pid = pid; deadline = None }
+failed_charge line (Told pid) = record { line = line; kind = kind.WrongCharge; pid = pid; deadline = None }

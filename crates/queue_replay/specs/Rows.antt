@@ -17,6 +17,7 @@ use Rattle.cfs_model.specs.declared.claim.Claim.{Claim}
 use Rattle.cfs_model.specs.declared.claim.ClaimSort.TheVariants.{At}
 use Rattle.cfs_model.specs.declared.kind.Kind.TheVariants as kind
 use Rattle.queue_replay.specs.Counting.{ticket_by}
+use Rattle.queue_replay.specs.FirstTest.{IsOn}
 use Rattle.queue_replay.specs.Needing.{IsNeed}
 use Rattle.queue_replay.specs.Picks.{IdlesBeside, IsAboveGranularity}
 use Rattle.queue_replay.specs.declared.context_switch.ContextSwitch.{ContextSwitch}
@@ -105,13 +106,14 @@ arrival_tests part deed claim =
     record { kind = kind.ClaimMissing; holds = IsClaimMissing part deed claim } ∷
     record { kind = kind.ClaimPid; holds = IsOfAnother (claimant part deed) claim } ∷ []
 
--- a step passed its tests and its deed made this of the part, with this ticket and this need; or the first test that it
--- fails
+-- a step passed its tests and its deed made this of the part, with this ticket and this need; or the fault of the first
+-- test that it fails
 abbrev pub IsTried : KnobsView → ℕ → Part → Step → Part → Outcome → Type 0
 IsTried knobs cpu part step after (Made deed) =
     NoneHolds (late_tests knobs cpu part step) × (after ≡ after_deed part step.deed step.claim)
     × (deed.ticket ≡ ticket_by part step step.deed) × IsNeed part step.deed step.claim deed.need
-IsTried knobs cpu part step after (Failed failed) = FirstHolds (late_tests knobs cpu part step) failed.kind failed.pid
+IsTried knobs cpu part step after (Failed fault) =
+    FirstHolds (late_tests knobs cpu part step) fault.kind fault.pid × IsOn step.line fault
 
 -- the same of a step's deed alone, whatever its line changes
 abbrev pub IsDeedTried : KnobsView → ℕ → Part → Step → Part → Outcome → Type 0
@@ -120,5 +122,5 @@ IsDeedTried knobs cpu part step after outcome = IsTried knobs cpu part (record s
 -- the map and the set of a runqueue hold what they did, unless the step was made
 abbrev pub HoldsUnmade : {E : Type 0} → Result Outcome E → Runqueue → Runqueue → Type 0
 HoldsUnmade (Ok (Made deed)) old new = ⊤
-HoldsUnmade (Ok (Failed failed)) old new = HoldsSame old new
+HoldsUnmade (Ok (Failed fault)) old new = HoldsSame old new
 HoldsUnmade (Err error) old new = HoldsSame old new

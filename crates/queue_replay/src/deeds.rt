@@ -93,13 +93,13 @@ fn try_switch(
     let row = queue.row_of(pid);
     let next = queue.switch_task(row, pid);
     let way = switch.way;
-    if let Some(failed) = first_switch_test(queue, switch, &prev, &next, step.claim) {
-        return Ok(Outcome::Failed(failed));
+    if let Some(fault) = first_switch_test(queue, step, switch, &prev, &next) {
+        return Ok(Outcome::Failed(fault));
     }
     let least = queue.least_after(way);
     let need = lead(least, pid, next);
-    if let Some(failed) = first_pick_test(least, pid, need, knobs) {
-        return Ok(Outcome::Failed(failed));
+    if let Some(fault) = first_pick_test(step.line, least, pid, need, knobs) {
+        return Ok(Outcome::Failed(fault));
     }
     moves!(queue: runner leaves by way);
     moves!(queue: next of pid in row runs);
@@ -120,8 +120,8 @@ fn try_wake(
 {
     let row = queue.row_of(pid);
     let task = queue.task_near(row, pid);
-    if let Some(failed) = first_wake_test(queue, pid, nice, &task, step.claim, knobs) {
-        return Ok(Outcome::Failed(failed));
+    if let Some(fault) = first_wake_test(queue, step, pid, nice, &task, knobs) {
+        return Ok(Outcome::Failed(fault));
     }
     let Some(claim) = step.claim else {
         return Ok(Outcome::Made(MadeDeed {
@@ -148,8 +148,8 @@ fn try_birth(
     ensures same { HoldsUnmade result queue.old queue.new }
 {
     let task = queue.task_at(pid);
-    if let Some(failed) = first_birth_test(queue, pid, &task, step.claim, knobs) {
-        return Ok(Outcome::Failed(failed));
+    if let Some(fault) = first_birth_test(queue, step, pid, &task, knobs) {
+        return Ok(Outcome::Failed(fault));
     }
     match step.claim {
         Some(claim) => {
@@ -175,8 +175,8 @@ fn try_leave(
     ensures same { HoldsUnmade result queue.old queue.new }
 {
     let task = queue.task_at(pid);
-    if let Some(failed) = first_leave_test(cpu, pid, nice, dest, &task) {
-        return Ok(Outcome::Failed(failed));
+    if let Some(fault) = first_leave_test(cpu, step.line, pid, nice, dest, &task) {
+        return Ok(Outcome::Failed(fault));
     }
     let ticket = left_ticket(queue, step.line, pid, &task);
     moves!(queue: pid is gone);
@@ -197,8 +197,8 @@ fn try_arrival(
     ensures same { HoldsUnmade result queue.old queue.new }
 {
     let task = queue.task_at(pid);
-    if let Some(failed) = first_arrival_test(pid, &task, step.claim) {
-        return Ok(Outcome::Failed(failed));
+    if let Some(fault) = first_arrival_test(step, pid, &task) {
+        return Ok(Outcome::Failed(fault));
     }
     match step.claim {
         Some(claim) => {

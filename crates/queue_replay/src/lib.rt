@@ -7,7 +7,6 @@ mod context_switch;
 mod counting;
 mod deeds;
 mod excess;
-mod failed_test;
 mod found;
 mod lists;
 mod made_deed;

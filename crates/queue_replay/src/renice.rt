@@ -4,10 +4,9 @@ ghost use Rattle.runqueue.specs.Queue.{runqueue_view};
 ghost use Rattle.queue_replay.specs.Rows.{HoldsUnmade, IsTried};
 
 use crate::deeds::try_deed;
-use crate::failed_test::FailedTest;
 use crate::outcome::Outcome;
 use cfs_model::{Kind, Knobs, Memory, NiceLine};
-use replay_model::Step;
+use replay_model::{Step, StepFault};
 use runqueue::Runqueue;
 /// A step is tried on a runqueue that is charged and lifted: the change of a nice value on its line, and then its deed.
 /// Where a test fails, or memory is wanted, the map and the set hold what they did.
@@ -42,16 +41,18 @@ fn try_reniced(
 {
     let pid = change.pid;
     let Some(before) = queue.renice(pid, change.nice) else {
-        return Ok(Outcome::Failed(FailedTest {
+        return Ok(Outcome::Failed(StepFault {
+            line: step.line,
             kind: Kind::Strange,
             pid,
+            deadline: None,
         }));
     };
     match try_deed(queue, cpu, step, knobs) {
         Ok(Outcome::Made(deed)) => Ok(Outcome::Made(deed)),
-        Ok(Outcome::Failed(failed)) => {
+        Ok(Outcome::Failed(fault)) => {
             queue.renice(pid, before);
-            Ok(Outcome::Failed(failed))
+            Ok(Outcome::Failed(fault))
         }
         Err(memory) => {
             queue.renice(pid, before);

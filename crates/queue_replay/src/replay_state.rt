@@ -1,15 +1,14 @@
 ghost use Rattle.std.specs.Prelude.{◌≡◌, ◌≢◌, ℕ, ◌+◌, ◌-◌, ◌^◌, ◌<◌, Some, None, MatchOption, IfSome, IfOk, OnOk};
 ghost use Rattle.std.specs.Prelude.{OnErr};
 ghost use Rattle.replay_model.specs.Needs.{IsDriftNeed, idle_need};
-ghost use Rattle.replay_model.specs.Page.{FailsTest, IsSince, deadline_of, with_fault};
+ghost use Rattle.replay_model.specs.Page.{FailsStep, IsSince, deadline_of, with_fault};
 ghost use Rattle.replay_model.specs.QueueTests.{IsIdleTooLong};
 ghost use Rattle.cfs_model.specs.declared.kind.Kind.TheVariants.{IdleTooLong};
 ghost use Rattle.queue_replay.specs.Counting.{HasDraftRoom};
 ghost use Rattle.runqueue.specs.Queue.{runqueue_view};
-ghost use Rattle.queue_replay.specs.ReplayState.{IsGoing, IsPassed, IsStepped, IsUndone, charge_test};
+ghost use Rattle.queue_replay.specs.ReplayState.{IsGoing, IsPassed, IsStepped, IsUndone, failed_charge};
 ghost use Rattle.queue_replay.specs.ReplayState.{replay_state_view};
 
-use crate::failed_test::FailedTest;
 use crate::needs::raise;
 use crate::outcome::Outcome;
 use crate::page_draft::PageDraft;
@@ -58,16 +57,17 @@ impl ReplayState {
         ensures memory { OnErr result (IsUndone self.old self.new) }
     {
         if let Some(deadline) = idle_deadline(self.since, step.time, knobs.slack()) {
-            let failed = FailedTest {
+            self.fail(StepFault {
+                line: step.line,
                 kind: Kind::IdleTooLong,
                 pid: IDLE_PID,
-            };
-            self.fail(step.line, failed, Some(deadline));
+                deadline: Some(deadline),
+            });
             return Ok(());
         }
         let found = self.pass(cpu, step, knobs)?;
-        if let Some(failed) = found {
-            self.fail(step.line, failed, None);
+        if let Some(fault) = found {
+            self.fail(fault);
             return Ok(());
         }
         self.made += 1;
@@ -75,24 +75,18 @@ impl ReplayState {
     }
 
     /// Notes a fault, and counts its step.
-    fn fail(&mut self, line: u32, failed: FailedTest, deadline: Option<u64>)
+    fn fail(&mut self, fault: StepFault)
         requires { self.old.made < 2 ^ 64 - 1 }
         ensures made { self.new.made ≡ self.old.made + 1 }
-        ensures noted { replay_state_view self.new ≡ with_fault (replay_state_view self.old)
-            (record { line = line; kind = failed.kind; pid = failed.pid; deadline = deadline }) }
+        ensures noted { replay_state_view self.new ≡ with_fault (replay_state_view self.old) fault }
     {
-        self.draft.fault = Some(StepFault {
-            line,
-            kind: failed.kind,
-            pid: failed.pid,
-            deadline,
-        });
+        self.draft.fault = Some(fault);
         self.made += 1;
     }
 
     /// The tests of a step but for the first. If it passes them it is made. Else, and where memory is wanted, nothing
     /// changes.
-    fn pass(&mut self, cpu: u32, step: &Step, knobs: Knobs) -> Result<Option<FailedTest>, Memory>
+    fn pass(&mut self, cpu: u32, step: &Step, knobs: Knobs) -> Result<Option<StepFault>, Memory>
         requires going { IsGoing self.old }
         requires few { self.old.made < 2 ^ 64 - 1 }
         requires draft { HasDraftRoom step.now.deed self.old.draft }
@@ -100,8 +94,8 @@ impl ReplayState {
         ensures made { self.new.made ≡ self.old.made }
         ensures passes { IfOk result (λ found. found ≡ None → IsPassed knobs cpu self.old step.now self.new) }
         ensures fails { IfOk result (λ found. IfSome found
-            (λ failed. FailsTest knobs cpu (replay_state_view self.old) step.now failed.kind failed.pid)) }
-        ensures later { IfOk result (λ found. IfSome found (λ failed. failed.kind ≢ IdleTooLong)) }
+            (λ fault. FailsStep knobs cpu (replay_state_view self.old) step.now
+            (with_fault (replay_state_view self.old) fault))) }
         ensures undone { IfOk result (λ found. found ≢ None → IsUndone self.old self.new) }
         ensures memory { OnErr result (IsUndone self.old self.new) }
     {
@@ -110,15 +104,15 @@ impl ReplayState {
         let runner_row = self.queue.runner_row();
         let time = step.time.saturating_sub(self.queue.mark());
         if let Err(fault) = self.queue.lift(step.time, step.charge, knobs.drift()) {
-            return Ok(Some(failed_charge(fault)));
+            return Ok(Some(failed_charge(step.line, fault)));
         }
         let stretch = stretch_between(runner, self.queue.runner(), time);
         let drift = drift_need(&self.queue, step.charge);
         let deed = match try_step(&mut self.queue, cpu, step, knobs) {
             Ok(Outcome::Made(deed)) => deed,
-            Ok(Outcome::Failed(failed)) => {
+            Ok(Outcome::Failed(fault)) => {
                 self.queue.restore(before);
-                return Ok(Some(failed));
+                return Ok(Some(fault));
             }
             Err(memory) => {
                 self.queue.restore(before);
@@ -135,19 +129,19 @@ impl ReplayState {
     }
 }
 
-/// The test that a charge fails.
-fn failed_charge(fault: ChargeFault) -> FailedTest
-    ensures { result ≡ charge_test fault }
+/// The fault on this line of a charge that can't be made.
+fn failed_charge(line: u32, fault: ChargeFault) -> StepFault
+    ensures { result ≡ failed_charge line fault }
 {
-    match fault {
-        ChargeFault::Range(pid) => FailedTest {
-            kind: Kind::Range,
-            pid,
-        },
-        ChargeFault::Told(pid) => FailedTest {
-            kind: Kind::WrongCharge,
-            pid,
-        },
+    let (kind, pid) = match fault {
+        ChargeFault::Range(pid) => (Kind::Range, pid),
+        ChargeFault::Told(pid) => (Kind::WrongCharge, pid),
+    };
+    StepFault {
+        line,
+        kind,
+        pid,
+        deadline: None,
     }
 }
 

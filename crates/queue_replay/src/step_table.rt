@@ -1,10 +1,10 @@
-ghost use Rattle.std.specs.Prelude.{◌≡◌, ◌≢◌, ℕ, ℤ, Option, None};
+ghost use Rattle.std.specs.Prelude.{◌≡◌, ◌≢◌, ℕ, ℤ, Option, None, IfSome};
 ghost use Rattle.cfs_model.specs.Knobs.{KnobsView};
 ghost use Rattle.replay_model.specs.Part.{Part, Entity};
 ghost use Rattle.replay_model.specs.QueueTests.{IsPrevNotRunning};
 ghost use Rattle.cfs_model.specs.declared.policy.Policy.{Policy};
 ghost use Rattle.replay_model.specs.declared.step.Deed.TheVariants.{Wake, Born, Leave, Arrive};
-ghost use Rattle.queue_replay.specs.FirstTest.{FindsFirst, IsFirst};
+ghost use Rattle.queue_replay.specs.FirstTest.{FindsFirst, IsFirst, IsOn};
 ghost use Rattle.queue_replay.specs.Picks.{IsLead};
 ghost use Rattle.runqueue.specs.Queue.{runqueue_view, IsLeastIfWaiting, IsSwitchTask, IsTaskAt};
 ghost use Rattle.queue_replay.specs.Rows.{arrival_tests, birth_tests, leave_tests, moved_tests, pick_tests};
@@ -15,18 +15,21 @@ use crate::claim_tests::{
     idle_beside_waiting, if_resting, not_least, wake_outside,
 };
 use crate::context_switch::ContextSwitch;
-use crate::failed_test::FailedTest;
 use crate::queue_tests::{already, move_home, move_running, strange, wrong_prio};
-use cfs_model::{Claim, Kind, Knobs, Nice};
+use cfs_model::{Kind, Knobs, Nice};
+use replay_model::{Step, StepFault};
 use runqueue::{Runqueue, SchedEntity};
 
-// A deed's tests in their order, each with the kind of fault that it is: the first that holds is answered.
+// A deed's tests in their order, each with the kind of fault that it is on the step's line: the first that holds is
+// answered.
 macro_rules! guard {
-    ($($kind:ident: $condition:expr,)+) => {
+    ($line:expr; $($kind:ident: $condition:expr,)+) => {
         $(if let Some(pid) = $condition {
-            return Some(FailedTest {
+            return Some(StepFault {
+                line: $line,
                 kind: Kind::$kind,
                 pid,
+                deadline: None,
             });
         })+
     };
@@ -36,29 +39,31 @@ macro_rules! guard {
 /// stand here.
 pub(crate) fn first_switch_test(
     queue: &Runqueue,
+    step: &Step,
     switch: &ContextSwitch,
     prev: &Option<SchedEntity>,
     next: &Option<SchedEntity>,
-    claim: Option<Claim>,
-) -> Option<FailedTest>
+) -> Option<StepFault>
     requires prev { IsSwitchTask (runqueue_view queue.now) switch.now.prev prev.now }
     requires next { IsSwitchTask (runqueue_view queue.now) switch.now.next next.now }
     ensures runner { result ≡ None → (pid : ℕ) → IsPrevNotRunning (runqueue_view queue.now) (switch_deed switch.now) pid
         → ⊥ }
     ensures two { result ≡ None → switch.now.prev ≢ switch.now.next }
+    ensures line { IfSome result (IsOn step.now.line) }
     ensures first { (knobs : KnobsView) → FindsFirst result
         (pick_tests knobs (runqueue_view queue.now) (switch_deed switch.now))
-        (switch_tests knobs (runqueue_view queue.now) (switch_deed switch.now) claim) }
+        (switch_tests knobs (runqueue_view queue.now) (switch_deed switch.now) step.now.claim) }
 {
     let needed = switch.claimant();
     guard!(
+        step.line;
         SelfSwitch: switch.self_switch(),
         PrevNotRunning: switch.prev_not_running(queue, prev),
         WrongPrio: switch.wrong_prio(prev, next),
-        ClaimMissing: claim_missing(needed, claim),
-        ClaimExtra: claim_extra(needed, claim),
-        ClaimPid: claim_pid(needed, claim),
-        WrongPutBack: switch.wrong_put_back(prev, claim),
+        ClaimMissing: claim_missing(needed, step.claim),
+        ClaimExtra: claim_extra(needed, step.claim),
+        ClaimPid: claim_pid(needed, step.claim),
+        WrongPutBack: switch.wrong_put_back(prev, step.claim),
         NextNotWaiting: switch.next_not_waiting(next),
     );
     None
@@ -67,15 +72,18 @@ pub(crate) fn first_switch_test(
 /// A switch's pick: the first test that it fails. Once the previous task has gone its way, the least of those who wait
 /// has this virtual runtime, and the next task, as it stands, leads it by so many virtual nanoseconds.
 pub(crate) fn first_pick_test(
+    line: u32,
     least: Option<i64>,
     next: u32,
     lead: u64,
     knobs: Knobs,
-) -> Option<FailedTest>
-    ensures { (own : Option Entity) (moved : Part) → IsLeastIfWaiting moved least → IsLead own moved next lead
+) -> Option<StepFault>
+    ensures line { IfSome result (IsOn line) }
+    ensures first { (own : Option Entity) (moved : Part) → IsLeastIfWaiting moved least → IsLead own moved next lead
         → IsFirst result (moved_tests knobs.granularity own moved next) }
 {
     guard!(
+        line;
         IdleBesideWaiting: idle_beside_waiting(least, next),
         NotLeast: not_least(next, lead, knobs.granularity()),
     );
@@ -85,23 +93,25 @@ pub(crate) fn first_pick_test(
 /// A wakeup: the first test that it fails. The task is the woken one as it stands here.
 pub(crate) fn first_wake_test(
     queue: &Runqueue,
+    step: &Step,
     pid: u32,
     nice: Nice,
     task: &Option<SchedEntity>,
-    claim: Option<Claim>,
     knobs: Knobs,
-) -> Option<FailedTest>
+) -> Option<StepFault>
     requires { IsTaskAt (runqueue_view queue.now) pid task.now }
-    ensures { IsFirst result (wake_tests knobs.credit (runqueue_view queue.now) (Wake pid nice) claim) }
+    ensures line { IfSome result (IsOn step.now.line) }
+    ensures first { IsFirst result (wake_tests knobs.credit (runqueue_view queue.now) (Wake pid nice) step.now.claim) }
 {
     let needed = if_resting(pid, task);
     guard!(
+        step.line;
         Strange: strange(pid, task),
         WrongPrio: wrong_prio(pid, nice, task),
-        ClaimMissing: claim_missing(needed, claim),
-        ClaimExtra: claim_extra(needed, claim),
-        ClaimPid: claim_pid(needed, claim),
-        WakeBounds: wake_outside(queue, pid, task, claim, knobs.credit()),
+        ClaimMissing: claim_missing(needed, step.claim),
+        ClaimExtra: claim_extra(needed, step.claim),
+        ClaimPid: claim_pid(needed, step.claim),
+        WakeBounds: wake_outside(queue, pid, task, step.claim, knobs.credit()),
     );
     None
 }
@@ -109,21 +119,23 @@ pub(crate) fn first_wake_test(
 /// A birth: the first test that it fails. The task is the one of its pid, if one stands here.
 pub(crate) fn first_birth_test(
     queue: &Runqueue,
+    step: &Step,
     pid: u32,
     task: &Option<SchedEntity>,
-    claim: Option<Claim>,
     knobs: Knobs,
-) -> Option<FailedTest>
+) -> Option<StepFault>
     requires { IsTaskAt (runqueue_view queue.now) pid task.now }
-    ensures { (nice : ℤ) (policy : Policy) → IsFirst result
-        (birth_tests knobs.debit (runqueue_view queue.now) (Born pid nice policy) claim) }
+    ensures line { IfSome result (IsOn step.now.line) }
+    ensures first { (nice : ℤ) (policy : Policy) → IsFirst result
+        (birth_tests knobs.debit (runqueue_view queue.now) (Born pid nice policy) step.now.claim) }
 {
     let needed = Some(pid);
     guard!(
+        step.line;
         Already: already(pid, task),
-        ClaimMissing: claim_missing(needed, claim),
-        ClaimPid: claim_pid(needed, claim),
-        ForkBounds: fork_outside(queue, pid, claim, knobs.debit()),
+        ClaimMissing: claim_missing(needed, step.claim),
+        ClaimPid: claim_pid(needed, step.claim),
+        ForkBounds: fork_outside(queue, pid, step.claim, knobs.debit()),
     );
     None
 }
@@ -131,14 +143,18 @@ pub(crate) fn first_birth_test(
 /// A task that leaves: the first test that it fails. The task is as it stands here.
 pub(crate) fn first_leave_test(
     cpu: u32,
+    line: u32,
     pid: u32,
     nice: Nice,
     dest: u32,
     task: &Option<SchedEntity>,
-) -> Option<FailedTest>
-    ensures { (part : Part) → IsTaskAt part pid task.now → IsFirst result (leave_tests cpu part (Leave pid nice dest)) }
+) -> Option<StepFault>
+    ensures line { IfSome result (IsOn line) }
+    ensures first { (part : Part) → IsTaskAt part pid task.now
+        → IsFirst result (leave_tests cpu part (Leave pid nice dest)) }
 {
     guard!(
+        line;
         MoveHome: move_home(cpu, pid, dest),
         Strange: strange(pid, task),
         MoveRunning: move_running(pid, task),
@@ -149,17 +165,19 @@ pub(crate) fn first_leave_test(
 
 /// A task that comes: the first test that it fails. The task is the one of its pid, if one stands here.
 pub(crate) fn first_arrival_test(
+    step: &Step,
     pid: u32,
     task: &Option<SchedEntity>,
-    claim: Option<Claim>,
-) -> Option<FailedTest>
-    ensures { (part : Part) (nice : ℤ) (orig : ℕ) (policy : Policy) → IsTaskAt part pid task.now
-        → IsFirst result (arrival_tests part (Arrive pid nice orig policy) claim) }
+) -> Option<StepFault>
+    ensures line { IfSome result (IsOn step.now.line) }
+    ensures first { (part : Part) (nice : ℤ) (orig : ℕ) (policy : Policy) → IsTaskAt part pid task.now
+        → IsFirst result (arrival_tests part (Arrive pid nice orig policy) step.now.claim) }
 {
     guard!(
+        step.line;
         Already: already(pid, task),
-        ClaimMissing: arrival_claim_missing(pid, claim),
-        ClaimPid: claim_pid(Some(pid), claim),
+        ClaimMissing: arrival_claim_missing(pid, step.claim),
+        ClaimPid: claim_pid(Some(pid), step.claim),
     );
     None
 }

@@ -11,8 +11,8 @@ use sched_record::{Saying, Window};
 use std::alloc::{AllocError, Global};
 use std::mem;
 
-/// For so many tasks that ever stood at a processor a segment has an event at least, so that it costs little to look at
-/// all of these once for it.
+/// For so many tasks that stand at a processor a segment has an event at least, so that it costs little to copy all of
+/// these once for it.
 const TASKS_AN_EVENT: usize = 4;
 
 /// The last events of a record that comes in windows, in two segments, and how the processors stood before each. Of
@@ -79,7 +79,8 @@ impl RecentPast {
         if self.goes_on() && self.latest.standings.is_empty() {
             self.cpus = companion.cpus();
             self.start = companion.start();
-            self.latest.standings = standings_of(self.alloc, replays)?;
+            let pids = pids_of(self.alloc, replays)?;
+            self.latest.standings = standings_of(self.alloc, replays, pids.as_slice())?;
         }
         Ok(())
     }
@@ -95,8 +96,9 @@ impl RecentPast {
         }
         self.push(window)?;
         let kept = self.latest.count().saturating_mul(TASKS_AN_EVENT);
-        if kept >= task_count(replays) {
-            let standings = standings_of(self.alloc, replays)?;
+        if kept >= self.latest.task_count() {
+            let pids = self.latest.who_may_stand(self.alloc)?;
+            let standings = standings_of(self.alloc, replays, pids.as_slice())?;
             if let Some(spare) = self.let_go(standings)? {
                 *window = spare;
             }
@@ -343,20 +345,28 @@ impl RecentPast {
     }
 }
 
-/// How many tasks ever stood at processors, where their replays stand.
-fn task_count(replays: &[&WindowedReplay]) -> usize {
-    let mut count = 0usize;
+/// Who stands at each processor at the start, where no event was replayed yet.
+fn pids_of(alloc: Global, replays: &[&WindowedReplay]) -> Result<Vec<Vec<u32>>, AllocError> {
+    let mut lists = Vec::new(alloc);
     for replay in replays {
-        count = count.saturating_add(replay.tallies().len());
+        let mut pids = Vec::new(alloc);
+        for tally in replay.tallies() {
+            pids.push(tally.pid)?;
+        }
+        lists.push(pids)?;
     }
-    count
+    Ok(lists)
 }
 
-/// Where replays stand.
-fn standings_of(alloc: Global, replays: &[&WindowedReplay]) -> Result<Vec<Standing>, AllocError> {
+/// Where replays stand, at each of which nobody stands but some of these.
+fn standings_of(
+    alloc: Global,
+    replays: &[&WindowedReplay],
+    pids: &[Vec<u32>],
+) -> Result<Vec<Standing>, AllocError> {
     let mut standings = Vec::new(alloc);
-    for replay in replays {
-        standings.push(Standing::of(alloc, replay)?)?;
+    for (replay, pids) in replays.iter().zip(pids) {
+        standings.push(Standing::of(alloc, replay, pids.as_slice())?)?;
     }
     Ok(standings)
 }

@@ -31,6 +31,33 @@ impl Segment {
         count
     }
 
+    /// How many tasks stood at processors before it.
+    pub(crate) fn task_count(&self) -> usize {
+        let mut count = 0usize;
+        for standing in &self.standings {
+            count = count.saturating_add(standing.tasks.len());
+        }
+        count
+    }
+
+    /// Who may stand behind it, at each processor: who stood there before it, was born there or came.
+    pub(crate) fn who_may_stand(&self, alloc: Global) -> Result<Vec<Vec<u32>>, AllocError> {
+        let mut lists = Vec::new(alloc);
+        for standing in &self.standings {
+            lists.push(standing.pids(alloc)?)?;
+        }
+        for window in &self.windows {
+            for event in window.events() {
+                push_arrival(lists.as_mut_slice(), event.act)?;
+            }
+        }
+        for pids in lists.iter_mut() {
+            pids.sort_unstable();
+            pids.dedup();
+        }
+        Ok(lists)
+    }
+
     /// Adds the steps of a processor before a line.
     pub(crate) fn push_steps(
         &self,
@@ -109,4 +136,17 @@ fn seek_in(window: &Window, line: u32, pending: &mut Pending) -> Result<(), Allo
 
 fn is_switch_at(act: Act, processor: u32) -> bool {
     matches!(act, Act::Switch { cpu, .. } if cpu == processor)
+}
+
+/// Adds the task that an event bears or moves to those of its processor.
+fn push_arrival(lists: &mut [Vec<u32>], act: Act) -> Result<(), AllocError> {
+    match act {
+        Act::Born { cpu, pid, .. } | Act::Shift { dest: cpu, pid, .. } => {
+            if let Some(pids) = lists.get_mut(cpu as usize) {
+                pids.push(pid)?;
+            }
+            Ok(())
+        }
+        Act::Switch { .. } | Act::Wake { .. } => Ok(()),
+    }
 }

@@ -19,13 +19,16 @@ pub(crate) struct Standing {
 }
 
 impl Standing {
-    /// Where a replay stands.
-    pub(crate) fn of(alloc: Global, replay: &WindowedReplay) -> Result<Standing, AllocError> {
+    /// Where a replay stands. Nobody stands there but some of these.
+    pub(crate) fn of(
+        alloc: Global,
+        replay: &WindowedReplay,
+        pids: &[u32],
+    ) -> Result<Standing, AllocError> {
         let queue = replay.runqueue();
         let mut tasks = Vec::new(alloc);
-        // Tallies and rows are in the same order.
-        for (row, tally) in replay.tallies().iter().enumerate() {
-            if let Some(task) = queue.task_near(row, tally.pid) {
+        for pid in pids {
+            if let Some(task) = queue.task_at(*pid) {
                 tasks.push(task)?;
             }
         }
@@ -36,6 +39,15 @@ impl Standing {
             mark: queue.mark(),
             since: replay.idled_since(),
         })
+    }
+
+    /// The pids of those who stood there.
+    pub(crate) fn pids(&self, alloc: Global) -> Result<Vec<u32>, AllocError> {
+        let mut pids = Vec::new(alloc);
+        for task in &self.tasks {
+            pids.push(task.pid)?;
+        }
+        Ok(pids)
     }
 
     /// The processor, as it stood.

@@ -21,12 +21,12 @@ const NOT_EXPLAINED: &[u8] = b"# no explanation: the texts can't be read a secon
 
 /// Both texts, which went by.
 #[derive(Drop)]
-pub(crate) struct Texts<'a, R, F, C> {
+pub(crate) struct Texts<'a, R: Files, F, C> {
     trace: TextAgain<'a, R, F>,
     companion: TextAgain<'a, R, C>,
 }
 
-impl<'a, R, F, C> Texts<'a, R, F, C> {
+impl<'a, R: Files, F: Feed, C: Feed> Texts<'a, R, F, C> {
     /// Those of a request.
     pub(crate) fn of(
         rt: &'a R,
@@ -36,18 +36,8 @@ impl<'a, R, F, C> Texts<'a, R, F, C> {
         companion: &'a KeepingFeed<C>,
     ) -> Texts<'a, R, F, C> {
         Texts {
-            trace: TextAgain {
-                rt,
-                alloc,
-                name: request.trace,
-                text: trace,
-            },
-            companion: TextAgain {
-                rt,
-                alloc,
-                name: request.companion,
-                text: companion,
-            },
+            trace: TextAgain::new(rt, alloc, request.trace, trace),
+            companion: TextAgain::new(rt, alloc, request.companion, companion),
         }
     }
 }

@@ -29,12 +29,7 @@ impl<R: Files, F: Feed> TaskNaming<KeepingFeed<F>> for FaultNaming<'_, R> {
         fault: FirstFault,
         trace: &KeepingFeed<F>,
     ) -> Result<Option<Vec<u8>>, Memory> {
-        let mut again = TextAgain {
-            rt: self.rt,
-            alloc: self.alloc,
-            name: self.trace,
-            text: trace,
-        };
+        let mut again = TextAgain::new(self.rt, self.alloc, self.trace, trace);
         task_name(self.alloc, joined, fault.pid, fault.line, &mut again)
     }
 }

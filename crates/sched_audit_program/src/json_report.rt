@@ -1,6 +1,7 @@
 //! The report as JSON, with nothing beside it.
 use crate::fault_naming::FaultNaming;
 use audit_command::{Answer, FrontOf, Lengths, kept_input, watched_input};
+use audit_input::Keeping;
 use given_texts::Input;
 use json_audit::{Told, run_json_named};
 use sched_audit::{Counted, Fault, LeastFigures, OpenGate, Request, SinkOf, Verdict, WithWaits};
@@ -52,7 +53,7 @@ fn answer_in<J: Told, R: Files + Print + Eprint + RandomSource + Threads + Wait 
     companion: Input<R::File>,
     lengths: Lengths,
 ) -> Result<Answer, Fault> {
-    let mut trace = kept_input(rt, alloc, trace, lengths.trace, true);
+    let mut trace = kept_input(rt, alloc, trace, lengths.trace, Keeping::All);
     let mut companion = watched_input(rt, companion, lengths.companion);
     let mut naming = FaultNaming::new(rt, alloc, request.trace);
     let mut end = FrontOf::new(SinkOf::new(io::writer(rt)));

@@ -6,7 +6,7 @@ use crate::explaining::{Texts, explain};
 use crate::fault_naming::FaultNaming;
 use crate::states::{file_of, write_states_to};
 use audit_command::{Answer, Failure, FrontOf, Lengths, kept_input, watched_input};
-use audit_input::KeepingFeed;
+use audit_input::{Keeping, KeepingFeed};
 use given_texts::Input;
 use json_audit::{AsJson, Told, judge_json};
 use pid_table::PidHasher;
@@ -34,8 +34,13 @@ pub(crate) fn answer_kept<
     companion: Input<R::File>,
     lengths: Lengths,
 ) -> Result<Answer, Failure> {
-    let mut trace = kept_input(rt, alloc, trace, lengths.trace, request.explain);
-    let mut companion = kept_input(rt, alloc, companion, lengths.companion, request.explain);
+    let keeping = if request.explain {
+        Keeping::All
+    } else {
+        Keeping::Nothing
+    };
+    let mut trace = kept_input(rt, alloc, trace, lengths.trace, keeping);
+    let mut companion = kept_input(rt, alloc, companion, lengths.companion, keeping);
     answer_of::<J, _, _, _>(rt, alloc, request, &mut trace, &mut companion)
 }
 
@@ -117,7 +122,7 @@ pub(crate) fn answer_kept_json<
     companion: Input<R::File>,
     lengths: Lengths,
 ) -> Result<Answer, Failure> {
-    let mut trace = kept_input(rt, alloc, trace, lengths.trace, true);
+    let mut trace = kept_input(rt, alloc, trace, lengths.trace, Keeping::All);
     let mut companion = watched_input(rt, companion, lengths.companion);
     json_of::<J, _, _, _>(rt, alloc, request, &mut trace, &mut companion)
 }

@@ -3,12 +3,12 @@ ghost use Rattle.std.specs.Prelude.{◌≡◌};
 
 use crate::explaining::{Texts, explain};
 use audit_command::{Answer, Failure, FrontOf, Lengths, kept_input};
-use audit_input::KeepingFeed;
+use audit_input::{Keeping, KeepingFeed};
 use given_texts::Input;
 use pid_table::PidHasher;
 use recent_past::RecentPast;
 use sched_audit::{
-    Feed, Judgement, Outcome, Request, SinkOf, Status, block_sizes, streamed_counts,
+    Feed, Judgement, Outcome, Request, SinkOf, Sizes, Status, block_sizes, streamed_counts,
     streamed_outcome, write_report,
 };
 use std::alloc::Global;
@@ -27,9 +27,22 @@ pub(crate) fn answer_explained<R: Files + Print + Eprint + RandomSource + Thread
     companion: Input<R::File>,
     lengths: Lengths,
 ) -> Result<Answer, Failure> {
-    let mut trace = kept_input(rt, alloc, trace, lengths.trace, true);
-    let mut companion = kept_input(rt, alloc, companion, lengths.companion, true);
-    explained_of(rt, alloc, request, &mut trace, &mut companion)
+    let sizes = sizes_of(rt, &trace);
+    let mut trace = kept_input(rt, alloc, trace, lengths.trace, Keeping::Last);
+    let mut companion = kept_input(rt, alloc, companion, lengths.companion, Keeping::Last);
+    explained_of(rt, alloc, request, &mut trace, &mut companion, sizes)
+}
+
+/// How much of this trace and its companion is looked at at once: less than without an explanation, since a window more
+/// is kept for that, and of what can't be opened a second time three reads.
+fn sizes_of<R: Threads, F>(rt: &R, trace: &Input<F>) -> Sizes {
+    let sizes = block_sizes(rt);
+    let block = if trace.is_regular() {
+        sizes.block() / 10 * 9
+    } else {
+        sizes.block() / 3
+    };
+    Sizes::new(block.max(1), sizes.window())
 }
 
 /// The same, of inputs of which nothing was read.
@@ -39,12 +52,12 @@ fn explained_of<'a, R: Files + Print + RandomSource + Threads + Sync, F: Feed, C
     request: &'a Request<'a>,
     trace: &'a mut KeepingFeed<F>,
     companion: &'a mut KeepingFeed<C>,
+    sizes: Sizes,
 ) -> Result<Answer, Failure>
     requires trace { ⟦<KeepingFeed<F> as Feed>⟧.calls trace.old ≡ 0 }
     requires companion { ⟦<KeepingFeed<C> as Feed>⟧.calls companion.old ≡ 0 }
 {
     let mut past = RecentPast::new(alloc, request.knobs, PidHasher::random(rt));
-    let sizes = block_sizes(rt);
     let heard = judge_stream(rt, alloc, trace, companion, request.knobs, sizes, &mut past)?;
     let mut texts = Texts::of(rt, alloc, request, trace, companion);
     let tells_charges = heard.tells_charges;

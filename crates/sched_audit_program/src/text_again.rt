@@ -1,4 +1,4 @@
-use audit_input::{Feed, KeepingFeed, line_again};
+use audit_input::{Feed, KeepingFeed, LinesAgain};
 use cfs_model::Memory;
 use std::alloc::Global;
 use std::io;
@@ -8,17 +8,26 @@ use task_names::TraceText;
 
 /// A text that went by, of which lines are read again.
 #[derive(Drop)]
-pub(crate) struct TextAgain<'a, R, F> {
-    pub rt: &'a R,
-    pub alloc: Global,
-    pub name: &'a str,
-    pub text: &'a KeepingFeed<F>,
+pub(crate) struct TextAgain<'a, R: Files, F> {
+    lines: LinesAgain<'a, R, F>,
 }
 
-impl<R: Files, F: Feed> TextAgain<'_, R, F> {
+impl<'a, R: Files, F: Feed> TextAgain<'a, R, F> {
+    /// The text that went by in this feed, whose file has this name.
+    pub(crate) fn new(
+        rt: &'a R,
+        alloc: Global,
+        name: &'a str,
+        text: &'a KeepingFeed<F>,
+    ) -> TextAgain<'a, R, F> {
+        TextAgain {
+            lines: LinesAgain::new(rt, alloc, name, text),
+        }
+    }
+
     /// The line of this number, from 1, without its line feed, if the text has it.
-    pub(crate) fn line_at(&self, number: u64) -> io::Result<Option<Vec<u8>>> {
-        line_again(self.rt, self.alloc, self.name, self.text, number)
+    pub(crate) fn line_at(&mut self, number: u64) -> io::Result<Option<Vec<u8>>> {
+        self.lines.line(number)
     }
 }
 

@@ -45,6 +45,7 @@ impl CompanionInput {
             ⊎ ((e ≡ Fault.ReadCompanion) × IsCutShort (C.has_failed feed.new) (C.calls feed.new))) }
     {
         while self.goes_on && !self.reader.reaches_past(line) {
+            feed.note_findings(u32::from(self.reader.is_bad()));
             self.goes_on = self
                 .blocks
                 .next(feed, &mut self.reader, Fault::ReadCompanion)?;
@@ -65,6 +66,7 @@ impl CompanionInput {
             ⊎ ((e ≡ Fault.ReadCompanion) × IsCutShort (C.has_failed feed.new) (C.calls feed.new))) }
     {
         while self.goes_on {
+            feed.note_findings(u32::from(self.reader.is_bad()));
             self.goes_on = self
                 .blocks
                 .next(feed, &mut self.reader, Fault::ReadCompanion)?;

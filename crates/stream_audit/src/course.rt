@@ -199,6 +199,15 @@ impl Course {
         Ok(())
     }
 
+    /// How much was found: that the companion is refused, that both texts don't go together, and a fault.
+    pub fn findings(&self) -> u32 {
+        let refused = u32::from(self.companion.reader.is_bad());
+        match &self.audit {
+            Some(audit) => refused.saturating_add(audit.findings()),
+            None => refused,
+        }
+    }
+
     /// Reads the companion to its end.
     pub fn read_rest<C: Feed>(&mut self, companion: &mut C) -> Result<(), Fault>
         requires fed { IsFedBy (C.calls companion.old) (C.has_ended companion.old) (C.has_failed companion.old)

@@ -132,6 +132,12 @@ impl JoinedAudit {
         Ok(())
     }
 
+    /// How much was found: why both texts don't go together, and a fault.
+    pub(crate) fn findings(&self) -> u32 {
+        let told = u32::from(matches!(self.progress, Progress::Told(_)));
+        self.joining.rank().saturating_add(told)
+    }
+
     /// What both texts come to together, once they were read whole.
     pub fn finish(
         self,

@@ -107,6 +107,7 @@ impl Listener {
             (input_of (C.left companion.new) (C.calls companion.new) (C.has_failed companion.new)
             (C.has_ended companion.new))) }
     {
+        trace.note_findings(self.findings());
         if let Err(fault) = make_ready(
             &mut self.reader,
             &mut self.events,
@@ -129,6 +130,11 @@ impl Listener {
         let goes_on = read?;
         went?;
         Ok(goes_on)
+    }
+
+    /// How much was found for which a line of the trace is quoted, or of the companion.
+    fn findings(&self) -> u32 {
+        u32::from(!self.reader.is_good()).saturating_add(self.course.findings())
     }
 
     /// Audits the last block of the trace, and reads the companion to its end.

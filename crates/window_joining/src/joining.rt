@@ -72,6 +72,17 @@ impl Joining {
         self.outside.is_some() || self.late.is_some() || self.stray.is_some()
     }
 
+    /// The rank of the reason to refuse by now, 0 where there is none: one of a higher rank is told in its place.
+    pub fn rank(&self) -> u32 {
+        if self.outside.is_some() {
+            3
+        } else if self.late.is_some() {
+            2
+        } else {
+            u32::from(self.stray.is_some())
+        }
+    }
+
     /// Joins one more event, and adds it to a window with what is said on its line. Of what the companion says, what
     /// stands on lines up to the last event's may be gone.
     pub fn add(

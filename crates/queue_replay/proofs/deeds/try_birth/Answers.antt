@@ -20,18 +20,18 @@ returns-in-Some-clause-tried c =
     let deed = Born c.args.pid c.args.nice c.args.policy in
     fails c.args.knobs c.args.cpu part step deed step.claim (birth_tests c.args.knobs.debit part deed step.claim)
     (birth_row c.args.knobs c.args.cpu part c.args.pid c.args.nice c.args.policy step.claim) c.requires refl part
-    c.in-Some.failed
-    (c.in-Some.ensures c.args.nice c.args.policy)
+    c.in-Some.fault c.in-Some.ensures.line
+    (c.in-Some.ensures.first c.args.nice c.args.policy)
 
 pub add-requires-clause-apart : goal.add-requires-clause-apart
 add-requires-clause-apart c =
     let part = runqueue_view c.args.queue.now in
-    ap part.tasks c.claimed_task.ensures.pid ∙ is_apart part c.args.pid (c.in_default.ensures c.args.nice
+    ap part.tasks c.claimed_task.ensures.pid ∙ is_apart part c.args.pid (c.in_default.ensures.first c.args.nice
     c.args.policy).0
 
 pub unreachable-requires : goal.unreachable-requires
 unreachable-requires c = birth_claimed c.args.pid c.args.step.now.claim
-    (c.in_default.ensures c.args.nice c.args.policy).1.0 c.in-None.is
+    (c.in_default.ensures.first c.args.nice c.args.policy).1.0 c.in-None.is
 
 pub returns-clause-tried : goal.returns-clause-tried
 returns-clause-tried c =
@@ -47,7 +47,7 @@ returns-clause-tried c =
     let task = c.claimed_task in
     passes c.args.knobs c.args.cpu part step deed step.claim (birth_tests c.args.knobs.debit part deed step.claim)
     (birth_row c.args.knobs c.args.cpu part pid nice policy step.claim) c.requires refl _ _
-    (c.in_default.ensures nice policy)
+    (c.in_default.ensures.first nice policy)
     (c.in_ok-add-in-Some-claim.ensures.part
     ∙ ap (λ p. with_entity part p (Some (entity_of task.result))) task.ensures.pid
     ∙ ap (λ (s : Entity). with_entity part pid (Some s)) task.ensures.entity

@@ -8,7 +8,7 @@ use Rattle.queue_replay.proofs.deeds.try_leave.Goals as goal
 pub remove-requires : goal.remove-requires
 remove-requires c i =
     let part = runqueue_view c.args.queue.now in
-    (c.in_default.ensures part c.task_at-task.ensures).1.1.0 c.args.pid (i, refl)
+    (c.in_default.ensures.first part c.task_at-task.ensures).1.1.0 c.args.pid (i, refl)
 
 pub returns-clause-tried : goal.returns-clause-tried
 returns-clause-tried c knobs =
@@ -17,4 +17,4 @@ returns-clause-tried c knobs =
     let deed = Leave c.args.pid c.args.nice c.args.dest in
     passes knobs c.args.cpu part step deed step.claim (leave_tests c.args.cpu part deed)
     (leave_row knobs c.args.cpu part c.args.pid c.args.nice c.args.dest step.claim) c.requires refl _ _
-    (c.in_default.ensures part c.task_at-task.ensures) c.remove.ensures c.left_ticket-ticket.ensures refl
+    (c.in_default.ensures.first part c.task_at-task.ensures) c.remove.ensures c.left_ticket-ticket.ensures refl

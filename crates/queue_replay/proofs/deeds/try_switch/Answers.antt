@@ -19,7 +19,7 @@ returns-in-Some-clause-tried c cpu =
     fails c.args.knobs cpu part step (switch_deed s) step.claim
     (switch_tests c.args.knobs part (switch_deed s) step.claim)
     (switch_row c.args.knobs cpu part s.prev s.prev_nice s.way s.next s.next_nice step.claim) c.requires refl part
-    c.in-Some.failed
+    c.in-Some.fault c.in-Some.ensures.line
     (c.in-Some.ensures.first c.args.knobs)
 
 pub returns-in-Some-first_pick_test-clause-tried : goal.returns-in-Some-first_pick_test-clause-tried
@@ -31,15 +31,15 @@ returns-in-Some-first_pick_test-clause-tried c cpu =
     let own = option_map entity_of c.switch_task-next.result in
     let least = c.least_after-least.ensures s.prev
     (ran_prev part s.prev s.prev_nice s.way s.next s.next_nice (c.in_default.ensures.runner refl)) in
-    let failed = c.in-Some-first_pick_test.failed in
+    let fault = c.in-Some-first_pick_test.fault in
     fails c.args.knobs cpu part step (switch_deed s) step.claim
     (switch_tests c.args.knobs part (switch_deed s) step.claim)
     (switch_row c.args.knobs cpu part s.prev s.prev_nice s.way s.next s.next_nice step.claim) c.requires refl part
-    failed
-    (c.in_default.ensures.first c.args.knobs (Some failed)
+    fault c.in-Some-first_pick_test.ensures.line
+    (c.in_default.ensures.first c.args.knobs (Some fault)
     (pick_tests_same c.args.knobs part s.prev s.prev_nice s.way s.next s.next_nice own c.switch_task-next.ensures
-    (Some failed)
-    (c.in-Some-first_pick_test.ensures own moved least (c.lead-need.ensures moved least))))
+    (Some fault)
+    (c.in-Some-first_pick_test.ensures.first own moved least (c.lead-need.ensures moved least))))
 
 pub set_next-requires-clause-task : goal.set_next-requires-clause-task
 set_next-requires-clause-task c ne =
@@ -62,7 +62,7 @@ returns-clause-tried c cpu =
     let first : IsFirst None (switch_tests c.args.knobs part (switch_deed s) step.claim)
     = c.in_default.ensures.first c.args.knobs None
     (pick_tests_same c.args.knobs part s.prev s.prev_nice s.way s.next s.next_nice own c.switch_task-next.ensures None
-    (c.in_default-first_pick_test.ensures own moved least lead)) in
+    (c.in_default-first_pick_test.ensures.first own moved least lead)) in
     passes c.args.knobs cpu part step (switch_deed s) step.claim
     (switch_tests c.args.knobs part (switch_deed s) step.claim)
     (switch_row c.args.knobs cpu part s.prev s.prev_nice s.way s.next s.next_nice step.claim) c.requires refl _ _ first

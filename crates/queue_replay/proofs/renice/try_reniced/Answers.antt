@@ -30,13 +30,13 @@ returns-in-Ok-Made-clause-tried c =
 pub returns-in-Ok-Failed-clause-tried : goal.returns-in-Ok-Failed-clause-tried
 returns-in-Ok-Failed-clause-tried c =
     let after = runqueue_view c.try_deed.new.queue in
-    let outcome = Failed c.in-Ok-Failed.failed in
+    let outcome = Failed c.in-Ok-Failed.fault in
     let T : Part → Outcome → Type 0 = λ part o. IsDeedTried c.args.knobs c.args.cpu part c.args.step.now
     (runqueue_view c.try_deed.new.queue) o in
     deed_after c.args.knobs c.args.cpu (runqueue_view c.args.queue.now) c.args.step.now c.args.change after outcome
     c.requires
     (c.renice.ensures.stands (λ e. let f = sym c.in-Some.is ∙ e in cc))
-    (subst (λ (part : Part). T part (Failed c.in-Ok-Failed.failed)) c.renice.ensures.part
+    (subst (λ (part : Part). T part (Failed c.in-Ok-Failed.fault)) c.renice.ensures.part
     (subst (T (runqueue_view c.renice.new.self)) c.in-Ok-Failed.field-0-is c.in-Ok-Failed.ensures.tried))
 
 pub returns-in-Ok-Failed-clause-same : goal.returns-in-Ok-Failed-clause-same

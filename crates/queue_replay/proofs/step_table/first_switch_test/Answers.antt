@@ -12,7 +12,7 @@ returns-in-Some-claim_missing-clause-first c knobs =
         inr (
           c.in_default-wrong_prio.ensures (runqueue_view c.args.queue.now) c.requires.prev c.requires.next,
           inl (
-            subst (λ (n : Option ℕ). IsUnclaimed n c.args.claim c.in-Some-claim_missing.pid)
+            subst (λ (n : Option ℕ). IsUnclaimed n c.args.step.now.claim c.in-Some-claim_missing.pid)
                 (c.claimant-needed.ensures (runqueue_view c.args.queue.now)) c.in-Some-claim_missing.ensures,
             refl,
           ),
@@ -29,10 +29,10 @@ returns-in-Some-claim_extra-clause-first c knobs =
         inr (
           c.in_default-wrong_prio.ensures (runqueue_view c.args.queue.now) c.requires.prev c.requires.next,
           inr (
-            subst (λ (n : Option ℕ). (p : ℕ) → ¬ IsUnclaimed n c.args.claim p)
+            subst (λ (n : Option ℕ). (p : ℕ) → ¬ IsUnclaimed n c.args.step.now.claim p)
                 (c.claimant-needed.ensures (runqueue_view c.args.queue.now)) c.in_default-claim_missing.ensures,
             inl (
-              subst (λ (n : Option ℕ). IsNeedless n c.args.claim c.in-Some-claim_extra.pid)
+              subst (λ (n : Option ℕ). IsNeedless n c.args.step.now.claim c.in-Some-claim_extra.pid)
                   (c.claimant-needed.ensures (runqueue_view c.args.queue.now)) c.in-Some-claim_extra.ensures,
               refl,
             ),
@@ -50,13 +50,13 @@ returns-in-Some-claim_pid-clause-first c knobs =
         inr (
           c.in_default-wrong_prio.ensures (runqueue_view c.args.queue.now) c.requires.prev c.requires.next,
           inr (
-            subst (λ (n : Option ℕ). (p : ℕ) → ¬ IsUnclaimed n c.args.claim p)
+            subst (λ (n : Option ℕ). (p : ℕ) → ¬ IsUnclaimed n c.args.step.now.claim p)
                 (c.claimant-needed.ensures (runqueue_view c.args.queue.now)) c.in_default-claim_missing.ensures,
             inr (
-              subst (λ (n : Option ℕ). (p : ℕ) → ¬ IsNeedless n c.args.claim p)
+              subst (λ (n : Option ℕ). (p : ℕ) → ¬ IsNeedless n c.args.step.now.claim p)
                   (c.claimant-needed.ensures (runqueue_view c.args.queue.now)) c.in_default-claim_extra.ensures,
               inl (
-                subst (λ (n : Option ℕ). IsOfAnother n c.args.claim c.in-Some-claim_pid.pid)
+                subst (λ (n : Option ℕ). IsOfAnother n c.args.step.now.claim c.in-Some-claim_pid.pid)
                     (c.claimant-needed.ensures (runqueue_view c.args.queue.now)) c.in-Some-claim_pid.ensures,
                 refl,
               ),
@@ -75,13 +75,13 @@ returns-in-Some-wrong_put_back-clause-first c knobs =
         inr (
           c.in_default-wrong_prio.ensures (runqueue_view c.args.queue.now) c.requires.prev c.requires.next,
           inr (
-            subst (λ (n : Option ℕ). (p : ℕ) → ¬ IsUnclaimed n c.args.claim p)
+            subst (λ (n : Option ℕ). (p : ℕ) → ¬ IsUnclaimed n c.args.step.now.claim p)
                 (c.claimant-needed.ensures (runqueue_view c.args.queue.now)) c.in_default-claim_missing.ensures,
             inr (
-              subst (λ (n : Option ℕ). (p : ℕ) → ¬ IsNeedless n c.args.claim p)
+              subst (λ (n : Option ℕ). (p : ℕ) → ¬ IsNeedless n c.args.step.now.claim p)
                   (c.claimant-needed.ensures (runqueue_view c.args.queue.now)) c.in_default-claim_extra.ensures,
               inr (
-                subst (λ (n : Option ℕ). (p : ℕ) → ¬ IsOfAnother n c.args.claim p)
+                subst (λ (n : Option ℕ). (p : ℕ) → ¬ IsOfAnother n c.args.step.now.claim p)
                     (c.claimant-needed.ensures (runqueue_view c.args.queue.now)) c.in_default-claim_pid.ensures,
                 inl
                     (c.in-Some-wrong_put_back.ensures (runqueue_view c.args.queue.now) c.requires.prev, refl),
@@ -101,13 +101,13 @@ returns-in-Some-next_not_waiting-clause-first c knobs =
         inr (
           c.in_default-wrong_prio.ensures (runqueue_view c.args.queue.now) c.requires.prev c.requires.next,
           inr (
-            subst (λ (n : Option ℕ). (p : ℕ) → ¬ IsUnclaimed n c.args.claim p)
+            subst (λ (n : Option ℕ). (p : ℕ) → ¬ IsUnclaimed n c.args.step.now.claim p)
                 (c.claimant-needed.ensures (runqueue_view c.args.queue.now)) c.in_default-claim_missing.ensures,
             inr (
-              subst (λ (n : Option ℕ). (p : ℕ) → ¬ IsNeedless n c.args.claim p)
+              subst (λ (n : Option ℕ). (p : ℕ) → ¬ IsNeedless n c.args.step.now.claim p)
                   (c.claimant-needed.ensures (runqueue_view c.args.queue.now)) c.in_default-claim_extra.ensures,
               inr (
-                subst (λ (n : Option ℕ). (p : ℕ) → ¬ IsOfAnother n c.args.claim p)
+                subst (λ (n : Option ℕ). (p : ℕ) → ¬ IsOfAnother n c.args.step.now.claim p)
                     (c.claimant-needed.ensures (runqueue_view c.args.queue.now)) c.in_default-claim_pid.ensures,
                 inr (
                   c.in_default-wrong_put_back.ensures (runqueue_view c.args.queue.now) c.requires.prev,
@@ -129,13 +129,13 @@ returns-clause-first c knobs None h = (
     (
       c.in_default-wrong_prio.ensures (runqueue_view c.args.queue.now) c.requires.prev c.requires.next,
       (
-        subst (λ (n : Option ℕ). (p : ℕ) → ¬ IsUnclaimed n c.args.claim p)
+        subst (λ (n : Option ℕ). (p : ℕ) → ¬ IsUnclaimed n c.args.step.now.claim p)
             (c.claimant-needed.ensures (runqueue_view c.args.queue.now)) c.in_default-claim_missing.ensures,
         (
-          subst (λ (n : Option ℕ). (p : ℕ) → ¬ IsNeedless n c.args.claim p)
+          subst (λ (n : Option ℕ). (p : ℕ) → ¬ IsNeedless n c.args.step.now.claim p)
               (c.claimant-needed.ensures (runqueue_view c.args.queue.now)) c.in_default-claim_extra.ensures,
           (
-            subst (λ (n : Option ℕ). (p : ℕ) → ¬ IsOfAnother n c.args.claim p)
+            subst (λ (n : Option ℕ). (p : ℕ) → ¬ IsOfAnother n c.args.step.now.claim p)
                 (c.claimant-needed.ensures (runqueue_view c.args.queue.now)) c.in_default-claim_pid.ensures,
             (
               c.in_default-wrong_put_back.ensures (runqueue_view c.args.queue.now) c.requires.prev,
@@ -155,13 +155,13 @@ returns-clause-first c knobs (Some failed) h =
         inr (
           c.in_default-wrong_prio.ensures (runqueue_view c.args.queue.now) c.requires.prev c.requires.next,
           inr (
-            subst (λ (n : Option ℕ). (p : ℕ) → ¬ IsUnclaimed n c.args.claim p)
+            subst (λ (n : Option ℕ). (p : ℕ) → ¬ IsUnclaimed n c.args.step.now.claim p)
                 (c.claimant-needed.ensures (runqueue_view c.args.queue.now)) c.in_default-claim_missing.ensures,
             inr (
-              subst (λ (n : Option ℕ). (p : ℕ) → ¬ IsNeedless n c.args.claim p)
+              subst (λ (n : Option ℕ). (p : ℕ) → ¬ IsNeedless n c.args.step.now.claim p)
                   (c.claimant-needed.ensures (runqueue_view c.args.queue.now)) c.in_default-claim_extra.ensures,
               inr (
-                subst (λ (n : Option ℕ). (p : ℕ) → ¬ IsOfAnother n c.args.claim p)
+                subst (λ (n : Option ℕ). (p : ℕ) → ¬ IsOfAnother n c.args.step.now.claim p)
                     (c.claimant-needed.ensures (runqueue_view c.args.queue.now)) c.in_default-claim_pid.ensures,
                 inr (
                   c.in_default-wrong_put_back.ensures (runqueue_view c.args.queue.now) c.requires.prev,

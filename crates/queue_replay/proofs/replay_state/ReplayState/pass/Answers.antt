@@ -11,10 +11,12 @@ use Rattle.replay_model.specs.declared.page.Tally.{Tally}
 use Rattle.queue_replay.specs.Stretches.{IsWithin, stretch_between, stretched}
 use Rattle.queue_replay.specs.declared.stretch.Stretch.{Stretch}
 use Rattle.queue_replay.specs.Needing.{step_needs}
+use Rattle.queue_replay.specs.ReplayState.{replay_state_view}
 use Rattle.queue_replay.specs.Rows.{HoldsUnmade, IsTried}
 use Rattle.runqueue.specs.Queue.{runqueue_view}
 use Rattle.queue_replay.specs.declared.outcome.Outcome.{Outcome}
 use Rattle.queue_replay.proofs.Counts.{charged_same}
+use Rattle.queue_replay.proofs.Faults.{fails_later}
 use Rattle.queue_replay.proofs.Growing.{IsRan, ran_picks, stretched_ran, tallied_within}
 use Rattle.queue_replay.proofs.Needed.{need_reniced, needs_of_step}
 use Rattle.queue_replay.proofs.Noting.{page_is}
@@ -30,29 +32,19 @@ returns-in-Ok-Failed-clause-fails c =
     (λ n. ¬ IsWrongCharge n (runqueue_view c.args.self.now.queue) c.args.step.now.time c.args.step.now.charge pid)
     c.drift.ensures.same (l.told pid) in
     let lifted = runqueue_view c.lift.new.self in
-    let T : Outcome → Type 0 = λ o. IsTried c.args.knobs c.args.cpu
-    (reniced c.args.step.now.nice lifted) c.args.step.now (runqueue_view c.try_step.new.queue) o in
-    inr (
-      reniced c.args.step.now.nice lifted,
+    let found = reniced c.args.step.now.nice lifted in
+    let fault = c.in-Ok-Failed.fault in
+    let T : Outcome → Type 0 = λ o. IsTried c.args.knobs c.args.cpu found c.args.step.now
+    (runqueue_view c.try_step.new.queue) o in
+    let tried = subst T c.in-Ok-Failed.field-0-is c.in-Ok-Failed.ensures.tried in
+    fails_later c.args.knobs c.args.cpu (replay_state_view c.args.self.now) c.args.step.now fault
+    (inr (
+      found,
       (c.requires.in_time, (l.in_range, (right, tt))),
-      record {
-        lifted =
-            lifted;
-        is_lifted = l.lifted;
-        is_reniced =
-            refl;
-      },
-      subst T c.in-Ok-Failed.field-0-is c.in-Ok-Failed.ensures.tried,
-    )
-
-pub returns-in-Ok-Failed-clause-later : goal.returns-in-Ok-Failed-clause-later
-returns-in-Ok-Failed-clause-later c =
-    let lifted = runqueue_view c.lift.new.self in
-    let failed = c.in-Ok-Failed.failed in
-    let T : Outcome → Type 0 = λ o. IsTried c.args.knobs c.args.cpu
-    (reniced c.args.step.now.nice lifted) c.args.step.now (runqueue_view c.try_step.new.queue) o in
-    is_later c.args.knobs c.args.cpu (reniced c.args.step.now.nice lifted) c.args.step.now failed.kind failed.pid
-    (subst T c.in-Ok-Failed.field-0-is c.in-Ok-Failed.ensures.tried)
+      record { lifted = lifted; is_lifted = l.lifted; is_reniced = refl },
+      tried.0,
+    )) tried.1
+    (is_later c.args.knobs c.args.cpu found c.args.step.now fault.kind fault.pid tried.0)
 
 pub restore-requires : goal.restore-requires
 restore-requires c =

@@ -1,7 +1,7 @@
 -- What joining knows of a trace's events and of a companion, as both come (this project's profile). The companion is
 -- meant as it is said so far, with whole lists.
 use Rattle.std.specs.Prelude.{◌≡◌, ℕ, ◌<◌, ◌≤◌, ◌||◌, All, Bool, List, [], ◌∷◌, ◌++◌, MatchOption, is_some}
-use Rattle.std.specs.Prelude.{Option, Some, None, Result, Ok, Err}
+use Rattle.std.specs.Prelude.{Option, Some, None, Result, Ok, Err, if◌then◌else◌}
 use Rattle.cfs_model.specs.Claimed.{Claimed, claimed, policy_in}
 use Rattle.cfs_model.specs.Limits.{no_line}
 use Rattle.cfs_model.specs.Start.{policies_at_start}
@@ -86,6 +86,13 @@ pub record HasJoined (joining : Joining) (c : CompanionView) (events : List Entr
 -- there is a reason to refuse
 abbrev pub is_refused : Joining → Bool
 is_refused joining = (is_some joining.outside || is_some joining.late) || is_some joining.stray
+
+-- the rank of the reason to refuse that is told, 0 where there is none: that an event is outside, that the first one
+-- is late, or that something is said on a line without an event
+abbrev pub rank_of : Joining → ℕ
+rank_of joining =
+    if is_some joining.outside then 3
+    else (if is_some joining.late then 2 else (if is_some joining.stray then 1 else 0))
 
 -- as far as the events go, they and the companion go together
 pub record GoTogetherSoFar (events : List Entry) (c : CompanionView) : Type 0 where

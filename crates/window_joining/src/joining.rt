@@ -38,7 +38,7 @@ impl Joining {
     ghost use Rattle.sched_record.specs.Window.{said_of, window_view};
     ghost use Rattle.window_joining.specs.Joining.{HasJoined, IsHeadOf, IsHeld, StandBehind, is_refused};
     ghost use Rattle.window_joining.specs.Joining.{joined_answer};
-    ghost use Rattle.window_joining.specs.Joining.{joined_events};
+    ghost use Rattle.window_joining.specs.Joining.{joined_events, rank_of};
     ghost use Rattle.window_joining.specs.News.{AreRising, IsBehind};
     ghost use Rattle.window_joining.specs.Passing.{Passes};
     ghost use Rattle.window_joining.specs.Policies.{policies_view};
@@ -73,13 +73,17 @@ impl Joining {
     }
 
     /// The rank of the reason to refuse by now, 0 where there is none: one of a higher rank is told in its place.
-    pub fn rank(&self) -> u32 {
+    pub fn rank(&self) -> u32
+        ensures { result ≡ rank_of self.now }
+    {
         if self.outside.is_some() {
             3
         } else if self.late.is_some() {
             2
+        } else if self.stray.is_some() {
+            1
         } else {
-            u32::from(self.stray.is_some())
+            0
         }
     }
 

@@ -1,6 +1,7 @@
 //! Rows by pid, in the order in which the pids were named.
 #![tactic(auto)]
 
+mod pid_hash;
 mod pid_hasher;
 mod pid_table;
 

@@ -1,21 +1,22 @@
+use crate::pid_hash::PidHash;
 use std::fmt;
 use std::fmt::{Debug, Formatter, Write};
-use std::hash::{BuildHasher, DefaultHasher, RandomState};
+use std::hash::{BuildHasher, RandomState};
 use std::random::RandomSource;
 
-/// The keys by which pids are hashed, by SipHash. Whoever knows them can pick pids that collide.
+/// The keys by which pids are hashed. Whoever knows them can pick pids that collide.
 #[derive(Clone, Copy)]
 pub struct PidHasher {
-    /// The hasher that has the keys, and has read nothing.
-    start: DefaultHasher,
+    /// The hash that has the keys, and has read nothing.
+    start: PidHash,
 }
 
 impl PidHasher {
     /// Keys from the system's random bytes, which nobody knows beforehand; where it gives none, those of `fixed`.
     pub fn random(rt: &impl RandomSource) -> PidHasher {
         match RandomState::new(rt) {
-            Ok(keys) => PidHasher {
-                start: keys.build_hasher(),
+            Ok(state) => PidHasher {
+                start: PidHash::new(state.hash_one(0u64), state.hash_one(1u64)),
             },
             Err(_none) => PidHasher::fixed(),
         }
@@ -24,17 +25,18 @@ impl PidHasher {
     /// The same keys at each call: for pids that nobody picks to collide.
     pub fn fixed() -> PidHasher {
         PidHasher {
-            start: DefaultHasher::new(),
+            start: PidHash::new(0x9e37_79b9_7f4a_7c15, 0x243f_6a88_85a3_08d3),
         }
     }
 }
 
 impl BuildHasher for PidHasher {
-    type Hasher = DefaultHasher;
+    type Hasher = PidHash;
 
     ghost build_hasher = { λ s. s.start };
 
-    fn build_hasher(&self) -> DefaultHasher {
+    #[inline(always)]
+    fn build_hasher(&self) -> PidHash {
         self.start
     }
 }

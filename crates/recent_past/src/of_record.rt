@@ -5,6 +5,7 @@ use queue_replay::WindowedReplay;
 use replay_model::FirstFault;
 use sched_record::{Record, Window, deal_start};
 use std::alloc::Global;
+use stream_audit::Past;
 
 impl RecentPast {
     /// All that was before the first fault of a record which is kept, replayed under these settings; pids are hashed by

@@ -10,6 +10,7 @@ use replay_model::{FirstFault, Step};
 use sched_record::{Saying, Window};
 use std::alloc::{AllocError, Global};
 use std::mem;
+use stream_audit::Past;
 
 /// For so many tasks that stand at a processor a segment has an event at least, so that it costs little to copy all of
 /// these once for it.
@@ -62,65 +63,6 @@ impl RecentPast {
         let mut past = RecentPast::new(alloc, Knobs::standard(), PidHasher::fixed());
         past.keeps = false;
         past
-    }
-
-    /// Whether events are kept, and no fault was told yet.
-    pub fn goes_on(&self) -> bool {
-        self.keeps && self.fault.is_none()
-    }
-
-    /// Before the first window: where the replays of all processors stand, in their order, by the start of this
-    /// companion. Before another one nothing changes.
-    pub fn begin(
-        &mut self,
-        companion: &Companion,
-        replays: &[&WindowedReplay],
-    ) -> Result<(), Memory> {
-        if self.goes_on() && self.latest.standings.is_empty() {
-            self.cpus = companion.cpus();
-            self.start = companion.start();
-            let pids = pids_of(self.alloc, replays)?;
-            self.latest.standings = standings_of(self.alloc, replays, pids.as_slice())?;
-        }
-        Ok(())
-    }
-
-    /// Takes a window, behind which the replays stand, and gives an empty one for it.
-    pub fn take_window(
-        &mut self,
-        replays: &[&WindowedReplay],
-        window: &mut Window,
-    ) -> Result<(), Memory> {
-        if !self.goes_on() {
-            return Ok(());
-        }
-        self.push(window)?;
-        let kept = self.latest.count().saturating_mul(TASKS_AN_EVENT);
-        if kept >= self.latest.task_count() {
-            let pids = self.latest.who_may_stand(self.alloc)?;
-            let standings = standings_of(self.alloc, replays, pids.as_slice())?;
-            if let Some(spare) = self.let_go(standings)? {
-                *window = spare;
-            }
-        }
-        Ok(())
-    }
-
-    /// Takes the window that has the first fault, and stays as it is from then on.
-    pub fn take_last(
-        &mut self,
-        companion: &Companion,
-        window: &mut Window,
-        fault: FirstFault,
-    ) -> Result<(), Memory> {
-        if !self.goes_on() {
-            return Ok(());
-        }
-        self.push(window)?;
-        let mut idles = companion.idles().iter();
-        self.idle = idles.find(|idle| idle.line == fault.line).copied();
-        self.fault = Some(fault);
-        Ok(())
     }
 
     fn push(&mut self, window: &mut Window) -> Result<(), AllocError> {
@@ -342,6 +284,58 @@ impl RecentPast {
     ) -> Result<ProcessorState, Memory> {
         let between = steps.get(from..end).unwrap_or(&[]);
         state.after(self.alloc, self.knobs, self.hasher, between)
+    }
+}
+
+impl Past for RecentPast {
+    fn goes_on(&self) -> bool {
+        self.keeps && self.fault.is_none()
+    }
+
+    fn begin(&mut self, companion: &Companion, replays: &[&WindowedReplay]) -> Result<(), Memory> {
+        if self.goes_on() && self.latest.standings.is_empty() {
+            self.cpus = companion.cpus();
+            self.start = companion.start();
+            let pids = pids_of(self.alloc, replays)?;
+            self.latest.standings = standings_of(self.alloc, replays, pids.as_slice())?;
+        }
+        Ok(())
+    }
+
+    fn take_window(
+        &mut self,
+        replays: &[&WindowedReplay],
+        window: &mut Window,
+    ) -> Result<(), Memory> {
+        if !self.goes_on() {
+            return Ok(());
+        }
+        self.push(window)?;
+        let kept = self.latest.count().saturating_mul(TASKS_AN_EVENT);
+        if kept >= self.latest.task_count() {
+            let pids = self.latest.who_may_stand(self.alloc)?;
+            let standings = standings_of(self.alloc, replays, pids.as_slice())?;
+            if let Some(spare) = self.let_go(standings)? {
+                *window = spare;
+            }
+        }
+        Ok(())
+    }
+
+    fn take_last(
+        &mut self,
+        companion: &Companion,
+        window: &mut Window,
+        fault: FirstFault,
+    ) -> Result<(), Memory> {
+        if !self.goes_on() {
+            return Ok(());
+        }
+        self.push(window)?;
+        let mut idles = companion.idles().iter();
+        self.idle = idles.find(|idle| idle.line == fault.line).copied();
+        self.fault = Some(fault);
+        Ok(())
     }
 }
 

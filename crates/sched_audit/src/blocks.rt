@@ -10,11 +10,10 @@ ghost use Rattle.ticket_book.specs.Verdict.{IsVerdict};
 
 use crate::{Counted, Fault, Feed, Outcome, Sink, Sizes, Status, Verdict, write_report};
 use cfs_model::Knobs;
-use recent_past::RecentPast;
 use std::alloc::Global;
 use std::random::RandomSource;
 use std::thread::Threads;
-use stream_audit::{StreamOutcome, judge_stream};
+use stream_audit::{NoPast, StreamOutcome, judge_stream};
 
 /// Reads both inputs to their ends, a block at a time, judges them, and writes the report. A fault of the trace is told
 /// before one of the companion.
@@ -38,8 +37,7 @@ pub fn run_in_blocks<R: RandomSource + Threads + Sync, T: Feed, C: Feed, S: Sink
         (C.has_failed companion.new) (C.has_ended companion.new))
         (output_of (S.taken out.old) (S.taken out.new) (S.has_failed out.new)) result }
 {
-    let mut past = RecentPast::unkept(alloc);
-    let heard = judge_stream(rt, alloc, trace, companion, knobs, sizes, &mut past)?;
+    let heard = judge_stream(rt, alloc, trace, companion, knobs, sizes, &mut NoPast)?;
     let tells_charges = heard.tells_charges;
     let outcome = streamed_outcome(heard.outcome);
     write_report(alloc, &outcome, tells_charges, out)
@@ -64,8 +62,7 @@ pub fn run_counted_in_blocks<R: RandomSource + Threads + Sync, T: Feed, C: Feed,
         (C.has_failed companion.new) (C.has_ended companion.new))
         (output_of (S.taken out.old) (S.taken out.new) (S.has_failed out.new)) result }
 {
-    let mut past = RecentPast::unkept(alloc);
-    let heard = judge_stream(rt, alloc, trace, companion, knobs, sizes, &mut past)?;
+    let heard = judge_stream(rt, alloc, trace, companion, knobs, sizes, &mut NoPast)?;
     let tells_charges = heard.tells_charges;
     let outcome = streamed_counts(heard.outcome);
     write_report(alloc, &outcome, tells_charges, out)

@@ -1,13 +1,12 @@
 use crate::stopwatch::Stopwatch;
 use cfs_model::Knobs;
-use recent_past::RecentPast;
 use sched_audit::{FeedOf, Sizes, Verdict};
 use std::fs::File;
 use std::io;
 use std::random::RandomSource;
 use std::rt::{Clock, Files};
 use std::thread::Threads;
-use stream_audit::{StreamOutcome, judge_stream};
+use stream_audit::{NoPast, StreamOutcome, judge_stream};
 
 /// Judges two files a block at a time, and prints how long it took and what they came to.
 pub fn print_streamed<R: AllocGlobal + Clock + Files + Print + RandomSource + Threads + Sync>(
@@ -19,7 +18,6 @@ pub fn print_streamed<R: AllocGlobal + Clock + Files + Print + RandomSource + Th
     let mut watch = Stopwatch::start(rt)?;
     let trace = &mut FeedOf::new(File::open(rt, trace)?);
     let companion = &mut FeedOf::new(File::open(rt, companion)?);
-    let past = &mut RecentPast::unkept(rt.alloc());
     let heard = judge_stream(
         rt,
         rt.alloc(),
@@ -27,7 +25,7 @@ pub fn print_streamed<R: AllocGlobal + Clock + Files + Print + RandomSource + Th
         companion,
         Knobs::standard(),
         sizes,
-        past,
+        &mut NoPast,
     );
     watch.print_lap(rt)?;
     match heard {

@@ -13,12 +13,11 @@ ghost use Rattle.stream_audit.specs.Course.{AreEventsNext, CourseGoesOn, IsClosi
 ghost use Rattle.stream_audit.specs.Course.{IsReadyFor, IsWholeCourse};
 
 use crate::companion_input::CompanionInput;
-use crate::{Ending, JoinedAudit};
+use crate::{Ending, JoinedAudit, Past};
 use audit_input::{Fault, Feed};
 use cfs_model::{Entry, Knobs, Memory};
 use companion_file::CompanionFault;
 use pid_table::PidHasher;
-use recent_past::RecentPast;
 use std::alloc::Global;
 use std::thread::Threads;
 
@@ -80,13 +79,13 @@ impl Course {
 
     /// Goes on by the next events of the trace, at most so many at once. The companion was read past them. The recent
     /// past takes them, if it keeps events.
-    pub fn go_through<R: Threads + Sync>(
+    pub fn go_through<R: Threads + Sync, P: Past>(
         &mut self,
         rt: &R,
         alloc: Global,
         events: &[Entry],
         most: usize,
-        past: &mut RecentPast,
+        past: &mut P,
     ) -> Result<(), Memory>
         requires some { 0 < most }
         requires ready { (gave : Option (List ℕ)) × (left : Option (List ℕ)) × (before : List Event)
@@ -109,12 +108,12 @@ impl Course {
     }
 
     /// Goes on by a window's events, of which there is one at least, and lets go what was said of their lines.
-    fn go_on<R: Threads + Sync>(
+    fn go_on<R: Threads + Sync, P: Past>(
         &mut self,
         rt: &R,
         alloc: Global,
         events: &[Entry],
-        past: &mut RecentPast,
+        past: &mut P,
     ) -> Result<(), Memory>
         requires some { events.now ≢ [] }
         requires next { (gave : Option (List ℕ)) × (left : Option (List ℕ)) × (said : Said) × (before : List Event)
@@ -140,12 +139,12 @@ impl Course {
     }
 
     /// Audits a window's events, where the companion isn't refused: its refusal comes before what an audit tells.
-    fn audit<R: Threads + Sync>(
+    fn audit<R: Threads + Sync, P: Past>(
         &mut self,
         rt: &R,
         alloc: Global,
         events: &[Entry],
-        past: &mut RecentPast,
+        past: &mut P,
     ) -> Result<(), Memory>
         requires some { events.now ≢ [] }
         requires next { (gave : Option (List ℕ)) × (left : Option (List ℕ)) × (said : Said) × (before : List Event)

@@ -10,11 +10,10 @@ ghost use Rattle.window_joining.specs.Joining.{IsHeadOf, StandBehind, is_refused
 ghost use Rattle.stream_audit.specs.Joined.{AreJoined, Comes, IsAuditSoFar, IsEndOf, IsLast};
 ghost use Rattle.stream_audit.specs.Progress.{IsKnownOf, IsNext};
 
-use crate::{Ending, Progress};
+use crate::{Ending, Past, Progress};
 use cfs_model::{ChargeLine, Claim, Entry, Knobs, Memory, NiceLine};
 use companion_file::Companion;
 use pid_table::PidHasher;
-use recent_past::RecentPast;
 use sched_record::Window;
 use std::alloc::Global;
 use std::thread::Threads;
@@ -57,7 +56,7 @@ impl JoinedAudit {
 
     /// Goes on by the next events, of which there is one at least, and by what is held of what the companion says of
     /// their lines. The recent past takes them, if it keeps events.
-    pub fn go_through<R: Threads + Sync>(
+    pub fn go_through<R: Threads + Sync, P: Past>(
         &mut self,
         rt: &R,
         alloc: Global,
@@ -65,7 +64,7 @@ impl JoinedAudit {
         claims: &[Claim],
         nices: &[NiceLine],
         charges: &[ChargeLine],
-        past: &mut RecentPast,
+        past: &mut P,
     ) -> Result<(), Memory>
         requires some { events.now ≢ [] }
         requires comes { (c : CompanionView) × (before : List Event)
@@ -105,11 +104,11 @@ impl JoinedAudit {
     }
 
     /// Goes through the window, where nothing was refused, and empties it.
-    fn judge<R: Threads + Sync>(
+    fn judge<R: Threads + Sync, P: Past>(
         &mut self,
         rt: &R,
         alloc: Global,
-        past: &mut RecentPast,
+        past: &mut P,
     ) -> Result<(), Memory>
         requires some { window_view self.old.window ≢ [] }
         requires next { is_refused self.old.joining ≡ false → (of : Beginning) × (so_far : List Claimed)

@@ -11,12 +11,11 @@ ghost use Rattle.stream_audit.specs.Listening.{HasHeardNothing};
 
 use crate::course::{Closing, Course};
 use crate::listener::Listener;
-use crate::{Ending, Hearing, Sizes, StreamOutcome};
+use crate::{Ending, Hearing, Past, Sizes, StreamOutcome};
 use audit_input::{Fault, Feed, Refused};
 use cfs_model::{Knobs, Memory};
 use entry_reader::EntryReader;
 use pid_table::PidHasher;
-use recent_past::RecentPast;
 use sched_record::one_trace_answer;
 use std::alloc::Global;
 use std::random::RandomSource;
@@ -25,15 +24,15 @@ use std::thread::Threads;
 /// Judges two inputs of any length, which are read a block at a time. Of the trace a block is held, the events of the
 /// block before, and a row for each task at each processor where it ever stood; of the companion a block, the start,
 /// the `idle` lines, and what is said ahead of the trace. A fault of the trace is told before one of the companion. The
-/// recent past takes the last events up to the first fault, if it keeps events.
-pub fn judge_stream<R: RandomSource + Threads + Sync, T: Feed, C: Feed>(
+/// past takes the last events up to the first fault, if it keeps events.
+pub fn judge_stream<R: RandomSource + Threads + Sync, T: Feed, C: Feed, P: Past + Send>(
     rt: &R,
     alloc: Global,
     trace: &mut T,
     companion: &mut C,
     knobs: Knobs,
     sizes: Sizes,
-    past: &mut RecentPast,
+    past: &mut P,
 ) -> Result<Hearing, Fault>
     // No read was made yet.
     requires trace { T.calls trace.old ≡ 0 }
@@ -50,13 +49,13 @@ pub fn judge_stream<R: RandomSource + Threads + Sync, T: Feed, C: Feed>(
 }
 
 /// Hears two inputs to their ends, and tells what they came to.
-fn hear<R: Threads + Sync, T: Feed, C: Feed>(
+fn hear<R: Threads + Sync, T: Feed, C: Feed, P: Past + Send>(
     rt: &R,
     alloc: Global,
     trace: &mut T,
     companion: &mut C,
     listener: &mut Listener,
-    past: &mut RecentPast,
+    past: &mut P,
 ) -> Result<Hearing, Fault>
     requires trace { T.calls trace.old ≡ 0 }
     requires companion { C.calls companion.old ≡ 0 }

@@ -9,6 +9,7 @@ mod hearing;
 mod joined_audit;
 mod judging;
 mod listener;
+mod past;
 mod progress;
 mod sizes;
 
@@ -16,5 +17,6 @@ pub use ending::Ending;
 pub use hearing::{Hearing, StreamOutcome};
 pub use joined_audit::JoinedAudit;
 pub use judging::judge_stream;
+pub use past::{NoPast, Past};
 pub use progress::Progress;
 pub use sizes::Sizes;

@@ -11,14 +11,13 @@ ghost use Rattle.stream_audit.specs.Companion.{IsFedBy};
 ghost use Rattle.stream_audit.specs.Course.{AreEventsNext, CourseGoesOn, IsReadyFor};
 ghost use Rattle.stream_audit.specs.Hearing.{IsHeard, IsReady, input_of};
 
-use crate::Sizes;
 use crate::course::Course;
+use crate::{Past, Sizes};
 use audit_input::{Fault, Feed};
 use cfs_model::{Entry, Knobs, Memory};
 use entry_reader::EntryReader;
 use input_blocks::LineBlocks;
 use pid_table::PidHasher;
-use recent_past::RecentPast;
 use std::alloc::Global;
 use std::thread::{Threads, join_mut};
 
@@ -80,13 +79,13 @@ impl Listener {
     }
 
     /// Audits the block that was read last, and reads the trace's next one beside that; says whether the trace goes on.
-    pub fn go_on<R: Threads + Sync, T: Feed, C: Feed>(
+    pub fn go_on<R: Threads + Sync, T: Feed, C: Feed, P: Past + Send>(
         &mut self,
         rt: &R,
         alloc: Global,
         trace: &mut T,
         companion: &mut C,
-        past: &mut RecentPast,
+        past: &mut P,
     ) -> Result<bool, Fault>
         requires under_way { (knobs : KnobsView) × (trace_gave : Option (List ℕ)) × (gave : Option (List ℕ))
             × IsUnderWay knobs trace_gave (T.left trace.old) gave (C.left companion.old) self.old true }
@@ -138,12 +137,12 @@ impl Listener {
     }
 
     /// Audits the last block of the trace, and reads the companion to its end.
-    pub fn read_rest<R: Threads + Sync, C: Feed>(
+    pub fn read_rest<R: Threads + Sync, C: Feed, P: Past + Send>(
         &mut self,
         rt: &R,
         alloc: Global,
         companion: &mut C,
-        past: &mut RecentPast,
+        past: &mut P,
     ) -> Result<(), Fault>
         requires heard { (knobs : KnobsView) × (gave : Option (List ℕ)) × (bytes : List ℕ)
             × IsHeard knobs gave (C.left companion.old) bytes self.old.reader self.old.course }
@@ -174,13 +173,13 @@ impl Listener {
 
 /// Audits the events that were taken out, and reads the trace's next block beside that. The audit has a thread of its
 /// own, so no input goes to another thread.
-fn audit_and_read<R: Threads + Sync, T: Feed>(
+fn audit_and_read<R: Threads + Sync, T: Feed, P: Past + Send>(
     rt: &R,
     alloc: Global,
     course: &mut Course,
     events: &[Entry],
     most: usize,
-    past: &mut RecentPast,
+    past: &mut P,
     blocks: &mut LineBlocks,
     trace: &mut T,
     reader: &mut EntryReader,

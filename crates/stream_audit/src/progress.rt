@@ -7,10 +7,10 @@ ghost use Rattle.ticket_book.specs.Verdict.{IsVerdict};
 ghost use Rattle.window_audit.specs.Audit.{Beginning};
 ghost use Rattle.stream_audit.specs.Progress.{IsEnd, IsKnownOf, IsNext};
 
+use crate::Past;
 use cfs_model::Memory;
 use companion_file::Companion;
 use queue_replay::WindowedReplay;
-use recent_past::RecentPast;
 use replay_laws::first_faults;
 use replay_model::FirstFault;
 use sched_record::Window;
@@ -58,11 +58,11 @@ impl Progress {
 
     /// Before the first window a past that keeps events is told where the replays stand, by the start of this
     /// companion.
-    pub(crate) fn begin_past(
+    pub(crate) fn begin_past<P: Past>(
         &self,
         alloc: Global,
         start: &Companion,
-        past: &mut RecentPast,
+        past: &mut P,
     ) -> Result<(), Memory> {
         match self {
             Progress::Running(audit) if past.goes_on() => {
@@ -74,12 +74,12 @@ impl Progress {
     }
 
     /// A past that keeps events takes a window, once that was judged.
-    pub(crate) fn fill_past(
+    pub(crate) fn fill_past<P: Past>(
         &self,
         alloc: Global,
         start: &Companion,
         window: &mut Window,
-        past: &mut RecentPast,
+        past: &mut P,
     ) -> Result<(), Memory> {
         match self {
             Progress::Running(audit) if past.goes_on() => {

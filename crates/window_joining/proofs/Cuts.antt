@@ -30,6 +30,20 @@ no_fewer line_of (x ∷ items) low high from to a b le =
           absurd (omega (arith, p, q, le)))
     ]
 
+-- what is cut out of no items
+pub cut_of_none : {X : Type 0} (line_of : X → ℕ) (items : List X) (low high : ℕ) → length items ≡ 0
+    → IsCut X line_of low high items items
+cut_of_none line_of [] low high none = record {
+  before = [];
+  after = [];
+  parts = refl;
+  passed = λ k d lt. absurd (omega (arith, lt));
+  above = λ k d lt. absurd (omega (arith, lt));
+  within = λ k d lt. absurd (omega (arith, lt));
+  beyond = λ k d lt. absurd (omega (arith, lt));
+}
+cut_of_none line_of (x ∷ items) low high none = absurd (omega (arith, none))
+
 -- what stands between the one and the other
 pub cut_between : {X : Type 0} (line_of : X → ℕ) (items : List X) (low high from to : ℕ)
     → IsThrough X line_of items low from → IsThrough X line_of items high to → low ≤ high

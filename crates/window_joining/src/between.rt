@@ -37,6 +37,16 @@ fn through<T: OnLine>(items: &[T], hint: usize, line: u32) -> usize
     ensures { IsThrough _ T.line items.now line result }
 {
     let from = passed_by(items, hint, line);
+    through_from(items, from, line)
+}
+
+/// The same, where all items before an index stand on such lines.
+fn through_from<T: OnLine>(items: &[T], from: usize, line: u32) -> usize
+    requires rise { AllPairs (λ a b. T.line a ≤ T.line b) items.now }
+    requires within { from ≤ length items.now }
+    requires passed { (k : ℕ) (d : T) → k < from → T.line (slice_index_or items.now k d) ≤ line }
+    ensures { IsThrough _ T.line items.now line result }
+{
     count_from(items, from, line)
 }
 
@@ -46,8 +56,11 @@ pub(crate) fn between<T: OnLine>(items: &[T], hint: usize, low: u32, high: u32) 
     requires order { low ≤ high }
     ensures { IsCut _ T.line low high items.now result.0.now }
 {
+    if items.is_empty() {
+        return (items, 0);
+    }
     let from = through(items, hint, low);
-    let to = through(items, from, high);
+    let to = through_from(items, from, high);
     (&items[from..to], to)
 }
 

@@ -1,7 +1,7 @@
 -- How a pid is hashed (this project's profile).
 use Rattle.std.specs.Prelude.{ℕ, ◌+◌, ◌*◌, ◌/◌, ◌%◌, ◌^◌, List, length, if◌then◌else◌, nat_le, slice_index}
 use Rattle.std.specs.Prelude.{bit_and, bit_xor}
-use Rattle.pid_table.specs.declared.pid_hash.Line.{Line}
+use Rattle.pid_table.specs.declared.pid_hash.Keys.{Keys}
 use Rattle.pid_table.specs.declared.pid_hash.PidHash.{PidHash}
 
 -- the number that the first four bytes stand for, the lowest first
@@ -9,9 +9,9 @@ abbrev pub first_four : List ℕ → ℕ
 first_four bytes =
     slice_index bytes 0 + slice_index bytes 1 * 256 + slice_index bytes 2 * 65536 + slice_index bytes 3 * 16777216
 
--- the upper half of a line's value at a number
-abbrev pub height : Line → ℕ → ℕ
-height line number = ((line.multiplier * number) % 2 ^ 64 + line.addend) % 2 ^ 64 / 2 ^ 32
+-- multiply-shift: the upper half of a multiple of a number and an addend, modulo 2^64
+abbrev pub multiply_shift : Keys → ℕ → ℕ
+multiply_shift keys number = ((keys.multiplier * number) % 2 ^ 64 + keys.addend) % 2 ^ 64 / 2 ^ 32
 
 -- a number below 2^32 times a fixed odd one, modulo 2^32, its upper bits having gone into the lower ones
 abbrev pub spread : ℕ → ℕ
@@ -27,4 +27,4 @@ write hash bytes = record hash { pid = if nat_le 4 (length bytes) then first_fou
 
 -- the pid's hash
 abbrev pub finish : PidHash → ℕ
-finish hash = mixed (height hash.line hash.pid)
+finish hash = mixed (multiply_shift hash.keys hash.pid)

@@ -1,22 +1,26 @@
 ghost use Rattle.std.specs.Prelude.{◌≡◌, ◌≤◌, length};
-ghost use Rattle.pid_table.specs.Hash.{finish, first_four, height, mixed, write};
+ghost use Rattle.pid_table.specs.Hash.{finish, first_four, mixed, multiply_shift, write};
 
 use std::hash::Hasher;
 
-/// The hash of a pid: a line over the numbers below 2^64, cut to its upper half, and that half mixed. Over all lines
-/// any two pids come to any two hashes equally often. So whoever doesn't know the line can't pick pids that collide.
+/// The hash of a pid: multiply-shift by two keys, and a fixed permutation behind it. Over all keys any two pids come to
+/// any two hashes equally often. So whoever doesn't know the keys can't pick pids that collide.
 #[derive(Clone, Copy)]
 pub struct PidHash {
-    line: Line,
+    keys: Keys,
     /// The pid that was written last.
     pid: u32,
 }
 
 impl PidHash {
-    /// Of pid 0, by the line with this multiplier and this addend.
-    pub(crate) fn new(multiplier: u64, addend: u64) -> PidHash {
+    /// Of pid 0, by this multiplier and this addend.
+    pub(crate) fn new(multiplier: u64, addend: u64) -> PidHash
+        ensures multiplier { result.keys.multiplier ≡ multiplier }
+        ensures addend { result.keys.addend ≡ addend }
+        ensures pid { result.pid ≡ 0 }
+    {
         PidHash {
-            line: Line { multiplier, addend },
+            keys: Keys { multiplier, addend },
             pid: 0,
         }
     }
@@ -38,22 +42,23 @@ impl Hasher for PidHash {
 
     #[inline(always)]
     fn finish(&self) -> u64 {
-        mixed(self.line.at(self.pid as u64))
+        mixed(self.keys.multiply_shift(self.pid as u64))
     }
 }
 
-/// A line over the numbers below 2^64: a number goes to a multiple of it and a fixed addend, modulo 2^64.
+/// The keys of multiply-shift.
 #[derive(Clone, Copy)]
-struct Line {
+struct Keys {
     multiplier: u64,
     addend: u64,
 }
 
-impl Line {
-    /// The upper half of its value at a number. The lower half depends on few bits of the number.
+impl Keys {
+    /// The upper half of a multiple of a number and the addend, modulo 2^64. The lower half would depend on few bits of
+    /// the number.
     #[inline(always)]
-    fn at(self, number: u64) -> u64
-        ensures height { result ≡ height self number }
+    fn multiply_shift(self, number: u64) -> u64
+        ensures half { result ≡ multiply_shift self number }
     {
         self.multiplier
             .wrapping_mul(number)
@@ -62,8 +67,8 @@ impl Line {
     }
 }
 
-/// A number below 2^32, by a fixed permutation of these: by a line alone pids that follow each other lie at equal
-/// distances, and a few multipliers put those into few groups of a table.
+/// A number below 2^32, by a fixed permutation of these: by multiply-shift alone pids that follow each other lie at
+/// equal distances, and a few multipliers put those into few groups of a table.
 #[inline(always)]
 fn mixed(number: u64) -> u64
     ensures mixed { result ≡ mixed number }

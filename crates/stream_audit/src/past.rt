@@ -5,7 +5,7 @@ use replay_model::FirstFault;
 use sched_record::Window;
 
 /// What is kept of a recording's last events while they are judged, so that a fault among them can be explained. No
-/// verdict rests on it.
+/// verdict rests on it. Each call that changes it answers `Memory` where a growth is refused, and the audit ends there.
 pub trait Past {
     /// Whether events are kept, and no fault was told yet.
     fn goes_on(&self) -> bool;

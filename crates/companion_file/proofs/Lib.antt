@@ -13,6 +13,7 @@ pub mod Idling
 pub mod KeptOrder
 pub mod KnownLines
 pub mod Lasts
+pub mod Moved
 pub mod OneAnswer
 pub mod OneMeaning
 pub mod Piecewise

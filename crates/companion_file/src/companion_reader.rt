@@ -6,7 +6,6 @@ use crate::draft::Draft;
 use crate::fault::{CompanionCause, CompanionFault, Refusal};
 use cfs_model::{ChargeLine, Claim, Memory, NiceLine};
 use std::alloc::Global;
-use text_parts::lines::next_line;
 
 /// A companion that is read some lines at a time: what it has said so far, but for claims, changes of nice values and
 /// charges that were let go, or its first bad line.
@@ -21,8 +20,9 @@ pub struct CompanionReader {
 
 impl CompanionReader {
     ghost use Rattle.std.specs.Prelude.{◌≡◌, ℕ, ◌≤◌, ◌∷◌, ◌||◌, [], List, is_some, IsNone, IsSome, IfOk, OnOk, OnErr};
-    ghost use Rattle.std.specs.Prelude.{MatchOption, Some, ◌↔◌};
-    ghost use Rattle.text_parts.specs.Lines.{lines_of};
+    ghost use Rattle.std.specs.Prelude.{MatchOption, Some, ◌↔◌, ◌<◌, length};
+    ghost use Rattle.std.specs.List.{before_first};
+    ghost use Rattle.text_parts.specs.Lines.{is_line_feed, lines_of};
     ghost use Rattle.companion_file.specs.Companion.{AreOfVersion};
     ghost use Rattle.companion_file.specs.Earlier.{Said, summed};
     ghost use Rattle.companion_file.specs.Reader.{AreCountable, HasReadCompanion, ReadsOn, ReadsFront, OnlyFirstPassed};
@@ -50,30 +50,39 @@ impl CompanionReader {
             if self.is_bad() {
                 return Ok(());
             }
-            let (line, after) = next_line(rest);
-            self.take(line)?;
+            let (taken, after) = self.take_next(rest);
+            taken?;
             rest = after;
         }
         Ok(())
     }
 
-    /// Reads one more line, behind lines of which none is bad.
+    /// Reads the first line of a text, behind lines of which none is bad, and answers with what follows that line, too.
     #[inline(always)]
-    fn take(&mut self, line: &[u8]) -> Result<(), Memory>
-        requires { IsNone self.old.bad }
-        ensures read { OnOk result (ReadsOn self.old (line.now ∷ []) self.new) }
-        ensures memory { OnErr result (ReadsOn self.old [] self.new) }
+    fn take_next<'a>(&mut self, text: &'a [u8]) -> (Result<(), Memory>, &'a [u8])
+        requires good { IsNone self.old.bad }
+        requires some { 0 < length text.now }
+        ensures read { OnOk result.0 (ReadsOn self.old (before_first is_line_feed text.now ∷ []) self.new) }
+        ensures memory { OnErr result.0 (ReadsOn self.old [] self.new) }
+        ensures lines { lines_of text.now ≡ before_first is_line_feed text.now ∷ lines_of result.1.now }
+        ensures shorter { length result.1.now < length text.now }
     {
         let number = self.count.saturating_add(1);
-        match self.draft.take(line) {
-            Ok(()) => self.count = number,
-            Err(Refusal::Bad(cause)) => self.bad = Some(BadLine {
-                line: number,
-                cause,
-            }),
-            Err(Refusal::Memory) => return Err(Memory),
+        let (taken, rest) = self.draft.take_next(text);
+        match taken {
+            Ok(()) => {
+                self.count = number;
+                (Ok(()), rest)
+            }
+            Err(Refusal::Bad(cause)) => {
+                self.bad = Some(BadLine {
+                    line: number,
+                    cause,
+                });
+                (Ok(()), rest)
+            }
+            Err(Refusal::Memory) => (Err(Memory), rest),
         }
-        Ok(())
     }
 
     /// Lets go what was said of lines of the trace up to this one, but the last claim, change and charge.

@@ -35,12 +35,14 @@ fn passed_charges(charges: &[ChargeLine], line: u32) -> usize
 }
 
 /// Lets so many elements go, from the first on, but not the last; it takes no memory.
-fn forget_first<T: Drop>(list: &mut Vec<T>, passed: usize)
+fn forget_first<T: Copy>(list: &mut Vec<T>, passed: usize)
     ensures { list.new.items ≡ drop (min passed (length list.old.items - 1)) list.old.items }
 {
     let gone = passed.min(list.len().saturating_sub(1));
     let left = list.len() - gone;
-    list.rotate_left(gone);
+    for index in 0..left {
+        list[index] = list[gone + index];
+    }
     list.truncate(left);
 }
 

@@ -1,11 +1,13 @@
 use Rattle.std.proofs.Common.{Result, Ok, Err, length, ◌++◌, ◌∷◌, [], sym, ap, subst, ◌∙◌, append_assoc, refl}
-use Rattle.std.specs.Prelude.{OnErr}
+use Rattle.std.specs.Prelude.{OnErr, OnOk}
+use Rattle.std.specs.Result.{result_from_control_flow}
+use Rattle.cfs_model.specs.declared.memory.Memory.{Memory}
 use Rattle.std.proofs.lemmas.Bool.{eqb-true}
 use Rattle.std.proofs.lemmas.List.{append-nil, nil_from_length}
-use Rattle.text_parts.specs.Lines.{lines_of}
+use Rattle.std.specs.List.{before_first}
+use Rattle.text_parts.specs.Lines.{is_line_feed, lines_of}
 use Rattle.text_parts.proofs.TextLines.{lines_of_nil}
 use Rattle.companion_file.specs.Reader.{ReadsOn}
-use Rattle.companion_file.proofs.Reaching.{some_left}
 use Rattle.companion_file.proofs.Reader.{bad_stays, reads_nothing, reads_then}
 use Rattle.companion_file.proofs.companion_reader.CompanionReader.read.Goals as goal
 
@@ -28,15 +30,16 @@ returns-then-is_bad-clause-read c =
 pub loop-rest-preserved : goal.loop-rest-preserved
 loop-rest-preserved c =
     let before = c.loop-rest.invariant in
-    let some = some_left c.loop-rest.rest.now c.is_empty.result c.is_empty.ensures c.loop-rest-test.true in
-    let line = c.next_line.result.0.now in
-    let after = c.next_line.result.1.now in
+    let line = before_first is_line_feed c.loop-rest.rest.now in
+    let after = c.take_next-taken.result.1.now in
+    let new = c.take_next-taken.new.self in
+    let read = subst (λ (r : Result Unit Memory). OnOk r (ReadsOn c.loop-rest.self (line ∷ []) new))
+    (c.branch-taken.ensures ∙ ap (λ b. result_from_control_flow b) c.in_ok-taken.is) c.take_next-taken.ensures.read in
     record {
       front = before.front ++ line ∷ [];
-      parts = before.parts ∙ ap (λ ls. before.front ++ ls) (c.next_line.ensures.lines some)
+      parts = before.parts ∙ ap (λ ls. before.front ++ ls) c.take_next-taken.ensures.lines
           ∙ sym (append_assoc before.front (line ∷ []) (lines_of after));
-      read = reads_then c.args.self.now c.loop-rest.self c.take.new.self before.front (line ∷ []) before.read
-          c.in_ok-take.ensures.read;
+      read = reads_then c.args.self.now c.loop-rest.self new before.front (line ∷ []) before.read read;
     }
 
 pub returns-clause-read : goal.returns-clause-read
@@ -47,13 +50,15 @@ returns-clause-read c =
     let whole = before.parts ∙ ap (λ ls. before.front ++ ls) none ∙ append-nil before.front in
     subst (λ ls. ReadsOn c.args.self.now ls c.loop-rest.self) (sym whole) before.read
 
-pub returns-in_err-take-clause-memory : goal.returns-in_err-take-clause-memory
-returns-in_err-take-clause-memory c =
+pub returns-in_err-taken-clause-memory : goal.returns-in_err-taken-clause-memory
+returns-in_err-taken-clause-memory c =
     let before = c.loop-rest.invariant in
+    let new = c.take_next-taken.new.self in
+    let memory = subst (λ (r : Result Unit Memory). OnErr r (ReadsOn c.loop-rest.self [] new))
+    (c.branch-taken.ensures ∙ ap (λ b. result_from_control_flow b) c.in_err-taken.is) c.take_next-taken.ensures.memory in
     on_error c.from_residual.result (
       before.front ++ [],
       lines_of c.loop-rest.rest.now,
       before.parts ∙ ap (λ ls. ls ++ lines_of c.loop-rest.rest.now) (sym (append-nil before.front)),
-      reads_then c.args.self.now c.loop-rest.self c.take.new.self before.front [] before.read
-          c.in_err-take.ensures.memory,
+      reads_then c.args.self.now c.loop-rest.self new before.front [] before.read memory,
     )

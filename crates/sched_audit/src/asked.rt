@@ -14,7 +14,7 @@ use std::sync::Wait;
 use std::thread::{self, Threads};
 
 /// How many bytes a read of an input asks for on one core, where both are read at once.
-const BLOCK: u32 = 1 << 20;
+const BLOCK: u32 = 1 << 18;
 
 /// The same on several cores: threads begin for each block, and some systems let a new one wait for milliseconds.
 const BLOCK_OF_THREADS: u32 = 3 << 20;
@@ -66,9 +66,8 @@ pub fn run_request<R: RandomSource + Threads + Wait + Sync, T: Feed, C: Feed, S:
 
 /// How much of a recording is looked at at once where both inputs are read a block at a time.
 pub fn block_sizes<R: Threads>(rt: &R) -> Sizes {
-    let block = match thread::available_parallelism(rt) {
-        Ok(cores) if cores.get() > 1 => BLOCK_OF_THREADS,
-        _ => BLOCK,
-    };
-    Sizes::new(block, WINDOW)
+    match thread::available_parallelism(rt) {
+        Ok(cores) if cores.get() > 1 => Sizes::new(BLOCK_OF_THREADS, WINDOW),
+        _ => Sizes::new(BLOCK, WINDOW).in_turn(),
+    }
 }

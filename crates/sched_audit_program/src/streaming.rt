@@ -42,7 +42,7 @@ fn sizes_of<R: Threads, F>(rt: &R, trace: &Input<F>) -> Sizes {
     } else {
         sizes.block() / 3
     };
-    Sizes::new(block.max(1), sizes.window())
+    sizes.with_block(block.max(1))
 }
 
 /// The same, of inputs of which nothing was read.

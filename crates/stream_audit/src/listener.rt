@@ -36,6 +36,8 @@ pub(crate) struct Listener {
     pub course: Course,
     /// How many events are audited at once, at most.
     most: usize,
+    /// Whether a block is read while the one before it is audited.
+    ahead: bool,
     ghost some: { 0 < most },
 }
 
@@ -57,6 +59,7 @@ impl Listener {
             events: Vec::new(alloc),
             course,
             most: sizes.window(),
+            ahead: sizes.reads_ahead(),
         }
     }
 
@@ -78,7 +81,8 @@ impl Listener {
         self.blocks.next(trace, &mut self.reader, Fault::ReadTrace)
     }
 
-    /// Audits the block that was read last, and reads the trace's next one beside that; says whether the trace goes on.
+    /// Audits the block that was read last, and reads the trace's next one, beside that or behind it; says whether the
+    /// trace goes on.
     pub fn go_on<R: Threads + Sync, T: Feed, C: Feed, P: Past + Send>(
         &mut self,
         rt: &R,
@@ -125,6 +129,7 @@ impl Listener {
             &mut self.blocks,
             trace,
             &mut self.reader,
+            self.ahead,
         );
         let goes_on = read?;
         went?;
@@ -171,8 +176,8 @@ impl Listener {
     }
 }
 
-/// Audits the events that were taken out, and reads the trace's next block beside that. The audit has a thread of its
-/// own, so no input goes to another thread.
+/// Audits the events that were taken out, and reads the trace's next block beside that, or behind it. Beside it the audit
+/// has a thread of its own, so no input goes to another thread.
 fn audit_and_read<R: Threads + Sync, T: Feed, P: Past + Send>(
     rt: &R,
     alloc: Global,
@@ -183,6 +188,7 @@ fn audit_and_read<R: Threads + Sync, T: Feed, P: Past + Send>(
     blocks: &mut LineBlocks,
     trace: &mut T,
     reader: &mut EntryReader,
+    ahead: bool,
 ) -> (Result<(), Memory>, Result<bool, Fault>)
     requires some { 0 < most }
     requires ready { (gave : Option (List ℕ)) × (left : Option (List ℕ)) × (before : List Event)
@@ -208,6 +214,10 @@ fn audit_and_read<R: Threads + Sync, T: Feed, P: Past + Send>(
     ensures cut_short { IfErr result.1 (λ e. ((e ≡ Fault.Memory) × (T.has_failed trace.new ≡ T.has_failed trace.old))
         ⊎ ((e ≡ Fault.ReadTrace) × IsCutShort (T.has_failed trace.new) (T.calls trace.new))) }
 {
+    if !ahead {
+        let went = course.go_through(rt, alloc, events, most, past);
+        return (went, blocks.next(trace, reader, Fault::ReadTrace));
+    }
     join_mut(
         rt,
         &mut ||

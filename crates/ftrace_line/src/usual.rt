@@ -10,6 +10,9 @@ use crate::reading::{fields_of, kind_of};
 use cfs_model::{GREATEST_PROCESSOR, GREATEST_SECONDS, NANOSECONDS_PER_SECOND};
 use text_parts::pieces::{after_digits, after_gap};
 
+/// Kernels print fewer flags. These are looked at with no loop, and with no look at where the text ends.
+const FEW_MARKS: usize = 8;
+
 /// The front of a text whose first line is an event's, up to where the event's own text begins.
 #[derive(Clone, Copy, Debug, PartialEq, Eq, Drop)]
 pub struct UsualFront<'a> {
@@ -79,8 +82,11 @@ fn usual_head(text: &[u8]) -> Option<UsualHead<'_>>
 fn usual_name(text: &[u8]) -> Option<&[u8]>
     ensures { IfSome result (λ rest. HasName text.now rest.now) }
 {
+    if text.len() < 16 || !is_unbroken(text) {
+        return None;
+    }
     let rest = after_name(text)?;
-    if is_unbroken(text) { Some(rest) } else { None }
+    Some(rest)
 }
 
 /// Whether no line ends in the first sixteen bytes, which are looked at with no branch.
@@ -113,12 +119,28 @@ fn after_flags(text: &[u8]) -> &[u8]
 
 /// How many bytes of a word of flags a text begins with.
 #[inline(always)]
-#[tactic(auto, using(text_parts::proofs::Runs::prefix_within))]
 fn mark_count(text: &[u8]) -> usize
     ensures count { result ≡ prefix_len is_mark text.now }
     ensures within { result ≤ length text.now }
 {
-    text.iter()
+    if text.len() >= FEW_MARKS {
+        let count = marks_in(&text[..FEW_MARKS]);
+        if count < FEW_MARKS {
+            return count;
+        }
+    }
+    marks_in(text)
+}
+
+/// How many bytes of a word of flags stand at the front of some bytes, which are looked at one by one.
+#[inline(always)]
+#[tactic(auto, using(text_parts::proofs::Runs::prefix_within))]
+fn marks_in(bytes: &[u8]) -> usize
+    ensures count { result ≡ prefix_len is_mark bytes.now }
+    ensures within { result ≤ length bytes.now }
+{
+    bytes
+        .iter()
         .take_while(|byte| **byte > b' ' && **byte != b':')
         .count()
 }

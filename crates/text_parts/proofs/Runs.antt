@@ -1,12 +1,13 @@
 -- The primitives of reading, both ways: what was taken is so, and what is so is taken. A run ends where a byte that
 -- doesn't pass follows it, so it is the longest front that passes.
 use Rattle.std.proofs.Common.{◌≡◌, ℕ, ◌<◌, ◌≤◌, ◌==◌, Bool, true, false, cond, eqb, List, [], ◌∷◌, ◌++◌, length, drop}
+use Rattle.std.proofs.Common.{take, get_or, subst}
 use Rattle.std.proofs.Common.{min, Option, Some, None, refl, sym, ap, inl, inr, arith, one-add}
 use Rattle.std.specs.Prelude.{IsTrue, ◌≢◌}
 use Rattle.std.specs.List.{prefix_len, list_all, take_while}
 use Rattle.std.proofs.lemmas.Bool.{cases_Bool, and_parts, and_from, eqb-true, eqb-false, eq-eqb, ne_eqb}
-use Rattle.std.proofs.lemmas.List.{take_at, drop_at, take-append-drop, length-take-le, nil_from_length}
-use Rattle.std.proofs.lemmas.List.Sums.{prefix_len-le-length}
+use Rattle.std.proofs.lemmas.List.{take_at, drop_at, take-append-drop, length-take-le, nil_from_length, get_or-take}
+use Rattle.std.proofs.lemmas.List.Sums.{prefix_len-le-length, prefix_len_is, prefix_len_passes, prefix_len_stops}
 use Rattle.std.proofs.lemmas.Option.{same_Some}
 use Rattle.text_parts.specs.Numerals.{is_digit, value_of, many, IsNumeral}
 use Rattle.text_parts.specs.Pieces.{IsRunOf}
@@ -178,3 +179,17 @@ numeral_taken s value rest e =
       value_is = sym value_of_it;
       whole = rw (← rest_of_it) (front_and_rest is_digit s);
     }
+
+-- ---- runs that end within a front
+
+-- a run that ends before a front does is the run of the whole
+pub run_in_front : (test : ℕ → Bool) (n : ℕ) (s : List ℕ) → prefix_len test (take n s) < n → n ≤ length s
+    → prefix_len test (take n s) ≡ prefix_len test s
+run_in_front test n s short le =
+    let p = prefix_len test (take n s) in
+    let front : length (take n s) ≡ n = length-take-le n s le in
+    let at_end : test (get_or (take n s) p 0) ≡ false = prefix_len_stops test (take n s) 0 (omega (arith, front)) in
+    let before : (k : ℕ) → k < p → test (get_or s k 0) ≡ true =
+    λ k lt. subst (λ b. test b ≡ true) (get_or-take n s k 0 (omega arith)) (prefix_len_passes test (take n s) k 0 lt) in
+    sym (prefix_len_is test s p 0 (omega arith) before
+    (λ lt. subst (λ b. test b ≡ false) (get_or-take n s p 0 (omega arith)) at_end))

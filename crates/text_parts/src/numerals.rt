@@ -1,4 +1,4 @@
-ghost use Rattle.std.specs.Prelude.{◌≡◌, ◌+◌, ◌*◌, ◌-◌, ◌<◌, ◌^◌, min, length, take_while, drop, ◌≤◌};
+ghost use Rattle.std.specs.Prelude.{◌≡◌, ℕ, true, false, ◌+◌, ◌*◌, ◌-◌, ◌<◌, ◌^◌, min, length, take, take_while, drop, get_or, ◌≤◌};
 ghost use Rattle.std.specs.List.{prefix_len};
 ghost use Rattle.text_parts.specs.Numerals.{is_digit, value_of};
 ghost use Rattle.text_parts.specs.Reading.{Gives, numeral_at};
@@ -13,6 +13,9 @@ const LIMIT: u64 = 1 << 60;
 /// looked at on the way.
 const PLAIN_DIGITS: usize = 18;
 
+/// Most numbers have fewer digits. These are looked at one by one with no loop, and with no look at where the text ends.
+const FEW_DIGITS: usize = 8;
+
 /// The digits at the front of a text.
 #[derive(Clone, Copy, Debug, Drop)]
 pub struct Number<'a> {
@@ -26,12 +29,30 @@ pub struct Number<'a> {
 
 /// How many digits a text begins with.
 #[inline(always)]
-#[tactic(auto, using(crate::proofs::Runs::prefix_within))]
 pub fn digit_count(text: &[u8]) -> usize
     ensures count { result ≡ prefix_len is_digit text.now }
     ensures within { result ≤ length text.now }
 {
-    text.iter().take_while(|byte| is_digit_byte(**byte)).count()
+    if text.len() >= FEW_DIGITS {
+        let count = digits_in(&text[..FEW_DIGITS]);
+        if count < FEW_DIGITS {
+            return count;
+        }
+    }
+    long_digit_count(text)
+}
+
+/// How many digits stand at the front of some bytes, which are looked at one by one.
+#[inline(always)]
+#[tactic(auto, using(crate::proofs::Runs::prefix_within))]
+fn digits_in(bytes: &[u8]) -> usize
+    ensures count { result ≡ prefix_len is_digit bytes.now }
+    ensures within { result ≤ length bytes.now }
+{
+    bytes
+        .iter()
+        .take_while(|byte| is_digit_byte(**byte))
+        .count()
 }
 
 /// The digits that a text begins with, their value, and what follows them.
@@ -42,16 +63,7 @@ pub fn number_at(text: &[u8]) -> Number<'_>
     ensures rest { result.rest.now ≡ drop (prefix_len is_digit text.now) text.now }
     ensures below { result.value < 10 ^ result.digits }
 {
-    let mut value = 0u64;
-    let mut digits = 0;
-    while digits < text.len() && is_digit_byte(text[digits]) {
-        let digit = u64::from(text[digits].saturating_sub(b'0'));
-        value = value.wrapping_mul(10).wrapping_add(digit);
-        digits += 1;
-    }
-    if digits > PLAIN_DIGITS {
-        return long_number_at(text);
-    }
+    let (digits, value) = digits_at(text);
     Number {
         digits,
         value,
@@ -59,20 +71,65 @@ pub fn number_at(text: &[u8]) -> Number<'_>
     }
 }
 
-/// The same where there are many digits.
+/// How many digits a text begins with, and their value.
 #[inline(always)]
-fn long_number_at(text: &[u8]) -> Number<'_>
-    ensures digits { result.digits ≡ prefix_len is_digit text.now }
-    ensures value { result.value ≡ min (value_of (take_while is_digit text.now)) MANY }
-    ensures rest { result.rest.now ≡ drop (prefix_len is_digit text.now) text.now }
-    ensures below { result.value < 10 ^ result.digits }
+fn digits_at(text: &[u8]) -> (usize, u64)
+    ensures count { result.0 ≡ prefix_len is_digit text.now }
+    ensures within { result.0 ≤ length text.now }
+    ensures value { result.1 ≡ min (value_of (take_while is_digit text.now)) MANY }
+    ensures below { result.1 < 10 ^ result.0 }
 {
-    let digits = long_digit_count(text);
-    Number {
-        digits,
-        value: number_of(&text[..digits]),
-        rest: &text[digits..],
+    if text.len() < FEW_DIGITS {
+        return further_digits(text, 0, 0);
     }
+    let mut value = 0u64;
+    let mut digits = 0;
+    while digits < FEW_DIGITS {
+        let digit = digit_of(text[digits]);
+        if digit > 9 {
+            return (digits, value);
+        }
+        value = value.wrapping_mul(10).wrapping_add(digit);
+        digits += 1;
+    }
+    further_digits(text, digits, value)
+}
+
+/// The same where so many digits are read, and this is their value.
+#[inline(never)]
+fn further_digits(text: &[u8], read: usize, front: u64) -> (usize, u64)
+    requires within { read ≤ length text.now }
+    requires passed { (k : ℕ) → k < read → is_digit (get_or text.now k 0) ≡ true }
+    requires value { front ≡ value_of (take read text.now) }
+    requires below { front < 10 ^ read }
+    ensures count { result.0 ≡ prefix_len is_digit text.now }
+    ensures within { result.0 ≤ length text.now }
+    ensures value { result.1 ≡ min (value_of (take_while is_digit text.now)) MANY }
+    ensures below { result.1 < 10 ^ result.0 }
+{
+    let mut value = front;
+    let mut digits = read;
+    while digits < text.len() && is_digit_byte(text[digits]) {
+        value = value.wrapping_mul(10).wrapping_add(digit_of(text[digits]));
+        digits += 1;
+    }
+    if digits > PLAIN_DIGITS {
+        return many_digits(text);
+    }
+    (digits, value)
+}
+
+/// The same where there are many digits.
+#[cold]
+#[inline(never)]
+fn many_digits(text: &[u8]) -> (usize, u64)
+    ensures count { result.0 ≡ prefix_len is_digit text.now }
+    ensures within { result.0 ≤ length text.now }
+    ensures value { result.1 ≡ min (value_of (take_while is_digit text.now)) MANY }
+    ensures below { result.1 < 10 ^ result.0 }
+{
+    let digits = digits_in(text);
+    (digits, number_of(&text[..digits]))
 }
 
 /// How many digits a text begins with, away from the readers of short numbers.
@@ -82,7 +139,7 @@ fn long_digit_count(text: &[u8]) -> usize
     ensures count { result ≡ prefix_len is_digit text.now }
     ensures within { result ≤ length text.now }
 {
-    digit_count(text)
+    digits_in(text)
 }
 
 /// The value of one or more digits that a text begins with, or `MANY` where it is larger, and what follows them.
@@ -117,6 +174,16 @@ pub fn is_digit_byte(byte: u8) -> bool
     ensures { result ≡ is_digit byte }
 {
     byte >= b'0' && byte <= b'9'
+}
+
+/// The value of a digit, or more than 9 where the byte is none.
+#[inline(always)]
+fn digit_of(byte: u8) -> u64
+    ensures digit { is_digit byte ≡ true → result ≡ byte - 48 }
+    ensures other { result ≤ 9 → is_digit byte ≡ true }
+    ensures no_digit { 9 < result → is_digit byte ≡ false }
+{
+    u64::from(byte).wrapping_sub(u64::from(b'0'))
 }
 
 /// A value with one more digit behind it.

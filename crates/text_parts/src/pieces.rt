@@ -6,6 +6,9 @@ ghost use Rattle.text_parts.specs.Reading.{Gives, after_text, after_run};
 
 use crate::numerals::digit_count;
 
+/// Most gaps are narrower. These are looked at with no loop, and with no look at where the text ends.
+const NARROW: usize = 8;
+
 /// What follows this byte at the front.
 #[inline(always)]
 #[tactic(auto, unfolding(crate::specs::Reading::after_text))]
@@ -51,12 +54,36 @@ pub fn beyond(text: &[u8], count: usize) -> Option<&[u8]>
 
 /// How many spaces a text begins with.
 #[inline(always)]
-#[tactic(auto, using(crate::proofs::Runs::prefix_within))]
 fn gap_width(text: &[u8]) -> usize
     ensures count { result ≡ prefix_len is_space text.now }
     ensures within { result ≤ length text.now }
 {
-    text.iter().take_while(|byte| **byte == b' ').count()
+    if text.len() >= NARROW {
+        let width = spaces_in(&text[..NARROW]);
+        if width < NARROW {
+            return width;
+        }
+    }
+    wide_gap(text)
+}
+
+/// How many spaces stand at the front of some bytes, which are looked at one by one.
+#[inline(always)]
+#[tactic(auto, using(crate::proofs::Runs::prefix_within))]
+fn spaces_in(bytes: &[u8]) -> usize
+    ensures count { result ≡ prefix_len is_space bytes.now }
+    ensures within { result ≤ length bytes.now }
+{
+    bytes.iter().take_while(|byte| **byte == b' ').count()
+}
+
+/// How many spaces a text begins with, away from the readers of narrow gaps.
+#[inline(never)]
+fn wide_gap(text: &[u8]) -> usize
+    ensures count { result ≡ prefix_len is_space text.now }
+    ensures within { result ≤ length text.now }
+{
+    spaces_in(text)
 }
 
 /// Whether a text begins with these bytes. The first decides alone for most texts, and the others are compared eight at

@@ -1,7 +1,7 @@
 -- So far all bytes are digits, and the value is theirs while they are few.
 use Rattle.std.proofs.Common.{◌≡◌, ℕ, ◌<◌, ◌≤◌, ◌^◌, ◌-◌, length, take, get_or, true}
 use Rattle.text_parts.specs.Numerals.{is_digit, value_of}
-use Rattle.text_parts.proofs.numerals.number_at.Given as goal
+use Rattle.text_parts.proofs.numerals.further_digits.Given as goal
 
 abbrev pub invariant-loop-digits : goal.invariant-loop-digits
 invariant-loop-digits l = record {

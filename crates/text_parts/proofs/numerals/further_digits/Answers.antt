@@ -1,10 +1,9 @@
 -- The digits end where a byte is none, or where the text does; where they are few, what was added up is their value.
 use Rattle.std.proofs.Common.{◌≡◌, ◌<◌, ◌≤◌, true, false, get_or, length, min, sym, ap, ◌∙◌, arith, rules}
-use Rattle.std.proofs.lemmas.List.{take_rest}
 use Rattle.text_parts.specs.Numerals.{is_digit, value_of, many}
 use Rattle.text_parts.proofs.Digits.{EndsAt, digits_end, plain_value, wrapped_more}
-use Rattle.text_parts.proofs.numerals.number_at.Goals as goal
-use Rattle.text_parts.proofs.numerals.number_at.Goals.{then-loop-digits-test+else-is_digit_byte, else-loop-digits-test}
+use Rattle.text_parts.proofs.numerals.further_digits.Goals as goal
+use Rattle.text_parts.proofs.numerals.further_digits.Goals.{then-loop-digits-test+else-is_digit_byte, else-loop-digits-test}
 
 pub loop-digits-preserved : goal.loop-digits-preserved
 loop-digits-preserved c =
@@ -13,8 +12,7 @@ loop-digits-preserved c =
     let i = c.loop-digits.invariant in
     let lt : k < length text = omega (arith, c.loop-digits-test.true) in
     let is : is_digit (get_or text k 0) ≡ true = sym c.is_digit_byte.ensures ∙ c.if-is_digit_byte.true in
-    let more = wrapped_more text k c.loop-digits.value c.from-digit.result lt is (c.from-digit.ensures
-    ∙ c.saturating_sub.ensures) i.value i.below in
+    let more = wrapped_more text k c.loop-digits.value c.digit_of.result lt is (c.digit_of.ensures.digit is) i.value i.below in
     record {
       within = omega arith;
       passed = search rules;
@@ -35,9 +33,9 @@ returns c =
     ] in
     let ends : EndsAt text k = digits_end text k i.within i.passed stops in
     record {
-      digits = ends.length_is;
+      count = ends.length_is;
+      within = i.within;
       value = plain_value text k c.loop-digits.value few (i.value few) (i.below few)
           ∙ ap (λ s. min (value_of s) many) ends.front_is;
-      rest = take_rest text k ∙ ends.rest_is;
       below = i.below few;
     }

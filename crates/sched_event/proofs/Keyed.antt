@@ -92,6 +92,17 @@ sign_none [] rest numeral = absurd (omega (arith, numeral.some))
 sign_none (byte ∷ digits) rest numeral = rw (digit_no_sign byte
     (and_parts (is_digit byte) (list_all is_digit digits) numeral.all).0) refl
 
+-- digits behind a key are a prio with no sign
+pub unsigned_prio : (key text digits rest : List ℕ) → numeral_behind key text ≡ Some (digits, rest)
+    → prio_behind key text ≡ Some (record { minus = false; digits = digits }, rest)
+unfolding numeral_behind prio_behind
+unsigned_prio key text digits rest e =
+    let after = bind_some (after_text key text) (run_at is_digit) (digits, rest) e in
+    let run = run_at_takes is_digit after.0 digits rest after.2 in
+    let sign : sign_at after.0 ≡ (false, after.0) =
+    subst (λ (s : List ℕ). sign_at s ≡ (false, s)) (sym run.parts) (sign_none digits rest run.run) in
+    rw (after.1, sign, after.2) refl
+
 signed_append : (minus : Bool) (digits rest : List ℕ)
     → cond minus (45 ∷ (digits ++ rest)) (digits ++ rest) ≡ prio_text (record { minus = minus; digits = digits })
     ++ rest

@@ -4,10 +4,10 @@ ghost use Rattle.sched_event.specs.Texts.{switch, wakeup, migration};
 ghost use Rattle.sched_event.specs.FieldsView.{switch_fields_view, wakeup_fields_view, migration_fields_view};
 ghost use Rattle.sched_event.specs.Usual.{HasFields, HasAct, IsUsual};
 
-use crate::fields::{fields, numeral, prio};
+use crate::fields::{fields, numeral};
 use crate::migration::{MigrationFields, migration_of};
 use crate::switch::{SwitchFields, switch_of};
-use crate::usual_fields::{name, state};
+use crate::usual_fields::{name, prio, state};
 use crate::wakeup::{WakeupFields, wakeup_of};
 use cfs_model::Act;
 use ftrace_line::{Which, usual_front};
@@ -81,7 +81,7 @@ fn switch_act(cpu: u32, text: &[u8]) -> Option<(Act, &[u8])>
     Some((switch.act(), rest))
 }
 
-#[inline(always)]
+#[inline(never)]
 fn wakeup_act(text: &[u8]) -> Option<(Act, &[u8])>
     ensures { (cpu : ℕ) → IfSome result (λ x. HasAct cpu kinds.Wakeup text.now x.0 x.1.now) }
 {
@@ -93,7 +93,7 @@ fn wakeup_act(text: &[u8]) -> Option<(Act, &[u8])>
     Some((wakeup.wake(), rest))
 }
 
-#[inline(always)]
+#[inline(never)]
 fn birth_act(text: &[u8]) -> Option<(Act, &[u8])>
     ensures { (cpu : ℕ) → IfSome result (λ x. HasAct cpu kinds.WakeupNew text.now x.0 x.1.now) }
 {
@@ -105,7 +105,7 @@ fn birth_act(text: &[u8]) -> Option<(Act, &[u8])>
     Some((birth.birth(), rest))
 }
 
-#[inline(always)]
+#[inline(never)]
 fn migration_act(text: &[u8]) -> Option<(Act, &[u8])>
     ensures { (cpu : ℕ) → IfSome result (λ x. HasAct cpu kinds.MigrateTask text.now x.0 x.1.now) }
 {

@@ -1,12 +1,14 @@
 //! The fields of a text that goes on behind its line: no line ends in what is read here.
 
-ghost use Rattle.std.specs.Prelude.{◌≡◌, ◌<◌, ◌≤◌, length, take, IfSome};
+ghost use Rattle.std.specs.Prelude.{◌≡◌, ◌<◌, ◌≤◌, length, take, Some, IfSome};
 ghost use Rattle.std.specs.List.{prefix_len};
 ghost use Rattle.text_parts.specs.Unbroken.{IsUnbroken};
 ghost use Rattle.sched_event.specs.Texts.{IsName, IsState};
+ghost use Rattle.sched_event.specs.FieldsView.{prio_pair};
+ghost use Rattle.sched_event.specs.Reading.{prio_behind};
 ghost use Rattle.sched_event.specs.Usual.{HasField, is_plain};
 
-use crate::fields::{NAME_MAX, doubled};
+use crate::fields::{NAME_MAX, PrioFields, doubled, numeral};
 use text_parts::pieces::{after_front, begins_with};
 
 /// The name behind a key, up to the first place where the next key stands, and the text from that key on.
@@ -32,6 +34,16 @@ pub(crate) fn state<'a>(text: &'a [u8], key: &[u8]) -> Option<(&'a [u8], &'a [u8
         return None;
     }
     Some(after.split_at(count))
+}
+
+/// The prio behind a key, where it has no sign, as that of each fair task, and what follows it.
+#[inline(always)]
+pub(crate) fn prio<'a>(text: &'a [u8], key: &[u8]) -> Option<(PrioFields<'a>, &'a [u8])>
+    ensures { IfSome result (λ x. prio_behind key.now text.now ≡ Some (prio_pair x)) }
+{
+    let (numeral, rest) = numeral(text, key)?;
+    let minus = false;
+    Some((PrioFields { minus, numeral }, rest))
 }
 
 /// How many bytes of a name stand before a key.

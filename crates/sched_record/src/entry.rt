@@ -1,4 +1,4 @@
-ghost use Rattle.std.specs.Prelude.{◌≡◌, ℕ, ◌<◌, ◌∷◌, List, length, MatchOption, Ok};
+ghost use Rattle.std.specs.Prelude.{◌≡◌, ℕ, ◌<◌, ◌≤◌, ◌∷◌, List, length, IfSome, MatchOption, Ok};
 ghost use Rattle.std.specs.List.{before_first};
 ghost use Rattle.text_parts.specs.Lines.{is_line_feed, lines_of};
 ghost use Rattle.ftrace_line.specs.Line.{LineAnswer, other};
@@ -20,30 +20,56 @@ pub fn next_entry(number: u64, text: &[u8]) -> (Result<Option<Entry>, TraceCause
     ensures lines { lines_of text.now ≡ before_first is_line_feed text.now ∷ lines_of result.1.now }
     ensures shorter { length result.1.now < length text.now }
 {
-    if let Some(usual) = usual_line(text) {
-        return (usual_entry(number, usual.event), usual.rest);
+    match usual_entry(number, text) {
+        Some((said, rest)) => (Ok(said), rest),
+        None => careful_entry(number, text),
     }
-    let (line, rest) = next_line(text);
-    (line_entry(number, line), rest)
+}
+
+/// The same for a line of the usual form, and nothing for others. It says so by fewer words than `next_entry`, so that
+/// a reader of many lines has less to tell apart.
+#[inline(always)]
+pub fn usual_entry(number: u64, text: &[u8]) -> Option<(Option<Entry>, &[u8])>
+    ensures says { IfSome result (λ x. LineSays number (before_first is_line_feed text.now) (Ok x.0)) }
+    ensures lines { IfSome result (λ x. lines_of text.now ≡ before_first is_line_feed text.now ∷ lines_of x.1.now) }
+    ensures shorter { IfSome result (λ x. length x.1.now < length text.now) }
+{
+    if number > GREATEST_LINE {
+        return None;
+    }
+    match usual_line(text) {
+        Some(usual) => Some((entry_of(number, usual.event), usual.rest)),
+        None => None,
+    }
 }
 
 /// The event that a line says which is read already, if it says one of the four.
 #[inline(always)]
-fn usual_entry(number: u64, said: Option<UsualEvent>) -> Result<Option<Entry>, TraceCause>
+fn entry_of(number: u64, said: Option<UsualEvent>) -> Option<Entry>
+    requires { number ≤ GREATEST_LINE }
     ensures { (line : List ℕ) → MatchOption said (LineAnswer line (Ok other)) (SaysAct line)
-        → LineSays number line result }
+        → LineSays number line (Ok result) }
 {
-    if number > GREATEST_LINE {
-        return Err(TraceCause::TooManyLines);
-    }
     match said {
-        None => Ok(None),
-        Some(event) => Ok(Some(Entry {
+        None => None,
+        Some(event) => Some(Entry {
             line: number as u32,
             time: event.time,
             act: event.act,
-        })),
+        }),
     }
+}
+
+/// The same for any line, away from the readers of usual ones: it looks for the line's end first.
+#[inline(never)]
+pub fn careful_entry(number: u64, text: &[u8]) -> (Result<Option<Entry>, TraceCause>, &[u8])
+    requires { 0 < length text.now }
+    ensures says { LineSays number (before_first is_line_feed text.now) result.0 }
+    ensures lines { lines_of text.now ≡ before_first is_line_feed text.now ∷ lines_of result.1.now }
+    ensures shorter { length result.1.now < length text.now }
+{
+    let (line, rest) = next_line(text);
+    (line_entry(number, line), rest)
 }
 
 /// The event that a line says, if it says one. The number of the line counts from 1, comments included.

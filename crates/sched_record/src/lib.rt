@@ -21,7 +21,7 @@ mod windowing;
 
 pub use cause::{TraceCause, TraceFault};
 pub use dealing::{deal_start, step_at};
-pub use entry::next_entry;
+pub use entry::{careful_entry, next_entry, usual_entry};
 pub use joining::{JoinCause, JoinFault, join, outside_line};
 pub use laws::{one_record_answer, one_trace_answer};
 pub use lists::Events;

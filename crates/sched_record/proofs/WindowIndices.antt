@@ -1,8 +1,10 @@
 -- Dealing a window by the indices of the events that touch a processor.
 use Rattle.std.proofs.Common.{◌≡◌, ℕ, zero, suc, ◌+◌, ◌<◌, ◌≤◌, List, [], ◌∷◌, ◌++◌, length, get_or, map, take, refl}
-use Rattle.std.proofs.Common.{sym, ap, ◌∙◌, arith}
+use Rattle.std.proofs.Common.{sym, ap, subst, ◌∙◌, All, arith, drop}
 use Rattle.std.specs.Prelude.{filter}
-use Rattle.std.proofs.lemmas.List.{get_or-map, get_or_default, length-map, map_more, take_all}
+use Rattle.std.proofs.lemmas.List.{drop-map, get_or-map, get_or_default, length-map, map_more, take-map, take_all}
+use Rattle.std.proofs.lemmas.List.Elements.{All-drop, All-get_or, All-take}
+use Rattle.std.proofs.lemmas.List.Sums.{count_by-le-length, length-filter}
 use Rattle.cfs_model.specs.Claimed.{Claimed}
 use Rattle.cfs_model.specs.declared.act.Entry.{Entry}
 use Rattle.replay_model.specs.Cut.{steps_at, touches}
@@ -11,7 +13,7 @@ use Rattle.replay_model.specs.declared.step.Step.{Step}
 use Rattle.sched_record.specs.Indices.{indices_touching}
 use Rattle.sched_record.specs.Window.{said_beside, said_of}
 use Rattle.sched_record.specs.declared.window.Saying.{Saying}
-use Rattle.sched_record.proofs.Indexing.{index_below, said_found}
+use Rattle.sched_record.proofs.Indexing.{indices_within, said_found}
 use Rattle.sched_record.proofs.Windows.{said_here, said_length}
 
 claimed_there : (said : List Claimed) (i : ℕ) → i < length said → (here : Claimed) × (here ≡ get_or said i here)
@@ -29,19 +31,38 @@ said_is events sayings i event saying here paired lt is there stands =
     ∙ get_or_default (said_beside events sayings) i (said_of event saying) here
     (let n = said_length events sayings paired in omega (arith, n, lt)) ∙ sym stands
 
-module _ (cpu : ℕ) (events : List Entry) (sayings : List Saying) (indices : List ℕ)
-    (paired : length sayings ≡ length events) (are : indices ≡ indices_touching cpu events) where
+at_most : (xs : List Claimed) (n : ℕ) → (Claimed → length xs ≤ n) → length xs ≤ n
+at_most [] n h = omega arith
+at_most (x ∷ xs) n h = h x
+
+-- some of the indices of the events that touch a processor
+module _ (cpu from most : ℕ) (events : List Entry) (sayings : List Saying) (indices : List ℕ)
+    (paired : length sayings ≡ length events) (are : indices ≡ take most (drop from (indices_touching cpu events))) where
   abbrev said : List Claimed
   said = said_beside events sayings
 
   abbrev touching : List Claimed
-  touching = filter (touches cpu) said
+  touching = take most (drop from (filter (touches cpu) said))
+
+  -- what is said at them
+  found : (d : Claimed) → map (λ index. get_or said index d) indices ≡ touching
+  found d =
+      let read : ℕ → Claimed = λ index. get_or said index d in
+      ap (map read) are ∙ sym (take-map read most (drop from (indices_touching cpu events)))
+      ∙ ap (take most) (sym (drop-map read from (indices_touching cpu events)))
+      ∙ ap (λ xs. take most (drop from xs)) (said_found cpu events sayings d paired)
+
+  -- each is one among the events
+  pub part_below : (k : ℕ) → k < length indices → get_or indices k 0 < length events
+  part_below k h =
+      All-get_or (λ index. index < length events) indices k 0 h
+      (subst (All (λ index. index < length events)) (sym are)
+      (All-take (λ index. index < length events) most (drop from (indices_touching cpu events))
+      (All-drop (λ index. index < length events) from (indices_touching cpu events) (indices_within cpu events))))
 
   -- there are as many as indices
   count : (d : Claimed) → length touching ≡ length indices
-  count d =
-      let read : ℕ → Claimed = λ index. get_or said index d in
-      ap length (sym (ap (map read) are ∙ said_found cpu events sayings d paired)) ∙ length-map indices read
+  count d = ap length (sym (found d)) ∙ length-map indices (λ index. get_or said index d)
 
   -- the step at the next index
   pub deals_next : (k : ℕ) (steps more : List Step) → k < length indices
@@ -49,31 +70,38 @@ module _ (cpu : ℕ) (events : List Entry) (sayings : List Saying) (indices : Li
       → ((here : Claimed) → here ≡ get_or said (get_or indices k 0) here → more ≡ steps ++ step_at cpu here ∷ [])
       → more ≡ map (step_at cpu) (take (k + 1) touching)
   deals_next k steps more h dealt added =
-      let below = index_below cpu events indices k are h in
+      let below = part_below k h in
       let size = said_length events sayings paired in
       let there = claimed_there said (get_or indices k 0) (omega (arith, below, size)) in
       let here = there.0 in
-      let read : ℕ → Claimed = λ index. get_or said index here in
-      let all : map read indices ≡ touching = ap (map read) are ∙ said_found cpu events sayings here paired in
       let at : here ≡ get_or touching k here =
-      there.1 ∙ sym (get_or-map read indices k 0 here h) ∙ ap (λ es. get_or es k here) all in
+      there.1 ∙ sym (get_or-map (λ index. get_or said index here) indices k 0 here h)
+      ∙ ap (λ es. get_or es k here) (found here) in
       added here there.1 ∙ ap (λ ss. ss ++ step_at cpu here ∷ []) dealt
       ∙ ap (λ x. map (step_at cpu) (take k touching) ++ step_at cpu x ∷ []) at
       ∙ sym (map_more (step_at cpu) touching k here (let n = count here in omega (arith, n, h)))
 
-few : (cpu : ℕ) (events : List Entry) (sayings : List Saying) (indices : List ℕ) → length sayings ≡ length events
-    → indices ≡ indices_touching cpu events
-    → length (filter (touches cpu) (said_beside events sayings)) ≤ length indices
-few cpu [] sayings indices paired are = omega arith
-few cpu (event ∷ events) [] indices paired are = absurd (omega arith)
-few cpu (event ∷ events) (saying ∷ sayings) indices paired are =
-    let n = count cpu (event ∷ events) (saying ∷ sayings) indices paired are (said_of event saying) in omega (arith, n)
+  -- the steps at all of them
+  pub deals_indexed : (k : ℕ) (steps : List Step) → length indices ≤ k
+      → steps ≡ map (step_at cpu) (take k touching)
+      → steps ≡ take most (drop from (steps_at cpu said))
+  deals_indexed k steps all dealt =
+      dealt ∙ ap (map (step_at cpu)) (take_all k touching (at_most touching k (λ d. (let n = count d in omega (arith, n, all)))))
+      ∙ sym (take-map (step_at cpu) most (drop from (filter (touches cpu) said)))
+      ∙ ap (take most) (sym (drop-map (step_at cpu) from (filter (touches cpu) said)))
 
--- the steps at all indices
-pub deals_indexed : (cpu : ℕ) (events : List Entry) (sayings : List Saying) (indices : List ℕ) (k : ℕ)
-    (steps : List Step) → length sayings ≡ length events → indices ≡ indices_touching cpu events → length indices ≤ k
-    → steps ≡ map (step_at cpu) (take k (filter (touches cpu) (said_beside events sayings)))
-    → steps ≡ steps_at cpu (said_beside events sayings)
-deals_indexed cpu events sayings indices k steps paired are all dealt =
-    dealt ∙ ap (map (step_at cpu)) (take_all k (filter (touches cpu) (said_beside events sayings))
-    (let n = few cpu events sayings indices paired are in omega (arith, n, all)))
+-- no more steps than events
+pub steps_at_most : (cpu : ℕ) (events : List Entry) (sayings : List Saying)
+    → length (steps_at cpu (said_beside events sayings)) ≤ length events
+steps_at_most cpu events sayings =
+    let said = said_beside events sayings in
+    let steps = length-map (filter (touches cpu) said) (step_at cpu) in
+    let touching = length-filter (touches cpu) said in
+    let count = count_by-le-length (touches cpu) said in
+    let pairs = fewer events sayings in
+    omega (arith, steps, touching, count, pairs)
+  where
+    fewer : (es : List Entry) (ss : List Saying) → length (said_beside es ss) ≤ length es
+    fewer [] ss = omega arith
+    fewer (e ∷ es) [] = omega arith
+    fewer (e ∷ es) (s ∷ ss) = (let h = fewer es ss in omega (arith, h))

@@ -1,5 +1,5 @@
 ghost use Rattle.std.specs.Prelude.{◌≡◌, ◌==◌, ℕ, ◌<◌, ◌^◌, ◌++◌, [], ◌∷◌, length, vec_capacity, vec_len};
-ghost use Rattle.std.specs.Prelude.{if◌then◌else◌, OnErr, OnOk};
+ghost use Rattle.std.specs.Prelude.{if◌then◌else◌, drop, take, OnErr, OnOk};
 ghost use Rattle.std.specs.List.{list_any};
 ghost use Rattle.std.proofs.Props.{props};
 ghost use Rattle.cfs_model.specs.Limits.{most_processors};
@@ -106,11 +106,28 @@ impl Window {
     pub fn deal(&self, cpu: u32, steps: &mut Vec<Step>) -> Result<(), Memory>
         ensures { OnOk result (steps.new.items ≡ steps_at cpu (window_view self.now)) }
     {
+        self.deal_some(cpu, 0, self.events.len(), steps)?;
+        Ok(())
+    }
+
+    /// At most so many of these steps, from one on, counted from 0, in place of what the list held.
+    pub fn deal_some(
+        &self,
+        cpu: u32,
+        from: usize,
+        most: usize,
+        steps: &mut Vec<Step>,
+    ) -> Result<(), Memory>
+        ensures { OnOk result (steps.new.items ≡ take most (drop from (steps_at cpu (window_view self.now)))) }
+    {
         steps.clear();
         if cpu as usize >= MOST_PROCESSORS || self.events.len() > u32::MAX as usize {
-            return self.deal_by_all(cpu, steps);
+            let mut all = Vec::new(*steps.allocator());
+            self.deal_by_all(cpu, &mut all)?;
+            steps.extend_from_slice(part_of(&all, from, most))?;
+            return Ok(());
         }
-        for index in self.indices.at(cpu) {
+        for index in part_of(self.indices.at(cpu), from, most) {
             self.push_step(*index as usize, cpu, steps)?;
         }
         Ok(())
@@ -142,6 +159,15 @@ impl Window {
         steps.push(step)?;
         Ok(())
     }
+}
+
+/// At most so many of these items, from one on.
+fn part_of<T>(items: &[T], from: usize, most: usize) -> &[T]
+    ensures { result.now ≡ take most (drop from items.now) }
+{
+    let start = from.min(items.len());
+    let count = most.min(items.len() - start);
+    &items[start..start + count]
 }
 
 /// Adds the index of an event to the processors that it touches, where a `u32` counts so many.

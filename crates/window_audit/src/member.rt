@@ -1,7 +1,7 @@
 ghost use Rattle.std.specs.Prelude.{◌≡◌, ◌+◌, ◌^◌, ◌<◌, [], false, length, IfOk, OnOk};
 ghost use Rattle.replay_model.specs.Cut.{steps_at};
 ghost use Rattle.replay_model.specs.Noted.{PageView};
-ghost use Rattle.queue_replay.specs.Windowed.{windowed_view};
+ghost use Rattle.queue_replay.specs.Windowed.{GoesThrough, windowed_view};
 ghost use Rattle.sched_record.specs.Window.{window_view};
 ghost use Rattle.window_audit.specs.Member.{IsThroughWindow, replay_of};
 
@@ -11,11 +11,14 @@ use replay_model::{Step, StepFault, Tally, Ticket};
 use sched_record::Window;
 use std::alloc::Global;
 
+/// How many steps are dealt at once: so few that they stay near until they are replayed.
+const STEPS_AT_ONCE: usize = 128;
+
 /// One processor of an audit in windows.
 #[derive(Drop)]
 pub(crate) struct Member {
     pub replay: WindowedReplay,
-    /// The steps of the window at hand; the room for them is used again.
+    /// Some steps of the window at hand; the room for them is used again.
     pub steps: Vec<Step>,
     /// Whether a growth was refused in it.
     pub wants_memory: bool,
@@ -50,9 +53,26 @@ impl Member {
         ensures { OnOk result (IsThroughWindow (replay_of self.old)
             (steps_at (replay_of self.old).cpu (window_view window.now)) last_time last_line (replay_of self.new)) }
     {
-        window.deal(self.replay.cpu(), &mut self.steps)?;
-        self.replay.go_through(&self.steps)?;
+        self.replay_steps(window)?;
         self.replay.end_window(last_time, last_line);
+        Ok(())
+    }
+
+    /// Replays the window's steps, so many at once.
+    fn replay_steps(&mut self, window: &Window) -> Result<(), Memory>
+        requires { (replay_of self.old).made + length (steps_at (replay_of self.old).cpu (window_view window.now))
+            < 2 ^ 64 }
+        ensures { OnOk result (GoesThrough (replay_of self.old)
+            (steps_at (replay_of self.old).cpu (window_view window.now)) (replay_of self.new)) }
+    {
+        let cpu = self.replay.cpu();
+        let mut dealt = 0;
+        window.deal_some(cpu, dealt, STEPS_AT_ONCE, &mut self.steps)?;
+        while !self.steps.is_empty() {
+            self.replay.go_through(&self.steps)?;
+            dealt += self.steps.len();
+            window.deal_some(cpu, dealt, STEPS_AT_ONCE, &mut self.steps)?;
+        }
         Ok(())
     }
 

@@ -24,7 +24,7 @@ nothing_larger needs = same_settings (larger (only_slack 0) needs) needs each
     each Slack = zero-max needs.slack
     each Drift = zero-max needs.drift
 
-needs_append : (knobs : KnobsView) (cpu : ℕ) (before between after : ReplayStateView) (steps more : List Step)
+pub needs_append : (knobs : KnobsView) (cpu : ℕ) (before between after : ReplayStateView) (steps more : List Step)
     (here later : KnobsView) → AllPassNeeding knobs cpu before steps between here
     → AllPassNeeding knobs cpu between more after later
     → AllPassNeeding knobs cpu before (steps ++ more) after (larger here later)

@@ -1,4 +1,4 @@
-ghost use Rattle.std.specs.Prelude.{◌≡◌, ◌≢◌, ℕ, List, ◌<◌, ◌==◌, [], ◌∷◌, ◌++◌, if◌then◌else◌, OnOk, OnErr};
+ghost use Rattle.std.specs.Prelude.{◌≡◌, ◌≢◌, ℕ, List, ◌<◌, ◌==◌, [], ◌∷◌, ◌++◌, if◌then◌else◌, length, OnOk, OnErr};
 ghost use Rattle.cfs_model.specs.Limits.{most_processors};
 ghost use Rattle.sched_record.specs.Indices.{indices_at, touches_cpu};
 
@@ -110,9 +110,8 @@ impl Indices {
         self.hints.clear();
     }
 
-    /// Adds the index of an event to the processors that it touches: to all of them, or to none where a growth is
-    /// refused.
-    pub(crate) fn add(&mut self, act: Act, index: u32) -> Result<(), Memory>
+    /// Adds the index of an event, and the event's hint, which is set later.
+    pub(crate) fn add_with_hint(&mut self, act: Act, index: u32) -> Result<(), Memory>
         ensures added { OnOk result ((cpu : ℕ) → cpu < most_processors
             → indices_at self.new cpu ≡ indices_at self.old cpu ++ (if touches_cpu cpu act then index ∷ [] else [])) }
         ensures kept { OnErr result ((cpu : ℕ) → cpu < most_processors
@@ -121,11 +120,37 @@ impl Indices {
         if (index as usize).is_multiple_of(EVENTS_A_HINT) {
             self.hints.push(NO_HINT)?;
         }
+        self.add(act, index)
+    }
+
+    /// Adds the index of an event to the processors that it touches: to all of them, or to none where a growth is
+    /// refused.
+    #[inline(always)]
+    pub(crate) fn add(&mut self, act: Act, index: u32) -> Result<(), Memory>
+        ensures added { OnOk result ((cpu : ℕ) → cpu < most_processors
+            → indices_at self.new cpu ≡ indices_at self.old cpu ++ (if touches_cpu cpu act then index ∷ [] else [])) }
+        ensures kept { OnErr result ((cpu : ℕ) → cpu < most_processors
+            → indices_at self.new cpu ≡ indices_at self.old cpu) }
+    {
         let (home, dest) = act.ends();
         self.push_at(home, index)?;
         if dest == home {
             return Ok(());
         }
+        self.push_dest(home, dest, index)
+    }
+
+    /// Puts an index behind the last of a destination, or takes it off the home's again. Out of line, as few events
+    /// move a task.
+    #[inline(never)]
+    fn push_dest(&mut self, home: u32, dest: u32, index: u32) -> Result<(), Memory>
+        ensures added { OnOk result ((other : ℕ) → other < most_processors
+            → indices_at self.new other ≡ indices_at self.old other ++ (if dest == other then index ∷ [] else [])) }
+        ensures other { OnErr result ((other : ℕ) → other ≢ home
+            → indices_at self.new other ≡ indices_at self.old other) }
+        ensures home { (before : List ℕ) → indices_at self.old home ≡ before ++ index ∷ []
+            → OnErr result (indices_at self.new home ≡ before) }
+    {
         let pushed = self.push_at(dest, index);
         if pushed.is_err() {
             self.pop_at(home);
@@ -134,6 +159,7 @@ impl Indices {
     }
 
     /// Puts an index behind the last of a processor.
+    #[inline(always)]
     fn push_at(&mut self, cpu: u32, index: u32) -> Result<(), Memory>
         ensures added { OnOk result ((other : ℕ) → other < most_processors
             → indices_at self.new other ≡ indices_at self.old other ++ (if cpu == other then index ∷ [] else [])) }
@@ -143,11 +169,23 @@ impl Indices {
         if processor >= MOST_PROCESSORS {
             return Ok(());
         }
+        if processor >= self.lists.len() {
+            self.make_lists(processor)?;
+        }
+        self.lists[processor].push(index)?;
+        Ok(())
+    }
+
+    /// Adds empty lists up to that of a processor.
+    #[inline(never)]
+    fn make_lists(&mut self, processor: usize) -> Result<(), Memory>
+        ensures made { OnOk result (processor < length self.new) }
+        ensures same { (other : ℕ) → indices_at self.new other ≡ indices_at self.old other }
+    {
         let alloc = *self.lists.allocator();
         while self.lists.len() <= processor {
             self.lists.push(PlainList::new(alloc))?;
         }
-        self.lists[processor].push(index)?;
         Ok(())
     }
 

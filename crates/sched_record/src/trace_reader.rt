@@ -123,7 +123,7 @@ impl TraceReader {
         let base = count as u32;
         entries.reserve(later.entries.len())?;
         for event in later.entries.as_slice() {
-            indices.add(event.act, entries.len() as u32)?;
+            indices.add_with_hint(event.act, entries.len() as u32)?;
             entries.push(Entry {
                 line: event.line + base,
                 time: event.time,
@@ -189,7 +189,8 @@ impl TraceReader {
                     });
                 } else {
                     self.entries.reserve(1)?;
-                    self.indices.add(entry.act, self.entries.len() as u32)?;
+                    self.indices
+                        .add_with_hint(entry.act, self.entries.len() as u32)?;
                     self.entries.push(entry)?;
                     self.last = time;
                     self.count = number;

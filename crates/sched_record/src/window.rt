@@ -147,6 +147,7 @@ impl Window {
     }
 
     /// Adds the step of the event at an index, at a processor that it touches.
+    #[inline(always)]
     fn push_step(&self, index: usize, cpu: u32, steps: &mut Vec<Step>) -> Result<(), Memory>
         requires { index < length self.now.events.items }
         ensures { (here : Claimed) → here ≡ slice_index_or (window_view self.now) index here

@@ -36,9 +36,17 @@ impl Policies {
     {
         match event.act {
             Act::Born { pid, .. } => policy_of(is_named(idles, event.line, pid)),
-            Act::Shift { pid, .. } => policy_of(self.idle.contains(&pid)),
+            Act::Shift { pid, .. } => self.policy_by_now(pid),
             Act::Switch { .. } | Act::Wake { .. } => Policy::Normal,
         }
+    }
+
+    /// The policy of a task. Out of line, as few events move one.
+    #[inline(never)]
+    fn policy_by_now(&self, pid: u32) -> Policy
+        ensures { result ≡ policies_view self.now pid }
+    {
+        policy_of(self.idle.contains(&pid))
     }
 
     /// Goes on over an event: a task that is born is of the policy that is said on its line.
@@ -52,7 +60,8 @@ impl Policies {
         Ok(())
     }
 
-    /// Takes a pid in, or out.
+    /// Takes a pid in, or out. Out of line, as few events bear a task.
+    #[inline(never)]
     fn put(&mut self, pid: u32, is_idle: bool) -> Result<(), Memory>
         ensures { OnOk result ((other : ℕ) → policies_view self.new other
             ≡ put (policies_view self.old) pid (policy_by is_idle) other) }

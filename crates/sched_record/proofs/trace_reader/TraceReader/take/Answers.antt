@@ -24,9 +24,9 @@ invariant_of-self-else-time-self c =
         length_push c.reserve.new.self.items c.in-Ok-Some.entry,
       );
       indexed = rw c.in_ok-push-in-Ok-Some.ensures.items
-          (indexed_more c.reserve.new.self.items before.indices c.add.new.self c.in-Ok-Some.entry _
+          (indexed_more c.reserve.new.self.items before.indices c.add_with_hint.new.self c.in-Ok-Some.entry _
           (rw c.reserve.ensures.items before.indexed) (search rules)
-          c.in_ok-add-in-Ok-Some.ensures.added);
+          c.in_ok-add_with_hint-in-Ok-Some.ensures.added);
       kept = rw (c.in_ok-push-in-Ok-Some.ensures.items, c.reserve.ensures.items)
           (keeps_event before.entries.items before.count before.last line c.in-Ok-Some.entry before.kept says
           c.if-time-self.false);

@@ -1,6 +1,6 @@
 use Rattle.std.proofs.Common.{◌≡◌, ℕ, ◌+◌, ◌-◌}
 use Rattle.sched_record.specs.Indices.{indices_at}
-use Rattle.sched_record.proofs.indices.Indices.push_at.Given as goal
+use Rattle.sched_record.proofs.indices.Indices.make_lists.Given as goal
 
 abbrev pub invariant-loop-alloc : goal.invariant-loop-alloc
 invariant-loop-alloc l = (other : ℕ) → indices_at l.self-inside.lists.items other ≡ indices_at

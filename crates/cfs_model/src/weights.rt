@@ -7,12 +7,24 @@ use crate::limits::GREATEST_RUNTIME;
 use crate::nice::Nice;
 use crate::policy::Policy;
 
-// The rows of the table, each from the nice value that begins it.
-macro_rules! weight_at {
-    ($index:expr; $($nice:literal: $($weight:literal),+);+ $(;)?) => {
-        [$($($weight),+),+][$index]
+// A table of weights by its rows, each from the nice value that begins it.
+macro_rules! weights {
+    ($($nice:literal: $($weight:literal),+);+ $(;)?) => {
+        [$($($weight),+),+]
     };
 }
+
+/// The weights of the forty nice values, after the scheduler's table of weights by nice.
+static WEIGHTS: [u32; 40] = weights!(
+    -20: 88761, 71755, 56483, 46273, 36291;
+    -15: 29154, 23254, 18705, 14949, 11916;
+    -10: 9548, 7620, 6100, 4904, 3906;
+    -5: 3121, 2501, 1991, 1586, 1277;
+    0: 1024, 820, 655, 526, 423;
+    5: 335, 272, 215, 172, 137;
+    10: 110, 87, 70, 56, 45;
+    15: 36, 29, 23, 18, 15;
+);
 
 // The index of a nice value among the forty.
 fn index_of(nice: Nice) -> usize
@@ -22,21 +34,12 @@ fn index_of(nice: Nice) -> usize
     (nice.get() + 20) as usize
 }
 
-/// The weight of a fair task of this nice value, after the scheduler's table of weights by nice. It is above 0.
+/// The weight of a fair task of this nice value. It is above 0.
 pub fn weight(nice: Nice) -> u32
     ensures table { result ≡ weight_of nice }
     ensures positive { 0 < result }
 {
-    weight_at!(index_of(nice);
-        -20: 88761, 71755, 56483, 46273, 36291;
-        -15: 29154, 23254, 18705, 14949, 11916;
-        -10: 9548, 7620, 6100, 4904, 3906;
-        -5: 3121, 2501, 1991, 1586, 1277;
-        0: 1024, 820, 655, 526, 423;
-        5: 335, 272, 215, 172, 137;
-        10: 110, 87, 70, 56, 45;
-        15: 36, 29, 23, 18, 15;
-    )
+    WEIGHTS[index_of(nice)]
 }
 
 /// The weight of a task of this nice value and policy. It is above 0.
@@ -59,7 +62,7 @@ pub fn charge(delta: u64, weight: u32) -> Option<i64>
     ensures { SomeIff result (charge_of delta weight ≤ greatest_runtime) (pos (charge_of delta weight)) }
 {
     if delta <= SHORT {
-        return Some((delta * 1024 / u64::from(weight)) as i64);
+        return Some(short_charge(delta, weight));
     }
     let cost = u128::from(delta) * 1024 / u128::from(weight);
     if cost <= GREATEST_RUNTIME as u128 {
@@ -71,3 +74,19 @@ pub fn charge(delta: u64, weight: u32) -> Option<i64>
 
 /// In nanoseconds, 52 days: so short a time costs at most the greatest runtime, whatever the weight, and 64 bits do.
 const SHORT: u64 = GREATEST_RUNTIME as u64 / 1024;
+
+/// The same for at most `SHORT`. Most tasks have the nice value 0, and are charged what they ran: no division.
+fn short_charge(delta: u64, weight: u32) -> i64
+    requires weight { 0 < weight }
+    requires short { delta * 1024 ≤ greatest_runtime }
+    ensures { result ≡ pos (charge_of delta weight) }
+{
+    if weight == NICE_0_WEIGHT {
+        delta as i64
+    } else {
+        (delta * 1024 / u64::from(weight)) as i64
+    }
+}
+
+/// The weight at nice value 0.
+const NICE_0_WEIGHT: u32 = 1024;

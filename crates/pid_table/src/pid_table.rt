@@ -56,6 +56,7 @@ impl<V> PidTable<V> {
     }
 
     /// Where the row of a pid is, if it has one.
+    #[inline(never)]
     pub fn index_of(&self, pid: u32) -> Option<usize>
         ensures index { result ≡ index_in self.now.pids pid }
         ensures within { IfSome result (λ index. index < length self.now.rows) }
@@ -66,6 +67,7 @@ impl<V> PidTable<V> {
 
     /// The same, where the row is expected at an index: it is looked at before the pid is hashed.
     #[tactic(auto, using(crate::proofs::Indices::index_there))]
+    #[inline(always)]
     pub fn index_near(&self, expected: usize, pid: u32) -> Option<usize>
         ensures index { result ≡ index_in self.now.pids pid }
         ensures within { IfSome result (λ index. index < length self.now.rows) }

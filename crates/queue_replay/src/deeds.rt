@@ -38,6 +38,7 @@ macro_rules! moves {
 
 /// A step's deed is tried on a runqueue as it finds it: the moves that it makes, or the first test that it fails. Where
 /// a test fails, or memory is wanted, nothing changes.
+#[inline(always)]
 pub(crate) fn try_deed(
     queue: &mut Runqueue,
     cpu: u32,
@@ -77,6 +78,7 @@ pub(crate) fn try_deed(
     }
 }
 
+#[inline(always)]
 fn try_switch(
     queue: &mut Runqueue,
     step: &Step,
@@ -106,6 +108,7 @@ fn try_switch(
     Ok(Outcome::Made(MadeDeed { ticket: None, need }))
 }
 
+#[inline(always)]
 fn try_wake(
     queue: &mut Runqueue,
     step: &Step,
@@ -134,6 +137,7 @@ fn try_wake(
     Ok(Outcome::Made(MadeDeed { ticket: None, need }))
 }
 
+#[inline(always)]
 fn try_birth(
     queue: &mut Runqueue,
     cpu: u32,
@@ -161,6 +165,7 @@ fn try_birth(
     }
 }
 
+#[inline(always)]
 fn try_leave(
     queue: &mut Runqueue,
     cpu: u32,
@@ -183,6 +188,7 @@ fn try_leave(
     Ok(Outcome::Made(MadeDeed { ticket, need: 0 }))
 }
 
+#[inline(always)]
 fn try_arrival(
     queue: &mut Runqueue,
     cpu: u32,

@@ -71,6 +71,7 @@ impl PageDraft {
     }
 
     /// Makes the growths that a deed can need.
+    #[inline(always)]
     pub fn make_room(&mut self, deed: Deed) -> Result<(), Memory>
         ensures room { OnOk result (HasDraftRoom deed self.new) }
         ensures same { page_draft_view self.new ≡ page_draft_view self.old }
@@ -93,6 +94,7 @@ impl PageDraft {
 
     /// Adds a stretch of the runner, if there is one, to its tally, which is expected at an index. Each tally is that
     /// of at most so many steps.
+    #[inline(always)]
     pub fn note_stretch(&mut self, stretch: Option<Stretch>, expected: usize, steps: usize)
         requires few { steps < 2 ^ 64 - 1 }
         requires within { All (IsWithin steps) self.old.tallies.table.rows }
@@ -109,6 +111,7 @@ impl PageDraft {
 
     /// Notes a step that passed, with its ticket if it has one. Takes no memory. The tally of who then runs is expected
     /// at an index. Each tally is that of at most so many steps.
+    #[inline(always)]
     pub fn note(&mut self, step: &Step, ticket: Option<Ticket>, expected: usize, steps: usize)
         requires room { HasDraftRoom step.now.deed self.old }
         requires few { steps < 2 ^ 64 - 1 }
@@ -161,6 +164,7 @@ impl PageDraft {
     }
 
     /// Notes the death of a switch's previous task, if it ends.
+    #[inline(always)]
     fn note_end(&mut self, line: u32, prev: u32, way: Way)
         requires { vec_len self.old.deaths < vec_capacity self.old.deaths }
         ensures deaths { (prev_nice : ℤ) (next : ℕ) (next_nice : ℤ) → self.new.deaths.items ≡ self.old.deaths.items

@@ -10,6 +10,7 @@ use replay_model::{Step, StepFault};
 use runqueue::Runqueue;
 /// A step is tried on a runqueue that is charged and lifted: the change of a nice value on its line, and then its deed.
 /// Where a test fails, or memory is wanted, the map and the set hold what they did.
+#[inline(always)]
 pub(crate) fn try_step(
     queue: &mut Runqueue,
     cpu: u32,
@@ -27,6 +28,7 @@ pub(crate) fn try_step(
 }
 
 /// The same of a step whose line changes a nice value.
+#[inline(always)]
 fn try_reniced(
     queue: &mut Runqueue,
     cpu: u32,

@@ -47,6 +47,7 @@ impl ReplayState {
     }
 
     /// The same, where there is room for what the step adds to the draft.
+    #[inline(always)]
     fn test_step(&mut self, cpu: u32, step: &Step, knobs: Knobs) -> Result<(), Memory>
         requires going { IsGoing self.old }
         requires few { self.old.made < 2 ^ 64 - 1 }
@@ -86,6 +87,7 @@ impl ReplayState {
 
     /// The tests of a step but for the first. If it passes them it is made. Else, and where memory is wanted, nothing
     /// changes.
+    #[inline(always)]
     fn pass(&mut self, cpu: u32, step: &Step, knobs: Knobs) -> Result<Option<StepFault>, Memory>
         requires going { IsGoing self.old }
         requires few { self.old.made < 2 ^ 64 - 1 }
@@ -146,6 +148,7 @@ fn failed_charge(line: u32, fault: ChargeFault) -> StepFault
 }
 
 /// How far a told charge, if there is one, leaves the drift of its task from none, in virtual nanoseconds.
+#[inline(always)]
 pub(crate) fn drift_need(queue: &Runqueue, charge: Option<ChargeLine>) -> u64
     requires { IfSome charge (λ line. (runqueue_view queue.now).tasks line.pid ≢ None) }
     ensures { IsDriftNeed (runqueue_view queue.now) charge result }

@@ -37,6 +37,7 @@ macro_rules! guard {
 
 /// A switch, before its previous task has gone its way: the first test that it fails. The two are its tasks as they
 /// stand here.
+#[inline(always)]
 pub(crate) fn first_switch_test(
     queue: &Runqueue,
     step: &Step,
@@ -71,6 +72,7 @@ pub(crate) fn first_switch_test(
 
 /// A switch's pick: the first test that it fails. Once the previous task has gone its way, the least of those who wait
 /// has this virtual runtime, and the next task, as it stands, leads it by so many virtual nanoseconds.
+#[inline(always)]
 pub(crate) fn first_pick_test(
     line: u32,
     least: Option<i64>,
@@ -91,6 +93,7 @@ pub(crate) fn first_pick_test(
 }
 
 /// A wakeup: the first test that it fails. The task is the woken one as it stands here.
+#[inline(always)]
 pub(crate) fn first_wake_test(
     queue: &Runqueue,
     step: &Step,

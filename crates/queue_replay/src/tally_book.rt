@@ -84,6 +84,7 @@ impl TallyBook {
     }
 
     /// The same, where the tally is expected at an index.
+    #[inline(always)]
     fn index_near(&self, expected: usize, pid: u32) -> Option<usize>
         ensures found { (index : ℕ) → result ≡ Some index → (index < length self.now.table.rows)
             × ((d : TallyOf) → (get_or self.now.table.rows index d).pid ≡ pid) }
@@ -106,6 +107,7 @@ impl TallyBook {
 
     /// Adds a stretch of running to the tally of its task, which is expected at an index. Each tally is that of at most
     /// so many steps.
+    #[inline(always)]
     pub(crate) fn add_stretch(&mut self, stretch: Stretch, expected: usize, steps: usize)
         requires few { steps < 2 ^ 64 - 1 }
         requires within { All (IsWithin steps) self.old.table.rows }
@@ -120,6 +122,7 @@ impl TallyBook {
 
     /// Adds a switch to the tally of the pid, which is expected at an index. Each tally is that of at most so many
     /// steps.
+    #[inline(always)]
     pub(crate) fn add_pick(&mut self, pid: u32, expected: usize, steps: usize)
         requires few { steps < 2 ^ 64 - 1 }
         requires within { All (λ tally. tally.picks ≤ steps) self.old.table.rows }

@@ -18,6 +18,7 @@ pub enum ChargeFault {
 
 /// The task after an exact charge for `delta` nanoseconds. Else its pid: the charge or the virtual runtime after it is
 /// above the greatest.
+#[inline(always)]
 pub fn charged(task: SchedEntity, delta: u64) -> Result<SchedEntity, u32>
     ensures fits { IfOk result (λ after. CanBeCharged delta task × (after ≡ charged_task delta task)) }
     ensures above { IfErr result (λ pid. (pid ≡ task.pid) × (CanBeCharged delta task → ⊥)) }

@@ -5,6 +5,7 @@ mod charging;
 mod lift;
 mod moves;
 mod readers;
+mod recent_rows;
 mod renice;
 mod runqueue;
 mod sched_entity;

@@ -25,6 +25,7 @@ pub struct Unlifted {
 impl Runqueue {
     /// Charges who runs, up to this time, exactly or as told within a drift, in virtual nanoseconds; and raises the
     /// floor. Else what is wrong with the charge.
+    #[inline(always)]
     pub fn lift(
         &mut self,
         time: u64,
@@ -47,6 +48,7 @@ impl Runqueue {
     }
 
     /// The same without the floor.
+    #[inline(always)]
     fn charge(
         &mut self,
         time: u64,
@@ -80,6 +82,7 @@ impl Runqueue {
     }
 
     /// What the next lift changes, as it stands.
+    #[inline(always)]
     pub fn unlifted(&self) -> Unlifted
         ensures { IsUnlifted self.now result }
     {
@@ -92,6 +95,7 @@ impl Runqueue {
     }
 
     /// Takes a charge and its lift back, where the map and the set of the runqueue hold what they did before.
+    #[inline(always)]
     pub fn restore(&mut self, before: Unlifted)
         requires { (queue : Runqueue) × IsUnlifted queue before × HoldsSame queue self.old }
         ensures { (queue : Runqueue) → IsUnlifted queue before → HoldsSame queue self.old
@@ -105,6 +109,7 @@ impl Runqueue {
 }
 
 /// The task after a charge for `delta` nanoseconds, exact or as told within a drift. Else what is wrong with it.
+#[inline(always)]
 fn charge_of(
     task: SchedEntity,
     delta: u64,

@@ -10,6 +10,7 @@ ghost use Rattle.replay_model.specs.QueueTests.{IsRunner};
 ghost use Rattle.runqueue.specs.Tasks.{entity_of, RisesByPid};
 ghost use Rattle.runqueue.specs.Queue.{HoldsSame, IsSwitchTask, IsTaskAt, runqueue_view};
 
+use crate::recent_rows::RecentRows;
 use crate::runqueue::Runqueue;
 use crate::sched_entity::SchedEntity;
 use crate::task_rows::{put, take_out, write_over, write_row};
@@ -28,6 +29,7 @@ impl Runqueue {
             runner: None,
             runner_row: 0,
             tasks: PidTable::new(alloc, hasher),
+            recent: RecentRows::none(),
             waiting: BTreeSet::new(alloc),
             floor,
             mark,
@@ -54,6 +56,7 @@ impl Runqueue {
     }
 
     /// Who runs waits, rests or is gone. Where memory is wanted nothing changes.
+    #[inline(always)]
     pub fn put_prev(&mut self, way: Way) -> Result<(), Memory>
         ensures part { OnOk result
             ((prev : ℕ) → ((IsRunner (runqueue_view self.old) prev → ⊥) → ⊥)
@@ -78,6 +81,7 @@ impl Runqueue {
     }
 
     /// Who runs waits. Where memory is wanted nothing changes.
+    #[inline(always)]
     fn put_back(&mut self, runner: SchedEntity) -> Result<(), Memory>
         requires { self.old.runner ≡ Some runner }
         ensures part { OnOk result
@@ -98,6 +102,7 @@ impl Runqueue {
     }
 
     /// Who runs rests.
+    #[inline(always)]
     fn put_to_rest(&mut self, runner: SchedEntity)
         requires { self.old.runner ≡ Some runner }
         ensures part { (prev : ℕ) → ((IsRunner (runqueue_view self.old) prev → ⊥) → ⊥)
@@ -111,6 +116,7 @@ impl Runqueue {
     }
 
     /// Who runs is gone.
+    #[inline(always)]
     fn end(&mut self, runner: SchedEntity)
         requires { self.old.runner ≡ Some runner }
         ensures part { (prev : ℕ) → ((IsRunner (runqueue_view self.old) prev → ⊥) → ⊥)
@@ -122,6 +128,7 @@ impl Runqueue {
     }
 
     /// The next task of a switch runs, as it stands here. Its row is expected at an index.
+    #[inline(always)]
     pub fn set_next(&mut self, next: u32, task: Option<SchedEntity>, expected: usize)
         requires nobody { NobodyIn (runqueue_view self.old) Run }
         requires task { IsSwitchTask (runqueue_view self.old) next task }
@@ -144,6 +151,7 @@ impl Runqueue {
             runner.place = Place::Run;
             self.runner = Some(runner);
             self.runner_row = row;
+            self.recent.remember(next, row);
         }
     }
 
@@ -152,13 +160,15 @@ impl Runqueue {
         requires { IsIn (runqueue_view self.old) Run pid → ⊥ }
         ensures { runqueue_view self.new ≡ with_entity (runqueue_view self.old) pid None }
     {
-        if let Some(task) = take_out(&mut self.tasks, pid) {
+        let expected = self.recent.expected(pid);
+        if let Some(task) = take_out(&mut self.tasks, expected, pid) {
             self.waiting.remove(&WaitingTask { v: task.v, pid });
         }
     }
 
     /// The task of this pid, as it stands here, waits at the claimed virtual runtime, if it rests. Its row is expected
     /// at an index. Where memory is wanted nothing changes.
+    #[inline(always)]
     pub fn wake(
         &mut self,
         pid: u32,
@@ -197,19 +207,23 @@ impl Runqueue {
     {
         self.tasks.make_room()?;
         let pid = task.pid;
+        let expected = self.recent.expected(pid);
         match task.place {
             Place::Run => {
-                self.runner_row = put(&mut self.tasks, pid, &task);
+                self.runner_row = put(&mut self.tasks, expected, pid, &task);
+                self.recent.remember(pid, self.runner_row);
                 self.runner = Some(task);
                 Ok(())
             }
             Place::Wait => {
                 self.waiting.insert(WaitingTask { v: task.v, pid })?;
-                put(&mut self.tasks, pid, &task);
+                let row = put(&mut self.tasks, expected, pid, &task);
+                self.recent.remember(pid, row);
                 Ok(())
             }
             Place::Rest => {
-                put(&mut self.tasks, pid, &task);
+                let row = put(&mut self.tasks, expected, pid, &task);
+                self.recent.remember(pid, row);
                 Ok(())
             }
         }

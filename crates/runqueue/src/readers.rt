@@ -40,6 +40,7 @@ impl Runqueue {
     }
 
     /// The least virtual runtime of those who wait.
+    #[inline(always)]
     pub fn least_waiting(&self) -> Option<i64>
         ensures { IsLeastIfWaiting (runqueue_view self.now) result }
     {
@@ -50,6 +51,7 @@ impl Runqueue {
     }
 
     /// The least virtual runtime of those who wait, once who runs has gone its way.
+    #[inline(always)]
     pub fn least_after(&self, way: Way) -> Option<i64>
         ensures { (prev : ℕ) → ((IsRunner (runqueue_view self.now) prev → ⊥) → ⊥)
             → IsLeastIfWaiting (part_after_prev (runqueue_view self.now) prev way) result }
@@ -61,6 +63,7 @@ impl Runqueue {
     }
 
     /// The least virtual runtime of those who run or wait.
+    #[inline(always)]
     pub(crate) fn least_queued(&self) -> Option<i64>
         ensures { IsLeastQueued (runqueue_view self.now) result }
     {
@@ -87,21 +90,25 @@ impl Runqueue {
 
     /// Where the row of a pid is, by the order in which the pids first stood here; where it has none, an index that no
     /// row has. Whoever is given it looks whether the row is there, so nothing rests on it.
+    #[inline(always)]
     pub fn row_of(&self, pid: u32) -> usize {
         if pid == IDLE_PID {
             return NO_ROW;
         }
-        self.tasks.index_of(pid).unwrap_or(NO_ROW)
+        self.tasks
+            .index_near(self.recent.expected(pid), pid)
+            .unwrap_or(NO_ROW)
     }
 
     /// The task of this pid, if it stands here.
     pub fn task_at(&self, pid: u32) -> Option<SchedEntity>
         ensures { IsTaskAt (runqueue_view self.now) pid result }
     {
-        self.task_near(NO_ROW, pid)
+        self.task_near(self.recent.expected(pid), pid)
     }
 
     /// The same, where its row is expected at an index.
+    #[inline(always)]
     pub fn task_near(&self, expected: usize, pid: u32) -> Option<SchedEntity>
         ensures { IsTaskAt (runqueue_view self.now) pid result }
     {
@@ -118,6 +125,7 @@ impl Runqueue {
     }
 
     /// The task of a pid that a switch names, if it stands here; none of pid 0. Its row is expected at an index.
+    #[inline(always)]
     pub fn switch_task(&self, expected: usize, pid: u32) -> Option<SchedEntity>
         ensures { IsSwitchTask (runqueue_view self.now) pid result }
     {

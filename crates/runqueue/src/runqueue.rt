@@ -1,6 +1,7 @@
 ghost use Rattle.runqueue.specs.Entities.{IsQueue, IsQueue-prop};
 ghost use Rattle.runqueue.specs.TaskRows.{IsRunnerRow, IsRunnerRow-prop};
 
+use crate::recent_rows::RecentRows;
 use crate::sched_entity::SchedEntity;
 use crate::task_rows::TaskRows;
 use crate::waiting_task::WaitingTask;
@@ -15,6 +16,8 @@ pub struct Runqueue {
     pub(crate) runner_row: usize,
     /// Everybody by pid; who runs as it stood before.
     pub(crate) tasks: TaskRows,
+    /// Where the rows of those who came or ran last are.
+    pub(crate) recent: RecentRows,
     /// Those who wait, in their order.
     pub(crate) waiting: BTreeSet<WaitingTask>,
     /// In virtual nanoseconds.

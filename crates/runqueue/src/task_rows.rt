@@ -9,6 +9,7 @@ use pid_table::PidTable;
 pub(crate) type TaskRows = PidTable<Option<SchedEntity>>;
 
 /// The task that the rows have of a pid, whose row is expected at an index.
+#[inline(always)]
 pub(crate) fn listed(tasks: &TaskRows, expected: usize, pid: u32) -> Option<SchedEntity>
     ensures { result ≡ task_in tasks.now pid }
 {
@@ -19,6 +20,7 @@ pub(crate) fn listed(tasks: &TaskRows, expected: usize, pid: u32) -> Option<Sche
 }
 
 /// Writes over what the row at this index has.
+#[inline(always)]
 pub(crate) fn write_row(tasks: &mut TaskRows, row: usize, task: Option<SchedEntity>)
     requires { (pid : ℕ) × (index_in tasks.old.pids pid ≡ Some row) }
     ensures written { (pid : ℕ) → index_in tasks.old.pids pid ≡ Some row → Writes tasks.old tasks.new pid task }
@@ -29,6 +31,7 @@ pub(crate) fn write_row(tasks: &mut TaskRows, row: usize, task: Option<SchedEnti
 }
 
 /// Writes over the task that the rows have of a pid, whose row is expected at an index.
+#[inline(always)]
 pub(crate) fn write_over(tasks: &mut TaskRows, expected: usize, pid: u32, task: SchedEntity)
     requires { IsSome (task_in tasks.old pid) }
     ensures written { Writes tasks.old tasks.new pid (Some task) }
@@ -40,13 +43,13 @@ pub(crate) fn write_over(tasks: &mut TaskRows, expected: usize, pid: u32, task: 
     }
 }
 
-/// Takes the task of a pid out of its row, if the rows have one.
-pub(crate) fn take_out(tasks: &mut TaskRows, pid: u32) -> Option<SchedEntity>
+/// Takes the task of a pid out of its row, which is expected at an index, if the rows have one.
+pub(crate) fn take_out(tasks: &mut TaskRows, expected: usize, pid: u32) -> Option<SchedEntity>
     ensures value { result ≡ task_in tasks.old pid }
     ensures gone { Writes tasks.old tasks.new pid None }
     ensures pids { tasks.new.pids ≡ tasks.old.pids }
 {
-    match tasks.index_of(pid) {
+    match tasks.index_near(expected, pid) {
         Some(row) => {
             let task = tasks.rows()[row];
             write_row(tasks, row, None);
@@ -56,15 +59,15 @@ pub(crate) fn take_out(tasks: &mut TaskRows, pid: u32) -> Option<SchedEntity>
     }
 }
 
-/// Puts a task into the row of a pid, which is made where there is none, and answers with the row's index. Takes no
-/// memory.
-pub(crate) fn put(tasks: &mut TaskRows, pid: u32, task: &SchedEntity) -> usize
+/// Puts a task into the row of a pid, which is expected at an index and made where there is none, and answers with the
+/// row's index. Takes no memory.
+pub(crate) fn put(tasks: &mut TaskRows, expected: usize, pid: u32, task: &SchedEntity) -> usize
     requires { 0 < tasks.old.room }
     ensures written { Writes tasks.old tasks.new pid (Some task.now) }
     ensures row { index_in tasks.new.pids pid ≡ Some result }
     ensures kept { KeepsRows tasks.old.pids tasks.new.pids }
 {
-    match tasks.index_of(pid) {
+    match tasks.index_near(expected, pid) {
         Some(row) => {
             write_row(tasks, row, Some(*task));
             row

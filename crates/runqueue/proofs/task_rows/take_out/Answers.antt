@@ -8,16 +8,16 @@ pub returns-in-Some-clause-value : goal.returns-in-Some-clause-value
 returns-in-Some-clause-value c =
     let t = c.args.tasks.now in
     let row = c.in-Some.row in
-    let at = sym c.index_of.ensures.index ∙ c.in-Some.is in
+    let at = sym c.index_near.ensures.index ∙ c.in-Some.is in
     c.index-rows-row.is ∙ ap (λ l. get_or l row c.index-rows-row.result) c.rows.ensures.rows
     ∙ sym (at_row t c.args.pid row at
     ∙ ap task_of_row (slice_get-get_or t.rows row c.index-rows-row.result
-    (row_within t c.index_of.ensures.sound c.args.pid row at)))
+    (row_within t c.index_near.ensures.sound c.args.pid row at)))
 
 pub returns-in-None-clause-value : goal.returns-in-None-clause-value
 returns-in-None-clause-value c =
-    sym (without_row c.args.tasks.now c.args.pid (sym c.index_of.ensures.index ∙ c.in-None.is))
+    sym (without_row c.args.tasks.now c.args.pid (sym c.index_near.ensures.index ∙ c.in-None.is))
 
 pub returns-in-None-clause-gone : goal.returns-in-None-clause-gone
 returns-in-None-clause-gone c =
-    nothing_written c.args.tasks.now c.args.pid (sym c.index_of.ensures.index ∙ c.in-None.is)
+    nothing_written c.args.tasks.now c.args.pid (sym c.index_near.ensures.index ∙ c.in-None.is)

@@ -62,13 +62,13 @@ invariant_of-self-in-Rest c =
     let q = c.args.self.now in
     let t = c.args.task in
     let e = c.make_room.ensures in
-    let n = c.put-in-Rest.new.tasks in
+    let n = c.put-row-in-Rest.new.tasks in
     record {
       kept = come_rests q.runner q.tasks n q.waiting q.kept t c.requires.apart
-          (writes_from q.tasks c.make_room.new.self n t.pid (Some t) e.pids e.rows c.put-in-Rest.ensures.written)
+          (writes_from q.tasks c.make_room.new.self n t.pid (Some t) e.pids e.rows c.put-row-in-Rest.ensures.written)
           c.in-Rest.is;
       in_row = runner_row_kept q.runner q.tasks.pids n.pids q.runner_row q.in_row
-          (subst (λ pids. KeepsRows pids n.pids) e.pids c.put-in-Rest.ensures.kept);
+          (subst (λ pids. KeepsRows pids n.pids) e.pids c.put-row-in-Rest.ensures.kept);
     }
 
 pub returns-in-Rest-clause-part : goal.returns-in-Rest-clause-part
@@ -76,25 +76,25 @@ returns-in-Rest-clause-part c =
     let q = c.args.self.now in
     let t = c.args.task in
     let e = c.make_room.ensures in
-    come_part q.runner q.tasks c.put-in-Rest.new.tasks q.waiting q.kept t c.requires.apart
-    (writes_from q.tasks c.make_room.new.self c.put-in-Rest.new.tasks t.pid (Some t) e.pids e.rows
-    c.put-in-Rest.ensures.written) q.floor q.mark
+    come_part q.runner q.tasks c.put-row-in-Rest.new.tasks q.waiting q.kept t c.requires.apart
+    (writes_from q.tasks c.make_room.new.self c.put-row-in-Rest.new.tasks t.pid (Some t) e.pids e.rows
+    c.put-row-in-Rest.ensures.written) q.floor q.mark
 
 pub invariant_of-self-in-Wait : goal.invariant_of-self-in-Wait
 invariant_of-self-in-Wait c =
     let q = c.args.self.now in
     let t = c.args.task in
     let e = c.make_room.ensures in
-    let n = c.put.new.tasks in
+    let n = c.put-row.new.tasks in
     let whole : to_z w64 (of_z w64 t.v) ≡ t.v = search rules in
     record {
       kept = come_waits q.runner q.tasks n q.waiting q.kept t c.requires.apart
-          (writes_from q.tasks c.make_room.new.self n t.pid (Some t) e.pids e.rows c.put.ensures.written)
+          (writes_from q.tasks c.make_room.new.self n t.pid (Some t) e.pids e.rows c.put-row.ensures.written)
           c.insert.new.self
           (subst (λ (v : ℤ). set.Updates by_runtime q.waiting c.insert.new.self (waiting_task v t.pid) true)
           whole c.in_ok-insert-in-Wait.ensures.updates) c.in-Wait.is;
       in_row = runner_row_kept q.runner q.tasks.pids n.pids q.runner_row q.in_row
-          (subst (λ pids. KeepsRows pids n.pids) e.pids c.put.ensures.kept);
+          (subst (λ pids. KeepsRows pids n.pids) e.pids c.put-row.ensures.kept);
     }
 
 pub returns-in_ok-insert-in-Wait-clause-part : goal.returns-in_ok-insert-in-Wait-clause-part
@@ -102,9 +102,9 @@ returns-in_ok-insert-in-Wait-clause-part c =
     let q = c.args.self.now in
     let t = c.args.task in
     let e = c.make_room.ensures in
-    come_part q.runner q.tasks c.put.new.tasks q.waiting q.kept t c.requires.apart
-    (writes_from q.tasks c.make_room.new.self c.put.new.tasks t.pid (Some t) e.pids e.rows
-    c.put.ensures.written) q.floor q.mark
+    come_part q.runner q.tasks c.put-row.new.tasks q.waiting q.kept t c.requires.apart
+    (writes_from q.tasks c.make_room.new.self c.put-row.new.tasks t.pid (Some t) e.pids e.rows
+    c.put-row.ensures.written) q.floor q.mark
 
 pub invariant_of-self-in-Break-branch-2 : goal.invariant_of-self-in-Break-branch-2
 invariant_of-self-in-Break-branch-2 c =

@@ -76,6 +76,7 @@ pub(crate) fn claim_pid(needed: Option<u32>, claim: Option<Claim>) -> Option<u32
 }
 
 /// A woken task that rests is claimed outside its bounds; the credit is in virtual nanoseconds.
+#[inline(always)]
 pub(crate) fn wake_outside(
     queue: &Runqueue,
     pid: u32,
@@ -142,6 +143,7 @@ pub(crate) fn is_at_other(task: Option<SchedEntity>, claim: Claim) -> bool
 }
 
 /// The task rests here, and is claimed outside the bounds of its wakeup.
+#[inline(always)]
 fn rests_outside(queue: &Runqueue, claim: Claim, credit: u64, task: Option<SchedEntity>) -> bool
     ensures { let part = runqueue_view queue.now in (pid : ℕ) → IsTaskAt part pid task
         → (IsTrue result ↔ ((s : Entity) × (part.tasks pid ≡ Some s) × (s.place ≡ Rest)
@@ -155,6 +157,7 @@ fn rests_outside(queue: &Runqueue, claim: Claim, credit: u64, task: Option<Sched
 }
 
 /// The claim is within the bounds of the task's wakeup, by its own virtual runtime, the floor and the credit.
+#[inline(always)]
 fn is_in_wake_bounds(floor: i64, task: SchedEntity, claim: Claim, credit: u64) -> bool
     ensures { IsTrue result ↔ IsInWakeBounds credit floor task.v claim.v }
 {

@@ -14,6 +14,7 @@ use crate::stretch::Stretch;
 use crate::tally_book::TallyBook;
 use cfs_model::{IDLE_PID, Memory, Way};
 use replay_model::{Deed, LifeEvent, Step, StepFault, Ticket};
+use runqueue::Runqueue;
 
 /// What the page of a replay will show, so far.
 #[derive(Drop)]
@@ -109,10 +110,10 @@ impl PageDraft {
         }
     }
 
-    /// Notes a step that passed, with its ticket if it has one. Takes no memory. The tally of who then runs is expected
-    /// at an index. Each tally is that of at most so many steps.
+    /// Notes a step that passed, with its ticket if it has one. Takes no memory. A tally is expected where the row of its
+    /// task is at the runqueue. Each tally is that of at most so many steps.
     #[inline(always)]
-    pub fn note(&mut self, step: &Step, ticket: Option<Ticket>, expected: usize, steps: usize)
+    pub fn note(&mut self, step: &Step, ticket: Option<Ticket>, queue: &Runqueue, steps: usize)
         requires room { HasDraftRoom step.now.deed self.old }
         requires few { steps < 2 ^ 64 - 1 }
         requires within { All (λ tally. tally.picks ≤ steps) self.old.tallies.table.rows }
@@ -135,7 +136,7 @@ impl PageDraft {
             } => {
                 self.note_end(step.line, prev, way);
                 if next != IDLE_PID {
-                    self.tallies.add_pick(next, expected, steps);
+                    self.tallies.add_pick(next, queue.runner_row(), steps);
                 }
             }
             Deed::Wake { .. } => {}
@@ -147,7 +148,7 @@ impl PageDraft {
                         pid,
                     },
                 );
-                self.tallies.add(pid);
+                self.tallies.add(pid, queue.row_of(pid));
             }
             Deed::Leave { .. } => {
                 if let Some(ticket) = ticket {
@@ -158,7 +159,7 @@ impl PageDraft {
                 if let Some(ticket) = ticket {
                     push_in(&mut self.came, ticket);
                 }
-                self.tallies.add(pid);
+                self.tallies.add(pid, queue.row_of(pid));
             }
         }
     }

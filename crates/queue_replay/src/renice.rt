@@ -23,12 +23,16 @@ pub(crate) fn try_step(
 {
     match step.nice {
         None => try_deed(queue, cpu, step, knobs),
-        Some(change) => try_reniced(queue, cpu, step, change, knobs),
+        Some(change) => {
+            // Handed on by value: the outcomes of other steps then need no place in memory.
+            let outcome = try_reniced(queue, cpu, step, change, knobs)?;
+            Ok(outcome)
+        }
     }
 }
 
 /// The same of a step whose line changes a nice value.
-#[inline(always)]
+#[inline(never)]
 fn try_reniced(
     queue: &mut Runqueue,
     cpu: u32,

@@ -122,8 +122,7 @@ impl ReplayState {
             }
         };
         self.draft.note_stretch(stretch, runner_row, self.made);
-        self.draft
-            .note(step, deed.ticket, self.queue.runner_row(), self.made);
+        self.draft.note(step, deed.ticket, &self.queue, self.made);
         let idled = idled_time(self.since, step.time);
         raise(&mut self.needs, step.deed, deed.need, idled, drift);
         self.since = since_after(self.since, step.time, &self.queue);

@@ -53,7 +53,7 @@ impl TallyBook {
         ensures same { OnErr result (self.new.table.rows ≡ self.old.table.rows) }
     {
         self.make_room()?;
-        self.add(pid);
+        self.add(pid, usize::MAX);
         Ok(())
     }
 
@@ -94,12 +94,12 @@ impl TallyBook {
         self.table.index_near(expected, pid)
     }
 
-    /// Lets the pid have a tally. Takes no memory.
-    pub(crate) fn add(&mut self, pid: u32)
+    /// Lets the pid have a tally, which is expected at an index. Takes no memory.
+    pub(crate) fn add(&mut self, pid: u32, expected: usize)
         requires { 0 < self.old.table.room }
         ensures { self.new.table.rows ≡ with_tally pid self.old.table.rows }
     {
-        match self.table.index_of(pid) {
+        match self.table.index_near(expected, pid) {
             Some(_) => {}
             None => self.table.add(pid, new_tally(pid)),
         }

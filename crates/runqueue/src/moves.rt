@@ -160,7 +160,7 @@ impl Runqueue {
         requires { IsIn (runqueue_view self.old) Run pid → ⊥ }
         ensures { runqueue_view self.new ≡ with_entity (runqueue_view self.old) pid None }
     {
-        let expected = self.recent.expected(pid);
+        let expected = self.row_of(pid);
         if let Some(task) = take_out(&mut self.tasks, expected, pid) {
             self.waiting.remove(&WaitingTask { v: task.v, pid });
         }
@@ -207,7 +207,7 @@ impl Runqueue {
     {
         self.tasks.make_room()?;
         let pid = task.pid;
-        let expected = self.recent.expected(pid);
+        let expected = self.row_of(pid);
         match task.place {
             Place::Run => {
                 self.runner_row = put(&mut self.tasks, expected, pid, &task);

@@ -13,9 +13,6 @@ use crate::waiting_task::WaitingTask;
 use cfs_model::{IDLE_PID, Way};
 use std::collections::BTreeSet;
 
-/// Where the row of a pid is expected that isn't known to have one.
-const NO_ROW: usize = usize::MAX;
-
 impl Runqueue {
     /// Who runs, if somebody does.
     pub fn runner(&self) -> Option<SchedEntity>
@@ -88,23 +85,18 @@ impl Runqueue {
         self.mark
     }
 
-    /// Where the row of a pid is, by the order in which the pids first stood here; where it has none, an index that no
-    /// row has. Whoever is given it looks whether the row is there, so nothing rests on it.
+    /// Where the row of a pid is expected, by the order in which the pids first stood here. Whoever is given it looks
+    /// whether the row is there, so nothing rests on it.
     #[inline(always)]
     pub fn row_of(&self, pid: u32) -> usize {
-        if pid == IDLE_PID {
-            return NO_ROW;
-        }
-        self.tasks
-            .index_near(self.recent.expected(pid), pid)
-            .unwrap_or(NO_ROW)
+        self.recent.expected(pid)
     }
 
     /// The task of this pid, if it stands here.
     pub fn task_at(&self, pid: u32) -> Option<SchedEntity>
         ensures { IsTaskAt (runqueue_view self.now) pid result }
     {
-        self.task_near(self.recent.expected(pid), pid)
+        self.task_near(self.row_of(pid), pid)
     }
 
     /// The same, where its row is expected at an index.

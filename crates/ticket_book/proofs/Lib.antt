@@ -17,6 +17,7 @@ mod OneAnswer
 mod Owned
 mod Counting
 mod PagesAdded
+mod Plain
 pub mod BookSlots
 mod Same
 mod SameTicket

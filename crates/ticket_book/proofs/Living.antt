@@ -74,7 +74,7 @@ put_any_along f g None b h q = h q
 put_any_along f g (Some pid) b h q = put_along f g pid b h q
 
 -- an event takes in who begins with it, and out who ends
-by_lives : (alive : ℕ → Bool) (act : Act) (q : ℕ)
+pub by_lives : (alive : ℕ → Bool) (act : Act) (q : ℕ)
     → put_any (put_any alive (begun_by act) true) (ended_by act) false q ≡ roll_after alive act q
 by_lives alive (Switch cpu zero pn way next nn) q = refl
 by_lives alive (Switch cpu (suc n) pn Stays next nn) q = refl

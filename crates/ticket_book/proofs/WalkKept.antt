@@ -42,6 +42,7 @@ behind_later tickets pages line later indices le behind = record {
 pub stands_later : (pages : List PageView) (line later : ℕ) (walk : Walk) → line ≤ later → StandsAt pages line walk
     → StandsAt pages later walk
 stands_later pages line later walk le stands = record {
+  faultless = stands.faultless;
   deadline = stands.deadline;
   left = behind_later (λ page. page.left) pages line later walk.left le stands.left;
   came = behind_later (λ page. page.came) pages line later walk.came le stands.came;

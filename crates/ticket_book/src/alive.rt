@@ -1,4 +1,5 @@
-ghost use Rattle.std.specs.Prelude.{◌≡◌, ℕ, IfOk, OnOk};
+ghost use Rattle.std.specs.Prelude.{◌≡◌, ℕ, true, false, IfOk, OnOk};
+ghost use Rattle.cfs_model.specs.Machine.{put};
 ghost use Rattle.replay_model.specs.Roll.{named, roll_after};
 ghost use Rattle.ticket_book.specs.Alive.{alive_view};
 
@@ -33,16 +34,30 @@ impl Alive {
     }
 
     /// A birth begins a pid, and a switch away from a task that ends ends it.
+    #[inline(always)]
     pub(crate) fn pass(&mut self, event: &Entry) -> Result<(), Memory>
         ensures { OnOk result ((pid : ℕ) → alive_view self.new pid
             ≡ roll_after (alive_view self.old) event.now.act pid) }
     {
         if let Some(pid) = event.act.begun() {
-            self.pids.insert(pid)?;
+            self.begin(pid)?;
         }
         if let Some(pid) = event.act.ended() {
-            self.pids.remove(&pid);
+            self.end(pid);
         }
         Ok(())
+    }
+
+    fn begin(&mut self, pid: u32) -> Result<(), Memory>
+        ensures { OnOk result ((q : ℕ) → alive_view self.new q ≡ put (alive_view self.old) pid true q) }
+    {
+        self.pids.insert(pid)?;
+        Ok(())
+    }
+
+    fn end(&mut self, pid: u32)
+        ensures { (q : ℕ) → alive_view self.new q ≡ put (alive_view self.old) pid false q }
+    {
+        self.pids.remove(&pid);
     }
 }

@@ -13,7 +13,7 @@ ghost use Rattle.ticket_book.specs.Whole.{AreSufficient};
 use crate::Verdict;
 use crate::alive::Alive;
 use crate::summing::summary_by;
-use crate::walk::Walk;
+use crate::walk::{Walk, is_plain};
 use cfs_model::{Entry, Knobs, Memory};
 use pid_table::PidHasher;
 use queue_replay::{Page, Paged};
@@ -85,6 +85,10 @@ pub(crate) fn told_from<P: Paged>(
 {
     let mut walk = Walk::new(alloc, pages)?;
     for event in events {
+        // Most events of most windows are none that anybody has to be asked about.
+        if walk.faultless && is_plain(event.act) {
+            continue;
+        }
         if let Some(fault) = walk.fault(pages, alive, event) {
             return Ok(Some(fault));
         }

@@ -7,7 +7,8 @@ ghost use Rattle.replay_laws.specs.Telling.{IsActCauseOf, IsCauseOf};
 ghost use Rattle.replay_model.specs.Tickets.{ticket_at};
 ghost use Rattle.ticket_book.specs.Alive.{alive_view};
 ghost use Rattle.ticket_book.specs.Told.{Allow, AllowAct, cause_view, view_at};
-ghost use Rattle.ticket_book.specs.Walk.{AllowShift, IsShiftCause, StandsAt, TicketsRise, born_twice_on, failed_on};
+ghost use Rattle.ticket_book.specs.Walk.{AllowShift, IsPlain, IsShiftCause, NoneFaulty, StandsAt, TicketsRise};
+ghost use Rattle.ticket_book.specs.Walk.{born_twice_on, failed_on};
 
 use crate::alive::Alive;
 use crate::idling::{first_deadline, late};
@@ -20,6 +21,8 @@ use std::alloc::Global;
 /// A walk along a record's events, which asks the pages about each in turn.
 #[derive(Drop)]
 pub(crate) struct Walk {
+    /// That no page has a fault.
+    pub faultless: bool,
     /// The first deadline on the pages.
     deadline: Option<u64>,
     /// How far the walk has come in the tickets of the tasks that left, and of those that came.
@@ -33,6 +36,7 @@ impl Walk {
         ensures { IfOk result (λ walk. (line : ℕ) → StandsAt (map P.page pages.now) line walk) }
     {
         Ok(Walk {
+            faultless: have_no_fault(pages),
             deadline: first_deadline(pages),
             left: TicketIndices::new(alloc, pages.len())?,
             came: TicketIndices::new(alloc, pages.len())?,
@@ -153,6 +157,31 @@ impl Walk {
         let leaves = self.left.ticket(orig as usize, left, line);
         let comes = self.came.ticket(dest as usize, came, line);
         differ(leaves, comes)
+    }
+}
+
+/// Whether no page has a fault.
+fn have_no_fault<P: Paged>(pages: &[P]) -> bool
+    ensures { OnTrue result (NoneFaulty (map P.page pages.now) (length pages.now)) }
+{
+    for page in pages {
+        if page.fault().is_some() {
+            return false;
+        }
+    }
+    true
+}
+
+/// Whether no task begins, ends or migrates with what an event does. Against such an event a page can say nothing but
+/// its fault.
+#[inline(always)]
+pub(crate) fn is_plain(act: Act) -> bool
+    ensures { OnTrue result (IsPlain act) }
+{
+    match act {
+        Act::Switch { .. } => act.ended().is_none(),
+        Act::Wake { .. } => true,
+        Act::Born { .. } | Act::Shift { .. } => false,
     }
 }
 

@@ -4,7 +4,9 @@ use Rattle.cfs_model.specs.declared.act.Entry.{Entry}
 use Rattle.replay_model.specs.Roll.{roll_after}
 use Rattle.ticket_book.specs.Alive.{alive_view}
 use Rattle.ticket_book.specs.Told.{TellFaultFrom, cause_view, view_at}
-use Rattle.ticket_book.specs.Walk.{StandsAt}
+use Rattle.std.specs.Bool.{OnTrue}
+use Rattle.ticket_book.specs.Walk.{IsPlain, NoneFaulty, StandsAt}
+use Rattle.ticket_book.proofs.Plain.{plain_allowed, plain_roll}
 use Rattle.ticket_book.proofs.Walked.{alive_is_done, said_at, said_rises, walk_ends, walk_goes_on, walk_is_done}
 use Rattle.ticket_book.proofs.Walked.{walk_stands, walk_starts, said_length}
 use Rattle.ticket_book.proofs.closing.told_from.Goals as goal
@@ -39,6 +41,22 @@ loop-event-preserved g c = λ said are.
     (c.in_default.ensures.said here.0 here.1)
     (λ pid. c.in_ok-pass.ensures pid
     ∙ ap (λ (e : Entry). roll_after (alive_view c.loop-event.alive) e.act pid) (sym here.1))
+
+pub loop-event-preserved-then-is_plain : goal.loop-event-preserved-then-is_plain
+loop-event-preserved-then-is_plain g c = λ said are.
+    let pages = map g.P.Paged.page c.args.pages.now in
+    let i = c.loop-event.event-index in
+    let here = said_at said c.args.events.now i c.event-item.result are c.loop-event-test.true c.event-item.is in
+    let stands = subst (λ (e : Entry). StandsAt pages e.line c.loop-event.walk) (sym here.1)
+    (walk_stands pages (length c.args.pages.now) (alive_view c.args.alive.now) c.args.events.now i c.event-item.result
+    c.loop-event.walk c.loop-event.alive c.loop-event.invariant c.loop-event-test.true c.event-item.is) in
+    let plain = subst (λ (e : Entry). IsPlain e.act) (sym here.1) c.if-is_plain.ensures in
+    let none = subst (λ b. OnTrue b (NoneFaulty pages (length pages))) c.if-walk.true stands.faultless in
+    walk_goes_on pages (length c.args.pages.now) (alive_view c.args.alive.now) said i here.0 here.2 here.3
+    c.loop-event.walk c.loop-event.walk c.loop-event.alive c.loop-event.alive
+    (said_rises said c.args.events.now are c.requires.in_order) (c.loop-event.invariant said are) stands
+    (plain_allowed pages (length c.args.pages.now) (alive_view c.loop-event.alive) here.0 plain none)
+    (plain_roll (alive_view c.loop-event.alive) here.0.entry.act plain)
 
 pub returns-in-Some-clause-told : goal.returns-in-Some-clause-told
 returns-in-Some-clause-told g c = λ said are.

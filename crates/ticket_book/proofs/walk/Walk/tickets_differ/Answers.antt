@@ -94,6 +94,7 @@ returns-clause-stands g c =
     (sym (view_here g.P.Paged.page c.args.pages.now c.args.dest c.index-pages-dest.result c.requires.dest
     c.index-pages-dest.is)) in
     record {
+      faultless = c.requires.stands.faultless;
       deadline = c.requires.stands.deadline;
       left = one_moved (λ page. page.left) (map g.P.Paged.page c.args.pages.now) c.args.line c.args.orig
           c.args.self.now.left

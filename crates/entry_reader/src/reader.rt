@@ -3,7 +3,7 @@ ghost use Rattle.cfs_model.specs.Limits.{greatest_line};
 
 use crate::bad_line::BadLine;
 use cfs_model::{Entry, Memory};
-use sched_record::{TraceCause, TraceFault, next_entry};
+use sched_record::{TraceCause, TraceFault, careful_entry, usual_entry};
 use std::alloc::Global;
 use std::mem::swap;
 
@@ -22,10 +22,11 @@ pub struct EntryReader {
 }
 
 impl EntryReader {
-    ghost use Rattle.std.specs.Prelude.{◌≡◌, ℕ, ◌+◌, ◌∷◌, ◌++◌, [], List, IsNone, OnOk, OnErr};
+    ghost use Rattle.std.specs.Prelude.{◌≡◌, ℕ, ◌+◌, ◌∷◌, ◌++◌, [], List, length, IsNone, IfOk, OnOk, OnErr};
+    ghost use Rattle.std.specs.List.{before_first};
     ghost use Rattle.std.specs.Option.{is_none};
     ghost use Rattle.cfs_model.specs.declared.act.Entry.{Entry as Event};
-    ghost use Rattle.text_parts.specs.Lines.{lines_of};
+    ghost use Rattle.text_parts.specs.Lines.{is_line_feed, lines_of};
     ghost use Rattle.ftrace_line.specs.Front.{IsSettled};
     ghost use Rattle.sched_record.specs.Said.{LineSays};
     ghost use Rattle.entry_reader.specs.Reader.{EndsSo, HasReadOut, HasReadOutFront, entries_of};
@@ -56,9 +57,7 @@ impl EntryReader {
             if self.bad.is_some() {
                 return Ok(());
             }
-            let (said, after) = next_entry(self.count + 1, rest);
-            self.take(said)?;
-            rest = after;
+            rest = self.read_line(rest)?;
         }
         Ok(())
     }
@@ -103,6 +102,29 @@ impl EntryReader {
             → IsSettled front → HasReadOut reader (lines ++ front ∷ []) given
             → HasReadOut reader (lines ++ (front ++ more) ∷ []) given }
     {}
+
+    /// Reads the first line of a text, behind lines of which none is bad, and gives what follows it.
+    #[inline(always)]
+    fn read_line<'a>(&mut self, text: &'a [u8]) -> Result<&'a [u8], Memory>
+        requires good { IsNone self.old.bad }
+        requires some { 0 < length text.now }
+        ensures lines { IfOk result (λ rest. lines_of text.now ≡ before_first is_line_feed text.now
+            ∷ lines_of rest.now) }
+        ensures shorter { IfOk result (λ rest. length rest.now < length text.now) }
+        ensures read { OnOk result ((lines : List (List ℕ)) (given : List Event) → HasReadOut self.old lines given
+            → HasReadOut self.new (lines ++ before_first is_line_feed text.now ∷ []) given) }
+        ensures memory { OnErr result ((lines : List (List ℕ)) (given : List Event) → HasReadOut self.old lines given
+            → HasReadOut self.new lines given) }
+    {
+        let number = self.count + 1;
+        if let Some((said, rest)) = usual_entry(number, text) {
+            self.take(Ok(said))?;
+            return Ok(rest);
+        }
+        let (said, rest) = careful_entry(number, text);
+        self.take(said)?;
+        Ok(rest)
+    }
 
     /// Reads one more line, behind lines of which none is bad; it says this.
     #[inline(always)]

@@ -26,8 +26,8 @@ pub fn next_entry(number: u64, text: &[u8]) -> (Result<Option<Entry>, TraceCause
     }
 }
 
-/// The same for a line of the usual form, and nothing for others. It says so by fewer words than `next_entry`, so that
-/// a reader of many lines has less to tell apart.
+/// The same for a line of the usual form, and nothing for others. Such a line isn't refused, so that a reader of many
+/// lines has less to tell apart.
 #[inline(always)]
 pub fn usual_entry(number: u64, text: &[u8]) -> Option<(Option<Entry>, &[u8])>
     ensures says { IfSome result (λ x. LineSays number (before_first is_line_feed text.now) (Ok x.0)) }

@@ -12,14 +12,11 @@ use Rattle.entry_reader.proofs.reader.EntryReader.read.Goals as goal
 some_left : (n : ℕ) → eqb n 0 ≡ false → 0 < n
 some_left n e = let ne = eqb-false n 0 e in omega (arith, ne)
 
-pub next_entry-said-requires : goal.next_entry-said-requires
-next_entry-said-requires c = some_left _ (sym c.is_empty.ensures ∙ c.loop-rest-test.true)
+pub read_line-requires-clause-some : goal.read_line-requires-clause-some
+read_line-requires-clause-some c = some_left _ (sym c.is_empty.ensures ∙ c.loop-rest-test.true)
 
-pub take-requires-clause-good : goal.take-requires-clause-good
-take-requires-clause-good c = sym c.is_some.ensures ∙ c.if-is_some.false
-
-pub take-requires-clause-says : goal.take-requires-clause-says
-take-requires-clause-says c = (before_first is_line_feed c.loop-rest.rest.now, c.next_entry-said.ensures.says)
+pub read_line-requires-clause-good : goal.read_line-requires-clause-good
+read_line-requires-clause-good c = sym c.is_some.ensures ∙ c.if-is_some.false
 
 pub returns-then-is_some-clause-read : goal.returns-then-is_some-clause-read
 returns-then-is_some-clause-read c lines given read =
@@ -34,15 +31,14 @@ pub loop-rest-preserved : goal.loop-rest-preserved
 loop-rest-preserved c =
     let before = c.loop-rest.invariant in
     let line = before_first is_line_feed c.loop-rest.rest.now in
-    let after = c.next_entry-said.result.1.now in
+    let after = c.in_ok-rest.rest.now in
     record {
       front = before.front ++ line ∷ [];
-      parts = before.parts ∙ ap (λ ls. before.front ++ ls) c.next_entry-said.ensures.lines
+      parts = before.parts ∙ ap (λ ls. before.front ++ ls) c.in_ok-rest.ensures.lines
           ∙ sym (append_assoc before.front (line ∷ []) (lines_of after));
       read = λ lines given read.
-          subst (λ ls. HasReadOut c.take.new.self ls given) (append_assoc lines before.front (line ∷ []))
-          (c.in_ok-take.ensures.read (lines ++ before.front) line given c.next_entry-said.ensures.says
-          (before.read lines given read));
+          subst (λ ls. HasReadOut c.read_line.new.self ls given) (append_assoc lines before.front (line ∷ []))
+          (c.in_ok-rest.ensures.read (lines ++ before.front) given (before.read lines given read));
     }
 
 pub returns-clause-read : goal.returns-clause-read

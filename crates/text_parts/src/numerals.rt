@@ -1,4 +1,5 @@
-ghost use Rattle.std.specs.Prelude.{◌≡◌, ℕ, true, false, ◌+◌, ◌*◌, ◌-◌, ◌<◌, ◌^◌, min, length, take, take_while, drop, get_or, ◌≤◌};
+ghost use Rattle.std.specs.Prelude.{◌≡◌, ℕ, ◌+◌, ◌*◌, ◌-◌, ◌<◌, ◌≤◌, ◌^◌, true, false, min, length, take};
+ghost use Rattle.std.specs.Prelude.{take_while, drop, get_or};
 ghost use Rattle.std.specs.List.{prefix_len};
 ghost use Rattle.text_parts.specs.Numerals.{is_digit, value_of};
 ghost use Rattle.text_parts.specs.Reading.{Gives, numeral_at};
@@ -13,7 +14,7 @@ const LIMIT: u64 = 1 << 60;
 /// looked at on the way.
 const PLAIN_DIGITS: usize = 18;
 
-/// Most numbers have fewer digits. These are looked at one by one with no loop, and with no look at where the text ends.
+/// Most numbers have fewer digits. These are looked at with no loop, and with no look at where the text ends.
 const FEW_DIGITS: usize = 8;
 
 /// The digits at the front of a text.

@@ -3,7 +3,8 @@ use Rattle.std.proofs.Common.{◌≡◌, ◌<◌, ◌≤◌, true, false, get_or
 use Rattle.text_parts.specs.Numerals.{is_digit, value_of, many}
 use Rattle.text_parts.proofs.Digits.{EndsAt, digits_end, plain_value, wrapped_more}
 use Rattle.text_parts.proofs.numerals.further_digits.Goals as goal
-use Rattle.text_parts.proofs.numerals.further_digits.Goals.{then-loop-digits-test+else-is_digit_byte, else-loop-digits-test}
+use Rattle.text_parts.proofs.numerals.further_digits.Goals.{then-loop-digits-test+else-is_digit_byte}
+use Rattle.text_parts.proofs.numerals.further_digits.Goals.{else-loop-digits-test}
 
 pub loop-digits-preserved : goal.loop-digits-preserved
 loop-digits-preserved c =
@@ -12,7 +13,8 @@ loop-digits-preserved c =
     let i = c.loop-digits.invariant in
     let lt : k < length text = omega (arith, c.loop-digits-test.true) in
     let is : is_digit (get_or text k 0) ≡ true = sym c.is_digit_byte.ensures ∙ c.if-is_digit_byte.true in
-    let more = wrapped_more text k c.loop-digits.value c.digit_of.result lt is (c.digit_of.ensures.digit is) i.value i.below in
+    let more = wrapped_more text k c.loop-digits.value c.digit_of.result lt is (c.digit_of.ensures.digit is) i.value
+    i.below in
     record {
       within = omega arith;
       passed = search rules;

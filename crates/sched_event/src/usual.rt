@@ -56,7 +56,8 @@ pub fn usual_line(text: &[u8]) -> Option<UsualLine<'_>>
     }
 }
 
-/// What the event does whose fields are the first line of a text, and what follows that line.
+/// What the event does whose fields are the first line of a text, and what follows that line. Each kind is read by a
+/// call of its own: all four in one would be a call too, and a larger one, whose answer is copied once more.
 #[inline(always)]
 fn usual_act(cpu: u32, which: Which, text: &[u8]) -> Option<(Act, &[u8])>
     ensures { IfSome result (λ x. HasAct cpu which text.now x.0 x.1.now) }
@@ -69,7 +70,7 @@ fn usual_act(cpu: u32, which: Which, text: &[u8]) -> Option<(Act, &[u8])>
     }
 }
 
-#[inline(always)]
+#[inline(never)]
 fn switch_act(cpu: u32, text: &[u8]) -> Option<(Act, &[u8])>
     ensures { IfSome result (λ x. HasAct cpu kinds.Switch text.now x.0 x.1.now) }
 {

@@ -1,5 +1,5 @@
 -- The digits end where a byte is none; where they are few, what was added up is their value.
-use Rattle.std.proofs.Common.{◌≡◌, ◌<◌, ◌≤◌, true, false, get_or, length, min, sym, ap, ◌∙◌, arith, rules}
+use Rattle.std.proofs.Common.{◌≡◌, ◌≤◌, true, get_or, length, min, ap, ◌∙◌, arith, rules}
 use Rattle.text_parts.specs.Numerals.{is_digit, value_of, many}
 use Rattle.text_parts.proofs.Digits.{EndsAt, digits_end, plain_value, wrapped_more}
 use Rattle.text_parts.proofs.numerals.digits_at.Goals as goal

@@ -1,5 +1,5 @@
 -- So far all bytes are digits, and the value is theirs.
-use Rattle.std.proofs.Common.{◌≡◌, ℕ, ◌<◌, ◌≤◌, ◌^◌, ◌-◌, length, take, get_or, true}
+use Rattle.std.proofs.Common.{◌≡◌, ℕ, ◌<◌, ◌≤◌, ◌^◌, ◌-◌, take, get_or, true}
 use Rattle.text_parts.specs.Numerals.{is_digit, value_of}
 use Rattle.text_parts.proofs.numerals.digits_at.Given as goal
 

@@ -54,22 +54,16 @@ impl Processor {
         }
     }
 
-    /// A task comes, unless one of its pid stands here, or it is to run beside another. Where its row is.
+    /// A task comes, unless one of its pid stands here, or it is to run beside another. Where its row is expected.
     pub(crate) fn enter(&mut self, task: Task) -> Result<usize, Memory> {
-        // Where the task stood here before, its row is there still.
-        let row = self.queue.row_of(task.pid);
-        match (self.queue.task_near(row, task.pid), self.queue.runner()) {
+        match (self.queue.task_at(task.pid), self.queue.runner()) {
             (None, None) => self.queue.add(SchedEntity::of(task))?,
             (None, Some(_)) if task.place != Place::Run => {
                 self.queue.add(SchedEntity::of(task))?
             }
             _ => (),
         }
-        if row == usize::MAX {
-            Ok(self.queue.row_of(task.pid))
-        } else {
-            Ok(row)
-        }
+        Ok(self.queue.row_of(task.pid))
     }
 
     /// Where the task of this pid is, if it stands here. Its row is expected at an index.

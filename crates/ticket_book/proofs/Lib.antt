@@ -15,6 +15,7 @@ mod Living
 mod Naming
 mod OneAnswer
 mod Owned
+mod Counted
 mod Counting
 mod PagesAdded
 mod Plain

@@ -10,7 +10,10 @@ use Rattle.cfs_model.specs.declared.act.Act.TheVariants.{Switch, Wake, Born, Shi
 use Rattle.replay_laws.specs.Telling.{IdlesBefore, FailsHere}
 use Rattle.replay_model.specs.Noted.{PageView}
 use Rattle.replay_model.specs.Roll.{BirthIsNew, roll_after}
+use Rattle.replay_model.specs.Summary.{born_by}
 use Rattle.replay_model.specs.Tickets.{TicketsAgree}
+use Rattle.replay_model.specs.declared.page.Tally.{Tally}
+use Rattle.ticket_book.specs.Naming.{with_named}
 use Rattle.ticket_book.specs.Told.{Allow, view_at}
 use Rattle.ticket_book.specs.Walk.{IsPlain, NoneFaulty}
 use Rattle.replay_model.specs.declared.page.StepFault.{StepFault}
@@ -60,3 +63,9 @@ plain_allowed pages cpus alive event plain none = record {
 pub plain_roll : (alive : ℕ → Bool) (act : Act) → IsPlain act → (pid : ℕ) → alive pid ≡ roll_after alive act pid
 plain_roll alive act plain pid = sym (ap (λ o. put_any alive o true pid) plain.begun)
     ∙ sym (ap (λ o. put_any (put_any alive (begun_by act) true) o false pid) plain.ended) ∙ by_lives alive act pid
+
+pub none_named : (act : Act) → IsPlain act → (rows : List Tally) → rows ≡ with_named (born_by act) rows
+none_named (Switch cpu prev pn way next nn) plain rows = refl
+none_named (Wake cpu pid nice) plain rows = refl
+none_named (Born cpu pid nice) plain rows = absurd (none-some pid (sym plain.begun))
+none_named (Shift orig dest pid nice) plain rows = refl

@@ -164,7 +164,7 @@ impl Book {
         let alloc = *self.slots.allocator();
         let hasher = self.hasher;
         let (pages, remade) = sufficing_own_pages(alloc, self, joined, Knobs::greatest(), hasher)?;
-        let least = least_on(alloc, &pages, joined)?;
+        let least = least_on(alloc, &pages, joined, hasher)?;
         Ok((ClosedLeast { least, remade }, pages))
     }
 

@@ -28,5 +28,5 @@ pub fn first_fault_by(
     closing();
     first_faults();
     let all = pages_by(alloc, pages, joined, knobs, hasher)?;
-    told_by(alloc, &all, joined)
+    told_by(alloc, &all, joined, hasher)
 }

@@ -12,6 +12,7 @@ ghost use Rattle.ticket_book.specs.Whole.{AreSufficient};
 use crate::LeastSettings;
 use crate::closing::told_by;
 use cfs_model::{Amounts, Knobs, Memory, least_settings};
+use pid_table::PidHasher;
 use queue_replay::Page;
 use replay_laws::{closing, first_faults, needs};
 use sched_record::Record;
@@ -22,6 +23,7 @@ pub(crate) fn least_on(
     alloc: Global,
     pages: &[Page],
     joined: &Record,
+    hasher: PidHasher,
 ) -> Result<LeastSettings, Memory>
     requires { AreSufficient greatest_settings (record_view joined.now) pages.now }
     ensures answer { IfOk result (IsLeastAnswer (record_view joined.now)) }
@@ -29,7 +31,7 @@ pub(crate) fn least_on(
 {
     closing();
     least_settings();
-    match told_by(alloc, pages, joined)? {
+    match told_by(alloc, pages, joined, hasher)? {
         Some(fault) => {
             first_faults();
             Ok(LeastSettings::Fault(fault))

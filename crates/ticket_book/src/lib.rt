@@ -23,7 +23,6 @@ mod relying;
 mod remaking;
 mod run_sums;
 mod summary;
-mod summing;
 mod task_sums;
 mod ticket_indices;
 mod verdict;

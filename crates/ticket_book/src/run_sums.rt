@@ -44,17 +44,18 @@ impl RunSums {
         })
     }
 
-    /// With these events behind them.
-    pub(crate) fn count(&mut self, events: &[Entry]) -> Result<(), Memory>
-        requires { self.old.events + length events.now < 2 ^ 64 }
-        ensures { (tasks : List TaskOf) (before : List EntryOf) → AreSumsOf tasks before self.old
-            → OnOk result (AreSumsOf tasks (before ++ events.now) self.new) }
+    /// With these events behind them: these are their counts, and whom they bear is named already.
+    pub(crate) fn add(&mut self, counts: EventCounts, events: &[Entry])
+        requires fit { self.old.events + length events.now < 2 ^ 64 }
+        requires counted { counts ≡ counts_of events.now }
+        ensures events { self.new.events ≡ self.old.events + length events.now }
+        ensures counts { (before : List EntryOf) → self.old.counts ≡ counts_of before
+            → self.new.counts ≡ counts_of (before ++ events.now) }
+        ensures named { self.new.tallies ≡ self.old.tallies }
     {
-        let counts = count_events(events, &mut self.tallies)?;
         let all = self.counts.plus(counts);
         self.events += events.len() as u64;
         self.counts = all;
-        Ok(())
     }
 
     /// The summary, by the tallies of all processors.
@@ -100,21 +101,8 @@ fn name_tasks(tasks: &[Task], sums: &mut TallyBook) -> Result<(), Memory>
     Ok(())
 }
 
-/// Counts what the events do, and names the tasks that are born.
-fn count_events(events: &[Entry], sums: &mut TallyBook) -> Result<EventCounts, Memory>
-    ensures counts { IfOk result (λ counts. counts ≡ counts_of events.now) }
-    ensures named { OnOk result (sums.new.table.rows ≡ with_named (births_in events.now) sums.old.table.rows) }
-{
-    let mut counts = EventCounts::NONE;
-    for event in events {
-        counts = counts.with(event);
-        name_born(event.act, sums)?;
-    }
-    Ok(counts)
-}
-
 /// Names the task that an event gives birth to, if it does.
-fn name_born(act: Act, sums: &mut TallyBook) -> Result<(), Memory>
+pub(crate) fn name_born(act: Act, sums: &mut TallyBook) -> Result<(), Memory>
     ensures { OnOk result (sums.new.table.rows ≡ with_named (born_by act) sums.old.table.rows) }
 {
     match act.begun() {

@@ -1,7 +1,8 @@
 use crate::Summary;
 use crate::alive::Alive;
-use crate::closing::told_from;
-use crate::run_sums::RunSums;
+use crate::event_counts::EventCounts;
+use crate::run_sums::{RunSums, name_born};
+use crate::walk::{Walk, is_plain};
 use cfs_model::{Entry, Memory, Task};
 use pid_table::PidHasher;
 use queue_replay::Paged;
@@ -61,13 +62,22 @@ impl WindowBook {
             → map (λ event. event.entry) window ≡ events.now → IsBookOf tasks so_far self.old
             → result ≡ Ok None → IsBookOf tasks (so_far ++ window) self.new }
     {
-        match told_from(alloc, pages, &mut self.alive, events)? {
-            Some(fault) => Ok(Some(fault)),
-            None => {
-                self.sums.count(events)?;
-                Ok(None)
+        let mut walk = Walk::new(alloc, pages)?;
+        let mut counts = EventCounts::NONE;
+        for event in events {
+            counts = counts.with(event);
+            // Most events of most windows are none that anybody has to be asked about.
+            if walk.faultless && is_plain(event.act) {
+                continue;
             }
+            if let Some(fault) = walk.fault(pages, &self.alive, event) {
+                return Ok(Some(fault));
+            }
+            self.alive.pass(event)?;
+            name_born(event.act, &mut self.sums.tallies)?;
         }
+        self.sums.add(counts, events);
+        Ok(None)
     }
 
     /// The summary of the events so far, by the tallies of all processors.

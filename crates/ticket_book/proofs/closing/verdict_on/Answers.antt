@@ -1,14 +1,17 @@
-use Rattle.std.proofs.Common.{length, subst, ◌≤◌}
+use Rattle.std.proofs.Common.{◌≡◌, length, subst, ◌≤◌}
+use Rattle.std.specs.Result.{IfOk}
 use Rattle.cfs_model.specs.Limits.{greatest_setting}
 use Rattle.replay_model.specs.Summary.{tasks_of_run}
 use Rattle.sched_record.specs.Record.{record_view}
 use Rattle.ticket_book.specs.SaidEvents.{events_of}
+use Rattle.tally_laws.specs.Totals.{summary_by, tallies_below}
+use Rattle.ticket_book.specs.SummaryView.{summary_view}
 use Rattle.ticket_book.specs.Told.{Tell, pages_of, view_at}
 use Rattle.ticket_book.proofs.Verdicts.{fault_is_verdict, run_of, sums_fit, tickets_rise}
 use Rattle.ticket_book.proofs.closing.verdict_on.Goals as goal
 
-pub told_by-requires-clause-rise : goal.told_by-requires-clause-rise
-told_by-requires-clause-rise c =
+pub book_of-requires-clause-rise : goal.book_of-requires-clause-rise
+book_of-requires-clause-rise c =
     tickets_rise c.args.knobs (record_view c.args.joined.now) c.args.pages.now c.requires c.args.joined.now.in_order
 
 pub returns-in-Some : goal.returns-in-Some
@@ -18,28 +21,35 @@ returns-in-Some c =
     fault_is_verdict c.args.knobs r pages c.requires c.closing.ensures.fault c.first_faults.ensures.first_bad
     c.args.joined.now.in_order
     c.in-Some.fault
-    (subst (Tell (view_at (pages_of pages)) (length pages) r.tasks (events_of r)) c.in-Some.is c.in_ok-fault.ensures)
+    (subst (Tell (view_at (pages_of pages)) (length pages) r.tasks (events_of r)) c.in-Some.is c.in_ok-book.ensures.told)
 
-pub summary_by-requires : goal.summary_by-requires
-summary_by-requires c =
+pub summary-requires : goal.summary-requires
+summary-requires c =
     let r = record_view c.args.joined.now in
     let pages = c.args.pages.now in
     let order = c.args.joined.now.in_order in
     let nothing = subst (Tell (view_at (pages_of pages)) (length pages) r.tasks (events_of r)) c.in-None.is
-    c.in_ok-fault.ensures in
-    sums_fit c.args.knobs r pages c.requires order
-    nothing c.tallying.ensures.totals c.tallying.ensures.bounded c.last_time.result c.last_line.result
-    c.last_time.ensures
-    c.last_time.type_inv c.last_line.ensures c.last_line.type_inv
-    (subst (λ n. n ≤ greatest_setting) c.drift.ensures.same c.drift.ensures.in_range) (tasks_of_run r.tasks
-    (events_of r))
+    c.in_ok-book.ensures.told in (
+      r.tasks,
+      events_of r,
+      c.in_ok-book.ensures.passed c.in-None.is,
+      sums_fit c.args.knobs r pages c.requires order
+          nothing c.tallying.ensures.totals c.tallying.ensures.bounded c.last_time.result c.last_line.result
+          c.last_time.ensures
+          c.last_time.type_inv c.last_line.ensures c.last_line.type_inv
+          (subst (λ n. n ≤ greatest_setting) c.drift.ensures.same c.drift.ensures.in_range) (tasks_of_run r.tasks
+          (events_of r)),
+    )
 
-pub returns-in_ok-summary_by-in-None : goal.returns-in_ok-summary_by-in-None
-returns-in_ok-summary_by-in-None c =
+pub returns-in_ok-summary-in-None : goal.returns-in_ok-summary-in-None
+returns-in_ok-summary-in-None c =
     let r = record_view c.args.joined.now in
     let pages = c.args.pages.now in
     let order = c.args.joined.now.in_order in
     let nothing = subst (Tell (view_at (pages_of pages)) (length pages) r.tasks (events_of r)) c.in-None.is
-    c.in_ok-fault.ensures in
+    c.in_ok-book.ensures.told in
+    let view = summary_by (tallies_below (view_at (pages_of pages)) (length pages)) r.tasks (events_of r) in
     run_of c.args.knobs r pages c.requires order
-    nothing c.tallying.ensures.summary c.in_ok-summary_by-in-None.field-0 c.in_ok-summary_by-in-None.ensures
+    nothing c.tallying.ensures.summary c.in_ok-summary-in-None.field-0
+    (subst (λ made. IfOk made (λ summary. summary_view summary ≡ view)) c.in_ok-summary-in-None.was
+    (c.summary.ensures r.tasks (events_of r) (c.in_ok-book.ensures.passed c.in-None.is)))

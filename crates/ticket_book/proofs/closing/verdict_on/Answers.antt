@@ -21,7 +21,8 @@ returns-in-Some c =
     fault_is_verdict c.args.knobs r pages c.requires c.closing.ensures.fault c.first_faults.ensures.first_bad
     c.args.joined.now.in_order
     c.in-Some.fault
-    (subst (Tell (view_at (pages_of pages)) (length pages) r.tasks (events_of r)) c.in-Some.is c.in_ok-book.ensures.told)
+    (subst (Tell (view_at (pages_of pages)) (length pages) r.tasks (events_of r)) c.in-Some.is
+    c.in_ok-book.ensures.told)
 
 pub summary-requires : goal.summary-requires
 summary-requires c =

@@ -24,8 +24,8 @@ pub loop-event-init : goal.loop-event-init
 loop-event-init g c = record {
   sums = record { events_before = refl; counts_before = refl; counted = refl; named = refl };
   come = λ said are.
-      walk_starts (map g.P.Paged.page c.args.pages.now) (length c.args.pages.now) (alive_view c.args.self.now.alive) said
-      c.in_ok-walk.walk c.args.self.now.alive (λ pid. refl) c.in_ok-walk.ensures;
+      walk_starts (map g.P.Paged.page c.args.pages.now) (length c.args.pages.now) (alive_view c.args.self.now.alive)
+      said c.in_ok-walk.walk c.args.self.now.alive (λ pid. refl) c.in_ok-walk.ensures;
 }
 
 pub with-counts-requires : goal.with-counts-requires

@@ -9,3 +9,4 @@ pub mod Passed
 pub mod Refused
 pub mod Straying
 pub mod Told
+mod OnlyClaims

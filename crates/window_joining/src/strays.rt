@@ -1,4 +1,4 @@
-ghost use Rattle.std.specs.Prelude.{◌≡◌};
+ghost use Rattle.std.specs.Prelude.{◌≡◌, [], true};
 ghost use Rattle.std.specs.List.{AllPairs};
 ghost use Rattle.companion_file.specs.Order.{IdleRises};
 ghost use Rattle.sched_record.specs.Join.{IsLeastOf};
@@ -31,10 +31,20 @@ pub(crate) fn stray_in(
     }) event.now) result }
 {
     let claim = above(first_line(claims), event.line);
+    if are_only_claims(nices, charges, idles) {
+        return claim;
+    }
     let change = above(first_line(nices), event.line);
     let idle = stray_idle(idles, event);
     let charge = above(first_line(charges), event.line);
     lesser(claim, lesser(change, lesser(idle, charge)))
+}
+
+/// Whether no more than claims is new, as nearly always.
+fn are_only_claims(nices: &[NiceLine], charges: &[ChargeLine], idles: &[IdleLine]) -> bool
+    ensures { result ≡ true → (nices.now ≡ []) × (charges.now ≡ []) × (idles.now ≡ []) }
+{
+    nices.is_empty() && charges.is_empty() && idles.is_empty()
 }
 
 /// The line of the first idle line that names no birth by this event.

@@ -7,6 +7,7 @@ use Rattle.cfs_model.specs.declared.nice_line.NiceLine.{NiceLine}
 use Rattle.sched_record.proofs.Straying.{least_of_both}
 use Rattle.sched_record.specs.Join.{IsLeastOf}
 use Rattle.window_joining.proofs.Firsts.{rise_weak}
+use Rattle.window_joining.proofs.OnlyClaims.{only_claims}
 use Rattle.window_joining.proofs.Straying.{least_above}
 use Rattle.window_joining.specs.News.{IsChargeAbove, IsClaimAbove, IsIdleBeside, IsNiceAbove}
 use Rattle.window_joining.proofs.strays.stray_in.Goals as goal
@@ -19,6 +20,16 @@ first_line-requires-2 c = rise_weak (λ (x : NiceLine). x.line) c.args.nices.now
 
 pub first_line-requires-3 : goal.first_line-requires-3
 first_line-requires-3 c = rise_weak (λ (x : ChargeLine). x.line) c.args.charges.now c.requires.charges
+
+pub returns-then-are_only_claims : goal.returns-then-are_only_claims
+returns-then-are_only_claims c =
+    let event = c.args.event.now in
+    let Claims : ℕ → Type 0 = IsClaimAbove c.args.claims.now event in
+    let empty = c.are_only_claims.ensures c.if-are_only_claims.true in
+    only_claims _ event empty.0 empty.1 empty.2 c.above-claim.result
+    (subst (IsLeastOf Claims) (sym c.above-claim.ensures)
+    (least_above (λ n. Any (λ (x : Claim). x.line ≡ n) c.args.claims.now) event.line c.first_line.result
+    c.first_line.ensures))
 
 pub returns : goal.returns
 returns c =

@@ -80,9 +80,9 @@ impl Segment {
         for window in &self.windows {
             let events = window.events();
             let index = events.partition_point(|event| event.line < line);
-            if let (Some(event), Some(saying)) = (events.get(index), window.sayings().get(index)) {
+            if let Some((event, saying)) = window.event_at(index) {
                 if event.line == line {
-                    return Some((*event, *saying));
+                    return Some((event, saying));
                 }
             }
         }
@@ -122,13 +122,14 @@ impl Segment {
 fn seek_in(window: &Window, line: u32, pending: &mut Pending) -> Result<(), AllocError> {
     let events = window.events();
     let above = events.partition_point(|event| event.line < line);
-    let sayings = window.sayings();
-    for (event, saying) in events.iter().zip(sayings).take(above).rev() {
+    for index in (0..above).rev() {
         if pending.is_over() {
             return Ok(());
         }
-        if let Some(claim) = saying.claim {
-            pending.offer(*event, claim)?;
+        if let Some((event, saying)) = window.event_at(index) {
+            if let Some(claim) = saying.claim {
+                pending.offer(event, claim)?;
+            }
         }
     }
     Ok(())

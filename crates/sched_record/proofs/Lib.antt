@@ -24,3 +24,4 @@ pub mod SpanEnds
 pub mod PolicyTold
 pub mod Windows
 pub mod WindowIndices
+pub mod SayingsKept

@@ -13,3 +13,4 @@ pub mod Seen
 pub mod ReadLines
 pub mod Reader
 pub mod Window
+pub mod Sayings

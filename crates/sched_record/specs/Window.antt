@@ -23,4 +23,4 @@ said_beside (event ∷ events) [] = []
 said_beside (event ∷ events) (saying ∷ sayings) = said_of event saying ∷ said_beside events sayings
 
 abbrev pub window_view : Window → List Claimed
-window_view window = said_beside window.events.items window.sayings.items
+window_view window = said_beside window.events.items window.sayings

@@ -14,6 +14,7 @@ mod policies;
 mod reading;
 mod reading_wide;
 mod record;
+mod sayings;
 mod trace;
 mod trace_reader;
 mod window;

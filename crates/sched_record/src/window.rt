@@ -1,5 +1,5 @@
 ghost use Rattle.std.specs.Prelude.{◌≡◌, ◌==◌, ℕ, ◌<◌, ◌^◌, ◌++◌, [], ◌∷◌, length, vec_capacity, vec_len};
-ghost use Rattle.std.specs.Prelude.{if◌then◌else◌, drop, take, OnErr, OnOk};
+ghost use Rattle.std.specs.Prelude.{if◌then◌else◌, ◌≤◌, drop, take, IfSome, None, OnErr, OnOk};
 ghost use Rattle.std.specs.List.{list_any};
 ghost use Rattle.std.proofs.Props.{props};
 ghost use Rattle.cfs_model.specs.Limits.{most_processors};
@@ -8,6 +8,7 @@ ghost use Rattle.sched_record.specs.Indices.{AreIndicesOf, indices_at, touches_c
 
 use crate::dealing::step_at;
 use crate::indices::Indices;
+use crate::sayings::Sayings;
 use cfs_model::{Act, ChargeLine, Claim, Entry, MOST_PROCESSORS, Memory, NiceLine, Policy};
 use replay_model::Step;
 use std::alloc::Global;
@@ -25,10 +26,10 @@ pub struct Saying {
 #[derive(Drop)]
 pub struct Window {
     events: Vec<Entry>,
-    sayings: Vec<Saying>,
+    sayings: Sayings,
     /// Where in `events` those of each processor stand, of as many as a `u32` counts.
     indices: Indices,
-    pub ghost paired: { length sayings.items ≡ length events.items },
+    pub ghost paired: { length sayings ≡ length events.items },
     ghost indexed: { length events.items < 2 ^ 32 → AreIndicesOf events.items indices } by { Prim.hlevel props },
 }
 
@@ -45,7 +46,7 @@ impl Window {
     {
         Window {
             events: Vec::new(alloc),
-            sayings: Vec::new(alloc),
+            sayings: Sayings::new(alloc),
             indices: Indices::new(alloc),
         }
     }
@@ -56,26 +57,15 @@ impl Window {
         ensures same { OnErr result (window_view self.new ≡ window_view self.old) }
     {
         self.events.reserve(1)?;
-        self.sayings.reserve(1)?;
-        add_index(&mut self.indices, event.act, self.events.len())?;
+        self.sayings.push(saying)?;
+        let added = add_index(&mut self.indices, event.act, self.events.len());
+        if added.is_err() {
+            self.sayings.pop();
+            return added;
+        }
         // Taken apart: the check knows the types of what is named.
         let Entry { line, time, act } = event;
-        let Saying {
-            claim,
-            nice,
-            charge,
-            policy,
-        } = saying;
         push_in(&mut self.events, Entry { line, time, act });
-        push_in(
-            &mut self.sayings,
-            Saying {
-                claim,
-                nice,
-                charge,
-                policy,
-            },
-        );
         Ok(())
     }
 
@@ -95,11 +85,17 @@ impl Window {
         &self.events
     }
 
-    /// What is said on their lines, in the same order.
-    pub fn sayings(&self) -> &[Saying]
-        ensures { said_beside (map (λ event. event.entry) (window_view self.now)) result.now ≡ window_view self.now }
+    /// The event at an index, and what is said on its line; none at the end.
+    pub fn event_at(&self, index: usize) -> Option<(Entry, Saying)>
+        ensures there { IfSome result (λ at. said_of at.0 at.1
+            ≡ slice_index_or (window_view self.now) index (said_of at.0 at.1)) }
+        ensures none { result ≡ None → length (window_view self.now) ≤ index }
     {
-        &self.sayings
+        if index < self.events.len() {
+            Some((self.events[index], self.sayings.get(index)))
+        } else {
+            None
+        }
     }
 
     /// The steps of the events that touch a processor, in place of what the list held.
@@ -154,7 +150,7 @@ impl Window {
             → OnOk result (steps.new.items ≡ steps.old.items ++ step_here cpu here ∷ []) }
     {
         let event = self.events[index];
-        let said = self.sayings[index];
+        let said = self.sayings.get(index);
         let step = step_at(event, said.claim, said.nice, said.charge, said.policy, cpu);
         let _deed = step.deed;
         steps.push(step)?;

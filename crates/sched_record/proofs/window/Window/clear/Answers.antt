@@ -4,7 +4,7 @@ use Rattle.sched_record.proofs.window.Window.clear.Goals as goal
 
 pub invariant_of-self : goal.invariant_of-self
 invariant_of-self c =
-    rw (c.clear.ensures.items, c.clear-2.ensures.items) (record {
+    rw (c.clear.ensures.items, c.clear-2.ensures) (record {
       paired = refl;
       indexed = λ few cpu h. c.clear-3.ensures cpu ∙ none_indexed cpu h;
     })

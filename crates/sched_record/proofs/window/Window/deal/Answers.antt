@@ -9,5 +9,5 @@ pub returns : goal.returns
 returns c =
     let self = c.args.self.now in
     let all = steps_at c.args.cpu (window_view self) in
-    let few = steps_at_most c.args.cpu self.events.items self.sayings.items in
+    let few = steps_at_most c.args.cpu self.events.items self.sayings in
     c.in_ok-deal_some.ensures ∙ take_all c.len.result all (let n = c.len.ensures in omega (arith, few, n))

@@ -14,12 +14,12 @@ loop-index-preserved c =
     elim c.if-touches.branch [
       | then-touches+in_ok-push_step w ↦
           ap (λ s. s.items) w.steps-is
-          ∙ deals_one c.args.cpu self.events.items self.sayings.items i self.paired within c.index.result.now
+          ∙ deals_one c.args.cpu self.events.items self.sayings i self.paired within c.index.result.now
           c.loop-index.steps.items w.push_step.new.steps.items c.index.ensures
           (sym c.touches.ensures ∙ w.if-touches.true) c.loop-index.invariant w.in_ok-push_step.ensures
       | else-touches w ↦
           ap (λ s. s.items) w.steps-is
-          ∙ deals_none c.args.cpu self.events.items self.sayings.items i self.paired within c.index.result.now
+          ∙ deals_none c.args.cpu self.events.items self.sayings i self.paired within c.index.result.now
           c.loop-index.steps.items c.index.ensures (sym c.touches.ensures ∙ w.if-touches.false)
           c.loop-index.invariant
     ]
@@ -27,6 +27,6 @@ loop-index-preserved c =
 pub returns : goal.returns
 returns c =
     let self = c.args.self.now in
-    deals_all c.args.cpu self.events.items self.sayings.items c.loop-index.index c.loop-index.steps.items self.paired
+    deals_all c.args.cpu self.events.items self.sayings c.loop-index.index c.loop-index.steps.items self.paired
     (let n = c.len-index-end.ensures in let k = self.events.ok in let t = c.loop-index-test.false in
     omega (arith, n, k, t)) c.loop-index.invariant

@@ -10,7 +10,7 @@ push_step-requires c =
     let t = c.if-len.false in
     let known : length self.events.items < 2 ^ 32 = omega (arith, n, k, t) in
     let few = c.if-cpu-ge-MOST_PROCESSORS.false in
-    part_below c.args.cpu c.args.from c.args.most self.events.items self.sayings.items
+    part_below c.args.cpu c.args.from c.args.most self.events.items self.sayings
     c.part_of-index-items.result.now self.paired
     (c.part_of-index-items.ensures ∙ ap (λ is. take c.args.most (drop c.args.from is))
     (c.at.ensures ∙ self.indexed known c.args.cpu (omega (arith, few)))) c.loop-index.index-index c.loop-index-test.true
@@ -23,7 +23,7 @@ loop-index-preserved c =
     let t = c.if-len.false in
     let known : length self.events.items < 2 ^ 32 = omega (arith, n, k, t) in
     let few = c.if-cpu-ge-MOST_PROCESSORS.false in
-    deals_next c.args.cpu c.args.from c.args.most self.events.items self.sayings.items
+    deals_next c.args.cpu c.args.from c.args.most self.events.items self.sayings
     c.part_of-index-items.result.now self.paired
     (c.part_of-index-items.ensures ∙ ap (λ is. take c.args.most (drop c.args.from is))
     (c.at.ensures ∙ self.indexed known c.args.cpu (omega (arith, few)))) c.loop-index.index-index
@@ -39,7 +39,7 @@ returns c =
     let known : length self.events.items < 2 ^ 32 = omega (arith, n, k, t) in
     let few = c.if-cpu-ge-MOST_PROCESSORS.false in
     let end = c.loop-index-test.false in
-    deals_indexed c.args.cpu c.args.from c.args.most self.events.items self.sayings.items
+    deals_indexed c.args.cpu c.args.from c.args.most self.events.items self.sayings
     c.part_of-index-items.result.now self.paired
     (c.part_of-index-items.ensures ∙ ap (λ is. take c.args.most (drop c.args.from is))
     (c.at.ensures ∙ self.indexed known c.args.cpu (omega (arith, few)))) c.loop-index.index-index

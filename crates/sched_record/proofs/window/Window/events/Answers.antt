@@ -5,4 +5,4 @@ use Rattle.sched_record.proofs.window.Window.events.Goals as goal
 pub returns : goal.returns
 returns c =
     c.deref.ensures.value
-    ∙ sym (entries_said c.args.self.now.events.items c.args.self.now.sayings.items c.args.self.now.paired)
+    ∙ sym (entries_said c.args.self.now.events.items c.args.self.now.sayings c.args.self.now.paired)

@@ -8,5 +8,5 @@ returns c here stands =
     let self = c.args.self.now in
     c.in_ok-push.ensures.items
     ∙ ap (λ step. c.args.steps.now.items ++ step ∷ []) (c.step_at-step.ensures
-    ∙ ap (step_at c.args.cpu) (said_is self.events.items self.sayings.items c.args.index c.index-event.result.now
-    c.index-said.result.now here self.paired c.requires c.index-event.ensures c.index-said.ensures stands))
+    ∙ ap (step_at c.args.cpu) (said_is self.events.items self.sayings c.args.index c.index-event.result.now
+    c.get-said.result here self.paired c.requires c.index-event.ensures c.get-said.ensures stands))

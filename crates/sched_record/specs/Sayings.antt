@@ -1,0 +1,22 @@
+-- What is said on lines, kept in little room, as contracts see it: the sayings (this project's profile).
+use Rattle.std.specs.Prelude.{ℕ, ◌+◌, Some, None, List, slice_index_or}
+use Rattle.cfs_model.specs.declared.policy.Policy.TheVariants.{Normal}
+use Rattle.sched_record.specs.declared.sayings.Said.{Said}
+use Rattle.sched_record.specs.declared.sayings.Said.TheVariants.{Nothing, OneClaim, More}
+use Rattle.sched_record.specs.declared.window.Saying.{Saying}
+
+-- nothing is said, of a task of the usual policy
+abbrev pub nothing_said : Saying
+nothing_said = record { claim = None; nice = None; charge = None; policy = Normal }
+
+-- what is said, where these are kept whole
+abbrev pub saying_of : List Saying → Said → Saying
+saying_of more Nothing = nothing_said
+saying_of more (OneClaim claim) = record { claim = Some claim; nice = None; charge = None; policy = Normal }
+saying_of more (More place) = slice_index_or more place nothing_said
+
+-- how many have to be kept whole for it
+abbrev pub whole_for : Said → ℕ
+whole_for Nothing = 0
+whole_for (OneClaim claim) = 0
+whole_for (More place) = place + 1

@@ -1,0 +1,149 @@
+ghost use Rattle.std.specs.Prelude.{◌≡◌, ◌<◌, ◌≤◌, [], ◌∷◌, ◌++◌, All, List, None, OnErr, OnOk, false, length};
+ghost use Rattle.std.specs.Prelude.{slice_index_or};
+ghost use Rattle.std.proofs.Props.{props};
+ghost use Rattle.cfs_model.specs.declared.policy.Policy.TheVariants.{Normal};
+ghost use Rattle.sched_record.specs.Sayings.{nothing_said, whole_for};
+
+use crate::window::Saying;
+use cfs_model::{Claim, Memory, Policy};
+use std::alloc::Global;
+use std::marker::Model;
+
+/// What is said on one line: nothing or a claim on nearly each.
+#[derive(Clone, Copy, Debug)]
+pub(crate) enum Said {
+    Nothing,
+    OneClaim(Claim),
+    /// More than that: where it stands among what is kept whole.
+    More(usize),
+}
+
+/// A list of what is said on lines, in little room.
+#[derive(Drop)]
+pub(crate) struct Sayings {
+    said: Vec<Said>,
+    more: Vec<Saying>,
+    ghost within: { All (λ one. whole_for one ≤ length more.items) said.items } by { Prim.hlevel props },
+}
+
+impl Model for Sayings {
+    ghost use Rattle.std.specs.Prelude.{List, map};
+    ghost use Rattle.sched_record.specs.Sayings.{saying_of};
+    ghost use Rattle.sched_record.specs.declared.window.Saying.{Saying};
+
+    ghost Value = { List Saying };
+
+    ghost view = { λ sayings. map (saying_of sayings.more.items) sayings.said.items };
+}
+
+/// Where nothing is said, of a task of the usual policy.
+const NOTHING_SAID: Saying = Saying {
+    claim: None,
+    nice: None,
+    charge: None,
+    policy: Policy::Normal,
+};
+
+impl Sayings {
+    /// None. Takes no memory.
+    pub(crate) fn new(alloc: Global) -> Sayings
+        ensures { result ≡ [] }
+    {
+        Sayings {
+            said: Vec::new(alloc),
+            more: Vec::new(alloc),
+        }
+    }
+
+    /// Adds one behind the others, unless a growth is refused.
+    #[inline(always)]
+    pub(crate) fn push(&mut self, saying: Saying) -> Result<(), Memory>
+        ensures added { OnOk result (self.new ≡ self.old ++ saying ∷ []) }
+        ensures same { OnErr result (self.new ≡ self.old) }
+    {
+        if says_more(&saying) {
+            return self.push_whole(saying);
+        }
+        let said = match saying.claim {
+            Some(claim) => Said::OneClaim(claim),
+            None => Said::Nothing,
+        };
+        self.said.push(said)?;
+        Ok(())
+    }
+
+    /// The same of one that is kept whole. Out of line, as there are few.
+    #[inline(never)]
+    fn push_whole(&mut self, saying: Saying) -> Result<(), Memory>
+        ensures added { OnOk result (self.new ≡ self.old ++ saying ∷ []) }
+        ensures same { OnErr result (self.new ≡ self.old) }
+    {
+        let place = self.more.len();
+        // Taken apart: the check knows the types of what is named.
+        let Saying {
+            claim,
+            nice,
+            charge,
+            policy,
+        } = saying;
+        self.more.push(Saying {
+            claim,
+            nice,
+            charge,
+            policy,
+        })?;
+        self.said.push(Said::More(place))?;
+        Ok(())
+    }
+
+    /// Takes the last one off, if there is one.
+    pub(crate) fn pop(&mut self)
+        ensures { (before : List Saying) (saying : Saying) → self.old ≡ before ++ saying ∷ [] → self.new ≡ before }
+    {
+        let _last = self.said.pop();
+    }
+
+    /// Takes all off; the room for them stays.
+    pub(crate) fn clear(&mut self)
+        ensures { self.new ≡ [] }
+    {
+        self.said.clear();
+        self.more.clear();
+    }
+
+    /// The one at an index.
+    #[inline(always)]
+    pub(crate) fn get(&self, index: usize) -> Saying
+        requires { index < length self.now }
+        ensures { result ≡ slice_index_or self.now index result }
+    {
+        match self.said[index] {
+            Said::Nothing => NOTHING_SAID,
+            Said::OneClaim(claim) => Saying {
+                claim: Some(claim),
+                nice: None,
+                charge: None,
+                policy: Policy::Normal,
+            },
+            Said::More(place) => whole_at(&self.more, place),
+        }
+    }
+}
+
+/// The one that is kept whole at a place. Out of line, as there are few.
+#[inline(never)]
+fn whole_at(more: &[Saying], place: usize) -> Saying
+    ensures { result ≡ slice_index_or more.now place nothing_said }
+{
+    match more.get(place) {
+        Some(saying) => *saying,
+        None => NOTHING_SAID,
+    }
+}
+
+/// Whether more is said than a claim.
+fn says_more(saying: &Saying) -> bool
+    ensures { result ≡ false → (saying.now.nice ≡ None) × (saying.now.charge ≡ None) × (saying.now.policy ≡ Normal) }
+{
+    saying.nice.is_some() || saying.charge.is_some() || saying.policy != Policy::Normal
+}

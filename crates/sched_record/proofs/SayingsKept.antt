@@ -1,5 +1,5 @@
 -- What is said on lines stays as more is kept whole.
-use Rattle.std.proofs.Common.{◌≡◌, ℕ, ◌+◌, ◌≤◌, List, [], ◌∷◌, ◌++◌, length, map, refl, ap, ◌∙◌, All, Result, Ok, Err, false, true≢false}
+use Rattle.std.proofs.Common.{◌≡◌, ◌≤◌, List, [], ◌∷◌, ◌++◌, length, map, refl, ap, ◌∙◌, All, Result, Ok, Err, false, true≢false}
 use Rattle.std.proofs.Common.{is_err, arith}
 use Rattle.std.specs.Result.{OnErr, OnOk}
 use Rattle.std.proofs.lemmas.List.{get_or_append_left, length_push, map-append}

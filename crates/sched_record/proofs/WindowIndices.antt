@@ -31,6 +31,12 @@ said_is events sayings i event saying here paired lt is there stands =
     ∙ get_or_default (said_beside events sayings) i (said_of event saying) here
     (let n = said_length events sayings paired in omega (arith, n, lt)) ∙ sym stands
 
+-- what is known of whatever stands at an index stands there
+pub stands_as : (sayings : List Saying) (i : ℕ) (saying : Saying) → i < length sayings
+    → ((here : Saying) → here ≡ get_or sayings i here → here ≡ saying) → saying ≡ get_or sayings i saying
+stands_as sayings i saying lt known =
+    let there = get_or sayings i saying in sym (known there (get_or_default sayings i saying there lt))
+
 at_most : (xs : List Claimed) (n : ℕ) → (Claimed → length xs ≤ n) → length xs ≤ n
 at_most [] n h = omega arith
 at_most (x ∷ xs) n h = h x

@@ -1,5 +1,5 @@
 -- What is said on lines, kept in little room, as contracts see it: the sayings (this project's profile).
-use Rattle.std.specs.Prelude.{ℕ, ◌+◌, Some, None, List, slice_index_or}
+use Rattle.std.specs.Prelude.{◌≡◌, ℕ, ◌+◌, Some, None, List, slice_index_or}
 use Rattle.cfs_model.specs.declared.policy.Policy.TheVariants.{Normal}
 use Rattle.sched_record.specs.declared.sayings.Said.{Said}
 use Rattle.sched_record.specs.declared.sayings.Said.TheVariants.{Nothing, OneClaim, More}
@@ -14,6 +14,12 @@ abbrev pub saying_of : List Saying → Said → Saying
 saying_of more Nothing = nothing_said
 saying_of more (OneClaim claim) = record { claim = Some claim; nice = None; charge = None; policy = Normal }
 saying_of more (More place) = slice_index_or more place nothing_said
+
+-- what is said is nothing, or a claim alone; of one that is kept whole nothing is told
+abbrev pub IsSaid : Said → Saying → Type 0
+IsSaid Nothing saying = saying ≡ nothing_said
+IsSaid (OneClaim claim) saying = saying ≡ record { claim = Some claim; nice = None; charge = None; policy = Normal }
+IsSaid (More place) saying = Unit {0}
 
 -- how many have to be kept whole for it
 abbrev pub whole_for : Said → ℕ

@@ -2,7 +2,7 @@ ghost use Rattle.std.specs.Prelude.{◌≡◌, ◌<◌, ◌≤◌, [], ◌∷◌
 ghost use Rattle.std.specs.Prelude.{slice_index_or};
 ghost use Rattle.std.proofs.Props.{props};
 ghost use Rattle.cfs_model.specs.declared.policy.Policy.TheVariants.{Normal};
-ghost use Rattle.sched_record.specs.Sayings.{nothing_said, whole_for};
+ghost use Rattle.sched_record.specs.Sayings.{IsSaid, nothing_said, whole_for};
 
 use crate::window::Saying;
 use cfs_model::{Claim, Memory, Policy};
@@ -45,6 +45,8 @@ const NOTHING_SAID: Saying = Saying {
 };
 
 impl Sayings {
+    ghost use Rattle.sched_record.specs.declared.window.Saying.{Saying as SayingOf};
+
     /// None. Takes no memory.
     pub(crate) fn new(alloc: Global) -> Sayings
         ensures { result ≡ [] }
@@ -109,6 +111,15 @@ impl Sayings {
     {
         self.said.clear();
         self.more.clear();
+    }
+
+    /// What the one at an index is, as it is kept: a step is made of that with nothing copied that isn't said.
+    #[inline(always)]
+    pub(crate) fn said_at(&self, index: usize) -> Said
+        requires { index < length self.now }
+        ensures { (here : SayingOf) → here ≡ slice_index_or self.now index here → IsSaid result here }
+    {
+        self.said[index]
     }
 
     /// The one at an index.

@@ -8,7 +8,7 @@ ghost use Rattle.sched_record.specs.Indices.{AreIndicesOf, indices_at, touches_c
 
 use crate::dealing::step_at;
 use crate::indices::Indices;
-use crate::sayings::Sayings;
+use crate::sayings::{Said, Sayings};
 use cfs_model::{Act, ChargeLine, Claim, Entry, MOST_PROCESSORS, Memory, NiceLine, Policy};
 use replay_model::Step;
 use std::alloc::Global;
@@ -150,12 +150,44 @@ impl Window {
             → OnOk result (steps.new.items ≡ steps.old.items ++ step_here cpu here ∷ []) }
     {
         let event = self.events[index];
+        // A step's deed is named: the check knows the types of what is.
+        match self.sayings.said_at(index) {
+            Said::Nothing => {
+                let step = step_at(event, None, None, None, Policy::Normal, cpu);
+                let _deed = step.deed;
+                push(steps, step)
+            }
+            Said::OneClaim(claim) => {
+                let step = step_at(event, Some(claim), None, None, Policy::Normal, cpu);
+                let _deed = step.deed;
+                push(steps, step)
+            }
+            Said::More(_) => self.push_whole_step(index, cpu, steps),
+        }
+    }
+
+    /// The same of an event on whose line more is said than a claim. Out of line, as there are few.
+    #[inline(never)]
+    fn push_whole_step(&self, index: usize, cpu: u32, steps: &mut Vec<Step>) -> Result<(), Memory>
+        requires { index < length self.now.events.items }
+        ensures { (here : Claimed) → here ≡ slice_index_or (window_view self.now) index here
+            → OnOk result (steps.new.items ≡ steps.old.items ++ step_here cpu here ∷ []) }
+    {
+        let event = self.events[index];
         let said = self.sayings.get(index);
         let step = step_at(event, said.claim, said.nice, said.charge, said.policy, cpu);
         let _deed = step.deed;
-        steps.push(step)?;
-        Ok(())
+        push(steps, step)
     }
+}
+
+/// Adds an item behind the others of a list.
+#[inline(always)]
+fn push<T: Drop>(list: &mut Vec<T>, item: T) -> Result<(), Memory>
+    ensures { OnOk result (list.new.items ≡ list.old.items ++ item ∷ []) }
+{
+    list.push(item)?;
+    Ok(())
 }
 
 /// At most so many of these items, from one on.

@@ -1,6 +1,6 @@
 -- What is said on lines stays as more is kept whole.
-use Rattle.std.proofs.Common.{◌≡◌, ◌≤◌, List, [], ◌∷◌, ◌++◌, length, map, refl, ap, ◌∙◌, All, Result, Ok, Err, false, true≢false}
-use Rattle.std.proofs.Common.{is_err, arith}
+use Rattle.std.proofs.Common.{◌≡◌, ◌≤◌, List, [], ◌∷◌, ◌++◌, length, map, refl, ap, ◌∙◌, All, Result, Ok, Err}
+use Rattle.std.proofs.Common.{is_err, arith, false, true≢false}
 use Rattle.std.specs.Result.{OnErr, OnOk}
 use Rattle.std.proofs.lemmas.List.{get_or_append_left, length_push, map-append}
 use Rattle.std.proofs.lemmas.List.Elements.{All-head, All-tail, All-weaker}

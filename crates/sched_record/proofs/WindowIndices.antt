@@ -43,7 +43,8 @@ at_most (x ∷ xs) n h = h x
 
 -- some of the indices of the events that touch a processor
 module _ (cpu from most : ℕ) (events : List Entry) (sayings : List Saying) (indices : List ℕ)
-    (paired : length sayings ≡ length events) (are : indices ≡ take most (drop from (indices_touching cpu events))) where
+    (paired : length sayings ≡ length events)
+    (are : indices ≡ take most (drop from (indices_touching cpu events))) where
   abbrev said : List Claimed
   said = said_beside events sayings
 
@@ -92,7 +93,9 @@ module _ (cpu from most : ℕ) (events : List Entry) (sayings : List Saying) (in
       → steps ≡ map (step_at cpu) (take k touching)
       → steps ≡ take most (drop from (steps_at cpu said))
   deals_indexed k steps all dealt =
-      dealt ∙ ap (map (step_at cpu)) (take_all k touching (at_most touching k (λ d. (let n = count d in omega (arith, n, all)))))
+      dealt
+      ∙ ap (map (step_at cpu)) (take_all k touching (at_most touching k (λ d. (let n = count d in
+      omega (arith, n, all)))))
       ∙ sym (take-map (step_at cpu) most (drop from (filter (touches cpu) said)))
       ∙ ap (take most) (sym (drop-map (step_at cpu) from (filter (touches cpu) said)))
 

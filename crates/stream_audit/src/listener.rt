@@ -176,8 +176,8 @@ impl Listener {
     }
 }
 
-/// Audits the events that were taken out, and reads the trace's next block beside that, or behind it. Beside it the audit
-/// has a thread of its own, so no input goes to another thread.
+/// Audits the events that were taken out, and reads the trace's next block beside that, or behind it. Beside it the
+/// audit has a thread of its own, so no input goes to another thread.
 fn audit_and_read<R: Threads + Sync, T: Feed, P: Past + Send>(
     rt: &R,
     alloc: Global,

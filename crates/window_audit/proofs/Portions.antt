@@ -1,5 +1,6 @@
 -- A replay by some steps and then by those behind them went through all of these.
-use Rattle.std.proofs.Common.{◌≡◌, ℕ, ◌+◌, ◌-◌, ◌^◌, ◌<◌, ◌≤◌, min, List, ◌++◌, length, take, drop, Option, Some, None, refl, sym}
+use Rattle.std.proofs.Common.{◌≡◌, ℕ, ◌+◌, ◌-◌, ◌^◌, ◌<◌, ◌≤◌, min, List, ◌++◌, length, take, drop}
+use Rattle.std.proofs.Common.{Option, Some, None, refl, sym}
 use Rattle.std.proofs.Common.{ap, ◌∙◌, subst, arith}
 use Rattle.std.proofs.lemmas.List.{length-append, length-drop, length-take, take_all, take_min}
 use Rattle.std.proofs.Math.Seq.{take-add}
@@ -80,7 +81,8 @@ module _ (before : WindowedView) (all : List Step) (most dealt : ℕ) (steps : L
   dealt_more new taken more count same is g next = record {
     through = subst (λ l. GoesThrough before l new)
         (ap (λ l. take dealt all ++ l) (same ∙ at.next ∙ sym (take_min most (drop dealt all))
-        ∙ ap (λ n. take n (drop dealt all)) (sym (length-take most (drop dealt all)) ∙ sym (ap length at.next) ∙ sym is))
+        ∙ ap (λ n. take n (drop dealt all))
+        (sym (length-take most (drop dealt all)) ∙ sym (ap length at.next) ∙ sym is))
         ∙ sym (take-add dealt count all))
         (goes_on before now new (take dealt all) taken at.through g);
     within = (let w = within_more in omega (arith, w, is));

@@ -55,7 +55,8 @@ returns-in_err-taken-clause-memory c =
     let before = c.loop-rest.invariant in
     let new = c.take_next-taken.new.self in
     let memory = subst (λ (r : Result Unit Memory). OnErr r (ReadsOn c.loop-rest.self [] new))
-    (c.branch-taken.ensures ∙ ap (λ b. result_from_control_flow b) c.in_err-taken.is) c.take_next-taken.ensures.memory in
+    (c.branch-taken.ensures ∙ ap (λ b. result_from_control_flow b) c.in_err-taken.is)
+    c.take_next-taken.ensures.memory in
     on_error c.from_residual.result (
       before.front ++ [],
       lines_of c.loop-rest.rest.now,

@@ -53,7 +53,8 @@ returns-in-Err-Memory-clause-memory c before said edge read =
     let takes = subst (λ (r : Result Unit Refusal). Takes reader.draft line r new) c.in-Err-Memory.is
     c.take_next-taken.ensures.taken in (
       said,
-      unmoved reader.bad before reader.count reader.draft new said edge (subst (λ (e : Refusal). Takes reader.draft line (Err e) new)
+      unmoved reader.bad before reader.count reader.draft new said edge
+          (subst (λ (e : Refusal). Takes reader.draft line (Err e) new)
           (rw c.in-Err-Memory.is at c.in-Err-Memory.field-0-is) takes) read,
       goes_nothing said,
     )

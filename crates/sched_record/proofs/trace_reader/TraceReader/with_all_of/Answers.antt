@@ -15,8 +15,8 @@ loop-event-preserved c =
           _ c.loop-event.event-index event
           c.as_slice-event-items.ensures.value c.loop-event-test.true c.event-item.is c.loop-event.invariant.added);
       indexed = rw c.in_ok-push.ensures.items
-          (indexed_more c.loop-event.entries.items c.loop-event.indices c.add_with_hint.new.self (shifted c.args.self.count
-          event) _
+          (indexed_more c.loop-event.entries.items c.loop-event.indices c.add_with_hint.new.self
+          (shifted c.args.self.count event) _
           c.loop-event.invariant.indexed (search rules)
           c.in_ok-add_with_hint.ensures.added);
     }

@@ -1,5 +1,8 @@
-ghost use Rattle.std.specs.Prelude.{◌≡◌, ◌==◌, ℕ, ◌<◌, ◌≤◌, [], length, pos, IfOk, slice_index_or};
+ghost use Rattle.std.specs.Prelude.{◌≡◌, ◌==◌, ℕ, ◌<◌, ◌≤◌, [], length, pos, IfOk, None, Option, slice_index_or};
+ghost use Rattle.std.specs.Bool.{OnFalse, OnTrue};
 ghost use Rattle.cfs_model.specs.Claimed.{charge_at, claim_at, nice_at};
+ghost use Rattle.cfs_model.specs.declared.claim.Claim.{Claim as ClaimOf};
+ghost use Rattle.cfs_model.specs.declared.policy.Policy.TheVariants.{Normal};
 ghost use Rattle.companion_file.specs.Seen.{companion_view};
 ghost use Rattle.replay_model.specs.Cut.{cut, tasks_at};
 ghost use Rattle.processor_stream.specs.Stream.{stream_view};
@@ -241,8 +244,21 @@ pub fn step_at(
     }
 }
 
+/// Whether a task leaves a processor with what an event does: then the claim on its line is the destination's.
+#[inline(always)]
+pub(crate) fn leaves(act: Act, cpu: u32) -> bool
+    ensures gone { OnTrue result ((claim : Option ClaimOf) → claim_for (deed_here cpu Normal act) claim ≡ None) }
+    ensures here { OnFalse result ((claim : Option ClaimOf) → claim_for (deed_here cpu Normal act) claim ≡ claim) }
+{
+    match act {
+        Act::Shift { orig, .. } => orig == cpu,
+        Act::Switch { .. } | Act::Wake { .. } | Act::Born { .. } => false,
+    }
+}
+
 /// What an event does at a processor that it touches, with the policy of who is born or comes.
-fn deed_at(act: Act, policy: Policy, cpu: u32) -> Deed
+#[inline(always)]
+pub(crate) fn deed_at(act: Act, policy: Policy, cpu: u32) -> Deed
     ensures { result ≡ deed_here cpu policy act }
 {
     match act {

@@ -7,6 +7,7 @@ use cfs_model::{Act, ChargeLine, Claim, Entry, MOST_PROCESSORS, Memory, NiceLine
 use plain_list::PlainList;
 use std::alloc::Global;
 use std::marker::Model;
+use std::mem::replace;
 
 /// How many events have one hint together. What the companion says of so many is passed over one by one.
 const EVENTS_A_HINT: usize = 16;
@@ -206,5 +207,7 @@ impl Indices {
 fn empty(list: &mut PlainList<u32>)
     ensures { list.new ≡ [] }
 {
-    while list.pop().is_some() {}
+    let mut items = replace(list, PlainList::new(list.allocator())).into_vec();
+    items.clear();
+    *list = PlainList::from_vec(items);
 }

@@ -4,9 +4,11 @@ ghost use Rattle.std.specs.List.{list_any};
 ghost use Rattle.std.proofs.Props.{props};
 ghost use Rattle.cfs_model.specs.Limits.{most_processors};
 ghost use Rattle.cfs_model.specs.Touch.{touched};
+ghost use Rattle.cfs_model.specs.declared.policy.Policy.TheVariants.{Normal};
+ghost use Rattle.replay_model.specs.StepAt.{claim_for, deed_at as deed_of, step_at as step_of};
 ghost use Rattle.sched_record.specs.Indices.{AreIndicesOf, indices_at, touches_cpu};
 
-use crate::dealing::step_at;
+use crate::dealing::{deed_at, leaves, step_at};
 use crate::indices::Indices;
 use crate::sayings::{Said, Sayings};
 use cfs_model::{Act, ChargeLine, Claim, Entry, MOST_PROCESSORS, Memory, NiceLine, Policy};
@@ -52,6 +54,7 @@ impl Window {
     }
 
     /// Adds an event behind the others, with what is said on its line.
+    #[inline(always)]
     pub fn add(&mut self, event: Entry, saying: Saying) -> Result<(), Memory>
         ensures added { OnOk result (window_view self.new ≡ window_view self.old ++ said_of event saying ∷ []) }
         ensures same { OnErr result (window_view self.new ≡ window_view self.old) }
@@ -150,18 +153,11 @@ impl Window {
             → OnOk result (steps.new.items ≡ steps.old.items ++ step_here cpu here ∷ []) }
     {
         let event = self.events[index];
-        // A step's deed is named: the check knows the types of what is.
         match self.sayings.said_at(index) {
-            Said::Nothing => {
-                let step = step_at(event, None, None, None, Policy::Normal, cpu);
-                let _deed = step.deed;
-                push(steps, step)
-            }
-            Said::OneClaim(claim) => {
-                let step = step_at(event, Some(claim), None, None, Policy::Normal, cpu);
-                let _deed = step.deed;
-                push(steps, step)
-            }
+            Said::Nothing => push_usual(steps, &event, None, cpu),
+            // Apart, so that each way writes its own constant tags.
+            Said::OneClaim(_) if leaves(event.act, cpu) => push_usual(steps, &event, None, cpu),
+            Said::OneClaim(claim) => push_usual(steps, &event, Some(claim), cpu),
             Said::More(_) => self.push_whole_step(index, cpu, steps),
         }
     }
@@ -179,6 +175,40 @@ impl Window {
         let _deed = step.deed;
         push(steps, step)
     }
+}
+
+/// Adds the step of an event on whose line no more is said than this claim, if there is one, of a task of the usual
+/// policy.
+#[inline(always)]
+fn push_usual(
+    steps: &mut Vec<Step>,
+    event: &Entry,
+    claim: Option<Claim>,
+    cpu: u32,
+) -> Result<(), Memory>
+    requires { claim_for (deed_of cpu Normal event.now.act) claim ≡ claim }
+    ensures { OnOk result (steps.new.items ≡ steps.old.items ++ step_of cpu (record {
+      entry = event.now;
+      claim = claim;
+      nice = None;
+      charge = None;
+      policy = Normal;
+    }) ∷ []) }
+{
+    let deed = deed_at(event.act, Policy::Normal, cpu);
+    // Named: the check knows the types of what is.
+    let (nice, charge): (Option<NiceLine>, Option<ChargeLine>) = (None, None);
+    push(
+        steps,
+        Step {
+            line: event.line,
+            time: event.time,
+            deed,
+            claim,
+            nice,
+            charge,
+        },
+    )
 }
 
 /// Adds an item behind the others of a list.
@@ -200,6 +230,7 @@ fn part_of<T>(items: &[T], from: usize, most: usize) -> &[T]
 }
 
 /// Adds the index of an event to the processors that it touches, where a `u32` counts so many.
+#[inline(always)]
 fn add_index(indices: &mut Indices, act: Act, index: usize) -> Result<(), Memory>
     ensures added { index < 2 ^ 32 → OnOk result ((cpu : ℕ) → cpu < most_processors
         → indices_at indices.new cpu ≡ indices_at indices.old cpu ++ (if touches_cpu cpu act then index ∷ [] else [])) }
@@ -221,6 +252,7 @@ fn touches(act: Act, cpu: u32) -> bool
 }
 
 /// Puts an item at the end of a list that has room for it.
+#[inline(always)]
 fn push_in<T: Drop>(list: &mut Vec<T>, item: T)
     requires { vec_len list.old < vec_capacity list.old }
     ensures { list.new.items ≡ list.old.items ++ item ∷ [] }

@@ -1,6 +1,7 @@
 ghost use Rattle.std.specs.Prelude.{◌≡◌, ◌-◌, ◌^◌};
 ghost use Rattle.replay_model.specs.Summary.{is_birth, is_death, is_migration, is_switch};
 ghost use Rattle.ticket_book.specs.EventCounts.{AreCountsBelow, Fit, plus_counts, with_event};
+ghost use Rattle.ticket_book.specs.Walk.{IsPlain};
 
 use cfs_model::{Act, Entry};
 
@@ -32,6 +33,19 @@ impl EventCounts {
             migrations: self.migrations + u64::from(is_migration(event.act)),
             births: self.births + u64::from(is_birth(event.act)),
             deaths: self.deaths + u64::from(is_death(event.act)),
+        }
+    }
+
+    /// The same of an event with which no task begins, ends or migrates.
+    #[inline(always)]
+    pub fn with_plain(self, event: &Entry) -> EventCounts
+        requires plain { IsPlain event.now.act }
+        requires fit { AreCountsBelow (2 ^ 64 - 1) self }
+        ensures { result ≡ with_event event.now self }
+    {
+        EventCounts {
+            switches: self.switches + u64::from(is_switch(event.act)),
+            ..self
         }
     }
 

@@ -65,11 +65,12 @@ impl WindowBook {
         let mut walk = Walk::new(alloc, pages)?;
         let mut counts = EventCounts::NONE;
         for event in events {
-            counts = counts.with(event);
             // Most events of most windows are none that anybody has to be asked about.
             if walk.faultless && is_plain(event.act) {
+                counts = counts.with_plain(event);
                 continue;
             }
+            counts = counts.with(event);
             if let Some(fault) = walk.fault(pages, &self.alive, event) {
                 return Ok(Some(fault));
             }

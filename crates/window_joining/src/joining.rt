@@ -3,10 +3,11 @@ ghost use Rattle.std.specs.List.{AllPairs};
 
 use crate::between::{between, first_behind, last_on};
 use crate::hints::Hints;
+use crate::look::{Look, look_at};
 use crate::policies::Policies;
 use crate::refusing::{late_with, outside_with};
 use crate::strays::{lesser, stray_in};
-use cfs_model::{ChargeLine, Claim, Entry, IdleLine, Memory, NO_LINE, NiceLine};
+use cfs_model::{ChargeLine, Claim, Entry, IdleLine, Memory, NO_LINE, NiceLine, Policy};
 use companion_file::Companion;
 use sched_record::{JoinCause, JoinFault, Saying, Window};
 use std::alloc::Global;
@@ -28,7 +29,9 @@ pub struct Joining {
 }
 
 impl Joining {
-    ghost use Rattle.std.specs.Prelude.{◌≤◌, ◌++◌, ◌∷◌, [], All, List, IfOk, OnOk, IsSome, MatchOption, Some, true};
+    ghost use Rattle.std.specs.Prelude.{◌≤◌, ◌++◌, ◌∷◌, [], All, List, IfOk, IfSome, OnOk, IsSome, MatchOption, Some};
+    ghost use Rattle.std.specs.Prelude.{true};
+    ghost use Rattle.std.specs.Option.{option_to_list};
     ghost use Rattle.cfs_model.specs.Claimed.{Claimed, policy_told, with_claim};
     ghost use Rattle.cfs_model.specs.Limits.{no_line};
     ghost use Rattle.cfs_model.specs.declared.act.Entry.{Entry as Event};
@@ -39,9 +42,10 @@ impl Joining {
     ghost use Rattle.window_joining.specs.Joining.{HasJoined, IsHeadOf, IsHeld, StandBehind, is_refused};
     ghost use Rattle.window_joining.specs.Joining.{joined_answer};
     ghost use Rattle.window_joining.specs.Joining.{joined_events, rank_of};
+    ghost use Rattle.window_joining.specs.Look.{IsGlance, news_of};
     ghost use Rattle.window_joining.specs.News.{AreRising, IsBehind};
     ghost use Rattle.window_joining.specs.Passing.{Passes};
-    ghost use Rattle.window_joining.specs.Policies.{policies_view};
+    ghost use Rattle.window_joining.specs.Policies.{AreUsual, policies_view};
 
     /// Before the first event. The head of a companion is one without claims, changes of nice values and charges.
     pub fn new(alloc: Global, head: &Companion) -> Result<Joining, Memory>
@@ -89,7 +93,103 @@ impl Joining {
 
     /// Joins one more event, and adds it to a window with what is said on its line. Of what the companion says, what
     /// stands on lines up to the last event's may be gone.
+    #[inline(always)]
     pub fn add(
+        &mut self,
+        head: &Companion,
+        event: &Entry,
+        claims: &[Claim],
+        nices: &[NiceLine],
+        charges: &[ChargeLine],
+        window: &mut Window,
+    ) -> Result<(), Memory>
+        requires later { self.old.line < event.now.line }
+        requires claims_rise { AllPairs (λ a b. a.line < b.line) claims.now }
+        requires nices_rise { AllPairs (λ a b. a.line < b.line) nices.now }
+        requires charges_rise { AllPairs (λ a b. a.line < b.line) charges.now }
+        ensures joined { OnOk result ((c : CompanionView) (events : List Event) → HasJoined self.old c events
+            → IsHeadOf (companion_view head.now) c → IsHeld self.old.line c claims.now nices.now charges.now
+            → HasJoined self.new c (events ++ event.now ∷ [])) }
+        ensures window { OnOk result ((c : CompanionView) (events : List Event) → HasJoined self.old c events
+            → IsHeadOf (companion_view head.now) c → IsHeld self.old.line c claims.now nices.now charges.now
+            → (before : List Claimed) → before ++ window_view window.old ≡ joined_events c events
+            → before ++ window_view window.new ≡ joined_events c (events ++ event.now ∷ [])) }
+        ensures refused { OnOk result (is_refused self.old ≡ true → is_refused self.new ≡ true) }
+        ensures line { OnOk result (self.new.line ≡ event.now.line) }
+    {
+        match self.look(head, event, claims, nices, charges) {
+            Look::Nothing => self.add_usual(head, event, None, self.hints.claims, window),
+            Look::OneClaim => {
+                let next = self.hints.claims;
+                self.add_usual(head, event, Some(claims[next]), next + 1, window)
+            }
+            Look::Unclear => self.add_by_lists(head, event, claims, nices, charges, window),
+        }
+    }
+
+    /// What is new up to an event's line, as far as a look tells.
+    #[inline(always)]
+    fn look(
+        &self,
+        head: &Companion,
+        event: &Entry,
+        claims: &[Claim],
+        nices: &[NiceLine],
+        charges: &[ChargeLine],
+    ) -> Look
+        requires later { self.now.line < event.now.line }
+        requires claims_rise { AllPairs (λ a b. a.line < b.line) claims.now }
+        ensures { IsGlance self.now.policies self.now.line (record {
+          claims = claims.now;
+          nices = nices.now;
+          charges = charges.now;
+          idles = head.now.idles;
+        }) self.now.hints.claims event.now result }
+    {
+        let more_is_said = !nices.is_empty() || !charges.is_empty() || !head.idles().is_empty();
+        if more_is_said || !self.policies.are_usual() {
+            return Look::Unclear;
+        }
+        look_at(claims, self.hints.claims, self.line, event.line)
+    }
+
+    /// Adds an event of which no more is new than the claim on its line, if there is one, where nobody is of the idle
+    /// policy. There are so many claims up to it.
+    #[inline(always)]
+    fn add_usual(
+        &mut self,
+        head: &Companion,
+        event: &Entry,
+        claim: Option<Claim>,
+        claims: usize,
+        window: &mut Window,
+    ) -> Result<(), Memory>
+        requires usual { AreUsual self.old.policies }
+        requires on_line { IfSome claim (λ claim. claim.line ≡ event.now.line) }
+        ensures said { OnOk result (window_view window.new ≡ window_view window.old
+            ++ with_claim (option_to_list claim) [] []
+            (λ other. policy_told [] (λ line. policies_view self.old.policies) other.line other.act) event.now ∷ []) }
+        ensures passed { OnOk result (Passes head.now.cpus head.now.start (news_of claim) event.now self.old self.new) }
+    {
+        window.add(
+            *event,
+            Saying {
+                claim,
+                nice: None,
+                charge: None,
+                policy: Policy::Normal,
+            },
+        )?;
+        self.outside = outside_with(self.outside, event, head.cpus());
+        self.late = late_with(self.late, self.line, event, head.start());
+        self.line = event.line;
+        self.hints.claims = claims;
+        Ok(())
+    }
+
+    /// Adds an event by all that is new on the lines up to its own.
+    #[inline(never)]
+    fn add_by_lists(
         &mut self,
         head: &Companion,
         event: &Entry,

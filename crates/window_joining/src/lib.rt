@@ -5,6 +5,7 @@ mod between;
 mod hints;
 mod joining;
 mod laws;
+mod look;
 mod on_line;
 mod policies;
 mod refusing;

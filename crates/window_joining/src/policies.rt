@@ -1,8 +1,9 @@
 ghost use Rattle.std.specs.Prelude.{◌≡◌, ℕ, IfOk, OnOk};
+ghost use Rattle.std.specs.Bool.{OnTrue};
 ghost use Rattle.cfs_model.specs.Claimed.{is_named_idle, named_policy, policies_after, policy_by, policy_told};
 ghost use Rattle.cfs_model.specs.Limits.{no_line};
 ghost use Rattle.cfs_model.specs.Machine.{put};
-ghost use Rattle.window_joining.specs.Policies.{policies_view};
+ghost use Rattle.window_joining.specs.Policies.{AreUsual, policies_view};
 
 use cfs_model::{Act, Entry, IdleLine, Memory, NO_LINE, Policy};
 use std::alloc::Global;
@@ -28,6 +29,14 @@ impl Policies {
             }
         }
         Ok(Policies { idle })
+    }
+
+    /// Whether nobody is of the idle policy.
+    #[inline(always)]
+    pub(crate) fn are_usual(&self) -> bool
+        ensures { OnTrue result (AreUsual self.now) }
+    {
+        self.idle.is_empty()
     }
 
     /// The policy of the task that an event bears or moves; the idle lines on its line are among these.

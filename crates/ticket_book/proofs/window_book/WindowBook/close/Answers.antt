@@ -46,8 +46,8 @@ loop-event-preserved-then-is_plain g c =
     let event = c.event-item.result in
     record {
       sums = one_counted c.args.events.now c.args.self.now.sums c.loop-event.event-index event c.loop-event-test.true
-          c.event-item.is c.loop-event.counts c.with-counts.result sums sums c.loop-event.invariant.sums
-          c.with-counts.ensures refl refl (none_named event.act c.if-is_plain.ensures sums.tallies.table.rows);
+          c.event-item.is c.loop-event.counts c.with_plain-counts.result sums sums c.loop-event.invariant.sums
+          c.with_plain-counts.ensures refl refl (none_named event.act c.if-is_plain.ensures sums.tallies.table.rows);
       come = λ said are.
           let pages = map g.P.Paged.page c.args.pages.now in
           let i = c.loop-event.event-index in

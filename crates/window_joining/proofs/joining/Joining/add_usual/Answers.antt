@@ -1,0 +1,25 @@
+use Rattle.std.proofs.Common.{refl, subst}
+use Rattle.window_joining.proofs.Passed.{IsMidway, passes_by}
+use Rattle.window_joining.proofs.Usual.{policies_stay, stray_stays}
+use Rattle.window_joining.specs.Look.{news_of}
+use Rattle.window_joining.specs.Passing.{IsLateWith, IsOutsideWith}
+use Rattle.window_joining.specs.Policies.{policies_view}
+use Rattle.window_joining.proofs.joining.Joining.add_usual.Goals as goal
+
+pub returns-clause-passed : goal.returns-clause-passed
+returns-clause-passed c =
+    let before = c.args.self.now in
+    let event = c.args.event.now in
+    let news = news_of c.args.claim in
+    let mid : IsMidway news event before before = record {
+      policies = policies_stay (policies_view before.policies) event c.requires.usual;
+      stray = stray_stays event c.args.claim before.stray c.requires.on_line;
+      outside = refl;
+      late = refl;
+      line = refl;
+    } in
+    passes_by c.args.head.now.cpus c.args.head.now.start news event before before _ mid refl refl
+    (subst (λ n. IsOutsideWith n event before.outside c.outside_with-self.result) c.cpus.ensures
+    c.outside_with-self.ensures.told) c.outside_with-self.ensures.stays
+    (subst (λ n. IsLateWith n before.line event before.late c.late_with-self.result) c.start.ensures
+    c.late_with-self.ensures.told) c.late_with-self.ensures.stays refl

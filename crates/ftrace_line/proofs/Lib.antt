@@ -1,4 +1,5 @@
 pub mod HeadParts
+pub mod Columns
 pub mod Clocks
 pub mod Heads
 pub mod Losses

@@ -1,11 +1,11 @@
-ghost use Rattle.std.specs.Prelude.{◌≡◌, ◌≤◌, ◌∷◌, [], length, codes};
+ghost use Rattle.std.specs.Prelude.{◌≡◌, ◌≤◌, ◌∷◌, [], length, codes, Some, IfSome};
 ghost use Rattle.std.specs.List.{prefix_len};
 ghost use Rattle.ftrace_line.specs.Head.{is_group_byte, is_flag};
 ghost use Rattle.text_parts.specs.Reading.{Gives, or_else, after_text, after_run};
 ghost use Rattle.ftrace_line.specs.Meaning.{after_name, after_brackets, after_group, processor_at, stamp_at};
 ghost use Rattle.ftrace_line.specs.Meaning.{flagged_stamp_at, head_at};
 
-use text_parts::numerals::{is_digit_byte, number_at};
+use text_parts::numerals::{is_digit_byte, number_by_call, three_digits};
 use text_parts::pieces::{after_byte, after_digits, after_gap, beyond};
 use text_parts::time::{Time, time_at};
 
@@ -99,11 +99,34 @@ fn group_width(text: &[u8]) -> usize
 
 /// The processor in its square brackets, and what follows them. It has three digits or more.
 #[inline(always)]
-#[tactic(auto, unfolding(crate::specs::Meaning::processor_at))]
 pub(crate) fn processor_at(text: &[u8]) -> Option<(u64, &[u8])>
     ensures { Gives (λ x. (x.0, x.1.now)) result (processor_at text.now) }
 {
-    let number = number_at(after_byte(text, b'[')?);
+    match narrow_processor_at(text) {
+        Some(found) => Some(found),
+        None => wide_processor_at(text),
+    }
+}
+
+/// The same for a processor of three digits.
+#[inline(always)]
+fn narrow_processor_at(text: &[u8]) -> Option<(u64, &[u8])>
+    ensures { IfSome result (λ x. processor_at text.now ≡ Some (x.0, x.1.now)) }
+{
+    let [b'[', a, b, c, b']', rest @ ..] = text else {
+        return None;
+    };
+    let cpu = three_digits(*a, *b, *c)?;
+    Some((cpu, rest))
+}
+
+/// The same for any.
+#[inline(always)]
+#[tactic(auto, unfolding(crate::specs::Meaning::processor_at))]
+fn wide_processor_at(text: &[u8]) -> Option<(u64, &[u8])>
+    ensures { Gives (λ x. (x.0, x.1.now)) result (processor_at text.now) }
+{
+    let number = number_by_call(after_byte(text, b'[')?);
     if number.digits < 3 {
         return None;
     }

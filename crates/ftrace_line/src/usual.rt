@@ -1,17 +1,21 @@
-ghost use Rattle.std.specs.Prelude.{◌≡◌, ◌<◌, ◌≤◌, IfSome, length, take};
+ghost use Rattle.std.specs.Prelude.{◌≡◌, ℕ, ◌<◌, ◌≤◌, ◌++◌, List, true, false, IfSome, get_or, length, take};
 ghost use Rattle.std.specs.Bool.{OnTrue};
 ghost use Rattle.std.specs.List.{prefix_len};
+ghost use Rattle.text_parts.specs.Pieces.{IsGap};
 ghost use Rattle.text_parts.specs.Unbroken.{IsUnbroken};
-ghost use Rattle.ftrace_line.specs.Usual.{is_mark, HasFlags, HasName, HasHead, HasFront};
+ghost use Rattle.ftrace_line.specs.Usual.{is_mark, is_padded, HasFlags, HasName, HasPid, HasHead, HasFront};
 
 use crate::head::{after_group, after_name, processor_at, stamp_at};
 use crate::kinds::Which;
 use crate::reading::{fields_of, kind_of};
 use cfs_model::{GREATEST_PROCESSOR, GREATEST_SECONDS, NANOSECONDS_PER_SECOND};
-use text_parts::pieces::{after_digits, after_gap};
+use text_parts::numerals::{doubled, is_digit_byte};
+use text_parts::pieces::{
+    after_byte, after_digits_by_call, after_front, after_gap_by_call, after_narrow_gap,
+};
 
 /// Kernels print fewer flags. These are looked at with no loop, and with no look at where the text ends.
-const FEW_MARKS: usize = 8;
+const FEW_MARKS: usize = 16;
 
 /// The front of a text whose first line is an event's, up to where the event's own text begins.
 #[derive(Clone, Copy, Debug, PartialEq, Eq, Drop)]
@@ -63,9 +67,9 @@ fn usual_head(text: &[u8]) -> Option<UsualHead<'_>>
     ensures { IfSome result (λ head. HasHead text.now head.cpu head.time head.text.now) }
 {
     let pid = usual_name(text)?;
-    let group = after_gap(after_digits(pid)?)?;
+    let group = after_pid(pid)?;
     let (cpu, clock) = processor_at(after_group(group)?)?;
-    let stamp = after_flags(after_gap(clock)?);
+    let stamp = after_flags(after_column_gap(clock)?);
     let (time, text) = stamp_at(stamp)?;
     if cpu > GREATEST_PROCESSOR || time.seconds > GREATEST_SECONDS {
         return None;
@@ -102,6 +106,80 @@ fn is_unbroken(text: &[u8]) -> bool
     unbroken
 }
 
+/// What follows the digits of the pid and the spaces behind them.
+#[inline(always)]
+fn after_pid(text: &[u8]) -> Option<&[u8]>
+    ensures { IfSome result (λ rest. HasPid text.now rest.now) }
+{
+    match after_padded_pid(text) {
+        Some(rest) => Some(rest),
+        None => after_any_pid(text),
+    }
+}
+
+/// The same where both together have eight columns, as kernels print them, and the pid has at most four digits: the
+/// width of what is read is known, and the columns are looked at with no loop.
+#[inline(always)]
+fn after_padded_pid(text: &[u8]) -> Option<&[u8]>
+    ensures { IfSome result (λ rest. HasPid text.now rest.now) }
+{
+    let [a, b, c, d, gap @ ..] = text else {
+        return None;
+    };
+    let rest = after_front(gap, b"    ")?;
+    if is_digit_byte(*a) && is_padded(*b, *c, *d) {
+        Some(rest)
+    } else {
+        None
+    }
+}
+
+/// Whether digits, or none, stand in these three columns, and spaces behind them.
+#[inline(always)]
+fn is_padded(first: u8, second: u8, third: u8) -> bool
+    ensures { result ≡ is_padded first second third }
+{
+    if is_digit_byte(third) {
+        is_digit_byte(second) && is_digit_byte(first)
+    } else if third == b' ' {
+        if is_digit_byte(second) {
+            is_digit_byte(first)
+        } else {
+            second == b' ' && (first == b' ' || is_digit_byte(first))
+        }
+    } else {
+        false
+    }
+}
+
+/// The same for any pid and gap.
+#[inline(always)]
+fn after_any_pid(text: &[u8]) -> Option<&[u8]>
+    ensures { IfSome result (λ rest. HasPid text.now rest.now) }
+{
+    let gap = after_digits_by_call(text)?;
+    let rest = after_gap_by_call(gap)?;
+    Some(rest)
+}
+
+/// What follows the spaces behind a column. It is one space in nearly all lines.
+#[inline(always)]
+fn after_column_gap(text: &[u8]) -> Option<&[u8]>
+    ensures { IfSome result (λ rest. (gap : List ℕ) × IsGap gap × (text.now ≡ gap ++ rest.now)) }
+{
+    let rest = after_byte(text, b' ')?;
+    if is_space_in_front(rest) {
+        let wide = after_gap_by_call(text)?;
+        return Some(wide);
+    }
+    Some(rest)
+}
+
+#[inline(always)]
+fn is_space_in_front(text: &[u8]) -> bool {
+    matches!(text, [b' ', ..])
+}
+
 /// What follows the word of flags, where there is one.
 #[inline(always)]
 fn after_flags(text: &[u8]) -> &[u8]
@@ -111,7 +189,12 @@ fn after_flags(text: &[u8]) -> &[u8]
     if count == 0 {
         return text;
     }
-    match after_gap(&text[count..]) {
+    let gap = &text[count..];
+    // That a space is there is a branch of its own: else both answers are made, and then one is chosen.
+    let [b' ', ..] = gap else {
+        return text;
+    };
+    match after_narrow_gap(gap) {
         Some(rest) => rest,
         None => text,
     }
@@ -124,23 +207,50 @@ fn mark_count(text: &[u8]) -> usize
     ensures within { result ≤ length text.now }
 {
     if text.len() >= FEW_MARKS {
-        let count = marks_in(&text[..FEW_MARKS]);
-        if count < FEW_MARKS {
-            return count;
+        let count = first_other(text);
+        if usize::from(count) < FEW_MARKS {
+            return usize::from(count);
         }
     }
-    marks_in(text)
+    many_marks(text)
 }
 
-/// How many bytes of a word of flags stand at the front of some bytes, which are looked at one by one.
+/// The first of the first sixteen indices at which no byte of a word of flags stands, or 16. All are looked at with no
+/// branch.
 #[inline(always)]
-#[tactic(auto, using(text_parts::proofs::Runs::prefix_within))]
-fn marks_in(bytes: &[u8]) -> usize
-    ensures count { result ≡ prefix_len is_mark bytes.now }
-    ensures within { result ≤ length bytes.now }
+fn first_other(text: &[u8]) -> u8
+    requires { 15 < length text.now }
+    ensures within { result ≤ 16 }
+    ensures marks { (index : ℕ) → index < result → is_mark (get_or text.now index 0) ≡ true }
+    ensures other { result < 16 → is_mark (get_or text.now result 0) ≡ false }
 {
-    bytes
-        .iter()
+    let mut first = 16;
+    for index in 0..16u8 {
+        first = first.min(index_if_other(index, text[usize::from(index)]));
+    }
+    first
+}
+
+/// The index where its byte is none of a word of flags, or else 16 or more: sixteen times what the byte is away from a
+/// space and from a colon.
+#[inline(always)]
+fn index_if_other(index: u8, byte: u8) -> u8
+    requires { index < 16 }
+    ensures other { is_mark byte ≡ false → result ≡ index }
+    ensures mark { is_mark byte ≡ true → 16 ≤ result }
+{
+    let away = byte.saturating_sub(b' ').min(byte.abs_diff(b':'));
+    index.saturating_add(doubled(doubled(doubled(doubled(away)))))
+}
+
+/// How many bytes of a word of flags a text begins with, which are looked at one by one.
+#[inline(never)]
+#[tactic(auto, using(text_parts::proofs::Runs::prefix_within))]
+fn many_marks(text: &[u8]) -> usize
+    ensures count { result ≡ prefix_len is_mark text.now }
+    ensures within { result ≤ length text.now }
+{
+    text.iter()
         .take_while(|byte| **byte > b' ' && **byte != b':')
         .count()
 }

@@ -1,11 +1,13 @@
 -- What is told of the first line of a text, where it has the usual form (ftrace.rst, and the print formats of the
 -- scheduler's trace events; which lines are told of so is this project's profile, and no clause says it).
-use Rattle.std.specs.Prelude.{◌≡◌, ℕ, ◌<◌, Bool, nat_lt, List, ◌∷◌, ◌++◌, length, Option, MatchOption, Ok}
+use Rattle.std.specs.Prelude.{◌≡◌, ℕ, ◌<◌, Bool, false, true, nat_lt, List, [], ◌∷◌, ◌++◌, length, Option, MatchOption, Ok}
 use Rattle.std.specs.List.{before_first, after_first}
 use Rattle.cfs_model.specs.declared.act.Act.{Act}
 use Rattle.ftrace_line.specs.declared.kinds.Which.{Which}
 use Rattle.ftrace_line.specs.Line.{LineAnswer, other, sched}
 use Rattle.text_parts.specs.Lines.{is_line_feed, lines_of}
+use Rattle.text_parts.specs.Numerals.{is_digit}
+use Rattle.text_parts.specs.Pieces.{begins_with}
 use Rattle.text_parts.specs.Unbroken.{IsUnbroken}
 use Rattle.sched_event.specs.Event.{EventView, EventAnswer, act_of}
 use Rattle.sched_event.specs.Texts.{EventText, Reads}
@@ -19,6 +21,12 @@ is_plain byte = nat_lt 32 byte
 pub record HasField (key text field rest : List ℕ) : Type 0 where
   pub unbroken : IsUnbroken field
   pub parts : text ≡ key ++ (field ++ rest)
+
+-- the prio of nice 0 stands at the front of a text, and no digit follows it
+pub record HasMiddlePrio (text : List ℕ) : Type 0 where
+  pub end : ℕ
+  pub no_digit : is_digit end ≡ false
+  pub there : begins_with (49 ∷ 50 ∷ 48 ∷ end ∷ []) text ≡ true
 
 -- an event's fields stand at the front of a text, and no line ends in them
 pub record HasFields (which : Which) (text : List ℕ) (read : EventText) (rest : List ℕ) : Type 0 where

@@ -1,4 +1,4 @@
-ghost use Rattle.std.specs.Prelude.{◌≡◌};
+ghost use Rattle.std.specs.Prelude.{◌≡◌, ◌∷◌, []};
 ghost use Rattle.sched_event.specs.EventView.{switched, woken, born, migrated};
 ghost use Rattle.sched_event.specs.Seen.{event_view, switch_view, wakeup_view, migration_view};
 ghost use Rattle.sched_event.specs.Act.{act_of, is_put_back, is_gone, is_runnable, way_of};
@@ -76,8 +76,33 @@ fn is_runnable(state: &[u8]) -> bool
     matches!(state, [b'R', ..])
 }
 
-/// How a task in this state leaves its processor.
+/// How a task in this state leaves its processor. Nearly all states are a letter, or are put back while they run.
+#[inline(always)]
 fn way_of(state: &[u8]) -> Way
+    ensures { result ≡ way_of state.now }
+{
+    match state {
+        [letter] => way_by_letter(*letter),
+        [b'R', b'+'] => Way::Stays,
+        _ => way_by_letters(state),
+    }
+}
+
+/// The same for a state of one letter.
+#[inline(always)]
+fn way_by_letter(letter: u8) -> Way
+    ensures { result ≡ way_of (letter ∷ []) }
+{
+    match letter {
+        b'+' | b'R' => Way::Stays,
+        b'X' | b'Z' | b'x' => Way::Ends,
+        _ => Way::Sleeps,
+    }
+}
+
+/// The same for any letters.
+#[inline(never)]
+fn way_by_letters(state: &[u8]) -> Way
     ensures { result ≡ way_of state.now }
 {
     if is_put_back(state) {

@@ -8,7 +8,7 @@ ghost use Rattle.sched_event.specs.FieldsView.{pair, numeral_pair, prio_pair, op
 ghost use Rattle.text_parts.specs.Numerals.{is_digit};
 
 use crate::numeral::Numeral;
-use text_parts::numerals::number_at;
+use text_parts::numerals::{doubled, number_at};
 use text_parts::pieces::{after_front, begins_with};
 
 /// A printed prio.
@@ -24,7 +24,7 @@ pub(crate) const NAME_MAX: usize = 15;
 /// The digits that the text begins with, and what follows them.
 #[inline(always)]
 #[tactic(auto, unfolding(crate::specs::Reading::run_at))]
-fn digits<'a>(text: &'a [u8]) -> Option<(Numeral<'a>, &'a [u8])>
+pub(crate) fn digits<'a>(text: &'a [u8]) -> Option<(Numeral<'a>, &'a [u8])>
     ensures { Gives numeral_pair result (run_at is_digit text.now) }
 {
     let number = number_at(text);
@@ -123,14 +123,6 @@ fn index_if_same(index: u8, found: u8, byte: u8) -> u8
 {
     let twice = doubled(found.abs_diff(byte));
     index.saturating_sub(doubled(doubled(doubled(twice))))
-}
-
-/// Twice a number, or the greatest.
-#[inline(always)]
-pub(crate) fn doubled(number: u8) -> u8
-    ensures { result ≡ min (number + number) 255 }
-{
-    number.saturating_add(number)
 }
 
 /// The last index within a name's length at which the key stands.

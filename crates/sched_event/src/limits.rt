@@ -1,4 +1,4 @@
-ghost use Rattle.std.specs.Prelude.{◌≡◌, ◌<◌, ◌^◌};
+ghost use Rattle.std.specs.Prelude.{◌≡◌, ◌<◌, ◌^◌, IfSome, Ok};
 ghost use Rattle.cfs_model.specs.Limits.{greatest_pid, greatest_processor};
 ghost use Rattle.sched_event.specs.Judging.{number_within, printed_nice};
 ghost use Rattle.sched_event.specs.FieldsView.{prio_fields_view};
@@ -45,8 +45,34 @@ pub(crate) fn cpu_of(numeral: &Numeral) -> Result<u32, EventFault>
 
 /// The nice value of a printed prio. That of the idle task isn't looked at: its nice value is 0.
 #[inline(always)]
-#[tactic(auto, unfolding(crate::specs::Judging::printed_nice))]
 pub(crate) fn nice_of(pid: u32, prio: &PrioFields) -> Result<Nice, EventFault>
+    ensures { result ≡ printed_nice pid (prio_fields_view prio.now) }
+{
+    match fair_nice(pid, prio) {
+        Some(nice) => Ok(nice),
+        None => any_nice(pid, prio),
+    }
+}
+
+/// The same where there is one, in few steps: nothing is told of other prios.
+#[inline(always)]
+#[tactic(auto, unfolding(crate::specs::Judging::printed_nice))]
+fn fair_nice(pid: u32, prio: &PrioFields) -> Option<Nice>
+    ensures { IfSome result (λ nice. printed_nice pid (prio_fields_view prio.now) ≡ Ok nice) }
+{
+    if pid == IDLE_PID {
+        return Nice::of_prio(PRIO_MIDDLE).ok();
+    }
+    if prio.minus || prio.numeral.value >= PRIO_BEYOND {
+        return None;
+    }
+    Nice::of_prio(prio.numeral.value as i64).ok()
+}
+
+/// The nice value of any printed prio, or what it is refused for, away from the reader of fair prios.
+#[inline(never)]
+#[tactic(auto, unfolding(crate::specs::Judging::printed_nice))]
+fn any_nice(pid: u32, prio: &PrioFields) -> Result<Nice, EventFault>
     ensures { result ≡ printed_nice pid (prio_fields_view prio.now) }
 {
     let number = prio.numeral.value.min(PRIO_BEYOND) as i64;

@@ -4,11 +4,15 @@ ghost use Rattle.std.specs.Prelude.{◌≡◌, ◌<◌, ◌≤◌, length, take,
 ghost use Rattle.std.specs.List.{prefix_len};
 ghost use Rattle.text_parts.specs.Unbroken.{IsUnbroken};
 ghost use Rattle.sched_event.specs.Texts.{IsName, IsState};
-ghost use Rattle.sched_event.specs.FieldsView.{prio_pair};
-ghost use Rattle.sched_event.specs.Reading.{prio_behind};
-ghost use Rattle.sched_event.specs.Usual.{HasField, is_plain};
+ghost use Rattle.sched_event.specs.FieldsView.{numeral_pair, prio_pair};
+ghost use Rattle.sched_event.specs.Reading.{numeral_behind, prio_behind, run_at};
+ghost use Rattle.text_parts.specs.Numerals.{is_digit};
+ghost use Rattle.text_parts.specs.Reading.{Gives};
+ghost use Rattle.sched_event.specs.Usual.{HasField, HasMiddlePrio, is_plain};
 
-use crate::fields::{NAME_MAX, PrioFields, doubled, numeral};
+use crate::fields::{NAME_MAX, PrioFields, digits};
+use crate::numeral::Numeral;
+use text_parts::numerals::doubled;
 use text_parts::pieces::{after_front, begins_with};
 
 /// The name behind a key, up to the first place where the next key stands, and the text from that key on.
@@ -41,9 +45,47 @@ pub(crate) fn state<'a>(text: &'a [u8], key: &[u8]) -> Option<(&'a [u8], &'a [u8
 pub(crate) fn prio<'a>(text: &'a [u8], key: &[u8]) -> Option<(PrioFields<'a>, &'a [u8])>
     ensures { IfSome result (λ x. prio_behind key.now text.now ≡ Some (prio_pair x)) }
 {
-    let (numeral, rest) = numeral(text, key)?;
+    let (numeral, rest) = prio_numeral(text, key)?;
     let minus = false;
     Some((PrioFields { minus, numeral }, rest))
+}
+
+/// The digits of a prio behind a key, and what follows them.
+#[inline(always)]
+#[tactic(auto, unfolding(crate::specs::Reading::numeral_behind))]
+fn prio_numeral<'a>(text: &'a [u8], key: &[u8]) -> Option<(Numeral<'a>, &'a [u8])>
+    ensures { Gives numeral_pair result (numeral_behind key.now text.now) }
+{
+    let after = after_front(text, key)?;
+    match middle_prio(after) {
+        Some(found) => Some(found),
+        None => digits(after),
+    }
+}
+
+/// The digits of the prio that most tasks have, that of nice 0, and what follows them: one comparison tells them.
+#[inline(always)]
+fn middle_prio<'a>(text: &'a [u8]) -> Option<(Numeral<'a>, &'a [u8])>
+    ensures { IfSome result (λ x. run_at is_digit text.now ≡ Some (numeral_pair x)) }
+{
+    if begins_with(text, b"120 ") {
+        return Some(after_middle_prio(text));
+    }
+    if begins_with(text, b"120\n") {
+        return Some(after_middle_prio(text));
+    }
+    None
+}
+
+/// The digits of this prio where they stand in front, and what follows them.
+#[inline(always)]
+fn after_middle_prio<'a>(text: &'a [u8]) -> (Numeral<'a>, &'a [u8])
+    requires { HasMiddlePrio text.now }
+    ensures { run_at is_digit text.now ≡ Some (numeral_pair result) }
+{
+    let (digits, rest) = text.split_at(3);
+    let value = 120;
+    (Numeral { digits, value }, rest)
 }
 
 /// How many bytes of a name stand before a key.

@@ -5,5 +5,6 @@ pub mod Digits
 pub mod Runs
 pub mod Fronts
 pub mod Times
+pub mod Fractions
 pub mod Words
 pub mod Unbroken

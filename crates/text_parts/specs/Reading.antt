@@ -48,6 +48,13 @@ numeral_at text = if prefix_len is_digit text == 0 then None
 unfoldable pub nanoseconds_of : ℕ → ℕ → Option ℕ
 nanoseconds_of digits value = if digits == 6 then Some (value * 1000) else (if digits == 9 then Some value else None)
 
+-- the nanoseconds of a point and the digits behind it, and what follows them
+unfoldable pub fraction_at : List ℕ → Option (ℕ × List ℕ)
+fraction_at text = do
+  fraction ← after_text (codes ".") text
+  nanoseconds ← nanoseconds_of (prefix_len is_digit fraction) (front_value fraction)
+  Some (nanoseconds, drop (prefix_len is_digit fraction) fraction)
+
 -- seconds, nanoseconds, and what follows the time
 unfoldable pub time_at : List ℕ → Option (ℕ × ℕ × List ℕ)
 time_at text = do

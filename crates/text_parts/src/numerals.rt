@@ -1,5 +1,5 @@
 ghost use Rattle.std.specs.Prelude.{◌≡◌, ℕ, ◌+◌, ◌*◌, ◌-◌, ◌<◌, ◌≤◌, ◌^◌, true, false, min, length, take};
-ghost use Rattle.std.specs.Prelude.{take_while, drop, get_or};
+ghost use Rattle.std.specs.Prelude.{take_while, drop, get_or, [], ◌∷◌, IfSome};
 ghost use Rattle.std.specs.List.{prefix_len};
 ghost use Rattle.text_parts.specs.Numerals.{is_digit, value_of};
 ghost use Rattle.text_parts.specs.Reading.{Gives, numeral_at};
@@ -72,6 +72,22 @@ pub fn number_at(text: &[u8]) -> Number<'_>
     }
 }
 
+/// The same by a call, for places where few numbers stand: the reader of the others stays small.
+#[inline(always)]
+pub fn number_by_call(text: &[u8]) -> Number<'_>
+    ensures digits { result.digits ≡ prefix_len is_digit text.now }
+    ensures value { result.value ≡ min (value_of (take_while is_digit text.now)) MANY }
+    ensures rest { result.rest.now ≡ drop (prefix_len is_digit text.now) text.now }
+    ensures below { result.value < 10 ^ result.digits }
+{
+    let (digits, value) = further_digits(text, 0, 0);
+    Number {
+        digits,
+        value,
+        rest: &text[digits..],
+    }
+}
+
 /// How many digits a text begins with, and their value.
 #[inline(always)]
 fn digits_at(text: &[u8]) -> (usize, u64)
@@ -136,7 +152,7 @@ fn many_digits(text: &[u8]) -> (usize, u64)
 /// How many digits a text begins with, away from the readers of short numbers.
 #[cold]
 #[inline(never)]
-fn long_digit_count(text: &[u8]) -> usize
+pub(crate) fn long_digit_count(text: &[u8]) -> usize
     ensures count { result ≡ prefix_len is_digit text.now }
     ensures within { result ≤ length text.now }
 {
@@ -185,6 +201,32 @@ fn digit_of(byte: u8) -> u64
     ensures no_digit { 9 < result → is_digit byte ≡ false }
 {
     u64::from(byte).wrapping_sub(u64::from(b'0'))
+}
+
+/// The value of three bytes, where all are digits. What has always so many digits is read with no count of them.
+#[inline(always)]
+pub fn three_digits(first: u8, second: u8, third: u8) -> Option<u64>
+    ensures first { IfSome result (λ value. is_digit first ≡ true) }
+    ensures second { IfSome result (λ value. is_digit second ≡ true) }
+    ensures third { IfSome result (λ value. is_digit third ≡ true) }
+    ensures value { IfSome result (λ value. value ≡ value_of (first ∷ second ∷ third ∷ [])) }
+    ensures below { IfSome result (λ value. value < 1000) }
+{
+    let hundreds = digit_of(first);
+    let tens = digit_of(second);
+    let ones = digit_of(third);
+    if hundreds > 9 || tens > 9 || ones > 9 {
+        return None;
+    }
+    Some((hundreds * 10 + tens) * 10 + ones)
+}
+
+/// Twice a number, or the greatest. Four times over it takes each number but 0 to 16 and more, with no test.
+#[inline(always)]
+pub fn doubled(number: u8) -> u8
+    ensures { result ≡ min (number + number) 255 }
+{
+    number.saturating_add(number)
 }
 
 /// A value with one more digit behind it.

@@ -1,10 +1,10 @@
-ghost use Rattle.std.specs.Prelude.{◌≡◌, ◌≤◌, ◌==◌, ◌∷◌, [], length, drop, if◌then◌else◌, Some, None};
+ghost use Rattle.std.specs.Prelude.{◌≡◌, ◌≤◌, ◌==◌, ◌∷◌, [], length, drop, if◌then◌else◌, Some, None, IfSome};
 ghost use Rattle.std.specs.List.{prefix_len};
 ghost use Rattle.text_parts.specs.Numerals.{is_digit};
 ghost use Rattle.text_parts.specs.Pieces.{is_space, begins_with};
 ghost use Rattle.text_parts.specs.Reading.{Gives, after_text, after_run};
 
-use crate::numerals::digit_count;
+use crate::numerals::{digit_count, long_digit_count};
 
 /// Most gaps are narrower. These are looked at with no loop, and with no look at where the text ends.
 const NARROW: usize = 8;
@@ -30,6 +30,15 @@ pub fn after_digits(text: &[u8]) -> Option<&[u8]>
     beyond(text, digit_count(text))
 }
 
+/// What follows one or more digits, by a call.
+#[inline(always)]
+#[tactic(auto, unfolding(crate::specs::Reading::after_run))]
+pub fn after_digits_by_call(text: &[u8]) -> Option<&[u8]>
+    ensures { Gives (λ x. x.now) result (after_run is_digit text.now) }
+{
+    beyond(text, long_digit_count(text))
+}
+
 /// What follows one or more spaces.
 #[inline(always)]
 #[tactic(auto, unfolding(crate::specs::Reading::after_run))]
@@ -37,6 +46,31 @@ pub fn after_gap(text: &[u8]) -> Option<&[u8]>
     ensures { Gives (λ x. x.now) result (after_run is_space text.now) }
 {
     beyond(text, gap_width(text))
+}
+
+/// What follows one or more spaces, by a call.
+#[inline(always)]
+#[tactic(auto, unfolding(crate::specs::Reading::after_run))]
+pub fn after_gap_by_call(text: &[u8]) -> Option<&[u8]>
+    ensures { Gives (λ x. x.now) result (after_run is_space text.now) }
+{
+    beyond(text, wide_gap(text))
+}
+
+/// What follows the spaces of a narrow gap. Of others, nothing is told.
+#[inline(always)]
+#[tactic(auto, unfolding(crate::specs::Reading::after_run), using(crate::proofs::Runs::run_in_front))]
+pub fn after_narrow_gap(text: &[u8]) -> Option<&[u8]>
+    ensures { IfSome result (λ rest. after_run is_space text.now ≡ Some rest.now) }
+{
+    if text.len() < NARROW {
+        return None;
+    }
+    let width = spaces_in(&text[..NARROW]);
+    if width == 0 || width == NARROW {
+        return None;
+    }
+    Some(&text[width..])
 }
 
 /// What follows so many bytes, where there are some.
@@ -86,8 +120,8 @@ fn wide_gap(text: &[u8]) -> usize
     spaces_in(text)
 }
 
-/// Whether a text begins with these bytes. The first decides alone for most texts, and the others are compared eight at
-/// a time, so that a front that is a literal costs a few instructions.
+/// Whether a text begins with these bytes. They are compared eight at a time, so that a front that is a literal costs a
+/// few instructions.
 #[inline(always)]
 pub fn begins_with(text: &[u8], front: &[u8]) -> bool
     ensures { result ≡ begins_with front.now text.now }
@@ -97,7 +131,7 @@ pub fn begins_with(text: &[u8], front: &[u8]) -> bool
     }
     let mut same = true;
     for (index, byte) in front.iter().enumerate() {
-        if index % 8 == 1 && !same {
+        if index % 8 == 0 && !same {
             return false;
         }
         same &= text[index] == *byte;

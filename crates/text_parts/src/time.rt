@@ -1,8 +1,8 @@
-ghost use Rattle.std.specs.Prelude.{◌≡◌, ℕ, ◌<◌, ◌^◌, min, IfSome, IsSomeAnd, MatchOption};
+ghost use Rattle.std.specs.Prelude.{◌≡◌, ℕ, ◌<◌, ◌^◌, min, Some, IfSome, IsSomeAnd, MatchOption};
 ghost use Rattle.text_parts.specs.Time.{IsTime};
-ghost use Rattle.text_parts.specs.Reading.{Gives, nanoseconds_of, time_at};
+ghost use Rattle.text_parts.specs.Reading.{Gives, nanoseconds_of, fraction_at, time_at};
 
-use crate::numerals::{MANY, number_at, numeral_at};
+use crate::numerals::{MANY, number_by_call, numeral_at, three_digits};
 use crate::pieces::after_byte;
 
 /// A time on the trace's clock.
@@ -29,20 +29,63 @@ pub fn read_time(word: &[u8]) -> Option<Time>
 
 /// The time at the front of a text, and what follows it.
 #[inline(always)]
-#[tactic(auto, unfolding(crate::specs::Reading::time_at))]
 pub fn time_at(text: &[u8]) -> Option<(Time, &[u8])>
     ensures { Gives (λ x. (x.0.seconds, x.0.nanoseconds, x.1.now)) result (time_at text.now) }
 {
-    let (seconds, rest) = numeral_at(text)?;
-    let fraction = number_at(after_byte(rest, b'.')?);
-    let nanoseconds = nanoseconds_of(fraction.digits, fraction.value)?;
+    let Some((seconds, fraction)) = numeral_at(text) else {
+        return None;
+    };
+    let Some((nanoseconds, rest)) = fraction_at(fraction) else {
+        return None;
+    };
     Some((
         Time {
             seconds,
             nanoseconds,
         },
-        fraction.rest,
+        rest,
     ))
+}
+
+/// The nanoseconds that a point and the digits behind it stand for, and what follows them.
+#[inline(always)]
+fn fraction_at(text: &[u8]) -> Option<(u64, &[u8])>
+    ensures value { Gives (λ x. (x.0, x.1.now)) result (fraction_at text.now) }
+    ensures below { IfSome result (λ x. x.0 < 10 ^ 9) }
+{
+    match microseconds_at(text) {
+        Some(found) => Some(found),
+        None => any_fraction_at(text),
+    }
+}
+
+/// The same for six digits in front of a colon, as they stand in nearly all lines.
+#[inline(always)]
+fn microseconds_at(text: &[u8]) -> Option<(u64, &[u8])>
+    ensures value { IfSome result (λ x. fraction_at text.now ≡ Some (x.0, x.1.now)) }
+    ensures below { IfSome result (λ x. x.0 < 10 ^ 9) }
+{
+    let [b'.', a, b, c, d, e, f, rest @ ..] = text else {
+        return None;
+    };
+    let [b':', ..] = rest else {
+        return None;
+    };
+    let thousands = three_digits(*a, *b, *c)?;
+    let ones = three_digits(*d, *e, *f)?;
+    Some(((thousands * 1000 + ones) * 1000, rest))
+}
+
+/// The same for any digits.
+#[inline(always)]
+#[tactic(auto, unfolding(crate::specs::Reading::fraction_at))]
+fn any_fraction_at(text: &[u8]) -> Option<(u64, &[u8])>
+    ensures value { Gives (λ x. (x.0, x.1.now)) result (fraction_at text.now) }
+    ensures below { IfSome result (λ x. x.0 < 10 ^ 9) }
+{
+    let fraction = number_by_call(after_byte(text, b'.')?);
+    let nanoseconds = nanoseconds_of(fraction.digits, fraction.value)?;
+    Some((nanoseconds, fraction.rest))
 }
 
 /// The nanoseconds that so many digits behind the point stand for.

@@ -121,7 +121,23 @@ impl EntryReader {
             self.take(Ok(said))?;
             return Ok(rest);
         }
-        let (said, rest) = careful_entry(number, text);
+        self.read_carefully(text)
+    }
+
+    /// The same for a line of any form. The room for its answer is made here, where few lines come.
+    #[inline(always)]
+    fn read_carefully<'a>(&mut self, text: &'a [u8]) -> Result<&'a [u8], Memory>
+        requires good { IsNone self.old.bad }
+        requires some { 0 < length text.now }
+        ensures lines { IfOk result (λ rest. lines_of text.now ≡ before_first is_line_feed text.now
+            ∷ lines_of rest.now) }
+        ensures shorter { IfOk result (λ rest. length rest.now < length text.now) }
+        ensures read { OnOk result ((lines : List (List ℕ)) (given : List Event) → HasReadOut self.old lines given
+            → HasReadOut self.new (lines ++ before_first is_line_feed text.now ∷ []) given) }
+        ensures memory { OnErr result ((lines : List (List ℕ)) (given : List Event) → HasReadOut self.old lines given
+            → HasReadOut self.new lines given) }
+    {
+        let (said, rest) = careful_entry(self.count + 1, text);
         self.take(said)?;
         Ok(rest)
     }

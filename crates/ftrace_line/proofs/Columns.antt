@@ -1,4 +1,5 @@
--- The columns of a head whose widths are known: a processor of three digits, and a pid of at most four in eight columns.
+-- The columns of a head whose widths are known: a processor of three digits, and a pid of at most four in eight
+-- columns.
 use Rattle.std.proofs.Common.{◌≡◌, ℕ, ◌<◌, ◌≤◌, true, false, eqb, min, get_or, List, [], ◌∷◌, ◌++◌, length}
 use Rattle.std.proofs.Common.{drop, Some, refl, sym, ap, subst, ◌∙◌, inl, inr, arith, append_assoc, codes}
 use Rattle.std.specs.Prelude.{IsTrue, ◌&&◌, ◌||◌}

@@ -1,6 +1,7 @@
 -- What is told of the first line of a text, where it has the usual form (ftrace.rst, and the print formats of the
 -- scheduler's trace events; which lines are told of so is this project's profile, and no clause says it).
-use Rattle.std.specs.Prelude.{◌≡◌, ℕ, ◌<◌, Bool, false, true, nat_lt, List, [], ◌∷◌, ◌++◌, length, Option, MatchOption, Ok}
+use Rattle.std.specs.Prelude.{◌≡◌, ℕ, ◌<◌, Bool, false, true, nat_lt, List, [], ◌∷◌, ◌++◌, length}
+use Rattle.std.specs.Prelude.{Option, MatchOption, Ok}
 use Rattle.std.specs.List.{before_first, after_first}
 use Rattle.cfs_model.specs.declared.act.Act.{Act}
 use Rattle.ftrace_line.specs.declared.kinds.Which.{Which}

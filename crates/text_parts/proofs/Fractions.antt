@@ -1,6 +1,6 @@
 -- A time is its whole seconds and then a fraction; and a fraction of six digits.
-use Rattle.std.proofs.Common.{◌≡◌, ℕ, ◌+◌, ◌*◌, ◌<◌, ◌≤◌, get_or, true, List, [], ◌∷◌, ◌++◌, length, drop, min, Option, Some, None}
-use Rattle.std.proofs.Common.{refl, sym, ap, ◌∙◌, arith, codes}
+use Rattle.std.proofs.Common.{◌≡◌, ℕ, ◌+◌, ◌*◌, ◌<◌, ◌≤◌, get_or, true, List, [], ◌∷◌, ◌++◌, length, drop}
+use Rattle.std.proofs.Common.{min, Option, Some, None, refl, sym, ap, ◌∙◌, arith, codes}
 use Rattle.std.specs.List.{prefix_len}
 use Rattle.std.proofs.lemmas.List.{drop_more}
 use Rattle.text_parts.specs.Numerals.{is_digit, value_of, many, IsNumeral}
@@ -41,8 +41,8 @@ pub time_by_fraction : (text : List ℕ) (seconds : ℕ) (rest : List ℕ) → n
 unfolding time_at fraction_at
 time_by_fraction text seconds rest e = rw e (behind_point seconds (after_text (codes ".") rest))
 
-pub time_stands : (text : List ℕ) (seconds nanoseconds : ℕ) (rest left : List ℕ) → numeral_at text ≡ Some (seconds, rest)
-    → fraction_at rest ≡ Some (nanoseconds, left) → time_at text ≡ Some (seconds, nanoseconds, left)
+pub time_stands : (text : List ℕ) (seconds nanoseconds : ℕ) (rest left : List ℕ)
+    → numeral_at text ≡ Some (seconds, rest) → fraction_at rest ≡ Some (nanoseconds, left) → time_at text ≡ Some (seconds, nanoseconds, left)
 time_stands text seconds nanoseconds rest left whole fraction =
     time_by_fraction text seconds rest whole ∙ ap (λ x. x >>= with_seconds seconds) fraction
 
@@ -70,8 +70,8 @@ six_digits a b c d e f rest pa pb pc pd pe pf high low high_is low_is high_below
     rw front.length_is (ap (λ n. Some (n * 1000, 58 ∷ rest)) value)
 
 -- the same by the bytes of a text
-pub micro_fraction : (text rest : List ℕ) → 7 ≤ length text → get_or text 0 0 ≡ 46 → drop 7 text ≡ rest → 1 ≤ length rest
-    → get_or rest 0 0 ≡ 58 → is_digit (get_or text 1 0) ≡ true → is_digit (get_or text 2 0) ≡ true
+pub micro_fraction : (text rest : List ℕ) → 7 ≤ length text → get_or text 0 0 ≡ 46 → drop 7 text ≡ rest
+    → 1 ≤ length rest → get_or rest 0 0 ≡ 58 → is_digit (get_or text 1 0) ≡ true → is_digit (get_or text 2 0) ≡ true
     → is_digit (get_or text 3 0) ≡ true → is_digit (get_or text 4 0) ≡ true → is_digit (get_or text 5 0) ≡ true
     → is_digit (get_or text 6 0) ≡ true → (high low : ℕ)
     → high ≡ value_of (get_or text 1 0 ∷ get_or text 2 0 ∷ get_or text 3 0 ∷ [])

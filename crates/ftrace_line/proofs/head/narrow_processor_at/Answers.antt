@@ -10,5 +10,6 @@ returns c =
     let digits = c.in_ok-cpu.ensures in
     let bracket : get_or text 0 0 ≡ 91 = search rules in
     let close : get_or text 4 0 ≡ 93 = search rules in
-    narrow_processor text cpu c.in-91.len_at_least bracket close digits.first digits.second digits.third digits.value digits.below
+    narrow_processor text cpu c.in-91.len_at_least bracket close digits.first digits.second digits.third digits.value
+    digits.below
     ∙ ap (λ rest. Some (cpu, rest)) (sym (take_rest text 5))

@@ -14,5 +14,6 @@ returns-then-is_padded c =
     let padded : is_padded (get_or text 1 0) (get_or text 2 0) (get_or text 3 0) ≡ true =
     sym c.is_padded.ensures ∙ c.if-is_padded.true in
     let behind : drop 4 text ≡ codes "    " ++ rest =
-    sym (take_rest text 4) ∙ text_taken (codes "    ") (take (length text - 4) (drop 4 text)) rest c.in_ok-rest.ensures in
+    sym (take_rest text 4)
+    ∙ text_taken (codes "    ") (take (length text - 4) (drop 4 text)) rest c.in_ok-rest.ensures in
     pid_in_columns text rest c.in-len4-up.len_at_least behind digit padded

@@ -14,7 +14,7 @@ use crate::recent_rows::RecentRows;
 use crate::runqueue::Runqueue;
 use crate::sched_entity::SchedEntity;
 use crate::task_rows::{put, take_out, write_over, write_row};
-use crate::waiting_task::WaitingTask;
+use crate::waiting_task::{WaitingTask, take_waiting};
 use cfs_model::{Claim, IDLE_PID, Memory, Place, Task, Way};
 use pid_table::{PidHasher, PidTable};
 use std::alloc::Global;
@@ -145,7 +145,7 @@ impl Runqueue {
                 v: task.v,
                 pid: next,
             };
-            self.waiting.remove(&waited);
+            take_waiting(&mut self.waiting, waited);
             let mut runner = task;
             runner.pid = next;
             runner.place = Place::Run;

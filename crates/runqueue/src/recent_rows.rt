@@ -4,10 +4,10 @@ ghost use Rattle.std.specs.Prelude.{◌<◌};
 const REMEMBERED: usize = 256;
 
 /// Where a row was last, by the low bits of its pid. Nothing rests on it: whoever is told an index looks whether the
-/// row there is that of the pid, and mostly need not hash the pid.
+/// row there is that of the pid, and mostly need not hash the pid. Half a word each, since many processors have many.
 #[derive(Clone, Copy)]
 pub(crate) struct RecentRows {
-    rows: [usize; REMEMBERED],
+    rows: [u32; REMEMBERED],
 }
 
 impl RecentRows {
@@ -21,13 +21,13 @@ impl RecentRows {
     /// Where the row of a pid is expected.
     #[inline(always)]
     pub fn expected(&self, pid: u32) -> usize {
-        self.rows[place_of(pid)]
+        self.rows[place_of(pid)] as usize
     }
 
     /// Remembers where the row of a pid is.
     #[inline(always)]
     pub fn remember(&mut self, pid: u32, row: usize) {
-        self.rows[place_of(pid)] = row;
+        self.rows[place_of(pid)] = u32::try_from(row).unwrap_or(0);
     }
 }
 

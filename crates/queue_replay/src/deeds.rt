@@ -43,9 +43,10 @@ pub(crate) fn try_deed(
     queue: &mut Runqueue,
     cpu: u32,
     step: &Step,
-    knobs: Knobs,
+    knobs: &Knobs,
 ) -> Result<Outcome, Memory>
-    ensures tried { IfOk result (IsDeedTried knobs cpu (runqueue_view queue.old) step.now (runqueue_view queue.new)) }
+    ensures tried { IfOk result
+        (IsDeedTried knobs.now cpu (runqueue_view queue.old) step.now (runqueue_view queue.new)) }
     ensures same { HoldsUnmade result queue.old queue.new }
 {
     let deed = step.deed;
@@ -79,15 +80,15 @@ pub(crate) fn try_deed(
 }
 
 #[inline(always)]
-fn try_switch(
+pub(crate) fn try_switch(
     queue: &mut Runqueue,
     step: &Step,
     switch: &ContextSwitch,
-    knobs: Knobs,
+    knobs: &Knobs,
 ) -> Result<Outcome, Memory>
     requires { step.now.deed ≡ switch_deed switch.now }
     ensures tried { (cpu : ℕ) → IfOk result
-        (IsDeedTried knobs cpu (runqueue_view queue.old) step.now (runqueue_view queue.new)) }
+        (IsDeedTried knobs.now cpu (runqueue_view queue.old) step.now (runqueue_view queue.new)) }
     ensures same { HoldsUnmade result queue.old queue.new }
 {
     let prev = queue.switch_task(queue.runner_row(), switch.prev);
@@ -109,16 +110,16 @@ fn try_switch(
 }
 
 #[inline(always)]
-fn try_wake(
+pub(crate) fn try_wake(
     queue: &mut Runqueue,
     step: &Step,
     pid: u32,
     nice: Nice,
-    knobs: Knobs,
+    knobs: &Knobs,
 ) -> Result<Outcome, Memory>
     requires { step.now.deed ≡ Wake pid nice }
     ensures tried { (cpu : ℕ) → IfOk result
-        (IsDeedTried knobs cpu (runqueue_view queue.old) step.now (runqueue_view queue.new)) }
+        (IsDeedTried knobs.now cpu (runqueue_view queue.old) step.now (runqueue_view queue.new)) }
     ensures same { HoldsUnmade result queue.old queue.new }
 {
     let row = queue.row_of(pid);
@@ -145,10 +146,11 @@ fn try_birth(
     pid: u32,
     nice: Nice,
     policy: Policy,
-    knobs: Knobs,
+    knobs: &Knobs,
 ) -> Result<Outcome, Memory>
     requires { step.now.deed ≡ Born pid nice policy }
-    ensures tried { IfOk result (IsDeedTried knobs cpu (runqueue_view queue.old) step.now (runqueue_view queue.new)) }
+    ensures tried { IfOk result
+        (IsDeedTried knobs.now cpu (runqueue_view queue.old) step.now (runqueue_view queue.new)) }
     ensures same { HoldsUnmade result queue.old queue.new }
 {
     let task = queue.task_at(pid);

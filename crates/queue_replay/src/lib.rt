@@ -8,6 +8,7 @@ mod counting;
 mod deeds;
 mod excess;
 mod found;
+mod known_deed;
 mod lists;
 mod made_deed;
 mod needs;

@@ -10,6 +10,7 @@ use replay_model::Deed;
 
 /// Raises needs to what a step needs: its deed of the setting that it asks for, of the slack the time for which the
 /// processor had idled, and of the drift how far a told charge leaves its task's from none.
+#[inline(always)]
 pub(crate) fn raise(needs: &mut Amounts, deed: Deed, need: u64, idled: u64, drift: u64)
     ensures { needs.new ≡ larger needs.old (step_needs deed need idled drift) }
 {

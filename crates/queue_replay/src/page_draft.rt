@@ -110,10 +110,18 @@ impl PageDraft {
         }
     }
 
-    /// Notes a step that passed, with its ticket if it has one. Takes no memory. A tally is expected where the row of
-    /// its task is at the runqueue. Each tally is that of at most so many steps.
+    /// Notes a step that passed, of this deed, with its ticket if it has one. Takes no memory. A tally is expected where
+    /// the row of its task is at the runqueue. Each tally is that of at most so many steps.
     #[inline(always)]
-    pub fn note(&mut self, step: &Step, ticket: Option<Ticket>, queue: &Runqueue, steps: usize)
+    pub fn note(
+        &mut self,
+        step: &Step,
+        deed: Deed,
+        ticket: Option<Ticket>,
+        queue: &Runqueue,
+        steps: usize,
+    )
+        requires deed { deed ≡ step.now.deed }
         requires room { HasDraftRoom step.now.deed self.old }
         requires few { steps < 2 ^ 64 - 1 }
         requires within { All (λ tally. tally.picks ≤ steps) self.old.tallies.table.rows }
@@ -126,7 +134,6 @@ impl PageDraft {
         ensures tallies { self.new.tallies.table.rows ≡ tallied step.now.deed self.old.tallies.table.rows }
     {
         self.line = step.line;
-        let deed = step.deed;
         match deed {
             Deed::Switch {
                 prev,

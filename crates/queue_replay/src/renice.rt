@@ -8,6 +8,7 @@ use crate::outcome::Outcome;
 use cfs_model::{Kind, Knobs, Memory, NiceLine};
 use replay_model::{Step, StepFault};
 use runqueue::Runqueue;
+
 /// A step is tried on a runqueue that is charged and lifted: the change of a nice value on its line, and then its deed.
 /// Where a test fails, or memory is wanted, the map and the set hold what they did.
 #[inline(always)]
@@ -15,9 +16,9 @@ pub(crate) fn try_step(
     queue: &mut Runqueue,
     cpu: u32,
     step: &Step,
-    knobs: Knobs,
+    knobs: &Knobs,
 ) -> Result<Outcome, Memory>
-    ensures tried { IfOk result (IsTried knobs cpu (reniced step.now.nice (runqueue_view queue.old)) step.now
+    ensures tried { IfOk result (IsTried knobs.now cpu (reniced step.now.nice (runqueue_view queue.old)) step.now
         (runqueue_view queue.new)) }
     ensures same { HoldsUnmade result queue.old queue.new }
 {
@@ -38,10 +39,10 @@ fn try_reniced(
     cpu: u32,
     step: &Step,
     change: NiceLine,
-    knobs: Knobs,
+    knobs: &Knobs,
 ) -> Result<Outcome, Memory>
     requires { step.now.nice ≡ Some change }
-    ensures tried { IfOk result (IsTried knobs cpu (reniced (Some change) (runqueue_view queue.old)) step.now
+    ensures tried { IfOk result (IsTried knobs.now cpu (reniced (Some change) (runqueue_view queue.old)) step.now
         (runqueue_view queue.new)) }
     ensures same { HoldsUnmade result queue.old queue.new }
 {

@@ -9,13 +9,14 @@ ghost use Rattle.runqueue.specs.Queue.{runqueue_view};
 ghost use Rattle.queue_replay.specs.ReplayState.{IsGoing, IsPassed, IsStepped, IsUndone, failed_charge};
 ghost use Rattle.queue_replay.specs.ReplayState.{replay_state_view};
 
+use crate::context_switch::ContextSwitch;
+use crate::known_deed::{AnyDeed, KnownDeed, Wakeup};
 use crate::needs::raise;
 use crate::outcome::Outcome;
 use crate::page_draft::PageDraft;
-use crate::renice::try_step;
 use crate::stretch::stretch_between;
 use cfs_model::{Amounts, ChargeLine, IDLE_PID, Kind, Knobs, Memory};
-use replay_model::{Step, StepFault};
+use replay_model::{Deed, Step, StepFault};
 use runqueue::{ChargeFault, Runqueue};
 
 /// A replay under way.
@@ -32,28 +33,144 @@ pub(crate) struct ReplayState {
 }
 
 impl ReplayState {
-    /// One step: it passes and is made, or its fault is noted.
-    pub fn step(&mut self, cpu: u32, step: &Step, knobs: Knobs) -> Result<(), Memory>
+    /// One step: it passes and is made, or its fault is noted. The usual ones have code of their own, in which their kind
+    /// isn't asked for again.
+    #[inline(always)]
+    pub fn step(&mut self, cpu: u32, step: &Step, knobs: &Knobs) -> Result<(), Memory>
         requires going { IsGoing self.old }
         requires few { self.old.made < 2 ^ 64 - 1 }
         ensures made { OnOk result (self.new.made ≡ self.old.made + 1) }
-        ensures stepped { OnOk result (IsStepped knobs cpu (replay_state_view self.old)
+        ensures stepped { OnOk result (IsStepped knobs.now cpu (replay_state_view self.old)
             self.old.needs step.now self.new) }
         ensures memory { OnErr result (IsGoing self.new × (replay_state_view self.new ≡ replay_state_view self.old)
             × (self.new.made ≡ self.old.made) × (self.new.needs ≡ self.old.needs)) }
     {
-        self.draft.make_room(step.deed)?;
-        self.test_step(cpu, step, knobs)
+        match step.deed {
+            Deed::Switch { .. } => self.switch(cpu, step, knobs),
+            Deed::Wake { .. } => self.wake(cpu, step, knobs),
+            Deed::Born { .. } | Deed::Leave { .. } | Deed::Arrive { .. } => {
+                self.any_step(cpu, step, knobs)
+            }
+        }
+    }
+
+    /// The same, of a switch above all.
+    #[inline(never)]
+    fn switch(&mut self, cpu: u32, step: &Step, knobs: &Knobs) -> Result<(), Memory>
+        requires going { IsGoing self.old }
+        requires few { self.old.made < 2 ^ 64 - 1 }
+        ensures made { OnOk result (self.new.made ≡ self.old.made + 1) }
+        ensures stepped { OnOk result (IsStepped knobs.now cpu (replay_state_view self.old)
+            self.old.needs step.now self.new) }
+        ensures memory { OnErr result (IsGoing self.new × (replay_state_view self.new ≡ replay_state_view self.old)
+            × (self.new.made ≡ self.old.made) × (self.new.needs ≡ self.old.needs)) }
+    {
+        match (step.nice, step.deed) {
+            (
+                None,
+                Deed::Switch {
+                    prev,
+                    prev_nice,
+                    way,
+                    next,
+                    next_nice,
+                },
+            ) => {
+                let deed = Deed::Switch {
+                    prev,
+                    prev_nice,
+                    way,
+                    next,
+                    next_nice,
+                };
+                let switch = ContextSwitch {
+                    prev,
+                    prev_nice,
+                    way,
+                    next,
+                    next_nice,
+                };
+                self.step_of(cpu, step, &deed, &switch, knobs)
+            }
+            _ => self.any_step(cpu, step, knobs),
+        }
+    }
+
+    /// The same, of a wakeup above all.
+    #[inline(never)]
+    fn wake(&mut self, cpu: u32, step: &Step, knobs: &Knobs) -> Result<(), Memory>
+        requires going { IsGoing self.old }
+        requires few { self.old.made < 2 ^ 64 - 1 }
+        ensures made { OnOk result (self.new.made ≡ self.old.made + 1) }
+        ensures stepped { OnOk result (IsStepped knobs.now cpu (replay_state_view self.old)
+            self.old.needs step.now self.new) }
+        ensures memory { OnErr result (IsGoing self.new × (replay_state_view self.new ≡ replay_state_view self.old)
+            × (self.new.made ≡ self.old.made) × (self.new.needs ≡ self.old.needs)) }
+    {
+        match (step.nice, step.deed) {
+            (None, Deed::Wake { pid, nice }) => {
+                let deed = Deed::Wake { pid, nice };
+                self.step_of(cpu, step, &deed, &Wakeup { pid, nice }, knobs)
+            }
+            _ => self.any_step(cpu, step, knobs),
+        }
+    }
+
+    /// The same, of a step of any kind.
+    #[inline(never)]
+    fn any_step(&mut self, cpu: u32, step: &Step, knobs: &Knobs) -> Result<(), Memory>
+        requires going { IsGoing self.old }
+        requires few { self.old.made < 2 ^ 64 - 1 }
+        ensures made { OnOk result (self.new.made ≡ self.old.made + 1) }
+        ensures stepped { OnOk result (IsStepped knobs.now cpu (replay_state_view self.old)
+            self.old.needs step.now self.new) }
+        ensures memory { OnErr result (IsGoing self.new × (replay_state_view self.new ≡ replay_state_view self.old)
+            × (self.new.made ≡ self.old.made) × (self.new.needs ≡ self.old.needs)) }
+    {
+        self.step_of(cpu, step, &step.deed, &AnyDeed, knobs)
+    }
+
+    /// The same, of a step with this deed, of which so much is known.
+    #[inline(always)]
+    fn step_of<D: KnownDeed>(
+        &mut self,
+        cpu: u32,
+        step: &Step,
+        deed: &Deed,
+        known: &D,
+        knobs: &Knobs,
+    ) -> Result<(), Memory>
+        requires deed { deed.now ≡ step.now.deed }
+        requires known { D.is_of known.now step.now }
+        requires going { IsGoing self.old }
+        requires few { self.old.made < 2 ^ 64 - 1 }
+        ensures made { OnOk result (self.new.made ≡ self.old.made + 1) }
+        ensures stepped { OnOk result (IsStepped knobs.now cpu (replay_state_view self.old)
+            self.old.needs step.now self.new) }
+        ensures memory { OnErr result (IsGoing self.new × (replay_state_view self.new ≡ replay_state_view self.old)
+            × (self.new.made ≡ self.old.made) × (self.new.needs ≡ self.old.needs)) }
+    {
+        self.draft.make_room(*deed)?;
+        self.test_step(cpu, step, deed, known, knobs)
     }
 
     /// The same, where there is room for what the step adds to the draft.
     #[inline(always)]
-    fn test_step(&mut self, cpu: u32, step: &Step, knobs: Knobs) -> Result<(), Memory>
+    fn test_step<D: KnownDeed>(
+        &mut self,
+        cpu: u32,
+        step: &Step,
+        deed: &Deed,
+        known: &D,
+        knobs: &Knobs,
+    ) -> Result<(), Memory>
+        requires deed { deed.now ≡ step.now.deed }
+        requires known { D.is_of known.now step.now }
         requires going { IsGoing self.old }
         requires few { self.old.made < 2 ^ 64 - 1 }
         requires draft { HasDraftRoom step.now.deed self.old.draft }
         ensures made { OnOk result (self.new.made ≡ self.old.made + 1) }
-        ensures stepped { OnOk result (IsStepped knobs cpu (replay_state_view self.old)
+        ensures stepped { OnOk result (IsStepped knobs.now cpu (replay_state_view self.old)
             self.old.needs step.now self.new) }
         ensures memory { OnErr result (IsUndone self.old self.new) }
     {
@@ -66,7 +183,7 @@ impl ReplayState {
             });
             return Ok(());
         }
-        let found = self.pass(cpu, step, knobs)?;
+        let found = self.pass(cpu, step, deed, known, knobs)?;
         if let Some(fault) = found {
             self.fail(fault);
             return Ok(());
@@ -88,15 +205,24 @@ impl ReplayState {
     /// The tests of a step but for the first. If it passes them it is made. Else, and where memory is wanted, nothing
     /// changes.
     #[inline(always)]
-    fn pass(&mut self, cpu: u32, step: &Step, knobs: Knobs) -> Result<Option<StepFault>, Memory>
+    fn pass<D: KnownDeed>(
+        &mut self,
+        cpu: u32,
+        step: &Step,
+        deed: &Deed,
+        known: &D,
+        knobs: &Knobs,
+    ) -> Result<Option<StepFault>, Memory>
+        requires deed { deed.now ≡ step.now.deed }
+        requires known { D.is_of known.now step.now }
         requires going { IsGoing self.old }
         requires few { self.old.made < 2 ^ 64 - 1 }
         requires draft { HasDraftRoom step.now.deed self.old.draft }
-        requires in_time { (pid : ℕ) → IsIdleTooLong knobs.slack self.old.since step.now.time pid → ⊥ }
+        requires in_time { (pid : ℕ) → IsIdleTooLong knobs.now.slack self.old.since step.now.time pid → ⊥ }
         ensures made { self.new.made ≡ self.old.made }
-        ensures passes { IfOk result (λ found. found ≡ None → IsPassed knobs cpu self.old step.now self.new) }
+        ensures passes { IfOk result (λ found. found ≡ None → IsPassed knobs.now cpu self.old step.now self.new) }
         ensures fails { IfOk result (λ found. IfSome found
-            (λ fault. FailsStep knobs cpu (replay_state_view self.old) step.now
+            (λ fault. FailsStep knobs.now cpu (replay_state_view self.old) step.now
             (with_fault (replay_state_view self.old) fault))) }
         ensures undone { IfOk result (λ found. found ≢ None → IsUndone self.old self.new) }
         ensures memory { OnErr result (IsUndone self.old self.new) }
@@ -110,8 +236,8 @@ impl ReplayState {
         }
         let stretch = stretch_between(runner, self.queue.runner(), time);
         let drift = drift_need(&self.queue, step.charge);
-        let deed = match try_step(&mut self.queue, cpu, step, knobs) {
-            Ok(Outcome::Made(deed)) => deed,
+        let made = match known.try_on(&mut self.queue, cpu, step, knobs) {
+            Ok(Outcome::Made(made)) => made,
             Ok(Outcome::Failed(fault)) => {
                 self.queue.restore(before);
                 return Ok(Some(fault));
@@ -122,9 +248,10 @@ impl ReplayState {
             }
         };
         self.draft.note_stretch(stretch, runner_row, self.made);
-        self.draft.note(step, deed.ticket, &self.queue, self.made);
+        self.draft
+            .note(step, *deed, made.ticket, &self.queue, self.made);
         let idled = idled_time(self.since, step.time);
-        raise(&mut self.needs, step.deed, deed.need, idled, drift);
+        raise(&mut self.needs, *deed, made.need, idled, drift);
         self.since = since_after(self.since, step.time, &self.queue);
         Ok(None)
     }

@@ -69,7 +69,7 @@ fn advance(stream: &Stream, knobs: Knobs, state: &mut ReplayState) -> Result<(),
         × (page_draft_view state.new.draft ≡ page_draft_view state.old.draft)) }
 {
     let step = &stream.steps()[state.made];
-    state.step(stream.cpu(), step, knobs)?;
+    state.step(stream.cpu(), step, &knobs)?;
     if state.made == stream.steps().len() {
         end_test(stream, knobs, state);
     }
@@ -140,7 +140,7 @@ pub(crate) fn go_through(
         if state.draft.fault.is_some() {
             return Ok(());
         }
-        state.step(cpu, step, knobs)?;
+        state.step(cpu, step, &knobs)?;
     }
     Ok(())
 }

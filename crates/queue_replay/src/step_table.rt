@@ -78,11 +78,11 @@ pub(crate) fn first_pick_test(
     least: Option<i64>,
     next: u32,
     lead: u64,
-    knobs: Knobs,
+    knobs: &Knobs,
 ) -> Option<StepFault>
     ensures line { IfSome result (IsOn line) }
     ensures first { (own : Option Entity) (moved : Part) → IsLeastIfWaiting moved least → IsLead own moved next lead
-        → IsFirst result (moved_tests knobs.granularity own moved next) }
+        → IsFirst result (moved_tests knobs.now.granularity own moved next) }
 {
     guard!(
         line;
@@ -100,11 +100,11 @@ pub(crate) fn first_wake_test(
     pid: u32,
     nice: Nice,
     task: &Option<SchedEntity>,
-    knobs: Knobs,
+    knobs: &Knobs,
 ) -> Option<StepFault>
     requires { IsTaskAt (runqueue_view queue.now) pid task.now }
     ensures line { IfSome result (IsOn step.now.line) }
-    ensures first { IsFirst result (wake_tests knobs.credit (runqueue_view queue.now) (Wake pid nice) step.now.claim) }
+    ensures first { IsFirst result (wake_tests knobs.now.credit (runqueue_view queue.now) (Wake pid nice) step.now.claim) }
 {
     let needed = if_resting(pid, task);
     guard!(
@@ -125,12 +125,12 @@ pub(crate) fn first_birth_test(
     step: &Step,
     pid: u32,
     task: &Option<SchedEntity>,
-    knobs: Knobs,
+    knobs: &Knobs,
 ) -> Option<StepFault>
     requires { IsTaskAt (runqueue_view queue.now) pid task.now }
     ensures line { IfSome result (IsOn step.now.line) }
     ensures first { (nice : ℤ) (policy : Policy) → IsFirst result
-        (birth_tests knobs.debit (runqueue_view queue.now) (Born pid nice policy) step.now.claim) }
+        (birth_tests knobs.now.debit (runqueue_view queue.now) (Born pid nice policy) step.now.claim) }
 {
     let needed = Some(pid);
     guard!(

@@ -7,7 +7,7 @@ pub returns-in-Wake-clause-tried : goal.returns-in-Wake-clause-tried
 returns-in-Wake-clause-tried c = c.try_wake.ensures.tried c.args.cpu
 
 pub returns-in-Leave-clause-tried : goal.returns-in-Leave-clause-tried
-returns-in-Leave-clause-tried c = c.try_leave.ensures.tried c.args.knobs
+returns-in-Leave-clause-tried c = c.try_leave.ensures.tried c.args.knobs.now
 
 pub returns-in-Arrive-clause-tried : goal.returns-in-Arrive-clause-tried
-returns-in-Arrive-clause-tried c = c.try_arrival.ensures.tried c.args.knobs
+returns-in-Arrive-clause-tried c = c.try_arrival.ensures.tried c.args.knobs.now

@@ -16,11 +16,11 @@ returns-in-Some-clause-tried c cpu =
     let part = runqueue_view c.args.queue.now in
     let step = c.args.step.now in
     let s = c.args.switch.now in
-    fails c.args.knobs cpu part step (switch_deed s) step.claim
-    (switch_tests c.args.knobs part (switch_deed s) step.claim)
-    (switch_row c.args.knobs cpu part s.prev s.prev_nice s.way s.next s.next_nice step.claim) c.requires refl part
+    fails c.args.knobs.now cpu part step (switch_deed s) step.claim
+    (switch_tests c.args.knobs.now part (switch_deed s) step.claim)
+    (switch_row c.args.knobs.now cpu part s.prev s.prev_nice s.way s.next s.next_nice step.claim) c.requires refl part
     c.in-Some.fault c.in-Some.ensures.line
-    (c.in-Some.ensures.first c.args.knobs)
+    (c.in-Some.ensures.first c.args.knobs.now)
 
 pub returns-in-Some-first_pick_test-clause-tried : goal.returns-in-Some-first_pick_test-clause-tried
 returns-in-Some-first_pick_test-clause-tried c cpu =
@@ -32,12 +32,12 @@ returns-in-Some-first_pick_test-clause-tried c cpu =
     let least = c.least_after-least.ensures s.prev
     (ran_prev part s.prev s.prev_nice s.way s.next s.next_nice (c.in_default.ensures.runner refl)) in
     let fault = c.in-Some-first_pick_test.fault in
-    fails c.args.knobs cpu part step (switch_deed s) step.claim
-    (switch_tests c.args.knobs part (switch_deed s) step.claim)
-    (switch_row c.args.knobs cpu part s.prev s.prev_nice s.way s.next s.next_nice step.claim) c.requires refl part
+    fails c.args.knobs.now cpu part step (switch_deed s) step.claim
+    (switch_tests c.args.knobs.now part (switch_deed s) step.claim)
+    (switch_row c.args.knobs.now cpu part s.prev s.prev_nice s.way s.next s.next_nice step.claim) c.requires refl part
     fault c.in-Some-first_pick_test.ensures.line
-    (c.in_default.ensures.first c.args.knobs (Some fault)
-    (pick_tests_same c.args.knobs part s.prev s.prev_nice s.way s.next s.next_nice own c.switch_task-next.ensures
+    (c.in_default.ensures.first c.args.knobs.now (Some fault)
+    (pick_tests_same c.args.knobs.now part s.prev s.prev_nice s.way s.next s.next_nice own c.switch_task-next.ensures
     (Some fault)
     (c.in-Some-first_pick_test.ensures.first own moved least (c.lead-need.ensures moved least))))
 
@@ -59,13 +59,13 @@ returns-clause-tried c cpu =
     let own = option_map entity_of c.switch_task-next.result in
     let least = c.least_after-least.ensures s.prev runner in
     let lead = c.lead-need.ensures moved least in
-    let first : IsFirst None (switch_tests c.args.knobs part (switch_deed s) step.claim)
-    = c.in_default.ensures.first c.args.knobs None
-    (pick_tests_same c.args.knobs part s.prev s.prev_nice s.way s.next s.next_nice own c.switch_task-next.ensures None
+    let first : IsFirst None (switch_tests c.args.knobs.now part (switch_deed s) step.claim)
+    = c.in_default.ensures.first c.args.knobs.now None
+    (pick_tests_same c.args.knobs.now part s.prev s.prev_nice s.way s.next s.next_nice own c.switch_task-next.ensures None
     (c.in_default-first_pick_test.ensures.first own moved least lead)) in
-    passes c.args.knobs cpu part step (switch_deed s) step.claim
-    (switch_tests c.args.knobs part (switch_deed s) step.claim)
-    (switch_row c.args.knobs cpu part s.prev s.prev_nice s.way s.next s.next_nice step.claim) c.requires refl _ _ first
+    passes c.args.knobs.now cpu part step (switch_deed s) step.claim
+    (switch_tests c.args.knobs.now part (switch_deed s) step.claim)
+    (switch_row c.args.knobs.now cpu part s.prev s.prev_nice s.way s.next s.next_nice step.claim) c.requires refl _ _ first
     (c.set_next.ensures ∙ ap (λ (p : Part). part_after_next p s.next) (c.in_ok-put_prev.ensures.part s.prev runner))
     refl
     (pick_needs_lead part s.prev s.prev_nice s.way s.next s.next_nice own c.lead-need.result c.switch_task-next.ensures

@@ -15,8 +15,8 @@ returns-in-Some-clause-tried c cpu =
     let part = runqueue_view c.args.queue.now in
     let step = c.args.step.now in
     let deed = Wake c.args.pid c.args.nice in
-    fails c.args.knobs cpu part step deed step.claim (wake_tests c.args.knobs.credit part deed step.claim)
-    (wake_row c.args.knobs cpu part c.args.pid c.args.nice step.claim) c.requires refl part c.in-Some.fault
+    fails c.args.knobs.now cpu part step deed step.claim (wake_tests c.args.knobs.now.credit part deed step.claim)
+    (wake_row c.args.knobs.now cpu part c.args.pid c.args.nice step.claim) c.requires refl part c.in-Some.fault
     c.in-Some.ensures.line c.in-Some.ensures.first
 
 pub returns-in_default-claim-clause-tried : goal.returns-in_default-claim-clause-tried
@@ -24,8 +24,8 @@ returns-in_default-claim-clause-tried c cpu =
     let part = runqueue_view c.args.queue.now in
     let step = c.args.step.now in
     let deed = Wake c.args.pid c.args.nice in
-    passes c.args.knobs cpu part step deed step.claim (wake_tests c.args.knobs.credit part deed step.claim)
-    (wake_row c.args.knobs cpu part c.args.pid c.args.nice step.claim) c.requires refl part _ c.in_default.ensures.first
+    passes c.args.knobs.now cpu part step deed step.claim (wake_tests c.args.knobs.now.credit part deed step.claim)
+    (wake_row c.args.knobs.now cpu part c.args.pid c.args.nice step.claim) c.requires refl part _ c.in_default.ensures.first
     (sym (unwoken part c.args.pid) ∙ ap (after_deed part deed) (sym c.in_default-claim.is)) refl
     (subst (λ (x : Option Claim). IsNeed part deed x 0) (sym c.in_default-claim.is) refl)
 
@@ -37,8 +37,8 @@ returns-clause-tried c cpu =
     let claim = c.in-Some-claim.claim in
     let at : to_z w64 (of_z w64 claim.v) ≡ claim.v = search rules in
     let floor : to_z w64 (of_z w64 c.floor.result) ≡ c.floor.result = search rules in
-    passes c.args.knobs cpu part step deed step.claim (wake_tests c.args.knobs.credit part deed step.claim)
-    (wake_row c.args.knobs cpu part c.args.pid c.args.nice step.claim) c.requires refl _ _ c.in_default.ensures.first
+    passes c.args.knobs.now cpu part step deed step.claim (wake_tests c.args.knobs.now.credit part deed step.claim)
+    (wake_row c.args.knobs.now cpu part c.args.pid c.args.nice step.claim) c.requires refl _ _ c.in_default.ensures.first
     (c.in_ok-wake.ensures.part ∙ ap (after_deed part deed) (sym c.in-Some-claim.is)) refl
     (subst (λ (x : Option Claim). IsNeed part deed x c.excess-need.result) (sym c.in-Some-claim.is)
     (subst (λ v. IsExcess part.floor v c.excess-need.result) at

@@ -11,7 +11,7 @@ use Rattle.queue_replay.proofs.renice.try_reniced.Goals as goal
 
 pub returns-in_default-clause-tried : goal.returns-in_default-clause-tried
 returns-in_default-clause-tried c =
-    strange_first c.args.knobs c.args.cpu (runqueue_view c.args.queue.now) c.args.step.now c.args.change
+    strange_first c.args.knobs.now c.args.cpu (runqueue_view c.args.queue.now) c.args.step.now c.args.change
     (runqueue_view c.renice.new.self) c.requires
     (c.renice.ensures.strange c.in_default.is)
 
@@ -19,9 +19,9 @@ pub returns-in-Ok-Made-clause-tried : goal.returns-in-Ok-Made-clause-tried
 returns-in-Ok-Made-clause-tried c =
     let after = runqueue_view c.try_deed.new.queue in
     let outcome = Made c.in-Ok-Made.deed in
-    let T : Part → Outcome → Type 0 = λ part o. IsDeedTried c.args.knobs c.args.cpu part c.args.step.now
+    let T : Part → Outcome → Type 0 = λ part o. IsDeedTried c.args.knobs.now c.args.cpu part c.args.step.now
     (runqueue_view c.try_deed.new.queue) o in
-    deed_after c.args.knobs c.args.cpu (runqueue_view c.args.queue.now) c.args.step.now c.args.change after outcome
+    deed_after c.args.knobs.now c.args.cpu (runqueue_view c.args.queue.now) c.args.step.now c.args.change after outcome
     c.requires
     (c.renice.ensures.stands (λ e. let f = sym c.in-Some.is ∙ e in cc))
     (subst (λ (part : Part). T part (Made c.in-Ok-Made.deed)) c.renice.ensures.part
@@ -31,9 +31,9 @@ pub returns-in-Ok-Failed-clause-tried : goal.returns-in-Ok-Failed-clause-tried
 returns-in-Ok-Failed-clause-tried c =
     let after = runqueue_view c.try_deed.new.queue in
     let outcome = Failed c.in-Ok-Failed.fault in
-    let T : Part → Outcome → Type 0 = λ part o. IsDeedTried c.args.knobs c.args.cpu part c.args.step.now
+    let T : Part → Outcome → Type 0 = λ part o. IsDeedTried c.args.knobs.now c.args.cpu part c.args.step.now
     (runqueue_view c.try_deed.new.queue) o in
-    deed_after c.args.knobs c.args.cpu (runqueue_view c.args.queue.now) c.args.step.now c.args.change after outcome
+    deed_after c.args.knobs.now c.args.cpu (runqueue_view c.args.queue.now) c.args.step.now c.args.change after outcome
     c.requires
     (c.renice.ensures.stands (λ e. let f = sym c.in-Some.is ∙ e in cc))
     (subst (λ (part : Part). T part (Failed c.in-Ok-Failed.fault)) c.renice.ensures.part

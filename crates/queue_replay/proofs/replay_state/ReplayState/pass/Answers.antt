@@ -1,6 +1,7 @@
 use Rattle.std.proofs.Common.{◌≡◌, ◌≢◌, ℕ, Ok, ◌∙◌, ◌+◌, ◌-◌, List, All, Option, Some, None, IfSome, option_map, sym}
 use Rattle.std.proofs.Common.{ap, subst, inr, refl}
 use Rattle.cfs_model.specs.declared.charge_line.ChargeLine.{ChargeLine}
+use Rattle.cfs_model.specs.Least.{larger}
 use Rattle.cfs_model.specs.declared.memory.Memory.{Memory}
 use Rattle.replay_model.specs.Deeds.{reniced}
 use Rattle.replay_model.specs.Part.{Part, Entity, IsLiftedPart}
@@ -8,6 +9,7 @@ use Rattle.replay_model.specs.QueueTests.{IsWrongCharge}
 use Rattle.replay_model.proofs.Clear.{is_told}
 use Rattle.replay_model.proofs.PartFacts.{place_lifted}
 use Rattle.replay_model.specs.declared.page.Tally.{Tally}
+use Rattle.replay_model.specs.declared.step.Deed.{Deed}
 use Rattle.queue_replay.specs.Stretches.{IsWithin, stretch_between, stretched}
 use Rattle.queue_replay.specs.declared.stretch.Stretch.{Stretch}
 use Rattle.queue_replay.specs.Needing.{step_needs}
@@ -25,44 +27,44 @@ use Rattle.runqueue.proofs.Renices.{holds_both}
 use Rattle.queue_replay.proofs.replay_state.ReplayState.pass.Goals as goal
 
 pub returns-in-Ok-Failed-clause-fails : goal.returns-in-Ok-Failed-clause-fails
-returns-in-Ok-Failed-clause-fails c =
+returns-in-Ok-Failed-clause-fails g c =
     let l = c.in_default.ensures in
-    let right : (pid : ℕ) → ¬ IsWrongCharge c.args.knobs.drift (runqueue_view c.args.self.now.queue)
+    let right : (pid : ℕ) → ¬ IsWrongCharge c.args.knobs.now.drift (runqueue_view c.args.self.now.queue)
     c.args.step.now.time c.args.step.now.charge pid = λ pid. subst
     (λ n. ¬ IsWrongCharge n (runqueue_view c.args.self.now.queue) c.args.step.now.time c.args.step.now.charge pid)
     c.drift.ensures.same (l.told pid) in
     let lifted = runqueue_view c.lift.new.self in
     let found = reniced c.args.step.now.nice lifted in
     let fault = c.in-Ok-Failed.fault in
-    let T : Outcome → Type 0 = λ o. IsTried c.args.knobs c.args.cpu found c.args.step.now
-    (runqueue_view c.try_step.new.queue) o in
+    let T : Outcome → Type 0 = λ o. IsTried c.args.knobs.now c.args.cpu found c.args.step.now
+    (runqueue_view c.try_on.new.queue) o in
     let tried = subst T c.in-Ok-Failed.field-0-is c.in-Ok-Failed.ensures.tried in
-    fails_later c.args.knobs c.args.cpu (replay_state_view c.args.self.now) c.args.step.now fault
+    fails_later c.args.knobs.now c.args.cpu (replay_state_view c.args.self.now) c.args.step.now fault
     (inr (
       found,
       (c.requires.in_time, (l.in_range, (right, tt))),
       record { lifted = lifted; is_lifted = l.lifted; is_reniced = refl },
       tried.0,
     )) tried.1
-    (is_later c.args.knobs c.args.cpu found c.args.step.now fault.kind fault.pid tried.0)
+    (is_later c.args.knobs.now c.args.cpu found c.args.step.now fault.kind fault.pid tried.0)
 
 pub restore-requires : goal.restore-requires
-restore-requires c =
+restore-requires g c =
     let q = c.args.self.now.queue in
-    let S : Outcome → Type 0 = λ o. HoldsUnmade {E = Memory} (Ok o) c.lift.new.self c.try_step.new.queue in (
+    let S : Outcome → Type 0 = λ o. HoldsUnmade {E = Memory} (Ok o) c.lift.new.self c.try_on.new.queue in (
       q,
       c.unlifted-before.ensures,
-      holds_both q c.lift.new.self c.try_step.new.queue c.lift.ensures.same
+      holds_both q c.lift.new.self c.try_on.new.queue c.lift.ensures.same
           (subst S c.in-Ok-Failed.field-0-is c.in-Ok-Failed.ensures.same),
     )
 
-pub restore-requires-in-Err-try_step : goal.restore-requires-in-Err-try_step
-restore-requires-in-Err-try_step c =
+pub restore-requires-in-Err-try_on : goal.restore-requires-in-Err-try_on
+restore-requires-in-Err-try_on g c =
     let q = c.args.self.now.queue in (
       q,
       c.unlifted-before.ensures,
-      holds_both q c.lift.new.self c.try_step.new.queue c.lift.ensures.same
-          c.in-Err-try_step.ensures.same,
+      holds_both q c.lift.new.self c.try_on.new.queue c.lift.ensures.same
+          c.in-Err-try_on.ensures.same,
     )
 
 -- a charge that may be told is of a task that stands here after it
@@ -77,13 +79,13 @@ stands_after bound time part lifted (Some line) right l = λ none.
     absurd cc
 
 pub drift_need-drift-requires : goal.drift_need-drift-requires
-drift_need-drift-requires c =
+drift_need-drift-requires g c =
     let l = c.in_default.ensures in
     stands_after c.drift.result c.args.step.now.time (runqueue_view c.args.self.now.queue)
     (runqueue_view c.lift.new.self) c.args.step.now.charge l.told l.lifted
 
 pub note-requires-clause-within : goal.note-requires-clause-within
-note-requires-clause-within c =
+note-requires-clause-within g c =
     let old = c.args.self.now in
     let ran = stretched_ran old.made c.stretch_between-stretch.result old.draft.tallies.table.rows
     c.stretch_between-stretch.ensures.bounds c.requires.going.within in
@@ -91,21 +93,21 @@ note-requires-clause-within c =
     ran_picks old.made c.note_stretch.new.self.tallies.table.rows (subst P (sym c.note_stretch.ensures.tallies) ran)
 
 pub returns-clause-passes : goal.returns-clause-passes
-returns-clause-passes c _ =
+returns-clause-passes g c _ =
     let old = c.args.self.now in
     let q = old.queue in
     let step = c.args.step.now in
     let lifted = runqueue_view c.lift.new.self in
     let l = c.in_default.ensures in
-    let right : (pid : ℕ) → ¬ IsWrongCharge c.args.knobs.drift (runqueue_view c.args.self.now.queue)
+    let right : (pid : ℕ) → ¬ IsWrongCharge c.args.knobs.now.drift (runqueue_view c.args.self.now.queue)
     c.args.step.now.time c.args.step.now.charge pid = λ pid. subst
     (λ n. ¬ IsWrongCharge n (runqueue_view c.args.self.now.queue) c.args.step.now.time c.args.step.now.charge pid)
     c.drift.ensures.same (l.told pid) in
-    let T : Outcome → Type 0 = λ o. IsTried c.args.knobs c.args.cpu (reniced step.nice lifted) step
-    (runqueue_view c.try_step.new.queue) o in
+    let T : Outcome → Type 0 = λ o. IsTried c.args.knobs.now c.args.cpu (reniced step.nice lifted) step
+    (runqueue_view c.try_on.new.queue) o in
     let tried = subst T c.in-Ok-Made.field-0-is c.in-Ok-Made.ensures.tried in
-    let deed = c.in-Ok-Made.deed in
-    let needs = step_needs step.deed deed.need c.idled_time-idled.result c.drift_need-drift.result in
+    let made = c.in-Ok-Made.made in
+    let needs = step_needs step.deed made.need c.idled_time-idled.result c.drift_need-drift.result in
     let mid = c.note_stretch.new.self in
     let s = c.note_stretch.ensures.same in
     let ran = stretched_ran old.made c.stretch_between-stretch.result old.draft.tallies.table.rows
@@ -128,7 +130,7 @@ returns-clause-passes c _ =
             part = tried.1;
             since = c.since_after-self.ensures;
             page = page_is old.draft mid c.note.new.self (runqueue_view q)
-                (reniced step.nice lifted) step c.in-Ok-Made.deed.ticket c.requires.going.fault
+                (reniced step.nice lifted) step c.in-Ok-Made.made.ticket c.requires.going.fault
                 (record { line = s.0; fault = s.1; left = s.2; came = s.3; births = s.4; deaths = s.5 })
                 (c.note_stretch.ensures.tallies
                 ∙ ap (λ (s : Option Stretch). stretched s old.draft.tallies.table.rows)
@@ -150,11 +152,12 @@ returns-clause-passes c _ =
                 });
           };
           needs_are = needs_of_step old.since
-              (reniced step.nice lifted) step deed.need c.idled_time-idled.result c.drift_need-drift.result tried.3
+              (reniced step.nice lifted) step made.need c.idled_time-idled.result c.drift_need-drift.result tried.3
               c.idled_time-idled.ensures
               (need_reniced step.nice lifted step.charge c.drift_need-drift.result c.drift_need-drift.ensures);
         },
-        c.raise.ensures,
+        subst (λ (d : Deed). c.raise.new.needs ≡ larger old.needs (step_needs d made.need c.idled_time-idled.result
+            c.drift_need-drift.result)) c.requires.deed c.raise.ensures,
       );
       within = subst W (sym c.note.ensures.tallies)
           (tallied_within old.made step.deed mid.tallies.table.rows (subst P (sym c.note_stretch.ensures.tallies) ran));

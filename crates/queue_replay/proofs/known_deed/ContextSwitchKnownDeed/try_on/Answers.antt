@@ -1,0 +1,8 @@
+use Rattle.runqueue.specs.Queue.{runqueue_view}
+use Rattle.queue_replay.proofs.Renices.{deed_alone}
+use Rattle.queue_replay.proofs.known_deed.ContextSwitchKnownDeed.try_on.Goals as goal
+
+pub returns-clause-tried : goal.returns-clause-tried
+returns-clause-tried c =
+    deed_alone c.args.knobs.now c.args._cpu (runqueue_view c.args.queue.now) c.args.step.now
+    (runqueue_view c.try_switch.new.queue) c.try_switch.result c.requires.0 (c.try_switch.ensures.tried c.args._cpu)

@@ -1,6 +1,7 @@
-ghost use Rattle.std.specs.Prelude.{◌≡◌, ◌≤◌, ◌^◌, None, IfSome, IfOk, IfErr, ℤ, pos, neg_ℤ};
+ghost use Rattle.std.specs.Prelude.{◌≡◌, ◌<◌, ◌≤◌, ◌^◌, None, IfSome, SomeIff, IfOk, IfErr, ℤ, pos, neg_ℤ};
 ghost use Rattle.std.specs.Prelude.{◌+ℤ◌, ◌-ℤ◌, ◌≤ℤ◌};
-ghost use Rattle.cfs_model.specs.Limits.{greatest_setting};
+ghost use Rattle.cfs_model.specs.Charge.{charge_of};
+ghost use Rattle.cfs_model.specs.Limits.{greatest_runtime, greatest_setting};
 ghost use Rattle.cfs_model.specs.Told.{IsWithin, drift_after};
 ghost use Rattle.runqueue.specs.Tasks.{CanBeCharged, CanBeTold, charged_task, told_task};
 
@@ -23,7 +24,7 @@ pub fn charged(task: SchedEntity, delta: u64) -> Result<SchedEntity, u32>
     ensures fits { IfOk result (λ after. CanBeCharged delta task × (after ≡ charged_task delta task)) }
     ensures above { IfErr result (λ pid. (pid ≡ task.pid) × (CanBeCharged delta task → ⊥)) }
 {
-    let Some(cost) = charge(delta, weight_of(task.nice, task.policy)) else {
+    let Some(cost) = cost_of(delta, weight_of(task.nice, task.policy)) else {
         return Err(task.pid);
     };
     if task.v > GREATEST_RUNTIME - cost {
@@ -33,6 +34,23 @@ pub fn charged(task: SchedEntity, delta: u64) -> Result<SchedEntity, u32>
     after.v += cost;
     Ok(after)
 }
+
+/// What `delta` nanoseconds cost at this weight, in virtual nanoseconds. At the usual weight they cost themselves. That
+/// is told here, so that the other weights' code isn't part of each step.
+#[inline(always)]
+fn cost_of(delta: u64, weight: u32) -> Option<i64>
+    requires { 0 < weight }
+    ensures { SomeIff result (charge_of delta weight ≤ greatest_runtime) (pos (charge_of delta weight)) }
+{
+    if weight == NICE_0_WEIGHT && delta <= GREATEST_RUNTIME as u64 {
+        Some(delta as i64)
+    } else {
+        charge(delta, weight)
+    }
+}
+
+/// The weight at nice value 0.
+const NICE_0_WEIGHT: u32 = 1024;
 
 /// The task that is `exact` when charged exactly, as it is told to be charged from its own virtual runtime. None where
 /// that isn't of this task, lowers its virtual runtime, or leaves its drift beyond the bound, in virtual nanoseconds.

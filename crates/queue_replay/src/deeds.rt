@@ -168,7 +168,7 @@ fn try_birth(
 }
 
 #[inline(always)]
-fn try_leave(
+pub(crate) fn try_leave(
     queue: &mut Runqueue,
     cpu: u32,
     step: &Step,
@@ -191,7 +191,7 @@ fn try_leave(
 }
 
 #[inline(always)]
-fn try_arrival(
+pub(crate) fn try_arrival(
     queue: &mut Runqueue,
     cpu: u32,
     step: &Step,

@@ -1,15 +1,15 @@
 ghost use Rattle.std.specs.Prelude.{◌≡◌, ⊤, None, IfOk};
 ghost use Rattle.replay_model.specs.Deeds.{reniced};
-ghost use Rattle.replay_model.specs.declared.step.Deed.TheVariants.{Wake};
+ghost use Rattle.replay_model.specs.declared.step.Deed.TheVariants.{Arrive, Leave, Wake};
 ghost use Rattle.replay_model.specs.declared.step.Step.{Step as StepOf};
 ghost use Rattle.runqueue.specs.Queue.{runqueue_view};
 ghost use Rattle.queue_replay.specs.Rows.{HoldsUnmade, IsTried, switch_deed};
 
 use crate::context_switch::ContextSwitch;
-use crate::deeds::{try_switch, try_wake};
+use crate::deeds::{try_arrival, try_leave, try_switch, try_wake};
 use crate::outcome::Outcome;
 use crate::renice::try_step;
-use cfs_model::{Knobs, Memory, Nice};
+use cfs_model::{Knobs, Memory, Nice, Policy};
 use replay_model::Step;
 use runqueue::Runqueue;
 
@@ -86,5 +86,54 @@ impl KnownDeed for Wakeup {
         knobs: &Knobs,
     ) -> Result<Outcome, Memory> {
         try_wake(queue, step, self.pid, self.nice, knobs)
+    }
+}
+
+/// A task that leaves, where no nice value changes.
+#[derive(Clone, Copy)]
+pub(crate) struct Leaving {
+    pub pid: u32,
+    pub nice: Nice,
+    pub dest: u32,
+}
+
+impl KnownDeed for Leaving {
+    ghost is_of = { λ leaving step. (step.nice ≡ None)
+        × (step.deed ≡ Leave leaving.pid leaving.nice leaving.dest) };
+
+    #[inline(always)]
+    fn try_on(
+        &self,
+        queue: &mut Runqueue,
+        cpu: u32,
+        step: &Step,
+        _knobs: &Knobs,
+    ) -> Result<Outcome, Memory> {
+        try_leave(queue, cpu, step, self.pid, self.nice, self.dest)
+    }
+}
+
+/// A task that comes, where no nice value changes.
+#[derive(Clone, Copy)]
+pub(crate) struct Arrival {
+    pub pid: u32,
+    pub nice: Nice,
+    pub orig: u32,
+    pub policy: Policy,
+}
+
+impl KnownDeed for Arrival {
+    ghost is_of = { λ arrival step. (step.nice ≡ None)
+        × (step.deed ≡ Arrive arrival.pid arrival.nice arrival.orig arrival.policy) };
+
+    #[inline(always)]
+    fn try_on(
+        &self,
+        queue: &mut Runqueue,
+        cpu: u32,
+        step: &Step,
+        _knobs: &Knobs,
+    ) -> Result<Outcome, Memory> {
+        try_arrival(queue, cpu, step, self.pid, self.nice, self.policy)
     }
 }

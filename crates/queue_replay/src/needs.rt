@@ -1,6 +1,7 @@
 //! What steps need of each setting: the least settings under which they pass.
 
 ghost use Rattle.std.specs.Prelude.{◌≡◌};
+ghost use Rattle.cfs_model.specs.Knobs.{only};
 ghost use Rattle.cfs_model.specs.Least.{larger};
 ghost use Rattle.replay_model.specs.Needs.{only_slack};
 ghost use Rattle.queue_replay.specs.Needing.{step_needs};
@@ -20,7 +21,7 @@ pub(crate) fn raise(needs: &mut Amounts, deed: Deed, need: u64, idled: u64, drif
         Deed::Born { .. } => needs.raise(Setting::Debit, need),
         Deed::Leave { .. } | Deed::Arrive { .. } => {}
     }
-    needs.raise(Setting::Drift, drift);
+    raise_to(needs, Setting::Drift, drift);
     raise_slack(needs, idled);
 }
 
@@ -28,5 +29,15 @@ pub(crate) fn raise(needs: &mut Amounts, deed: Deed, need: u64, idled: u64, drif
 pub(crate) fn raise_slack(needs: &mut Amounts, idled: u64)
     ensures { needs.new ≡ larger needs.old (only_slack idled) }
 {
-    needs.raise(Setting::Slack, idled);
+    raise_to(needs, Setting::Slack, idled);
+}
+
+/// Raises the need of a setting to an amount, which mostly is 0.
+#[inline(always)]
+fn raise_to(needs: &mut Amounts, setting: Setting, amount: u64)
+    ensures { needs.new ≡ larger needs.old (only setting amount) }
+{
+    if amount > 0 {
+        needs.raise(setting, amount);
+    }
 }

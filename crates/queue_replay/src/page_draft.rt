@@ -110,8 +110,8 @@ impl PageDraft {
         }
     }
 
-    /// Notes a step that passed, of this deed, with its ticket if it has one. Takes no memory. A tally is expected where
-    /// the row of its task is at the runqueue. Each tally is that of at most so many steps.
+    /// Notes a step that passed, of this deed, with its ticket if it has one. Takes no memory. A tally is expected
+    /// where the row of its task is at the runqueue. Each tally is that of at most so many steps.
     #[inline(always)]
     pub fn note(
         &mut self,

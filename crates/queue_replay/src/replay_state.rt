@@ -33,8 +33,8 @@ pub(crate) struct ReplayState {
 }
 
 impl ReplayState {
-    /// One step: it passes and is made, or its fault is noted. The usual ones have code of their own, in which their kind
-    /// isn't asked for again.
+    /// One step: it passes and is made, or its fault is noted. Most kinds of steps have code of their own, in which the
+    /// kind isn't asked for again.
     #[inline(always)]
     pub fn step(&mut self, cpu: u32, step: &Step, knobs: &Knobs) -> Result<(), Memory>
         requires going { IsGoing self.old }
@@ -54,7 +54,7 @@ impl ReplayState {
         }
     }
 
-    /// The same, of a switch above all.
+    /// The same, by code for a switch.
     #[inline(never)]
     fn switch(&mut self, cpu: u32, step: &Step, knobs: &Knobs) -> Result<(), Memory>
         requires going { IsGoing self.old }
@@ -96,7 +96,7 @@ impl ReplayState {
         }
     }
 
-    /// The same, of a wakeup above all.
+    /// The same, by code for a wakeup.
     #[inline(never)]
     fn wake(&mut self, cpu: u32, step: &Step, knobs: &Knobs) -> Result<(), Memory>
         requires going { IsGoing self.old }
@@ -116,7 +116,7 @@ impl ReplayState {
         }
     }
 
-    /// The same, of a task that leaves above all.
+    /// The same, by code for a task that leaves.
     #[inline(never)]
     fn leave(&mut self, cpu: u32, step: &Step, knobs: &Knobs) -> Result<(), Memory>
         requires going { IsGoing self.old }
@@ -136,7 +136,7 @@ impl ReplayState {
         }
     }
 
-    /// The same, of a task that comes above all.
+    /// The same, by code for a task that comes.
     #[inline(never)]
     fn arrive(&mut self, cpu: u32, step: &Step, knobs: &Knobs) -> Result<(), Memory>
         requires going { IsGoing self.old }
@@ -175,7 +175,7 @@ impl ReplayState {
         }
     }
 
-    /// The same, of a step of any kind.
+    /// The same, by code for all kinds.
     #[inline(never)]
     fn any_step(&mut self, cpu: u32, step: &Step, knobs: &Knobs) -> Result<(), Memory>
         requires going { IsGoing self.old }
@@ -189,7 +189,7 @@ impl ReplayState {
         self.step_of(cpu, step, &step.deed, &AnyDeed, knobs)
     }
 
-    /// The same, of a step with this deed, of which so much is known.
+    /// The same, of a step with this deed, of whose kind so much is known.
     #[inline(always)]
     fn step_of<D: KnownDeed>(
         &mut self,

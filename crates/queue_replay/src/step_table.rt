@@ -104,7 +104,8 @@ pub(crate) fn first_wake_test(
 ) -> Option<StepFault>
     requires { IsTaskAt (runqueue_view queue.now) pid task.now }
     ensures line { IfSome result (IsOn step.now.line) }
-    ensures first { IsFirst result (wake_tests knobs.now.credit (runqueue_view queue.now) (Wake pid nice) step.now.claim) }
+    ensures first { IsFirst result
+        (wake_tests knobs.now.credit (runqueue_view queue.now) (Wake pid nice) step.now.claim) }
 {
     let needed = if_resting(pid, task);
     guard!(

@@ -18,7 +18,8 @@ returns-in-Some-clause-tried c =
     let part = runqueue_view c.args.queue.now in
     let step = c.args.step.now in
     let deed = Born c.args.pid c.args.nice c.args.policy in
-    fails c.args.knobs.now c.args.cpu part step deed step.claim (birth_tests c.args.knobs.now.debit part deed step.claim)
+    fails c.args.knobs.now c.args.cpu part step deed step.claim
+    (birth_tests c.args.knobs.now.debit part deed step.claim)
     (birth_row c.args.knobs.now c.args.cpu part c.args.pid c.args.nice c.args.policy step.claim) c.requires refl part
     c.in-Some.fault c.in-Some.ensures.line
     (c.in-Some.ensures.first c.args.nice c.args.policy)
@@ -45,7 +46,8 @@ returns-clause-tried c =
     let at : to_z w64 (of_z w64 claim.v) ≡ claim.v = search rules in
     let floor : to_z w64 (of_z w64 c.floor.result) ≡ c.floor.result = search rules in
     let task = c.claimed_task in
-    passes c.args.knobs.now c.args.cpu part step deed step.claim (birth_tests c.args.knobs.now.debit part deed step.claim)
+    passes c.args.knobs.now c.args.cpu part step deed step.claim
+    (birth_tests c.args.knobs.now.debit part deed step.claim)
     (birth_row c.args.knobs.now c.args.cpu part pid nice policy step.claim) c.requires refl _ _
     (c.in_default.ensures.first nice policy)
     (c.in_ok-add-in-Some-claim.ensures.part

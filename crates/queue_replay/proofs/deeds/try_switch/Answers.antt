@@ -61,11 +61,12 @@ returns-clause-tried c cpu =
     let lead = c.lead-need.ensures moved least in
     let first : IsFirst None (switch_tests c.args.knobs.now part (switch_deed s) step.claim)
     = c.in_default.ensures.first c.args.knobs.now None
-    (pick_tests_same c.args.knobs.now part s.prev s.prev_nice s.way s.next s.next_nice own c.switch_task-next.ensures None
-    (c.in_default-first_pick_test.ensures.first own moved least lead)) in
+    (pick_tests_same c.args.knobs.now part s.prev s.prev_nice s.way s.next s.next_nice own c.switch_task-next.ensures
+    None (c.in_default-first_pick_test.ensures.first own moved least lead)) in
     passes c.args.knobs.now cpu part step (switch_deed s) step.claim
     (switch_tests c.args.knobs.now part (switch_deed s) step.claim)
-    (switch_row c.args.knobs.now cpu part s.prev s.prev_nice s.way s.next s.next_nice step.claim) c.requires refl _ _ first
+    (switch_row c.args.knobs.now cpu part s.prev s.prev_nice s.way s.next s.next_nice step.claim) c.requires refl _ _
+    first
     (c.set_next.ensures ∙ ap (λ (p : Part). part_after_next p s.next) (c.in_ok-put_prev.ensures.part s.prev runner))
     refl
     (pick_needs_lead part s.prev s.prev_nice s.way s.next s.next_nice own c.lead-need.result c.switch_task-next.ensures

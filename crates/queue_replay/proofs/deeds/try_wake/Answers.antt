@@ -25,7 +25,8 @@ returns-in_default-claim-clause-tried c cpu =
     let step = c.args.step.now in
     let deed = Wake c.args.pid c.args.nice in
     passes c.args.knobs.now cpu part step deed step.claim (wake_tests c.args.knobs.now.credit part deed step.claim)
-    (wake_row c.args.knobs.now cpu part c.args.pid c.args.nice step.claim) c.requires refl part _ c.in_default.ensures.first
+    (wake_row c.args.knobs.now cpu part c.args.pid c.args.nice step.claim) c.requires refl part _
+    c.in_default.ensures.first
     (sym (unwoken part c.args.pid) ∙ ap (after_deed part deed) (sym c.in_default-claim.is)) refl
     (subst (λ (x : Option Claim). IsNeed part deed x 0) (sym c.in_default-claim.is) refl)
 
@@ -38,7 +39,8 @@ returns-clause-tried c cpu =
     let at : to_z w64 (of_z w64 claim.v) ≡ claim.v = search rules in
     let floor : to_z w64 (of_z w64 c.floor.result) ≡ c.floor.result = search rules in
     passes c.args.knobs.now cpu part step deed step.claim (wake_tests c.args.knobs.now.credit part deed step.claim)
-    (wake_row c.args.knobs.now cpu part c.args.pid c.args.nice step.claim) c.requires refl _ _ c.in_default.ensures.first
+    (wake_row c.args.knobs.now cpu part c.args.pid c.args.nice step.claim) c.requires refl _ _
+    c.in_default.ensures.first
     (c.in_ok-wake.ensures.part ∙ ap (after_deed part deed) (sym c.in-Some-claim.is)) refl
     (subst (λ (x : Option Claim). IsNeed part deed x c.excess-need.result) (sym c.in-Some-claim.is)
     (subst (λ v. IsExcess part.floor v c.excess-need.result) at

@@ -5,4 +5,5 @@ use Rattle.queue_replay.proofs.known_deed.ArrivalKnownDeed.try_on.Goals as goal
 pub returns-clause-tried : goal.returns-clause-tried
 returns-clause-tried c =
     deed_alone c.args._knobs.now c.args.cpu (runqueue_view c.args.queue.now) c.args.step.now
-    (runqueue_view c.try_arrival.new.queue) c.try_arrival.result c.requires.0 (c.try_arrival.ensures.tried c.args._knobs.now)
+    (runqueue_view c.try_arrival.new.queue) c.try_arrival.result c.requires.0
+    (c.try_arrival.ensures.tried c.args._knobs.now)

@@ -35,8 +35,8 @@ invariant_of-self c =
     record {
       kept = next_queue q.tasks q.waiting c.take_waiting.new.waiting t _
           (kept_runner q.runner q.tasks q.waiting None q.kept none) (sym has)
-          (subst (λ (v : ℤ). set.Updates by_runtime q.waiting c.take_waiting.new.waiting (waiting_task v c.args.next) false)
-          whole c.take_waiting.ensures.updates) refl;
+          (subst (λ (v : ℤ). set.Updates by_runtime q.waiting c.take_waiting.new.waiting
+          (waiting_task v c.args.next) false) whole c.take_waiting.ensures.updates) refl;
       in_row = runner_row_at _ q.tasks.pids c.in-Some-index_near.row
           (sym c.index_near.ensures.index ∙ c.in-Some-index_near.is);
     }

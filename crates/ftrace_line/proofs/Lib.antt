@@ -4,6 +4,7 @@ pub mod Clocks
 pub mod Heads
 pub mod Losses
 pub mod Labels
+pub mod SharedFront
 pub mod OneReading
 pub mod Answered
 pub mod Shapes

@@ -97,6 +97,14 @@ kind_at text =
     (if begins_with (label_of WakeupNew) text then Some WakeupNew else
     (if begins_with (label_of MigrateTask) text then Some MigrateTask else None)))
 
+-- the same by what stands behind the front that all four have
+abbrev pub kind_by_name : List ℕ → Option Which
+kind_by_name text =
+    if begins_with (codes "switch: ") text then Some Switch else
+    (if begins_with (codes "wakeup: ") text then Some Wakeup else
+    (if begins_with (codes "wakeup_new: ") text then Some WakeupNew else
+    (if begins_with (codes "migrate_task: ") text then Some MigrateTask else None)))
+
 -- what stands behind the label
 abbrev pub fields_of : Which → List ℕ → List ℕ
 fields_of which text = drop (length (label_of which)) text

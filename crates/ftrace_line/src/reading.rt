@@ -3,7 +3,7 @@ ghost use Rattle.ftrace_line.specs.declared.fault.LineFault.{LineFault as TheFau
 ghost use Rattle.ftrace_line.specs.Line.{LineView, LineAnswer, IsHeadless, IsHeadOutOfRange, label_of};
 ghost use Rattle.ftrace_line.specs.Seen.{line_answer_view};
 ghost use Rattle.text_parts.specs.Reading.{Gives};
-ghost use Rattle.ftrace_line.specs.Meaning.{after_count, after_loss, kind_at, fields_of, is_end};
+ghost use Rattle.ftrace_line.specs.Meaning.{after_count, after_loss, kind_at, kind_by_name, fields_of, is_end};
 
 use crate::fault::LineFault;
 use crate::head::{HeadParts, head_at};
@@ -89,20 +89,31 @@ fn after_count(text: &[u8]) -> Option<&[u8]>
 
 /// Which of the four events a text is.
 #[inline(always)]
-#[tactic(auto, unfolding(crate::specs::Meaning::kind_at))]
 pub(crate) fn kind_of(text: &[u8]) -> Option<Which>
     ensures { result ≡ kind_at text.now }
 {
-    if begins_with(text, b"sched_switch: ") {
+    // What all four begin with is compared by itself, and only once.
+    match after_front(text, b"sched_") {
+        Some(name) => kind_by_name(name),
+        None => None,
+    }
+}
+
+/// Which of the four events has a name that begins a text, but for what all four begin with.
+#[inline(always)]
+fn kind_by_name(text: &[u8]) -> Option<Which>
+    ensures { result ≡ kind_by_name text.now }
+{
+    if begins_with(text, b"switch: ") {
         return Some(Which::Switch);
     }
-    if begins_with(text, b"sched_wakeup: ") {
+    if begins_with(text, b"wakeup: ") {
         return Some(Which::Wakeup);
     }
-    if begins_with(text, b"sched_wakeup_new: ") {
+    if begins_with(text, b"wakeup_new: ") {
         return Some(Which::WakeupNew);
     }
-    if begins_with(text, b"sched_migrate_task: ") {
+    if begins_with(text, b"migrate_task: ") {
         return Some(Which::MigrateTask);
     }
     None

@@ -5,6 +5,7 @@ ghost use Rattle.companion_file.specs.ShapeReading.{integer_whole, place_field};
 
 use cfs_model::{GREATEST_RUNTIME, Place};
 use text_parts::numerals::numeral_at;
+use text_parts::packed::long_numeral_at;
 use text_parts::pieces::after_front;
 
 /// A number above each virtual runtime. Larger ones are read as this one.
@@ -16,7 +17,7 @@ const BEYOND: u64 = GREATEST_RUNTIME as u64 + 1;
 pub(crate) fn number_field(text: &[u8]) -> Option<(u64, &[u8])>
     ensures { Gives (λ x. (x.0, x.1.now)) result (number_field text.now) }
 {
-    let (number, rest) = numeral_at(text)?;
+    let (number, rest) = long_numeral_at(text)?;
     let rest = after_front(rest, b" ")?;
     Some((number, rest))
 }
@@ -39,11 +40,11 @@ pub(crate) fn integer(text: &[u8]) -> Option<(i64, &[u8])>
 {
     match after_front(text, b"-") {
         None => {
-            let (number, rest) = numeral_at(text)?;
+            let (number, rest) = long_numeral_at(text)?;
             Some((number.min(BEYOND) as i64, rest))
         }
         Some(digits) => {
-            let (number, rest) = numeral_at(digits)?;
+            let (number, rest) = long_numeral_at(digits)?;
             Some((-(number.min(BEYOND) as i64), rest))
         }
     }

@@ -2,6 +2,10 @@ pub mod TextLines
 pub mod WholeLines
 pub mod Collected
 pub mod Digits
+pub mod Packing
+pub mod FrontValues
+pub mod FrontMasks
+pub mod LongFronts
 pub mod Runs
 pub mod Fronts
 pub mod Times

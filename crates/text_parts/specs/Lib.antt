@@ -1,5 +1,6 @@
 pub mod Pieces
 pub mod Numerals
+pub mod Packed
 pub mod Lines
 pub mod Time
 pub mod Reading

@@ -4,5 +4,6 @@
 pub mod cutting;
 pub mod lines;
 pub mod numerals;
+pub mod packed;
 pub mod pieces;
 pub mod time;

@@ -114,7 +114,7 @@ fn digits_at(text: &[u8]) -> (usize, u64)
 
 /// The same where so many digits are read, and this is their value.
 #[inline(never)]
-fn further_digits(text: &[u8], read: usize, front: u64) -> (usize, u64)
+pub(crate) fn further_digits(text: &[u8], read: usize, front: u64) -> (usize, u64)
     requires within { read ≤ length text.now }
     requires passed { (k : ℕ) → k < read → is_digit (get_or text.now k 0) ≡ true }
     requires value { front ≡ value_of (take read text.now) }

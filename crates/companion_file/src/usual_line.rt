@@ -20,14 +20,6 @@ pub(crate) struct UsualLine<'a> {
     pub(crate) rest: &'a [u8],
 }
 
-/// The claim that the first line of a text makes, where that is an `at` line.
-#[inline(always)]
-pub(crate) fn usual_claim(text: &[u8]) -> Option<UsualLine<'_>>
-    ensures { IfSome result (λ said. HasLine (codes "at ") text.now said.line said.pid said.v said.rest.now) }
-{
-    usual_fields(after_front(text, b"at ")?)
-}
-
 /// The charge that the first line of a text tells, where that is a `charge` line.
 #[inline(always)]
 pub(crate) fn usual_charge(text: &[u8]) -> Option<UsualLine<'_>>
@@ -36,9 +28,9 @@ pub(crate) fn usual_charge(text: &[u8]) -> Option<UsualLine<'_>>
     usual_fields(after_front(text, b"charge ")?)
 }
 
-/// The same behind the line's word.
+/// The same behind the word of either line.
 #[inline(always)]
-fn usual_fields(text: &[u8]) -> Option<UsualLine<'_>>
+pub(crate) fn usual_fields(text: &[u8]) -> Option<UsualLine<'_>>
     ensures { IfSome result (λ said. HasFields text.now said.line said.pid said.v said.rest.now) }
 {
     let (line, after_line) = number_field(text)?;

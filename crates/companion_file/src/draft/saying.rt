@@ -13,9 +13,10 @@ use crate::known_lines::{is_group, version_of};
 use crate::limits::{change_within, charge_within, claim_within, is_value};
 use crate::shapes::statement_of;
 use crate::statement::Statement;
-use crate::usual_line::{usual_charge, usual_claim};
+use crate::usual_line::{usual_charge, usual_fields};
 use cfs_model::{ClaimSort, GREATEST_SECONDS, MOST_PROCESSORS, NANOSECONDS_PER_SECOND, Place};
 use text_parts::lines::{is_comment, next_line};
+use text_parts::pieces::after_front;
 use text_parts::time::Time;
 
 impl Draft {
@@ -110,7 +111,8 @@ impl Draft {
         if !self.may_claim_at(line) {
             return Err(Refusal::Bad(CompanionCause::LineOrder));
         }
-        self.claims.push(claim)?;
+        self.claims.reserve(1)?;
+        self.claims.push_reserved(claim);
         Ok(())
     }
 
@@ -143,7 +145,8 @@ impl Draft {
         if !self.may_charge_at(line) {
             return Err(Refusal::Bad(CompanionCause::LineOrder));
         }
-        self.charges.push(charge)?;
+        self.charges.reserve(1)?;
+        self.charges.push_reserved(charge);
         Ok(())
     }
 
@@ -190,11 +193,12 @@ impl Draft {
         ensures shorter { length result.1.now < length text.now }
     {
         if let Some(version) = self.version {
-            if let Some(claim) = usual_claim(text) {
-                let said = self.say_claim(claim.line, claim.pid, claim.v, ClaimSort::At);
-                return (said, claim.rest);
-            }
-            if version >= 3
+            if let Some(fields) = after_front(text, b"at ") {
+                if let Some(claim) = usual_fields(fields) {
+                    let said = self.say_claim(claim.line, claim.pid, claim.v, ClaimSort::At);
+                    return (said, claim.rest);
+                }
+            } else if version >= 3
                 && let Some(charge) = usual_charge(text)
             {
                 let said = self.say_charge(charge.line, charge.pid, charge.v);

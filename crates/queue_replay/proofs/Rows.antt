@@ -16,7 +16,8 @@ use Rattle.cfs_model.specs.declared.kind.Kind.TheVariants.{IdleTooLong}
 use Rattle.queue_replay.specs.Counting.{ticket_by}
 use Rattle.queue_replay.specs.FirstTest.{IsFirst, IsOn}
 use Rattle.queue_replay.specs.Needing.{IsNeed}
-use Rattle.queue_replay.specs.Rows.{IsDeedTried, arrival_tests, birth_tests, leave_tests, switch_tests, wake_tests}
+use Rattle.queue_replay.specs.Rows.{IsDeedTried, arrival_tests, birth_tests, claim_tests, leave_tests, switch_tests}
+use Rattle.queue_replay.specs.Rows.{wake_tests}
 use Rattle.queue_replay.specs.declared.made_deed.MadeDeed.{MadeDeed}
 use Rattle.queue_replay.specs.declared.outcome.Outcome.TheVariants.{Made, Failed}
 use Rattle.cfs_model.specs.declared.policy.Policy.{Policy}
@@ -46,6 +47,14 @@ keep {less} {more} {test} w = record { none = λ h. (h.0, w.none h.1); first = g
 abbrev pub all_tests : KnobsView → ℕ → Part → Deed → Option Claim → List Test
 all_tests knobs cpu part deed claim = late_tests knobs cpu part
     (record { line = 0; time = 0; deed = deed; claim = claim; nice = None; charge = None })
+
+-- what is first among the tests of a claim is so before other tests
+pub claims_first : (needed : Option ℕ) (claim : Option Claim) (rest : List Test) (kind : Kind) (pid : ℕ)
+    → FirstHolds (claim_tests needed claim []) kind pid → FirstHolds (claim_tests needed claim rest) kind pid
+claims_first needed claim rest kind pid (inl h) = inl h
+claims_first needed claim rest kind pid (inr (a, inl h)) = inr (a, inl h)
+claims_first needed claim rest kind pid (inr (a, inr (b, inl h))) = inr (a, inr (b, inl h))
+claims_first needed claim rest kind pid (inr (a, inr (b, inr (d, h)))) = absurd h
 
 -- a switch
 pub switch_row : (knobs : KnobsView) (cpu : ℕ) (part : Part) (prev : ℕ) (prev_nice : ℤ) (way : Way) (next : ℕ)

@@ -49,6 +49,13 @@ abbrev pub IsOfAnother : Option ℕ → Option Claim → ℕ → Type 0
 IsOfAnother needed None pid = ⊥
 IsOfAnother needed (Some claim) pid = ((task : ℕ) × (needed ≡ Some task) × (claim.pid ≢ task)) × (pid ≡ claim.pid)
 
+-- the claim of a switch or a wakeup, where this pid needs one, or none does; before other tests
+abbrev pub claim_tests : Option ℕ → Option Claim → List Test → List Test
+claim_tests needed claim rest =
+    record { kind = kind.ClaimMissing; holds = IsUnclaimed needed claim } ∷
+    record { kind = kind.ClaimExtra; holds = IsNeedless needed claim } ∷
+    record { kind = kind.ClaimPid; holds = IsOfAnother needed claim } ∷ rest
+
 -- a switch's pick
 abbrev pub pick_tests : KnobsView → Part → Deed → List Test
 pick_tests knobs part deed =
@@ -61,27 +68,31 @@ moved_tests granularity own moved next =
     record { kind = kind.IdleBesideWaiting; holds = IdlesBeside moved next } ∷
     record { kind = kind.NotLeast; holds = IsAboveGranularity granularity own moved next } ∷ []
 
+-- a switch whose claim is as it is needed
+abbrev pub moving_tests : KnobsView → Part → Deed → Option Claim → List Test
+moving_tests knobs part deed claim =
+    record { kind = kind.WrongPutBack; holds = IsWrongPutBack part deed claim } ∷
+    record { kind = kind.NextNotWaiting; holds = IsNextNotWaiting part deed } ∷ pick_tests knobs part deed
+
 -- a switch
 abbrev pub switch_tests : KnobsView → Part → Deed → Option Claim → List Test
 switch_tests knobs part deed claim =
     record { kind = kind.SelfSwitch; holds = IsSelfSwitch deed } ∷
     record { kind = kind.PrevNotRunning; holds = IsPrevNotRunning part deed } ∷
     record { kind = kind.WrongPrio; holds = IsWrongPrio part deed } ∷
-    record { kind = kind.ClaimMissing; holds = IsUnclaimed (claimant part deed) claim } ∷
-    record { kind = kind.ClaimExtra; holds = IsNeedless (claimant part deed) claim } ∷
-    record { kind = kind.ClaimPid; holds = IsOfAnother (claimant part deed) claim } ∷
-    record { kind = kind.WrongPutBack; holds = IsWrongPutBack part deed claim } ∷
-    record { kind = kind.NextNotWaiting; holds = IsNextNotWaiting part deed } ∷ pick_tests knobs part deed
+    claim_tests (claimant part deed) claim (moving_tests knobs part deed claim)
+
+-- a wakeup whose claim is as it is needed
+abbrev pub bounds_tests : ℕ → Part → Deed → Option Claim → List Test
+bounds_tests credit part deed claim =
+    record { kind = kind.WakeBounds; holds = IsWakeOutside credit part deed claim } ∷ []
 
 -- a wakeup
 abbrev pub wake_tests : ℕ → Part → Deed → Option Claim → List Test
 wake_tests credit part deed claim =
     record { kind = kind.Strange; holds = IsStrange part deed } ∷
     record { kind = kind.WrongPrio; holds = IsWrongPrio part deed } ∷
-    record { kind = kind.ClaimMissing; holds = IsUnclaimed (claimant part deed) claim } ∷
-    record { kind = kind.ClaimExtra; holds = IsNeedless (claimant part deed) claim } ∷
-    record { kind = kind.ClaimPid; holds = IsOfAnother (claimant part deed) claim } ∷
-    record { kind = kind.WakeBounds; holds = IsWakeOutside credit part deed claim } ∷ []
+    claim_tests (claimant part deed) claim (bounds_tests credit part deed claim)
 
 -- a birth, which always needs a claim
 abbrev pub birth_tests : ℕ → Part → Deed → Option Claim → List Test

@@ -1,4 +1,4 @@
-ghost use Rattle.std.specs.Prelude.{◌≡◌, ◌≢◌, ℕ, ℤ, IsTrue, ◌↔◌, Option, Some, pos, ◌-ℤ◌, ◌≤ℤ◌};
+ghost use Rattle.std.specs.Prelude.{◌≡◌, ◌≢◌, ℕ, ℤ, IsTrue, ◌↔◌, Option, Some, true, pos, ◌-ℤ◌, ◌≤ℤ◌};
 ghost use Rattle.replay_model.specs.ClaimTests.{if_resting, IsClaimMissing, IsInWakeBounds, IsWakeOutside};
 ghost use Rattle.replay_model.specs.ClaimTests.{IsInForkBounds, IsForkOutside};
 ghost use Rattle.replay_model.specs.Part.{Part, Entity, place_in};
@@ -31,6 +31,19 @@ fn has_claim_at(claim: Option<Claim>) -> bool
     ensures { IsTrue result ↔ HasClaimAt claim }
 {
     matches!(claim, Some(claim) if claim.sort == ClaimSort::At)
+}
+
+/// The line has the claim that is needed, of this pid and of the sort `at`; or none is needed, and it has none.
+#[inline(always)]
+pub(crate) fn is_as_needed(needed: Option<u32>, claim: Option<Claim>) -> bool
+    ensures { result ≡ true → (pid : ℕ) → (¬ IsUnclaimed needed claim pid) × (¬ IsNeedless needed claim pid)
+        × (¬ IsOfAnother needed claim pid) }
+{
+    match (needed, claim) {
+        (Some(pid), Some(claim)) => claim.pid == pid && claim.sort == ClaimSort::At,
+        (None, None) => true,
+        (Some(_), None) | (None, Some(_)) => false,
+    }
 }
 
 /// A claim of this pid is needed, and the line has none of the sort `at`.

@@ -1,4 +1,4 @@
-ghost use Rattle.std.specs.Prelude.{◌≡◌, ◌≢◌, ℕ, ℤ, Option, None, IfSome};
+ghost use Rattle.std.specs.Prelude.{◌≡◌, ◌≢◌, ℕ, ℤ, Option, None, [], IfSome};
 ghost use Rattle.cfs_model.specs.Knobs.{KnobsView};
 ghost use Rattle.replay_model.specs.Part.{Part, Entity};
 ghost use Rattle.replay_model.specs.QueueTests.{IsPrevNotRunning};
@@ -7,16 +7,16 @@ ghost use Rattle.replay_model.specs.declared.step.Deed.TheVariants.{Wake, Born, 
 ghost use Rattle.queue_replay.specs.FirstTest.{FindsFirst, IsFirst, IsOn};
 ghost use Rattle.queue_replay.specs.Picks.{IsLead};
 ghost use Rattle.runqueue.specs.Queue.{runqueue_view, IsLeastIfWaiting, IsSwitchTask, IsTaskAt};
-ghost use Rattle.queue_replay.specs.Rows.{arrival_tests, birth_tests, leave_tests, moved_tests, pick_tests};
+ghost use Rattle.queue_replay.specs.Rows.{arrival_tests, birth_tests, claim_tests, leave_tests, moved_tests, pick_tests};
 ghost use Rattle.queue_replay.specs.Rows.{switch_deed, switch_tests, wake_tests};
 
 use crate::claim_tests::{
     arrival_claim_missing, claim_extra, claim_missing, claim_pid, fork_outside,
-    idle_beside_waiting, if_resting, not_least, wake_outside,
+    idle_beside_waiting, if_resting, is_as_needed, not_least, wake_outside,
 };
 use crate::context_switch::ContextSwitch;
 use crate::queue_tests::{already, move_home, move_running, strange, wrong_prio};
-use cfs_model::{Kind, Knobs, Nice};
+use cfs_model::{Claim, Kind, Knobs, Nice};
 use replay_model::{Step, StepFault};
 use runqueue::{Runqueue, SchedEntity};
 
@@ -55,15 +55,17 @@ pub(crate) fn first_switch_test(
         (pick_tests knobs (runqueue_view queue.now) (switch_deed switch.now))
         (switch_tests knobs (runqueue_view queue.now) (switch_deed switch.now) step.now.claim) }
 {
-    let needed = switch.claimant();
     guard!(
         step.line;
         SelfSwitch: switch.self_switch(),
         PrevNotRunning: switch.prev_not_running(queue, prev),
         WrongPrio: switch.wrong_prio(prev, next),
-        ClaimMissing: claim_missing(needed, step.claim),
-        ClaimExtra: claim_extra(needed, step.claim),
-        ClaimPid: claim_pid(needed, step.claim),
+    );
+    if let Some(fault) = first_claim_test(step.line, switch.claimant(), step.claim) {
+        return Some(fault);
+    }
+    guard!(
+        step.line;
         WrongPutBack: switch.wrong_put_back(prev, step.claim),
         NextNotWaiting: switch.next_not_waiting(next),
     );
@@ -107,15 +109,36 @@ pub(crate) fn first_wake_test(
     ensures first { IsFirst result
         (wake_tests knobs.now.credit (runqueue_view queue.now) (Wake pid nice) step.now.claim) }
 {
-    let needed = if_resting(pid, task);
     guard!(
         step.line;
         Strange: strange(pid, task),
         WrongPrio: wrong_prio(pid, nice, task),
-        ClaimMissing: claim_missing(needed, step.claim),
-        ClaimExtra: claim_extra(needed, step.claim),
-        ClaimPid: claim_pid(needed, step.claim),
+    );
+    if let Some(fault) = first_claim_test(step.line, if_resting(pid, task), step.claim) {
+        return Some(fault);
+    }
+    guard!(
+        step.line;
         WakeBounds: wake_outside(queue, pid, task, step.claim, knobs.credit()),
+    );
+    None
+}
+
+/// The claim of a switch or a wakeup, where this pid needs one, or none does: the first test that it fails. Mostly it
+/// fails none, which is told by one look.
+#[inline(always)]
+fn first_claim_test(line: u32, needed: Option<u32>, claim: Option<Claim>) -> Option<StepFault>
+    ensures line { IfSome result (IsOn line) }
+    ensures first { IsFirst result (claim_tests needed claim []) }
+{
+    if is_as_needed(needed, claim) {
+        return None;
+    }
+    guard!(
+        line;
+        ClaimMissing: claim_missing(needed, claim),
+        ClaimExtra: claim_extra(needed, claim),
+        ClaimPid: claim_pid(needed, claim),
     );
     None
 }

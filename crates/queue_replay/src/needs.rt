@@ -16,9 +16,9 @@ pub(crate) fn raise(needs: &mut Amounts, deed: Deed, need: u64, idled: u64, drif
     ensures { needs.new ≡ larger needs.old (step_needs deed need idled drift) }
 {
     match deed {
-        Deed::Switch { .. } => needs.raise(Setting::Granularity, need),
-        Deed::Wake { .. } => needs.raise(Setting::Credit, need),
-        Deed::Born { .. } => needs.raise(Setting::Debit, need),
+        Deed::Switch { .. } => raise_to(needs, Setting::Granularity, need),
+        Deed::Wake { .. } => raise_to(needs, Setting::Credit, need),
+        Deed::Born { .. } => raise_to(needs, Setting::Debit, need),
         Deed::Leave { .. } | Deed::Arrive { .. } => {}
     }
     raise_to(needs, Setting::Drift, drift);

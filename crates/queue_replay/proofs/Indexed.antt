@@ -26,6 +26,21 @@ ran_keeps pid time cost t = go (eqb t.pid pid)
     go true = refl
     go false = refl
 
+-- a stretch of its own task is added to a tally
+pub ran_mine : (pid time cost : ℕ) (before x after : Tally) → x ≡ before → x.pid ≡ pid
+    → after ≡ record before { ran = before.ran + time; charged = before.charged + cost }
+    → after ≡ ran_tally pid time cost x
+ran_mine pid time cost before x after same mine is =
+    is ∙ sym (cond-true (eqb before.pid pid) _ before (eq-eqb _ _ (ap (λ (t : Tally). t.pid) (sym same) ∙ mine)))
+    ∙ ap (ran_tally pid time cost) (sym same)
+
+-- a switch to its own task is added to a tally
+pub picked_mine : (pid : ℕ) (before x after : Tally) → x ≡ before → x.pid ≡ pid
+    → after ≡ record before { picks = before.picks + 1 } → after ≡ picked_tally pid x
+picked_mine pid before x after same mine is =
+    is ∙ sym (cond-true (eqb before.pid pid) _ before (eq-eqb _ _ (ap (λ (t : Tally). t.pid) (sym same) ∙ mine)))
+    ∙ ap (picked_tally pid) (sym same)
+
 picked_others : (pid : ℕ) (t : Tally) → t.pid ≢ pid → picked_tally pid t ≡ t
 picked_others pid t ne = cond-false (eqb t.pid pid) _ t (ne_eqb _ _ ne)
 

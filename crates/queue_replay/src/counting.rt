@@ -1,32 +1,30 @@
 ghost use Rattle.std.specs.Prelude.{◌≡◌, ℕ, ◌+◌, ◌^◌, ◌<◌};
 ghost use Rattle.replay_model.specs.Noted.{new_tally};
-ghost use Rattle.queue_replay.specs.Stretches.{ran_tally, picked_tally};
 
 use crate::stretch::Stretch;
 use replay_model::Tally;
 
-/// Adds the stretch to the tally, if it is its task's.
+/// Adds the stretch to the tally, which is its task's.
 #[inline(always)]
 pub(crate) fn add_run(tally: &mut Tally, stretch: Stretch)
     requires time { tally.old.ran + stretch.time < 2 ^ 128 }
     requires cost { tally.old.charged + stretch.cost < 2 ^ 128 }
-    ensures { tally.new ≡ ran_tally stretch.pid stretch.time stretch.cost tally.old }
+    ensures { tally.new ≡ record tally.old {
+      ran = tally.old.ran + stretch.time;
+      charged = tally.old.charged + stretch.cost;
+    } }
 {
-    if tally.pid == stretch.pid {
-        tally.ran += u128::from(stretch.time);
-        tally.charged += u128::from(stretch.cost);
-    }
+    tally.ran += u128::from(stretch.time);
+    tally.charged += u128::from(stretch.cost);
 }
 
-/// Adds the switch to the tally, if it is the pid's.
+/// Adds a switch to the tally, which is that of its next task.
 #[inline(always)]
-pub(crate) fn pick(tally: &mut Tally, pid: u32)
+pub(crate) fn pick(tally: &mut Tally)
     requires { tally.old.picks + 1 < 2 ^ 64 }
-    ensures { tally.new ≡ picked_tally pid tally.old }
+    ensures { tally.new ≡ record tally.old { picks = tally.old.picks + 1 } }
 {
-    if tally.pid == pid {
-        tally.picks += 1;
-    }
+    tally.picks += 1;
 }
 
 /// The tally of one who has done nothing yet.

@@ -129,7 +129,7 @@ impl TallyBook {
         ensures { self.new.table.rows ≡ map (picked_tally pid) self.old.table.rows }
     {
         if let Some(index) = self.index_near(expected, pid) {
-            pick(self.table.row_mut(index), pid);
+            pick(self.table.row_mut(index));
         }
     }
 }

@@ -1,7 +1,5 @@
-use Rattle.std.proofs.Common.{◌∙◌, ap, sym}
 use Rattle.std.proofs.lemmas.Option.{get_or_from_slice_get}
-use Rattle.queue_replay.proofs.Indexed.{ran_there, ran_nowhere, ran_own}
-use Rattle.queue_replay.specs.Stretches.{ran_tally}
+use Rattle.queue_replay.proofs.Indexed.{ran_mine, ran_there, ran_nowhere, ran_own}
 use Rattle.queue_replay.proofs.tally_book.TallyBook.add_stretch.Goals as goal
 
 pub invariant_of-self : goal.invariant_of-self
@@ -14,8 +12,8 @@ invariant_of-self c =
       own = ran_own book.table book.own c.index_near.ensures.apart c.args.stretch.pid c.args.stretch.time
           c.args.stretch.cost index
           before c.add_run.new.tally f.0 (f.1 before)
-          (c.add_run.ensures ∙ ap (ran_tally c.args.stretch.pid c.args.stretch.time c.args.stretch.cost)
-          (sym (get_or_from_slice_get book.table.rows index before before c.row_mut.ensures.value)));
+          (ran_mine c.args.stretch.pid c.args.stretch.time c.args.stretch.cost before _ _
+          (get_or_from_slice_get book.table.rows index before before c.row_mut.ensures.value) (f.1 before) c.add_run.ensures);
     }
 
 pub returns-in-Some-clause-tallies : goal.returns-in-Some-clause-tallies
@@ -27,8 +25,8 @@ returns-in-Some-clause-tallies c =
     ran_there book.table book.own c.index_near.ensures.apart c.args.stretch.pid c.args.stretch.time c.args.stretch.cost
     index
     before c.add_run.new.tally f.0 (f.1 before)
-    (c.add_run.ensures ∙ ap (ran_tally c.args.stretch.pid c.args.stretch.time c.args.stretch.cost)
-    (sym (get_or_from_slice_get book.table.rows index before before c.row_mut.ensures.value)))
+    (ran_mine c.args.stretch.pid c.args.stretch.time c.args.stretch.cost before _ _
+    (get_or_from_slice_get book.table.rows index before before c.row_mut.ensures.value) (f.1 before) c.add_run.ensures)
 
 pub returns-in_default-clause-tallies : goal.returns-in_default-clause-tallies
 returns-in_default-clause-tallies c =

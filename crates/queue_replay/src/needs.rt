@@ -17,8 +17,8 @@ pub(crate) fn raise(needs: &mut Amounts, deed: Deed, need: u64, idled: u64, drif
 {
     match deed {
         Deed::Switch { .. } => raise_to(needs, Setting::Granularity, need),
-        Deed::Wake { .. } => raise_to(needs, Setting::Credit, need),
-        Deed::Born { .. } => raise_to(needs, Setting::Debit, need),
+        Deed::Wake { .. } => needs.raise(Setting::Credit, need),
+        Deed::Born { .. } => needs.raise(Setting::Debit, need),
         Deed::Leave { .. } | Deed::Arrive { .. } => {}
     }
     raise_to(needs, Setting::Drift, drift);
@@ -32,7 +32,7 @@ pub(crate) fn raise_slack(needs: &mut Amounts, idled: u64)
     raise_to(needs, Setting::Slack, idled);
 }
 
-/// Raises the need of a setting to an amount, which mostly is 0.
+/// Raises the need of a setting to an amount, which mostly is 0: that is asked first.
 #[inline(always)]
 fn raise_to(needs: &mut Amounts, setting: Setting, amount: u64)
     ensures { needs.new ≡ larger needs.old (only setting amount) }

@@ -96,8 +96,8 @@ impl Runqueue {
         })?;
         let mut task = runner;
         task.place = Place::Wait;
-        write_row(&mut self.tasks, self.runner_row, Some(task));
         self.runner = None;
+        write_row(&mut self.tasks, self.runner_row, Some(task));
         Ok(())
     }
 
@@ -111,8 +111,8 @@ impl Runqueue {
     {
         let mut task = runner;
         task.place = Place::Rest;
-        write_row(&mut self.tasks, self.runner_row, Some(task));
         self.runner = None;
+        write_row(&mut self.tasks, self.runner_row, Some(task));
     }
 
     /// Who runs is gone.
@@ -123,8 +123,8 @@ impl Runqueue {
             → runqueue_view self.new ≡ part_after_prev (runqueue_view self.old) prev Ends }
         ensures nobody { NobodyIn (runqueue_view self.new) Run }
     {
-        write_row(&mut self.tasks, self.runner_row, None);
         self.runner = None;
+        write_row(&mut self.tasks, self.runner_row, None);
     }
 
     /// The next task of a switch runs, as it stands here. Its row is expected at an index.

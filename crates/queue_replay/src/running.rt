@@ -122,6 +122,7 @@ pub(crate) fn end_window(state: &mut ReplayState, last_time: u64, last_line: u32
 }
 
 /// Makes these steps, up to the first that fails.
+#[inline(always)]
 pub(crate) fn go_through(
     state: &mut ReplayState,
     cpu: u32,

@@ -79,6 +79,7 @@ impl WindowedReplay {
 
     /// Makes these steps, in their order, up to the first that fails. A step that wants memory isn't made, and none
     /// behind it is.
+    #[inline(always)]
     pub fn go_through(&mut self, steps: &[Step]) -> Result<(), Memory>
         requires few { (windowed_view self.old).made + length steps.now < 2 ^ 64 }
         ensures through { OnOk result (GoesThrough (windowed_view self.old) steps.now (windowed_view self.new)) }

@@ -14,10 +14,10 @@ use std::sync::Wait;
 use std::thread::{self, Threads};
 
 /// How many bytes a read of an input asks for on one core, where both are read at once.
-const BLOCK: u32 = 1 << 18;
+const BLOCK: u32 = 1 << 17;
 
 /// The same on several cores: threads begin for each block, and some systems let a new one wait for milliseconds.
-const BLOCK_OF_THREADS: u32 = 3 << 20;
+const BLOCK_OF_THREADS: u32 = 4 << 20;
 
 /// How many events are audited at once there, at most.
 const WINDOW: usize = 1 << 16;

@@ -7,8 +7,8 @@ ghost use Rattle.replay_model.specs.declared.step.Deed.TheVariants.{Wake, Born, 
 ghost use Rattle.queue_replay.specs.FirstTest.{FindsFirst, IsFirst, IsOn};
 ghost use Rattle.queue_replay.specs.Picks.{IsLead};
 ghost use Rattle.runqueue.specs.Queue.{runqueue_view, IsLeastIfWaiting, IsSwitchTask, IsTaskAt};
-ghost use Rattle.queue_replay.specs.Rows.{arrival_tests, birth_tests, claim_tests, leave_tests, moved_tests, pick_tests};
-ghost use Rattle.queue_replay.specs.Rows.{switch_deed, switch_tests, wake_tests};
+ghost use Rattle.queue_replay.specs.Rows.{arrival_tests, birth_tests, claim_tests, leave_tests, moved_tests};
+ghost use Rattle.queue_replay.specs.Rows.{pick_tests, switch_deed, switch_tests, wake_tests};
 
 use crate::claim_tests::{
     arrival_claim_missing, claim_extra, claim_missing, claim_pid, fork_outside,

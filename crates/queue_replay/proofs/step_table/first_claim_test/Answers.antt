@@ -21,4 +21,7 @@ returns-in-Some-claim_pid-clause-first c =
     inr (c.in_default.ensures, inr (c.in_default-claim_extra.ensures, inl (c.in-Some-claim_pid.ensures, refl)))
 
 pub returns-clause-first : goal.returns-clause-first
-returns-clause-first c = (c.in_default.ensures, (c.in_default-claim_extra.ensures, (c.in_default-claim_pid.ensures, tt)))
+returns-clause-first c = (
+  c.in_default.ensures,
+  (c.in_default-claim_extra.ensures, (c.in_default-claim_pid.ensures, tt)),
+)

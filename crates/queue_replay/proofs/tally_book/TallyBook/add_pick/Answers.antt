@@ -12,7 +12,8 @@ invariant_of-self c =
       own = picked_own book.table book.own c.index_near.ensures.apart c.args.pid index before c.pick.new.tally f.0
           (f.1 before)
           (picked_mine c.args.pid before _ _
-          (get_or_from_slice_get book.table.rows index before before c.row_mut.ensures.value) (f.1 before) c.pick.ensures);
+          (get_or_from_slice_get book.table.rows index before before c.row_mut.ensures.value) (f.1 before)
+          c.pick.ensures);
     }
 
 pub returns-in-Some : goal.returns-in-Some
@@ -24,7 +25,8 @@ returns-in-Some c =
     picked_there book.table book.own c.index_near.ensures.apart c.args.pid index before c.pick.new.tally f.0
     (f.1 before)
     (picked_mine c.args.pid before _ _
-    (get_or_from_slice_get book.table.rows index before before c.row_mut.ensures.value) (f.1 before) c.pick.ensures)
+    (get_or_from_slice_get book.table.rows index before before c.row_mut.ensures.value) (f.1 before)
+    c.pick.ensures)
 
 pub returns-in_default : goal.returns-in_default
 returns-in_default c = picked_nowhere c.args.self.now.table.rows c.args.pid (c.index_near.ensures.none c.in_default.is)

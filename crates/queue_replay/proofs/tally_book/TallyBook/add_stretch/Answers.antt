@@ -13,7 +13,8 @@ invariant_of-self c =
           c.args.stretch.cost index
           before c.add_run.new.tally f.0 (f.1 before)
           (ran_mine c.args.stretch.pid c.args.stretch.time c.args.stretch.cost before _ _
-          (get_or_from_slice_get book.table.rows index before before c.row_mut.ensures.value) (f.1 before) c.add_run.ensures);
+          (get_or_from_slice_get book.table.rows index before before c.row_mut.ensures.value) (f.1 before)
+          c.add_run.ensures);
     }
 
 pub returns-in-Some-clause-tallies : goal.returns-in-Some-clause-tallies
@@ -26,7 +27,8 @@ returns-in-Some-clause-tallies c =
     index
     before c.add_run.new.tally f.0 (f.1 before)
     (ran_mine c.args.stretch.pid c.args.stretch.time c.args.stretch.cost before _ _
-    (get_or_from_slice_get book.table.rows index before before c.row_mut.ensures.value) (f.1 before) c.add_run.ensures)
+    (get_or_from_slice_get book.table.rows index before before c.row_mut.ensures.value) (f.1 before)
+    c.add_run.ensures)
 
 pub returns-in_default-clause-tallies : goal.returns-in_default-clause-tallies
 returns-in_default-clause-tallies c =

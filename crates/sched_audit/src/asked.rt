@@ -17,7 +17,7 @@ use std::thread::{self, Threads};
 const BLOCK: u32 = 1 << 17;
 
 /// The same on several cores: threads begin for each block, and some systems let a new one wait for milliseconds.
-const BLOCK_OF_THREADS: u32 = 4 << 20;
+const BLOCK_OF_THREADS: u32 = 6 << 20;
 
 /// How many events are audited at once there, at most.
 const WINDOW: usize = 1 << 16;

@@ -42,7 +42,8 @@ unfolding time_at fraction_at
 time_by_fraction text seconds rest e = rw e (behind_point seconds (after_text (codes ".") rest))
 
 pub time_stands : (text : List ℕ) (seconds nanoseconds : ℕ) (rest left : List ℕ)
-    → numeral_at text ≡ Some (seconds, rest) → fraction_at rest ≡ Some (nanoseconds, left) → time_at text ≡ Some (seconds, nanoseconds, left)
+    → numeral_at text ≡ Some (seconds, rest) → fraction_at rest ≡ Some (nanoseconds, left)
+    → time_at text ≡ Some (seconds, nanoseconds, left)
 time_stands text seconds nanoseconds rest left whole fraction =
     time_by_fraction text seconds rest whole ∙ ap (λ x. x >>= with_seconds seconds) fraction
 

@@ -27,5 +27,11 @@ returns c = (
       (sym c.has_all_floors.ensures ∙ c.if-not-has_all_floors.false)
       (rw (to_z-of_z w64 c.args.v c.ranges.v) at (c.in-Some.ensures.1 0)) refl refl refl
       (sym c.may_charge_at.ensures ∙ c.if-not-may_charge_at.false) refl,
-  rw (← c.self.view_is, c.push_reserved.ensures.items, c.in_ok-reserve.ensures.items, c.in-Some.ensures.0, to_z-of_z w64 c.args.v c.ranges.v) refl,
+  rw (
+    ← c.self.view_is,
+    c.push_reserved.ensures.items,
+    c.in_ok-reserve.ensures.items,
+    c.in-Some.ensures.0,
+    to_z-of_z w64 c.args.v c.ranges.v,
+  ) refl,
 )

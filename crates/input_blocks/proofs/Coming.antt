@@ -1,16 +1,16 @@
 -- What one read adds: the lines that have ended are passed on, and the input goes on behind them or has ended.
-use Rattle.std.proofs.Common.{◌≡◌, ℕ, suc, ◌+◌, ◌*◌, ◌-◌, ◌^◌, ◌<◌, ◌≤◌, false, List, [], ◌∷◌, ◌++◌, length, take}
-use Rattle.std.proofs.Common.{drop, Option, inl, inr, sym, ap, ◌∙◌, subst, arith, append_assoc, length-append}
+use Rattle.std.proofs.Common.{◌≡◌, ℕ, Bool, suc, ◌+◌, ◌*◌, ◌-◌, ◌^◌, ◌<◌, ◌≤◌, false, true, List, [], ◌∷◌, ◌++◌, length}
+use Rattle.std.proofs.Common.{take, drop, Option, inl, inr, sym, ap, ◌∙◌, subst, arith, append_assoc, length-append}
 use Rattle.std.proofs.KnownBytes.{Consumes-trans}
 use Rattle.std.proofs.Math.Nat.{add-mul, mul-le-mul, one-mul}
 use Rattle.std.proofs.lemmas.Bool.{cases_Bool}
-use Rattle.std.proofs.lemmas.List.{length-take}
+use Rattle.std.proofs.lemmas.List.{append_cancel_left, length-take}
 use Rattle.std.specs.Io.KnownBytes.{Consumes, IsAtEnd}
 use Rattle.text_parts.specs.Lines.{is_line_feed, lines_of, with_front, IsWhole}
 use Rattle.text_parts.proofs.TextLines.{lines_of_end, lines_of_more, lines_of_nil}
 use Rattle.input_blocks.proofs.Holding.{LinesAfterWhole, held_read, held_same}
 use Rattle.input_blocks.proofs.PassedOn.{agrees_at_end, whole_and_whole}
-use Rattle.input_blocks.specs.Blocks.{ComesTo, IsAmid}
+use Rattle.input_blocks.specs.Blocks.{ComesTo, IsAmid, IsThen}
 use Rattle.input_blocks.specs.Held.{IsHeld, PassesOn}
 use Rattle.input_blocks.specs.declared.held.Held.{Held}
 use Rattle.input_blocks.specs.declared.line_blocks.LineBlocks.{LineBlocks}
@@ -114,3 +114,40 @@ module _ {R : Type 0} (reads : R → R → List (List ℕ) → Type 0) (law : Li
             (Consumes-trans gave before after (done ++ amid.line) new_bytes amid.consumed came);
         few = length_fits;
       }
+
+-- ---- several reads, one behind the other
+
+-- lines behind lines that are whole
+lines_behind : LinesAfterWhole → (done one more : List ℕ) → IsWhole done → IsWhole (done ++ one)
+    → lines_of (one ++ more) ≡ lines_of one ++ lines_of more
+lines_behind law done one more whole both =
+    append_cancel_left (lines_of done) (lines_of (one ++ more)) (lines_of one ++ lines_of more)
+    (sym (law done (one ++ more) whole) ∙ ap lines_of (sym (append_assoc done one more)) ∙ law (done ++ one) more both
+    ∙ ap (λ (lines : List (List ℕ)). lines ++ lines_of more) (law done one whole)
+    ∙ append_assoc (lines_of done) (lines_of one) (lines_of more))
+
+-- what two reads come to, where the input goes on behind the first
+pub comes_further : {R : Type 0} (reads : R → R → List (List ℕ) → Type 0) → LinesAfterWhole
+    → ((old mid new : R) (lines more : List (List ℕ)) → reads old mid lines → reads mid new more
+    → reads old new (lines ++ more)) → (old mid new : R) (gave left after : Option (List ℕ)) (blocks next : LineBlocks)
+    (done : List ℕ) (goes_on : Bool) → IsWhole done → (one : ComesTo reads old mid gave left blocks done true)
+    → ComesTo reads mid new gave after next (done ++ one.more) goes_on
+    → ComesTo reads old new gave after next done goes_on
+comes_further reads law reads_on old mid new gave left after blocks next done goes_on whole one two =
+    let same : done ++ (one.more ++ two.more) ≡ (done ++ one.more) ++ two.more
+    = sym (append_assoc done one.more two.more) in
+    record {
+      more = one.more ++ two.more;
+      lines = law done (one.more ++ two.more) whole;
+      read = subst (reads old new) (sym (lines_behind law done one.more two.more whole one.next.whole))
+          (reads_on old mid new (lines_of one.more) (lines_of two.more) one.read two.read);
+      few = subst (λ (bytes : List ℕ). length (lines_of bytes) + 1 < 2 ^ 64) (sym same) two.few;
+      next = subst (λ (bytes : List ℕ). IsThen reads gave after next bytes goes_on) (sym same) two.next;
+    }
+
+-- where the input goes on
+pub comes_amid : {R : Type 0} (reads : R → R → List (List ℕ) → Type 0) (old new : R) (gave left : Option (List ℕ))
+    (blocks : LineBlocks) (done : List ℕ) (goes_on : Bool) → goes_on ≡ true
+    → ComesTo reads old new gave left blocks done goes_on → ComesTo reads old new gave left blocks done true
+comes_amid reads old new gave left blocks done goes_on is comes =
+    subst (λ (on : Bool). ComesTo reads old new gave left blocks done on) is comes

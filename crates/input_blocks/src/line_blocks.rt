@@ -82,6 +82,42 @@ impl LineBlocks {
         Ok(true)
     }
 
+    /// Reads so many times, one at least, while the input goes on, and passes the lines that have ended on to the
+    /// reader each time, as `next` does. Says whether the input goes on.
+    pub fn next_some<F: Feed, L: LineReader>(
+        &mut self,
+        feed: &mut F,
+        reader: &mut L,
+        most: u32,
+        fault: Fault,
+    ) -> Result<bool, Fault>
+        requires unended { F.has_ended feed.old ≡ false }
+        requires counted { F.calls feed.old ≡ self.old.reads }
+        ensures passed { (gave : Option (List ℕ)) (done : List ℕ)
+            → IsAmid L.reads gave (F.left feed.old) self.old done
+            → IfOk result (λ goes_on. ComesTo L.reads reader.old reader.new gave (F.left feed.new) self.new done
+            goes_on) }
+        ensures end { IfOk result (λ goes_on. goes_on ≡ false → IsAtEnd (F.left feed.new)) }
+        ensures ended { IfOk result (λ goes_on. F.has_ended feed.new ≡ not goes_on) }
+        ensures counted { OnOk result (F.calls feed.new ≡ self.new.reads) }
+        ensures read_on { OnOk result (self.old.reads < self.new.reads) }
+        ensures no_more { OnOk result (0 < most → self.new.reads ≤ self.old.reads + most) }
+        ensures so_many { IfOk result (λ goes_on. goes_on ≡ true → self.old.reads + most ≤ self.new.reads) }
+        ensures bounded { F.calls feed.new ≤ most_reads }
+        ensures heard { OnOk result (F.has_failed feed.new ≡ F.has_failed feed.old) }
+        ensures cut_short { IfErr result (λ e. ((e ≡ Fault.Memory) × (F.has_failed feed.new ≡ F.has_failed feed.old))
+            ⊎ ((e ≡ fault) × IsCutShort (F.has_failed feed.new) (F.calls feed.new))) }
+    {
+        lines_after_whole();
+        let mut goes_on = self.next(feed, reader, fault)?;
+        let mut left = most;
+        while goes_on && left > 1 {
+            goes_on = self.next(feed, reader, fault)?;
+            left -= 1;
+        }
+        Ok(goes_on)
+    }
+
     /// Reads to the end, and lets go what comes. Where a read fails, or the most reads don't reach the end, this fault.
     pub fn drain<F: Feed>(&mut self, feed: &mut F, fault: Fault) -> Result<(), Fault>
         requires unended { F.has_ended feed.old ≡ false }

@@ -5,7 +5,9 @@
 mod audit;
 mod member;
 mod members;
+mod starting;
 mod whole;
 
 pub use audit::WindowAudit;
+pub use starting::first_of_threads;
 pub use whole::audit_in_windows;

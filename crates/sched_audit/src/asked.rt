@@ -13,11 +13,12 @@ use std::random::RandomSource;
 use std::sync::Wait;
 use std::thread::{self, Threads};
 
-/// How many bytes a read of an input asks for on one core, where both are read at once.
+/// How many bytes a read of an input asks for, where both are read at once: so few that they stay in a core's
+/// second-level cache until their lines are read.
 const BLOCK: u32 = 1 << 17;
 
-/// The same on several cores: threads begin for each block, and some systems let a new one wait for milliseconds.
-const BLOCK_OF_THREADS: u32 = 6 << 20;
+/// How many reads of the trace are audited together on several cores: threads begin for them.
+const READS_OF_THREADS: u32 = 48;
 
 /// How many events are audited at once there, at most.
 const WINDOW: usize = 1 << 16;
@@ -66,8 +67,9 @@ pub fn run_request<R: RandomSource + Threads + Wait + Sync, T: Feed, C: Feed, S:
 
 /// How much of a recording is looked at at once where both inputs are read a block at a time.
 pub fn block_sizes<R: Threads>(rt: &R) -> Sizes {
+    let sizes = Sizes::new(BLOCK, WINDOW);
     match thread::available_parallelism(rt) {
-        Ok(cores) if cores.get() > 1 => Sizes::new(BLOCK_OF_THREADS, WINDOW),
-        _ => Sizes::new(BLOCK, WINDOW).in_turn(),
+        Ok(cores) if cores.get() > 1 => sizes.by_reads(READS_OF_THREADS),
+        _ => sizes.in_turn(),
     }
 }

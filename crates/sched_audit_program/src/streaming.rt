@@ -37,12 +37,12 @@ pub(crate) fn answer_explained<R: Files + Print + Eprint + RandomSource + Thread
 /// is kept for that, and of what can't be opened a second time three reads.
 fn sizes_of<R: Threads, F>(rt: &R, trace: &Input<F>) -> Sizes {
     let sizes = block_sizes(rt);
-    let block = if trace.is_regular() {
-        sizes.block() / 10 * 9
-    } else {
-        sizes.block() / 3
-    };
-    sizes.with_block(block.max(1))
+    if trace.is_regular() {
+        return sizes.by_reads(sizes.reads().saturating_sub(sizes.reads() / 10));
+    }
+    // Three reads are three of what is audited together.
+    let together = sizes.block().saturating_mul(sizes.reads());
+    sizes.with_block((together / 3).max(1)).by_reads(1)
 }
 
 /// The same, of inputs of which nothing was read.

@@ -7,8 +7,8 @@ use std::random::RandomSource;
 use std::rt::Files;
 use std::thread::Threads;
 
-/// Runs the audit that reads both inputs at once, by how many bytes a read asks for, how many events a window has, and
-/// then the words of a command line of `sched_audit`; and prints its report.
+/// Runs the audit that reads both inputs at once, by how many bytes a read asks for and how many reads are audited
+/// together, how many events a window has, and then the words of a command line of `sched_audit`. Prints its report.
 pub fn print_in_blocks<R: AllocGlobal + Files + Print + RandomSource + Threads + Sync>(
     rt: &R,
     block: &str,
@@ -36,10 +36,18 @@ pub fn print_in_blocks<R: AllocGlobal + Files + Print + RandomSource + Threads +
     }))
 }
 
-/// The sizes that two words say, each at least one.
+/// The sizes that two words say, each at least one. Behind the bytes of a read may stand an `x` and how many reads are
+/// audited together.
 pub fn sizes_of(block: &str, window: &str) -> Option<Sizes> {
-    match (block.parse::<u32>(), window.parse::<usize>()) {
-        (Ok(block), Ok(window)) => Some(Sizes::new(block.max(1), window.max(1))),
+    let (bytes, reads) = block.split_once('x').unwrap_or((block, "1"));
+    match (
+        bytes.parse::<u32>(),
+        reads.parse::<u32>(),
+        window.parse::<usize>(),
+    ) {
+        (Ok(bytes), Ok(reads), Ok(window)) => {
+            Some(Sizes::new(bytes.max(1), window.max(1)).by_reads(reads))
+        }
         _ => None,
     }
 }

@@ -2,6 +2,7 @@
 -- lines may say, so that no line is bad.
 use Rattle.std.proofs.Common.{◌≡◌, ℕ, true, List, [], Option, Some, None, refl, sym, subst, ◌∙◌}
 use Rattle.std.specs.Prelude.{MatchOption, IsNone}
+use Rattle.cfs_model.specs.Claimed.{Claimed}
 use Rattle.cfs_model.specs.Knobs.{KnobsView}
 use Rattle.cfs_model.specs.declared.act.Entry.{Entry}
 use Rattle.cfs_model.specs.declared.charge_line.ChargeLine.{ChargeLine}
@@ -14,11 +15,12 @@ use Rattle.companion_file.specs.Reader.{AreCountable, with_all_said}
 use Rattle.companion_file.specs.declared.bad_line.BadLine.{BadLine}
 use Rattle.companion_file.specs.declared.companion_reader.CompanionReader.{CompanionReader}
 use Rattle.text_parts.specs.Lines.{lines_of}
-use Rattle.stream_audit.specs.Course.{AreAllEvents, IsAmidAudit, IsCourseOf, IsWholeCourse}
+use Rattle.stream_audit.specs.Course.{AreAllEvents, IsAmidJoining, IsCourseOf, IsWholeCourse}
 use Rattle.stream_audit.specs.Joined.{IsLast}
 use Rattle.stream_audit.specs.declared.companion_input.CompanionInput.{CompanionInput}
 use Rattle.stream_audit.specs.declared.course.Course.{Course}
-use Rattle.stream_audit.specs.declared.joined_audit.JoinedAudit.{JoinedAudit}
+use Rattle.stream_audit.specs.declared.joined_events.JoinedEvents.{JoinedEvents}
+use Rattle.stream_audit.specs.declared.judge.Judge.{Judge}
 use Rattle.stream_audit.proofs.Going.{amid_of, asks_for}
 
 -- ---- the end
@@ -33,14 +35,15 @@ good_by (Some b) lines count held said edge read all = let wrong = all (summed [
 
 -- this is all, and the audit comes to an end
 pub comes_last : (knobs : KnobsView) (gave left : Option (List ℕ)) (course : Course) (said : Said)
-    (events : List Entry) (audit : JoinedAudit) → IsCourseOf knobs gave left course said events → AreAllEvents events
-    → IsNone course.companion.reader.bad → (amid : IsAmidAudit knobs course said events audit)
-    → IsLast (with_all_said amid.start said) events course.companion.reader.draft.claims
-    course.companion.reader.draft.nices course.companion.reader.draft.charges audit
-comes_last knobs gave left course said events audit so all none amid =
-    let asks = asks_for knobs gave left course said events audit so none amid in
+    (events : List Entry) (handed : List Claimed) (joined : JoinedEvents)
+    → IsCourseOf knobs gave left course said events handed → AreAllEvents events
+    → IsNone course.companion.reader.bad → (amid : IsAmidJoining course said events handed joined)
+    → IsLast (with_all_said amid.start said) events handed course.companion.reader.draft.claims
+    course.companion.reader.draft.nices course.companion.reader.draft.charges joined
+comes_last knobs gave left course said events handed joined so all none amid =
+    let asks = asks_for knobs gave left course said events handed joined so none amid in
     record {
-      so_far = asks.so_far;
+      so_far = amid.so_far;
       companion = asks.companion;
       trace = all.in_order;
       few = all.few;
@@ -50,16 +53,16 @@ comes_last knobs gave left course said events audit so all none amid =
       last_fits = all.last_fits;
     }
 
--- what is known at the end of a course whose audit has begun
-pub record EndsSo (knobs : KnobsView) (course : Course) (text : List ℕ) (events : List Entry) (audit : JoinedAudit)
-    : Type 0
+-- what is known at the end of a course in which joining has begun
+pub record EndsSo (course : Course) (text : List ℕ) (events : List Entry) (handed : List Claimed)
+    (joined : JoinedEvents) : Type 0
   where
     pub start : CompanionView
     pub said : Said
-    pub last : IsLast (with_all_said start said) events course.companion.reader.draft.claims
-        course.companion.reader.draft.nices course.companion.reader.draft.charges audit
+    pub last : IsLast (with_all_said start said) events handed course.companion.reader.draft.claims
+        course.companion.reader.draft.nices course.companion.reader.draft.charges joined
     pub answer : IsRead (lines_of text) (with_all_said start said)
-    pub settings : audit.knobs ≡ knobs
+    pub good : IsNone course.companion.reader.bad
 
 -- what its reader tells of the lines, whatever they may say
 abbrev pub ClosesWell : CompanionReader → Type 0
@@ -67,43 +70,45 @@ ClosesWell reader = (lines : List (List ℕ)) (said : Said) (edge : ℕ) → Has
     → AreCountable lines → (has_all_floors said ≡ true)
     × ((start : CompanionView) → IsStartOf said start → IsRead lines (with_all_said start said))
 
-pub ends_good : (knobs : KnobsView) (course : Course) (text : List ℕ) (events : List Entry)
-    → IsWholeCourse knobs course text events → ClosesWell course.companion.reader → IsNone course.companion.reader.bad
-ends_good knobs course text events w closed =
+pub ends_good : (knobs : KnobsView) (course : Course) (text : List ℕ) (events : List Entry) (judge : Option Judge)
+    → IsWholeCourse knobs course text events judge → ClosesWell course.companion.reader
+    → IsNone course.companion.reader.bad
+ends_good knobs course text events judge w closed =
     let reader = course.companion.reader in
     let at = w.so_far.stands in
     good_by reader.bad (lines_of at.done) reader.count reader.draft w.said w.so_far.edge at.read
     (λ said read. (closed (lines_of at.done) said w.so_far.edge read at.few).0)
 
-pub ends_so : (knobs : KnobsView) (first course : Course) (text : List ℕ) (events : List Entry) (audit : JoinedAudit)
-    (w : IsWholeCourse knobs first text events) → ClosesWell first.companion.reader
-    → IsCourseOf knobs w.gave w.left course w.said events → course.companion ≡ first.companion
-    → course.audit ≡ Some audit → EndsSo knobs course text events audit
-ends_so knobs first course text events audit w closed so same is =
+pub ends_so : (knobs : KnobsView) (first course : Course) (text : List ℕ) (events : List Entry) (judge : Option Judge)
+    (joined : JoinedEvents) (w : IsWholeCourse knobs first text events judge) → ClosesWell first.companion.reader
+    → IsCourseOf knobs w.gave w.left course w.said events w.handed → course.companion ≡ first.companion
+    → course.joined ≡ Some joined → EndsSo course text events w.handed joined
+ends_so knobs first course text events judge joined w closed so same is =
     let at = w.so_far.stands in
     let lines = lines_of at.done in
-    let good = ends_good knobs first text events w closed in
+    let good = ends_good knobs first text events judge w closed in
     let none = subst (λ (input : CompanionInput). IsNone input.reader.bad) (sym same) good in
-    let amid = amid_of knobs w.gave w.left course w.said events audit so none is in
+    let amid = amid_of knobs w.gave w.left course w.said events w.handed joined so none is in
     record {
       start = amid.start;
       said = w.said;
-      last = comes_last knobs w.gave w.left course w.said events audit so w.all none amid;
+      last = comes_last knobs w.gave w.left course w.said events w.handed joined so w.all none amid;
       answer = subst (λ (bytes : List ℕ). IsRead (lines_of bytes) (with_all_said amid.start w.said)) w.is_text
           ((closed lines w.said w.so_far.edge at.read at.few).1 amid.start amid.starts);
-      settings = amid.so_far.settings;
+      good = none;
     }
 
 -- its audit has begun
-pub ends_begun : (knobs : KnobsView) (course : Course) (text : List ℕ) (events : List Entry)
-    (w : IsWholeCourse knobs course text events) → ClosesWell course.companion.reader → ¬ HasNoStart w.said
-ends_begun knobs course text events w closed no_start =
+pub ends_begun : (knobs : KnobsView) (course : Course) (text : List ℕ) (events : List Entry) (judge : Option Judge)
+    (w : IsWholeCourse knobs course text events judge) → ClosesWell course.companion.reader → ¬ HasNoStart w.said
+ends_begun knobs course text events judge w closed no_start =
     let at = w.so_far.stands in
     let whole = (closed (lines_of at.done) w.said w.so_far.edge at.read at.few).0 in
     let wrong = sym whole ∙ no_start.missing in absurd cc
 
-pub last_as : (c : CompanionView) (events : List Entry) (audit : JoinedAudit) (claims as_claims : List Claim)
+pub last_as : (c : CompanionView) (events : List Entry) (handed : List Claimed) (joined : JoinedEvents)
+    (claims as_claims : List Claim)
     (nices as_nices : List NiceLine) (charges as_charges : List ChargeLine) → as_claims ≡ claims → as_nices ≡ nices
-    → as_charges ≡ charges → IsLast c events claims nices charges audit
-    → IsLast c events as_claims as_nices as_charges audit
-last_as c events audit claims as_claims nices as_nices charges as_charges e f g last = rw (e, f, g) last
+    → as_charges ≡ charges → IsLast c events handed claims nices charges joined
+    → IsLast c events handed as_claims as_nices as_charges joined
+last_as c events handed joined claims as_claims nices as_nices charges as_charges e f g last = rw (e, f, g) last

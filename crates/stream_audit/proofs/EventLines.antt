@@ -1,5 +1,6 @@
 -- Events in order, the line of the last of them, and windows of them one after another.
-use Rattle.std.proofs.Common.{◌≡◌, ◌≢◌, ℕ, suc, ◌+◌, ◌-◌, ◌<◌, ◌≤◌, List, [], ◌∷◌, ◌++◌, length, get_or, take, drop}
+use Rattle.std.proofs.Common.{◌≡◌, ◌≢◌, ℕ, zero, suc, ◌+◌, ◌-◌, ◌<◌, ◌≤◌, List, [], ◌∷◌, ◌++◌}
+use Rattle.std.proofs.Common.{length, get_or, take, drop}
 use Rattle.std.proofs.Common.{refl, sym, ap, subst, ◌∙◌, append_assoc, length-append, arith, take-add}
 use Rattle.std.specs.Prelude.{All, AllPairs}
 use Rattle.std.proofs.lemmas.List.{get_or_append_left, take-append-drop}
@@ -126,3 +127,40 @@ window_below before events from count next =
     let all = ap edge_of parts in
     let window = ap edge_of (with_window before events from count) in
     omega (arith, up, all, window)
+
+-- ---- the first of some events, and the others
+
+pub first_next : (before events : List Entry) (n : ℕ) → AreEventsNext before events
+    → AreEventsNext before (take n events)
+first_next before events n next =
+    next_front before (take n events) (drop n events)
+    (subst (AreEventsNext before) (sym (take-append-drop n events)) next)
+
+pub rest_next : (before events : List Entry) (n : ℕ) → AreEventsNext before events
+    → AreEventsNext (before ++ take n events) (drop n events)
+rest_next before events n next =
+    next_rest before (take n events) (drop n events)
+    (subst (AreEventsNext before) (sym (take-append-drop n events)) next)
+
+-- together they are all
+pub both_parts : (before events : List Entry) (n : ℕ) → (before ++ take n events) ++ drop n events ≡ before ++ events
+both_parts before events n =
+    append_assoc before (take n events) (drop n events) ∙ ap (λ xs. before ++ xs) (take-append-drop n events)
+
+pub first_below : (before events : List Entry) (n : ℕ) → AreEventsNext before events
+    → edge_of (before ++ take n events) ≤ edge_of (before ++ events)
+first_below before events n next =
+    let parts = both_parts before events n in
+    let up = edge_rises (before ++ take n events) (drop n events) (subst AreInOrder (sym parts) next.in_order) in
+    let all = ap edge_of parts in omega (arith, up, all)
+
+-- where there are some the first of them are some
+pub first_some : (events : List Entry) (n : ℕ) → 0 < n → 0 < length events → take n events ≢ []
+first_some [] n some there = absurd (omega (arith, there))
+first_some (event ∷ events) zero some there = absurd (omega (arith, some))
+first_some (event ∷ events) (suc n) some there = λ e. cc
+
+pub rest_some : (events : List Entry) (n : ℕ) → 0 < length (drop n events) → 0 < length events
+rest_some [] zero some = some
+rest_some [] (suc n) some = some
+rest_some (event ∷ events) n some = omega arith

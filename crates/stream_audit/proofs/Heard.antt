@@ -1,12 +1,13 @@
 -- What a trace and a companion come to that were heard to their ends.
-use Rattle.std.proofs.Common.{◌≡◌, ℕ, Bool, true, false, not, List, [], ◌++◌, Option, Some, None}
-use Rattle.std.proofs.Common.{Result, Ok, Err, MatchOption, refl, sym, ap, subst, arith, append-nil}
+use Rattle.std.proofs.Common.{◌≡◌, ◌<◌, ℕ, Bool, true, false, not, List, [], ◌++◌, length, take, drop}
+use Rattle.std.proofs.Common.{Option, Some, None, Result, Ok, Err, MatchOption, refl, sym, ap, subst, arith, append-nil}
 use Rattle.std.proofs.Common.{◌∙◌}
 use Rattle.std.specs.Prelude.{IsNone, is_none}
 use Rattle.std.specs.Io.KnownBytes.{IsAtEnd}
 use Rattle.audit_input.specs.Known.{Agrees}
 use Rattle.audit_input.specs.Refusals.{companion_refusal, join_refusal, trace_refusal}
 use Rattle.audit_input.specs.Texts.{TellsCharges}
+use Rattle.cfs_model.specs.Claimed.{Claimed}
 use Rattle.cfs_model.specs.Knobs.{KnobsView}
 use Rattle.cfs_model.specs.declared.act.Entry.{Entry}
 use Rattle.companion_file.specs.declared.fault.CompanionFault.{CompanionFault}
@@ -27,14 +28,19 @@ use Rattle.sched_record.specs.declared.cause.TraceFault.TheVariants as trace_fau
 use Rattle.sched_record.specs.declared.joining.JoinFault.{JoinFault}
 use Rattle.ticket_book.specs.declared.verdict.Verdict.{Verdict}
 use Rattle.text_parts.specs.Lines.{lines_of}
-use Rattle.stream_audit.specs.Course.{AreAllEvents, AreEventsNext, CourseGoesOn, IsAmidAudit, IsClosingOf, IsCourseOf}
-use Rattle.stream_audit.specs.Course.{IsNotBegun, IsReadyFor, IsWholeCourse}
-use Rattle.stream_audit.specs.Hearing.{AreBothDone, IsHeard, IsHearingOf, IsOutcome, IsReady, IsRefusalOf}
+use Rattle.window_joining.specs.Joining.{edge_of}
+use Rattle.stream_audit.proofs.EventLines.{both_parts, rest_next}
+use Rattle.stream_audit.specs.Companion.{IsPast}
+use Rattle.stream_audit.specs.Course.{AreAllEvents, AreEventsNext, CourseGoesOn, IsClosingOf, IsCourseOf, IsIdle}
+use Rattle.stream_audit.specs.Course.{IsReadyFor, IsWholeCourse}
+use Rattle.stream_audit.specs.Hearing.{AreBothDone, IsHeard, IsHeardBy, IsHearingOf, IsOutcome, IsReady, IsRefusalOf}
+use Rattle.stream_audit.specs.declared.companion_input.CompanionInput.{CompanionInput}
 use Rattle.stream_audit.specs.declared.course.Closing.TheVariants as closings
 use Rattle.stream_audit.specs.declared.course.Course.{Course}
 use Rattle.stream_audit.specs.declared.ending.Ending.TheVariants as endings
 use Rattle.stream_audit.specs.declared.hearing.Hearing.{Hearing}
 use Rattle.stream_audit.specs.declared.hearing.StreamOutcome.TheVariants as outcomes
+use Rattle.stream_audit.specs.declared.judge.Judge.{Judge}
 
 -- ---- the trace's events
 
@@ -91,13 +97,13 @@ all_events reader lines events none is =
       last_fits = reader.last_fits;
     }
 
-module _ (one : OneTrace) (trace : EntryReader) (course : Course) (bytes text : List ℕ)
-    (both : AreBothDone trace course bytes text)
+module _ (one : OneTrace) (trace : EntryReader) (course : Course) (judge : Option Judge) (bytes text : List ℕ)
+    (both : AreBothDone trace course judge bytes text)
     (ends : EndsSo (Ok tt) (lines_of bytes) (both.events ++ entries_of trace)) where
   good : IsNone trace.bad
   good = none_bad one bytes (both.events ++ entries_of trace) both.events trace trace.bad ends both.has_read
 
-  pub whole_course : IsWholeCourse course.knobs course text both.events
+  pub whole_course : IsWholeCourse course.knobs course text both.events judge
   whole_course = both.joined good
 
   pub trace_told : TraceAnswer bytes (Ok both.events)
@@ -145,10 +151,10 @@ judged knobs bytes text events verdict are closing = (
 -- ---- more is read of the trace
 
 pub heard_on : (knobs : KnobsView) (gave left : Option (List ℕ)) (bytes more : List ℕ) (old new : EntryReader)
-    (course : Course) → lines_of (bytes ++ more) ≡ lines_of bytes ++ lines_of more
-    → ReadsEntries old new (lines_of more) → IsHeard knobs gave left bytes old course
-    → IsHeard knobs gave left (bytes ++ more) new course
-heard_on knobs gave left bytes more old new course lines read heard = record {
+    (course : Course) (handed : List Claimed) → lines_of (bytes ++ more) ≡ lines_of bytes ++ lines_of more
+    → ReadsEntries old new (lines_of more) → IsHeardBy knobs gave left bytes old course handed
+    → IsHeardBy knobs gave left (bytes ++ more) new course handed
+heard_on knobs gave left bytes more old new course handed lines read heard = record {
   events = heard.events;
   has_read = subst (λ (ls : List (List ℕ)). HasReadOut new ls heard.events) (sym lines)
       (read (lines_of bytes) heard.events heard.has_read);
@@ -168,48 +174,92 @@ bad_by reader told is off none =
     cc
 
 pub course_there : (knobs : KnobsView) (gave left : Option (List ℕ)) (bytes : List ℕ) (reader : EntryReader)
-    (course : Course) (heard : IsHeard knobs gave left bytes reader course)
-    → IsCourseOf course.knobs gave left course heard.said heard.events
-course_there knobs gave left bytes reader course heard =
-    subst (λ (k : KnobsView). IsCourseOf k gave left course heard.said heard.events) (sym heard.so_far.settings)
+    (course : Course) (handed : List Claimed) (heard : IsHeardBy knobs gave left bytes reader course handed)
+    → IsCourseOf course.knobs gave left course heard.said heard.events handed
+course_there knobs gave left bytes reader course handed heard =
+    subst (λ (k : KnobsView). IsCourseOf k gave left course heard.said heard.events handed) (sym heard.so_far.settings)
     heard.so_far
 
 pub ready_of : (knobs own : KnobsView) (gave left : Option (List ℕ)) (bytes : List ℕ) (reader : EntryReader)
-    (course : Course) (before events : List Entry) → own ≡ knobs → HasReadOut reader (lines_of bytes) (before ++ events)
-    → IsReadyFor own gave left course before events → IsReady knobs gave left bytes reader course events
-ready_of knobs own gave left bytes reader course before events same read ready = record {
+    (course : Course) (before : List Entry) (handed : List Claimed) (events : List Entry) → own ≡ knobs
+    → HasReadOut reader (lines_of bytes) (before ++ events)
+    → IsReadyFor own gave left course before handed events → IsReady knobs gave left bytes reader course handed events
+ready_of knobs own gave left bytes reader course before handed events same read ready = record {
   before = before;
   has_read = read;
   ready = record {
     said = ready.said;
-    so_far = subst (λ (k : KnobsView). IsCourseOf k gave left course ready.said before) same ready.so_far;
+    so_far = subst (λ (k : KnobsView). IsCourseOf k gave left course ready.said before handed) same ready.so_far;
     next = ready.next;
     past = ready.past;
   };
 }
 
 -- a course that is ready for them, by its own settings
-pub ready_there : (knobs : KnobsView) (gave left : Option (List ℕ)) (bytes : List ℕ) (reader : EntryReader)
-    (course : Course) (events : List Entry) (ready : IsReady knobs gave left bytes reader course events)
-    → IsReadyFor course.knobs gave left course ready.before events
-ready_there knobs gave left bytes reader course events ready = record {
+unfoldable pub ready_there : (knobs : KnobsView) (gave left : Option (List ℕ)) (bytes : List ℕ) (reader : EntryReader)
+    (course : Course) (handed : List Claimed) (events : List Entry)
+    (ready : IsReady knobs gave left bytes reader course handed events)
+    → IsReadyFor course.knobs gave left course ready.before handed events
+ready_there knobs gave left bytes reader course handed events ready = record {
   said = ready.ready.said;
-  so_far = subst (λ (k : KnobsView). IsCourseOf k gave left course ready.ready.said ready.before)
+  so_far = subst (λ (k : KnobsView). IsCourseOf k gave left course ready.ready.said ready.before handed)
       (sym ready.ready.so_far.settings) ready.ready.so_far;
   next = ready.ready.next;
   past = ready.ready.past;
 }
 
+-- and it joined the first of them: it is ready for the others
+pub ready_rest : (knobs : KnobsView) (gave left : Option (List ℕ)) (bytes : List ℕ) (reader : EntryReader)
+    (course later : Course) (handed : List Claimed) (events : List Entry) (n : ℕ)
+    (ready : IsReady knobs gave left bytes reader course handed events) → 0 < length events
+    → IsCourseOf course.knobs gave left later ready.ready.said (ready.before ++ take n events) handed
+    → IsPast (edge_of (ready.before ++ events)) ready.ready.said later.companion
+    → IsReady knobs gave left bytes reader later handed (drop n events)
+ready_rest knobs gave left bytes reader course later handed events n ready some went past =
+    let same = both_parts ready.before events n in
+    record {
+      before = ready.before ++ take n events;
+      has_read = subst (HasReadOut reader (lines_of bytes)) (sym same) ready.has_read;
+      ready = record {
+        said = ready.ready.said;
+        so_far = subst (λ (k : KnobsView). IsCourseOf k gave left later ready.ready.said
+            (ready.before ++ take n events) handed) ready.ready.so_far.settings went;
+        next = λ more. rest_next ready.before events n (ready.ready.next some);
+        past = λ more. subst (λ (es : List Entry). IsPast (edge_of es) ready.ready.said later.companion) (sym same)
+            past;
+      };
+    }
+
+-- what was joined is handed on
+pub ready_on : (knobs : KnobsView) (gave left : Option (List ℕ)) (bytes : List ℕ) (reader : EntryReader)
+    (course later : Course) (handed after : List Claimed) (events : List Entry)
+    (ready : IsReady knobs gave left bytes reader course handed events) → later.companion ≡ course.companion
+    → IsCourseOf course.knobs gave left later ready.ready.said ready.before after
+    → IsReady knobs gave left bytes reader later after events
+ready_on knobs gave left bytes reader course later handed after events ready same went = record {
+  before = ready.before;
+  has_read = ready.has_read;
+  ready = record {
+    said = ready.ready.said;
+    so_far = subst (λ (k : KnobsView). IsCourseOf k gave left later ready.ready.said ready.before after)
+        ready.ready.so_far.settings went;
+    next = ready.ready.next;
+    past = λ some. subst (λ (input : CompanionInput). IsPast (edge_of (ready.before ++ events)) ready.ready.said input)
+        (sym same) (ready.ready.past some);
+  };
+}
+
 -- and it went through them
 pub gone_through : (knobs : KnobsView) (gave left : Option (List ℕ)) (bytes : List ℕ) (reader : EntryReader)
-    (course later : Course) (events : List Entry) (ready : IsReady knobs gave left bytes reader course events)
-    → CourseGoesOn course.knobs gave left later (ready.before ++ events)
-    → IsHeard knobs gave left bytes reader later
-gone_through knobs gave left bytes reader course later events ready went = record {
+    (course later : Course) (handed : List Claimed) (events : List Entry) (after : List Claimed)
+    (ready : IsReady knobs gave left bytes reader course handed events)
+    → CourseGoesOn course.knobs gave left later (ready.before ++ events) after
+    → IsHeardBy knobs gave left bytes reader later after
+gone_through knobs gave left bytes reader course later handed events after ready went = record {
   events = ready.before ++ events;
   has_read = ready.has_read;
   said = went.0;
-  so_far = subst (λ (k : KnobsView). IsCourseOf k gave left later went.0 (ready.before ++ events))
+  so_far = subst (λ (k : KnobsView). IsCourseOf k gave left later went.0 (ready.before ++ events) after)
       ready.ready.so_far.settings went.1;
 }
 
@@ -225,8 +275,12 @@ pub all_that_came : {R : Type 0} (reads : R → R → List (List ℕ) → Type 0
 all_that_came reads gave left blocks done false ended stands = stands
 all_that_came reads gave left blocks done true ended stands = absurd cc
 
-module _ (knobs : KnobsView) (gave left : Option (List ℕ)) (trace : EntryReader) (course : Course) (bytes : List ℕ)
-    (heard : IsHeard knobs gave left bytes trace course) (ended : course.companion.goes_on ≡ false) where
+module _ (knobs : KnobsView) (gave left : Option (List ℕ)) (trace : EntryReader) (course : Course)
+    (judge : Option Judge) (bytes : List ℕ) (all : IsHeard knobs gave left bytes trace course judge)
+    (ended : course.companion.goes_on ≡ false) where
+  abbrev heard : IsHeardBy knobs gave left bytes trace course all.handed
+  heard = all.by
+
   -- the companion is this
   abbrev pub text_of : List ℕ
   text_of = heard.so_far.stands.done
@@ -235,23 +289,25 @@ module _ (knobs : KnobsView) (gave left : Option (List ℕ)) (trace : EntryReade
   text_whole = all_that_came ReadsCompanion gave left course.companion.blocks heard.so_far.stands.done
       course.companion.goes_on ended heard.so_far.stands.stands
 
-  whole_of : entries_of trace ≡ [] → IsReadOut trace (lines_of bytes) heard.events
-      → IsWholeCourse course.knobs course text_of heard.events
-  whole_of none is =
+  whole_of : entries_of trace ≡ [] → IsIdle judge → IsReadOut trace (lines_of bytes) heard.events
+      → IsWholeCourse course.knobs course text_of heard.events judge
+  whole_of none idle is =
       let so_far = heard.so_far in
       record {
         gave = gave;
         left = left;
         said = heard.said;
+        handed = all.handed;
         so_far = record {
           settings = refl;
           edge = so_far.edge;
           passed = so_far.passed;
           stands = so_far.stands;
-          audited = subst (λ (k : KnobsView). IsNone course.companion.reader.bad
-              → MatchOption course.audit (IsNotBegun course heard.said heard.events)
-              (λ audit. IsAmidAudit k course heard.said heard.events audit)) (sym so_far.settings) so_far.audited;
+          audited = so_far.audited;
         };
+        judged = all.judged;
+        handed_on = all.handed_on;
+        idle = idle;
         is_text = refl;
         ended = ended;
         all = all_events trace (lines_of bytes) heard.events none is;
@@ -260,13 +316,14 @@ module _ (knobs : KnobsView) (gave left : Option (List ℕ)) (trace : EntryReade
   pub none_left : IsAtEnd left
   none_left = heard.so_far.stands.at_end ended
 
-  pub both_done : (IsNone trace.bad → entries_of trace ≡ []) → AreBothDone trace course bytes text_of
-  both_done taken = record {
+  pub both_done : (IsNone trace.bad → entries_of trace ≡ []) → IsIdle judge
+      → AreBothDone trace course judge bytes text_of
+  both_done taken idle = record {
     events = heard.events;
     has_read = heard.has_read;
     taken = taken;
     done = (ended, (heard.said, heard.so_far.edge, heard.so_far.stands.read, heard.so_far.stands.few));
-    joined = λ good. whole_of (taken good) (read_out trace (lines_of bytes) heard.events good heard.has_read);
+    joined = λ good. whole_of (taken good) idle (read_out trace (lines_of bytes) heard.events good heard.has_read);
   }
 
   pub hearing_is : (whole : Option (List ℕ)) (hearing : Hearing) → Agrees whole bytes

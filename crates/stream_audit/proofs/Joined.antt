@@ -1,5 +1,5 @@
--- What was joined so far is audited so far: the window's events are those that come behind the ones before.
-use Rattle.std.proofs.Common.{◌≡◌, ◌≢◌, ℕ, zero, suc, ◌+◌, ◌<◌, ◌≤◌, Bool, true, false, ℤ, List, [], ◌∷◌, ◌++◌}
+-- What was joined so far: the window's events are those that come behind what was handed on.
+use Rattle.std.proofs.Common.{◌≡◌, ℕ, zero, suc, ◌+◌, ◌<◌, ◌≤◌, Bool, true, false, ℤ, List, [], ◌∷◌, ◌++◌}
 use Rattle.std.proofs.Common.{length, get_or, take, All, AllPairs, Option, None, IsSome, refl, sym, ap, ◌∙◌, subst}
 use Rattle.std.proofs.Common.{arith}
 use Rattle.std.proofs.Common.{suc-le-suc, append-nil, append_assoc, length-append}
@@ -18,16 +18,21 @@ use Rattle.companion_file.specs.Order.{IsCompanionInOrder}
 use Rattle.replay_model.specs.Record.{IsRecord}
 use Rattle.sched_record.specs.Join.{joined_record}
 use Rattle.sched_record.specs.Kept.{AreInOrder}
+use Rattle.sched_record.specs.Record.{RecordView}
 use Rattle.sched_record.specs.declared.joining.JoinFault.{JoinFault}
 use Rattle.ticket_book.specs.SaidEvents.{events_of}
+use Rattle.companion_file.specs.Seen.{companion_view}
+use Rattle.sched_record.specs.Window.{window_view}
 use Rattle.window_audit.specs.Audit.{Beginning}
 use Rattle.window_audit.specs.Whole.{beginning_of}
-use Rattle.window_joining.specs.Joining.{GoTogetherSoFar, HasJoined, IsHeadOf, IsHeld, IsRestOf, StandBehind, edge_from}
-use Rattle.window_joining.specs.Joining.{edge_of, is_refused}
+use Rattle.window_joining.specs.Joining.{GoTogetherSoFar, IsHeadOf, IsHeld, IsRestOf, StandBehind, edge_from}
+use Rattle.window_joining.specs.Joining.{edge_of}
 use Rattle.stream_laws.proofs.Prefix.{few_events, record_so_far, same_count, times_stay_below}
-use Rattle.stream_audit.specs.Joined.{AreJoined, AreNext, Comes, IsLast}
+use Rattle.stream_audit.specs.Joined.{AreJoinedSoFar, Comes, IsLast}
+use Rattle.stream_audit.specs.Judge.{IsAllOf, IsAwaiting, begun}
 use Rattle.stream_audit.specs.Progress.{IsEnd, IsKnownOf, IsNext}
-use Rattle.stream_audit.specs.declared.joined_audit.JoinedAudit.{JoinedAudit}
+use Rattle.stream_audit.specs.declared.joined_events.JoinedEvents.{JoinedEvents}
+use Rattle.stream_audit.specs.declared.judge.Judge.{Judge}
 use Rattle.stream_audit.specs.declared.progress.Progress.{Progress}
 
 -- ---- rising lists
@@ -124,54 +129,70 @@ same_beginning knobs head c events h =
 
 -- ---- the window
 
-counted_window : (c : CompanionView) (before events : List Entry) (window : List Claimed)
-    → events_of (joined_record before c) ++ window ≡ events_of (joined_record (before ++ events) c)
-    → length window ≡ length events
-counted_window c before events window is =
-    let both = length-append (events_of (joined_record before c)) window in
-    let all = same_count (joined_record (before ++ events) c) in
-    let front = same_count (joined_record before c) in
-    let parts = length-append before events in
-    let whole = ap length is in
-    omega (arith, both, all, front, parts, whole)
-
-some_of : {A : Type 0} (xs : List A) → xs ≢ [] → 0 < length xs
-some_of [] some = absurd (some refl)
-some_of (x ∷ xs) some = omega arith
-
-none_of : {A : Type 0} (xs : List A) → 0 < length xs → xs ≢ []
-none_of [] some = absurd (omega (arith, some))
-none_of (x ∷ xs) some = λ e. (let n = ap length e in absurd (omega (arith, n)))
-
--- where events come, the window has some
-pub window_some : (c : CompanionView) (before events : List Entry) (window : List Claimed) → events ≢ []
-    → events_of (joined_record before c) ++ window ≡ events_of (joined_record (before ++ events) c) → window ≢ []
-window_some c before events window some is =
-    let n = counted_window c before events window is in
-    let m = some_of events some in
-    none_of window (omega (arith, n, m))
-
 pub still : (old new : Bool) → (old ≡ true → new ≡ true) → new ≡ false → old ≡ false
 still false new stays e = refl
 still true new stays e = let same = sym (stays refl) ∙ e in absurd cc
 
--- the window comes next in the audit
-pub window_next : (c : CompanionView) (before events : List Entry) (window : List Claimed) (knobs : KnobsView)
-    (progress : Progress)
-    → AreNext c before events → GoTogetherSoFar (before ++ events) c
-    → events_of (joined_record before c) ++ window ≡ events_of (joined_record (before ++ events) c)
-    → IsKnownOf (beginning_of knobs (joined_record before c)) (events_of (joined_record before c)) progress
-    → IsNext (beginning_of knobs (joined_record before c)) (events_of (joined_record before c)) window progress
-window_next c before events window knobs progress next together is known = record {
+-- a window comes next behind what is known
+pub window_next : (c : CompanionView) (events : List Entry) (so_far window : List Claimed) (knobs : KnobsView)
+    (progress : Progress) → IsCompanionInOrder c → AreInOrder events
+    → All (λ (event : Entry). event.line ≤ greatest_line) events → GoTogetherSoFar events c
+    → so_far ++ window ≡ events_of (joined_record events c)
+    → IsKnownOf (beginning_of knobs (joined_record events c)) so_far progress
+    → IsNext (beginning_of knobs (joined_record events c)) so_far window progress
+window_next c events so_far window knobs progress companion trace below together is known = record {
   known = known;
   is_record = subst (λ (es : List Claimed). IsRecord c.start c.floors c.tasks es c.cpus) (sym is)
-      (record_so_far (joined_record (before ++ events) c) next.companion next.trace together.inside together.in_time);
-  some = (let n = next.companion.cpus_in_limits.0 in omega (arith, n));
-  few = (let n = next.companion.cpus_in_limits.1 in omega (arith, n));
-  fit = (let n = few_events (before ++ events) greatest_line next.trace next.few in
-      let m = same_count (joined_record (before ++ events) c) in
-      let both = length-append (events_of (joined_record before c)) window in
+      (record_so_far (joined_record events c) companion trace together.inside together.in_time);
+  some = (let n = companion.cpus_in_limits.0 in omega (arith, n));
+  few = (let n = companion.cpus_in_limits.1 in omega (arith, n));
+  fit = (let n = few_events events greatest_line trace below in
+      let m = same_count (joined_record events c) in
+      let both = length-append so_far window in
       let whole = ap length is in omega (arith, n, m, both, whole));
+}
+
+-- what was joined is handed on to a judge for whom none waits
+pub awaits : (c : CompanionView) (events : List Entry) (handed : List Claimed) (joined : JoinedEvents)
+    (knobs : KnobsView) (old new : Judge) → IsCompanionInOrder c → AreInOrder events
+    → All (λ (event : Entry). event.line ≤ greatest_line) events → GoTogetherSoFar events c
+    → AreJoinedSoFar c events handed joined → IsAwaiting (begun knobs joined.start) handed old
+    → window_view old.window ≡ [] → window_view new.window ≡ window_view joined.window → new.progress ≡ old.progress
+    → IsAwaiting (begun knobs joined.start) (handed ++ window_view joined.window) new
+awaits c events handed joined knobs old new companion trace few together so was none given same =
+    let of = begun knobs joined.start in
+    let before : was.so_far ≡ handed =
+    sym (append-nil was.so_far) ∙ ap (λ (w : List Claimed). was.so_far ++ w) (sym none) ∙ was.parts in
+    let known : IsKnownOf of handed new.progress =
+    subst (IsKnownOf of handed) (sym same)
+    (subst (λ (es : List Claimed). IsKnownOf of es old.progress) before was.known) in
+    let begins = same_beginning knobs (companion_view joined.start) c events so.head in
+    record {
+      so_far = handed;
+      parts = ap (λ (w : List Claimed). handed ++ w) given;
+      known = known;
+      next = λ some. subst (λ (b : Beginning). IsNext b handed (window_view new.window) new.progress) (sym begins)
+          (window_next c events handed (window_view new.window) knobs new.progress companion trace few together
+          (ap (λ (w : List Claimed). handed ++ w) given ∙ so.window)
+          (subst (λ (b : Beginning). IsKnownOf b handed new.progress) begins known));
+    }
+
+-- a judge for whom none waits knows all that was handed on
+pub all_known : (of : Beginning) (handed : List Claimed) (judge : Judge) → IsAwaiting of handed judge
+    → window_view judge.window ≡ [] → IsKnownOf of handed judge.progress
+all_known of handed judge was none =
+    let before : was.so_far ≡ handed =
+    sym (append-nil was.so_far) ∙ ap (λ (w : List Claimed). was.so_far ++ w) (sym none) ∙ was.parts in
+    subst (λ (es : List Claimed). IsKnownOf of es judge.progress) before was.known
+
+-- one of whom the window is let go that was judged
+pub none_awaited : (of : Beginning) (handed : List Claimed) (judge : Judge) → IsKnownOf of handed judge.progress
+    → window_view judge.window ≡ [] → IsAwaiting of handed judge
+none_awaited of handed judge known none = record {
+  so_far = handed;
+  parts = ap (λ (w : List Claimed). handed ++ w) none ∙ append-nil handed;
+  known = known;
+  next = λ some. absurd (some none);
 }
 
 -- ---- joining one event after another
@@ -186,33 +207,24 @@ same_at (event ∷ events) zero d e within = refl
 same_at (event ∷ events) (suc k) d e within = same_at events k d e (omega (arith, within))
 
 -- the events that come next stand below what was joined
-pub next_above : (c : CompanionView) (before events : List Entry) (claims : List Claim) (nices : List NiceLine)
-    (charges : List ChargeLine) (audit : JoinedAudit) → Comes c before events claims nices charges audit
-    → (k : ℕ) (d : Entry) → k < length events → audit.joining.line < (get_or events k d).line
-next_above c before events claims nices charges audit comes k d within =
-    subst (λ line. line < (get_or events k d).line) (sym comes.so_far.joined.edge)
+pub next_above : (c : CompanionView) (before : List Entry) (handed : List Claimed) (events : List Entry)
+    (claims : List Claim) (nices : List NiceLine) (charges : List ChargeLine) (joined : JoinedEvents)
+    → Comes c before handed events claims nices charges joined
+    → (k : ℕ) (d : Entry) → k < length events → joined.joining.line < (get_or events k d).line
+next_above c before handed events claims nices charges joined comes k d within =
+    subst (λ line. line < (get_or events k d).line) (sym comes.so_far.joining.edge)
     (next_below before events comes.next.trace k d within)
 
 -- and those behind one of them below it
-pub later_above : (c : CompanionView) (before events : List Entry) (claims : List Claim) (nices : List NiceLine)
-    (charges : List ChargeLine) (audit : JoinedAudit) → Comes c before events claims nices charges audit
+pub later_above : (c : CompanionView) (before : List Entry) (handed : List Claimed) (events : List Entry)
+    (claims : List Claim) (nices : List NiceLine) (charges : List ChargeLine) (joined : JoinedEvents)
+    → Comes c before handed events claims nices charges joined
     → (i k : ℕ) (event d : Entry) → i < k → k < length events → event ≡ get_or events i event
     → event.line < (get_or events k d).line
-later_above c before events claims nices charges audit comes i k event d below within is =
+later_above c before handed events claims nices charges joined comes i k event d below within is =
     subst (λ (e : Entry). e.line < (get_or events k d).line)
     (same_at events i d event (omega (arith, below, within)) ∙ sym is)
     (rise_behind before events comes.next.trace.lines_rise i k d below within)
-
--- none was joined yet
-pub joined_first : (c : CompanionView) (before events : List Entry) (claims : List Claim) (nices : List NiceLine)
-    (charges : List ChargeLine) (audit : JoinedAudit) → Comes c before events claims nices charges audit
-    → AreJoined c before (take 0 events) audit
-joined_first c before events claims nices charges audit comes = record {
-  joined = subst (HasJoined audit.joining c) (sym (append-nil before)) comes.so_far.joined;
-  window = ap (λ (w : List Claimed). events_of (joined_record before c) ++ w) comes.so_far.emptied
-      ∙ append-nil (events_of (joined_record before c))
-      ∙ ap (λ es. events_of (joined_record es c)) (sym (append-nil before));
-}
 
 -- one more was
 pub after_one : (before events : List Entry) (i : ℕ) (event : Entry) → i < length events
@@ -228,17 +240,35 @@ pub calm : (refused : Bool) (answer : Option JoinFault) → (refused ≡ true �
 calm false answer tells none = refl
 calm true answer tells none = absurd (false≢true (subst IsSome none (tells refl)))
 
-pub at_end : (c : CompanionView) (events : List Entry) (claims : List Claim) (nices : List NiceLine)
-    (charges : List ChargeLine) (audit : JoinedAudit) → IsLast c events claims nices charges audit
-    → audit.knobs.drift ≤ greatest_setting → is_refused audit.joining ≡ false → GoTogetherSoFar events c
-    → IsEnd audit.knobs (joined_record events c) audit.progress
-at_end c events claims nices charges audit last drift calm together = record {
-  known = last.so_far.known calm;
-  is_record = record_so_far (joined_record events c) last.companion last.trace together.inside together.in_time;
-  last = last.last;
-  times = times_stay_below (joined_record events c) last.last last.times;
-  last_fits = last.last_fits;
-  few_events = (let n = few_events events greatest_line last.trace last.few in
-      let m = same_count (joined_record events c) in omega (arith, n, m));
+pub at_end : (c : CompanionView) (events : List Entry) (handed : List Claimed) (claims : List Claim)
+    (nices : List NiceLine) (charges : List ChargeLine) (joined : JoinedEvents) (knobs : KnobsView) (judge : Judge)
+    → IsLast c events handed claims nices charges joined → GoTogetherSoFar events c
+    → IsKnownOf (begun knobs joined.start) handed judge.progress → window_view joined.window ≡ []
+    → IsAllOf knobs (joined_record events c) judge
+at_end c events handed claims nices charges joined knobs judge last together known none =
+    let begins = same_beginning knobs (companion_view joined.start) c events last.so_far.head in
+    let whole : handed ≡ events_of (joined_record events c) =
+    sym (append-nil handed) ∙ ap (λ (w : List Claimed). handed ++ w) (sym none) ∙ last.so_far.window in
+    record {
+      known = subst (λ (es : List Claimed). IsKnownOf (beginning_of knobs (joined_record events c)) es judge.progress)
+          whole (subst (λ (b : Beginning). IsKnownOf b handed judge.progress) begins known);
+      is_record = record_so_far (joined_record events c) last.companion last.trace together.inside together.in_time;
+      last = last.last;
+      times = times_stay_below (joined_record events c) last.last last.times;
+      last_fits = last.last_fits;
+      few_events = (let n = few_events events greatest_line last.trace last.few in
+          let m = same_count (joined_record events c) in omega (arith, n, m));
+    }
+
+-- no sum over them is too great
+pub end_of : (knobs : KnobsView) (r : RecordView) (judge : Judge) → IsAllOf knobs r judge
+    → knobs.drift ≤ greatest_setting → IsEnd knobs r judge.progress
+end_of knobs r judge all drift = record {
+  known = all.known;
+  is_record = all.is_record;
+  last = all.last;
+  times = all.times;
+  last_fits = all.last_fits;
+  few_events = all.few_events;
   drift = drift;
 }

@@ -2,6 +2,8 @@ mod Companion
 mod EventLines
 mod SayingMore
 mod Going
+mod Calm
+mod Handing
 mod Closed
 pub mod Joined
 mod KnownSoFar

@@ -7,7 +7,6 @@ use Rattle.std.specs.List.{last_or}
 use Rattle.std.specs.Option.{option_map_or}
 use Rattle.std.proofs.lemmas.Bool.{ne_eqb}
 use Rattle.std.proofs.lemmas.Bool.Decides.{nat_tests}
-use Rattle.cfs_model.specs.Knobs.{KnobsView}
 use Rattle.cfs_model.specs.Claimed.{Claimed}
 use Rattle.cfs_model.specs.declared.act.Entry.{Entry}
 use Rattle.cfs_model.specs.declared.charge_line.ChargeLine.{ChargeLine}
@@ -16,15 +15,12 @@ use Rattle.cfs_model.specs.declared.nice_line.NiceLine.{NiceLine}
 use Rattle.companion_file.specs.Companion.{CompanionView}
 use Rattle.companion_file.specs.Earlier.{Said, has_all_floors, last_charge, last_claim, last_nice}
 use Rattle.companion_file.specs.Reader.{GoesOn, IsStartOf, has_begun, reaches_past, start_of, with_all_said}
-use Rattle.sched_record.specs.Join.{joined_record}
-use Rattle.window_audit.specs.Whole.{beginning_of}
 use Rattle.window_joining.proofs.Later.{events_stay, joined_stays}
 use Rattle.window_joining.specs.Joining.{SaysMore, edge_of}
 use Rattle.stream_audit.specs.Companion.{IsPast}
-use Rattle.stream_audit.specs.Joined.{IsAuditSoFar}
-use Rattle.stream_audit.specs.Progress.{IsKnownOf}
+use Rattle.stream_audit.specs.Joined.{AreJoinedSoFar}
 use Rattle.stream_audit.specs.declared.companion_input.CompanionInput.{CompanionInput}
-use Rattle.stream_audit.specs.declared.joined_audit.JoinedAudit.{JoinedAudit}
+use Rattle.stream_audit.specs.declared.joined_events.JoinedEvents.{JoinedEvents}
 
 -- ---- a start that stays
 
@@ -143,15 +139,15 @@ more_above edge said after start more reached = record {
   };
 }
 
-pub audit_stays : (knobs : KnobsView) (said after : Said) (start : CompanionView) (events : List Entry)
-    (audit : JoinedAudit) → SaysMore (edge_of events) (with_all_said start said) (with_all_said start after)
-    → IsAuditSoFar knobs (with_all_said start said) events audit
-    → IsAuditSoFar knobs (with_all_said start after) events audit
-audit_stays knobs said after start events audit above so =
+pub joined_stays_so : (said after : Said) (start : CompanionView) (events : List Entry) (handed : List Claimed)
+    (joined : JoinedEvents) → SaysMore (edge_of events) (with_all_said start said) (with_all_said start after)
+    → AreJoinedSoFar (with_all_said start said) events handed joined
+    → AreJoinedSoFar (with_all_said start after) events handed joined
+joined_stays_so said after start events handed joined above so =
     let c = with_all_said start said in
     let later = with_all_said start after in
-    let edge = audit.joining.line in
-    let more = subst (λ n. SaysMore n c later) (sym so.joined.edge) above in
+    let edge = joined.joining.line in
+    let more = subst (λ n. SaysMore n c later) (sym so.joining.edge) above in
     record {
       head = record {
         cpus = so.head.cpus;
@@ -160,10 +156,6 @@ audit_stays knobs said after start events audit above so =
         tasks = so.head.tasks;
         idles = so.head.idles;
       };
-      settings = so.settings;
-      joined = joined_stays audit.joining c later events so.joined more;
-      emptied = so.emptied;
-      known = λ calm. subst
-          (λ (es : List Claimed). IsKnownOf (beginning_of knobs (joined_record events later)) es audit.progress)
-          (sym (events_stay c later events edge more (λ k d h. (so.joined.lines k d h).1))) (so.known calm);
+      joining = joined_stays joined.joining c later events so.joining more;
+      window = so.window ∙ sym (events_stay c later events edge more (λ k d h. (so.joining.lines k d h).1));
     }

@@ -1,54 +1,80 @@
 -- Two inputs stay under way as blocks are read and audited.
-use Rattle.std.proofs.Common.{◌≡◌, ◌+◌, ℕ, Bool, true, false, not, List, [], ◌++◌, Option, Result, Ok, Err, sym, subst}
-use Rattle.std.proofs.Common.{IfErr, IsErrAnd, ◌∙◌, arith}
+use Rattle.std.proofs.Common.{◌≡◌, ℕ, Bool, true, false, not, List, [], Option, Some, None}
+use Rattle.std.proofs.Common.{Result, Ok, Err, IfErr, IsErrAnd, refl, sym, subst, ◌∙◌}
+use Rattle.std.specs.Prelude.{IsNone, MatchOption}
+use Rattle.window_audit.specs.Audit.{Beginning}
+use Rattle.cfs_model.specs.Claimed.{Claimed}
+use Rattle.sched_record.specs.Window.{window_view}
 use Rattle.std.specs.Io.KnownBytes.{IsAtEnd}
 use Rattle.std.specs.Prelude.{IfOk, OnOk}
 use Rattle.audit_input.specs.declared.fault.Fault.{Fault}
-use Rattle.audit_input.specs.Texts.{TellsCharges}
 use Rattle.cfs_model.specs.Knobs.{KnobsView}
 use Rattle.companion_file.specs.Earlier.{summed}
 use Rattle.entry_reader.specs.Reader.{HasReadOut}
 use Rattle.entry_reader.specs.declared.reader.EntryReader.{EntryReader}
 use Rattle.input_blocks.proofs.Beginning.{fresh}
-use Rattle.input_blocks.specs.Blocks.{ComesTo, IsFresh}
+use Rattle.input_blocks.specs.Blocks.{IsFresh}
 use Rattle.input_blocks.specs.OfEntries.{ReadsEntries}
 use Rattle.text_parts.proofs.TextLines.{lines_of_nil}
 use Rattle.input_blocks.specs.declared.line_blocks.LineBlocks.{LineBlocks}
-use Rattle.stream_audit.proofs.Heard.{heard_on}
-use Rattle.stream_audit.specs.Course.{CourseGoesOn, IsCourseOf}
+use Rattle.stream_audit.specs.Course.{CourseGoesOn, IsCourseOf, IsSettledBy}
 use Rattle.stream_audit.specs.Companion.{IsFedBy}
-use Rattle.stream_audit.specs.Hearing.{AreBothDone, IsHeard, IsOutcome}
-use Rattle.stream_audit.specs.Listening.{IsReadBy, IsUnderWay}
+use Rattle.stream_audit.specs.Hearing.{IsHeardBy}
+use Rattle.stream_audit.specs.Judge.{IsAwaiting}
+use Rattle.stream_audit.specs.Listening.{IsComing, IsReadBy, IsUnderWay}
 use Rattle.stream_audit.specs.declared.companion_input.CompanionInput.{CompanionInput}
 use Rattle.stream_audit.specs.declared.course.Course.{Course}
-use Rattle.stream_audit.specs.declared.hearing.Hearing.{Hearing}
+use Rattle.stream_audit.specs.declared.intake.Intake.{Intake}
+use Rattle.stream_audit.specs.declared.joined_events.JoinedEvents.{JoinedEvents}
+use Rattle.stream_audit.specs.declared.judge.Judge.{Judge}
 use Rattle.stream_audit.specs.declared.listener.Listener.{Listener}
 
--- before the first block
-pub before_any : (knobs : KnobsView) (trace gave : Option (List ℕ)) (listener : Listener) → IsFresh listener.blocks
-    → HasReadOut listener.reader [] [] → IsCourseOf knobs gave gave listener.course (summed []) []
-    → IsUnderWay knobs trace trace gave gave listener true
-before_any knobs trace gave listener none read course = record {
+-- before the first read
+pub before_any : (knobs : KnobsView) (trace gave : Option (List ℕ)) (intake : Intake) → IsFresh intake.blocks
+    → HasReadOut intake.reader [] [] → IsCourseOf knobs gave gave intake.course (summed []) [] []
+    → IsComing knobs trace trace gave gave intake []
+before_any knobs trace gave intake none read course = record {
   bytes = [];
-  stands = fresh ReadsEntries trace listener.blocks none;
+  stands = fresh ReadsEntries trace intake.blocks none;
   heard = record {
     events = [];
-    has_read = subst (λ (ls : List (List ℕ)). HasReadOut listener.reader ls []) (sym lines_of_nil) read;
+    has_read = subst (λ (ls : List (List ℕ)). HasReadOut intake.reader ls []) (sym lines_of_nil) read;
     said = summed [];
     so_far = course;
   };
 }
 
--- behind one more block, beside which what came before it was audited
-pub under_way_on : (knobs : KnobsView) (trace_gave trace_left gave left : Option (List ℕ)) (bytes : List ℕ)
-    (before : EntryReader) (later : Listener) (goes_on : Bool) → IsHeard knobs gave left bytes before later.course
-    → ComesTo ReadsEntries before later.reader trace_gave trace_left later.blocks bytes goes_on
-    → IsUnderWay knobs trace_gave trace_left gave left later goes_on
-under_way_on knobs trace_gave trace_left gave left bytes before later goes_on heard next = record {
-  bytes = bytes ++ next.more;
-  stands = next.next;
-  heard = heard_on knobs gave left bytes next.more before later.reader later.course next.lines next.read heard;
+settled_none : (P : Beginning → List Claimed → Judge → Type 0) (knobs : KnobsView) (joined : Option JoinedEvents)
+    (judge : Option Judge) → IsNone joined → IsNone judge → IsSettledBy P knobs joined [] judge
+settled_none P knobs None judge none nobody = (refl, nobody)
+settled_none P knobs (Some j) judge none nobody = absurd (let e = none in cc)
+
+handed_none : (joined : Option JoinedEvents) → IsNone joined
+    → MatchOption joined (Unit {0}) (λ j. window_view j.window ≡ [])
+handed_none None none = tt
+handed_none (Some j) none = absurd (let e = none in cc)
+
+pub none_heard : (knobs : KnobsView) (trace gave : Option (List ℕ)) (listener : Listener)
+    → IsComing knobs trace trace gave gave listener.intake [] → IsNone listener.intake.course.joined
+    → IsNone listener.judge → IsUnderWay knobs trace trace gave gave listener true
+none_heard knobs trace gave listener coming none nobody = record {
+  bytes = coming.bytes;
+  stands = coming.stands;
+  heard = record {
+    handed = [];
+    by = coming.heard;
+    judged = λ calm. settled_none IsAwaiting listener.intake.course.knobs listener.intake.course.joined listener.judge
+        none nobody;
+    handed_on = handed_none listener.intake.course.joined none;
+  };
 }
+
+-- what is under way comes in
+pub coming_of : (knobs : KnobsView) (trace_gave trace_left gave left : Option (List ℕ)) (listener : Listener)
+    (under : IsUnderWay knobs trace_gave trace_left gave left listener true)
+    → IsComing knobs trace_gave trace_left gave left listener.intake under.heard.handed
+coming_of knobs trace_gave trace_left gave left listener under =
+    record { bytes = under.bytes; stands = under.stands; heard = under.heard.by }
 
 -- where the trace goes on
 pub still_under_way : (knobs : KnobsView) (trace_gave trace_left gave left : Option (List ℕ)) (listener : Listener)
@@ -71,13 +97,14 @@ fed_as calls has_ended has_failed old new same fed =
 
 -- a course that went on with the companion alone
 pub heard_further : (knobs : KnobsView) (gave left rest : Option (List ℕ)) (bytes : List ℕ) (reader : EntryReader)
-    (old new : Course) (heard : IsHeard knobs gave left bytes reader old)
-    → CourseGoesOn old.knobs gave rest new heard.events → IsHeard knobs gave rest bytes reader new
-heard_further knobs gave left rest bytes reader old new heard went = record {
+    (old new : Course) (handed : List Claimed) (heard : IsHeardBy knobs gave left bytes reader old handed)
+    → CourseGoesOn old.knobs gave rest new heard.events handed → IsHeardBy knobs gave rest bytes reader new handed
+heard_further knobs gave left rest bytes reader old new handed heard went = record {
   events = heard.events;
   has_read = heard.has_read;
   said = went.0;
-  so_far = subst (λ (k : KnobsView). IsCourseOf k gave rest new went.0 heard.events) heard.so_far.settings went.1;
+  so_far = subst (λ (k : KnobsView). IsCourseOf k gave rest new went.0 heard.events handed) heard.so_far.settings
+      went.1;
 }
 
 -- ---- what calls answer
@@ -111,17 +138,14 @@ pub told_as : {T : Type 0} (P : Fault → Type 0) (answer : Result T Fault) (fau
 told_as P (Ok x) fault is holds = absurd is
 told_as P (Err e) fault is holds = subst P (sym is) holds
 
--- how a block was read
-pub read_by : (left : Option (List ℕ)) (calls : ℕ) (has_failed has_ended was_failed : Bool) (old new : LineBlocks)
-    (r : Result Bool Fault) → was_failed ≡ false → OnOk r (calls ≡ new.reads) → OnOk r (new.reads ≡ old.reads + 1)
-    → OnOk r (has_failed ≡ was_failed) → IfOk r (λ goes_on. has_ended ≡ not goes_on)
-    → IfOk r (λ goes_on. goes_on ≡ false → IsAtEnd left)
-    → IfOk r (IsReadBy left calls has_failed has_ended new)
-read_by left calls has_failed has_ended was_failed old new (Ok goes_on) unfailed counted one heard ended end = record {
+-- how reads were made
+pub read_by : (left : Option (List ℕ)) (calls : ℕ) (has_failed has_ended was_failed : Bool) (new : LineBlocks)
+    (goes_on : Bool) → was_failed ≡ false → calls ≡ new.reads
+    → has_failed ≡ was_failed → has_ended ≡ not goes_on → (goes_on ≡ false → IsAtEnd left)
+    → IsReadBy left calls has_failed has_ended new goes_on
+read_by left calls has_failed has_ended was_failed new goes_on unfailed counted heard ended end = record {
   counted = counted;
-  some = omega (arith, one);
   heard = heard ∙ unfailed;
   ended = ended;
   at_end = end;
 }
-read_by left calls has_failed has_ended was_failed old new (Err e) unfailed counted one heard ended end = tt

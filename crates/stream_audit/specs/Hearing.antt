@@ -7,6 +7,7 @@ use Rattle.audit_input.specs.declared.fault.Fault.{Fault}
 use Rattle.audit_input.specs.declared.fault.Fault.TheVariants.{ReadTrace, ReadCompanion, Memory}
 use Rattle.audit_input.specs.declared.refused.Refused.{Refused}
 use Rattle.audit_input.specs.declared.refused.Refused.TheVariants as refusals
+use Rattle.cfs_model.specs.Claimed.{Claimed}
 use Rattle.cfs_model.specs.Knobs.{KnobsView}
 use Rattle.cfs_model.specs.declared.act.Entry.{Entry}
 use Rattle.companion_file.specs.Earlier.{Said}
@@ -15,11 +16,12 @@ use Rattle.entry_reader.specs.declared.reader.EntryReader.{EntryReader}
 use Rattle.sched_record.specs.Record.{RecordView}
 use Rattle.ticket_book.specs.Verdict.{IsVerdict}
 use Rattle.text_parts.specs.Lines.{lines_of}
-use Rattle.stream_audit.specs.Course.{IsCourseOf, IsDone, IsReadyFor, IsWholeCourse}
+use Rattle.stream_audit.specs.Course.{AreJudged, IsCourseOf, IsDone, IsHandedOn, IsReadyFor, IsWholeCourse}
 use Rattle.stream_audit.specs.declared.course.Course.{Course}
 use Rattle.stream_audit.specs.declared.hearing.Hearing.{Hearing}
 use Rattle.stream_audit.specs.declared.hearing.StreamOutcome.{StreamOutcome}
 use Rattle.stream_audit.specs.declared.hearing.StreamOutcome.TheVariants.{Judged, Text}
+use Rattle.stream_audit.specs.declared.judge.Judge.{Judge}
 
 -- the outcome of a trace and its companion: the verdict on their record, or why one of them is refused
 abbrev pub IsOutcome : KnobsView → List ℕ → List ℕ → StreamOutcome → Type 0
@@ -71,29 +73,39 @@ pub record ReadsBoth {A : Type 0} (trace companion : Input) (result : Result A F
   -- and the companion's fault is told only where the trace has none: it was read to its end
   pub order : IsErrOf result ReadCompanion → (trace.has_ended ≡ true) × (trace.has_failed ≡ false)
 
--- these bytes of a trace were read, and all events of theirs that were taken out a course went through
-pub record IsHeard (knobs : KnobsView) (gave left : Option (List ℕ)) (bytes : List ℕ) (reader : EntryReader)
-    (course : Course) : Type 0
+-- these bytes of a trace were read, and a course joined all events of theirs that were taken out, and handed these on
+pub record IsHeardBy (knobs : KnobsView) (gave left : Option (List ℕ)) (bytes : List ℕ) (reader : EntryReader)
+    (course : Course) (handed : List Claimed) : Type 0
   where
     pub events : List Entry
     pub has_read : HasReadOut reader (lines_of bytes) events
     pub said : Said
-    pub so_far : IsCourseOf knobs gave left course said events
+    pub so_far : IsCourseOf knobs gave left course said events handed
 
--- these bytes of a trace were read, all events of theirs were taken out, and a course went through those before these,
--- for which it is ready
+-- the same where all that was joined was handed on, and judged but for a window
+pub record IsHeard (knobs : KnobsView) (gave left : Option (List ℕ)) (bytes : List ℕ) (reader : EntryReader)
+    (course : Course) (judge : Option Judge) : Type 0
+  where
+    pub handed : List Claimed
+    pub by : IsHeardBy knobs gave left bytes reader course handed
+    pub judged : AreJudged course handed judge
+    pub handed_on : IsHandedOn course
+
+-- these bytes of a trace were read, all events of theirs were taken out, and a course joined those before these, for
+-- which it is ready
 pub record IsReady (knobs : KnobsView) (gave left : Option (List ℕ)) (bytes : List ℕ) (reader : EntryReader)
-    (course : Course) (events : List Entry) : Type 0
+    (course : Course) (handed : List Claimed) (events : List Entry) : Type 0
   where
     pub before : List Entry
     pub has_read : HasReadOut reader (lines_of bytes) (before ++ events)
-    pub ready : IsReadyFor knobs gave left course before events
+    pub ready : IsReadyFor knobs gave left course before handed events
 
 -- both texts were read whole: the trace is these bytes, and the companion is this text; of a trace of which no line is
 -- bad all events were joined
-pub record AreBothDone (trace : EntryReader) (course : Course) (bytes text : List ℕ) : Type 0 where
-  pub events : List Entry
-  pub has_read : HasReadOut trace (lines_of bytes) events
-  pub taken : IsNone trace.bad → entries_of trace ≡ []
-  pub done : IsDone course.companion text
-  pub joined : IsNone trace.bad → IsWholeCourse course.knobs course text events
+pub record AreBothDone (trace : EntryReader) (course : Course) (judge : Option Judge) (bytes text : List ℕ) : Type 0
+  where
+    pub events : List Entry
+    pub has_read : HasReadOut trace (lines_of bytes) events
+    pub taken : IsNone trace.bad → entries_of trace ≡ []
+    pub done : IsDone course.companion text
+    pub joined : IsNone trace.bad → IsWholeCourse course.knobs course text events judge

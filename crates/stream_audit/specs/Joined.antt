@@ -1,6 +1,7 @@
--- The audit of a record whose events and claims come as they are read (this project's profile). A companion is seen as
--- what is said so far, with whole lists.
-use Rattle.std.specs.Prelude.{◌≡◌, ℕ, ◌^◌, ◌<◌, ◌≤◌, false, List, [], ◌++◌, All, Ok, Err}
+-- The events of a record that are joined as they are read (this project's profile). A companion is seen as what is said
+-- so far, with whole lists.
+use Rattle.std.specs.Prelude.{◌≡◌, ℕ, ◌^◌, ◌<◌, ◌≤◌, List, ◌++◌, All, Ok, Err}
+use Rattle.cfs_model.specs.Claimed.{Claimed}
 use Rattle.cfs_model.specs.Knobs.{KnobsView}
 use Rattle.cfs_model.specs.Limits.{greatest_line}
 use Rattle.cfs_model.specs.declared.act.Entry.{Entry}
@@ -15,23 +16,19 @@ use Rattle.sched_record.specs.Kept.{AreInOrder}
 use Rattle.sched_record.specs.Window.{window_view}
 use Rattle.ticket_book.specs.SaidEvents.{events_of}
 use Rattle.ticket_book.specs.Verdict.{IsVerdict}
-use Rattle.window_audit.specs.Whole.{beginning_of}
-use Rattle.window_joining.specs.Joining.{HasJoined, IsHeadOf, IsHeld, is_refused}
-use Rattle.stream_audit.specs.Progress.{IsKnownOf}
+use Rattle.window_joining.specs.Joining.{HasJoined, IsHeadOf, IsHeld}
 use Rattle.stream_audit.specs.declared.ending.Ending.{Ending}
 use Rattle.stream_audit.specs.declared.ending.Ending.TheVariants.{Judged, Apart}
-use Rattle.stream_audit.specs.declared.joined_audit.JoinedAudit.{JoinedAudit}
+use Rattle.stream_audit.specs.declared.joined_events.JoinedEvents.{JoinedEvents}
 
--- these events were joined with a companion that said this so far, and where nothing was refused it is known what they
--- are by these settings
-pub record IsAuditSoFar (knobs : KnobsView) (c : CompanionView) (events : List Entry) (audit : JoinedAudit) : Type 0
+-- these events were joined with a companion that said this so far; these of what was joined were handed on, and the
+-- others are the window's
+pub record AreJoinedSoFar (c : CompanionView) (events : List Entry) (handed : List Claimed) (joined : JoinedEvents)
+    : Type 0
   where
-    pub head : IsHeadOf (companion_view audit.start) c
-    pub settings : audit.knobs ≡ knobs
-    pub joined : HasJoined audit.joining c events
-    pub emptied : window_view audit.window ≡ []
-    pub known : is_refused audit.joining ≡ false
-        → IsKnownOf (beginning_of knobs (joined_record events c)) (events_of (joined_record events c)) audit.progress
+    pub head : IsHeadOf (companion_view joined.start) c
+    pub joining : HasJoined joined.joining c events
+    pub window : handed ++ window_view joined.window ≡ events_of (joined_record events c)
 
 -- both texts are in order so far, and these events come next
 pub record AreNext (c : CompanionView) (before events : List Entry) : Type 0 where
@@ -40,29 +37,23 @@ pub record AreNext (c : CompanionView) (before events : List Entry) : Type 0 whe
   pub few : All (λ event. event.line ≤ greatest_line) (before ++ events)
 
 -- these events come next, and this is held of what the companion says of lines behind those before
-pub record Comes (c : CompanionView) (before events : List Entry) (claims : List Claim) (nices : List NiceLine)
-    (charges : List ChargeLine) (audit : JoinedAudit) : Type 0
+pub record Comes (c : CompanionView) (before : List Entry) (handed : List Claimed) (events : List Entry)
+    (claims : List Claim) (nices : List NiceLine) (charges : List ChargeLine) (joined : JoinedEvents) : Type 0
   where
-    pub so_far : IsAuditSoFar audit.knobs c before audit
+    pub so_far : AreJoinedSoFar c before handed joined
     pub next : AreNext c before events
-    pub held : IsHeld audit.joining.line c claims nices charges
-
--- these events were joined behind those before, and are the window's
-pub record AreJoined (c : CompanionView) (before events : List Entry) (audit : JoinedAudit) : Type 0 where
-  pub joined : HasJoined audit.joining c (before ++ events)
-  pub window : events_of (joined_record before c) ++ window_view audit.window
-      ≡ events_of (joined_record (before ++ events) c)
+    pub held : IsHeld joined.joining.line c claims nices charges
 
 -- both texts were read whole: these are all events, none is later than a time that fits, and this is left of what the
 -- companion says
-pub record IsLast (c : CompanionView) (events : List Entry) (claims : List Claim) (nices : List NiceLine)
-    (charges : List ChargeLine) (audit : JoinedAudit) : Type 0
+pub record IsLast (c : CompanionView) (events : List Entry) (handed : List Claimed) (claims : List Claim)
+    (nices : List NiceLine) (charges : List ChargeLine) (joined : JoinedEvents) : Type 0
   where
-    pub so_far : IsAuditSoFar audit.knobs c events audit
+    pub so_far : AreJoinedSoFar c events handed joined
     pub companion : IsCompanionInOrder c
     pub trace : AreInOrder events
     pub few : All (λ event. event.line ≤ greatest_line) events
-    pub held : IsHeld audit.joining.line c claims nices charges
+    pub held : IsHeld joined.joining.line c claims nices charges
     pub last : ℕ
     pub times : All (λ event. event.time ≤ last) events
     pub last_fits : last < 2 ^ 64

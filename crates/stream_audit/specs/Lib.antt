@@ -1,5 +1,6 @@
 pub mod Progress
 pub mod Joined
+pub mod Judge
 pub mod Companion
 pub mod Course
 pub mod Hearing

@@ -1,39 +1,66 @@
--- What was heard so far of two inputs, of which the trace is read a block ahead of the audit (this project's profile).
-use Rattle.std.specs.Prelude.{◌≡◌, ◌≢◌, ℕ, ◌<◌, Bool, true, false, not, List, Option, Err}
+-- What was heard so far of two inputs, of which what comes next is joined while the audit goes on (this project's
+-- profile).
+use Rattle.std.specs.Prelude.{◌≡◌, ◌≢◌, ℕ, Bool, true, false, not, List, [], Option, Err, IsNone, drop}
 use Rattle.std.specs.Io.KnownBytes.{IsAtEnd}
 use Rattle.audit_input.specs.declared.fault.Fault.{Fault}
 use Rattle.audit_input.specs.declared.fault.Fault.TheVariants.{Write}
+use Rattle.cfs_model.specs.Claimed.{Claimed}
 use Rattle.cfs_model.specs.Knobs.{KnobsView}
+use Rattle.entry_reader.specs.Reader.{entries_of}
 use Rattle.input_blocks.specs.Blocks.{IsThen}
 use Rattle.input_blocks.specs.OfEntries.{ReadsEntries}
 use Rattle.input_blocks.specs.declared.line_blocks.LineBlocks.{LineBlocks}
-use Rattle.stream_audit.specs.Hearing.{Input, IsHeard, ReadsBoth}
+use Rattle.stream_audit.specs.Course.{IsCalm, StartStays}
+use Rattle.stream_audit.specs.Hearing.{Input, IsHeard, IsHeardBy, IsReady, ReadsBoth}
+use Rattle.stream_audit.specs.declared.course.Course.{Course}
 use Rattle.stream_audit.specs.declared.hearing.Hearing.{Hearing}
+use Rattle.stream_audit.specs.declared.intake.Intake.{Intake}
 use Rattle.stream_audit.specs.declared.listener.Listener.{Listener}
 
--- of a trace that gave bytes before it had these left, these were read, and of these all that was taken out a course
--- went through
+-- of a trace that gave bytes before it had these left, these were read, and of these all that was taken out was joined
+pub record IsComing (knobs : KnobsView) (trace_gave trace_left gave left : Option (List ℕ)) (intake : Intake)
+    (handed : List Claimed) : Type 0
+  where
+    pub bytes : List ℕ
+    pub stands : IsThen ReadsEntries trace_gave trace_left intake.blocks bytes true
+    pub heard : IsHeardBy knobs gave left bytes intake.reader intake.course handed
+
+-- more was read since a course was this, and of what was taken out some events were joined, and the others come next
+pub record HasCome (knobs : KnobsView) (trace_gave trace_left gave left : Option (List ℕ)) (old : Course)
+    (intake : Intake) (handed : List Claimed) (goes_on : Bool) : Type 0
+  where
+    pub bytes : List ℕ
+    pub stands : IsThen ReadsEntries trace_gave trace_left intake.blocks bytes goes_on
+    pub ready : IsReady knobs gave left bytes intake.reader intake.course handed (drop intake.next intake.events.items)
+    pub calm : IsCalm intake.course → IsCalm old
+    pub starts : StartStays old.joined intake.course.joined
+    pub same_knobs : intake.course.knobs ≡ old.knobs
+
+-- of a trace that gave bytes before it had these left, these were read, and of these all that was taken out was joined
+-- and handed on
 pub record IsUnderWay (knobs : KnobsView) (trace_gave trace_left gave left : Option (List ℕ)) (listener : Listener)
     (goes_on : Bool) : Type 0
   where
     pub bytes : List ℕ
-    pub stands : IsThen ReadsEntries trace_gave trace_left listener.blocks bytes goes_on
-    pub heard : IsHeard knobs gave left bytes listener.reader listener.course
+    pub stands : IsThen ReadsEntries trace_gave trace_left listener.intake.blocks bytes goes_on
+    pub heard : IsHeard knobs gave left bytes listener.intake.reader listener.intake.course listener.judge
 
 -- nothing was heard yet, whatever the inputs have
 abbrev pub HasHeardNothing : KnobsView → Listener → Type 0
 HasHeardNothing knobs listener = (trace gave : Option (List ℕ)) → IsUnderWay knobs trace trace gave gave listener true
 
--- an input was read as often as its blocks say, once at least, no read of it failed, and it has ended where it doesn't
--- go on
+-- an input was read as often as its blocks say, no read of it failed, and it has ended where it doesn't go on
 pub record IsReadBy (left : Option (List ℕ)) (calls : ℕ) (has_failed has_ended : Bool) (blocks : LineBlocks)
     (goes_on : Bool) : Type 0
   where
     pub counted : calls ≡ blocks.reads
-    pub some : 0 < blocks.reads
     pub heard : has_failed ≡ false
     pub ended : has_ended ≡ not goes_on
     pub at_end : goes_on ≡ false → IsAtEnd left
+
+-- all events that were read were taken out, where no line is bad
+abbrev pub IsTakenOut : Intake → Type 0
+IsTakenOut intake = IsNone intake.reader.bad → entries_of intake.reader ≡ []
 
 -- a fault that ends the reading of two inputs, and isn't one of writing
 abbrev pub EndsBoth : Input → Input → Fault → Type 0

@@ -10,8 +10,9 @@ ghost use Rattle.stream_audit.specs.Hearing.{AreBothDone, IsHearingOf, IsOutcome
 ghost use Rattle.stream_audit.specs.Listening.{HasHeardNothing};
 
 use crate::course::{Closing, Course};
+use crate::intake::Intake;
 use crate::listener::Listener;
-use crate::{Ending, Hearing, Past, Sizes, StreamOutcome};
+use crate::{Ending, Hearing, Judge, Past, Sizes, StreamOutcome};
 use audit_input::{Fault, Feed, Refused};
 use cfs_model::{Knobs, Memory};
 use entry_reader::EntryReader;
@@ -21,11 +22,11 @@ use std::alloc::Global;
 use std::random::RandomSource;
 use std::thread::Threads;
 
-/// Judges two inputs of any length, which are read a block at a time. Of the trace a block is held, the events of the
-/// block before, and a row for each task at each processor where it ever stood; of the companion a block, the start,
-/// the `idle` lines, and what is said ahead of the trace. A fault of the trace is told before one of the companion. The
-/// past takes the last events up to the first fault, if it keeps events.
-pub fn judge_stream<R: RandomSource + Threads + Sync, T: Feed, C: Feed, P: Past + Send>(
+/// Judges two inputs of any length, which are read a block at a time. Of the trace a read is held, the events of the
+/// reads that are audited together and of those before them, and a row for each task at each processor where it ever
+/// stood; of the companion a block, the start, the `idle` lines, and what is said ahead of the trace. A fault of the
+/// trace is told before one of the companion. The past takes the last events up to the first fault, if it keeps events.
+pub fn judge_stream<R: RandomSource + Threads + Sync, T: Feed, C: Feed, P: Past>(
     rt: &R,
     alloc: Global,
     trace: &mut T,
@@ -49,7 +50,7 @@ pub fn judge_stream<R: RandomSource + Threads + Sync, T: Feed, C: Feed, P: Past 
 }
 
 /// Hears two inputs to their ends, and tells what they came to.
-fn hear<R: Threads + Sync, T: Feed, C: Feed, P: Past + Send>(
+fn hear<R: Threads + Sync, T: Feed, C: Feed, P: Past>(
     rt: &R,
     alloc: Global,
     trace: &mut T,
@@ -60,8 +61,8 @@ fn hear<R: Threads + Sync, T: Feed, C: Feed, P: Past + Send>(
     requires trace { T.calls trace.old ≡ 0 }
     requires companion { C.calls companion.old ≡ 0 }
     requires nothing { (knobs : KnobsView) × HasHeardNothing knobs listener.old }
-    requires unread { listener.old.blocks.reads ≡ 0 }
-    requires unfed { IsFedBy 0 false false listener.old.course.companion }
+    requires unread { listener.old.intake.blocks.reads ≡ 0 }
+    requires unfed { IsFedBy 0 false false listener.old.intake.course.companion }
     ensures outcome { (knobs : KnobsView) → HasHeardNothing knobs listener.old
         → IfOk result (IsHearingOf knobs (T.left trace.old) (C.left companion.old)) }
     ensures reads { ReadsBoth
@@ -70,23 +71,30 @@ fn hear<R: Threads + Sync, T: Feed, C: Feed, P: Past + Send>(
         (C.has_ended companion.new)) result }
     ensures unwritten { IfErr result (λ fault. fault ≢ Fault.Write) }
 {
-    let mut goes_on = listener.begin(trace)?;
+    let mut goes_on = true;
     while goes_on {
         goes_on = listener.go_on(rt, alloc, trace, companion, past)?;
     }
     listener.read_rest(rt, alloc, companion, past)?;
-    Ok(hearing_of(alloc, &listener.reader, &mut listener.course)?)
+    let judge = listener.judge.take();
+    let Intake { reader, course, .. } = &mut listener.intake;
+    Ok(hearing_of(alloc, reader, course, judge)?)
 }
 
 /// What both inputs came to, once they were read to their ends.
-fn hearing_of(alloc: Global, trace: &EntryReader, course: &mut Course) -> Result<Hearing, Memory>
-    requires { (bytes : List ℕ) × (text : List ℕ) × AreBothDone trace.now course.old bytes text }
-    ensures { (bytes : List ℕ) (text : List ℕ) → AreBothDone trace.now course.old bytes text
+fn hearing_of(
+    alloc: Global,
+    trace: &EntryReader,
+    course: &mut Course,
+    judge: Option<Judge>,
+) -> Result<Hearing, Memory>
+    requires { (bytes : List ℕ) × (text : List ℕ) × AreBothDone trace.now course.old judge bytes text }
+    ensures { (bytes : List ℕ) (text : List ℕ) → AreBothDone trace.now course.old judge bytes text
         → IfOk result (λ hearing. IsOutcome course.old.knobs bytes text hearing.outcome
         × TellsCharges text hearing.tells_charges) }
 {
     let tells_charges = course.tells_charges();
-    let outcome = outcome_of_both(alloc, trace, course)?;
+    let outcome = outcome_of_both(alloc, trace, course, judge)?;
     Ok(Hearing {
         outcome,
         tells_charges,
@@ -98,14 +106,15 @@ fn outcome_of_both(
     alloc: Global,
     trace: &EntryReader,
     course: &mut Course,
+    judge: Option<Judge>,
 ) -> Result<StreamOutcome, Memory>
-    requires { (bytes : List ℕ) × (text : List ℕ) × AreBothDone trace.now course.old bytes text }
-    ensures { (bytes : List ℕ) (text : List ℕ) → AreBothDone trace.now course.old bytes text
+    requires { (bytes : List ℕ) × (text : List ℕ) × AreBothDone trace.now course.old judge bytes text }
+    ensures { (bytes : List ℕ) (text : List ℕ) → AreBothDone trace.now course.old judge bytes text
         → IfOk result (IsOutcome course.old.knobs bytes text) }
 {
     one_trace_answer();
     match trace.finish() {
-        Ok(()) => outcome_of(course.finish(alloc)?),
+        Ok(()) => outcome_of(course.finish(alloc, judge)?),
         Err(fault) => refused(fault.into()),
     }
 }

@@ -1,89 +1,53 @@
-ghost use Rattle.std.specs.Io.KnownBytes.{IsAtEnd};
-ghost use Rattle.std.specs.Prelude.{◌≡◌, ◌≢◌, ◌⊎◌, ◌++◌, ◌+◌, ◌<◌, ◌≤◌, ℕ, Bool, List, Option, [], false, true, not};
-ghost use Rattle.std.specs.Prelude.{IfErr, IfOk, IsNone, OnOk, length};
+ghost use Rattle.std.specs.Prelude.{◌≡◌, ◌⊎◌, ◌<◌, ◌≤◌, ℕ, Bool, List, Option, false, true};
+ghost use Rattle.std.specs.Prelude.{IfErr, IfOk, OnOk, drop, length};
 ghost use Rattle.audit_input.specs.Known.{IsCutShort, most_reads};
+ghost use Rattle.cfs_model.specs.Claimed.{Claimed};
 ghost use Rattle.cfs_model.specs.Knobs.{KnobsView};
-ghost use Rattle.cfs_model.specs.declared.act.Entry.{Entry as Event};
-ghost use Rattle.entry_reader.specs.Reader.{HasReadOut, entries_of};
-ghost use Rattle.input_blocks.specs.Blocks.{ComesTo, IsAmid};
-ghost use Rattle.input_blocks.specs.OfEntries.{ReadsEntries};
 ghost use Rattle.stream_audit.specs.Companion.{IsFedBy};
-ghost use Rattle.stream_audit.specs.Course.{AreEventsNext, CourseGoesOn, IsReadyFor};
+ghost use Rattle.stream_audit.specs.Course.{AreJudged, IsCalm, IsIdle, WereJudged};
 ghost use Rattle.stream_audit.specs.Hearing.{IsHeard, IsReady, input_of};
+ghost use Rattle.stream_audit.specs.Listening.{EndsBoth, HasCome, HasHeardNothing, IsComing, IsReadBy, IsTakenOut};
+ghost use Rattle.stream_audit.specs.Listening.{IsUnderWay};
+ghost use Rattle.stream_audit.specs.declared.course.Course.{Course as CourseOf};
 
-use crate::course::Course;
-use crate::{Past, Sizes};
+use crate::course::judge_waiting;
+use crate::intake::Intake;
+use crate::{Judge, Past, Sizes};
 use audit_input::{Fault, Feed};
-use cfs_model::{Entry, Knobs, Memory};
-use entry_reader::EntryReader;
-use input_blocks::LineBlocks;
+use cfs_model::{Knobs, Memory};
 use pid_table::PidHasher;
 use std::alloc::Global;
 use std::thread::{Threads, join_mut};
+use window_audit::first_of_threads;
 
-/// How many bytes of the companion a read asks for, at most. What it says ahead of the trace is moved each time that
-/// what was passed is let go.
-const COMPANION_BLOCK: u32 = 1 << 17;
-
-/// What was heard so far of two inputs that are read a block at a time: the trace is a block ahead of the audit.
+/// What was heard so far of two inputs that are read a block at a time: while a window is judged, the next one is made
+/// of what comes in.
 #[derive(Drop)]
 pub(crate) struct Listener {
-    /// Of the trace.
-    blocks: LineBlocks,
-    pub reader: EntryReader,
-    /// Those of the block before, which are audited while the next one is read; the room for them is used again.
-    events: Vec<Entry>,
-    pub course: Course,
-    /// How many events are audited at once, at most.
-    most: usize,
-    /// Whether a block is read while the one before it is audited.
+    pub intake: Intake,
+    /// None before the first window is handed on.
+    pub judge: Option<Judge>,
+    /// Whether the next window is made while one is judged.
     ahead: bool,
-    ghost some: { 0 < most },
 }
 
 impl Listener {
-    ghost use Rattle.stream_audit.specs.Listening.{EndsBoth, HasHeardNothing, IsReadBy, IsUnderWay};
-
-    /// Before the first block. Pids are hashed by these keys.
+    /// Before the first read. Pids are hashed by these keys.
     pub fn new(alloc: Global, knobs: Knobs, sizes: Sizes, hasher: PidHasher) -> Listener
         ensures under_way { HasHeardNothing knobs result }
-        ensures reads { result.blocks.reads ≡ 0 }
-        ensures fed { IsFedBy 0 false false result.course.companion }
+        ensures reads { result.intake.blocks.reads ≡ 0 }
+        ensures fed { IsFedBy 0 false false result.intake.course.companion }
     {
-        let blocks = LineBlocks::new(alloc, sizes.block());
-        let reader = EntryReader::new(alloc);
-        let course = Course::new(alloc, sizes.block().min(COMPANION_BLOCK), knobs, hasher);
         Listener {
-            blocks,
-            reader,
-            events: Vec::new(alloc),
-            course,
-            most: sizes.window(),
+            intake: Intake::new(alloc, knobs, sizes, hasher),
+            judge: None,
             ahead: sizes.reads_ahead(),
         }
     }
 
-    /// Reads the trace's first block, and says whether the trace goes on.
-    pub fn begin<T: Feed>(&mut self, trace: &mut T) -> Result<bool, Fault>
-        requires unended { T.has_ended trace.old ≡ false }
-        requires counted { T.calls trace.old ≡ self.old.blocks.reads }
-        requires unfailed { T.has_failed trace.old ≡ false }
-        ensures under_way { (knobs : KnobsView) (trace_gave : Option (List ℕ)) (gave : Option (List ℕ))
-            (left : Option (List ℕ)) → IsUnderWay knobs trace_gave (T.left trace.old) gave left self.old true
-            → IfOk result (IsUnderWay knobs trace_gave (T.left trace.new) gave left self.new) }
-        ensures read { IfOk result (IsReadBy (T.left trace.new) (T.calls trace.new) (T.has_failed trace.new)
-            (T.has_ended trace.new) self.new.blocks) }
-        ensures companion { self.new.course.companion ≡ self.old.course.companion }
-        ensures bounded { T.calls trace.new ≤ most_reads }
-        ensures cut_short { IfErr result (λ e. ((e ≡ Fault.Memory) × (T.has_failed trace.new ≡ false))
-            ⊎ ((e ≡ Fault.ReadTrace) × IsCutShort (T.has_failed trace.new) (T.calls trace.new))) }
-    {
-        self.blocks.next(trace, &mut self.reader, Fault::ReadTrace)
-    }
-
-    /// Audits the block that was read last, and reads the trace's next one, beside that or behind it; says whether the
-    /// trace goes on.
-    pub fn go_on<R: Threads + Sync, T: Feed, C: Feed, P: Past + Send>(
+    /// Judges the window that waits, and makes the next one of what comes in, beside that or behind it. Says whether
+    /// the trace goes on.
+    pub fn go_on<R: Threads + Sync, T: Feed, C: Feed, P: Past>(
         &mut self,
         rt: &R,
         alloc: Global,
@@ -94,55 +58,84 @@ impl Listener {
         requires under_way { (knobs : KnobsView) × (trace_gave : Option (List ℕ)) × (gave : Option (List ℕ))
             × IsUnderWay knobs trace_gave (T.left trace.old) gave (C.left companion.old) self.old true }
         requires read { IsReadBy (T.left trace.old) (T.calls trace.old) (T.has_failed trace.old)
-            (T.has_ended trace.old) self.old.blocks true }
+            (T.has_ended trace.old) self.old.intake.blocks true }
         requires fed { IsFedBy (C.calls companion.old) (C.has_ended companion.old) (C.has_failed companion.old)
-            self.old.course.companion }
+            self.old.intake.course.companion }
         ensures under_way { (knobs : KnobsView) (trace_gave : Option (List ℕ)) (gave : Option (List ℕ))
             → IsUnderWay knobs trace_gave (T.left trace.old) gave (C.left companion.old) self.old true
             → IfOk result (IsUnderWay knobs trace_gave (T.left trace.new) gave (C.left companion.new) self.new) }
         ensures read { IfOk result (IsReadBy (T.left trace.new) (T.calls trace.new) (T.has_failed trace.new)
-            (T.has_ended trace.new) self.new.blocks) }
-        ensures one_read { OnOk result (self.new.blocks.reads ≡ self.old.blocks.reads + 1) }
+            (T.has_ended trace.new) self.new.intake.blocks) }
+        ensures read_on { OnOk result (self.old.intake.blocks.reads < self.new.intake.blocks.reads) }
+        ensures taken { OnOk result (IsTakenOut self.new.intake) }
         ensures fed { OnOk result (IsFedBy (C.calls companion.new) (C.has_ended companion.new)
-            (C.has_failed companion.new) self.new.course.companion) }
+            (C.has_failed companion.new) self.new.intake.course.companion) }
         ensures reads { IfErr result (EndsBoth
             (input_of (T.left trace.new) (T.calls trace.new) (T.has_failed trace.new) (T.has_ended trace.new))
             (input_of (C.left companion.new) (C.calls companion.new) (C.has_failed companion.new)
             (C.has_ended companion.new))) }
     {
         trace.note_findings(self.findings());
-        if let Err(fault) = make_ready(
-            &mut self.reader,
-            &mut self.events,
-            &mut self.course,
-            companion,
-        ) {
-            return Err(fault_behind(&mut self.blocks, trace, fault));
-        }
-        let (went, read) = audit_and_read(
+        let calm = self.intake.course.is_calm();
+        let (judged, came) = judge_and_come(
             rt,
             alloc,
-            &mut self.course,
-            &self.events,
-            self.most,
-            past,
-            &mut self.blocks,
+            calm,
+            &mut self.judge,
+            &mut self.intake,
             trace,
-            &mut self.reader,
+            companion,
             self.ahead,
         );
-        let goes_on = read?;
-        went?;
+        let goes_on = came?;
+        judged?;
+        self.hand_on(rt, alloc, calm, past)?;
         Ok(goes_on)
     }
 
     /// How much was found for which a line of the trace is quoted, or of the companion.
     fn findings(&self) -> u32 {
-        u32::from(!self.reader.is_good()).saturating_add(self.course.findings())
+        let told = match &self.judge {
+            Some(judge) => judge.findings(),
+            None => 0,
+        };
+        self.intake.findings().saturating_add(told)
     }
 
-    /// Audits the last block of the trace, and reads the companion to its end.
-    pub fn read_rest<R: Threads + Sync, C: Feed, P: Past + Send>(
+    /// Lets the window go that was judged, hands on what was joined meanwhile, and goes through what came beyond that.
+    fn hand_on<R: Threads + Sync, P: Past>(
+        &mut self,
+        rt: &R,
+        alloc: Global,
+        calm: bool,
+        past: &mut P,
+    ) -> Result<(), Memory>
+        requires calm { calm ≡ false → IsCalm self.old.intake.course → ⊥ }
+        requires next { self.old.intake.next ≤ length self.old.intake.events.items }
+        requires ready { (knobs : KnobsView) × (gave : Option (List ℕ)) × (left : Option (List ℕ)) × (bytes : List ℕ)
+            × (handed : List Claimed) × IsReady knobs gave left bytes self.old.intake.reader self.old.intake.course
+            handed (drop self.old.intake.next self.old.intake.events.items)
+            × WereJudged self.old.intake.course handed self.old.judge }
+        ensures heard { (knobs : KnobsView) (gave : Option (List ℕ)) (left : Option (List ℕ)) (bytes : List ℕ)
+            (handed : List Claimed) → IsReady knobs gave left bytes self.old.intake.reader self.old.intake.course
+            handed (drop self.old.intake.next self.old.intake.events.items)
+            → WereJudged self.old.intake.course handed self.old.judge
+            → OnOk result (IsHeard knobs gave left bytes self.new.intake.reader self.new.intake.course
+            self.new.judge) }
+        ensures reader { self.new.intake.reader ≡ self.old.intake.reader }
+        ensures blocks { self.new.intake.blocks ≡ self.old.intake.blocks }
+        ensures fed { (calls : ℕ) (has_ended : Bool) (has_failed : Bool)
+            → IsFedBy calls has_ended has_failed self.old.intake.course.companion
+            → IsFedBy calls has_ended has_failed self.new.intake.course.companion }
+    {
+        let Listener { intake, judge, .. } = self;
+        intake.course.let_go(alloc, calm, judge, past)?;
+        intake.course.hand_on(alloc, judge, past)?;
+        intake.go_through_rest(rt, alloc, judge, past)
+    }
+
+    /// Judges the last window, and reads the companion to its end.
+    pub fn read_rest<R: Threads + Sync, C: Feed, P: Past>(
         &mut self,
         rt: &R,
         alloc: Global,
@@ -150,151 +143,89 @@ impl Listener {
         past: &mut P,
     ) -> Result<(), Fault>
         requires heard { (knobs : KnobsView) × (gave : Option (List ℕ)) × (bytes : List ℕ)
-            × IsHeard knobs gave (C.left companion.old) bytes self.old.reader self.old.course }
+            × IsHeard knobs gave (C.left companion.old) bytes self.old.intake.reader self.old.intake.course
+            self.old.judge }
         requires fed { IsFedBy (C.calls companion.old) (C.has_ended companion.old) (C.has_failed companion.old)
-            self.old.course.companion }
+            self.old.intake.course.companion }
         ensures heard { (knobs : KnobsView) (gave : Option (List ℕ)) (bytes : List ℕ)
-            → IsHeard knobs gave (C.left companion.old) bytes self.old.reader self.old.course
-            → OnOk result (IsHeard knobs gave (C.left companion.new) bytes self.new.reader self.new.course) }
-        ensures taken { OnOk result (IsNone self.new.reader.bad → entries_of self.new.reader ≡ []) }
-        ensures done { OnOk result (self.new.course.companion.goes_on ≡ false) }
+            → IsHeard knobs gave (C.left companion.old) bytes self.old.intake.reader self.old.intake.course
+            self.old.judge
+            → OnOk result (IsHeard knobs gave (C.left companion.new) bytes self.new.intake.reader
+            self.new.intake.course self.new.judge) }
+        ensures reader { self.new.intake.reader ≡ self.old.intake.reader }
+        ensures idle { OnOk result (IsIdle self.new.judge) }
+        ensures done { OnOk result (self.new.intake.course.companion.goes_on ≡ false) }
         ensures fed { OnOk result (IsFedBy (C.calls companion.new) (C.has_ended companion.new)
-            (C.has_failed companion.new) self.new.course.companion) }
+            (C.has_failed companion.new) self.new.intake.course.companion) }
         ensures bounded { C.calls companion.new ≤ most_reads }
         ensures cut_short { IfErr result (λ e. ((e ≡ Fault.Memory) × (C.has_failed companion.new ≡ false))
             ⊎ ((e ≡ Fault.ReadCompanion) × IsCutShort (C.has_failed companion.new) (C.calls companion.new))) }
     {
-        make_ready(
-            &mut self.reader,
-            &mut self.events,
-            &mut self.course,
-            companion,
-        )?;
-        self.course
-            .go_through(rt, alloc, &self.events, self.most, past)?;
-        self.course.read_rest(companion)
+        let Listener { intake, judge, .. } = self;
+        let course = &mut intake.course;
+        course.judge(rt, alloc, judge, past)?;
+        course.read_rest(companion)
     }
 }
 
-/// Audits the events that were taken out, and reads the trace's next block beside that, or behind it. Beside it the
-/// audit has a thread of its own, so no input goes to another thread.
-fn audit_and_read<R: Threads + Sync, T: Feed, P: Past + Send>(
+/// Judges the window that waits, and makes the next one beside that, or behind it. Beside it the judge has a thread of
+/// its own, so no input goes to another thread.
+fn judge_and_come<R: Threads + Sync, T: Feed, C: Feed>(
     rt: &R,
     alloc: Global,
-    course: &mut Course,
-    events: &[Entry],
-    most: usize,
-    past: &mut P,
-    blocks: &mut LineBlocks,
+    calm: bool,
+    judge: &mut Option<Judge>,
+    intake: &mut Intake,
     trace: &mut T,
-    reader: &mut EntryReader,
+    companion: &mut C,
     ahead: bool,
 ) -> (Result<(), Memory>, Result<bool, Fault>)
-    requires some { 0 < most }
-    requires ready { (gave : Option (List ℕ)) × (left : Option (List ℕ)) × (before : List Event)
-        × IsReadyFor course.old.knobs gave left course.old before events.now }
-    requires unended { T.has_ended trace.old ≡ false }
-    requires counted { T.calls trace.old ≡ blocks.old.reads }
-    ensures went { (gave : Option (List ℕ)) (left : Option (List ℕ)) (before : List Event)
-        → IsReadyFor course.old.knobs gave left course.old before events.now
-        → OnOk result.0 (CourseGoesOn course.old.knobs gave left course.new (before ++ events.now)) }
-    ensures fed { (calls : ℕ) (has_ended : Bool) (has_failed : Bool)
-        → IsFedBy calls has_ended has_failed course.old.companion
-        → OnOk result.0 (IsFedBy calls has_ended has_failed course.new.companion) }
-    ensures passed { (gave : Option (List ℕ)) (done : List ℕ)
-        → IsAmid ReadsEntries gave (T.left trace.old) blocks.old done
-        → IfOk result.1 (λ goes_on. ComesTo ReadsEntries reader.old reader.new gave (T.left trace.new) blocks.new done
-        goes_on) }
-    ensures end { IfOk result.1 (λ goes_on. goes_on ≡ false → IsAtEnd (T.left trace.new)) }
-    ensures ended { IfOk result.1 (λ goes_on. T.has_ended trace.new ≡ not goes_on) }
-    ensures counted { OnOk result.1 (T.calls trace.new ≡ blocks.new.reads) }
-    ensures one_read { OnOk result.1 (blocks.new.reads ≡ blocks.old.reads + 1) }
-    ensures bounded { T.calls trace.new ≤ most_reads }
-    ensures heard { OnOk result.1 (T.has_failed trace.new ≡ T.has_failed trace.old) }
-    ensures cut_short { IfErr result.1 (λ e. ((e ≡ Fault.Memory) × (T.has_failed trace.new ≡ T.has_failed trace.old))
-        ⊎ ((e ≡ Fault.ReadTrace) × IsCutShort (T.has_failed trace.new) (T.calls trace.new))) }
+    requires judged { calm ≡ true → (course : CourseOf) × (handed : List Claimed) × IsCalm course
+        × AreJudged course handed judge.old }
+    requires coming { (knobs : KnobsView) × (trace_gave : Option (List ℕ)) × (gave : Option (List ℕ))
+        × (handed : List Claimed)
+        × IsComing knobs trace_gave (T.left trace.old) gave (C.left companion.old) intake.old handed }
+    requires read { IsReadBy (T.left trace.old) (T.calls trace.old) (T.has_failed trace.old)
+        (T.has_ended trace.old) intake.old.blocks true }
+    requires fed { IsFedBy (C.calls companion.old) (C.has_ended companion.old) (C.has_failed companion.old)
+        intake.old.course.companion }
+    ensures judged { (course : CourseOf) (handed : List Claimed) → (IsCalm course → calm ≡ true)
+        → AreJudged course handed judge.old → OnOk result.0 (WereJudged course handed judge.new) }
+    ensures came { (knobs : KnobsView) (trace_gave : Option (List ℕ)) (gave : Option (List ℕ))
+        (handed : List Claimed)
+        → IsComing knobs trace_gave (T.left trace.old) gave (C.left companion.old) intake.old handed
+        → IfOk result.1 (HasCome knobs trace_gave (T.left trace.new) gave (C.left companion.new) intake.old.course
+        intake.new handed) }
+    ensures read { IfOk result.1 (IsReadBy (T.left trace.new) (T.calls trace.new) (T.has_failed trace.new)
+        (T.has_ended trace.new) intake.new.blocks) }
+    ensures read_on { OnOk result.1 (intake.old.blocks.reads < intake.new.blocks.reads) }
+    ensures taken { OnOk result.1 (IsTakenOut intake.new) }
+    ensures next { OnOk result.1 (intake.new.next ≤ length intake.new.events.items) }
+    ensures fed { OnOk result.1 (IsFedBy (C.calls companion.new) (C.has_ended companion.new)
+        (C.has_failed companion.new) intake.new.course.companion) }
+    ensures reads { IfErr result.1 (EndsBoth
+        (input_of (T.left trace.new) (T.calls trace.new) (T.has_failed trace.new) (T.has_ended trace.new))
+        (input_of (C.left companion.new) (C.calls companion.new) (C.has_failed companion.new)
+        (C.has_ended companion.new))) }
 {
-    if !ahead {
-        let went = course.go_through(rt, alloc, events, most, past);
-        return (went, blocks.next(trace, reader, Fault::ReadTrace));
+    let alone = judge.is_none();
+    if alone || !ahead {
+        let judged = judge_waiting(rt, alloc, calm, judge);
+        return (judged, intake.come(alloc, trace, companion, alone));
     }
-    join_mut(
+    let first = first_of_threads(rt);
+    let both = join_mut(
         rt,
         &mut ||
-            requires some { 0 < most }
-            requires ready { (gave : Option (List ℕ)) × (left : Option (List ℕ)) × (before : List Event)
-                × IsReadyFor course.now.knobs gave left course.now before events.now }
-            ensures went { (gave : Option (List ℕ)) (left : Option (List ℕ)) (before : List Event)
-                → IsReadyFor course.entry.now.knobs gave left course.entry.now before events.entry.now
-                → OnOk result (CourseGoesOn course.entry.now.knobs gave left course.exit.now
-                (before ++ events.entry.now)) }
-            ensures fed { (calls : ℕ) (has_ended : Bool) (has_failed : Bool)
-                → IsFedBy calls has_ended has_failed course.entry.now.companion
-                → OnOk result (IsFedBy calls has_ended has_failed course.exit.now.companion) }
-        { course.go_through(rt, alloc, events, most, past) },
-        &mut || blocks.next(trace, reader, Fault::ReadTrace),
-    )
-}
-
-/// Takes out the events that were read, where no line of the trace is bad, and reads the companion past them.
-fn make_ready<C: Feed>(
-    reader: &mut EntryReader,
-    events: &mut Vec<Entry>,
-    course: &mut Course,
-    companion: &mut C,
-) -> Result<(), Fault>
-    requires fed { IsFedBy (C.calls companion.old) (C.has_ended companion.old) (C.has_failed companion.old)
-        course.old.companion }
-    ensures ready { (knobs : KnobsView) (gave : Option (List ℕ)) (bytes : List ℕ)
-        → IsHeard knobs gave (C.left companion.old) bytes reader.old course.old
-        → OnOk result (IsReady knobs gave (C.left companion.new) bytes reader.new course.new events.new.items) }
-    ensures taken { OnOk result (IsNone reader.new.bad → entries_of reader.new ≡ []) }
-    ensures knobs { course.new.knobs ≡ course.old.knobs }
-    ensures fed { OnOk result (IsFedBy (C.calls companion.new) (C.has_ended companion.new) (C.has_failed companion.new)
-        course.new.companion) }
-    ensures bounded { C.calls companion.new ≤ most_reads }
-    ensures cut_short { IfErr result (λ e. ((e ≡ Fault.Memory) × (C.has_failed companion.new ≡ false))
-        ⊎ ((e ≡ Fault.ReadCompanion) × IsCutShort (C.has_failed companion.new) (C.calls companion.new))) }
-{
-    take_good(reader, events);
-    course.read_past(companion, events)
-}
-
-/// Takes out the events that were read, where no line of the trace is bad, and else none.
-fn take_good(reader: &mut EntryReader, events: &mut Vec<Entry>)
-    ensures given { (lines : List (List ℕ)) (given : List Event) → HasReadOut reader.old lines given
-        → HasReadOut reader.new lines (given ++ events.new.items) }
-    ensures next { (lines : List (List ℕ)) (given : List Event) → HasReadOut reader.old lines given
-        → 0 < length events.new.items → AreEventsNext given events.new.items }
-    ensures taken { IsNone reader.new.bad → entries_of reader.new ≡ [] }
-{
-    if reader.is_good() {
-        reader.take_out(events);
-    } else {
-        events.clear();
+            requires judged { calm ≡ true → (course : CourseOf) × (handed : List Claimed) × IsCalm course
+                × AreJudged course handed judge.now }
+            ensures judged { (course : CourseOf) (handed : List Claimed) → (IsCalm course → calm ≡ true)
+                → AreJudged course handed judge.entry.now → OnOk result (WereJudged course handed judge.exit.now) }
+        { judge_waiting(rt, alloc, calm, judge) },
+        &mut || intake.come(alloc, trace, companion, alone),
+    );
+    if let Some(first) = first {
+        first.join(rt);
     }
-}
-
-/// A fault of the companion is told only where the trace has none: what is left of the trace is read.
-fn fault_behind<T: Feed>(blocks: &mut LineBlocks, trace: &mut T, fault: Fault) -> Fault
-    requires ended { T.has_ended trace.old ≡ false }
-    requires counted { T.calls trace.old ≡ blocks.old.reads }
-    requires read { 0 < blocks.old.reads }
-    requires heard { T.has_failed trace.old ≡ false }
-    requires fault { (fault ≡ Fault.Memory) ⊎ (fault ≡ Fault.ReadCompanion) }
-    ensures memory { result ≡ Fault.Memory → (fault ≡ Fault.Memory) × (T.has_failed trace.new ≡ false) }
-    ensures trace { result ≡ Fault.ReadTrace → IsCutShort (T.has_failed trace.new) (T.calls trace.new) }
-    ensures companion { result ≡ Fault.ReadCompanion → (fault ≡ Fault.ReadCompanion)
-        × (T.has_ended trace.new ≡ true) × (T.has_failed trace.new ≡ false) }
-    ensures one { (result ≡ Fault.Memory) ⊎ (result ≡ Fault.ReadTrace) ⊎ (result ≡ Fault.ReadCompanion) }
-    ensures bounded { T.calls trace.new ≤ most_reads }
-{
-    match fault {
-        // Nothing is read behind it.
-        Fault::Memory => Fault::Memory,
-        _ => match blocks.drain(trace, Fault::ReadTrace) {
-            Ok(()) => fault,
-            Err(earlier) => earlier,
-        },
-    }
+    both
 }

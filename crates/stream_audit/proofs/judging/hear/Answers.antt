@@ -1,48 +1,37 @@
-use Rattle.std.proofs.Common.{◌≤◌, ◌∙◌, ℕ, inl, refl, sym, subst, arith}
+use Rattle.std.proofs.Common.{◌≡◌, ◌≤◌, ◌∙◌, ℕ, [], Option, inl, refl, sym, subst}
+use Rattle.std.specs.Prelude.{IsNone}
+use Rattle.entry_reader.specs.Reader.{entries_of}
+use Rattle.entry_reader.specs.declared.reader.EntryReader.{EntryReader}
 use Rattle.audit_input.specs.Known.{most_reads}
-use Rattle.audit_input.specs.declared.fault.Fault.TheVariants.{Memory, ReadCompanion, ReadTrace}
+use Rattle.audit_input.specs.declared.fault.Fault.TheVariants.{Memory, ReadCompanion}
 use Rattle.input_blocks.specs.OfEntries.{ReadsEntries}
 use Rattle.stream_audit.proofs.BothRead.{both_read, companion_cut, few_reads, no_write, read_or_memory, told_by}
-use Rattle.stream_audit.proofs.BothRead.{trace_cut, unwritten_by}
+use Rattle.stream_audit.proofs.BothRead.{unwritten_by}
 use Rattle.stream_audit.proofs.Heard.{all_that_came, both_done, hearing_is, none_left, read_to_end, text_of}
-use Rattle.stream_audit.proofs.UnderWay.{fed_as, still_read, still_under_way}
+use Rattle.stream_audit.specs.Hearing.{AreBothDone}
+use Rattle.stream_audit.specs.declared.judge.Judge.{Judge}
+use Rattle.stream_audit.proofs.UnderWay.{still_read, still_under_way}
 use Rattle.stream_audit.proofs.judging.hear.Goals as goal
-
-pub begin-requires-clause-unended : goal.begin-requires-clause-unended
-begin-requires-clause-unended g c = (g.met.T.Feed.untouched c.args.trace.now c.requires.trace).1
-
-pub begin-requires-clause-counted : goal.begin-requires-clause-counted
-begin-requires-clause-counted g c = c.requires.trace ∙ sym c.requires.unread
-
-pub begin-requires-clause-unfailed : goal.begin-requires-clause-unfailed
-begin-requires-clause-unfailed g c = (g.met.T.Feed.untouched c.args.trace.now c.requires.trace).0
-
-pub returns-in_err-goes_on-clause-reads : goal.returns-in_err-goes_on-clause-reads
-returns-in_err-goes_on-clause-reads g c =
-    let companion = g.met.C.Feed.untouched c.args.companion.now c.requires.companion in
-    let failed = c.in_err-goes_on.ensures in
-    told_by _ _ c.from_residual.result c.in_err-goes_on.field-0.0 c.from_residual.ensures.1
-    (trace_cut _ _ _ failed.cut_short companion.0
-    (failed.bounded, subst (λ (n : ℕ). n ≤ most_reads) (sym c.requires.companion) (omega arith)))
-
-pub returns-in_err-goes_on-clause-unwritten : goal.returns-in_err-goes_on-clause-unwritten
-returns-in_err-goes_on-clause-unwritten g c =
-    unwritten_by c.from_residual.result c.in_err-goes_on.field-0.0 c.from_residual.ensures.1
-    (read_or_memory _ ReadTrace _ _ (λ e. cc) c.in_err-goes_on.ensures.cut_short)
 
 pub loop-goes_on-init : goal.loop-goes_on-init
 loop-goes_on-init g c =
+    let trace = g.met.T.Feed.untouched c.args.trace.now c.requires.trace in
     let companion = g.met.C.Feed.untouched c.args.companion.now c.requires.companion in
     let fed = c.requires.unfed in
     record {
-      read = c.in_ok-goes_on.ensures.read;
-      fed = fed_as _ _ _ c.args.listener.now.course.companion _ c.in_ok-goes_on.ensures.companion (record {
+      read = record {
+        counted = c.requires.trace ∙ sym c.requires.unread;
+        heard = trace.0;
+        ended = trace.1;
+        at_end = λ e. cc;
+      };
+      fed = record {
         counted = c.requires.companion ∙ fed.counted;
         ended = companion.1 ∙ fed.ended;
         heard = companion.0;
-      });
-      under_way = λ knobs nothing. c.in_ok-goes_on.ensures.under_way knobs _ _ _
-          (nothing (g.T.Feed.left c.args.trace.now) (g.C.Feed.left c.args.companion.now));
+      };
+      taken = λ e. cc;
+      under_way = λ knobs nothing. nothing (g.T.Feed.left c.args.trace.now) (g.C.Feed.left c.args.companion.now);
     }
 
 pub go_on-requires-clause-under_way : goal.go_on-requires-clause-under_way
@@ -56,31 +45,32 @@ go_on-requires-clause-under_way g c κs within = (
 
 pub go_on-requires-clause-read : goal.go_on-requires-clause-read
 go_on-requires-clause-read g c κs within =
-    still_read _ _ _ _ c.loop-goes_on.listener.blocks _ c.loop-goes_on-test.true c.loop-goes_on.invariant.read
+    still_read _ _ _ _ c.loop-goes_on.listener.intake.blocks _ c.loop-goes_on-test.true c.loop-goes_on.invariant.read
 
 pub go_on-requires-clause-fed : goal.go_on-requires-clause-fed
 go_on-requires-clause-fed g c κs within = c.loop-goes_on.invariant.fed
 
 pub loop-goes_on-preserved : goal.loop-goes_on-preserved
 loop-goes_on-preserved g c =
-    let went = c.in_ok-goes_on-2.ensures in
+    let went = c.in_ok-goes_on.ensures in
     record {
       read = went.read;
       fed = went.fed;
+      taken = λ ended. went.taken;
       under_way = λ knobs nothing. went.under_way knobs _ _
           (still_under_way _ _ _ _ _ c.loop-goes_on.listener _ c.loop-goes_on-test.true
           (c.loop-goes_on.invariant.under_way knobs nothing));
     }
 
-pub returns-in_err-goes_on-2-clause-reads : goal.returns-in_err-goes_on-2-clause-reads
-returns-in_err-goes_on-2-clause-reads g c =
-    told_by _ _ c.from_residual-in_err-goes_on-2.result c.in_err-goes_on-2.field-0.0
-    c.from_residual-in_err-goes_on-2.ensures.1 c.in_err-goes_on-2.ensures.reads.0
+pub returns-in_err-goes_on-clause-reads : goal.returns-in_err-goes_on-clause-reads
+returns-in_err-goes_on-clause-reads g c =
+    told_by _ _ c.from_residual.result c.in_err-goes_on.field-0.0 c.from_residual.ensures.1
+    c.in_err-goes_on.ensures.reads.0
 
-pub returns-in_err-goes_on-2-clause-unwritten : goal.returns-in_err-goes_on-2-clause-unwritten
-returns-in_err-goes_on-2-clause-unwritten g c =
-    unwritten_by c.from_residual-in_err-goes_on-2.result c.in_err-goes_on-2.field-0.0
-    c.from_residual-in_err-goes_on-2.ensures.1 c.in_err-goes_on-2.ensures.reads.1
+pub returns-in_err-goes_on-clause-unwritten : goal.returns-in_err-goes_on-clause-unwritten
+returns-in_err-goes_on-clause-unwritten g c =
+    unwritten_by c.from_residual.result c.in_err-goes_on.field-0.0 c.from_residual.ensures.1
+    c.in_err-goes_on.ensures.reads.1
 
 pub read_rest-requires-clause-heard : goal.read_rest-requires-clause-heard
 read_rest-requires-clause-heard g c κs within =
@@ -97,8 +87,10 @@ returns-in_err-read_rest-clause-reads g c =
     let failed = c.in_err-read_rest.ensures in
     told_by _ _ c.from_residual-in_err-read_rest.result c.in_err-read_rest.field-0.0
     c.from_residual-in_err-read_rest.ensures.1
-    (companion_cut _ _ _ failed.cut_short (read_to_end _ _ read.ended c.loop-goes_on-test.false) read.heard
-    (subst (λ (n : ℕ). n ≤ most_reads) (sym read.counted) c.loop-goes_on.listener.blocks.bounded, failed.bounded))
+    (companion_cut _ _ _ failed.cut_short (read_to_end _ _ read.ended c.loop-goes_on-test.false) read.heard (
+      subst (λ (n : ℕ). n ≤ most_reads) (sym read.counted) c.loop-goes_on.listener.intake.blocks.bounded,
+      failed.bounded,
+    ))
 
 pub returns-in_err-read_rest-clause-unwritten : goal.returns-in_err-read_rest-clause-unwritten
 returns-in_err-read_rest-clause-unwritten g c =
@@ -112,12 +104,18 @@ hearing_of-requires g c =
     let under = c.loop-goes_on.invariant.under_way knobs c.requires.nothing.1 in
     let rest = c.in_ok-read_rest.ensures in
     let gave = g.C.Feed.left c.args.companion.now in
-    let reader = c.read_rest.new.self.reader in
-    let course = c.read_rest.new.self.course in
+    let listener = c.read_rest.new.self in
+    let reader = listener.intake.reader in
+    let course = listener.intake.course in
     let heard = rest.heard knobs gave under.bytes under.heard in (
       under.bytes,
-      text_of knobs gave _ reader course under.bytes heard rest.done,
-      both_done knobs gave _ reader course under.bytes heard rest.done rest.taken,
+      text_of knobs gave _ reader course listener.judge under.bytes heard rest.done,
+      subst (λ (j : Option Judge). AreBothDone reader course j under.bytes
+          (text_of knobs gave _ reader course listener.judge under.bytes heard rest.done))
+          (sym c.take-judge.ensures.value)
+          (both_done knobs gave _ reader course listener.judge under.bytes heard rest.done
+          (subst (λ (r : EntryReader). IsNone r.bad → entries_of r ≡ []) (sym rest.reader)
+          (c.loop-goes_on.invariant.taken c.loop-goes_on-test.false)) rest.idle),
     )
 
 pub returns-clause-outcome : goal.returns-clause-outcome
@@ -125,14 +123,20 @@ returns-clause-outcome g c = λ knobs nothing.
     let under = c.loop-goes_on.invariant.under_way knobs nothing in
     let rest = c.in_ok-read_rest.ensures in
     let gave = g.C.Feed.left c.args.companion.now in
-    let reader = c.read_rest.new.self.reader in
-    let course = c.read_rest.new.self.course in
+    let listener = c.read_rest.new.self in
+    let reader = listener.intake.reader in
+    let course = listener.intake.course in
     let heard = rest.heard knobs gave under.bytes under.heard in
-    hearing_is knobs gave _ reader course under.bytes heard rest.done _ _
-    (all_that_came ReadsEntries _ _ c.loop-goes_on.listener.blocks under.bytes c.loop-goes_on.goes_on
+    hearing_is knobs gave _ reader course listener.judge under.bytes heard rest.done _ _
+    (all_that_came ReadsEntries _ _ c.loop-goes_on.listener.intake.blocks under.bytes c.loop-goes_on.goes_on
     c.loop-goes_on-test.false under.stands)
-    (c.in_ok-hearing_of.ensures under.bytes _
-    (both_done knobs gave _ reader course under.bytes heard rest.done rest.taken))
+    (c.in_ok-hearing_of.ensures under.bytes
+    (text_of knobs gave _ reader course listener.judge under.bytes heard rest.done)
+    (subst (λ (j : Option Judge). AreBothDone reader course j under.bytes
+    (text_of knobs gave _ reader course listener.judge under.bytes heard rest.done)) (sym c.take-judge.ensures.value)
+    (both_done knobs gave _ reader course listener.judge under.bytes heard rest.done
+    (subst (λ (r : EntryReader). IsNone r.bad → entries_of r ≡ []) (sym rest.reader)
+    (c.loop-goes_on.invariant.taken c.loop-goes_on-test.false)) rest.idle)))
 
 pub returns-clause-reads : goal.returns-clause-reads
 returns-clause-reads g c =
@@ -141,14 +145,16 @@ returns-clause-reads g c =
     let under = c.loop-goes_on.invariant.under_way knobs c.requires.nothing.1 in
     let rest = c.in_ok-read_rest.ensures in
     let gave = g.C.Feed.left c.args.companion.now in
-    let reader = c.read_rest.new.self.reader in
-    let course = c.read_rest.new.self.course in
+    let listener = c.read_rest.new.self in
+    let reader = listener.intake.reader in
+    let course = listener.intake.course in
     let heard = rest.heard knobs gave under.bytes under.heard in
     both_read _ _ _
-    (read_to_end _ _ read.ended c.loop-goes_on-test.false, read_to_end _ _ rest.fed.ended rest.done)
-    (read.at_end c.loop-goes_on-test.false, none_left knobs gave _ reader course under.bytes heard rest.done)
-    (read.heard, rest.fed.heard) (
-      subst (λ (n : ℕ). n ≤ most_reads) (sym read.counted) c.loop-goes_on.listener.blocks.bounded,
+    (read_to_end _ _ read.ended c.loop-goes_on-test.false, read_to_end _ _ rest.fed.ended rest.done) (
+      read.at_end c.loop-goes_on-test.false,
+      none_left knobs gave _ reader course listener.judge under.bytes heard rest.done,
+    ) (read.heard, rest.fed.heard) (
+      subst (λ (n : ℕ). n ≤ most_reads) (sym read.counted) c.loop-goes_on.listener.intake.blocks.bounded,
       few_reads _ _ _ course.companion rest.fed,
     )
 
@@ -159,8 +165,8 @@ returns-in_err-hearing_of-clause-reads g c =
     told_by _ _ c.from_residual-in_err-hearing_of.result Memory c.from_residual-in_err-hearing_of.ensures.1
     (companion_cut _ _ Memory (inl (refl, fed.heard)) (read_to_end _ _ read.ended c.loop-goes_on-test.false)
     read.heard (
-      subst (λ (n : ℕ). n ≤ most_reads) (sym read.counted) c.loop-goes_on.listener.blocks.bounded,
-      few_reads _ _ _ c.read_rest.new.self.course.companion fed,
+      subst (λ (n : ℕ). n ≤ most_reads) (sym read.counted) c.loop-goes_on.listener.intake.blocks.bounded,
+      few_reads _ _ _ c.read_rest.new.self.intake.course.companion fed,
     ))
 
 pub returns-in_err-hearing_of-clause-unwritten : goal.returns-in_err-hearing_of-clause-unwritten

@@ -1,10 +1,10 @@
 -- The two inputs are under way: of the trace whole blocks were read and it goes on as was said, of the companion what
 -- these ask for, and no read failed.
-use Rattle.std.proofs.Common.{◌-◌}
+use Rattle.std.proofs.Common.{◌≡◌, ◌-◌, false}
 use Rattle.audit_input.specs.Known.{most_reads}
 use Rattle.stream_audit.specs.Companion.{IsFedBy}
 use Rattle.cfs_model.specs.Knobs.{KnobsView}
-use Rattle.stream_audit.specs.Listening.{HasHeardNothing, IsReadBy, IsUnderWay}
+use Rattle.stream_audit.specs.Listening.{HasHeardNothing, IsReadBy, IsTakenOut, IsUnderWay}
 use Rattle.stream_audit.proofs.judging.hear.Given as goal
 
 abbrev pub invariant-loop-goes_on : goal.invariant-loop-goes_on
@@ -13,13 +13,14 @@ invariant-loop-goes_on g l =
     let companion = g.C.Feed in
     record {
       read : IsReadBy (trace.left l.trace) (trace.calls l.trace) (trace.has_failed l.trace) (trace.has_ended l.trace)
-          l.listener.blocks l.goes_on;
+          l.listener.intake.blocks l.goes_on;
       fed : IsFedBy (companion.calls l.companion) (companion.has_ended l.companion) (companion.has_failed l.companion)
-          l.listener.course.companion;
+          l.listener.intake.course.companion;
+      taken : l.goes_on ≡ false → IsTakenOut l.listener.intake;
       under_way : (knobs : KnobsView) → HasHeardNothing knobs l.fn.listener
           → IsUnderWay knobs (trace.left l.fn.trace) (trace.left l.trace) (companion.left l.fn.companion)
           (companion.left l.companion) l.listener l.goes_on;
     }
 
 abbrev pub decreases-loop-goes_on : goal.decreases-loop-goes_on
-decreases-loop-goes_on g l = most_reads - l.listener.blocks.reads
+decreases-loop-goes_on g l = most_reads - l.listener.intake.blocks.reads

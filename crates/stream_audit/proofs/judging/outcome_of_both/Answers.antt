@@ -12,7 +12,7 @@ finish-requires-in-Ok c =
     let both = c.requires.2 in (
       text,
       both.events,
-      whole_course c.one_trace_answer.ensures c.args.trace.now c.args.course.now bytes text both
+      whole_course c.one_trace_answer.ensures c.args.trace.now c.args.course.now c.args.judge bytes text both
           (c.in-Ok.ensures (lines_of bytes) both.events both.has_read),
     )
 
@@ -22,8 +22,9 @@ returns-in_ok-finish-in-Ok c = λ bytes text both.
     let one = c.one_trace_answer.ensures in
     let ends = c.in-Ok.ensures (lines_of bytes) both.events both.has_read in
     c.outcome_of.ensures c.args.course.now.knobs bytes text both.events
-    (trace_told one trace c.args.course.now bytes text both ends)
-    (c.in_ok-finish-in-Ok.ensures text both.events (whole_course one trace c.args.course.now bytes text both ends))
+    (trace_told one trace c.args.course.now c.args.judge bytes text both ends)
+    (c.in_ok-finish-in-Ok.ensures text both.events
+    (whole_course one trace c.args.course.now c.args.judge bytes text both ends))
 
 pub returns-in-Err : goal.returns-in-Err
 returns-in-Err c = λ bytes text both.

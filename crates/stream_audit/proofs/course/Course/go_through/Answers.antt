@@ -12,33 +12,43 @@ pub loop-from-init : goal.loop-from-init
 loop-from-init g c = record {
   within = omega arith;
   knobs = refl;
+  handed_on = c.requires.handed_on;
   fed = λ calls has_ended has_failed fed. fed;
-  went = λ gave left before ready.
-      subst (λ (es : List Entry). IsCourseOf c.args.self.now.knobs gave left c.args.self.now ready.said es)
-      (sym (append-nil before)) ready.so_far;
-  past = λ gave left before ready some. ready.past some;
+  went = λ gave left before handed ready judged. (
+    handed,
+    subst (λ (es : List Entry). IsCourseOf c.args.self.now.knobs gave left c.args.self.now ready.said es handed)
+        (sym (append-nil before)) ready.so_far,
+    judged,
+  );
+  past = λ gave left before handed ready judged some. ready.past some;
 }
 
-pub go_on-requires-clause-next : goal.go_on-requires-clause-next
-go_on-requires-clause-next g c κs within =
+pub go_further-requires-clause-next : goal.go_further-requires-clause-next
+go_further-requires-clause-next g c κs within =
     let gave = c.requires.ready.0 in
     let left = c.requires.ready.1 in
     let before = c.requires.ready.2 in
-    let ready = c.requires.ready.3 in
+    let handed = c.requires.ready.3 in
+    let ready = c.requires.ready.4 in
+    let judged = c.requires.ready.5 in
     let so_far = c.loop-from.invariant in
     let events = c.args.events.now in
     let at = c.loop-from.from in
     let count = at + c.min.result - at in
-    let some : 0 < length events = omega arith in (
+    let some : 0 < length events = omega arith in
+    let went = so_far.went gave left before handed ready judged in (
       gave,
       left,
       ready.said,
       before ++ take at events,
-      subst (λ (k : KnobsView). IsCourseOf k gave left c.loop-from.self ready.said (before ++ take at events))
-          (sym so_far.knobs) (so_far.went gave left before ready),
+      went.0,
+      subst (λ (k : KnobsView). IsCourseOf k gave left c.loop-from.self ready.said (before ++ take at events) went.0)
+          (sym so_far.knobs) went.1,
       next_window before events at count (ready.next some),
       past_down _ (edge_of (before ++ events)) ready.said c.loop-from.self.companion
-          (window_below before events at count (ready.next some)) (so_far.past gave left before ready some),
+          (window_below before events at count (ready.next some))
+          (so_far.past gave left before handed ready judged some),
+      went.2,
     )
 
 pub loop-from-preserved : goal.loop-from-preserved
@@ -47,44 +57,56 @@ loop-from-preserved g c =
     let events = c.args.events.now in
     let at = c.loop-from.from in
     let count = at + c.min.result - at in
-    let e = c.in_ok-go_on.ensures in
+    let e = c.in_ok-go_further.ensures in
     let same : at + count ≡ at + c.min.result = omega arith in
     let some : 0 < length events = omega arith in
     record {
       within = omega arith;
       knobs = e.knobs ∙ so_far.knobs;
+      handed_on = e.handed_on;
       fed = λ calls has_ended has_failed fed. e.fed calls has_ended has_failed (so_far.fed calls has_ended has_failed
           fed);
-      went = λ gave left before ready.
+      went = λ gave left before handed ready judged.
+          let went = so_far.went gave left before handed ready judged in
           let so = subst (λ (k : KnobsView). IsCourseOf k gave left c.loop-from.self ready.said
-          (before ++ take at events)) (sym so_far.knobs) (so_far.went gave left before ready) in
+          (before ++ take at events) went.0) (sym so_far.knobs) went.1 in
           let past = past_down _ (edge_of (before ++ events)) ready.said c.loop-from.self.companion
-          (window_below before events at count (ready.next some)) (so_far.past gave left before ready some) in
-          subst (λ (k : KnobsView). IsCourseOf k gave left c.go_on.new.self ready.said
-          (before ++ take (at + c.min.result) events)) so_far.knobs
-          (subst (λ (es : List Entry). IsCourseOf c.loop-from.self.knobs gave left c.go_on.new.self ready.said es)
-          (with_window before events at count ∙ ap (λ n. before ++ take n events) same)
-          (e.went gave left ready.said (before ++ take at events) so
-          (next_window before events at count (ready.next some)) past));
-      past = λ gave left before ready some.
+          (window_below before events at count (ready.next some))
+          (so_far.past gave left before handed ready judged some) in
+          let on = e.went gave left ready.said (before ++ take at events) went.0 so
+          (next_window before events at count (ready.next some)) past went.2 in (
+            on.0,
+            subst (λ (k : KnobsView). IsCourseOf k gave left c.go_further.new.self ready.said
+                (before ++ take (at + c.min.result) events) on.0) so_far.knobs
+                (subst (λ (es : List Entry). IsCourseOf c.loop-from.self.knobs gave left c.go_further.new.self
+                ready.said es on.0)
+                (with_window before events at count ∙ ap (λ n. before ++ take n events) same) on.1),
+            on.2,
+          );
+      past = λ gave left before handed ready judged some.
+          let went = so_far.went gave left before handed ready judged in
           let so = subst (λ (k : KnobsView). IsCourseOf k gave left c.loop-from.self ready.said
-          (before ++ take at events)) (sym so_far.knobs) (so_far.went gave left before ready) in
-          let all = so_far.past gave left before ready some in
-          e.past gave left ready.said (before ++ take at events) (edge_of (before ++ events)) so
+          (before ++ take at events) went.0) (sym so_far.knobs) went.1 in
+          let all = so_far.past gave left before handed ready judged some in
+          e.past gave left ready.said (before ++ take at events) went.0 (edge_of (before ++ events)) so
           (next_window before events at count (ready.next some))
           (past_down _ (edge_of (before ++ events)) ready.said c.loop-from.self.companion
           (window_below before events at count (ready.next some)) all) all;
     }
 
-pub returns-in_err-go_on-clause-fed : goal.returns-in_err-go_on-clause-fed
-returns-in_err-go_on-clause-fed g c = λ calls has_ended has_failed fed.
-    c.go_on.ensures.fed calls has_ended has_failed (c.loop-from.invariant.fed calls has_ended has_failed fed)
+pub returns-in_err-go_further-clause-fed : goal.returns-in_err-go_further-clause-fed
+returns-in_err-go_further-clause-fed g c = λ calls has_ended has_failed fed.
+    c.go_further.ensures.fed calls has_ended has_failed (c.loop-from.invariant.fed calls has_ended has_failed fed)
 
 pub returns-clause-went : goal.returns-clause-went
-returns-clause-went g c = λ gave left before ready.
-    let events = c.args.events.now in (
-      ready.said,
-      subst (λ (es : List Entry). IsCourseOf c.args.self.now.knobs gave left c.loop-from.self ready.said
-          (before ++ es)) (take_all c.loop-from.from events (omega arith))
-          (c.loop-from.invariant.went gave left before ready),
+returns-clause-went g c = λ gave left before handed ready judged.
+    let events = c.args.events.now in
+    let went = c.loop-from.invariant.went gave left before handed ready judged in (
+      went.0,
+      (
+        ready.said,
+        subst (λ (es : List Entry). IsCourseOf c.args.self.now.knobs gave left c.loop-from.self ready.said
+            (before ++ es) went.0) (take_all c.loop-from.from events (omega arith)) went.1,
+      ),
+      went.2,
     )

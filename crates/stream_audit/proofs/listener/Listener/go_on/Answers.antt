@@ -1,93 +1,88 @@
-use Rattle.std.proofs.Common.{◌∙◌, List, refl, sym, subst, inl}
-use Rattle.audit_input.specs.declared.fault.Fault.TheVariants.{Memory, ReadCompanion, ReadTrace}
-use Rattle.cfs_model.specs.declared.act.Entry.{Entry}
-use Rattle.stream_audit.proofs.BothRead.{behind_trace, few_reads, no_write, none_failed, one_of, read_or_memory}
-use Rattle.stream_audit.proofs.BothRead.{trace_cut}
-use Rattle.stream_audit.proofs.Heard.{gone_through, ready_there}
-use Rattle.stream_audit.proofs.UnderWay.{of_err, of_ok, on_ok_of, read_by, told_as, under_way_on}
-use Rattle.stream_audit.specs.Hearing.{IsReady}
+use Rattle.std.proofs.Common.{◌≡◌, Bool, true, false, refl, sym, subst}
+use Rattle.input_blocks.specs.Blocks.{IsThen}
+use Rattle.input_blocks.specs.OfEntries.{ReadsEntries}
+use Rattle.input_blocks.specs.declared.line_blocks.LineBlocks.{LineBlocks}
+use Rattle.stream_audit.proofs.Calm.{known_stays}
+use Rattle.stream_audit.proofs.UnderWay.{coming_of, of_err, of_ok, on_ok_of, told_as}
 use Rattle.stream_audit.proofs.listener.Listener.go_on.Goals as goal
 
-pub fault_behind-requires-clause-ended : goal.fault_behind-requires-clause-ended
-fault_behind-requires-clause-ended g c = c.requires.read.ended
+-- where it isn't told otherwise nothing was found
+calm_told : (A : Type 0) (told : Bool) → (told ≡ false → A → ⊥) → A → told ≡ true
+calm_told A true found calm = refl
+calm_told A false found calm = absurd (found refl calm)
 
-pub fault_behind-requires-clause-counted : goal.fault_behind-requires-clause-counted
-fault_behind-requires-clause-counted g c = c.requires.read.counted
+pub judge_and_come-judged-requires-clause-judged : goal.judge_and_come-judged-requires-clause-judged
+judge_and_come-judged-requires-clause-judged g c κs within = λ told.
+    let under = c.requires.under_way.3 in
+    (c.args.self.now.intake.course, under.heard.handed, c.is_calm-calm.ensures.calm told, under.heard.judged)
 
-pub fault_behind-requires-clause-read : goal.fault_behind-requires-clause-read
-fault_behind-requires-clause-read g c = c.requires.read.some
-
-pub fault_behind-requires-clause-heard : goal.fault_behind-requires-clause-heard
-fault_behind-requires-clause-heard g c = c.requires.read.heard
-
-pub fault_behind-requires-clause-fault : goal.fault_behind-requires-clause-fault
-fault_behind-requires-clause-fault g c = one_of _ ReadCompanion _ _ c.in-Err.ensures.cut_short
-
-pub returns-in-Err-clause-reads : goal.returns-in-Err-clause-reads
-returns-in-Err-clause-reads g c =
-    let behind = c.fault_behind.ensures in (
-      behind_trace _ _ _ _ c.in-Err.ensures.cut_short behind.memory behind.trace behind.companion
-          (behind.bounded, c.make_ready.ensures.bounded),
-      no_write _ behind.one,
+pub judge_and_come-judged-requires-clause-coming : goal.judge_and_come-judged-requires-clause-coming
+judge_and_come-judged-requires-clause-coming g c κs within =
+    let under = c.requires.under_way in (
+      under.0,
+      under.1,
+      under.2,
+      under.3.heard.handed,
+      coming_of under.0 under.1 _ under.2 _ c.args.self.now under.3,
     )
-
-pub audit_and_read-went-requires-clause-ready : goal.audit_and_read-went-requires-clause-ready
-audit_and_read-went-requires-clause-ready g c κs within =
-    let under = c.requires.under_way in
-    let made = c.make_ready.new in
-    let left = g.C.Feed.left made.companion in
-    let bytes = under.3.bytes in
-    let ready = subst (λ (es : List Entry). IsReady under.0 under.2 left bytes made.reader made.course es)
-    (sym c.deref.ensures.value) (c.in_default.ensures.ready under.0 under.2 bytes under.3.heard) in
-    let events = c.deref.result.now in
-    (under.2, left, ready.before, ready_there under.0 under.2 left bytes made.reader made.course events ready)
 
 pub returns-in_err-goes_on-clause-reads : goal.returns-in_err-goes_on-clause-reads
 returns-in_err-goes_on-clause-reads g c =
-    let fed = c.in_default.ensures.fed in
-    let audited = c.audit_and_read-went.ensures in
-    let failed = none_failed _ ReadTrace _ _ _ c.requires.read.heard
-    (of_err _ _ _ c.in_err-goes_on.was audited.cut_short) in
-    told_as _ c.from_residual.result _ c.from_residual.ensures.1 (
-      trace_cut _ _ _ failed fed.heard (audited.bounded, few_reads _ _ _ c.make_ready.new.course.companion fed),
-      read_or_memory _ ReadTrace _ _ (λ e. cc) failed,
-    )
+    told_as _ c.from_residual.result _ c.from_residual.ensures.1
+    (of_err _ _ _ c.in_err-goes_on.was c.judge_and_come-judged.ensures.reads)
 
-pub returns-in_err-went-clause-reads : goal.returns-in_err-went-clause-reads
-returns-in_err-went-clause-reads g c =
-    let fed = c.in_default.ensures.fed in
-    let audited = c.audit_and_read-went.ensures in
-    let heard = on_ok_of _ _ _ c.in_ok-goes_on.was audited.heard ∙ c.requires.read.heard in
-    told_as _ c.from_residual-in_err-went.result Memory c.from_residual-in_err-went.ensures.1 (
-      trace_cut _ _ Memory (inl (refl, heard)) fed.heard
-          (audited.bounded, few_reads _ _ _ c.make_ready.new.course.companion fed),
-      no_write Memory (inl refl),
+pub hand_on-requires-clause-calm : goal.hand_on-requires-clause-calm
+hand_on-requires-clause-calm g c κs within = λ off now.
+    let under = c.requires.under_way in
+    let came = of_ok _ _ _ c.in_ok-goes_on.was
+    (c.judge_and_come-judged.ensures.came under.0 under.1 under.2 under.3.heard.handed
+    (coming_of under.0 under.1 _ under.2 _ c.args.self.now under.3)) in
+    c.is_calm-calm.ensures.found off (came.calm now)
+
+pub hand_on-requires-clause-next : goal.hand_on-requires-clause-next
+hand_on-requires-clause-next g c κs within =
+    on_ok_of _ _ _ c.in_ok-goes_on.was c.judge_and_come-judged.ensures.next
+
+pub hand_on-requires-clause-ready : goal.hand_on-requires-clause-ready
+hand_on-requires-clause-ready g c κs within =
+    let under = c.requires.under_way in
+    let old = c.args.self.now.intake.course in
+    let handed = under.3.heard.handed in
+    let both = c.judge_and_come-judged in
+    let came = of_ok _ _ _ c.in_ok-goes_on.was
+    (both.ensures.came under.0 under.1 under.2 handed
+    (coming_of under.0 under.1 _ under.2 _ c.args.self.now under.3)) in
+    let known = on_ok_of _ _ _ c.in_ok-judged.was
+    (both.ensures.judged old handed (calm_told _ c.is_calm-calm.result c.is_calm-calm.ensures.found)
+    under.3.heard.judged) in (
+      under.0,
+      under.2,
+      _,
+      came.bytes,
+      handed,
+      came.ready,
+      known_stays old both.new.intake.course handed both.new.judge came.same_knobs came.calm came.starts known,
     )
 
 pub returns-clause-under_way : goal.returns-clause-under_way
 returns-clause-under_way g c = λ knobs trace_gave gave under.
-    let made = c.make_ready.new in
-    let audited = c.audit_and_read-went.ensures in
-    let left = g.C.Feed.left made.companion in
-    let events = c.deref.result.now in
-    let ready = subst (λ (es : List Entry). IsReady knobs gave left under.bytes made.reader made.course es)
-    (sym c.deref.ensures.value) (c.in_default.ensures.ready knobs gave under.bytes under.heard) in
-    let went = on_ok_of _ _ _ c.in_ok-went.was (audited.went gave left ready.before
-    (ready_there knobs gave left under.bytes made.reader made.course events ready)) in
-    under_way_on knobs trace_gave _ gave left under.bytes made.reader _ _
-    (gone_through knobs gave left under.bytes made.reader made.course _ events ready went)
-    (of_ok _ _ _ c.in_ok-goes_on.was (audited.passed trace_gave under.bytes under.stands))
-
-pub returns-clause-read : goal.returns-clause-read
-returns-clause-read g c =
-    let read = c.audit_and_read-went.ensures in
-    of_ok _ _ _ c.in_ok-goes_on.was
-    (read_by _ _ _ _ _ c.args.self.now.blocks c.audit_and_read-went.new.blocks c.audit_and_read-went.result.1
-    c.requires.read.heard read.counted read.one_read read.heard read.ended read.end)
-
-pub returns-clause-one_read : goal.returns-clause-one_read
-returns-clause-one_read g c = on_ok_of _ _ _ c.in_ok-goes_on.was c.audit_and_read-went.ensures.one_read
+    let old = c.args.self.now.intake.course in
+    let handed = under.heard.handed in
+    let both = c.judge_and_come-judged in
+    let came = of_ok _ _ _ c.in_ok-goes_on.was
+    (both.ensures.came knobs trace_gave gave handed (coming_of knobs trace_gave _ gave _ c.args.self.now under)) in
+    let known = on_ok_of _ _ _ c.in_ok-judged.was
+    (both.ensures.judged old handed (calm_told _ c.is_calm-calm.result c.is_calm-calm.ensures.found)
+    under.heard.judged) in
+    let on = c.in_ok-hand_on.ensures in
+    record {
+      bytes = came.bytes;
+      stands = subst (λ (b : LineBlocks). IsThen ReadsEntries trace_gave (g.T.Feed.left both.new.trace) b came.bytes
+          c.in_ok-goes_on.goes_on) (sym on.blocks) came.stands;
+      heard = on.heard knobs gave (g.C.Feed.left both.new.companion) came.bytes handed came.ready
+          (known_stays old both.new.intake.course handed both.new.judge came.same_knobs came.calm came.starts known);
+    }
 
 pub returns-clause-fed : goal.returns-clause-fed
 returns-clause-fed g c =
-    on_ok_of _ _ _ c.in_ok-went.was (c.audit_and_read-went.ensures.fed _ _ _ c.in_default.ensures.fed)
+    c.hand_on.ensures.fed _ _ _ (on_ok_of _ _ _ c.in_ok-goes_on.was c.judge_and_come-judged.ensures.fed)

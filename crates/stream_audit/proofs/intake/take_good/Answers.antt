@@ -3,7 +3,7 @@ use Rattle.cfs_model.specs.declared.act.Entry.{Entry}
 use Rattle.entry_reader.specs.Reader.{HasReadOut}
 use Rattle.stream_audit.specs.Course.{AreEventsNext}
 use Rattle.stream_audit.proofs.Heard.{bad_by, events_next, good_by, read_out}
-use Rattle.stream_audit.proofs.listener.take_good.Goals as goal
+use Rattle.stream_audit.proofs.intake.take_good.Goals as goal
 
 pub returns-then-is_good-clause-given : goal.returns-then-is_good-clause-given
 returns-then-is_good-clause-given c = λ lines given read.

@@ -1,0 +1,237 @@
+ghost use Rattle.std.specs.Io.KnownBytes.{IsAtEnd};
+ghost use Rattle.std.specs.Prelude.{◌≡◌, ◌≢◌, ◌⊎◌, ◌++◌, ◌<◌, ◌≤◌, ℕ, Bool, List, Option, [], false, true};
+ghost use Rattle.std.specs.Prelude.{IfErr, IfOk, IsNone, OnErr, OnOk, length, drop};
+ghost use Rattle.audit_input.specs.Known.{IsCutShort, most_reads};
+ghost use Rattle.cfs_model.specs.Claimed.{Claimed};
+ghost use Rattle.cfs_model.specs.Knobs.{KnobsView};
+ghost use Rattle.cfs_model.specs.declared.act.Entry.{Entry as Event};
+ghost use Rattle.entry_reader.specs.Reader.{HasReadOut, entries_of};
+ghost use Rattle.stream_audit.specs.Companion.{IsFedBy};
+ghost use Rattle.stream_audit.specs.Course.{AreEventsNext, AreJudged, IsCalm, IsHandedOn, IsReadyFor, StartStays};
+ghost use Rattle.stream_audit.specs.Hearing.{IsHeard, IsHeardBy, IsReady, input_of};
+
+use crate::course::Course;
+use crate::{Judge, Past, Sizes};
+use audit_input::{Fault, Feed};
+use cfs_model::{Entry, Knobs, Memory};
+use entry_reader::EntryReader;
+use input_blocks::LineBlocks;
+use pid_table::PidHasher;
+use std::alloc::Global;
+use std::thread::Threads;
+
+/// How many bytes of the companion a read asks for, at most. What it says ahead of the trace is moved each time that
+/// what was passed is let go.
+const COMPANION_BLOCK: u32 = 1 << 17;
+
+/// What comes in of two inputs that are read at once: the trace's events are joined with what the companion says.
+#[derive(Drop)]
+pub(crate) struct Intake {
+    /// Of the trace.
+    blocks: LineBlocks,
+    pub reader: EntryReader,
+    /// Those that were taken out last; the room for them is used again.
+    events: Vec<Entry>,
+    /// How many of them were joined.
+    next: usize,
+    pub course: Course,
+    /// How many reads are made at once, at most.
+    reads: u32,
+    /// How many events are joined at once, at most.
+    pub most: usize,
+    pub ghost some: { 0 < most },
+}
+
+impl Intake {
+    ghost use Rattle.stream_audit.specs.Listening.{EndsBoth, HasCome, IsComing, IsReadBy, IsTakenOut};
+
+    /// Before the first read. Pids are hashed by these keys.
+    pub fn new(alloc: Global, knobs: Knobs, sizes: Sizes, hasher: PidHasher) -> Intake
+        ensures coming { (trace : Option (List ℕ)) (gave : Option (List ℕ))
+            → IsComing knobs trace trace gave gave result [] }
+        ensures reads { result.blocks.reads ≡ 0 }
+        ensures fed { IsFedBy 0 false false result.course.companion }
+        ensures none { IsNone result.course.joined }
+    {
+        let blocks = LineBlocks::new(alloc, sizes.block());
+        let reader = EntryReader::new(alloc);
+        let course = Course::new(alloc, sizes.block().min(COMPANION_BLOCK), knobs, hasher);
+        Intake {
+            blocks,
+            reader,
+            events: Vec::new(alloc),
+            next: 0,
+            course,
+            reads: sizes.reads(),
+            most: sizes.window(),
+        }
+    }
+
+    /// Makes the trace's next reads, or one where nothing waits to be audited beside that, takes out the events that
+    /// were read, where no line of the trace is bad, reads the companion past them, and joins the first of them. Says
+    /// whether the trace goes on.
+    pub fn come<T: Feed, C: Feed>(
+        &mut self,
+        alloc: Global,
+        trace: &mut T,
+        companion: &mut C,
+        alone: bool,
+    ) -> Result<bool, Fault>
+        requires coming { (knobs : KnobsView) × (trace_gave : Option (List ℕ)) × (gave : Option (List ℕ))
+            × (handed : List Claimed)
+            × IsComing knobs trace_gave (T.left trace.old) gave (C.left companion.old) self.old handed }
+        requires read { IsReadBy (T.left trace.old) (T.calls trace.old) (T.has_failed trace.old)
+            (T.has_ended trace.old) self.old.blocks true }
+        requires fed { IsFedBy (C.calls companion.old) (C.has_ended companion.old) (C.has_failed companion.old)
+            self.old.course.companion }
+        ensures came { (knobs : KnobsView) (trace_gave : Option (List ℕ)) (gave : Option (List ℕ))
+            (handed : List Claimed)
+            → IsComing knobs trace_gave (T.left trace.old) gave (C.left companion.old) self.old handed
+            → IfOk result (HasCome knobs trace_gave (T.left trace.new) gave (C.left companion.new) self.old.course
+            self.new handed) }
+        ensures read { IfOk result (IsReadBy (T.left trace.new) (T.calls trace.new) (T.has_failed trace.new)
+            (T.has_ended trace.new) self.new.blocks) }
+        ensures read_on { OnOk result (self.old.blocks.reads < self.new.blocks.reads) }
+        ensures taken { OnOk result (IsTakenOut self.new) }
+        ensures next { OnOk result (self.new.next ≤ length self.new.events.items) }
+        ensures fed { OnOk result (IsFedBy (C.calls companion.new) (C.has_ended companion.new)
+            (C.has_failed companion.new) self.new.course.companion) }
+        ensures reads { IfErr result (EndsBoth
+            (input_of (T.left trace.new) (T.calls trace.new) (T.has_failed trace.new) (T.has_ended trace.new))
+            (input_of (C.left companion.new) (C.calls companion.new) (C.has_failed companion.new)
+            (C.has_ended companion.new))) }
+    {
+        let reads = if alone { 1 } else { self.reads };
+        let goes_on = self
+            .blocks
+            .next_some(trace, &mut self.reader, reads, Fault::ReadTrace)?;
+        if let Err(fault) = self.make_ready(companion) {
+            if goes_on {
+                return Err(fault_behind(&mut self.blocks, trace, fault));
+            }
+            return Err(fault);
+        }
+        self.join_first(alloc)?;
+        Ok(goes_on)
+    }
+
+    /// Takes out the events that were read, where no line of the trace is bad, and reads the companion past them.
+    fn make_ready<C: Feed>(&mut self, companion: &mut C) -> Result<(), Fault>
+        requires fed { IsFedBy (C.calls companion.old) (C.has_ended companion.old) (C.has_failed companion.old)
+            self.old.course.companion }
+        ensures ready { (knobs : KnobsView) (gave : Option (List ℕ)) (bytes : List ℕ) (handed : List Claimed)
+            → IsHeardBy knobs gave (C.left companion.old) bytes self.old.reader self.old.course handed
+            → OnOk result (IsReady knobs gave (C.left companion.new) bytes self.new.reader self.new.course handed
+            self.new.events.items × (IsCalm self.new.course → IsCalm self.old.course)) }
+        ensures taken { OnOk result (IsTakenOut self.new) }
+        ensures joined { self.new.course.joined ≡ self.old.course.joined }
+        ensures knobs { self.new.course.knobs ≡ self.old.course.knobs }
+        ensures blocks { self.new.blocks ≡ self.old.blocks }
+        ensures fed { OnOk result (IsFedBy (C.calls companion.new) (C.has_ended companion.new)
+            (C.has_failed companion.new) self.new.course.companion) }
+        ensures bounded { C.calls companion.new ≤ most_reads }
+        ensures cut_short { IfErr result (λ e. ((e ≡ Fault.Memory) × (C.has_failed companion.new ≡ false))
+            ⊎ ((e ≡ Fault.ReadCompanion) × IsCutShort (C.has_failed companion.new) (C.calls companion.new))) }
+    {
+        take_good(&mut self.reader, &mut self.events);
+        self.course.read_past(companion, &self.events)
+    }
+
+    /// Joins the first of the events that were taken out, and so many at most.
+    fn join_first(&mut self, alloc: Global) -> Result<(), Memory>
+        requires { (knobs : KnobsView) × (gave : Option (List ℕ)) × (left : Option (List ℕ)) × (bytes : List ℕ)
+            × (handed : List Claimed)
+            × IsReady knobs gave left bytes self.old.reader self.old.course handed self.old.events.items }
+        ensures ready { (knobs : KnobsView) (gave : Option (List ℕ)) (left : Option (List ℕ)) (bytes : List ℕ)
+            (handed : List Claimed)
+            → IsReady knobs gave left bytes self.old.reader self.old.course handed self.old.events.items
+            → OnOk result (IsReady knobs gave left bytes self.new.reader self.new.course handed
+            (drop self.new.next self.new.events.items) × (IsCalm self.new.course → IsCalm self.old.course)) }
+        ensures starts { OnOk result (StartStays self.old.course.joined self.new.course.joined) }
+        ensures knobs { self.new.course.knobs ≡ self.old.course.knobs }
+        ensures next { OnOk result (self.new.next ≤ length self.new.events.items) }
+        ensures reader { self.new.reader ≡ self.old.reader }
+        ensures blocks { self.new.blocks ≡ self.old.blocks }
+        ensures fed { (calls : ℕ) (has_ended : Bool) (has_failed : Bool)
+            → IsFedBy calls has_ended has_failed self.old.course.companion
+            → IsFedBy calls has_ended has_failed self.new.course.companion }
+    {
+        self.next = self.most.min(self.events.len());
+        if self.next == 0 {
+            return Ok(());
+        }
+        self.course.go_on(alloc, &self.events[..self.next])
+    }
+
+    /// Goes through the events that were taken out and not joined.
+    pub fn go_through_rest<R: Threads + Sync, P: Past>(
+        &mut self,
+        rt: &R,
+        alloc: Global,
+        judge: &mut Option<Judge>,
+        past: &mut P,
+    ) -> Result<(), Memory>
+        requires next { self.old.next ≤ length self.old.events.items }
+        requires ready { (knobs : KnobsView) × (gave : Option (List ℕ)) × (left : Option (List ℕ)) × (bytes : List ℕ)
+            × (handed : List Claimed) × IsReady knobs gave left bytes self.old.reader self.old.course handed
+            (drop self.old.next self.old.events.items) × AreJudged self.old.course handed judge.old }
+        requires handed_on { IsHandedOn self.old.course }
+        ensures heard { (knobs : KnobsView) (gave : Option (List ℕ)) (left : Option (List ℕ)) (bytes : List ℕ)
+            (handed : List Claimed) → IsReady knobs gave left bytes self.old.reader self.old.course handed
+            (drop self.old.next self.old.events.items) → AreJudged self.old.course handed judge.old
+            → OnOk result (IsHeard knobs gave left bytes self.new.reader self.new.course judge.new) }
+        ensures reader { self.new.reader ≡ self.old.reader }
+        ensures blocks { self.new.blocks ≡ self.old.blocks }
+        ensures fed { (calls : ℕ) (has_ended : Bool) (has_failed : Bool)
+            → IsFedBy calls has_ended has_failed self.old.course.companion
+            → IsFedBy calls has_ended has_failed self.new.course.companion }
+    {
+        let (_joined, rest) = self.events.split_at(self.next);
+        self.course
+            .go_through(rt, alloc, rest, self.most, judge, past)
+    }
+
+    /// How much was found for which a line of the trace is quoted, or of the companion.
+    pub fn findings(&self) -> u32 {
+        u32::from(!self.reader.is_good()).saturating_add(self.course.findings())
+    }
+}
+
+/// Takes out the events that were read, where no line of the trace is bad, and else none.
+fn take_good(reader: &mut EntryReader, events: &mut Vec<Entry>)
+    ensures given { (lines : List (List ℕ)) (given : List Event) → HasReadOut reader.old lines given
+        → HasReadOut reader.new lines (given ++ events.new.items) }
+    ensures next { (lines : List (List ℕ)) (given : List Event) → HasReadOut reader.old lines given
+        → 0 < length events.new.items → AreEventsNext given events.new.items }
+    ensures taken { IsNone reader.new.bad → entries_of reader.new ≡ [] }
+{
+    if reader.is_good() {
+        reader.take_out(events);
+    } else {
+        events.clear();
+    }
+}
+
+/// A fault of the companion is told only where the trace has none: what is left of the trace is read.
+fn fault_behind<T: Feed>(blocks: &mut LineBlocks, trace: &mut T, fault: Fault) -> Fault
+    requires ended { T.has_ended trace.old ≡ false }
+    requires counted { T.calls trace.old ≡ blocks.old.reads }
+    requires read { 0 < blocks.old.reads }
+    requires heard { T.has_failed trace.old ≡ false }
+    requires fault { (fault ≡ Fault.Memory) ⊎ (fault ≡ Fault.ReadCompanion) }
+    ensures memory { result ≡ Fault.Memory → (fault ≡ Fault.Memory) × (T.has_failed trace.new ≡ false) }
+    ensures trace { result ≡ Fault.ReadTrace → IsCutShort (T.has_failed trace.new) (T.calls trace.new) }
+    ensures companion { result ≡ Fault.ReadCompanion → (fault ≡ Fault.ReadCompanion)
+        × (T.has_ended trace.new ≡ true) × (T.has_failed trace.new ≡ false) }
+    ensures one { (result ≡ Fault.Memory) ⊎ (result ≡ Fault.ReadTrace) ⊎ (result ≡ Fault.ReadCompanion) }
+    ensures bounded { T.calls trace.new ≤ most_reads }
+{
+    match fault {
+        // Nothing is read behind it.
+        Fault::Memory => Fault::Memory,
+        _ => match blocks.drain(trace, Fault::ReadTrace) {
+            Ok(()) => fault,
+            Err(earlier) => earlier,
+        },
+    }
+}

@@ -25,6 +25,6 @@ mixed number = bit_xor (spread number) (spread number / 2 ^ 15)
 abbrev pub write : PidHash → List ℕ → PidHash
 write hash bytes = record hash { pid = if nat_le 4 (length bytes) then first_four bytes else 0 }
 
--- the pid's hash
+-- the pid's hash: that of its block of four, and in the upper two bits of 32 its place there
 abbrev pub finish : PidHash → ℕ
-finish hash = mixed (multiply_shift hash.keys hash.pid)
+finish hash = bit_xor (mixed (multiply_shift hash.keys (hash.pid / 4))) (hash.pid % 4 * 2 ^ 30)

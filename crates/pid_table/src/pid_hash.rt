@@ -1,10 +1,15 @@
-ghost use Rattle.std.specs.Prelude.{◌≡◌, ◌≤◌, length};
+ghost use Rattle.std.specs.Prelude.{◌≡◌, ◌≤◌, ◌<◌, ◌*◌, ◌^◌, length};
 ghost use Rattle.pid_table.specs.Hash.{finish, first_four, mixed, multiply_shift, write};
 
 use std::hash::Hasher;
 
-/// The hash of a pid: multiply-shift by two keys, and a fixed permutation behind it. Over all keys any two pids come to
-/// any two hashes equally often. So whoever doesn't know the keys can't pick pids that collide.
+/// How many pids that follow each other are one block.
+const BLOCK: u32 = 4;
+
+/// The hash of a pid. Its lower bits, by which a table finds where to look, are those of the pid's block: a system gives
+/// pids in turn, so a new one is mostly looked for where one was put just before. Its upper two tell the pids of a block
+/// apart. A block's are multiply-shift by two keys, and a fixed permutation behind it. Over all keys any two blocks come
+/// to any two numbers equally often. So whoever doesn't know the keys can't pick pids of more than a block that collide.
 #[derive(Clone, Copy)]
 pub struct PidHash {
     keys: Keys,
@@ -42,7 +47,8 @@ impl Hasher for PidHash {
 
     #[inline(always)]
     fn finish(&self) -> u64 {
-        mixed(self.keys.multiply_shift(self.pid as u64))
+        let block = self.pid / BLOCK;
+        mixed(self.keys.multiply_shift(block as u64)) ^ apart(self.pid % BLOCK)
     }
 }
 
@@ -75,6 +81,15 @@ fn mixed(number: u64) -> u64
 {
     let spread = (number ^ (number >> 16)).wrapping_mul(0x85eb_ca6b) & 0xffff_ffff;
     spread ^ (spread >> 15)
+}
+
+/// What tells the pids of a block apart: the upper two bits of 32.
+#[inline(always)]
+fn apart(place: u32) -> u64
+    requires within { place < 4 }
+    ensures bits { result ≡ place * 2 ^ 30 }
+{
+    place as u64 * 0x4000_0000
 }
 
 /// The number that the first four bytes stand for, the lowest first.

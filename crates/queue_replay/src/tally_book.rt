@@ -85,7 +85,7 @@ impl TallyBook {
 
     /// The same, where the tally is expected at an index.
     #[inline(always)]
-    fn index_near(&self, expected: usize, pid: u32) -> Option<usize>
+    pub fn index_near(&self, expected: usize, pid: u32) -> Option<usize>
         ensures found { (index : ℕ) → result ≡ Some index → (index < length self.now.table.rows)
             × ((d : TallyOf) → (get_or self.now.table.rows index d).pid ≡ pid) }
         ensures none { result ≡ None → All (λ tally. tally.pid ≢ pid) self.now.table.rows }

@@ -36,11 +36,12 @@ pub struct LifeEvent {
 /// What a task did at a processor.
 #[derive(Clone, Copy, Debug, PartialEq, Eq)]
 pub struct Tally {
-    pub pid: u32,
     /// How long it ran, in nanoseconds.
     pub ran: u128,
     /// What it was charged, in virtual nanoseconds.
     pub charged: u128,
     /// The number of switches to it.
     pub picks: u64,
+    // Behind the others, so that a tally takes 48 bytes.
+    pub pid: u32,
 }

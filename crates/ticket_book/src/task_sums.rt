@@ -10,18 +10,24 @@ pub(crate) fn add_all(sums: &mut TallyBook, tallies: &[Tally])
     requires { All (λ sum. FitsTally (with_tallies tallies.now sum)) sums.old.table.rows }
     ensures { sums.new.table.rows ≡ map (with_tallies tallies.now) sums.old.table.rows }
 {
+    // Mostly the next tally's sum stands behind this one's: pages and sums name their tasks as they come.
+    let mut expected = 0;
     for tally in tallies {
-        add(sums, *tally);
+        expected = add(sums, *tally, expected);
     }
 }
 
-/// Adds what a tally says to the sum of its task.
-fn add(sums: &mut TallyBook, tally: Tally)
+/// Adds what a tally says to the sum of its task, which is expected at an index. Answers where the next one is.
+fn add(sums: &mut TallyBook, tally: Tally, expected: usize) -> usize
     requires { All (λ sum. FitsTally (with_tallies (tally ∷ []) sum)) sums.old.table.rows }
     ensures { sums.new.table.rows ≡ map (with_tallies (tally ∷ [])) sums.old.table.rows }
 {
-    if let Some(index) = sums.index_of(tally.pid) {
-        add_to(sums.table.row_mut(index), tally);
+    match sums.index_near(expected, tally.pid) {
+        Some(index) => {
+            add_to(sums.table.row_mut(index), tally);
+            index.saturating_add(1)
+        }
+        None => expected,
     }
 }
 

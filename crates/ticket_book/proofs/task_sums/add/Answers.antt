@@ -9,9 +9,9 @@ invariant_of-sums c =
     let sums = c.args.sums.now in
     let index = c.in-Some.index in
     let before = c.row_mut.result.now in
-    let f = c.index_of.ensures.found index c.in-Some.is in
+    let f = c.index_near.ensures.found index c.in-Some.is in
     record {
-      own = added_own sums.table sums.own c.index_of.ensures.apart c.args.tally index before c.add_to.new.sum f.0
+      own = added_own sums.table sums.own c.index_near.ensures.apart c.args.tally index before c.add_to.new.sum f.0
           (f.1 before)
           (c.add_to.ensures ∙ ap (with_tallies (c.args.tally ∷ []))
           (sym (get_or_from_slice_get sums.table.rows index before before c.row_mut.ensures.value)));
@@ -22,11 +22,11 @@ returns-in-Some c =
     let sums = c.args.sums.now in
     let index = c.in-Some.index in
     let before = c.row_mut.result.now in
-    let f = c.index_of.ensures.found index c.in-Some.is in
-    added_there sums.table sums.own c.index_of.ensures.apart c.args.tally index before c.add_to.new.sum f.0 (f.1 before)
+    let f = c.index_near.ensures.found index c.in-Some.is in
+    added_there sums.table sums.own c.index_near.ensures.apart c.args.tally index before c.add_to.new.sum f.0 (f.1 before)
     (c.add_to.ensures ∙ ap (with_tallies (c.args.tally ∷ []))
     (sym (get_or_from_slice_get sums.table.rows index before before c.row_mut.ensures.value)))
 
-pub returns-in_default : goal.returns-in_default
-returns-in_default c =
-    added_nowhere c.args.sums.now.table.rows c.args.tally (c.index_of.ensures.none c.in_default.is)
+pub returns-in-None : goal.returns-in-None
+returns-in-None c =
+    added_nowhere c.args.sums.now.table.rows c.args.tally (c.index_near.ensures.none c.in-None.is)

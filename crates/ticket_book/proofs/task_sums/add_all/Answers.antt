@@ -8,8 +8,8 @@ use Rattle.ticket_book.proofs.task_sums.add_all.Goals as goal
 pub loop-tally-init : goal.loop-tally-init
 loop-tally-init c = sym (add_none c.args.sums.now.table.rows)
 
-pub add-requires : goal.add-requires
-add-requires c =
+pub add-expected-requires : goal.add-expected-requires
+add-expected-requires c =
     one_fits c.args.tallies.now c.args.sums.now.table.rows c.loop-tally.sums.table.rows c.loop-tally.tally-index
     (new_tally 0)
     c.loop-tally-test.true c.loop-tally.invariant c.requires
@@ -18,7 +18,7 @@ pub loop-tally-preserved : goal.loop-tally-preserved
 loop-tally-preserved c =
     one_added c.args.tallies.now c.args.sums.now.table.rows c.loop-tally.sums.table.rows c.loop-tally.tally-index
     (new_tally 0)
-    c.loop-tally-test.true c.loop-tally.invariant c.add.new.sums.table.rows c.add.ensures
+    c.loop-tally-test.true c.loop-tally.invariant c.add-expected.new.sums.table.rows c.add-expected.ensures
 
 pub returns : goal.returns
 returns c =

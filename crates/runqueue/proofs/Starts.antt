@@ -1,9 +1,9 @@
 -- A runqueue at the start, task by task: the pids rise, and at most one of the tasks runs.
-use Rattle.std.proofs.Common.{◌≡◌, ℕ, ◌+◌, ◌<◌, Bool, false, eqb, List, [], ◌∷◌, ◌++◌, length, take, get_or, All, Some}
-use Rattle.std.proofs.Common.{None, option_map, ℤ, inl, inr, refl, sym, ap, ◌∙◌, subst, arith}
+use Rattle.std.proofs.Common.{◌≡◌, ◌≢◌, ℕ, ◌+◌, ◌<◌, Bool, false, eqb, List, [], ◌∷◌, ◌++◌, length, map, take, get_or}
+use Rattle.std.proofs.Common.{All, Some, None, option_map, ℤ, inl, inr, refl, sym, ap, ◌∙◌, subst, arith}
 use Rattle.std.specs.List.{find, AllPairs}
 use Rattle.std.proofs.lemmas.Bool.{ne_eqb, cond-false}
-use Rattle.std.proofs.lemmas.List.{get_or-take, get_or_default, length-take-le, take_more}
+use Rattle.std.proofs.lemmas.List.{get_or-map, get_or-take, get_or_default, length-map, length-take-le, map-append, take_more}
 use Rattle.std.proofs.lemmas.List.Elements.{All-head, All-tail}
 use Rattle.std.proofs.lemmas.Option.{same_Some}
 use Rattle.cfs_model.specs.Start.{task_of}
@@ -15,6 +15,8 @@ use Rattle.replay_model.specs.PartWords.{start_part}
 use Rattle.cfs_model.specs.Machine.{put}
 use Rattle.runqueue.specs.Tasks.{entity_from, RisesByPid}
 use Rattle.runqueue.proofs.Parts.{its_place, same_tasks}
+use Rattle.runqueue.specs.TaskRows.{with_pid, with_pid_at}
+use Rattle.runqueue.proofs.TaskRows.{no_index}
 use Rattle.runqueue.proofs.TaskOf.{stands, stands_pushed, contains, option_cases}
 
 find_none : (p : Task → Bool) (xs : List Task) → All (λ t. p t ≡ false) xs → find p xs ≡ None
@@ -69,3 +71,21 @@ module _ (tasks : List Task) (i : ℕ) (t : Task) (within : i < length tasks) (i
       (put (stands (take i tasks)) t.pid (Some (entity_from t))) floor mark
       (stands_pushed (take i tasks) t (before_none rise)))
       ∙ ap (λ l. start_part l floor mark) (ap (λ x. take i tasks ++ x ∷ []) is ∙ sym (take_more tasks i t within))
+
+  -- one pid more
+  pub one_pid_more : RisesByPid tasks
+      → with_pid t.pid (map (λ (u : Task). u.pid) (take i tasks)) ≡ map (λ (u : Task). u.pid) (take (i + 1) tasks)
+  one_pid_more rise =
+      let before : List ℕ = map (λ (u : Task). u.pid) (take i tasks) in
+      let n : length (take i tasks) ≡ i = length-take-le i tasks (omega (arith, within)) in
+      let none : All (λ (other : ℕ). other ≢ t.pid) before = λ k d h e.
+      let w : k < i = subst (λ m. k < m) (length-map (take i tasks) (λ (u : Task). u.pid) ∙ n) h in
+      let p : get_or tasks k t ≡ get_or (take i tasks) k t = sym (get_or-take i tasks k t w) in
+      let same : (get_or tasks k t).pid ≡ t.pid = ap (λ (u : Task). u.pid) p
+      ∙ sym (get_or-map (λ (u : Task). u.pid) (take i tasks) k t d (subst (λ m. k < m) (sym n) w)) ∙ e in
+      let r : (get_or tasks k t).pid < (get_or tasks i t).pid = rise k i t w within in
+      let q : (get_or tasks i t).pid ≡ t.pid = ap (λ (u : Task). u.pid) (sym is) in
+      absurd (omega (arith, r, q, same)) in
+      ap (λ o. with_pid_at o t.pid before) (no_index before t.pid none)
+      ∙ sym (map-append (λ (u : Task). u.pid) (take i tasks) (t ∷ []))
+      ∙ ap (map (λ (u : Task). u.pid)) (ap (λ u. take i tasks ++ u ∷ []) is ∙ sym (take_more tasks i t within))

@@ -117,6 +117,16 @@ index_other pids pid other ne = go (index_in pids other) refl
                   absurd (ne (sym there ∙ ap (λ k. get_or (pids ++ pid ∷ []) k 0) end ∙ e))
             ]
 
+-- a pid that stands nowhere has no index
+pub no_index : (pids : List ℕ) (pid : ℕ) → All (λ other. other ≢ pid) pids → index_in pids pid ≡ None
+no_index pids pid none = go (index_in pids pid) refl
+  where
+    go : (o : Option ℕ) → index_in pids pid ≡ o → index_in pids pid ≡ None
+    go None is = is
+    go (Some n) is =
+        let at = position-Some (nat_eq pid) pids n 0 is in
+        absurd (none n 0 at.0 (pid_there pids pid n 0 is))
+
 -- the task of a pid by its index
 pub at_row : (table : TaskRows) (pid row : ℕ) → index_in table.pids pid ≡ Some row
     → task_in table pid ≡ task_of_row (slice_get table.rows row)

@@ -1,6 +1,6 @@
 -- The tasks of a processor in rows by pid, in the order in which they first stood there: a row stays when its task goes
 -- (this project's profile).
-use Rattle.std.specs.Prelude.{◌≡◌, ◌≢◌, ℕ, Option, Some, None, List, slice_get}
+use Rattle.std.specs.Prelude.{◌≡◌, ◌≢◌, ℕ, Option, Some, None, List, [], ◌∷◌, ◌++◌, slice_get}
 use Rattle.std.proofs.Props.{props}
 use Rattle.pid_table.specs.Rows.{Rows, index_in}
 use Rattle.runqueue.specs.declared.sched_entity.SchedEntity.{SchedEntity}
@@ -25,6 +25,14 @@ task_in table pid = task_at_index table.rows (index_in table.pids pid)
 pub record Writes (old new : TaskRows) (pid : ℕ) (task : Option SchedEntity) : Type 0 where
   pub here : task_in new pid ≡ task
   pub there : (other : ℕ) → other ≢ pid → task_in new other ≡ task_in old other
+
+-- the pids that have a row once this one has, by where it had one: where it had none it stands behind the last
+abbrev pub with_pid_at : Option ℕ → ℕ → List ℕ → List ℕ
+with_pid_at None pid pids = pids ++ pid ∷ []
+with_pid_at (Some row) pid pids = pids
+
+abbrev pub with_pid : ℕ → List ℕ → List ℕ
+with_pid pid pids = with_pid_at (index_in pids pid) pid pids
 
 -- each pid that has a row has it where it was
 unfoldable pub KeepsRows : List ℕ → List ℕ → Type 0

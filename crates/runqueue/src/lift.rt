@@ -98,8 +98,9 @@ impl Runqueue {
     #[inline(always)]
     pub fn restore(&mut self, before: Unlifted)
         requires { (queue : Runqueue) × IsUnlifted queue before × HoldsSame queue self.old }
-        ensures { (queue : Runqueue) → IsUnlifted queue before → HoldsSame queue self.old
+        ensures part { (queue : Runqueue) → IsUnlifted queue before → HoldsSame queue self.old
             → runqueue_view self.new ≡ runqueue_view queue }
+        ensures pids { self.new.tasks.pids ≡ self.old.tasks.pids }
     {
         self.runner = before.runner;
         self.runner_row = before.runner_row;

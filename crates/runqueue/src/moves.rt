@@ -1,4 +1,4 @@
-ghost use Rattle.std.specs.Prelude.{◌≡◌, ℕ, [], None, Some, IfOk, OnOk, OnErr};
+ghost use Rattle.std.specs.Prelude.{◌≡◌, ℕ, [], None, Some, IfOk, OnOk, OnErr, map};
 ghost use Rattle.std.specs.List.{AllPairs};
 ghost use Rattle.cfs_model.specs.declared.task.Place.TheVariants.{Run};
 ghost use Rattle.cfs_model.specs.declared.act.Way.TheVariants.{Stays, Sleeps, Ends};
@@ -9,6 +9,7 @@ ghost use Rattle.replay_model.specs.PartWords.{start_part};
 ghost use Rattle.replay_model.specs.QueueTests.{IsRunner};
 ghost use Rattle.runqueue.specs.Tasks.{entity_of, RisesByPid};
 ghost use Rattle.runqueue.specs.Queue.{HoldsSame, IsSwitchTask, IsTaskAt, runqueue_view};
+ghost use Rattle.runqueue.specs.TaskRows.{with_pid};
 
 use crate::recent_rows::RecentRows;
 use crate::runqueue::Runqueue;
@@ -23,7 +24,8 @@ use std::collections::BTreeSet;
 impl Runqueue {
     /// Nobody. Pids are hashed by these keys.
     pub fn empty(alloc: Global, hasher: PidHasher, floor: i64, mark: u64) -> Runqueue
-        ensures { runqueue_view result ≡ start_part [] floor mark }
+        ensures part { runqueue_view result ≡ start_part [] floor mark }
+        ensures pids { result.tasks.pids ≡ [] }
     {
         Runqueue {
             runner: None,
@@ -46,7 +48,8 @@ impl Runqueue {
     ) -> Result<Runqueue, Memory>
         requires rise { RisesByPid tasks.now }
         requires one { AllPairs (λ t u. t.place ≡ Run → u.place ≡ Run → ⊥) tasks.now }
-        ensures { IfOk result (λ queue. runqueue_view queue ≡ start_part tasks.now floor mark) }
+        ensures part { IfOk result (λ queue. runqueue_view queue ≡ start_part tasks.now floor mark) }
+        ensures pids { IfOk result (λ queue. queue.tasks.pids ≡ map (λ task. task.pid) tasks.now) }
     {
         let mut queue = Runqueue::empty(alloc, hasher, floor, mark);
         for task in tasks {
@@ -62,6 +65,7 @@ impl Runqueue {
             ((prev : ℕ) → ((IsRunner (runqueue_view self.old) prev → ⊥) → ⊥)
             → runqueue_view self.new ≡ part_after_prev (runqueue_view self.old) prev way) }
         ensures nobody { OnOk result (NobodyIn (runqueue_view self.new) Run) }
+        ensures pids { self.new.tasks.pids ≡ self.old.tasks.pids }
         ensures same { OnErr result (HoldsSame self.old self.new) }
     {
         let Some(task) = self.runner else {
@@ -88,6 +92,7 @@ impl Runqueue {
             ((prev : ℕ) → ((IsRunner (runqueue_view self.old) prev → ⊥) → ⊥)
             → runqueue_view self.new ≡ part_after_prev (runqueue_view self.old) prev Stays) }
         ensures nobody { OnOk result (NobodyIn (runqueue_view self.new) Run) }
+        ensures pids { self.new.tasks.pids ≡ self.old.tasks.pids }
         ensures same { OnErr result (HoldsSame self.old self.new) }
     {
         self.waiting.insert(WaitingTask {
@@ -108,6 +113,7 @@ impl Runqueue {
         ensures part { (prev : ℕ) → ((IsRunner (runqueue_view self.old) prev → ⊥) → ⊥)
             → runqueue_view self.new ≡ part_after_prev (runqueue_view self.old) prev Sleeps }
         ensures nobody { NobodyIn (runqueue_view self.new) Run }
+        ensures pids { self.new.tasks.pids ≡ self.old.tasks.pids }
     {
         let mut task = runner;
         task.place = Place::Rest;
@@ -122,6 +128,7 @@ impl Runqueue {
         ensures part { (prev : ℕ) → ((IsRunner (runqueue_view self.old) prev → ⊥) → ⊥)
             → runqueue_view self.new ≡ part_after_prev (runqueue_view self.old) prev Ends }
         ensures nobody { NobodyIn (runqueue_view self.new) Run }
+        ensures pids { self.new.tasks.pids ≡ self.old.tasks.pids }
     {
         self.runner = None;
         write_row(&mut self.tasks, self.runner_row, None);
@@ -132,7 +139,8 @@ impl Runqueue {
     pub fn set_next(&mut self, next: u32, task: Option<SchedEntity>, expected: usize)
         requires nobody { NobodyIn (runqueue_view self.old) Run }
         requires task { IsSwitchTask (runqueue_view self.old) next task }
-        ensures { runqueue_view self.new ≡ part_after_next (runqueue_view self.old) next }
+        ensures part { runqueue_view self.new ≡ part_after_next (runqueue_view self.old) next }
+        ensures pids { self.new.tasks.pids ≡ self.old.tasks.pids }
     {
         if next == IDLE_PID {
             return;
@@ -158,7 +166,8 @@ impl Runqueue {
     /// The task of this pid, which doesn't run, stands here no more.
     pub fn remove(&mut self, pid: u32)
         requires { IsIn (runqueue_view self.old) Run pid → ⊥ }
-        ensures { runqueue_view self.new ≡ with_entity (runqueue_view self.old) pid None }
+        ensures part { runqueue_view self.new ≡ with_entity (runqueue_view self.old) pid None }
+        ensures pids { self.new.tasks.pids ≡ self.old.tasks.pids }
     {
         let expected = self.row_of(pid);
         if let Some(task) = take_out(&mut self.tasks, expected, pid) {
@@ -178,6 +187,7 @@ impl Runqueue {
     ) -> Result<(), Memory>
         requires { IsTaskAt (runqueue_view self.old) pid task }
         ensures part { OnOk result (runqueue_view self.new ≡ wakes (runqueue_view self.old) pid (Some claim)) }
+        ensures pids { self.new.tasks.pids ≡ self.old.tasks.pids }
         ensures same { OnErr result (HoldsSame self.old self.new) }
     {
         let Some(task) = task else {
@@ -203,6 +213,7 @@ impl Runqueue {
         requires alone { task.place ≡ Run → NobodyIn (runqueue_view self.old) Run }
         ensures part { OnOk result
             (runqueue_view self.new ≡ with_entity (runqueue_view self.old) task.pid (Some (entity_of task))) }
+        ensures pids { OnOk result (self.new.tasks.pids ≡ with_pid task.pid self.old.tasks.pids) }
         ensures same { OnErr result (HoldsSame self.old self.new) }
     {
         self.tasks.make_room()?;

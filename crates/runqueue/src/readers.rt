@@ -1,4 +1,5 @@
-ghost use Rattle.std.specs.Prelude.{◌≡◌, ℕ};
+ghost use Rattle.std.specs.Prelude.{◌≡◌, ℕ, nat_eq};
+ghost use Rattle.std.specs.List.{IsDistinct};
 ghost use Rattle.replay_model.specs.Deeds.{part_after_prev};
 ghost use Rattle.replay_model.specs.QueueTests.{IsRunner};
 ghost use Rattle.runqueue.specs.Queue.{IsLeastIfWaiting, IsLeastQueued, IsSwitchTask, IsTaskAt, IsTheRunner};
@@ -27,6 +28,15 @@ impl Runqueue {
         ensures { IsRunnerRow self.now.runner self.now.tasks.pids result }
     {
         self.runner_row
+    }
+
+    /// The pids that have a row, in the order in which they first stood here.
+    #[inline(always)]
+    pub fn pids(&self) -> &[u32]
+        ensures pids { result.now ≡ self.now.tasks.pids }
+        ensures apart { IsDistinct nat_eq self.now.tasks.pids }
+    {
+        self.tasks.pids()
     }
 
     /// Those who wait, in their order.

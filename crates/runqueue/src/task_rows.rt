@@ -1,6 +1,6 @@
 ghost use Rattle.std.specs.Prelude.{◌≡◌, ℕ, ◌<◌, None, Some, IsSome};
 ghost use Rattle.pid_table.specs.Rows.{index_in};
-ghost use Rattle.runqueue.specs.TaskRows.{KeepsRows, Writes, task_in};
+ghost use Rattle.runqueue.specs.TaskRows.{KeepsRows, Writes, task_in, with_pid};
 
 use crate::sched_entity::SchedEntity;
 use pid_table::PidTable;
@@ -65,6 +65,7 @@ pub(crate) fn put(tasks: &mut TaskRows, expected: usize, pid: u32, task: &SchedE
     requires { 0 < tasks.old.room }
     ensures written { Writes tasks.old tasks.new pid (Some task.now) }
     ensures row { index_in tasks.new.pids pid ≡ Some result }
+    ensures pids { tasks.new.pids ≡ with_pid pid tasks.old.pids }
     ensures kept { KeepsRows tasks.old.pids tasks.new.pids }
 {
     match tasks.index_near(expected, pid) {

@@ -1,11 +1,22 @@
 use Rattle.std.proofs.Common.{Some, length, subst, sym, ap, ◌∙◌}
 use Rattle.pid_table.specs.Rows.{index_in}
-use Rattle.runqueue.specs.TaskRows.{KeepsRows}
+use Rattle.runqueue.specs.TaskRows.{KeepsRows, with_pid_at}
 use Rattle.runqueue.proofs.TaskRows.{index_new, keeps_more, keeps_same, row_added}
 use Rattle.runqueue.proofs.task_rows.put.Goals as goal
 
 pub returns-in-Some-clause-kept : goal.returns-in-Some-clause-kept
 returns-in-Some-clause-kept c = keeps_same c.args.tasks.now.pids c.write_row.new.tasks.pids c.write_row.ensures.pids
+
+pub returns-in-Some-clause-pids : goal.returns-in-Some-clause-pids
+returns-in-Some-clause-pids c =
+    let t = c.args.tasks.now in
+    c.write_row.ensures.pids
+    ∙ ap (λ o. with_pid_at o c.args.pid t.pids) (sym c.in-Some.is ∙ c.index_near.ensures.index)
+
+pub returns-in-None-clause-pids : goal.returns-in-None-clause-pids
+returns-in-None-clause-pids c =
+    let t = c.args.tasks.now in
+    c.add.ensures.pids ∙ ap (λ o. with_pid_at o c.args.pid t.pids) (sym c.in-None.is ∙ c.index_near.ensures.index)
 
 pub returns-in-None-clause-written : goal.returns-in-None-clause-written
 returns-in-None-clause-written c =

@@ -1,7 +1,7 @@
-use Rattle.std.proofs.Common.{◌≡◌, ℤ, Some, true, refl, subst, rules, to_z, of_z, w64}
+use Rattle.std.proofs.Common.{◌≡◌, ℤ, Some, true, refl, subst, ap, ◌∙◌, rules, to_z, of_z, w64}
 use Rattle.std.specs.BTreeSet as set
 use Rattle.runqueue.specs.Entities.{by_runtime, waiting_task}
-use Rattle.runqueue.specs.TaskRows.{KeepsRows}
+use Rattle.runqueue.specs.TaskRows.{KeepsRows, with_pid}
 use Rattle.runqueue.proofs.EntitiesKept.{no_runner, same_queue}
 use Rattle.runqueue.proofs.Moved.{same_waiting_keys}
 use Rattle.runqueue.proofs.Coming.{come_runs_alone, run_part_alone, come_rests, come_waits, come_part, on_err}
@@ -128,3 +128,13 @@ returns-in_err-insert-in-Wait-clause-same c =
       tasks = task_same q.tasks c.make_room.new.self e.pids e.rows;
       waiting = same_waiting_keys q.waiting c.insert.new.self c.in_err-insert-in-Wait.ensures.err;
     })
+
+pub returns-in-Run-clause-pids : goal.returns-in-Run-clause-pids
+returns-in-Run-clause-pids c = c.put-self.ensures.pids ∙ ap (with_pid c.args.task.pid) c.make_room.ensures.pids
+
+pub returns-in-Rest-clause-pids : goal.returns-in-Rest-clause-pids
+returns-in-Rest-clause-pids c = c.put-row-in-Rest.ensures.pids ∙ ap (with_pid c.args.task.pid) c.make_room.ensures.pids
+
+pub returns-in_ok-insert-in-Wait-clause-pids : goal.returns-in_ok-insert-in-Wait-clause-pids
+returns-in_ok-insert-in-Wait-clause-pids c =
+    c.put-row.ensures.pids ∙ ap (with_pid c.args.task.pid) c.make_room.ensures.pids

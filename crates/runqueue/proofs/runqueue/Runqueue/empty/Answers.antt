@@ -14,8 +14,8 @@ invariant_of-result c = record {
   in_row = runner_row_none None c.new.result.pids 0 refl;
 }
 
-pub returns : goal.returns
-returns c =
+pub returns-clause-part : goal.returns-clause-part
+returns-clause-part c =
     let whole : to_z w64 (of_z w64 c.args.floor) ≡ c.args.floor = search rules in
     same_tasks (listed c.new.result) (stands []) (to_z w64 (of_z w64 c.args.floor)) c.args.mark
     (λ q. ap (option_map entity_of) (task_none c.new.result c.new.ensures.pids q))

@@ -31,14 +31,14 @@ invariant_of-self-in_default c =
           (keeps_same q.tasks.pids c.take_out.new.tasks.pids c.take_out.ensures.pids);
     }
 
-pub returns-in-Some : goal.returns-in-Some
-returns-in-Some c =
+pub returns-in-Some-clause-part : goal.returns-in-Some-clause-part
+returns-in-Some-clause-part c =
     let q = c.args.self.now in
     gone_entities q.runner q.tasks c.take_out.new.tasks q.waiting q.kept c.args.pid c.requires c.take_out.ensures.gone
     q.floor q.mark
 
-pub returns-in_default : goal.returns-in_default
-returns-in_default c =
+pub returns-in_default-clause-part : goal.returns-in_default-clause-part
+returns-in_default-clause-part c =
     let q = c.args.self.now in
     gone_entities q.runner q.tasks c.take_out.new.tasks q.waiting q.kept c.args.pid c.requires c.take_out.ensures.gone
     q.floor q.mark

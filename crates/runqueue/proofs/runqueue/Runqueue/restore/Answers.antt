@@ -18,8 +18,8 @@ invariant_of-self c =
           c.args.before.runner_row c.requires.1.runner same.pids c.requires.1.runner_row q.in_row;
     }
 
-pub returns : goal.returns
-returns c q is same =
+pub returns-clause-part : goal.returns-clause-part
+returns-clause-part c q is same =
     let now = c.args.self.now in
     let before = c.args.before in
     let whole : to_z w64 (of_z w64 before.floor) ≡ before.floor = search rules in

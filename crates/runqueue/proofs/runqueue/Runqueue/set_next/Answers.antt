@@ -41,8 +41,8 @@ invariant_of-self c =
           (sym c.index_near.ensures.index ∙ c.in-Some-index_near.is);
     }
 
-pub returns-in-Some-index_near : goal.returns-in-Some-index_near
-returns-in-Some-index_near c =
+pub returns-in-Some-index_near-clause-part : goal.returns-in-Some-index_near-clause-part
+returns-in-Some-index_near-clause-part c =
     let q = c.args.self.now in
     let none = no_runner q.runner q.tasks q.waiting q.floor q.mark q.kept c.requires.nobody in
     let t = c.in-Some.task in
@@ -61,8 +61,8 @@ returns-in-Some-index_near c =
     ∙ ap (λ (r : Option SchedEntity). part_after_next
     (record { tasks = entities r q.tasks; floor = q.floor; mark = q.mark }) c.args.next) (sym none)
 
-pub returns-in_default : goal.returns-in_default
-returns-in_default c =
+pub returns-in_default-clause-part : goal.returns-in_default-clause-part
+returns-in_default-clause-part c =
     let q = c.args.self.now in
     let none = no_runner q.runner q.tasks q.waiting q.floor q.mark q.kept c.requires.nobody in
     let e : entities None q.tasks c.args.next ≡ None =

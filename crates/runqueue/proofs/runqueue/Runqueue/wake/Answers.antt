@@ -21,8 +21,8 @@ returns-in-Run c =
     ∙ c.requires in
     record {
       part = not_woken (runqueue_view q) c.args.pid c.args.claim (entity_of t) (sym e) (search rules);
-      same =
-          tt;
+      pids = refl;
+      same = tt;
     }
 
 pub write_over-requires : goal.write_over-requires
